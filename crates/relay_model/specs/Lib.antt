@@ -1,0 +1,4 @@
+pub mod Acts
+pub mod Journals
+pub mod Places
+pub mod Readiness

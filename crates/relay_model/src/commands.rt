@@ -1,0 +1,335 @@
+// What a command line asks for: two addresses, their kinds and options, and how to relay between them.
+ghost use Rattle.std.specs.Prelude.{◌≡◌, IfOk};
+
+use crate::acts::{Peer, Shut};
+use crate::contents::{NoMemory, Text, Texts};
+
+/// A conversion of line ends (socat(1), `cr` and `crnl`).
+#[derive(Clone, Copy, Debug, PartialEq, Eq)]
+pub enum Conv {
+    Plain,
+    Cr,
+    Crnl,
+}
+
+/// A style of dump (socat(1), `-v` and `-x`; `Mixed` is both).
+#[derive(Clone, Copy, Debug, PartialEq, Eq)]
+pub enum Dump {
+    Off,
+    Text,
+    Hex,
+    Mixed,
+}
+
+/// Which directions are asked for: both, only left to right (`-u`), or only right to left (`-U`).
+#[derive(Clone, Copy, Debug, PartialEq, Eq)]
+pub enum Ways {
+    Two,
+    OnlyRight,
+    OnlyLeft,
+}
+
+/// The family of addresses that a socket kind names.
+#[derive(Clone, Copy, Debug, PartialEq, Eq)]
+pub enum Family {
+    Any,
+    V4,
+    V6,
+}
+
+/// The kind of an address with its parameters. The words of `Exec` are a program and its arguments.
+#[derive(Debug, Drop)]
+pub enum Target {
+    Stdio,
+    Stdin,
+    Stdout,
+    Stderr,
+    Create(Text),
+    FileAt(Text),
+    GenericOpen(Text),
+    Echo,
+    NamedPipe(Text),
+    Tcp {
+        family: Family,
+        host: Text,
+        port: u16,
+    },
+    TcpListen {
+        family: Family,
+        port: u16,
+    },
+    Udp {
+        family: Family,
+        host: Text,
+        port: u16,
+    },
+    UdpListen {
+        family: Family,
+        port: u16,
+    },
+    UdpRecvfrom {
+        family: Family,
+        port: u16,
+    },
+    UdpRecv {
+        family: Family,
+        port: u16,
+    },
+    UdpSendto {
+        family: Family,
+        host: Text,
+        port: u16,
+    },
+    UnixConnect(Text),
+    UnixListen(Text),
+    Exec(Texts),
+    System(Text),
+    Socks {
+        named: bool,
+        server: Text,
+        host: Text,
+        port: u16,
+    },
+    Proxy {
+        server: Text,
+        host: Text,
+        port: u16,
+    },
+}
+
+impl Target {
+    /// A copy.
+    pub fn copy(&self) -> Result<Target, NoMemory>
+        ensures { IfOk result (λ target. target ≡ self.now) }
+    {
+        match self {
+            Target::Stdio => Ok(Target::Stdio),
+            Target::Stdin => Ok(Target::Stdin),
+            Target::Stdout => Ok(Target::Stdout),
+            Target::Stderr => Ok(Target::Stderr),
+            Target::Create(name) => Ok(Target::Create(name.copy()?)),
+            Target::FileAt(name) => Ok(Target::FileAt(name.copy()?)),
+            Target::GenericOpen(name) => Ok(Target::GenericOpen(name.copy()?)),
+            Target::Echo => Ok(Target::Echo),
+            Target::NamedPipe(name) => Ok(Target::NamedPipe(name.copy()?)),
+            Target::Tcp { family, host, port } => Ok(Target::Tcp {
+                family: *family,
+                host: host.copy()?,
+                port: *port,
+            }),
+            Target::TcpListen { family, port } => Ok(Target::TcpListen {
+                family: *family,
+                port: *port,
+            }),
+            Target::Udp { family, host, port } => Ok(Target::Udp {
+                family: *family,
+                host: host.copy()?,
+                port: *port,
+            }),
+            Target::UdpListen { family, port } => Ok(Target::UdpListen {
+                family: *family,
+                port: *port,
+            }),
+            Target::UdpRecvfrom { family, port } => Ok(Target::UdpRecvfrom {
+                family: *family,
+                port: *port,
+            }),
+            Target::UdpRecv { family, port } => Ok(Target::UdpRecv {
+                family: *family,
+                port: *port,
+            }),
+            Target::UdpSendto { family, host, port } => Ok(Target::UdpSendto {
+                family: *family,
+                host: host.copy()?,
+                port: *port,
+            }),
+            Target::UnixConnect(name) => Ok(Target::UnixConnect(name.copy()?)),
+            Target::UnixListen(name) => Ok(Target::UnixListen(name.copy()?)),
+            Target::Exec(words) => Ok(Target::Exec(words.copy()?)),
+            Target::System(command) => Ok(Target::System(command.copy()?)),
+            Target::Socks {
+                named,
+                server,
+                host,
+                port,
+            } => {
+                let server = server.copy()?;
+                Ok(Target::Socks {
+                    named: *named,
+                    server,
+                    host: host.copy()?,
+                    port: *port,
+                })
+            }
+            Target::Proxy { server, host, port } => {
+                let server = server.copy()?;
+                Ok(Target::Proxy {
+                    server,
+                    host: host.copy()?,
+                    port: *port,
+                })
+            }
+        }
+    }
+}
+
+/// How a file is opened (open(2), `O_CREAT` to `O_TRUNC`; `rdonly` and `wronly` narrow the use).
+#[derive(Clone, Copy, Debug, PartialEq, Eq)]
+pub struct FileFlags {
+    pub creat: bool,
+    pub excl: bool,
+    pub append: bool,
+    pub trunc: bool,
+    pub rdonly: bool,
+    pub wronly: bool,
+}
+
+/// A network and its mask (socat(1), `range`).
+#[derive(Clone, Copy, Debug, PartialEq, Eq)]
+pub enum Range {
+    V4 { net: [u8; 4], mask: [u8; 4] },
+    V6 { net: [u8; 16], mask: [u8; 16] },
+}
+
+/// A local address; without a written port its port is 0.
+#[derive(Clone, Copy, Debug, PartialEq, Eq)]
+pub struct Bind {
+    pub addr: Peer,
+}
+
+/// The options of one single address. `interval` is in milliseconds.
+#[derive(Debug, Drop)]
+pub struct Options {
+    pub conv: Conv,
+    pub ignoreeof: bool,
+    pub readbytes: Option<u64>,
+    pub escape: Option<u8>,
+    pub null_eof: bool,
+    pub shut: Option<Shut>,
+    pub retry: u64,
+    pub forever: bool,
+    pub interval: u64,
+    pub fork: bool,
+    pub max_children: u32,
+    pub stop_after: u32,
+    pub range: Option<Range>,
+    pub sourceport: Option<u16>,
+    pub lowport: bool,
+    pub unlink_early: bool,
+    pub unlink_close: bool,
+    pub nodelay: bool,
+    pub bind: Option<Bind>,
+    pub file: FileFlags,
+    pub socksport: u16,
+    pub socksuser: Text,
+    pub proxyport: u16,
+}
+
+impl Options {
+    /// A copy.
+    pub fn copy(&self) -> Result<Options, NoMemory>
+        ensures { IfOk result (λ options. options ≡ self.now) }
+    {
+        let socksuser = self.socksuser.copy()?;
+        Ok(Options {
+            conv: self.conv,
+            ignoreeof: self.ignoreeof,
+            readbytes: self.readbytes,
+            escape: self.escape,
+            null_eof: self.null_eof,
+            shut: self.shut,
+            retry: self.retry,
+            forever: self.forever,
+            interval: self.interval,
+            fork: self.fork,
+            max_children: self.max_children,
+            stop_after: self.stop_after,
+            range: self.range,
+            sourceport: self.sourceport,
+            lowport: self.lowport,
+            unlink_early: self.unlink_early,
+            unlink_close: self.unlink_close,
+            nodelay: self.nodelay,
+            bind: self.bind,
+            file: self.file,
+            socksport: self.socksport,
+            socksuser,
+            proxyport: self.proxyport,
+        })
+    }
+}
+
+/// One address with its options.
+#[derive(Debug, Drop)]
+pub struct Single {
+    pub target: Target,
+    pub options: Options,
+}
+
+impl Single {
+    /// A copy.
+    pub fn copy(&self) -> Result<Single, NoMemory>
+        ensures { IfOk result (λ single. single ≡ self.now) }
+    {
+        let target = self.target.copy()?;
+        let options = self.options.copy()?;
+        Ok(Single { target, options })
+    }
+}
+
+/// One side of the command: a single address, or a dual one (`A!!B`) that reads from A and writes to B.
+#[derive(Debug, Drop)]
+pub enum Address {
+    One(Single),
+    Two { reading: Single, writing: Single },
+}
+
+impl Address {
+    /// A copy.
+    pub fn copy(&self) -> Result<Address, NoMemory>
+        ensures { IfOk result (λ address. address ≡ self.now) }
+    {
+        match self {
+            Address::One(single) => Ok(Address::One(single.copy()?)),
+            Address::Two { reading, writing } => {
+                let reading = reading.copy()?;
+                let writing = writing.copy()?;
+                Ok(Address::Two { reading, writing })
+            }
+        }
+    }
+}
+
+/// A relay as the command line asks for it. `closing` and `idle` are milliseconds; an `idle` of 0 is off.
+/// `block` is in bytes. With `sloppy` a fault cuts its direction alone.
+#[derive(Debug, Drop)]
+pub struct Config {
+    pub block: u32,
+    pub closing: u64,
+    pub idle: u64,
+    pub ways: Ways,
+    pub dump: Dump,
+    pub sloppy: bool,
+    pub left: Address,
+    pub right: Address,
+}
+
+impl Config {
+    /// A copy.
+    pub fn copy(&self) -> Result<Config, NoMemory>
+        ensures { IfOk result (λ config. config ≡ self.now) }
+    {
+        let left = self.left.copy()?;
+        let right = self.right.copy()?;
+        Ok(Config {
+            block: self.block,
+            closing: self.closing,
+            idle: self.idle,
+            ways: self.ways,
+            dump: self.dump,
+            sloppy: self.sloppy,
+            left,
+            right,
+        })
+    }
+}

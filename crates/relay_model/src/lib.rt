@@ -1,0 +1,21 @@
+// The plain data of the relay: places, acts, commands and the small lists that hold them. The definitions
+// of a legal history stand in `specs/`, in terms of these types.
+#![tactic(auto)]
+
+mod acts;
+mod commands;
+mod contents;
+mod journals;
+mod places;
+mod readiness;
+mod refusals;
+
+pub use acts::{Act, ChildEnd, Peer, Shut, Why};
+pub use commands::{
+    Address, Bind, Config, Conv, Dump, Family, FileFlags, Options, Range, Single, Target, Ways,
+};
+pub use contents::{Bytes, NoMemory, Text, Texts};
+pub use journals::{Askings, Journal, Kept};
+pub use places::{Half, Part, Place, Side, Way};
+pub use readiness::{ReadyAt, ReadyList};
+pub use refusals::{Refusal, Refused};

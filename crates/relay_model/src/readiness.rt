@@ -1,0 +1,96 @@
+// What a turn names: halves of places that may be ready.
+ghost use Rattle.std.specs.Prelude.{◌≡◌, ◌<◌, ◌≤◌, ◌∷◌, ◌++◌, ◌↔◌, [], length, slice_get, Some, IfOk, IsTrue};
+ghost use Rattle.std.specs.Bool.{OnTrue, OnFalse};
+ghost use Rattle.relay_model.specs.Readiness.{Listed, copied_list, fresh_list};
+
+use crate::contents::NoMemory;
+use crate::places::{Half, Place};
+use std::alloc::Global;
+use std::marker::Model;
+
+/// A half of a place; the half of a door is `ToRead`.
+#[derive(Clone, Copy, Debug, PartialEq, Eq)]
+pub struct ReadyAt {
+    pub place: Place,
+    pub half: Half,
+}
+
+/// The entries of one turn, at most 256. A list that `new` made has room for all of them; a copy has room
+/// for its entries alone.
+#[derive(Debug, Drop)]
+pub struct ReadyList {
+    entries: Vec<ReadyAt>,
+    room: usize,
+}
+
+impl Model for ReadyList {
+    ghost use Rattle.std.specs.Prelude.{◌≤◌, vec_capacity};
+    ghost use Rattle.relay_model.specs.Readiness.{Listed};
+
+    ghost Value = { Listed };
+
+    ghost view = { λ list. record { entries = list.entries.items; room = list.room } };
+
+    ghost invariant = { λ list. list.room ≤ vec_capacity list.entries };
+}
+
+impl ReadyList {
+    /// How many entries one turn has at most.
+    pub const MOST: usize = 256;
+
+    /// No entries, with room for 256.
+    pub fn new(alloc: Global) -> Result<ReadyList, NoMemory>
+        ensures { IfOk result (λ list. list ≡ fresh_list) }
+    {
+        Ok(ReadyList {
+            entries: Vec::with_capacity(alloc, ReadyList::MOST)?,
+            room: ReadyList::MOST,
+        })
+    }
+
+    /// The number of entries.
+    pub fn len(&self) -> usize
+        ensures { result ≡ length self.now.entries }
+    {
+        self.entries.len()
+    }
+
+    /// The entry at `i`, counted from 0.
+    pub fn get(&self, i: usize) -> ReadyAt
+        requires { i < length self.now.entries }
+        ensures { slice_get self.now.entries i ≡ Some result }
+    {
+        self.entries[i]
+    }
+
+    /// Takes all entries out.
+    pub fn clear(&mut self)
+        ensures { self.new ≡ record self.old { entries = [] } }
+    {
+        self.entries.clear();
+    }
+
+    /// Appends the entry. False exactly where 256 are held; then nothing changes.
+    pub fn push(&mut self, entry: ReadyAt) -> bool
+        requires { 256 ≤ self.old.room }
+        ensures full { IsTrue result ↔ (length self.old.entries < 256) }
+        ensures pushed { OnTrue result (self.new ≡ record self.old { entries = self.old.entries ++ entry ∷ [] }) }
+        ensures refused { OnFalse result (self.new ≡ self.old) }
+    {
+        if self.entries.len() >= ReadyList::MOST {
+            return false;
+        }
+        self.entries.push_reserved(entry);
+        true
+    }
+
+    /// A copy, with room for its entries alone.
+    pub fn copy(&self) -> Result<ReadyList, NoMemory>
+        ensures { IfOk result (λ list. list ≡ copied_list self.now) }
+    {
+        Ok(ReadyList {
+            entries: Vec::from_slice(*self.entries.allocator(), self.entries.as_slice())?,
+            room: 0,
+        })
+    }
+}
