@@ -17,3 +17,8 @@ Asking = Place × Single
 pub record AskedFor : Type 0 where
   pub pairs : List Asking
   pub spare : ℕ
+
+-- what a world tells of its history: its acts, newest first, and what it was asked to open, oldest first
+pub record History : Type 0 where
+  pub acts : List Act
+  pub asked : List Asking
