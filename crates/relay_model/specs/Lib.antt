@@ -1,5 +1,11 @@
 pub mod Acts
+pub mod Arming
+pub mod Bytes
+pub mod Causes
+pub mod Directions
 pub mod Holding
 pub mod Journals
+pub mod Legality
 pub mod Places
+pub mod PlainRelay
 pub mod Readiness

@@ -7,6 +7,7 @@ mod commands;
 mod contents;
 mod journals;
 mod places;
+mod plain;
 mod readiness;
 mod refusals;
 

@@ -1,0 +1,80 @@
+// The one relay that is built so far: standard input to standard output, all options at their defaults.
+ghost use Rattle.std.specs.Prelude.{◌≡◌, [], IfOk};
+ghost use Rattle.relay_model.specs.PlainRelay.{plain_relay, standard, default_options};
+
+use crate::commands::{Address, Config, Conv, Dump, FileFlags, Options, Single, Target, Ways};
+use crate::contents::{NoMemory, Text};
+
+use std::alloc::Global;
+
+const NO_FLAGS: FileFlags = FileFlags {
+    creat: false,
+    excl: false,
+    append: false,
+    trunc: false,
+    rdonly: false,
+    wronly: false,
+};
+
+impl Options {
+    /// The block size where no `-b` is given, in bytes.
+    pub const BLOCK: u32 = 8192;
+
+    /// Every option at its default (socat(1)).
+    pub fn defaults(alloc: Global) -> Result<Options, NoMemory>
+        ensures { IfOk result (λ options. options ≡ default_options) }
+    {
+        let socksuser = Text::of(alloc, &[])?;
+        Ok(Options {
+            conv: Conv::Plain,
+            ignoreeof: false,
+            readbytes: None,
+            escape: None,
+            null_eof: false,
+            shut: None,
+            retry: 0,
+            forever: false,
+            interval: 1000,
+            fork: false,
+            max_children: u32::MAX,
+            stop_after: u32::MAX,
+            range: None,
+            sourceport: None,
+            lowport: false,
+            unlink_early: false,
+            unlink_close: false,
+            nodelay: false,
+            bind: None,
+            file: NO_FLAGS,
+            socksport: 1080,
+            socksuser,
+            proxyport: 8080,
+        })
+    }
+}
+
+impl Config {
+    /// The relay of `-u STDIN STDOUT` with this block size, in bytes.
+    pub fn plain(alloc: Global, block: u32) -> Result<Config, NoMemory>
+        ensures { IfOk result (λ config. config ≡ plain_relay block) }
+    {
+        let reading = Options::defaults(alloc)?;
+        let writing = Options::defaults(alloc)?;
+        Ok(Config {
+            block,
+            closing: 500,
+            idle: 0,
+            ways: Ways::OnlyRight,
+            dump: Dump::Off,
+            sloppy: false,
+            left: Address::One(Single {
+                target: Target::Stdin,
+                options: reading,
+            }),
+            right: Address::One(Single {
+                target: Target::Stdout,
+                options: writing,
+            }),
+        })
+    }
+}
