@@ -1,0 +1,4 @@
+pub mod Courses
+pub mod Lives
+pub mod Named
+pub mod Steps

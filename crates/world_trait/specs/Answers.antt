@@ -1,0 +1,161 @@
+-- What the answers of a world mean: the act that each stands for, what that act does to what the world tells and
+-- holds, and how its counts rise. `Memory` stands for no act: then nothing was done.
+use Rattle.std.specs.Prelude.{◌≡◌, ◌≤◌, ◌<◌, ◌+◌, ◌^◌, ◌-◌, ℕ, Bool, true, false, List, Option, Some, None, take, min, option_map, is_some, ⊤}
+use Rattle.relay_model.specs.declared.acts.Act.{Act}
+use Rattle.relay_model.specs.declared.acts.Act.TheVariants.{Turn, Opened, OpenFailed, Read, ReadEnd, ReadNotYet, ReadFault, Wrote, WriteNotYet, WriteFault, Shut, ShutFault, Closed}
+use Rattle.relay_model.specs.declared.acts.Shut.{Shut as Shutting}
+use Rattle.relay_model.specs.declared.acts.Why.{Why}
+use Rattle.relay_model.specs.declared.places.Place.{Place}
+use Rattle.relay_model.specs.Holding.{Hold, hold_after}
+use Rattle.relay_model.specs.Readiness.{Listed, copied_list}
+use Rattle.relay_model.specs.Journals.{History, Asking}
+use Rattle.world_trait.specs.Recordings.{with_act, with_asking}
+use Rattle.world_trait.specs.declared.answers.Turned.{Turned}
+use Rattle.world_trait.specs.declared.answers.Turned.TheVariants as turns
+use Rattle.world_trait.specs.declared.answers.OpenAnswer.{OpenAnswer}
+use Rattle.world_trait.specs.declared.answers.OpenAnswer.TheVariants as opens
+use Rattle.world_trait.specs.declared.answers.ReadAnswer.{ReadAnswer}
+use Rattle.world_trait.specs.declared.answers.ReadAnswer.TheVariants as reads
+use Rattle.world_trait.specs.declared.answers.WriteAnswer.{WriteAnswer}
+use Rattle.world_trait.specs.declared.answers.WriteAnswer.TheVariants as writes
+use Rattle.world_trait.specs.declared.answers.ShutAnswer.{ShutAnswer}
+use Rattle.world_trait.specs.declared.answers.ShutAnswer.TheVariants as shuts
+
+abbrev pub wait_act : Option ℕ → Listed → Turned → Option Act
+wait_act until ready (turns.Turned at stop) = Some (Turn until at (copied_list ready) stop)
+wait_act until ready turns.Memory = None
+
+abbrev pub open_act : Place → OpenAnswer → Option Act
+open_act place opens.Opened = Some (Opened place)
+open_act place opens.Failed = Some (OpenFailed place)
+open_act place opens.Memory = None
+
+abbrev pub read_act : Place → List ℕ → ReadAnswer → Option Act
+read_act place into (reads.Bytes n) = Some (Read place (take n into))
+read_act place into reads.End = Some (ReadEnd place)
+read_act place into reads.NotYet = Some (ReadNotYet place)
+read_act place into reads.Failed = Some (ReadFault place)
+read_act place into reads.Memory = None
+
+abbrev pub write_act : Place → List ℕ → WriteAnswer → Option Act
+write_act place bytes (writes.Took n) = Some (Wrote place (take n bytes))
+write_act place bytes writes.NotYet = Some (WriteNotYet place)
+write_act place bytes writes.Failed = Some (WriteFault place)
+write_act place bytes writes.Memory = None
+
+abbrev pub shut_act : Place → Shutting → ShutAnswer → Option Act
+shut_act place how shuts.Done = Some (Shut place how)
+shut_act place how shuts.Failed = Some (ShutFault place how)
+shut_act place how shuts.Memory = None
+
+abbrev pub close_act : Place → Why → Option Act
+close_act place why = Some (Closed place why)
+
+-- the act is told, where the world tells its acts, and changes how its place stands
+pub record Did (told_old told_new : Option History) (held_old held_new : Place → Hold) (act : Act) : Type 0 where
+  pub told : told_new ≡ option_map (with_act act) told_old
+  pub held : (p : Place) → held_new p ≡ hold_after act p (held_old p)
+
+-- the same, and what was asked is told too
+pub record DidAsking (asking : Asking) (told_old told_new : Option History) (held_old held_new : Place → Hold) (act : Act) : Type 0 where
+  pub told : told_new ≡ option_map (with_asking act asking) told_old
+  pub held : (p : Place) → held_new p ≡ hold_after act p (held_old p)
+
+pub record DidNothing (told_old told_new : Option History) (held_old held_new : Place → Hold) : Type 0 where
+  pub told : told_new ≡ told_old
+  pub held : (p : Place) → held_new p ≡ held_old p
+
+-- what a call did, by the act of its answer
+abbrev pub Answered : Option History → Option History → (Place → Hold) → (Place → Hold) → Option Act → Type 0
+Answered told told' held held' (Some act) = Did told told' held held' act
+Answered told told' held held' None = DidNothing told told' held held'
+
+-- the same of a call that asks for something to be opened
+abbrev pub AnsweredAsking : Asking → Option History → Option History → (Place → Hold) → (Place → Hold) → Option Act → Type 0
+AnsweredAsking asking told told' held held' (Some act) = DidAsking asking told told' held held' act
+AnsweredAsking asking told told' held held' None = DidNothing told told' held held'
+
+-- a count never falls, and rises where something failed; it stays at its last value
+pub record Rose (before now : ℕ) (failed : Bool) : Type 0 where
+  pub later : before ≤ now
+  pub rose : failed ≡ true → min (before + 1) (2 ^ 64 - 1) ≤ now
+
+abbrev pub is_open_fault : OpenAnswer → Bool
+is_open_fault opens.Opened = false
+is_open_fault opens.Failed = true
+is_open_fault opens.Memory = false
+
+abbrev pub is_read_fault : ReadAnswer → Bool
+is_read_fault (reads.Bytes n) = false
+is_read_fault reads.End = false
+is_read_fault reads.NotYet = false
+is_read_fault reads.Failed = true
+is_read_fault reads.Memory = false
+
+abbrev pub is_write_fault : WriteAnswer → Bool
+is_write_fault (writes.Took n) = false
+is_write_fault writes.NotYet = false
+is_write_fault writes.Failed = true
+is_write_fault writes.Memory = false
+
+abbrev pub is_shut_fault : ShutAnswer → Bool
+is_shut_fault shuts.Done = false
+is_shut_fault shuts.Failed = true
+is_shut_fault shuts.Memory = false
+
+-- some bytes, and no more than there was room for
+abbrev pub ReadFits : ℕ → ReadAnswer → Type 0
+ReadFits room (reads.Bytes n) = (0 < n) × (n ≤ room)
+ReadFits room reads.End = ⊤
+ReadFits room reads.NotYet = ⊤
+ReadFits room reads.Failed = ⊤
+ReadFits room reads.Memory = ⊤
+
+-- some bytes, and no more than were handed in
+abbrev pub WriteFits : ℕ → WriteAnswer → Type 0
+WriteFits count (writes.Took n) = (0 < n) × (n ≤ count)
+WriteFits count writes.NotYet = ⊤
+WriteFits count writes.Failed = ⊤
+WriteFits count writes.Memory = ⊤
+
+-- a turn is counted, its moment is the clock's, and a stop comes only where the count of stops rose
+pub record TurnCounts (waits waits' stops stops' clock clock' at : ℕ) (stop : Bool) : Type 0 where
+  pub waits_is : waits' ≡ min (waits + 1) (2 ^ 64 - 1)
+  pub stops_is : Rose stops stops' stop
+  pub clock_is : clock' ≡ at
+  pub later : clock ≤ at
+
+pub record NoTurnCounts (waits waits' stops stops' clock clock' : ℕ) : Type 0 where
+  pub waits_is : waits' ≡ waits
+  pub stops_is : stops ≤ stops'
+  pub clock_is : clock' ≡ clock
+
+abbrev pub WaitCounts : ℕ → ℕ → ℕ → ℕ → ℕ → ℕ → Turned → Type 0
+WaitCounts waits waits' stops stops' clock clock' (turns.Turned at stop) = TurnCounts waits waits' stops stops' clock clock' at stop
+WaitCounts waits waits' stops stops' clock clock' turns.Memory = NoTurnCounts waits waits' stops stops' clock clock'
+
+-- memory is wanted only where a history is told
+abbrev pub wants_turn_memory : Turned → Bool
+wants_turn_memory (turns.Turned at stop) = false
+wants_turn_memory turns.Memory = true
+
+abbrev pub wants_read_memory : ReadAnswer → Bool
+wants_read_memory (reads.Bytes n) = false
+wants_read_memory reads.End = false
+wants_read_memory reads.NotYet = false
+wants_read_memory reads.Failed = false
+wants_read_memory reads.Memory = true
+
+abbrev pub wants_write_memory : WriteAnswer → Bool
+wants_write_memory (writes.Took n) = false
+wants_write_memory writes.NotYet = false
+wants_write_memory writes.Failed = false
+wants_write_memory writes.Memory = true
+
+abbrev pub wants_shut_memory : ShutAnswer → Bool
+wants_shut_memory shuts.Done = false
+wants_shut_memory shuts.Failed = false
+wants_shut_memory shuts.Memory = true
+
+abbrev pub OnlyWhereTold : Option History → Bool → Type 0
+OnlyWhereTold told wants = wants ≡ true → is_some told ≡ true

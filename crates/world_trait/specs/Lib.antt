@@ -1,0 +1,5 @@
+pub mod Answers
+pub mod HoldTables
+pub mod Recordings
+pub mod Runs
+pub mod Scripts
