@@ -23,7 +23,7 @@ pub struct Session {
 }
 
 impl Session {
-    ghost use Rattle.relay_session.specs.Sessions.{Stands, wish_of, offered_of, left_of};
+    ghost use Rattle.relay_session.specs.Sessions.{Stands, Wished, wish_of, offered_of, left_of};
     ghost use Rattle.relay_session.specs.Heard.{HeardBy};
     ghost use Rattle.relay_session.specs.Lanes.{copied};
 
@@ -40,7 +40,8 @@ impl Session {
 
     /// The next call that is wished for.
     pub fn wish(&self) -> Wish
-        ensures { result ≡ wish_of self.now }
+        ensures wish { result ≡ wish_of self.now }
+        ensures wished { (b n : ℕ) (past : List Act) → Stands b n past self.now → Wished b n past (offered_of self.now) result }
     {
         self.task.wish()
     }
@@ -80,6 +81,7 @@ impl Session {
         ensures limit { (b n : ℕ) (past : List Act) (until : Option ℕ) → Stands b n past self.old → wish_of self.old ≡ wishes.Sleep until → turns past ≡ n → why ≡ causes.Stopped → Stands b n past self.new }
         ensures memory { (b n : ℕ) (past : List Act) → Stands b n past self.old → is_live (wish_of self.old) ≡ true → why ≡ causes.Memory → Stands b n past self.new }
         ensures over { is_live (wish_of self.new) ≡ false }
+        ensures left { left_of self.new ≡ left_of self.old }
     {
         self.state.cut(why);
         self.task = self.state.plan();

@@ -354,6 +354,7 @@ impl State {
     /// Ends the session early: at a stop, for want of memory or at the last turn.
     pub fn cut(&mut self, why: Why)
         ensures over { self.new.ending ≡ Some why }
+        ensures left { steps_in self.new ≡ steps_in self.old }
         ensures stop { (b n : ℕ) (past : List Act) (until : Option ℕ) (at : ℕ) (names : List Entry) → Fields b n (acts.Turn until at (copied names) false ∷ past) self.old → self.old.ending ≡ None → why ≡ causes.Stopped → Fields b n (acts.Turn until at (copied names) true ∷ past) self.new }
         ensures memory { (b n : ℕ) (past : List Act) → Fields b n past self.old → self.old.ending ≡ None → why ≡ causes.Memory → Fields b n past self.new }
         ensures stopped { (b n : ℕ) (past : List Act) → Fields b n past self.old → self.old.ending ≡ None → why ≡ causes.Stopped → turns past ≡ n → Rest (plain_relay b) past → Fields b n past self.new }
