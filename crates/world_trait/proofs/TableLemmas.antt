@@ -1,10 +1,10 @@
 -- How a place stands after a change of a table of held things.
-use Rattle.std.proofs.Common.{◌≡◌, ◌+◌, ◌≤◌, Bool, true, false, not, List, [], ◌∷◌, ◌++◌, length, filter, refl, sym, ap, ◌∙◌, arith, if◌then◌else◌}
+use Rattle.std.proofs.Common.{◌≡◌, ◌+◌, ◌≤◌, Bool, true, false, not, List, [], ◌∷◌, ◌++◌, length, filter, Option, None, Some, find, option_map, refl, sym, ap, ◌∙◌, arith, if◌then◌else◌}
 use Rattle.std.proofs.lemmas.Grind.{common_steps}
 use Rattle.relay_model.specs.declared.places.Place.{Place}
 use Rattle.relay_model.specs.Places.{same_place}
 use Rattle.relay_model.specs.Holding.{Hold, Free, is_free}
-use Rattle.world_trait.specs.HoldTables.{lookup, hold_of, SetsHold}
+use Rattle.world_trait.specs.HoldTables.{lookup, hold_of, hold_found, SetsHold}
 use Rattle.world_trait.specs.declared.tables.Standing.{Standing}
 use Rattle.world_trait.specs.declared.tables.Standing.TheVariants as standings
 use Rattle.world_trait.specs.declared.tables.Held.{Held}
@@ -94,3 +94,12 @@ free_step false hold free = refl
 -- a free place that is set free stays as it was
 pub free_stays : (hold : Place → Hold) (place : Place) → hold place ≡ Free → (p : Place) → hold p ≡ (if same_place place p then Free else hold p)
 free_stays hold place free p = free_step (same_place place p) (hold p) (λ e. sym (ap hold (same_place-eq place p e)) ∙ free)
+
+found_step : (b : Bool) (x : Held) (rest : Option Held) (held : Hold) → hold_found (option_map (λ e. e.standing) rest) ≡ held → hold_found (option_map (λ e. e.standing) (if b then Some x else rest)) ≡ (if b then hold_of x.standing else held)
+found_step true x rest held e = refl
+found_step false x rest held e = e
+
+-- what is found first is how a place stands
+pub lookup-find : (xs : List Held) (p : Place) → hold_found (option_map (λ e. e.standing) (find (λ e. same_place e.place p) xs)) ≡ lookup xs p
+lookup-find [] p = refl
+lookup-find (x ∷ xs) p = found_step (same_place x.place p) x (find (λ e. same_place e.place p) xs) (lookup xs p) (lookup-find xs p)

@@ -1,5 +1,5 @@
 -- What a table of held things holds, and how a place stands in it.
-use Rattle.std.specs.Prelude.{◌≡◌, ℕ, List, [], ◌∷◌, if◌then◌else◌}
+use Rattle.std.specs.Prelude.{◌≡◌, ℕ, List, [], ◌∷◌, Option, None, Some, if◌then◌else◌}
 use Rattle.relay_model.specs.declared.places.Place.{Place}
 use Rattle.relay_model.specs.Places.{same_place}
 use Rattle.relay_model.specs.Holding as holding
@@ -21,6 +21,11 @@ hold_of standings.ShutDown = holding.ShutDown
 abbrev pub lookup : List Held → Place → holding.Hold
 lookup [] p = holding.Free
 lookup (e ∷ entries) p = if same_place e.place p then hold_of e.standing else lookup entries p
+
+-- how a place stands that is found in a table, or isn't
+abbrev pub hold_found : Option Standing → holding.Hold
+hold_found None = holding.Free
+hold_found (Some standing) = hold_of standing
 
 -- the place stands so, and every other place as before
 abbrev pub SetsHold : Place → holding.Hold → (Place → holding.Hold) → (Place → holding.Hold) → Type 0

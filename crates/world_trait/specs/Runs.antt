@@ -1,11 +1,11 @@
--- A world in which nothing was done, and one whose run stays as it was.
-use Rattle.std.specs.Prelude.{◌≡◌, ℕ, Option, Some, []}
+-- A world that begins, and one whose run stays as it was.
+use Rattle.std.specs.Prelude.{◌≡◌, ℕ, Option}
 use Rattle.relay_model.specs.declared.places.Place.{Place}
 use Rattle.relay_model.specs.Holding.{Hold, Free}
 use Rattle.relay_model.specs.Journals.{History}
 
-pub record IsFresh (told : Option History) (held : Place → Hold) (faults waits stops clock : ℕ) : Type 0 where
-  pub told_is : told ≡ Some (record { acts = []; asked = [] })
+-- nothing is held, and nothing was counted
+pub record IsFresh (held : Place → Hold) (faults waits stops clock : ℕ) : Type 0 where
   pub held_is : (p : Place) → held p ≡ Free
   pub no_faults : faults ≡ 0
   pub no_waits : waits ≡ 0

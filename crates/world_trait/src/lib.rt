@@ -6,6 +6,8 @@ mod mem_world;
 mod recorders;
 mod script;
 mod tables;
+#[cfg(test)]
+mod tests;
 mod worlds;
 
 pub use answers::{OpenAnswer, ReadAnswer, ShutAnswer, Turned, WriteAnswer};

@@ -1,5 +1,6 @@
 // A scripted world: it answers from lists of items, keeps its history, and its clock is moved by its waits alone.
 ghost use Rattle.std.specs.Prelude.{◌≡◌, ◌≤◌, ◌<◌, ◌+◌, [], Option, Some, option_map, length};
+ghost use Rattle.world_trait.specs.HoldTables.{hold_found};
 ghost use Rattle.world_trait.specs.Runs.{IsFresh, SameRun};
 ghost use Rattle.world_trait.specs.Scripts.{HasBytes, HasCount};
 
@@ -28,7 +29,8 @@ pub struct MemWorld {
 impl MemWorld {
     /// A world with no items, in which nothing was done; takes no memory.
     pub fn new(alloc: Global) -> MemWorld
-        ensures { let w = ⟦<MemWorld as World>⟧ in IsFresh (w.told result) (w.held result) (w.faults result) (w.waits result) (w.stops result) (w.clock result) }
+        ensures told { ⟦<MemWorld as World>⟧.told result ≡ Some (record { acts = []; asked = [] }) }
+        ensures fresh { let w = ⟦<MemWorld as World>⟧ in IsFresh (w.held result) (w.faults result) (w.waits result) (w.stops result) (w.clock result) }
     {
         MemWorld {
             script: Script::new(alloc),
@@ -75,6 +77,13 @@ impl MemWorld {
         ensures { let w = ⟦<MemWorld as World>⟧ in SameRun (w.told self.old) (w.told self.new) (w.held self.old) (w.held self.new) (w.faults self.old) (w.faults self.new) (w.waits self.old) (w.waits self.new) (w.stops self.old) (w.stops self.new) (w.clock self.old) (w.clock self.new) }
     {
         self.script.add_stop(at)
+    }
+
+    /// How the place stands; none where nothing is held there.
+    pub fn standing(&self, place: Place) -> Option<Standing>
+        ensures { hold_found result ≡ ⟦<MemWorld as World>⟧.held self.now place }
+    {
+        self.held.standing_at(place)
     }
 
     /// What was done so far.

@@ -1,8 +1,8 @@
 // Whether and how a world keeps its history.
-ghost use Rattle.std.specs.Prelude.{◌≡◌, ◌≤◌, ◌<◌, ◌+◌, ◌-◌, [], true, None, Some, is_some, OnOk, OnErr, option_map};
+ghost use Rattle.std.specs.Prelude.{◌≡◌, ◌≤◌, ◌<◌, ◌+◌, ◌-◌, [], true, None, Some, is_some, OnOk, OnErr, IfOk, MatchOption, option_map};
 ghost use Rattle.world_trait.specs.Recordings.{HasRoom, HasAskingRoom, told_by, with_act, with_asking};
 
-use relay_model::{Act, Askings, Journal, Kept, NoMemory, Place, Single};
+use relay_model::{Act, Askings, Bytes, Journal, Kept, NoMemory, Place, Single};
 use std::alloc::Global;
 use std::marker::Model;
 
@@ -59,6 +59,25 @@ impl Recording {
         &self.kept
     }
 
+    /// What was kept, at the end.
+    pub fn into_kept(self) -> Kept
+        ensures { is_some self.told ≡ true → self.told ≡ Some (record { acts = result.journal.acts; asked = result.asked.pairs }) }
+    {
+        let Recording { recorder: _, kept } = self;
+        kept
+    }
+
+    /// A copy of these bytes for an act, where acts are kept.
+    pub fn copied(&self, alloc: Global, bytes: &[u8]) -> Result<Option<Bytes>, NoMemory>
+        ensures ok { IfOk result (λ copy. MatchOption copy (self.now.told ≡ None) (λ kept. kept ≡ bytes.now)) }
+        ensures lacked { OnErr result (is_some self.now.told ≡ true) }
+    {
+        match self.recorder {
+            Recorder::Skip => Ok(None),
+            Recorder::Keep => Ok(Some(Bytes::of(alloc, bytes)?)),
+        }
+    }
+
     /// Makes room for `n` further acts.
     pub fn reserve(&mut self, n: usize) -> Result<(), NoMemory>
         ensures room { OnOk result (HasRoom n self.new) }
@@ -89,6 +108,7 @@ impl Recording {
     pub fn put(&mut self, act: Act)
         requires { HasRoom 1 self.old }
         ensures told { self.new.told ≡ option_map (with_act act) self.old.told }
+        ensures keeps { is_some self.new.told ≡ is_some self.old.told }
         ensures room { self.old.room ≤ self.new.room + 1 }
     {
         match self.recorder {
@@ -102,6 +122,7 @@ impl Recording {
         requires room { HasRoom 1 self.old }
         requires asking_room { HasAskingRoom 1 self.old }
         ensures told { self.new.told ≡ option_map (with_asking act (place, single)) self.old.told }
+        ensures keeps { is_some self.new.told ≡ is_some self.old.told }
         ensures room { self.old.room ≤ self.new.room + 1 }
     {
         match self.recorder {

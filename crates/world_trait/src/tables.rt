@@ -1,7 +1,8 @@
 // A table of what a world holds.
-ghost use Rattle.std.specs.Prelude.{◌≡◌, ◌≤◌, ◌<◌, ◌+◌, ◌-◌, ◌^◌, [], false, length, OnOk};
+ghost use Rattle.std.specs.Prelude.{◌≡◌, ◌≤◌, ◌<◌, ◌+◌, ◌-◌, ◌^◌, [], false, length, find, option_map, OnOk};
+ghost use Rattle.relay_model.specs.Places.{same_place};
 ghost use Rattle.relay_model.specs.Holding.{Free, is_free};
-ghost use Rattle.world_trait.specs.HoldTables.{SetsHold, hold_of, lookup};
+ghost use Rattle.world_trait.specs.HoldTables.{SetsHold, hold_found, hold_of, lookup};
 
 use relay_model::{NoMemory, Place};
 use std::alloc::Global;
@@ -55,6 +56,13 @@ impl Holdings {
         self.entries.len()
     }
 
+    /// How the place stands; none where it is free.
+    pub fn standing_at(&self, place: Place) -> Option<Standing>
+        ensures { hold_found result ≡ lookup self.now.entries place }
+    {
+        standing_in(self.entries.as_slice(), place)
+    }
+
     /// Makes room for `n` further things.
     pub fn reserve(&mut self, n: usize) -> Result<(), NoMemory>
         ensures room { OnOk result (n ≤ self.new.spare) }
@@ -95,4 +103,12 @@ impl Holdings {
         self.remove(place);
         self.add(place, standing);
     }
+}
+
+/// The standing of the first entry of the place.
+fn standing_in(entries: &[Held], place: Place) -> Option<Standing>
+    ensures { result ≡ option_map (λ held. held.standing) (find (λ held. same_place held.place place) entries.now) }
+{
+    let found = entries.iter().find(|held| held.place.is(place));
+    found.map(|held| held.standing)
 }

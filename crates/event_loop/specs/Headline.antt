@@ -1,0 +1,39 @@
+-- What a run leaves: a legal history, nothing held, and the outcome that the history gives.
+use Rattle.std.specs.Prelude.{◌≡◌, ℕ, ◌+◌, ◌-◌, ◌^◌, ◌≤◌, Bool, true, false, List, Option, Some, min, ◌⊎◌}
+use Rattle.relay_model.specs.declared.acts.Act.{Act}
+use Rattle.relay_model.specs.declared.places.Place.{Place}
+use Rattle.relay_model.specs.declared.commands.Config.{Config}
+use Rattle.relay_model.specs.Journals.{History, Asking}
+use Rattle.relay_model.specs.Holding as holds
+use Rattle.relay_model.specs.Holding.{standing}
+use Rattle.relay_model.specs.Causes.{memory_said}
+use Rattle.relay_model.specs.Legality.{Legal}
+use Rattle.exit_status.specs.declared.outcomes.Outcome.{Outcome}
+use Rattle.exit_status.specs.declared.outcomes.Outcome.TheVariants as outcomes
+use Rattle.exit_status.specs.Outcomes.{IsOutcome}
+use Rattle.event_loop.specs.Courses.{extend, OnlyOwn, Risen}
+
+-- the world told `before`, and tells `told` now: the acts between are legal, nothing is held after them, the
+-- answer is their outcome or want of memory, and each place that was asked for is the command's own
+pub record Headline (c : Config) (n : ℕ) (before : History) (told : Option History) (answer : Outcome) : Type 0 where
+  pub acts : List Act
+  pub asked : List Asking
+  pub told_is : told ≡ Some (extend acts asked before)
+  pub legal : Legal c n acts
+  pub free : (p : Place) → standing acts p ≡ holds.Free
+  pub outcome_is : IsOutcome c n acts answer ⊎ (answer ≡ outcomes.Memory)
+  pub memory : memory_said acts ≡ true → answer ≡ outcomes.Memory
+  pub own : OnlyOwn c asked
+
+-- the answers that say that something failed
+abbrev pub is_failure : Outcome → Bool
+is_failure (outcomes.OpenFailed side attempts) = true
+is_failure (outcomes.ListenFailed attempts) = true
+is_failure outcomes.AcceptFailed = true
+is_failure (outcomes.Faulted place op) = true
+is_failure outcome = false
+
+-- a stop comes where the world said stop, or where all n turns were made
+abbrev pub StopCause : ℕ → ℕ → ℕ → ℕ → ℕ → Outcome → Type 0
+StopCause n waits waits' stops stops' (outcomes.Stopped turns) = Risen stops stops' ⊎ ((turns ≡ n) × (min (waits + n) (2 ^ 64 - 1) ≤ waits'))
+StopCause n waits waits' stops stops' outcome = Unit {0}

@@ -1,0 +1,4 @@
+pub mod Courses
+pub mod Headline
+pub mod Seen
+pub mod Singles

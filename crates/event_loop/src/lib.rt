@@ -1,0 +1,8 @@
+// The loop that drives one session over a world: it makes the call that the session wishes for and hands
+// the answer back, until the session is done.
+#![tactic(auto)]
+
+mod drivers;
+mod relays;
+
+pub use relays::relay;

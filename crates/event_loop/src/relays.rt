@@ -1,0 +1,46 @@
+// The relay of a whole command over a world.
+ghost use Rattle.std.specs.Prelude.{◌≡◌, ℕ, ◌<◌, ◌≤◌, ◌^◌, [], Some, true, vec_len, IfOk};
+ghost use Rattle.relay_model.specs.declared.places.Place.{Place as Spot};
+ghost use Rattle.relay_model.specs.Holding.{Free};
+ghost use Rattle.relay_model.specs.Journals.{History};
+ghost use Rattle.relay_model.specs.PlainRelay.{plain_relay};
+ghost use Rattle.event_loop.specs.Seen.{Seen};
+ghost use Rattle.event_loop.specs.Courses.{Risen, Course};
+ghost use Rattle.event_loop.specs.Headline.{Headline, StopCause, is_failure};
+
+use crate::drivers::Driver;
+use exit_status::Outcome;
+use relay_model::{Config, NoMemory};
+use std::alloc::Global;
+use world_trait::World;
+
+/// Relays as the command asks, over any world, with at most `turns` waits, and closes whatever it opened.
+/// `Memory` is answered where memory was wanting, and may be answered at any time.
+pub fn relay<W: World>(alloc: Global, world: &mut W, config: &Config, turns: u64) -> Outcome
+    requires plain { config.now ≡ plain_relay config.now.block }
+    requires block { 1 ≤ config.now.block }
+    requires free { (p : Spot) → W.held world.old p ≡ Free }
+    ensures free { (p : Spot) → W.held world.new p ≡ Free }
+    ensures headline { (before : History) → W.told world.old ≡ Some before → Headline config.now turns before (W.told world.new) result }
+    ensures failed { is_failure result ≡ true → Risen (W.faults world.old) (W.faults world.new) }
+    ensures stopped { StopCause turns (W.waits world.old) (W.waits world.new) (W.stops world.old) (W.stops world.new) result }
+{
+    match begin(alloc, config) {
+        Ok((mut driver, mut scratch)) => {
+            let why = driver.run(world, config, &mut scratch, turns);
+            driver.outcome(why)
+        }
+        Err(NoMemory) => Outcome::Memory,
+    }
+}
+
+/// Takes all the memory of a run.
+fn begin(alloc: Global, config: &Config) -> Result<(Driver, Vec<u8>), NoMemory>
+    requires plain { config.now ≡ plain_relay config.now.block }
+    requires block { 1 ≤ config.now.block }
+    ensures { IfOk result (λ pair. (0 < vec_len pair.1) × (pair.0.made ≡ 0) × ((n : ℕ) (start : Seen) → ((p : Spot) → start.held p ≡ Free) → Course config.now.block n start start pair.0 [])) }
+{
+    let scratch = vec![in alloc; 0; config.block as usize]?;
+    let driver = Driver::new(alloc, config)?;
+    Ok((driver, scratch))
+}
