@@ -21,9 +21,10 @@ use Rattle.relay_model.specs.Legality.{call, place_call, Legal, Licensed, Rest, 
 use Rattle.relay_model.specs.PlainRelay.{plain_relay}
 use Rattle.exit_status.specs.declared.outcomes.Outcome.{Outcome}
 use Rattle.exit_status.specs.declared.outcomes.Outcome.TheVariants as outcomes
+use Rattle.exit_status.specs.declared.outcomes.Op.TheVariants.{Reading, Writing}
 use Rattle.exit_status.specs.Outcomes.{IsOutcome, outcome, outcome_by, failure_of, fault_of}
 use Rattle.event_loop.specs.Courses.{Risen, blame_of, stop_turned, outcome_for}
-use Rattle.event_loop.specs.Headline.{StopCause, is_failure}
+use Rattle.event_loop.specs.Headline.{StopCause, is_failure, is_relayed}
 
 same_true : (p q : Place) → same_place p q ≡ true → p ≡ q
 same_true p q e = grind (arith, common_steps)
@@ -515,3 +516,48 @@ stop_of (outcomes.ListenFailed attempts) n made w w' st st' past h e rose waits 
 stop_of outcomes.AcceptFailed n made w w' st st' past h e rose waits = tt
 stop_of (outcomes.Faulted place op) n made w w' st st' past h e rose waits = tt
 stop_of outcomes.Memory n made w w' st st' past h e rose waits = tt
+
+-- what is blamed is a failed opening or a fault
+blame_shape : (past : List Act) (o : Outcome) → blame_of past ≡ Some o → is_relayed o ≡ true
+blame_shape [] o e = cc
+blame_shape (acts.Turn until at ready stop ∷ past) o e = blame_shape past o e
+blame_shape (acts.Opened p ∷ past) o e = blame_shape past o e
+blame_shape (acts.OpenLater p ∷ past) o e = blame_shape past o e
+blame_shape (acts.OpenFailed p ∷ past) o e = let k : outcomes.OpenFailed p.side 1 ≡ o = cc in let P : Outcome → Type 0 = λ x. is_relayed x ≡ true in subst P k refl
+blame_shape (acts.Listening p ∷ past) o e = blame_shape past o e
+blame_shape (acts.ListenFailed p ∷ past) o e = blame_shape past o e
+blame_shape (acts.Accepted p peer ∷ past) o e = blame_shape past o e
+blame_shape (acts.NoPeer p ∷ past) o e = blame_shape past o e
+blame_shape (acts.AcceptFailed p ∷ past) o e = blame_shape past o e
+blame_shape (acts.Read p bytes ∷ past) o e = blame_shape past o e
+blame_shape (acts.ReadEmpty p ∷ past) o e = blame_shape past o e
+blame_shape (acts.ReadEnd p ∷ past) o e = blame_shape past o e
+blame_shape (acts.ReadNotYet p ∷ past) o e = blame_shape past o e
+blame_shape (acts.ReadFault p ∷ past) o e = let k : outcomes.Faulted p Reading ≡ o = cc in let P : Outcome → Type 0 = λ x. is_relayed x ≡ true in subst P k refl
+blame_shape (acts.Wrote p bytes ∷ past) o e = blame_shape past o e
+blame_shape (acts.WriteNotYet p ∷ past) o e = blame_shape past o e
+blame_shape (acts.WriteFault p ∷ past) o e = let k : outcomes.Faulted p Writing ≡ o = cc in let P : Outcome → Type 0 = λ x. is_relayed x ≡ true in subst P k refl
+blame_shape (acts.Shut p h ∷ past) o e = blame_shape past o e
+blame_shape (acts.ShutFault p h ∷ past) o e = blame_shape past o e
+blame_shape (acts.Closed q why ∷ past) o e = blame_shape past o e
+blame_shape (acts.Reaped p end ∷ past) o e = blame_shape past o e
+blame_shape (acts.Note bytes ∷ past) o e = blame_shape past o e
+blame_shape (acts.NoteFault bytes ∷ past) o e = blame_shape past o e
+
+relayed_by : (why : Why) (blame : Option Outcome) (made : ℕ) → ((o : Outcome) → blame ≡ Some o → is_relayed o ≡ true) → is_relayed (outcome_for why blame made) ≡ true
+relayed_by causes.Finished blame made h = refl
+relayed_by causes.Stopped blame made h = refl
+relayed_by causes.OpenFailed (Some o) made h = h o refl
+relayed_by causes.OpenFailed None made h = refl
+relayed_by causes.Faulted (Some o) made h = h o refl
+relayed_by causes.Faulted None made h = refl
+relayed_by causes.ClosingTime blame made h = refl
+relayed_by causes.Idle blame made h = refl
+relayed_by causes.ListenFailed blame made h = refl
+relayed_by causes.AcceptFailed blame made h = refl
+relayed_by causes.Refused blame made h = refl
+relayed_by causes.Served blame made h = refl
+relayed_by causes.Memory blame made h = refl
+
+pub relayed : (why : Why) (past : List Act) (made : ℕ) → is_relayed (outcome_for why (blame_of past) made) ≡ true
+relayed why past made = relayed_by why (blame_of past) made (λ o e. blame_shape past o e)

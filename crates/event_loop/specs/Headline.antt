@@ -33,6 +33,15 @@ is_failure outcomes.AcceptFailed = true
 is_failure (outcomes.Faulted place op) = true
 is_failure outcome = false
 
+-- the answers that a relay gives
+abbrev pub is_relayed : Outcome → Bool
+is_relayed (outcomes.Ended why) = true
+is_relayed (outcomes.OpenFailed side attempts) = true
+is_relayed (outcomes.Faulted place op) = true
+is_relayed (outcomes.Stopped turns) = true
+is_relayed outcomes.Memory = true
+is_relayed outcome = false
+
 -- a stop comes where the world said stop, or where all n turns were made
 abbrev pub StopCause : ℕ → ℕ → ℕ → ℕ → ℕ → Outcome → Type 0
 StopCause n waits waits' stops stops' (outcomes.Stopped turns) = Risen stops stops' ⊎ ((turns ≡ n) × (min (waits + n) (2 ^ 64 - 1) ≤ waits'))

@@ -6,7 +6,7 @@ ghost use Rattle.relay_model.specs.Journals.{History};
 ghost use Rattle.relay_model.specs.PlainRelay.{plain_relay};
 ghost use Rattle.event_loop.specs.Seen.{Seen};
 ghost use Rattle.event_loop.specs.Courses.{Risen, Course};
-ghost use Rattle.event_loop.specs.Headline.{Headline, StopCause, is_failure};
+ghost use Rattle.event_loop.specs.Headline.{Headline, StopCause, is_failure, is_relayed};
 
 use crate::drivers::Driver;
 use exit_status::Outcome;
@@ -22,6 +22,7 @@ pub fn relay<W: World>(alloc: Global, world: &mut W, config: &Config, turns: u64
     requires free { (p : Spot) → W.held world.old p ≡ Free }
     ensures free { (p : Spot) → W.held world.new p ≡ Free }
     ensures headline { (before : History) → W.told world.old ≡ Some before → Headline config.now turns before (W.told world.new) result }
+    ensures answers { is_relayed result ≡ true }
     ensures failed { is_failure result ≡ true → Risen (W.faults world.old) (W.faults world.new) }
     ensures stopped { StopCause turns (W.waits world.old) (W.waits world.new) (W.stops world.old) (W.stops world.new) result }
 {

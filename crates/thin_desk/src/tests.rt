@@ -146,8 +146,7 @@ fn relays_between_streams(rt: HostRuntime) {
         let echo = single(alloc, Target::Echo).expect(&rt, "memory");
         let mut ready = ReadyList::new(alloc).expect(&rt, "memory");
         let input: &[u8] = b"hello";
-        let mut desk: Desk<'_> =
-            ThinDesk::new(alloc, input, Vec::new(alloc), io::sink(), recorder);
+        let mut desk: Desk<'_> = ThinDesk::new(alloc, input, Vec::new(alloc), io::sink(), recorder);
         let mut into = [0u8; 4];
         assert!(rt; open(&mut desk, IN, &echo) == Some(OpenAnswer::Failed));
         assert!(rt; open(&mut desk, IN, &stdin) == Some(OpenAnswer::Opened));

@@ -5,7 +5,7 @@ use Rattle.event_loop.specs.Seen.{seen}
 use Rattle.event_loop.specs.Courses.{extend, outcome_for}
 use Rattle.event_loop.specs.Headline.{Headline}
 use Rattle.event_loop.proofs.Going.{told_nothing}
-use Rattle.event_loop.proofs.Ends.{Ends, end_of, stop_of}
+use Rattle.event_loop.proofs.Ends.{Ends, end_of, stop_of, relayed}
 use Rattle.event_loop.proofs.relays.relay.Goals as goal
 
 pub run-why-requires-clause-course : goal.run-why-requires-clause-course
@@ -39,6 +39,17 @@ returns-in-Ok-clause-headline g c =
       memory = ends.memory;
       own = o.course.own;
     }))
+
+pub returns-in-Ok-clause-answers : goal.returns-in-Ok-clause-answers
+returns-in-Ok-clause-answers g c =
+    let b = c.args.config.now.block in
+    let o = c.run-why.ensures.course b (seen g.W.World.told g.W.World.held g.W.World.faults g.W.World.waits g.W.World.stops g.W.World.clock c.args.world.now) [] (c.in-Ok.ensures.2 c.args.turns (seen g.W.World.told g.W.World.held g.W.World.faults g.W.World.waits g.W.World.stops g.W.World.clock c.args.world.now) c.requires.free) in
+    let w = c.run-why.ensures.wished b c.args.turns o.past o.course.stands in
+    let r = c.run-why.new.self in
+    let e = c.outcome.ensures ∙ ap (λ x. outcome_for c.run-why.result x r.made) o.course.blame in
+    let P : Outcome → Type 0 = λ x. Ends b c.args.turns r.made o.past x in
+    let ends : Ends b c.args.turns r.made o.past c.outcome.result = subst P (sym e) (end_of b c.args.turns r.made o.past c.run-why.result o.course.legal o.course.turned w.1) in
+    rw e (relayed c.run-why.result o.past r.made)
 
 pub returns-in-Ok-clause-failed : goal.returns-in-Ok-clause-failed
 returns-in-Ok-clause-failed g c =

@@ -1,0 +1,7 @@
+// The top call: it reads the words, relays, and answers how the run ended.
+#![tactic(auto)]
+
+mod calls;
+mod spoken;
+
+pub use calls::socat;
