@@ -1,5 +1,5 @@
 // The relay of a whole command over a world.
-ghost use Rattle.std.specs.Prelude.{◌≡◌, ℕ, ◌<◌, ◌≤◌, ◌^◌, [], Some, true, vec_len, IfOk};
+ghost use Rattle.std.specs.Prelude.{◌≡◌, ℕ, ◌<◌, ◌≤◌, ◌^◌, [], Some, true, is_some, vec_len, IfOk};
 ghost use Rattle.relay_model.specs.declared.places.Place.{Place as Spot};
 ghost use Rattle.relay_model.specs.Holding.{Free};
 ghost use Rattle.relay_model.specs.Journals.{History};
@@ -22,6 +22,7 @@ pub fn relay<W: World>(alloc: Global, world: &mut W, config: &Config, turns: u64
     requires free { (p : Spot) → W.held world.old p ≡ Free }
     ensures free { (p : Spot) → W.held world.new p ≡ Free }
     ensures headline { (before : History) → W.told world.old ≡ Some before → Headline config.now turns before (W.told world.new) result }
+    ensures tells { is_some (W.told world.new) ≡ is_some (W.told world.old) }
     ensures answers { is_relayed result ≡ true }
     ensures failed { is_failure result ≡ true → Risen (W.faults world.old) (W.faults world.new) }
     ensures stopped { StopCause turns (W.waits world.old) (W.waits world.new) (W.stops world.old) (W.stops world.new) result }

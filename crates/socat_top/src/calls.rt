@@ -1,5 +1,5 @@
 // The relay of a list of words over any world.
-ghost use Rattle.std.specs.Prelude.{◌≡◌, ◌≢◌, true, Some};
+ghost use Rattle.std.specs.Prelude.{◌≡◌, ◌≢◌, true, is_some, Some};
 ghost use Rattle.relay_model.specs.declared.places.Place.{Place as Spot};
 ghost use Rattle.relay_model.specs.Holding.{Free};
 ghost use Rattle.relay_model.specs.Journals.{History};
@@ -35,6 +35,7 @@ pub fn socat<W: World>(alloc: Global, world: &mut W, words: &[Text], turns: u64)
     ensures built { words.now ≡ plain_words → result ≢ outcomes.Refused not_built }
     ensures untouched { words.now ≢ plain_words → W.told world.new ≡ W.told world.old }
 
+    ensures tells { is_some (W.told world.new) ≡ is_some (W.told world.old) }
     ensures failed { is_failure result ≡ true → Risen (W.faults world.old) (W.faults world.new) }
     ensures stopped { StopCause turns (W.waits world.old) (W.waits world.new) (W.stops world.old) (W.stops world.new) result }
 {

@@ -2,6 +2,8 @@
 #![tactic(auto)]
 
 mod calls;
+mod runs;
 mod spoken;
 
 pub use calls::socat;
+pub use runs::{Thin, run};

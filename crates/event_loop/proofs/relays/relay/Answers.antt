@@ -4,12 +4,19 @@ use Rattle.exit_status.specs.declared.outcomes.Outcome.{Outcome}
 use Rattle.event_loop.specs.Seen.{seen}
 use Rattle.event_loop.specs.Courses.{extend, outcome_for}
 use Rattle.event_loop.specs.Headline.{Headline}
-use Rattle.event_loop.proofs.Going.{told_nothing}
+use Rattle.event_loop.proofs.Going.{told_nothing, tells_on}
 use Rattle.event_loop.proofs.Ends.{Ends, end_of, stop_of, relayed}
 use Rattle.event_loop.proofs.relays.relay.Goals as goal
 
 pub run-why-requires-clause-course : goal.run-why-requires-clause-course
 run-why-requires-clause-course g c = record { b = c.args.config.now.block; start = (seen g.W.World.told g.W.World.held g.W.World.faults g.W.World.waits g.W.World.stops g.W.World.clock c.args.world.now); past = []; course = c.in-Ok.ensures.2 c.args.turns (seen g.W.World.told g.W.World.held g.W.World.faults g.W.World.waits g.W.World.stops g.W.World.clock c.args.world.now) c.requires.free }
+
+pub returns-in-Ok-clause-tells : goal.returns-in-Ok-clause-tells
+returns-in-Ok-clause-tells g c =
+    let b = c.args.config.now.block in
+    let o = c.run-why.ensures.course b (seen g.W.World.told g.W.World.held g.W.World.faults g.W.World.waits g.W.World.stops g.W.World.clock c.args.world.now) [] (c.in-Ok.ensures.2 c.args.turns (seen g.W.World.told g.W.World.held g.W.World.faults g.W.World.waits g.W.World.stops g.W.World.clock c.args.world.now) c.requires.free) in
+    let w = c.run-why.ensures.wished b c.args.turns o.past o.course.stands in
+    tells_on (extend o.past o.course.pairs) (g.W.World.told c.args.world.now) (g.W.World.told c.run-why.new.world) o.course.told
 
 pub returns-in-Ok-clause-free : goal.returns-in-Ok-clause-free
 returns-in-Ok-clause-free g c =

@@ -1,0 +1,62 @@
+// The run of a list of words over two plain streams.
+ghost use Rattle.std.specs.Prelude.{◌≡◌, ◌≢◌, true, Some};
+ghost use Rattle.relay_model.specs.declared.places.Place.{Place as Spot};
+ghost use Rattle.relay_model.specs.Holding.{Free};
+ghost use Rattle.relay_model.specs.Journals.{History};
+ghost use Rattle.relay_model.specs.PlainRelay.{plain_words, plain_relay};
+ghost use Rattle.thin_desk.specs.Streams.{ReadSince, WrittenSince};
+ghost use Rattle.event_loop.specs.Courses.{Risen};
+ghost use Rattle.event_loop.specs.Headline.{Headline, StopCause, is_failure};
+ghost use Rattle.exit_status.specs.Statuses.{exit_code};
+ghost use Rattle.exit_status.specs.declared.outcomes.Outcome.TheVariants as outcomes;
+ghost use Rattle.socat_top.specs.Refusing.{not_built};
+ghost use Rattle.socat_top.specs.Kept.{history_of};
+
+use crate::calls::socat;
+
+use exit_status::{Outcome, status};
+use relay_model::Text;
+use thin_desk::{Done, Start, ThinDesk};
+use world_trait::World;
+
+use std::alloc::Global;
+use std::io::{Read, Write};
+
+/// How a run over two plain streams ended: its outcome, the exit status of it, and what the desk left.
+#[derive(Drop)]
+pub struct Thin<R: Read + Drop, K: Write + Drop, E: Write + Drop> {
+    pub outcome: Outcome,
+    pub status: u8,
+    pub done: Done<R, K, E>,
+}
+
+/// Relays as the words ask between the reader and the writer of a desk, with at most `turns` waits. Where the
+/// desk keeps its history, what it kept is legal, and it accounts for each byte that the streams tell.
+pub fn run<R: Read + Drop, K: Write + Drop, E: Write + Drop, S: Start>(
+    alloc: Global,
+    mut desk: ThinDesk<R, K, E, S>,
+    words: &[Text],
+    turns: u64,
+) -> Thin<R, K, E>
+    requires free { (p : Spot) → ⟦<ThinDesk<R, K, E, S> as World>⟧.held desk p ≡ Free }
+    ensures status { result.status ≡ exit_code result.outcome }
+    ensures headline { words.now ≡ plain_words → (before : History) → ⟦<ThinDesk<R, K, E, S> as World>⟧.told desk ≡ Some before → Headline (plain_relay 8192) turns before (Some (history_of result.done.kept)) result.outcome }
+    ensures reads { (before : History) → ⟦<ThinDesk<R, K, E, S> as World>⟧.told desk ≡ Some before → ReadSince S.input (Some (history_of result.done.kept)) (R.remaining result.done.reader) }
+    ensures writes { (before : History) → ⟦<ThinDesk<R, K, E, S> as World>⟧.told desk ≡ Some before → WrittenSince S.output (Some (history_of result.done.kept)) (K.contents result.done.writer) }
+
+    // The refusal comes exactly for words that aren't built.
+    ensures refused { words.now ≢ plain_words → result.outcome ≡ outcomes.Refused not_built }
+    ensures built { words.now ≡ plain_words → result.outcome ≢ outcomes.Refused not_built }
+
+    ensures failed { is_failure result.outcome ≡ true → Risen (⟦<ThinDesk<R, K, E, S> as World>⟧.faults desk) result.done.counts.faults }
+    ensures stopped { let w = ⟦<ThinDesk<R, K, E, S> as World>⟧ in StopCause turns (w.waits desk) result.done.counts.waits (w.stops desk) result.done.counts.stops result.outcome }
+{
+    let outcome = socat(alloc, &mut desk, words, turns);
+    let status = status(&outcome);
+    let done = desk.finish();
+    Thin {
+        outcome,
+        status,
+        done,
+    }
+}
