@@ -1,6 +1,10 @@
 // How a run ended: the exit status it gives, and what is said of it on standard error.
 #![tactic(auto)]
 
+mod lines;
 mod outcomes;
+#[cfg(test)]
+mod tests;
 
+pub use lines::{line_of, usage_text, version_text};
 pub use outcomes::{EndWhy, Op, Outcome, status};

@@ -2,10 +2,14 @@ pub mod Acts
 pub mod Arming
 pub mod Bytes
 pub mod Causes
+pub mod Conversions
 pub mod Directions
+pub mod Dumps
 pub mod Holding
 pub mod Journals
 pub mod Legality
+pub mod Permits
 pub mod Places
 pub mod PlainRelay
 pub mod Readiness
+pub mod Tries

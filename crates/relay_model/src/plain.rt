@@ -4,7 +4,6 @@ ghost use Rattle.relay_model.specs.PlainRelay.{plain_relay, standard, default_op
 
 use crate::commands::{Address, Config, Conv, Dump, FileFlags, Options, Single, Target, Ways};
 use crate::contents::{NoMemory, Text};
-
 use std::alloc::Global;
 
 const NO_FLAGS: FileFlags = FileFlags {

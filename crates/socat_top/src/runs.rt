@@ -13,14 +13,12 @@ ghost use Rattle.socat_top.specs.Refusing.{not_built};
 ghost use Rattle.socat_top.specs.Kept.{history_of};
 
 use crate::calls::socat;
-
 use exit_status::{Outcome, status};
 use relay_model::Text;
-use thin_desk::{Done, Start, ThinDesk};
-use world_trait::World;
-
 use std::alloc::Global;
 use std::io::{Read, Write};
+use thin_desk::{Done, Start, ThinDesk};
+use world_trait::World;
 
 /// How a run over two plain streams ended: its outcome, the exit status of it, and what the desk left.
 #[derive(Drop)]

@@ -1,7 +1,7 @@
 // Each item of a script is answered as it stands there, and the journal has an act for each call.
 use crate::{
-    MemWorld, OpenAnswer, OpenItem, ReadAnswer, ReadItem, ShutAnswer, Standing, Turned,
-    World, WriteAnswer, WriteItem,
+    MemWorld, OpenAnswer, OpenItem, ReadAnswer, ReadItem, ShutAnswer, Standing, Turned, World,
+    WriteAnswer, WriteItem,
 };
 use relay_model::{
     Bytes, Conv, FileFlags, NoMemory, Options, Part, Place, ReadyList, Shut, Side, Single, Target,
@@ -135,14 +135,26 @@ fn reads_as_scripted(rt: HostRuntime) {
     assert!(rt; read(&mut world, IN, &mut into) == Some(ReadAnswer::NotYet));
     assert!(rt; world.wait(Some(7), &mut ready) == Turned::Turned { at: 7, stop: false });
     assert!(rt; ready.len() == 0);
-    assert!(rt; world.wait(None, &mut ready) == Turned::Turned { at: 10, stop: false });
+    assert!(rt;
+        world.wait(None, &mut ready)
+            == Turned::Turned {
+                at: 10,
+                stop: false
+            }
+    );
     assert!(rt; ready.len() == 1);
     assert!(rt; read(&mut world, IN, &mut into) == Some(ReadAnswer::Bytes(4)));
     assert!(rt; into == *b"hell");
     assert!(rt; read(&mut world, IN, &mut into) == Some(ReadAnswer::Bytes(1)));
     assert!(rt; into[0] == b'o');
     assert!(rt; read(&mut world, IN, &mut into) == Some(ReadAnswer::NotYet));
-    assert!(rt; world.wait(None, &mut ready) == Turned::Turned { at: 20, stop: false });
+    assert!(rt;
+        world.wait(None, &mut ready)
+            == Turned::Turned {
+                at: 20,
+                stop: false
+            }
+    );
     assert!(rt; read(&mut world, IN, &mut into) == Some(ReadAnswer::End));
     assert!(rt; read(&mut world, IN, &mut into) == Some(ReadAnswer::Failed));
     assert!(rt; read(&mut world, IN, &mut into) == Some(ReadAnswer::NotYet));

@@ -1,0 +1,5 @@
+pub mod Pieces
+pub mod OptionRuns
+pub mod Keywords
+pub mod Again
+pub mod Spelled

@@ -1,0 +1,4 @@
+pub mod Addresses
+pub mod Grammar
+pub mod Printing
+pub mod Spelling

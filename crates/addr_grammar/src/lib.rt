@@ -1,0 +1,19 @@
+// The grammar of addresses, read and printed. `specs/Grammar.antt` says which address a list of tokens
+// spells and what is wrong with one that spells none.
+#![tactic(auto)]
+
+mod addresses;
+mod cutting;
+mod faults;
+mod options;
+mod parsing;
+mod printing;
+
+pub use addresses::{RawAddress, RawSingle};
+pub use faults::GrammarFault;
+pub use options::RawOption;
+pub use parsing::{one_address, parse_address};
+pub use printing::print_address;
+
+#[cfg(test)]
+mod tests;

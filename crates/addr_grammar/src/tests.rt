@@ -1,0 +1,94 @@
+use super::*;
+use relay_model::Bytes;
+use std::alloc::Global;
+use std::test::*;
+
+fn single(alloc: Global, text: &[u8]) -> Option<RawSingle> {
+    match parse_address(alloc, text) {
+        Ok(RawAddress::One(single)) => Some(single),
+        _ => None,
+    }
+}
+
+fn printed(alloc: Global, text: &[u8]) -> Option<Bytes> {
+    let address = parse_address(alloc, text).ok()?;
+    print_address(alloc, &address).ok()
+}
+
+#[test]
+fn keywords_parameters_and_options(rt: HostRuntime) -> Result<(), Fail> {
+    let alloc = rt.alloc();
+    let file = single(alloc, b"./f:g,append").ok_or("a file name")?;
+    assert_eq!(rt; file.keyword(), b"GOPEN".as_slice());
+    assert_eq!(rt; file.params().len(), 1);
+    for param in file.params() {
+        assert_eq!(rt; param.as_slice(), b"./f:g".as_slice());
+    }
+    for option in file.options() {
+        assert_eq!(rt; option.name.as_slice(), b"append".as_slice());
+        assert_eq!(rt; option.at, 6);
+    }
+    let streams = single(alloc, b"-,cr").ok_or("the standard streams")?;
+    assert_eq!(rt; streams.keyword(), b"STDIO".as_slice());
+    assert_eq!(rt; streams.params().len(), 0);
+    assert_eq!(rt; streams.options().len(), 1);
+    Ok(())
+}
+
+#[test]
+fn halves(rt: HostRuntime) -> Result<(), Fail> {
+    match parse_address(rt.alloc(), b"x!!!y") {
+        Ok(RawAddress::Two(reading, writing)) => {
+            assert_eq!(rt; reading.keyword(), b"x".as_slice());
+            assert_eq!(rt; writing.keyword(), b"!y".as_slice());
+            Ok(())
+        }
+        _ => Err("two halves".into()),
+    }
+}
+
+#[test]
+fn printed_texts(rt: HostRuntime) -> Result<(), Fail> {
+    let alloc = rt.alloc();
+    let command = printed(alloc, b"EXEC:'a,b'").ok_or("a command")?;
+    assert_eq!(rt; command.as_slice(), b"EXEC:a\\,b".as_slice());
+    let streams = printed(alloc, b"STDIN!!STDOUT").ok_or("two halves")?;
+    assert_eq!(rt; streams.as_slice(), b"STDIN!!STDOUT".as_slice());
+    Ok(())
+}
+
+#[test]
+fn faults(rt: HostRuntime) {
+    let alloc = rt.alloc();
+    assert!(rt;
+        matches!(
+            parse_address(alloc, b"a!!b!!c"),
+            Err(GrammarFault::TooManyDuals { at: 4 })
+        )
+    );
+    assert!(rt;
+        matches!(
+            parse_address(alloc, b"a\\"),
+            Err(GrammarFault::LoneBackslash { at: 1 })
+        )
+    );
+    assert!(rt;
+        matches!(
+            parse_address(alloc, b"(a"),
+            Err(GrammarFault::Unclosed { at: 0 })
+        )
+    );
+    assert!(rt; matches!(parse_address(alloc, b"\"\""), Err(GrammarFault::Empty)));
+    assert!(rt;
+        matches!(
+            parse_address(alloc, b"OPEN:x,,creat"),
+            Err(GrammarFault::EmptyOption { at: 7 })
+        )
+    );
+    assert!(rt;
+        matches!(
+            parse_address(alloc, b"a,\"\"=x"),
+            Err(GrammarFault::EmptyOption { at: 2 })
+        )
+    );
+}

@@ -1,0 +1,129 @@
+//! Conversion of line ends between a place that is read and a place that is written (socat(1), `cr` and `crnl`).
+#![tactic(auto)]
+
+ghost use Rattle.std.specs.Prelude.{◌≡◌, ◌⊎◌, ◌+◌, ◌*◌, ◌≤◌, ℕ, List, ◌∷◌, [], ◌++◌, length, take};
+ghost use Rattle.std.specs.List.{flat_map};
+ghost use Rattle.line_ends.specs.Converted.{converted, IsNextLineEnd};
+
+use memchr::{memchr, memchr2};
+use relay_model::Conv;
+
+const CARRIAGE_RETURN: u8 = b'\r';
+
+const NEWLINE: u8 = b'\n';
+
+/// How one direction converts line ends: as the source is read, and then as the sink is written.
+#[derive(Clone, Copy, Debug, PartialEq, Eq)]
+pub struct Convs {
+    pub read: Conv,
+    pub write: Conv,
+}
+
+/// Writes the conversion of `block` to the front of `out`, and answers its length. The rest of `out` is anything.
+pub fn convert(how: Convs, block: &[u8], out: &mut [u8]) -> usize
+    requires { 2 * length block.now ≤ length out.old }
+    ensures converts { take result out.new ≡ converted how block.now }
+    ensures count { result ≡ length (converted how block.now) }
+    ensures bound { result ≤ 2 * length block.now }
+    // Whatever came before, this block's conversion goes on where that one's ends.
+    ensures cuts { (before : List ℕ) → converted how (before ++ block.now) ≡ converted how before ++ take result out.new }
+{
+    let mut rest = block;
+    let mut filled = 0;
+    while let Some(at) = next_line_end(how, rest) {
+        filled = append(out, filled, &rest[..at]);
+        filled = append(out, filled, converted_line_end(how, rest[at]));
+        rest = &rest[at + 1..];
+    }
+    append(out, filled, rest)
+}
+
+/// A law of conversions: however a stream is cut into pieces, its conversion is the pieces' conversions joined.
+pub fn keep_nothing_between_pieces(how: Convs)
+    ensures { (pieces : List (List ℕ)) → converted how (flat_map (λ piece. piece) pieces) ≡ flat_map (converted how) pieces }
+{
+    let _ = how;
+}
+
+/// Where the first byte stands that may have to be converted.
+fn next_line_end(how: Convs, bytes: &[u8]) -> Option<usize>
+    ensures { IsNextLineEnd how bytes.now result }
+{
+    match (how.read, how.write) {
+        (Conv::Plain, Conv::Plain) => None,
+        (Conv::Plain, _) => memchr(NEWLINE, bytes),
+        (_, Conv::Plain) => memchr(CARRIAGE_RETURN, bytes),
+        _ => memchr2(CARRIAGE_RETURN, NEWLINE, bytes),
+    }
+}
+
+/// What stands in the output for a carriage return or a newline of the input.
+fn converted_line_end(how: Convs, byte: u8) -> &'static [u8]
+    requires { (byte ≡ 13) ⊎ (byte ≡ 10) }
+    ensures converts { result.now ≡ converted how (byte ∷ []) }
+    ensures short { length result.now ≤ 2 }
+{
+    let newline: &'static [u8] = match how.write {
+        Conv::Plain => b"\n",
+        Conv::Cr => b"\r",
+        Conv::Crnl => b"\r\n",
+    };
+    if byte == NEWLINE {
+        return newline;
+    }
+    match how.read {
+        Conv::Plain => b"\r",
+        Conv::Cr => newline,
+        Conv::Crnl => b"",
+    }
+}
+
+/// Writes the bytes to `out` from `at` on, and answers where they end.
+fn append(out: &mut [u8], at: usize, bytes: &[u8]) -> usize
+    requires { at + length bytes.now ≤ length out.old }
+    ensures end { result ≡ at + length bytes.now }
+    ensures front { take result out.new ≡ take at out.old ++ bytes.now }
+{
+    let end = at + bytes.len();
+    out[at..end].copy_from_slice(bytes);
+    end
+}
+
+#[cfg(test)]
+mod tests {
+    use super::*;
+    use std::process::Abort;
+
+    fn expect_conversion(rt: &impl Abort, read: Conv, write: Conv, block: &[u8], want: &[u8])
+        requires { length block.now ≤ 8 }
+    {
+        let mut out = [0u8; 16];
+        let len = convert(Convs { read, write }, block, &mut out);
+        assert_eq!(rt; &out[..len], want);
+    }
+
+    #[test]
+    fn each_pair_of_conversions(rt: HostRuntime) {
+        let block = b"a\r\nb\rc\nd";
+        expect_conversion(&rt, Conv::Plain, Conv::Plain, block, b"a\r\nb\rc\nd");
+        expect_conversion(&rt, Conv::Plain, Conv::Cr, block, b"a\r\rb\rc\rd");
+        expect_conversion(&rt, Conv::Plain, Conv::Crnl, block, b"a\r\r\nb\rc\r\nd");
+        expect_conversion(&rt, Conv::Cr, Conv::Plain, block, b"a\n\nb\nc\nd");
+        expect_conversion(&rt, Conv::Cr, Conv::Cr, block, b"a\r\rb\rc\rd");
+        expect_conversion(&rt, Conv::Cr, Conv::Crnl, block, b"a\r\n\r\nb\r\nc\r\nd");
+        expect_conversion(&rt, Conv::Crnl, Conv::Plain, block, b"a\nbc\nd");
+        expect_conversion(&rt, Conv::Crnl, Conv::Cr, block, b"a\rbc\rd");
+        expect_conversion(&rt, Conv::Crnl, Conv::Crnl, block, b"a\r\nbc\r\nd");
+    }
+
+    #[test]
+    fn a_return_and_a_newline_in_two_blocks(rt: HostRuntime) {
+        expect_conversion(&rt, Conv::Crnl, Conv::Plain, b"a\r", b"a");
+        expect_conversion(&rt, Conv::Crnl, Conv::Plain, b"\nb", b"\nb");
+        expect_conversion(&rt, Conv::Cr, Conv::Cr, b"\n\r", b"\r\r");
+        keep_nothing_between_pieces(Convs {
+            read: Conv::Crnl,
+            write: Conv::Plain,
+        });
+    }
+}

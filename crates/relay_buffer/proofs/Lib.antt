@@ -1,0 +1,4 @@
+pub mod BacklogLemmas
+pub mod EscapeLemmas
+pub mod FlowLemmas
+pub mod RoomLemmas

@@ -1,0 +1,11 @@
+//! The bytes that wait in one direction of a relay: converted, cut off at their end, and in order.
+#![tactic(auto)]
+
+mod backlogs;
+mod flows;
+mod lanes;
+#[cfg(test)]
+mod tests;
+
+pub use flows::Flow;
+pub use lanes::Lane;

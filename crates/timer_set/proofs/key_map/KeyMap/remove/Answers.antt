@@ -1,0 +1,26 @@
+use Rattle.std.proofs.Common.{◌≡◌, ◌+◌, ◌-◌, ap, sym, ◌∙◌, arith, vec_len, vec_capacity}
+use Rattle.timer_set.specs.Entries.{Keyed}
+use Rattle.timer_set.proofs.Found.{got_at, got_none, removed_at, removed_gap, chosen_some, chosen_none}
+use Rattle.timer_set.proofs.key_map.KeyMap.remove.Goals as goal
+
+pub returns-in-Ok-clause-values : goal.returns-in-Ok-clause-values
+returns-in-Ok-clause-values c =
+    rw c.remove.ensures.items (removed_at _ _ _ _ (ap (λ (k : Keyed). k.values) c.self.view_is) (rw c.deref.ensures.value at c.in-Ok.ensures.found))
+
+pub returns-in-Ok-clause-room : goal.returns-in-Ok-clause-room
+returns-in-Ok-clause-room c =
+    let found = got_at _ _ _ _ _ (ap (λ (k : Keyed). k.values) c.self.view_is) (rw c.deref.ensures.value at c.in-Ok.ensures.found) c.remove.ensures.value in
+    let is = ap (λ (k : Keyed). k.room) c.self.view_is in
+    let left : vec_capacity c.remove.new.self - vec_len c.remove.new.self ≡ c.args.self.now.room + 1 =
+    let before = c.self.inside.pairs.ok.1 in
+    omega (arith, c.remove.ensures.len, c.remove.ensures.capacity) in
+    left ∙ sym (chosen_some _ _ _ _ found)
+
+pub returns-in_default-clause-values : goal.returns-in_default-clause-values
+returns-in_default-clause-values c =
+    removed_gap _ _ _ _ (ap (λ (k : Keyed). k.values) c.self.view_is) (rw c.deref.ensures.value at c.in_default.ensures.absent)
+
+pub returns-in_default-clause-room : goal.returns-in_default-clause-room
+returns-in_default-clause-room c =
+    let none = got_none _ _ _ _ (ap (λ (k : Keyed). k.values) c.self.view_is) (rw c.deref.ensures.value at c.in_default.ensures.absent) in
+    sym (chosen_none _ _ _ none)

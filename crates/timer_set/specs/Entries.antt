@@ -1,0 +1,45 @@
+-- Pairs of a key and a value, in a list.
+use Rattle.std.specs.Prelude.{◌≡◌, ℕ, ◌<◌, ◌≤◌, List, length, slice_index_or, refl}
+use Rattle.std.specs.Ordering.{nat_cmp}
+use Rattle.std.specs.FinMap.{FinMap, code}
+use Rattle.std.specs.Coded.{Coded, code_by, coded×, coded_ℕ}
+
+-- a map from keys to values, and how many further keys it has room for
+pub record Keyed : Type 0 where
+  pub values : FinMap nat_cmp ℕ
+  pub room : ℕ
+
+-- the key of the pair at `i`, or 0 past the end
+abbrev pub key_at : List (ℕ × ℕ) → ℕ → ℕ
+key_at pairs i = (slice_index_or pairs i (0, 0)).0
+
+-- the value of the pair at `i`, or 0 past the end
+abbrev pub value_at : List (ℕ × ℕ) → ℕ → ℕ
+value_at pairs i = (slice_index_or pairs i (0, 0)).1
+
+-- the value at `place` is no more than any, and less than those before it
+pub record IsLeastPlace (pairs : List (ℕ × ℕ)) (place : ℕ) : Type 0 where
+  pub within : place < length pairs
+  pub least : (i : ℕ) → i < length pairs → value_at pairs place ≤ value_at pairs i
+  pub first : (i : ℕ) → i < place → value_at pairs place < value_at pairs i
+
+-- the keys rise
+abbrev pub IsRising : List (ℕ × ℕ) → Type 0
+IsRising pairs = (i j : ℕ) → i < j → j < length pairs → key_at pairs i < key_at pairs j
+
+-- the keys rise, and this one stands at `place`
+pub record IsAt (pairs : List (ℕ × ℕ)) (key place : ℕ) : Type 0 where
+  pub rising : IsRising pairs
+  pub within : place < length pairs
+  pub found : key_at pairs place ≡ key
+
+-- the keys rise, and this one is absent and belongs at `place`
+pub record IsGap (pairs : List (ℕ × ℕ)) (key place : ℕ) : Type 0 where
+  pub rising : IsRising pairs
+  pub within : place ≤ length pairs
+  pub below : (i : ℕ) → i < place → key_at pairs i < key
+  pub above : (i : ℕ) → place ≤ i → i < length pairs → key < key_at pairs i
+
+abbrev pub keyed_code : Coded Keyed
+keyed_code =
+    code_by (FinMap nat_cmp ℕ × ℕ) (coded× (code coded_ℕ coded_ℕ) coded_ℕ) (λ k. (k.values, k.room)) (λ p. record { values = p.0; room = p.1 }) (λ _. refl)

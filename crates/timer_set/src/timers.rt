@@ -1,0 +1,83 @@
+// Timers by key, of which the first can be asked for.
+ghost use Rattle.std.specs.Prelude.{◌≡◌, ℕ, ◌+◌, ◌-◌, ◌<◌, ◌≤◌, None, OnOk, IfSome, IfNone, if◌then◌else◌};
+ghost use Rattle.std.specs.FinMap as map;
+ghost use Rattle.timer_set.specs.Timers.{IsFirst, IsDue, TakenOut};
+
+use crate::key_map::KeyMap;
+use relay_model::NoMemory;
+use std::alloc::Global;
+use std::marker::Model;
+
+/// The moments at which keys fall due. Contracts see the map from keys to moments, and the number of further
+/// keys that there is room for.
+#[derive(Debug, Drop)]
+pub struct TimerSet {
+    moments: KeyMap,
+}
+
+impl Model for TimerSet {
+    ghost use Rattle.timer_set.specs.Timers.{Timers, timers_code};
+
+    ghost Value = { Timers };
+
+    ghost coded = { timers_code };
+
+    ghost view = { λ timers. record { moments = timers.moments.values; room = timers.moments.room } };
+}
+
+impl TimerSet {
+    /// No key is set; takes no memory.
+    pub fn new(alloc: Global) -> TimerSet
+        ensures { result.moments ≡ map.empty }
+    {
+        TimerSet {
+            moments: KeyMap::new(alloc),
+        }
+    }
+
+    /// Makes room for `n` further keys, or changes nothing that is set.
+    pub fn reserve(&mut self, n: usize) -> Result<(), NoMemory>
+        ensures room { OnOk result (n ≤ self.new.room) }
+        ensures kept { self.old.room ≤ self.new.room }
+        ensures moments { self.new.moments ≡ self.old.moments }
+    {
+        self.moments.reserve(n)
+    }
+
+    /// This key falls due at this moment, and at no other. A key that isn't set takes room for one.
+    pub fn set(&mut self, key: u32, at: u64)
+        requires { map.get self.old.moments key ≡ None → 0 < self.old.room }
+        ensures moments { self.new.moments ≡ map.insert self.old.moments key at }
+        ensures room { self.new.room ≡ (if map.contains_key self.old.moments key then self.old.room else self.old.room - 1) }
+    {
+        self.moments.put(key, at);
+    }
+
+    /// This key is no longer set; where it was, its room is free again.
+    pub fn clear(&mut self, key: u32)
+        ensures moments { self.new.moments ≡ map.remove self.old.moments key }
+        ensures room { self.new.room ≡ (if map.contains_key self.old.moments key then self.old.room + 1 else self.old.room) }
+    {
+        self.moments.remove(key);
+    }
+
+    /// The least moment, and among the keys that fall due at it the least. None exactly where no key is set.
+    pub fn first(&self) -> Option<(u64, u32)>
+        ensures { IsFirst self.now.moments result }
+    {
+        self.moments.least()
+    }
+
+    /// Takes the first key out, where it falls due at `now` or before.
+    pub fn due(&mut self, now: u64) -> Option<u32>
+        ensures due { IsDue self.old.moments now result }
+        ensures taken { TakenOut self.old self.new result }
+    {
+        let (at, key) = self.first()?;
+        if at > now {
+            return None;
+        }
+        self.clear(key);
+        Some(key)
+    }
+}
