@@ -2,6 +2,8 @@
 #![tactic(auto)]
 
 mod calls;
+#[cfg(test)]
+mod run_tests;
 mod runs;
 mod spoken;
 

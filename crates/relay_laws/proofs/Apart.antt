@@ -1,0 +1,348 @@
+-- An act of another session or of the program door leaves a session as it is.
+use Rattle.std.proofs.Common.{◌≡◌, refl, sym, ap, ◌∙◌, ℕ, suc, ◌+◌, ◌<◌, Bool, true, false, not, cond, ◌&&◌, ◌||◌, ◌==◌, nat_lt, is_some, is_none, List, [], ◌∷◌, ◌++◌, map, filter, Option, Some, None, arith, inl, inr, ◌⊎◌}
+use Rattle.std.specs.List.{list_all, list_any}
+use Rattle.std.proofs.lemmas.Bool.{false≢true, true≢false, and_parts, and_right, or_parts, or_cases, not-true, lt-ltb, false_from_ne_true}
+use Rattle.relay_model.specs.declared.places.Side.{Side}
+use Rattle.relay_model.specs.declared.places.Side.TheVariants.{Left, Right}
+use Rattle.relay_model.specs.declared.places.Part.{Part}
+use Rattle.relay_model.specs.declared.places.Part.TheVariants.{Both}
+use Rattle.relay_model.specs.declared.places.Way.{Way}
+use Rattle.relay_model.specs.declared.places.Way.TheVariants.{LeftToRight, RightToLeft}
+use Rattle.relay_model.specs.declared.places.Place.{Place}
+use Rattle.relay_model.specs.declared.commands.Config.{Config}
+use Rattle.relay_model.specs.declared.acts.Why.{Why}
+use Rattle.relay_model.specs.declared.acts.Why.TheVariants as whys
+use Rattle.relay_model.specs.declared.acts.Act.{Act}
+use Rattle.relay_model.specs.declared.acts.Act.TheVariants.{Turn, Opened, Accepted, AcceptFailed, Read, Wrote, Closed}
+use Rattle.relay_model.specs.Places.{same_place, same_side, same_part, door_of}
+use Rattle.relay_laws.specs.Choices.{only_if, or_else, first_some, one_more}
+use Rattle.relay_laws.specs.Configs.{places, parts, place_at, things, own_doors, has_own_door, options_of, listens_at, has_fork, is_left, program_door, is_program_door, is_of, is_place_of, input, output, formed}
+use Rattle.relay_laws.specs.History.{now, Stage, Unsettled, Failed, Met, Waiting, stage, held, holds_at, is_gone_with, served, stop_said, memory_said, same_why, accept_failed}
+use Rattle.relay_laws.specs.Sessions.{permits, holds, admitted, is_admission, numbers}
+use Rattle.relay_model.specs.Tries.{next_due, is_out_of_tries}
+use Rattle.relay_laws.specs.Moments.{moved, passed_at, broken_at, done_at, after_one, closing_moment, idle_moment, reached}
+use Rattle.relay_laws.specs.Openings.{Call, Nothing, Open, Settle, Listen, Accept, Refuse, Serve, out_of_tries, when_due, try_again, stands_ready, is_ready, ready, opening_call, listening_call, peer_call, place_call, first_call}
+use Rattle.relay_laws.specs.Cause.{is_end, closed_why, fault_at, faulted, finished, cause}
+use Rattle.relay_laws.specs.Frames.{is_turn, SameAt, IsForeign, is_common, SameSession}
+use Rattle.relay_laws.proofs.PlaceLemmas.{same_place_equal, same_place_self}
+use Rattle.relay_laws.proofs.Elsewhere.{elsewhere}
+
+-- ---- lists of a session's own places and doors
+
+abbrev pub EachOwn : Config → ℕ → List Place → Type 0
+EachOwn c s [] = Unit {0}
+EachOwn c s (p ∷ ps) = (p.session ≡ s) × (is_program_door c p ≡ false) × EachOwn c s ps
+
+no_door : (x y z f : Bool) → (x && y && false && z && f) ≡ false
+no_door true true z f = refl
+no_door true false z f = refl
+no_door false y z f = refl
+
+own_door : (l p z f : Bool) → (l && f) ≡ false → (l && p && true && z && f) ≡ false
+own_door true p z f e = and_right (p && true && z) f e
+own_door false p z f e = refl
+
+pub place_own : (c : Config) (s : ℕ) (side : Side) (part : Part) → is_program_door c (place_at s side part) ≡ false
+place_own c s side part = no_door (same_side side Left) (same_part part Both) (s == 0) (has_fork c)
+
+pub door_own : (c : Config) (p : Place) → has_own_door c p ≡ true → is_program_door c (door_of p) ≡ false
+door_own c p e = own_door (same_side p.side Left) (same_part p.part Both) (p.session == 0) (has_fork c) (not-true (is_left p && has_fork c) (and_parts (listens_at c p) (not (is_left p && has_fork c)) e).1)
+
+each_append : (c : Config) (s : ℕ) (ps qs : List Place) → EachOwn c s ps → EachOwn c s qs → EachOwn c s (ps ++ qs)
+each_append c s [] qs h k = k
+each_append c s (p ∷ ps) qs h k = (h.0, h.1, each_append c s ps qs h.2 k)
+
+each_mapped : (c : Config) (s : ℕ) (side : Side) (ps : List Part) → EachOwn c s (map (place_at s side) ps)
+each_mapped c s side [] = tt
+each_mapped c s side (part ∷ ps) = (refl, place_own c s side part, each_mapped c s side ps)
+
+pub each_place : (c : Config) (s : ℕ) → EachOwn c s (places c s)
+each_place c s = each_append c s (map (place_at s Left) (parts c Left)) (map (place_at s Right) (parts c Right)) (each_mapped c s Left (parts c Left)) (each_mapped c s Right (parts c Right))
+
+each_filtered : (c : Config) (s : ℕ) (ps : List Place) → EachOwn c s ps → EachOwn c s (map door_of (filter (has_own_door c) ps))
+each_filtered c s [] h = tt
+each_filtered c s (p ∷ ps) h = go (has_own_door c p) refl (each_filtered c s ps h.2)
+  where
+    go : (b : Bool) → has_own_door c p ≡ b → EachOwn c s (map door_of (filter (has_own_door c) ps)) → EachOwn c s (map door_of (cond b (p ∷ filter (has_own_door c) ps) (filter (has_own_door c) ps)))
+    go true e ih = (h.0, door_own c p e, ih)
+    go false e ih = ih
+
+pub each_door : (c : Config) (s : ℕ) → EachOwn c s (own_doors c s)
+each_door c s = each_filtered c s (places c s) (each_place c s)
+
+pub each_thing : (c : Config) (s : ℕ) → EachOwn c s (things c s)
+each_thing c s = each_append c s (places c s) (own_doors c s) (each_place c s) (each_door c s)
+
+any_same : (c : Config) (s : ℕ) (f g : Place → Bool) → ((p : Place) → p.session ≡ s → is_program_door c p ≡ false → f p ≡ g p) → (ps : List Place) → EachOwn c s ps → list_any f ps ≡ list_any g ps
+any_same c s f g h [] own = refl
+any_same c s f g h (p ∷ ps) own = let x = h p own.0 own.1 in let y = any_same c s f g h ps own.2 in λ i. x i || y i
+
+all_same : (c : Config) (s : ℕ) (f g : Place → Bool) → ((p : Place) → p.session ≡ s → is_program_door c p ≡ false → f p ≡ g p) → (ps : List Place) → EachOwn c s ps → list_all f ps ≡ list_all g ps
+all_same c s f g h [] own = refl
+all_same c s f g h (p ∷ ps) own = let x = h p own.0 own.1 in let y = all_same c s f g h ps own.2 in λ i. x i && y i
+
+-- a thing among these is the session's own
+pub among_own : (c : Config) (s : ℕ) (q : Place) (ps : List Place) → EachOwn c s ps → list_any (same_place q) ps ≡ true → (q.session ≡ s) × (is_program_door c q ≡ false)
+among_own c s q [] own e = absurd (false≢true e)
+among_own c s q (p ∷ ps) own e = go (or_cases (same_place q p) (list_any (same_place q) ps) e) (among_own c s q ps own.2)
+  where
+    go : (same_place q p ≡ true) ⊎ (list_any (same_place q) ps ≡ true) → (list_any (same_place q) ps ≡ true → (q.session ≡ s) × (is_program_door c q ≡ false)) → (q.session ≡ s) × (is_program_door c q ≡ false)
+    go (inl here) ih = let k = same_place_equal q p here in (ap (λ x. x.session) k ∙ own.0, ap (is_program_door c) k ∙ own.1)
+    go (inr there) ih = ih there
+
+-- where nothing of the session's own is the same as q, q is none of these
+none_among : (c : Config) (s : ℕ) (q : Place) (ps : List Place) → EachOwn c s ps → ((p : Place) → p.session ≡ s → is_program_door c p ≡ false → same_place q p ≡ false) → list_any (same_place q) ps ≡ false
+none_among c s q ps own foreign = false_from_ne_true (list_any (same_place q) ps) (λ e. let o = among_own c s q ps own e in true≢false (sym (same_place_self q) ∙ foreign q o.0 o.1))
+
+-- ---- two lists that say the same of a session's own
+
+pub record Base (c : Config) (s : ℕ) (one other : List Act) : Type 0 where
+  pub own : (p : Place) → p.session ≡ s → is_program_door c p ≡ false → SameAt p one other
+  pub now_same : now one ≡ now other
+  pub memory_same : memory_said one ≡ memory_said other
+  pub stop_same : stop_said one ≡ stop_said other
+  pub door_same : (has_fork c && accept_failed one program_door) ≡ (has_fork c && accept_failed other program_door)
+  pub closed_same : closed_why c one s ≡ closed_why c other s
+  pub moved_same : moved c one s ≡ moved c other s
+
+held_same : (c : Config) (s : ℕ) (a b : List Act) → Base c s a b → (p : Place) → p.session ≡ s → is_program_door c p ≡ false → held a p ≡ held b p
+held_same c s a b base p e d = ap holds_at (base.own p e d).stage_same
+
+holding_same : (c : Config) (s : ℕ) (a b : List Act) → Base c s a b → holds c a s ≡ holds c b s
+holding_same c s a b base = any_same c s (held a) (held b) (held_same c s a b base) (things c s) (each_thing c s)
+
+standing_same : (c : Config) (a b : List Act) (p : Place) → (has_own_door c p ≡ true → served a (door_of p) ≡ served b (door_of p)) → (st : Stage) → stands_ready c a p st ≡ stands_ready c b p st
+standing_same c a b p h (Met peer) = ap (λ x. listens_at c p && permits c p peer && x) (go (has_own_door c p) h)
+  where
+    go : (t : Bool) → (t ≡ true → served a (door_of p) ≡ served b (door_of p)) → (not t || served a (door_of p)) ≡ (not t || served b (door_of p))
+    go true k = k refl
+    go false k = refl
+standing_same c a b p h st = refl
+
+ready_same_at : (c : Config) (s : ℕ) (a b : List Act) → Base c s a b → (p : Place) → p.session ≡ s → is_program_door c p ≡ false → is_ready c a p ≡ is_ready c b p
+ready_same_at c s a b base p e d =
+    ap (stands_ready c a p) (base.own p e d).stage_same
+    ∙ standing_same c a b p (λ o. ap (is_gone_with whys.Served) (base.own (door_of p) e (door_own c p o)).stage_same) (stage b p)
+
+readiness_same : (c : Config) (s : ℕ) (a b : List Act) → Base c s a b → ready c a s ≡ ready c b s
+readiness_same c s a b base = all_same c s (is_ready c a) (is_ready c b) (ready_same_at c s a b base) (places c s) (each_place c s)
+
+tries_same : (c : Config) (s : ℕ) (a b : List Act) → Base c s a b → (p : Place) → p.session ≡ s → is_program_door c p ≡ false → out_of_tries c a p ≡ out_of_tries c b p
+tries_same c s a b base p e d = ap (is_out_of_tries (options_of c p).retry (options_of c p).forever) (base.own p e d).failures_same
+
+fault_same : (c : Config) (s : ℕ) (a b : List Act) → Base c s a b → (p : Place) → p.session ≡ s → is_program_door c p ≡ false → fault_at a p ≡ fault_at b p
+fault_same c s a b base p e d = let x = (base.own p e d).read_fault_at_same in let y = (base.own p e d).write_fault_at_same in λ i. is_some (x i) || is_some (y i)
+
+-- ---- timers
+
+input_own : (c : Config) (s : ℕ) (w : Way) → is_program_door c (input c s w) ≡ false
+input_own c s LeftToRight = place_own c s Left (input c s LeftToRight).part
+input_own c s RightToLeft = place_own c s Right (input c s RightToLeft).part
+
+output_own : (c : Config) (s : ℕ) (w : Way) → is_program_door c (output c s w) ≡ false
+output_own c s LeftToRight = place_own c s Right (output c s LeftToRight).part
+output_own c s RightToLeft = place_own c s Left (output c s RightToLeft).part
+
+passing_same : (c : Config) (s : ℕ) (a b : List Act) → Base c s a b → (w : Way) → passed_at c a s w ≡ passed_at c b s w
+passing_same c s a b base w = (base.own (output c s w) refl (output_own c s w)).shut_at_same
+
+breaking_same : (c : Config) (s : ℕ) (a b : List Act) → Base c s a b → (w : Way) → broken_at c a s w ≡ broken_at c b s w
+breaking_same c s a b base w =
+    let x = (base.own (input c s w) refl (input_own c s w)).read_fault_at_same in
+    let y = (base.own (output c s w) refl (output_own c s w)).write_fault_at_same in
+    λ i. cond c.sloppy (or_else (x i) (y i)) None
+
+doing_same : (c : Config) (s : ℕ) (a b : List Act) → Base c s a b → (w : Way) → done_at c a s w ≡ done_at c b s w
+doing_same c s a b base w = let x = passing_same c s a b base w in let y = breaking_same c s a b base w in λ i. or_else (x i) (y i)
+
+closing_same : (c : Config) (s : ℕ) (a b : List Act) → Base c s a b → closing_moment c a s ≡ closing_moment c b s
+closing_same c s a b base =
+    let x = doing_same c s a b base LeftToRight in
+    let y = doing_same c s a b base RightToLeft in
+    λ i. cond (formed c LeftToRight && formed c RightToLeft) (after_one c.closing (x i) (y i)) None
+
+idle_same : (c : Config) (s : ℕ) (a b : List Act) → Base c s a b → idle_moment c a s ≡ idle_moment c b s
+idle_same c s a b base =
+    let x = doing_same c s a b base LeftToRight in
+    let y = doing_same c s a b base RightToLeft in
+    let m = base.moved_same in
+    λ i. cond (nat_lt 0 c.idle && (formed c LeftToRight && not (is_some (x i)) || formed c RightToLeft && not (is_some (y i)))) (Some (m i + c.idle)) None
+
+-- ---- cause
+
+faults_same : (c : Config) (s : ℕ) (a b : List Act) → Base c s a b → faulted c a s ≡ faulted c b s
+faults_same c s a b base =
+    let r = readiness_same c s a b base in
+    let x = doing_same c s a b base LeftToRight in
+    let y = doing_same c s a b base RightToLeft in
+    let u = breaking_same c s a b base LeftToRight in
+    let v = breaking_same c s a b base RightToLeft in
+    let f = any_same c s (fault_at a) (fault_at b) (fault_same c s a b base) (places c s) (each_place c s) in
+    λ i. cond c.sloppy
+    (r i && ((not (formed c LeftToRight) || is_some (x i)) && (not (formed c RightToLeft) || is_some (y i))) && (formed c LeftToRight && is_some (u i) || formed c RightToLeft && is_some (v i)))
+    (f i)
+
+finish_same : (c : Config) (s : ℕ) (a b : List Act) → Base c s a b → finished c a s ≡ finished c b s
+finish_same c s a b base =
+    let r = readiness_same c s a b base in
+    let x = passing_same c s a b base LeftToRight in
+    let y = passing_same c s a b base RightToLeft in
+    λ i. r i && ((not (formed c LeftToRight) || is_some (x i)) && (not (formed c RightToLeft) || is_some (y i)))
+
+abbrev pub cause_from : Option Why → Bool → Bool → Bool → Bool → Bool → Bool → Bool → Bool → Bool → Option Why
+cause_from closed memory stop accepting listening opening fault finish closing idle =
+    first_some (closed
+    ∷ only_if memory whys.Memory
+    ∷ only_if stop whys.Stopped
+    ∷ only_if accepting whys.AcceptFailed
+    ∷ only_if listening whys.ListenFailed
+    ∷ only_if opening whys.OpenFailed
+    ∷ only_if fault whys.Faulted
+    ∷ only_if finish whys.Finished
+    ∷ only_if closing whys.ClosingTime
+    ∷ only_if idle whys.Idle
+    ∷ [])
+
+pub ending_same : (c : Config) (s : ℕ) (a b : List Act) → Base c s a b → cause c a s ≡ cause c b s
+ending_same c s a b base =
+    let closed = base.closed_same in
+    let memory = base.memory_same in
+    let stop = base.stop_same in
+    let door = base.door_same in
+    let accepting = any_same c s (accept_failed a) (accept_failed b) (λ p e d. (base.own p e d).accept_failed_same) (own_doors c s) (each_door c s) in
+    let listening = any_same c s (out_of_tries c a) (out_of_tries c b) (tries_same c s a b base) (own_doors c s) (each_door c s) in
+    let opening = any_same c s (out_of_tries c a) (out_of_tries c b) (tries_same c s a b base) (places c s) (each_place c s) in
+    let fault = faults_same c s a b base in
+    let finish = finish_same c s a b base in
+    let r = readiness_same c s a b base in
+    let closing = closing_same c s a b base in
+    let idle = idle_same c s a b base in
+    let at = base.now_same in
+    λ i. cause_from (closed i) (memory i) (stop i) (door i || accepting i) (listening i) (opening i) (fault i) (finish i) (r i && reached (closing i) (at i)) (r i && reached (idle i) (at i))
+
+-- ---- calls
+
+again_same : (c : Config) (s : ℕ) (a b : List Act) → Base c s a b → (p : Place) (wanted : Call) → p.session ≡ s → is_program_door c p ≡ false → try_again c a p wanted ≡ try_again c b p wanted
+again_same c s a b base p wanted e d =
+    let f = (base.own p e d).failures_same in
+    let at = base.now_same in
+    λ i. cond (is_out_of_tries (options_of c p).retry (options_of c p).forever (f i)) Nothing (when_due (at i) (next_due (options_of c p).interval (f i)) wanted)
+
+opening_same : (c : Config) (s : ℕ) (a b : List Act) → Base c s a b → (p : Place) → p.session ≡ s → is_program_door c p ≡ false → (st : Stage) → opening_call c a p st ≡ opening_call c b p st
+opening_same c s a b base p e d Unsettled = let w = (base.own p e d).woken_same in λ i. cond (w i) (Settle p) Nothing
+opening_same c s a b base p e d Failed = again_same c s a b base p (Open p) e d
+opening_same c s a b base p e d st = refl
+
+listening_same : (c : Config) (s : ℕ) (a b : List Act) → Base c s a b → (d p : Place) → d.session ≡ s → is_program_door c d ≡ false → (st : Stage) → listening_call c a d p st ≡ listening_call c b d p st
+listening_same c s a b base d p e o Failed = again_same c s a b base d (Listen d) e o
+listening_same c s a b base d p e o Waiting = let w = (base.own d e o).armed_to_accept_same in λ i. cond (w i) (Accept d p) Nothing
+listening_same c s a b base d p e o st = refl
+
+waiting_same : (c : Config) (s : ℕ) (a b : List Act) → Base c s a b → (p : Place) → p.session ≡ s → is_program_door c (door_of p) ≡ false → listening_call c a (door_of p) p (stage a (door_of p)) ≡ listening_call c b (door_of p) p (stage b (door_of p))
+waiting_same c s a b base p e o = ap (listening_call c a (door_of p) p) (base.own (door_of p) e o).stage_same ∙ listening_same c s a b base (door_of p) p e o (stage b (door_of p))
+
+peer_same : (c : Config) (s : ℕ) (a b : List Act) → Base c s a b → (p : Place) → p.session ≡ s → is_program_door c (door_of p) ≡ false → (st : Stage) → peer_call c a p st ≡ peer_call c b p st
+peer_same c s a b base p e o (Met peer) = let h = held_same c s a b base (door_of p) e o in λ i. cond (permits c p peer) (cond (h i) (Serve (door_of p)) Nothing) (Refuse p)
+peer_same c s a b base p e o st = waiting_same c s a b base p e o
+
+place_call_same : (c : Config) (s : ℕ) (a b : List Act) → Base c s a b → (p : Place) → p.session ≡ s → is_program_door c p ≡ false → place_call c a p ≡ place_call c b p
+place_call_same c s a b base p e d = go (has_own_door c p) refl
+  where
+    go : (t : Bool) → has_own_door c p ≡ t → cond t (peer_call c a p (stage a p)) (cond (listens_at c p) Nothing (opening_call c a p (stage a p))) ≡ cond t (peer_call c b p (stage b p)) (cond (listens_at c p) Nothing (opening_call c b p (stage b p)))
+    go true o = ap (peer_call c a p) (base.own p e d).stage_same ∙ peer_same c s a b base p e (door_own c p o) (stage b p)
+    go false o = ap (cond (listens_at c p) Nothing) (ap (opening_call c a p) (base.own p e d).stage_same ∙ opening_same c s a b base p e d (stage b p))
+
+first_call_same : (c : Config) (s : ℕ) (a b : List Act) → Base c s a b → (ps : List Place) → EachOwn c s ps → first_call c a ps ≡ first_call c b ps
+first_call_same c s a b base [] own = refl
+first_call_same c s a b base (p ∷ ps) own =
+    let r = ready_same_at c s a b base p own.0 own.1 in
+    let k = place_call_same c s a b base p own.0 own.1 in
+    let ih = first_call_same c s a b base ps own.2 in
+    λ i. cond (r i) (ih i) (k i)
+
+-- ---- one act
+
+foreign_of : (c : Config) (s : ℕ) (q : Place) → ((p : Place) → p.session ≡ s → is_program_door c p ≡ false → same_place q p ≡ false) → is_of c s q ≡ false
+foreign_of c s q f = none_among c s q (things c s) (each_thing c s) f
+
+foreign_place : (c : Config) (s : ℕ) (q : Place) → ((p : Place) → p.session ≡ s → is_program_door c p ≡ false → same_place q p ≡ false) → is_place_of c s q ≡ false
+foreign_place c s q f = none_among c s q (places c s) (each_place c s) f
+
+closed_step : (c : Config) (act : Act) (past : List Act) (s : ℕ) → IsForeign c s act → closed_why c (act ∷ past) s ≡ closed_why c past s
+closed_step c (Closed q why) past s f = let e = foreign_of c s q f in λ i. cond (e i && is_end q why) (Some why) (closed_why c past s)
+closed_step c act past s f = refl
+
+moved_step : (c : Config) (act : Act) (past : List Act) (s : ℕ) → IsForeign c s act → moved c (act ∷ past) s ≡ moved c past s
+moved_step c (Opened q) past s f = let e = foreign_place c s q f in λ i. cond (e i) (now past) (moved c past s)
+moved_step c (Accepted q peer) past s f = let e = foreign_place c s q f in λ i. cond (e i) (now past) (moved c past s)
+moved_step c (Read q bytes) past s f = let e = foreign_place c s q f in λ i. cond (e i) (now past) (moved c past s)
+moved_step c (Wrote q bytes) past s f = let e = foreign_place c s q f in λ i. cond (e i) (now past) (moved c past s)
+moved_step c act past s f = refl
+
+now_step : (c : Config) (act : Act) (past : List Act) → is_common c act ≡ false → now (act ∷ past) ≡ now past
+now_step c (Turn until at ready stop) past k = absurd (true≢false k)
+now_step c act past k = refl
+
+turn_step : (c : Config) (act : Act) → is_common c act ≡ false → is_turn act ≡ false
+turn_step c (Turn until at ready stop) k = absurd (true≢false k)
+turn_step c act k = refl
+
+memory_step : (c : Config) (act : Act) (past : List Act) → is_common c act ≡ false → memory_said (act ∷ past) ≡ memory_said past
+memory_step c (Closed q why) past k = let e = (or_parts (same_why why whys.Stopped) (same_why why whys.Memory) k).1 in λ i. e i || memory_said past
+memory_step c act past k = refl
+
+stop_step : (c : Config) (act : Act) (past : List Act) → is_common c act ≡ false → stop_said (act ∷ past) ≡ stop_said past
+stop_step c (Turn until at ready stop) past k = absurd (true≢false k)
+stop_step c (Closed q why) past k = let e = (or_parts (same_why why whys.Stopped) (same_why why whys.Memory) k).0 in λ i. e i || stop_said past
+stop_step c act past k = refl
+
+unfailed : (x f y : Bool) → (x && f) ≡ false → (f && (x || y)) ≡ (f && y)
+unfailed true true y e = absurd (true≢false e)
+unfailed true false y e = refl
+unfailed false f y e = refl
+
+door_step : (c : Config) (act : Act) (past : List Act) → is_common c act ≡ false → (has_fork c && accept_failed (act ∷ past) program_door) ≡ (has_fork c && accept_failed past program_door)
+door_step c (AcceptFailed q) past k = unfailed (same_place q program_door) (has_fork c) (accept_failed past program_door) k
+door_step c act past k = refl
+
+pub base_step : (c : Config) (act : Act) (past : List Act) (s : ℕ) → IsForeign c s act → is_common c act ≡ false → Base c s (act ∷ past) past
+base_step c act past s f k = record {
+  own = λ p e d. elsewhere act past p (turn_step c act k) (f p e d);
+  now_same = now_step c act past k;
+  memory_same = memory_step c act past k;
+  stop_same = stop_step c act past k;
+  door_same = door_step c act past k;
+  closed_same = closed_step c act past s f;
+  moved_same = moved_step c act past s f;
+}
+
+-- the count of permitted peers may rise, but not past a session that has begun
+admitted_more : (s m : ℕ) (b : Bool) → s < m → nat_lt s (one_more b m) ≡ nat_lt s m
+admitted_more s m true h = lt-ltb s (suc m) (omega (arith, h)) ∙ sym (lt-ltb s m h)
+admitted_more s m false h = refl
+
+admitted_step : (c : Config) (act : Act) (past : List Act) (s : ℕ) → s < admitted c past → nat_lt s (admitted c (act ∷ past)) ≡ nat_lt s (admitted c past)
+admitted_step c (Accepted p peer) past s h = admitted_more s (admitted c past) (is_admission c p peer) h
+admitted_step c act past s h = refl
+
+life_same : (fork : Bool) (s m n : ℕ) (x y : Bool) → (s < n → nat_lt s m ≡ nat_lt s n) → x ≡ y → s < cond fork n 1 → cond fork (nat_lt s m && x) (s == 0) ≡ cond fork (nat_lt s n && y) (s == 0)
+life_same true s m n x y f e h = let g = f h in λ i. g i && e i
+life_same false s m n x y f e h = refl
+
+pub apart : (c : Config) (act : Act) (past : List Act) (s : ℕ) → s < numbers c past → IsForeign c s act → is_common c act ≡ false → SameSession c s (act ∷ past) past
+apart c act past s begun f k =
+    let base = base_step c act past s f k in
+    let x = holding_same c s (act ∷ past) past base in
+    let l = life_same (has_fork c) s (admitted c (act ∷ past)) (admitted c past) (holds c (act ∷ past) s) (holds c past s) (admitted_step c act past s) x begun in
+    let r = readiness_same c s (act ∷ past) past base in
+    let e = ending_same c s (act ∷ past) past base in
+    let o = first_call_same c s (act ∷ past) past base (places c s) (each_place c s) in
+    record {
+      places_same = base.own;
+      holds_same = x;
+      live_same = l;
+      ready_same = r;
+      cause_same = e;
+      call_same = λ i. cond (l i && is_none (e i)) (o i) Nothing;
+      running_same = λ i. l i && r i && is_none (e i);
+    }

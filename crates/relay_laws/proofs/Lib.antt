@@ -1,0 +1,14 @@
+pub mod Admissions
+pub mod Apart
+pub mod Begun
+pub mod CallLemmas
+pub mod Complete
+pub mod Elsewhere
+mod Examples
+pub mod Finishes
+pub mod Growth
+pub mod Holdings
+pub mod Least
+pub mod PlaceLemmas
+pub mod Sound
+pub mod Written

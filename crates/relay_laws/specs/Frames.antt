@@ -1,0 +1,181 @@
+-- What acts leave as it is: each list of acts says of a place or door the same after an act elsewhere, and of a session
+-- the same after an act that is none of its own.
+use Rattle.std.specs.Prelude.{◌≡◌, ◌<◌, ℕ, Bool, true, false, ◌||◌, List, ◌∷◌}
+use Rattle.relay_model.specs.declared.places.Place.{Place}
+use Rattle.relay_model.specs.declared.commands.Config.{Config}
+use Rattle.relay_model.specs.declared.acts.Why.TheVariants as whys
+use Rattle.relay_model.specs.declared.acts.Act.{Act}
+use Rattle.relay_model.specs.declared.acts.Act.TheVariants.{Turn, Opened, OpenLater, OpenFailed, Listening, ListenFailed, Accepted, NoPeer, AcceptFailed, Read, ReadEmpty, ReadEnd, ReadNotYet, ReadFault, Wrote, WriteNotYet, WriteFault, Shut, ShutFault, Closed, Reaped, Note, NoteFault}
+use Rattle.relay_model.specs.Places.{same_place}
+use Rattle.relay_laws.specs.Configs.{is_program_door}
+use Rattle.relay_laws.specs.History.{now, turns, same_why, stage, failures, woken, accept_failed, was_closed, was_reaped, got, put, sent, met_end, met_empty, shut_at, read_fault_at, write_fault_at}
+use Rattle.relay_laws.specs.Arming.{read_arming, armed_to_write, armed_to_accept, asked_to_read}
+use Rattle.relay_laws.specs.Sessions.{numbers, live, holds}
+use Rattle.relay_laws.specs.Openings.{ready}
+use Rattle.relay_laws.specs.Cause.{cause, running}
+use Rattle.relay_laws.specs.Calls.{call}
+
+-- the place or door that the act is at
+abbrev pub is_at : Act → Place → Bool
+is_at (Turn until at ready stop) p = false
+is_at (Opened q) p = same_place q p
+is_at (OpenLater q) p = same_place q p
+is_at (OpenFailed q) p = same_place q p
+is_at (Listening q) p = same_place q p
+is_at (ListenFailed q) p = same_place q p
+is_at (Accepted q peer) p = same_place q p
+is_at (NoPeer q) p = same_place q p
+is_at (AcceptFailed q) p = same_place q p
+is_at (Read q bytes) p = same_place q p
+is_at (ReadEmpty q) p = same_place q p
+is_at (ReadEnd q) p = same_place q p
+is_at (ReadNotYet q) p = same_place q p
+is_at (ReadFault q) p = same_place q p
+is_at (Wrote q bytes) p = same_place q p
+is_at (WriteNotYet q) p = same_place q p
+is_at (WriteFault q) p = same_place q p
+is_at (Shut q way) p = same_place q p
+is_at (ShutFault q way) p = same_place q p
+is_at (Closed q why) p = same_place q p
+is_at (Reaped q end) p = same_place q p
+is_at (Note text) p = false
+is_at (NoteFault text) p = false
+
+abbrev pub is_turn : Act → Bool
+is_turn (Turn until at ready stop) = true
+is_turn act = false
+
+-- two lists of acts say the same of a place or door
+pub record SameAt (p : Place) (one other : List Act) : Type 0 where
+  pub stage_same : stage one p ≡ stage other p
+  pub failures_same : failures one p ≡ failures other p
+  pub woken_same : woken one p ≡ woken other p
+  pub accept_failed_same : accept_failed one p ≡ accept_failed other p
+  pub was_closed_same : was_closed one p ≡ was_closed other p
+  pub was_reaped_same : was_reaped one p ≡ was_reaped other p
+  pub got_same : got one p ≡ got other p
+  pub put_same : put one p ≡ put other p
+  pub sent_same : sent one p ≡ sent other p
+  pub met_end_same : met_end one p ≡ met_end other p
+  pub met_empty_same : met_empty one p ≡ met_empty other p
+  pub shut_at_same : shut_at one p ≡ shut_at other p
+  pub read_fault_at_same : read_fault_at one p ≡ read_fault_at other p
+  pub write_fault_at_same : write_fault_at one p ≡ write_fault_at other p
+  pub read_arming_same : read_arming one p ≡ read_arming other p
+  pub armed_to_write_same : armed_to_write one p ≡ armed_to_write other p
+  pub armed_to_accept_same : armed_to_accept one p ≡ armed_to_accept other p
+  pub asked_to_read_same : asked_to_read one p ≡ asked_to_read other p
+
+-- an act elsewhere changes nothing that is said of a place or door
+abbrev pub ElsewhereIsUntouched : Type 0
+ElsewhereIsUntouched = (act : Act) (past : List Act) (p : Place) → is_turn act ≡ false → is_at act p ≡ false → SameAt p (act ∷ past) past
+
+-- what acts of a kind may change of a place: nothing is said to change but what these tests name
+
+abbrev pub opens_or_closes : Act → Bool
+opens_or_closes (Opened q) = true
+opens_or_closes (OpenLater q) = true
+opens_or_closes (OpenFailed q) = true
+opens_or_closes (Listening q) = true
+opens_or_closes (ListenFailed q) = true
+opens_or_closes (Accepted q peer) = true
+opens_or_closes (Closed q why) = true
+opens_or_closes act = false
+
+abbrev pub fails_to_open : Act → Bool
+fails_to_open (OpenFailed q) = true
+fails_to_open (ListenFailed q) = true
+fails_to_open act = false
+
+abbrev pub fails_to_accept : Act → Bool
+fails_to_accept (AcceptFailed q) = true
+fails_to_accept act = false
+
+abbrev pub closes : Act → Bool
+closes (Closed q why) = true
+closes act = false
+
+abbrev pub reaps : Act → Bool
+reaps (Reaped q end) = true
+reaps act = false
+
+abbrev pub reads_bytes : Act → Bool
+reads_bytes (Read q bytes) = true
+reads_bytes act = false
+
+abbrev pub writes_bytes : Act → Bool
+writes_bytes (Wrote q bytes) = true
+writes_bytes act = false
+
+abbrev pub meets_end : Act → Bool
+meets_end (ReadEnd q) = true
+meets_end act = false
+
+abbrev pub meets_empty : Act → Bool
+meets_empty (ReadEmpty q) = true
+meets_empty act = false
+
+abbrev pub passes_end : Act → Bool
+passes_end (Shut q way) = true
+passes_end (ShutFault q way) = true
+passes_end act = false
+
+abbrev pub fails_to_read : Act → Bool
+fails_to_read (ReadFault q) = true
+fails_to_read act = false
+
+abbrev pub fails_to_write : Act → Bool
+fails_to_write (WriteFault q) = true
+fails_to_write act = false
+
+pub record Leaves (act : Act) (past : List Act) : Type 0 where
+  pub now_same : is_turn act ≡ false → now (act ∷ past) ≡ now past
+  pub turns_same : is_turn act ≡ false → turns (act ∷ past) ≡ turns past
+  pub stage_same : opens_or_closes act ≡ false → (p : Place) → stage (act ∷ past) p ≡ stage past p
+  pub failures_same : fails_to_open act ≡ false → (p : Place) → failures (act ∷ past) p ≡ failures past p
+  pub accept_failed_same : fails_to_accept act ≡ false → (p : Place) → accept_failed (act ∷ past) p ≡ accept_failed past p
+  pub was_closed_same : closes act ≡ false → (p : Place) → was_closed (act ∷ past) p ≡ was_closed past p
+  pub was_reaped_same : reaps act ≡ false → (p : Place) → was_reaped (act ∷ past) p ≡ was_reaped past p
+  pub got_same : reads_bytes act ≡ false → (p : Place) → got (act ∷ past) p ≡ got past p
+  pub put_same : writes_bytes act ≡ false → (p : Place) → put (act ∷ past) p ≡ put past p
+  pub sent_same : writes_bytes act ≡ false → (p : Place) → sent (act ∷ past) p ≡ sent past p
+  pub met_end_same : meets_end act ≡ false → (p : Place) → met_end (act ∷ past) p ≡ met_end past p
+  pub met_empty_same : meets_empty act ≡ false → (p : Place) → met_empty (act ∷ past) p ≡ met_empty past p
+  pub shut_at_same : passes_end act ≡ false → (p : Place) → shut_at (act ∷ past) p ≡ shut_at past p
+  pub read_fault_at_same : fails_to_read act ≡ false → (p : Place) → read_fault_at (act ∷ past) p ≡ read_fault_at past p
+  pub write_fault_at_same : fails_to_write act ≡ false → (p : Place) → write_fault_at (act ∷ past) p ≡ write_fault_at past p
+
+-- the step laws: what each kind of act leaves at every place
+abbrev pub StepsLeave : Type 0
+StepsLeave = (act : Act) (past : List Act) → Leaves act past
+
+-- ---- sessions
+
+-- the act is at no place or door of the session
+abbrev pub IsForeign : Config → ℕ → Act → Type 0
+IsForeign c s act = (p : Place) → p.session ≡ s → is_program_door c p ≡ false → is_at act p ≡ false
+
+-- the acts that are every session's: turns, closings for a stop or for want of memory, and a failed accepting at the
+-- program door
+abbrev pub is_common : Config → Act → Bool
+is_common c (Turn until at ready stop) = true
+is_common c (AcceptFailed q) = is_program_door c q
+is_common c (Closed q why) = same_why why whys.Stopped || same_why why whys.Memory
+is_common c act = false
+
+-- two lists of acts say the same of a session
+pub record SameSession (c : Config) (s : ℕ) (one other : List Act) : Type 0 where
+  pub places_same : (p : Place) → p.session ≡ s → is_program_door c p ≡ false → SameAt p one other
+  pub holds_same : holds c one s ≡ holds c other s
+  pub live_same : live c one s ≡ live c other s
+  pub ready_same : ready c one s ≡ ready c other s
+  pub cause_same : cause c one s ≡ cause c other s
+  pub call_same : call c one s ≡ call c other s
+  pub running_same : running c one s ≡ running c other s
+
+-- an act of another session or of the program door changes nothing of a session that has begun, but for the acts that
+-- are every session's
+abbrev pub SessionsAreApart : Type 0
+SessionsAreApart =
+    (c : Config) (act : Act) (past : List Act) (s : ℕ) → s < numbers c past → IsForeign c s act → is_common c act ≡ false →
+    SameSession c s (act ∷ past) past

@@ -1,0 +1,17 @@
+pub mod Arming
+pub mod Audit
+pub mod Calls
+pub mod Cause
+pub mod Choices
+pub mod Configs
+pub mod Frames
+pub mod History
+pub mod Laws
+pub mod May
+pub mod Moments
+pub mod Openings
+pub mod Outcome
+pub mod Rest
+pub mod Sessions
+pub mod Transfers
+pub mod Waits

@@ -1,0 +1,19 @@
+// Laws of legal histories, each as the contract of a function that does nothing: whoever calls it knows the law.
+#![tactic(auto)]
+
+mod doors;
+mod frames;
+mod histories;
+mod waits;
+
+pub use doors::{
+    admitted_is_bounded, caused_begins_nothing, ended_stays_ended, live_is_bounded,
+    program_door_tells,
+};
+pub use frames::{elsewhere_is_untouched, sessions_are_apart, steps_leave_the_rest};
+pub use histories::{
+    backlog_is_bounded, calls_tell, closed_is_over, end_is_last, finished_is_whole, held_has_begun,
+    one_test_is_right, outputs_agree, passed_is_whole, prefixes_are_legal, standing_is_held,
+    tests_are_right, used_is_held, written_is_due,
+};
+pub use waits::{rest_is_of_parts, until_is_least};
