@@ -1,2 +1,3 @@
 pub mod Kept
 pub mod Refusing
+pub mod Whole

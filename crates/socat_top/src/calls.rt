@@ -7,11 +7,13 @@ ghost use Rattle.relay_model.specs.PlainRelay.{plain_words, plain_relay};
 ghost use Rattle.event_loop.specs.Courses.{Risen};
 ghost use Rattle.event_loop.specs.Headline.{Headline, StopCause, is_failure};
 ghost use Rattle.socat_top.specs.Refusing.{not_built};
+ghost use Rattle.socat_top.specs.Whole.{WholeHeadline};
 ghost use Rattle.exit_status.specs.declared.outcomes.Outcome.TheVariants as outcomes;
 
 use crate::spoken::is_plain;
 use event_loop::relay;
 use exit_status::Outcome;
+use plain_laws::{bytes_agree, holdings_agree, outcomes_agree, plain_is_legal, plain_rests};
 use relay_model::{Config, NoMemory, Options, Refusal, Refused, Text};
 use std::alloc::Global;
 use world_trait::World;
@@ -29,6 +31,7 @@ pub fn socat<W: World>(alloc: Global, world: &mut W, words: &[Text], turns: u64)
     requires free { (p : Spot) → W.held world.old p ≡ Free }
     ensures free { (p : Spot) → W.held world.new p ≡ Free }
     ensures headline { words.now ≡ plain_words → (before : History) → W.told world.old ≡ Some before → Headline (plain_relay 8192) turns before (W.told world.new) result }
+    ensures whole { words.now ≡ plain_words → (before : History) → W.told world.old ≡ Some before → WholeHeadline (plain_relay 8192) turns before (W.told world.new) result }
 
     // The refusal comes exactly for other words, and then nothing is done.
     ensures refused { words.now ≢ plain_words → result ≡ outcomes.Refused not_built }
@@ -43,7 +46,15 @@ pub fn socat<W: World>(alloc: Global, world: &mut W, words: &[Text], turns: u64)
         return Outcome::Refused(NOT_BUILT);
     }
     match Config::plain(alloc, Options::BLOCK) {
-        Ok(config) => relay(alloc, world, &config, turns),
+        Ok(config) => {
+            let outcome = relay(alloc, world, &config, turns);
+            plain_is_legal();
+            bytes_agree();
+            holdings_agree();
+            plain_rests();
+            outcomes_agree();
+            outcome
+        }
         Err(NoMemory) => Outcome::Memory,
     }
 }

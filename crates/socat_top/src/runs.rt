@@ -11,6 +11,7 @@ ghost use Rattle.exit_status.specs.Statuses.{exit_code};
 ghost use Rattle.exit_status.specs.declared.outcomes.Outcome.TheVariants as outcomes;
 ghost use Rattle.socat_top.specs.Refusing.{not_built};
 ghost use Rattle.socat_top.specs.Kept.{history_of};
+ghost use Rattle.socat_top.specs.Whole.{WholeHeadline};
 
 use crate::calls::socat;
 use exit_status::{Outcome, status};
@@ -39,6 +40,7 @@ pub fn run<R: Read + Drop, K: Write + Drop, E: Write + Drop, S: Start>(
     requires free { (p : Spot) → ⟦<ThinDesk<R, K, E, S> as World>⟧.held desk p ≡ Free }
     ensures status { result.status ≡ exit_code result.outcome }
     ensures headline { words.now ≡ plain_words → (before : History) → ⟦<ThinDesk<R, K, E, S> as World>⟧.told desk ≡ Some before → Headline (plain_relay 8192) turns before (Some (history_of result.done.kept)) result.outcome }
+    ensures whole { words.now ≡ plain_words → (before : History) → ⟦<ThinDesk<R, K, E, S> as World>⟧.told desk ≡ Some before → WholeHeadline (plain_relay 8192) turns before (Some (history_of result.done.kept)) result.outcome }
     ensures reads { (before : History) → ⟦<ThinDesk<R, K, E, S> as World>⟧.told desk ≡ Some before → ReadSince S.input (Some (history_of result.done.kept)) (R.remaining result.done.reader) }
     ensures writes { (before : History) → ⟦<ThinDesk<R, K, E, S> as World>⟧.told desk ≡ Some before → WrittenSince S.output (Some (history_of result.done.kept)) (K.contents result.done.writer) }
 

@@ -1,0 +1,5 @@
+pub mod Agreement
+pub mod CauseLemmas
+pub mod OutcomeLemmas
+pub mod Steps
+pub mod Waits
