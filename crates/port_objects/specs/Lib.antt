@@ -1,0 +1,8 @@
+pub mod Intakes
+pub mod Makers
+pub mod Pollers
+pub mod Ports
+pub mod Scripts
+pub mod Sinks
+pub mod Sources
+pub mod Spawners

@@ -1,0 +1,43 @@
+-- A maker in memory: the items that are left, and what its calls answer.
+use Rattle.std.specs.Prelude.{ℕ, List, [], ◌∷◌, Option, None}
+use Rattle.relay_model.specs.declared.acts.Peer.{Peer as PeerAddress}
+use Rattle.port_trait.specs.declared.makers.Making.{Making}
+use Rattle.port_trait.specs.declared.makers.Making.TheVariants as makings
+use Rattle.port_trait.specs.declared.makers.MadePeer.{MadePeer}
+use Rattle.port_trait.specs.declared.makers.MadePeer.TheVariants as peers
+use Rattle.port_objects.specs.declared.makers.MakeItem.{MakeItem}
+use Rattle.port_objects.specs.declared.makers.MakeItem.TheVariants as items
+use Rattle.port_objects.specs.Ports.{PortState}
+
+pub record MakerState : Type 0 where
+  pub items : List MakeItem
+  pub came : Option PeerAddress
+  pub faults : ℕ
+  pub stalls : ℕ
+
+abbrev pub fresh_maker : MakerState
+fresh_maker = record { items = []; came = None; faults = 0; stalls = 0 }
+
+-- only a port can be made
+abbrev pub scripted_make : List MakeItem → Making PortState
+scripted_make [] = makings.Failed
+scripted_make (items.Port port ∷ rest) = makings.Made port
+scripted_make (items.Peer peer port ∷ rest) = makings.Failed
+scripted_make (items.Fault ∷ rest) = makings.Failed
+
+abbrev pub items_after_make : List MakeItem → List MakeItem
+items_after_make [] = []
+items_after_make (item ∷ rest) = rest
+
+-- a port that is next isn't for an accepting
+abbrev pub scripted_accept : List MakeItem → MadePeer PortState
+scripted_accept [] = peers.NoPeer
+scripted_accept (items.Port port ∷ rest) = peers.NoPeer
+scripted_accept (items.Peer peer port ∷ rest) = peers.Came port peer
+scripted_accept (items.Fault ∷ rest) = peers.Failed
+
+abbrev pub items_after_accept : List MakeItem → List MakeItem
+items_after_accept [] = []
+items_after_accept (items.Port port ∷ rest) = items.Port port ∷ rest
+items_after_accept (items.Peer peer port ∷ rest) = rest
+items_after_accept (items.Fault ∷ rest) = rest

@@ -1,0 +1,21 @@
+-- A poller in memory: the moment that it has come to, what it names next and what it named last.
+use Rattle.std.specs.Prelude.{ℕ, max, List, [], Option, None, Some}
+use Rattle.relay_model.specs.declared.places.Half.{Half}
+use Rattle.port_trait.specs.Keys.{KeysListed}
+
+pub record PollerState : Type 0 where
+  pub clock : ℕ
+  pub next : List (ℕ × Half)
+  pub last : List (ℕ × Half)
+
+abbrev pub fresh_poller : List (ℕ × Half) → PollerState
+fresh_poller keys = record { clock = 0; next = keys; last = [] }
+
+abbrev pub entries_of : Option KeysListed → List (ℕ × Half)
+entries_of None = []
+entries_of (Some keys) = keys.entries
+
+-- a poll comes to its moment, and never goes back
+abbrev pub clock_after : ℕ → Option ℕ → ℕ
+clock_after clock None = clock
+clock_after clock (Some moment) = max clock moment

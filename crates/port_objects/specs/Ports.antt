@@ -1,0 +1,47 @@
+-- A port in memory: its script, what it took, and what its writes and hints answer.
+use Rattle.std.specs.Prelude.{◌≡◌, ℕ, zero, suc, min, Bool, false, nat_lt, nat_le, List, take, if◌then◌else◌}
+use Rattle.port_trait.specs.declared.counts.Counts.{Counts}
+use Rattle.port_trait.specs.declared.answers.Hint.{Hint}
+use Rattle.port_trait.specs.declared.answers.Took.{Took}
+use Rattle.port_trait.specs.declared.answers.Took.TheVariants as writes
+use Rattle.port_objects.specs.Intakes.{IntakeState, fresh_intake, filled}
+use Rattle.port_objects.specs.Scripts.{ScriptState, fresh_script, has_more}
+
+pub record PortState : Type 0 where
+  pub script : ScriptState
+  pub intake : IntakeState
+  pub counts : Counts
+  pub begun : Bool
+  pub ended : Bool
+
+abbrev pub fresh_port : ℕ → PortState
+fresh_port room = record { script = fresh_script; intake = fresh_intake room; counts = record { faults = 0; ends = 0; empties = 0; stalls = 0 }; begun = false; ended = false }
+
+-- readable where an item is left, writable where room is left
+abbrev pub scripted_hint : PortState → Hint
+scripted_hint port = record { readable = has_more port.script; writable = nat_lt 0 port.intake.room }
+
+-- what a write of so many bytes answers: what fits
+abbrev pub scripted_write : ℕ → ℕ → Took
+scripted_write zero count = writes.NotYet
+scripted_write (suc room) count = writes.Took (min count (suc room))
+
+-- a packet waits until it fits as a whole
+abbrev pub scripted_send : ℕ → ℕ → Took
+scripted_send room count = if nat_le count room then writes.Took count else writes.NotYet
+
+-- all fits, or it fails
+abbrev pub scripted_put_all : ℕ → ℕ → Took
+scripted_put_all room count = if nat_le count room then writes.Took count else writes.Failed
+
+-- what a write leaves: the bytes that its answer says are taken, and nothing else is touched
+abbrev pub intake_after : IntakeState → List ℕ → Took → IntakeState
+intake_after intake bytes (writes.Took n) = filled intake (take n bytes)
+intake_after intake bytes writes.NotYet = intake
+intake_after intake bytes writes.Failed = intake
+
+pub record KeptByWrite (before now : PortState) (bytes : List ℕ) (answer : Took) : Type 0 where
+  pub intake : now.intake ≡ intake_after before.intake bytes answer
+  pub script : now.script ≡ before.script
+  pub begun : now.begun ≡ before.begun
+  pub ended : now.ended ≡ before.ended

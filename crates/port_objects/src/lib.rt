@@ -1,0 +1,22 @@
+// Ports, sources, sinks, makers, pollers and spawners in memory. Each answers what its script says.
+#![tactic(auto)]
+
+mod intake;
+mod makers;
+mod pollers;
+mod ports;
+mod scripts;
+mod sinks;
+mod sources;
+mod spawners;
+#[cfg(test)]
+mod tests;
+
+pub use intake::Tap;
+pub use makers::{MakeItem, MemMaker};
+pub use pollers::MemPoller;
+pub use ports::MemPort;
+pub use scripts::PortItem;
+pub use sinks::MemSink;
+pub use sources::MemSource;
+pub use spawners::{ListSpawner, SureSpawner};

@@ -1,0 +1,6 @@
+pub mod Counting
+pub mod Keys
+pub mod Made
+pub mod Meanings
+pub mod Streams
+pub mod Tasks

@@ -1,0 +1,61 @@
+-- What the calls of a source do to what it has left, and those of a sink to what it took. Contents that
+-- aren't told are None before and after.
+use Rattle.std.specs.Prelude.{◌≡◌, ℕ, ◌≤◌, Bool, true, false, List, [], ◌++◌, length, take, Option, option_map, IfSome}
+use Rattle.port_trait.specs.declared.answers.SourceGot.{SourceGot}
+use Rattle.port_trait.specs.declared.answers.SourceGot.TheVariants as gives
+use Rattle.port_trait.specs.declared.answers.SinkTook.{SinkTook}
+use Rattle.port_trait.specs.declared.answers.Got.{Got}
+use Rattle.port_trait.specs.declared.answers.Got.TheVariants as reads
+use Rattle.port_trait.specs.declared.answers.Took.{Took as WriteAnswer}
+use Rattle.port_trait.specs.declared.answers.Took.TheVariants as writes
+use Rattle.port_trait.specs.declared.answers.SinkTook.TheVariants as takes
+use Rattle.relay_model.specs.declared.acts.Shut.{Shut}
+use Rattle.relay_model.specs.declared.acts.Shut.TheVariants as ways
+
+-- what is left lost these bytes at its front
+abbrev pub Loses : Option (List ℕ) → Option (List ℕ) → List ℕ → Type 0
+Loses before now bytes = before ≡ option_map (λ rest. bytes ++ rest) now
+
+abbrev pub SourceGives : Option (List ℕ) → Option (List ℕ) → List ℕ → SourceGot → Type 0
+SourceGives before now into (gives.Bytes n) = (1 ≤ n) × (n ≤ length into) × Loses before now (take n into)
+SourceGives before now into gives.End = (now ≡ before) × IfSome now (λ rest. rest ≡ [])
+SourceGives before now into gives.Failed = now ≡ before
+
+abbrev pub source_failed : SourceGot → Bool
+source_failed (gives.Bytes n) = false
+source_failed gives.End = false
+source_failed gives.Failed = true
+
+abbrev pub source_ended : SourceGot → Bool
+source_ended (gives.Bytes n) = false
+source_ended gives.End = true
+source_ended gives.Failed = false
+
+abbrev pub SinkTakes : Option (List ℕ) → Option (List ℕ) → List ℕ → SinkTook → Type 0
+SinkTakes before now bytes (takes.Took n) = (1 ≤ n) × (n ≤ length bytes) × (now ≡ option_map (λ all. all ++ take n bytes) before)
+SinkTakes before now bytes takes.Failed = now ≡ before
+
+abbrev pub sink_failed : SinkTook → Bool
+sink_failed (takes.Took n) = false
+sink_failed takes.Failed = true
+
+-- the answer of a source that stands behind this answer of a port
+abbrev pub as_source_answer : Got → SourceGot
+as_source_answer (reads.Bytes n) = gives.Bytes n
+as_source_answer reads.Empty = gives.Failed
+as_source_answer reads.End = gives.End
+as_source_answer reads.NotYet = gives.Failed
+as_source_answer reads.Failed = gives.Failed
+
+-- the answer of a sink that stands behind this answer of a port
+abbrev pub as_sink_answer : WriteAnswer → SinkTook
+as_sink_answer (writes.Took n) = takes.Took n
+as_sink_answer writes.NotYet = takes.Failed
+as_sink_answer writes.Failed = takes.Failed
+
+-- whether an end that is passed on in this way is the end of a sink's bytes
+abbrev pub finishes : Shut → Bool
+finishes ways.Nothing = false
+finishes ways.Down = true
+finishes ways.Close = true
+finishes ways.Null = false

@@ -1,0 +1,79 @@
+// What the calls of ports, sources and sinks answer.
+use relay_model::ChildEnd;
+
+/// What a `begin` came to.
+#[derive(Clone, Copy, Debug, PartialEq)]
+pub enum Begun {
+    Begun,
+    Failed,
+    Memory,
+}
+
+/// Whether what was begun stands by now.
+#[derive(Clone, Copy, Debug, PartialEq)]
+pub enum Settled {
+    Ready,
+    NotYet,
+    Failed,
+}
+
+/// What a read of a port came to: bytes, an empty datagram, the end, nothing for now, or a fault.
+#[derive(Clone, Copy, Debug, PartialEq)]
+pub enum Got {
+    Bytes(usize),
+    Empty,
+    End,
+    NotYet,
+    Failed,
+}
+
+/// What a write on a port came to: so many bytes accepted, no room for now, or a fault.
+#[derive(Clone, Copy, Debug, PartialEq)]
+pub enum Took {
+    Took(usize),
+    NotYet,
+    Failed,
+}
+
+/// What passing on the end came to.
+#[derive(Clone, Copy, Debug, PartialEq)]
+pub enum Shutting {
+    Done,
+    Failed,
+}
+
+/// What a port knows of its readiness by itself.
+#[derive(Clone, Copy, Debug, PartialEq)]
+pub struct Hint {
+    pub readable: bool,
+    pub writable: bool,
+}
+
+/// How the port's child stands.
+#[derive(Clone, Copy, Debug, PartialEq)]
+pub enum PortReap {
+    Reaped(ChildEnd),
+    NoChild,
+}
+
+/// Whether what works for the port has come back to it.
+#[derive(Clone, Copy, Debug, PartialEq)]
+pub enum Joining {
+    Joined,
+    Running,
+}
+
+/// What a read of a source came to.
+#[derive(Clone, Copy, Debug, PartialEq)]
+pub enum SourceGot {
+    Bytes(usize),
+    End,
+    Failed,
+}
+
+/// What a write on a sink came to.
+#[derive(Clone, Copy, Debug, PartialEq)]
+pub enum SinkTook {
+    Took(usize),
+    Failed,
+}

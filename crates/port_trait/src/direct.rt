@@ -1,0 +1,274 @@
+// Ports that call their source or sink in the call itself, which may block.
+ghost use Rattle.std.specs.Prelude.{◌≡◌, ◌≢◌, ◌<◌, ◌≤◌, ◌++◌, Bool, true, false, length, take, option_map};
+ghost use Rattle.port_trait.specs.Counting.{Tallied, Counted};
+ghost use Rattle.port_trait.specs.Meanings.{AcceptsAll, is_end, read_event, write_event, shut_event, is_write_fault, is_shut_fault, IsOfStream};
+ghost use Rattle.port_trait.specs.Streams.{SourceGives, SinkTakes, source_failed, source_ended, sink_failed, as_source_answer, as_sink_answer, finishes};
+ghost use Rattle.port_trait.specs.declared.answers.Took.TheVariants as writes;
+ghost use Rattle.port_trait.specs.declared.answers.Shutting.TheVariants as shuts;
+
+use crate::answers::{
+    Begun, Got, Hint, Joining, PortReap, Settled, Shutting, SinkTook, SourceGot, Took,
+};
+use crate::counts::Counts;
+use crate::ports::Port;
+use crate::streams::{Sink, Source};
+use relay_model::Shut;
+
+/// The port of a source. Its other half fails.
+#[derive(Drop)]
+pub struct DirectReader<S> {
+    pub source: S,
+    counts: Counts,
+    begun: bool,
+    ended: bool,
+}
+
+impl<S: Source> DirectReader<S> {
+    /// Reads from this source.
+    pub fn new(source: S) -> DirectReader<S>
+        ensures { result.source ≡ source }
+    {
+        DirectReader {
+            source,
+            counts: Counts::new(),
+            begun: false,
+            ended: false,
+        }
+    }
+}
+
+impl<S: Source + Drop> Port for DirectReader<S> {
+    ghost counts = { λ port. port.counts };
+
+    ghost begun = { λ port. port.begun };
+
+    ghost ended = { λ port. port.ended };
+
+    ghost joins = { λ _. true };
+
+    ghost child = { λ _. false };
+
+    fn begin(&mut self) -> Begun {
+        if !self.begun {
+            self.begun = true;
+        }
+        Begun::Begun
+    }
+
+    fn settle(&mut self) -> Settled {
+        Settled::Ready
+    }
+
+    /// Reads from the source, and answers as it does.
+    fn read(&mut self, into: &mut [u8]) -> Got
+        requires { 0 < length into.old }
+        ensures source { SourceGives (S.left self.old.source) (S.left self.new.source) into.new (as_source_answer result) }
+        ensures source_faults { Counted (source_failed (as_source_answer result)) (S.faults self.old.source) (S.faults self.new.source) }
+        ensures source_ends { Counted (source_ended (as_source_answer result)) (S.ends self.old.source) (S.ends self.new.source) }
+        ensures stream { IsOfStream result }
+        ensures ended { self.new.ended ≡ is_end result }
+        ensures kept { self.new.begun ≡ self.old.begun }
+        ensures counts { Tallied (read_event result) self.old.counts self.new.counts }
+    {
+        match self.source.read(into) {
+            SourceGot::Bytes(count) => {
+                self.ended = false;
+                Got::Bytes(count)
+            }
+            SourceGot::End => {
+                self.ended = true;
+                self.counts.count_end();
+                Got::End
+            }
+            SourceGot::Failed => {
+                self.ended = false;
+                self.counts.count_fault();
+                Got::Failed
+            }
+        }
+    }
+
+    fn write(&mut self, _bytes: &[u8]) -> Took {
+        self.counts.count_fault();
+        Took::Failed
+    }
+
+    fn send(&mut self, _bytes: &[u8]) -> Took {
+        self.counts.count_fault();
+        Took::Failed
+    }
+
+    fn put_all(&mut self, _bytes: &[u8]) -> Took {
+        self.counts.count_fault();
+        Took::Failed
+    }
+
+    fn shut(&mut self, _how: Shut) -> Shutting {
+        Shutting::Done
+    }
+
+    fn hint(&mut self) -> Hint {
+        Hint {
+            readable: false,
+            writable: false,
+        }
+    }
+
+    fn may_hint(&self) -> bool {
+        false
+    }
+
+    fn reap(&mut self) -> PortReap {
+        PortReap::NoChild
+    }
+
+    fn join(&mut self) -> Joining {
+        Joining::Joined
+    }
+}
+
+/// The port of a sink. Its other half fails.
+#[derive(Drop)]
+pub struct DirectWriter<K> {
+    pub sink: K,
+    counts: Counts,
+    begun: bool,
+    ended: bool,
+}
+
+impl<K: Sink> DirectWriter<K> {
+    /// Writes to this sink.
+    pub fn new(sink: K) -> DirectWriter<K>
+        ensures { result.sink ≡ sink }
+    {
+        DirectWriter {
+            sink,
+            counts: Counts::new(),
+            begun: false,
+            ended: false,
+        }
+    }
+}
+
+impl<K: Sink + Drop> Port for DirectWriter<K> {
+    ghost counts = { λ port. port.counts };
+
+    ghost begun = { λ port. port.begun };
+
+    ghost ended = { λ port. port.ended };
+
+    ghost joins = { λ _. true };
+
+    ghost child = { λ _. false };
+
+    fn begin(&mut self) -> Begun {
+        if !self.begun {
+            self.begun = true;
+        }
+        Begun::Begun
+    }
+
+    fn settle(&mut self) -> Settled {
+        Settled::Ready
+    }
+
+    fn read(&mut self, _into: &mut [u8]) -> Got {
+        self.ended = false;
+        self.counts.count_fault();
+        Got::Failed
+    }
+
+    /// Writes to the sink, and answers as it does.
+    fn write(&mut self, bytes: &[u8]) -> Took
+        requires { 0 < length bytes.now }
+        ensures sink { SinkTakes (K.took self.old.sink) (K.took self.new.sink) bytes.now (as_sink_answer result) }
+        ensures sink_faults { Counted (sink_failed (as_sink_answer result)) (K.faults self.old.sink) (K.faults self.new.sink) }
+        ensures no_stall { result ≢ writes.NotYet }
+        ensures kept { (self.new.begun ≡ self.old.begun) × (self.new.ended ≡ self.old.ended) }
+        ensures counts { Tallied (write_event result) self.old.counts self.new.counts }
+    {
+        match self.sink.write(bytes) {
+            SinkTook::Took(count) => Took::Took(count),
+            SinkTook::Failed => {
+                self.counts.count_fault();
+                Took::Failed
+            }
+        }
+    }
+
+    fn send(&mut self, _bytes: &[u8]) -> Took {
+        self.counts.count_fault();
+        Took::Failed
+    }
+
+    /// Writes all bytes to the sink, one write after another, or as many as it takes before its first fault.
+    fn put_all(&mut self, bytes: &[u8]) -> Took
+        ensures sink { AcceptsAll (K.took self.old.sink) (K.took self.new.sink) bytes.now result }
+        ensures sink_faults { Counted (is_write_fault result) (K.faults self.old.sink) (K.faults self.new.sink) }
+        ensures kept { (self.new.begun ≡ self.old.begun) × (self.new.ended ≡ self.old.ended) }
+        ensures counts { Tallied (write_event result) self.old.counts self.new.counts }
+    {
+        let (count, failed) = write_front(&mut self.sink, bytes);
+        if failed {
+            self.counts.count_fault();
+            return Took::Failed;
+        }
+        Took::Took(count)
+    }
+
+    /// Finishes the sink at `Down` and `Close`.
+    fn shut(&mut self, how: Shut) -> Shutting
+        ensures sink { K.took self.new.sink ≡ K.took self.old.sink }
+        ensures sink_faults { Counted (is_shut_fault result) (K.faults self.old.sink) (K.faults self.new.sink) }
+        ensures untouched { finishes how ≡ false → (result ≡ shuts.Done) × (self.new ≡ self.old) }
+        ensures kept { (self.new.begun ≡ self.old.begun) × (self.new.ended ≡ self.old.ended) }
+        ensures counts { Tallied (shut_event result) self.old.counts self.new.counts }
+    {
+        match how {
+            Shut::Down | Shut::Close => {
+                if self.sink.finish() {
+                    return Shutting::Done;
+                }
+                self.counts.count_fault();
+                Shutting::Failed
+            }
+            Shut::Nothing | Shut::Null => Shutting::Done,
+        }
+    }
+
+    fn hint(&mut self) -> Hint {
+        Hint {
+            readable: false,
+            writable: false,
+        }
+    }
+
+    fn may_hint(&self) -> bool {
+        false
+    }
+
+    fn reap(&mut self) -> PortReap {
+        PortReap::NoChild
+    }
+
+    fn join(&mut self) -> Joining {
+        Joining::Joined
+    }
+}
+
+/// Writes until all bytes are taken or the sink fails, and counts what it took.
+fn write_front<K: Sink>(sink: &mut K, bytes: &[u8]) -> (usize, bool)
+    ensures bound { result.0 ≤ length bytes.now }
+    ensures all { result.1 ≡ false → result.0 ≡ length bytes.now }
+    ensures taken { K.took sink.new ≡ option_map (λ all. all ++ take result.0 bytes.now) (K.took sink.old) }
+    ensures faults { Counted result.1 (K.faults sink.old) (K.faults sink.new) }
+{
+    let mut count = 0;
+    while count < bytes.len() {
+        match sink.write(&bytes[count..]) {
+            SinkTook::Took(more) => count += more,
+            SinkTook::Failed => return (count, true),
+        }
+    }
+    (count, false)
+}

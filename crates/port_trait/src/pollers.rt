@@ -1,0 +1,31 @@
+// Pollers wait until something is ready or a moment has come.
+ghost use Rattle.std.specs.Prelude.{◌≡◌, ◌≤◌, ℕ, List, Option, None, IfSome};
+ghost use Rattle.port_trait.specs.Counting.{Counted};
+ghost use Rattle.relay_model.specs.declared.places.Half.{Half};
+
+use crate::keys::KeyList;
+
+/// The moment at which a poll returned, in milliseconds since the run began, and whether the run is to stop.
+#[derive(Clone, Copy, Debug, PartialEq)]
+pub struct Polled {
+    pub at: u64,
+    pub stop: bool,
+}
+
+/// What waits for readiness.
+pub trait Poller {
+    // the entries that the last poll left, empty before the first
+    ghost named: { Self → Option (List (ℕ × Half)) } = { λ _. None };
+
+    ghost stops: { Self → ℕ };
+    // the moment of the last poll
+    ghost clock: { Self → ℕ };
+
+    /// Empties `ready`, waits, at most until the moment `until`, and names there what is ready.
+    fn poll(&mut self, until: Option<u64>, ready: &mut KeyList) -> Polled
+        requires { 256 ≤ ready.old.room }
+        ensures room { ready.new.room ≡ ready.old.room }
+        ensures named { IfSome (named self.new) (λ entries. entries ≡ ready.new.entries) }
+        ensures at { (clock self.old ≤ clock self.new) × (result.at ≡ clock self.new) }
+        ensures stops { Counted result.stop (stops self.old) (stops self.new) };
+}

@@ -1,0 +1,171 @@
+// Sources give bytes and sinks take them; both may block.
+ghost use Rattle.std.specs.Prelude.{◌≡◌, ◌<◌, ℕ, Bool, true, not, List, length, Option, None, min, take};
+ghost use Rattle.port_trait.specs.Counting.{Counted};
+ghost use Rattle.port_trait.specs.Streams.{SourceGives, SinkTakes, source_failed, source_ended, sink_failed};
+
+use crate::answers::{SinkTook, SourceGot};
+use std::io::{Read, Write};
+
+/// What bytes come from.
+pub trait Source {
+    // what it still has
+    ghost left: { Self → Option (List ℕ) } = { λ _. None };
+
+    ghost faults: { Self → ℕ };
+
+    ghost ends: { Self → ℕ };
+
+    /// Takes what there is, up to the length of `into`; may wait for it.
+    fn read(&mut self, into: &mut [u8]) -> SourceGot
+        requires { 0 < length into.old }
+        ensures gives { SourceGives (left self.old) (left self.new) into.new result }
+        ensures faults { Counted (source_failed result) (faults self.old) (faults self.new) }
+        ensures ends { Counted (source_ended result) (ends self.old) (ends self.new) };
+}
+
+/// What bytes go to.
+pub trait Sink {
+    // what it took
+    ghost took: { Self → Option (List ℕ) } = { λ _. None };
+
+    ghost faults: { Self → ℕ };
+
+    /// Takes a front of the bytes; may wait for room. Taking nothing is a fault.
+    fn write(&mut self, bytes: &[u8]) -> SinkTook
+        requires { 0 < length bytes.now }
+        ensures takes { SinkTakes (took self.old) (took self.new) bytes.now result }
+        ensures faults { Counted (sink_failed result) (faults self.old) (faults self.new) };
+
+    /// Nothing more will be written. False is a fault.
+    fn finish(&mut self) -> bool
+        ensures kept { took self.new ≡ took self.old }
+        ensures faults { Counted (not result) (faults self.old) (faults self.new) };
+}
+
+/// A reader of std as a source.
+#[derive(Drop)]
+pub struct StdSource<R> {
+    reader: R,
+    faults: u64,
+    ends: u64,
+}
+
+impl<R: Read> StdSource<R> {
+    /// Reads from this reader.
+    pub fn new(reader: R) -> StdSource<R> {
+        StdSource {
+            reader,
+            faults: 0,
+            ends: 0,
+        }
+    }
+}
+
+impl<R: Read> Source for StdSource<R> {
+    ghost faults = { λ source. source.faults };
+
+    ghost ends = { λ source. source.ends };
+
+    fn read(&mut self, into: &mut [u8]) -> SourceGot {
+        match self.reader.read(into) {
+            Ok(0) => {
+                self.ends = self.ends.saturating_add(1);
+                SourceGot::End
+            }
+            Ok(count) => SourceGot::Bytes(count),
+            Err(_) => {
+                self.faults = self.faults.saturating_add(1);
+                SourceGot::Failed
+            }
+        }
+    }
+}
+
+/// A writer of std as a sink.
+#[derive(Drop)]
+pub struct StdSink<W> {
+    writer: W,
+    faults: u64,
+}
+
+impl<W: Write> StdSink<W> {
+    /// Writes to this writer.
+    pub fn new(writer: W) -> StdSink<W> {
+        StdSink { writer, faults: 0 }
+    }
+}
+
+impl<W: Write> Sink for StdSink<W> {
+    ghost faults = { λ sink. sink.faults };
+
+    fn write(&mut self, bytes: &[u8]) -> SinkTook {
+        match self.writer.write(bytes) {
+            Ok(0) => {
+                self.faults = self.faults.saturating_add(1);
+                SinkTook::Failed
+            }
+            Ok(count) => SinkTook::Took(count),
+            Err(_) => {
+                self.faults = self.faults.saturating_add(1);
+                SinkTook::Failed
+            }
+        }
+    }
+
+    fn finish(&mut self) -> bool {
+        match self.writer.flush() {
+            Ok(()) => true,
+            Err(_) => {
+                self.faults = self.faults.saturating_add(1);
+                false
+            }
+        }
+    }
+}
+
+/// Copies as many bytes as fit, and answers how many.
+pub fn copy_front(from: &[u8], into: &mut [u8]) -> usize
+    ensures count { result ≡ min (length from.now) (length into.old) }
+    ensures copied { take result into.new ≡ take result from.now }
+{
+    let count = from.len().min(into.len());
+    into[..count].copy_from_slice(&from[..count]);
+    count
+}
+
+#[cfg(test)]
+mod tests {
+    use super::*;
+    use crate::answers::{Got, Shutting, Took};
+    use crate::direct::{DirectReader, DirectWriter};
+    use crate::ports::Port;
+    use relay_model::Shut;
+
+    #[test]
+    fn a_reader_is_read_to_its_end(rt: HostRuntime) {
+        let mut port = DirectReader::new(StdSource::new(b"abc".as_slice()));
+        let mut into = [0u8; 2];
+        assert_eq!(rt; port.read(&mut into), Got::Bytes(2));
+        assert_eq!(rt; into.as_slice(), b"ab".as_slice());
+        assert_eq!(rt; port.read(&mut into), Got::Bytes(1));
+        assert_eq!(rt; into.as_slice(), b"cb".as_slice());
+        assert_eq!(rt; port.read(&mut into), Got::End);
+        assert_eq!(rt; port.write(b"d"), Took::Failed);
+    }
+
+    #[test]
+    fn a_writer_takes_what_is_written(rt: HostRuntime) {
+        let mut port = DirectWriter::new(StdSink::new(Vec::<u8>::new(rt.alloc())));
+        assert_eq!(rt; port.write(b"ab"), Took::Took(2));
+        assert_eq!(rt; port.put_all(b"cd"), Took::Took(2));
+        assert_eq!(rt; port.shut(Shut::Down), Shutting::Done);
+        assert_eq!(rt; port.sink.writer.as_slice(), b"abcd".as_slice());
+    }
+
+    #[test]
+    fn a_front_is_copied(rt: HostRuntime) {
+        let mut into = [0u8; 2];
+        assert_eq!(rt; copy_front(b"abc", &mut into), 2);
+        assert_eq!(rt; into.as_slice(), b"ab".as_slice());
+    }
+}
