@@ -10,6 +10,8 @@ mod places;
 mod plain;
 mod readiness;
 mod refusals;
+#[cfg(test)]
+mod tests;
 
 pub use acts::{Act, ChildEnd, Peer, Shut, Why};
 pub use commands::{

@@ -7,6 +7,8 @@ mod lanes;
 mod sessions;
 mod stages;
 mod states;
+#[cfg(test)]
+mod tests;
 mod wishes;
 
 pub use sessions::Session;

@@ -6,6 +6,8 @@ mod calls;
 mod run_tests;
 mod runs;
 mod spoken;
+#[cfg(test)]
+mod tests;
 
 pub use calls::socat;
 pub use runs::{Thin, run};

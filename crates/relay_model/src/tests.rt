@@ -1,0 +1,164 @@
+// Each call once with memory enough, and the defaults of socat(1).
+ghost use Rattle.std.specs.Prelude.{◌≤◌};
+
+use crate::{
+    Act, Askings, Bytes, Half, Journal, Options, Part, Place, ReadyAt, ReadyList, Side, Single,
+    Target, Text, Texts, Why,
+};
+use std::test::Fail;
+
+const INPUT: Place = Place {
+    session: 0,
+    side: Side::Left,
+    part: Part::Reading,
+    door: false,
+};
+
+const HALF: ReadyAt = ReadyAt {
+    place: INPUT,
+    half: Half::ToRead,
+};
+
+#[test]
+fn holds_a_word(rt: HostRuntime) -> Result<(), Fail> {
+    let word = Text::of(rt.alloc(), b"STDIN")?;
+    let copied = word.copy()?;
+    assert_eq!(rt; copied.as_slice(), b"STDIN".as_slice());
+    assert_eq!(rt; copied.len(), 5);
+    Ok(())
+}
+
+#[test]
+fn holds_bytes(rt: HostRuntime) -> Result<(), Fail> {
+    let mut bytes = Bytes::of(rt.alloc(), b"abcd")?;
+    assert_eq!(rt; bytes.len(), 4);
+    bytes.set(b"xyz");
+    let copied = bytes.copy()?;
+    assert_eq!(rt; copied.as_slice(), b"xyz".as_slice());
+    Ok(())
+}
+
+#[test]
+fn holds_words(rt: HostRuntime) -> Result<(), Fail> {
+    let mut words = Texts::new(rt.alloc());
+    words.push(Text::of(rt.alloc(), b"STDIN")?)?;
+    let copied = words.copy()?;
+    assert_eq!(rt; copied.len(), 1);
+    assert_eq!(rt; copied.get(0).as_slice(), b"STDIN".as_slice());
+    assert_eq!(rt; copied.as_slice().len(), 1);
+    Ok(())
+}
+
+/// Whether the list takes 256 more entries and no further one.
+fn takes_256(list: &mut ReadyList) -> bool
+    requires { 256 ≤ list.old.room }
+    ensures { 256 ≤ list.new.room }
+{
+    for i in 0..257 {
+        if list.push(HALF) != (i < 256) {
+            return false;
+        }
+    }
+    true
+}
+
+#[test]
+fn lists_256_halves(rt: HostRuntime) -> Result<(), Fail> {
+    let mut list = ReadyList::new(rt.alloc())?;
+    assert!(rt; takes_256(&mut list));
+    let copied = list.copy()?;
+    assert_eq!(rt; copied.len(), 256);
+    assert_eq!(rt; copied.get(255), HALF);
+    list.clear();
+    assert_eq!(rt; list.len(), 0);
+    assert!(rt; list.push(HALF));
+    Ok(())
+}
+
+fn opens_input(act: &Act) -> bool {
+    match act {
+        Act::Opened(place) => place.is(INPUT),
+        _ => false,
+    }
+}
+
+fn closes_the_door_of_input(act: &Act) -> bool {
+    match act {
+        Act::Closed(place, Why::Finished) => place.door && !place.is(INPUT),
+        _ => false,
+    }
+}
+
+#[test]
+fn keeps_acts(rt: HostRuntime) -> Result<(), Fail> {
+    let mut journal = Journal::new(rt.alloc());
+    journal.reserve(1)?;
+    journal.put(Act::Opened(INPUT));
+    journal.push(Act::Closed(INPUT.own_door(), Why::Finished))?;
+    assert_eq!(rt; journal.len(), 2);
+    assert!(rt; opens_input(journal.get(0)));
+    assert!(rt; closes_the_door_of_input(journal.get(1)));
+    Ok(())
+}
+
+#[test]
+fn keeps_askings(rt: HostRuntime) -> Result<(), Fail> {
+    let mut asked = Askings::new(rt.alloc());
+    asked.reserve(1)?;
+    let options = Options::defaults(rt.alloc())?;
+    let target = Target::Stdin;
+    asked.put(INPUT, Single { target, options });
+    assert_eq!(rt; asked.len(), 1);
+    Ok(())
+}
+
+fn is_turn_to_7(act: &Act) -> bool {
+    match act {
+        Act::Turn {
+            until,
+            at,
+            ready,
+            stop,
+        } => *until == Some(7) && *at == 5 && ready.len() == 1 && *stop,
+        _ => false,
+    }
+}
+
+#[test]
+fn copies_a_turn(rt: HostRuntime) -> Result<(), Fail> {
+    let mut ready = ReadyList::new(rt.alloc())?;
+    assert!(rt; ready.push(HALF));
+    let turn = Act::Turn {
+        until: Some(7),
+        at: 5,
+        ready,
+        stop: true,
+    };
+    let copied = turn.copy()?;
+    assert!(rt; is_turn_to_7(&copied));
+    Ok(())
+}
+
+fn reads_abcd(act: &Act) -> bool {
+    match act {
+        Act::Read(place, bytes) => place.is(INPUT) && bytes.as_slice() == b"abcd".as_slice(),
+        _ => false,
+    }
+}
+
+#[test]
+fn copies_a_read(rt: HostRuntime) -> Result<(), Fail> {
+    let read = Act::Read(INPUT, Bytes::of(rt.alloc(), b"abcd")?);
+    let copied = read.copy()?;
+    assert!(rt; reads_abcd(&copied));
+    Ok(())
+}
+
+#[test]
+fn has_the_defaults(rt: HostRuntime) -> Result<(), Fail> {
+    let options = Options::defaults(rt.alloc())?;
+    assert_eq!(rt; (options.socksport, options.proxyport), (1080, 8080));
+    assert_eq!(rt; (options.retry, options.interval), (0, 1000));
+    assert_eq!(rt; options.socksuser.len(), 0);
+    Ok(())
+}
