@@ -1,16 +1,16 @@
 // A reader and a writer beside the recording of what they gave and took.
-ghost use Rattle.std.specs.Prelude.{◌≡◌, ◌≤◌, ◌<◌, ◌+◌, [], ℕ, List, Option, None, Some, true, is_some, length, take, OnOk, OnErr, IfSome, IfNone, MatchOption, option_map};
+ghost use Rattle.std.specs.Prelude.{◌≡◌, ◌≤◌, ◌<◌, ◌+◌, [], ℕ, List, Option, None, Some, true, is_some, length, take, OnOk, OnErr, IfSome, IfNone, IsTrue, MatchOption, option_map};
 ghost use Rattle.std.specs.Io.KnownBytes.{Keeps, Appends, Consumes};
 ghost use Rattle.relay_model.specs.Readiness.{copied_list};
 ghost use Rattle.world_trait.specs.Recordings.{HasRoom, HasAskingRoom, told_by, with_act, with_asking};
-ghost use Rattle.world_trait.specs.Answers.{OnlyWhereTold, ReadFits, WriteFits, read_act, write_act, wants_read_memory, wants_write_memory};
+ghost use Rattle.world_trait.specs.Answers.{OnlyWhereTold, ReadFits, WriteFits, read_act, write_act, note_act, wants_read_memory, wants_write_memory, wants_note_memory};
 ghost use Rattle.thin_desk.specs.Streams.{ReadSince, ReadSince-prop, WrittenSince, WrittenSince-prop, moves_nothing, Tells};
 
 use relay_model::{Act, Bytes, Kept, NoMemory, Place, ReadyList, Single};
 use std::alloc::Global;
 use std::io::{ErrorKind, Read, Write};
 use std::marker::{Brand, PhantomData};
-use world_trait::{ReadAnswer, Recorder, Recording, WriteAnswer};
+use world_trait::{NoteAnswer, ReadAnswer, Recorder, Recording, WriteAnswer};
 
 /// What the streams of a desk have when it is made, for contracts alone: the bytes that the reader has left, and
 /// those that the writer holds. At `Brand` nothing is claimed, or what the proof of the call picks.
@@ -87,6 +87,16 @@ fn write_some<K: Write>(writer: &mut K, bytes: &[u8]) -> Option<usize>
         }
     }
     None
+}
+
+/// Writes the whole text; whether it could.
+fn say<E: Write>(errors: &mut E, text: &[u8]) -> bool
+    ensures { IsTrue result → Appends (E.contents errors.old) (E.contents errors.new) text.now }
+{
+    match errors.write_all(text) {
+        Ok(()) => errors.flush().is_ok(),
+        Err(_) => false,
+    }
 }
 
 /// Keeps a read of these bytes, in the copy that was made for it.
@@ -272,6 +282,30 @@ impl<R: Read + Drop, K: Write + Drop, S: Start> Channels<R, K, S> {
                 WriteAnswer::Failed
             }
         }
+    }
+
+    /// Writes the text to this stream, and keeps the act of the answer.
+    pub fn tell<E: Write>(&mut self, errors: &mut E, text: &[u8]) -> NoteAnswer
+        requires room { HasRoom 1 self.old.recording }
+        ensures told { Tells (note_act text.now result) self.old.recording.told self.new.recording.told }
+        ensures said { result ≡ NoteAnswer.Noted → Appends (E.contents errors.old) (E.contents errors.new) text.now }
+        ensures keeps { is_some self.new.recording.told ≡ is_some self.old.recording.told }
+        ensures room { self.old.recording.room ≤ self.new.recording.room + 1 }
+        ensures memory { OnlyWhereTold self.old.recording.told (wants_note_memory result) }
+    {
+        let Ok(copied) = self.recording.copied(self.alloc, text) else {
+            return NoteAnswer::Memory;
+        };
+        if say(errors, text) {
+            if let Some(noted) = copied {
+                self.recording.put(Act::Note(noted));
+            }
+            return NoteAnswer::Noted;
+        }
+        if let Some(failed) = copied {
+            self.recording.put(Act::NoteFault(failed));
+        }
+        NoteAnswer::Failed
     }
 
     /// The streams, and what was kept.

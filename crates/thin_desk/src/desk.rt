@@ -12,7 +12,8 @@ use std::alloc::Global;
 use std::io::{Read, Write};
 use std::marker::Brand;
 use world_trait::{
-    Holdings, OpenAnswer, ReadAnswer, Recorder, ShutAnswer, Standing, Turned, World, WriteAnswer,
+    Holdings, NoteAnswer, OpenAnswer, ReadAnswer, Recorder, ShutAnswer, Standing, Turned, World,
+    WriteAnswer,
 };
 
 /// The stream that a place stands on.
@@ -296,5 +297,19 @@ impl<R: Read + Drop, K: Write + Drop, E: Write + Drop, S: Start> World for ThinD
         self.stations.retain(|station| !station.place.is(place));
         self.held.remove(place);
         self.channels.note(Act::Closed(place, why));
+    }
+
+    /// Writes the text to the stream of errors, and flushes it.
+    fn note(&mut self, text: &[u8]) -> NoteAnswer {
+        let Ok(()) = self.channels.reserve(self.held.len() + 1) else {
+            return NoteAnswer::Memory;
+        };
+        match self.channels.tell(&mut self.errors, text) {
+            NoteAnswer::Failed => {
+                self.faults = self.faults.saturating_add(1);
+                NoteAnswer::Failed
+            }
+            answer => answer,
+        }
     }
 }

@@ -13,7 +13,7 @@ use std::io;
 use std::io::{Read, Sink, Write};
 use std::marker::Brand;
 use world_trait::{
-    OpenAnswer, ReadAnswer, Recorder, ShutAnswer, Standing, Turned, World, WriteAnswer,
+    NoteAnswer, OpenAnswer, ReadAnswer, Recorder, ShutAnswer, Standing, Turned, World, WriteAnswer,
 };
 
 const IN: Place = Place {
@@ -170,4 +170,23 @@ fn relays_between_streams(rt: HostRuntime) {
         assert!(rt; done.writer.as_slice() == b"hell".as_slice());
         assert!(rt; done.kept.journal.len() == acts);
     }
+}
+
+#[test]
+fn notes_go_to_the_errors(rt: HostRuntime) {
+    let alloc = rt.alloc();
+    let errors = Vec::new(alloc);
+    let input: &[u8] = b"";
+    let mut desk = ThinDesk::<_, _, _, Brand>::new(
+        alloc,
+        input,
+        io::sink(),
+        errors,
+        Recorder::Keep,
+    );
+    assert!(rt; desk.note(b"socat: a line\n") == NoteAnswer::Noted);
+    let done = desk.finish();
+    assert!(rt; done.errors.as_slice() == b"socat: a line\n".as_slice());
+    assert!(rt; done.kept.journal.len() == 1);
+    assert!(rt; done.counts.faults == 0);
 }

@@ -2,7 +2,7 @@
 -- holds, and how its counts rise. `Memory` stands for no act: then nothing was done.
 use Rattle.std.specs.Prelude.{◌≡◌, ◌≤◌, ◌<◌, ◌+◌, ◌^◌, ◌-◌, ℕ, Bool, true, false, List, Option, Some, None, take, min, option_map, is_some, ⊤}
 use Rattle.relay_model.specs.declared.acts.Act.{Act}
-use Rattle.relay_model.specs.declared.acts.Act.TheVariants.{Turn, Opened, OpenFailed, Read, ReadEnd, ReadNotYet, ReadFault, Wrote, WriteNotYet, WriteFault, Shut, ShutFault, Closed}
+use Rattle.relay_model.specs.declared.acts.Act.TheVariants.{Turn, Opened, OpenFailed, Read, ReadEnd, ReadNotYet, ReadFault, Wrote, WriteNotYet, WriteFault, Shut, ShutFault, Closed, Note, NoteFault}
 use Rattle.relay_model.specs.declared.acts.Shut.{Shut as Shutting}
 use Rattle.relay_model.specs.declared.acts.Why.{Why}
 use Rattle.relay_model.specs.declared.places.Place.{Place}
@@ -20,6 +20,8 @@ use Rattle.world_trait.specs.declared.answers.WriteAnswer.{WriteAnswer}
 use Rattle.world_trait.specs.declared.answers.WriteAnswer.TheVariants as writes
 use Rattle.world_trait.specs.declared.answers.ShutAnswer.{ShutAnswer}
 use Rattle.world_trait.specs.declared.answers.ShutAnswer.TheVariants as shuts
+use Rattle.world_trait.specs.declared.answers.NoteAnswer.{NoteAnswer}
+use Rattle.world_trait.specs.declared.answers.NoteAnswer.TheVariants as notes
 
 abbrev pub wait_act : Option ℕ → Listed → Turned → Option Act
 wait_act until ready (turns.Turned at stop) = Some (Turn until at (copied_list ready) stop)
@@ -50,6 +52,11 @@ shut_act place how shuts.Memory = None
 
 abbrev pub close_act : Place → Why → Option Act
 close_act place why = Some (Closed place why)
+
+abbrev pub note_act : List ℕ → NoteAnswer → Option Act
+note_act text notes.Noted = Some (Note text)
+note_act text notes.Failed = Some (NoteFault text)
+note_act text notes.Memory = None
 
 -- the act is told, where the world tells its acts, and changes how its place stands
 pub record Did (told_old told_new : Option History) (held_old held_new : Place → Hold) (act : Act) : Type 0 where
@@ -102,6 +109,11 @@ abbrev pub is_shut_fault : ShutAnswer → Bool
 is_shut_fault shuts.Done = false
 is_shut_fault shuts.Failed = true
 is_shut_fault shuts.Memory = false
+
+abbrev pub is_note_fault : NoteAnswer → Bool
+is_note_fault notes.Noted = false
+is_note_fault notes.Failed = true
+is_note_fault notes.Memory = false
 
 -- some bytes, and no more than there was room for
 abbrev pub ReadFits : ℕ → ReadAnswer → Type 0
@@ -156,6 +168,11 @@ abbrev pub wants_shut_memory : ShutAnswer → Bool
 wants_shut_memory shuts.Done = false
 wants_shut_memory shuts.Failed = false
 wants_shut_memory shuts.Memory = true
+
+abbrev pub wants_note_memory : NoteAnswer → Bool
+wants_note_memory notes.Noted = false
+wants_note_memory notes.Failed = false
+wants_note_memory notes.Memory = true
 
 abbrev pub OnlyWhereTold : Option History → Bool → Type 0
 OnlyWhereTold told wants = wants ≡ true → is_some told ≡ true

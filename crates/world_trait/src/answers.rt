@@ -41,3 +41,11 @@ pub enum ShutAnswer {
     Failed,
     Memory,
 }
+
+/// The answer to a note. After `Failed` a front of the text may have been written.
+#[derive(Clone, Copy, Debug, PartialEq, Eq)]
+pub enum NoteAnswer {
+    Noted,
+    Failed,
+    Memory,
+}

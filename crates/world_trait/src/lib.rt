@@ -10,7 +10,7 @@ mod tables;
 mod tests;
 mod worlds;
 
-pub use answers::{OpenAnswer, ReadAnswer, ShutAnswer, Turned, WriteAnswer};
+pub use answers::{NoteAnswer, OpenAnswer, ReadAnswer, ShutAnswer, Turned, WriteAnswer};
 pub use mem_world::MemWorld;
 pub use recorders::{Recorder, Recording};
 pub use script::{OpenItem, ReadItem, WriteItem};

@@ -4,7 +4,7 @@ ghost use Rattle.world_trait.specs.HoldTables.{hold_found};
 ghost use Rattle.world_trait.specs.Runs.{IsFresh, SameRun};
 ghost use Rattle.world_trait.specs.Scripts.{HasBytes, HasCount};
 
-use crate::answers::{OpenAnswer, ReadAnswer, ShutAnswer, Turned, WriteAnswer};
+use crate::answers::{NoteAnswer, OpenAnswer, ReadAnswer, ShutAnswer, Turned, WriteAnswer};
 use crate::script::{Given, OpenItem, ReadItem, Script, Taken, WriteItem, earlier};
 use crate::tables::{Holdings, Standing};
 use crate::worlds::World;
@@ -248,5 +248,17 @@ impl World for MemWorld {
         self.held.remove(place);
         self.script.forget_place(place);
         self.kept.journal.put(Act::Closed(place, why));
+    }
+
+    /// Each note is taken.
+    fn note(&mut self, text: &[u8]) -> NoteAnswer {
+        let Ok(()) = self.kept.journal.reserve(self.held.len() + 1) else {
+            return NoteAnswer::Memory;
+        };
+        let Ok(noted) = Bytes::of(self.script.allocator(), text) else {
+            return NoteAnswer::Memory;
+        };
+        self.kept.journal.put(Act::Note(noted));
+        NoteAnswer::Noted
     }
 }

@@ -1,11 +1,11 @@
 // Each item of a script is answered as it stands there, and the journal has an act for each call.
 use crate::{
-    MemWorld, OpenAnswer, OpenItem, ReadAnswer, ReadItem, ShutAnswer, Standing, Turned, World,
-    WriteAnswer, WriteItem,
+    MemWorld, NoteAnswer, OpenAnswer, OpenItem, ReadAnswer, ReadItem, ShutAnswer, Standing, Turned,
+    World, WriteAnswer, WriteItem,
 };
 use relay_model::{
-    Bytes, Conv, FileFlags, NoMemory, Options, Part, Place, ReadyList, Shut, Side, Single, Target,
-    Text, Why,
+    Act, Bytes, Conv, FileFlags, NoMemory, Options, Part, Place, ReadyList, Shut, Side, Single,
+    Target, Text, Why,
 };
 use std::alloc::Global;
 
@@ -207,4 +207,14 @@ fn takes_all_without_items(rt: HostRuntime) {
     assert!(rt; ready.len() == 1);
     assert!(rt; write(&mut world, OUT, b"abcd") == Some(WriteAnswer::Failed));
     assert!(rt; write(&mut world, OUT, b"abcd") == Some(WriteAnswer::Took(4)));
+}
+
+#[test]
+fn notes_are_kept(rt: HostRuntime) {
+    let mut world = MemWorld::new(rt.alloc());
+    assert!(rt; world.note(b"a line\n") == NoteAnswer::Noted);
+    assert!(rt; world.journal().len() == 1);
+    let kept =
+        matches!(world.journal().get(0), Act::Note(text) if text.as_slice() == b"a line\n".as_slice());
+    assert!(rt; kept);
 }

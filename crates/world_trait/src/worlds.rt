@@ -3,9 +3,9 @@ ghost use Rattle.std.specs.Prelude.{◌≡◌, ◌≤◌, ◌<◌, ℕ, Option, 
 ghost use Rattle.relay_model.specs.declared.places.Place.{Place};
 ghost use Rattle.relay_model.specs.Journals.{History};
 ghost use Rattle.relay_model.specs.Holding.{Hold, Free, Open, is_free};
-ghost use Rattle.world_trait.specs.Answers.{Answered, AnsweredAsking, Rose, OnlyWhereTold, WaitCounts, ReadFits, WriteFits, wait_act, open_act, read_act, write_act, shut_act, close_act, is_open_fault, is_read_fault, is_write_fault, is_shut_fault, wants_turn_memory, wants_read_memory, wants_write_memory, wants_shut_memory};
+ghost use Rattle.world_trait.specs.Answers.{Answered, AnsweredAsking, Rose, OnlyWhereTold, WaitCounts, ReadFits, WriteFits, wait_act, open_act, read_act, write_act, shut_act, close_act, note_act, is_open_fault, is_read_fault, is_write_fault, is_shut_fault, is_note_fault, wants_turn_memory, wants_read_memory, wants_write_memory, wants_shut_memory, wants_note_memory};
 
-use crate::answers::{OpenAnswer, ReadAnswer, ShutAnswer, Turned, WriteAnswer};
+use crate::answers::{NoteAnswer, OpenAnswer, ReadAnswer, ShutAnswer, Turned, WriteAnswer};
 use relay_model::{Peer, Place, ReadyList, Shut, Single, Why};
 
 /// Everything that the relay does outside of itself. A world that keeps its history tells it; `held` says how
@@ -85,4 +85,13 @@ pub trait World {
         ensures waits { waits self.new ≡ waits self.old }
         ensures stops { stops self.old ≤ stops self.new }
         ensures clock { clock self.new ≡ clock self.old };
+
+    /// Writes the whole text to standard error, for a person to read; it may wait for room. It stands at no place.
+    fn note(&mut self, text: &[u8]) -> NoteAnswer
+        ensures act { Answered (told self.old) (told self.new) (held self.old) (held self.new) (note_act text.now result) }
+        ensures cause { Rose (faults self.old) (faults self.new) (is_note_fault result) }
+        ensures waits { waits self.new ≡ waits self.old }
+        ensures stops { stops self.old ≤ stops self.new }
+        ensures clock { clock self.new ≡ clock self.old }
+        ensures memory { OnlyWhereTold (told self.old) (wants_note_memory result) };
 }
