@@ -9,8 +9,7 @@ use Rattle.std.specs.FinMap as map
 use Rattle.std.proofs.lemmas.Bool.{ltb-true, eq-eqb, ne_eqb, lt-ltb, le-ltb, cases_order}
 use Rattle.std.proofs.lemmas.List.{get_or_default}
 use Rattle.std.proofs.lemmas.List.Edits.{length-insert, get_or-insert_below, get_or-insert_at, get_or-insert_above}
-use Rattle.timer_set.specs.Entries.{key_at, value_at, IsRising, IsAt, IsGap, IsLeastPlace}
-use Rattle.timer_set.specs.Timers.{FallsDueFirst}
+use Rattle.timer_set.specs.Entries.{key_at, IsRising, IsAt, IsGap}
 
 pub test_same : (q k : ℕ) → q ≡ k → eq_by_cmp nat_cmp q k ≡ true
 test_same q k e = rw (le-ltb q k (omega arith), eq-eqb q k e)
@@ -193,38 +192,3 @@ chosen_some o x a b e = ap (λ (o : Option ℕ). if is_some o then a else b) e
 
 pub chosen_none : (o : Option ℕ) (a b : ℕ) → o ≡ None → (if is_some o then a else b) ≡ b
 chosen_none o a b e = ap (λ (o : Option ℕ). if is_some o then a else b) e
-
--- what a scan finds stands in the list
-pub find_some : (s : List (ℕ × ℕ)) (key v : ℕ) → find nat_cmp key s ≡ Some v → (i : ℕ) × (i < length s) × (key_at s i ≡ key) × (value_at s i ≡ v)
-find_some [] key v h = cc
-find_some (e ∷ s) key v h =
-    by_test key e.0 (λ b. cond b (Some e.1) (find nat_cmp key s) ≡ Some v → (i : ℕ) × (i < length (e ∷ s)) × (key_at (e ∷ s) i ≡ key) × (value_at (e ∷ s) i ≡ v))
-    (λ same is. (0, omega arith, sym same, cc)) (λ _ is. let later = find_some s key v is in (suc later.0, omega (arith, later.1), later.2, later.3)) h
-
-pub first_at : (m : FinMap nat_cmp ℕ) (s : List (ℕ × ℕ)) (p : ℕ) (x : ℕ × ℕ) → from_entries s ≡ m → IsRising s → IsLeastPlace s p → x ≡ get_or s p x → FallsDueFirst m x.1 x.0
-first_at m s p x e rising place read =
-    let same : x ≡ get_or s p (0, 0) = read ∙ get_or_default s p x (0, 0) place.within in
-    let same_key : key_at s p ≡ x.0 = ap (λ (y : ℕ × ℕ). y.0) (sym same) in
-    let same_value : value_at s p ≡ x.1 = ap (λ (y : ℕ × ℕ). y.1) (sym same) in
-    record {
-      is_set = got_at m s x.0 p x e (record { rising = rising; within = place.within; found = same_key }) read;
-      least = λ other later h.
-          let stands = find_some s other later (sym (get_scanned m s other e) ∙ h) in
-          let low = place.least stands.0 stands.1 in
-          let is : value_at s stands.0 ≡ later = stands.3 in
-          omega arith;
-      least_key = λ other h.
-          let stands = find_some s other x.1 (sym (get_scanned m s other e) ∙ h) in
-          let i : ℕ = stands.0 in
-          let within : i < length s = stands.1 in
-          let is_key : key_at s i ≡ other = stands.2 in
-          let is_value : value_at s i ≡ x.1 = stands.3 in
-          elim (cases_order i p) [
-            | inl at ↦ let k : key_at s i ≡ key_at s p = ap (key_at s) at in omega arith
-            | inr (inl before) ↦ let low = place.first i before in absurd (omega arith)
-            | inr (inr after) ↦ let up = rising p i after within in omega arith
-          ];
-    }
-
-pub first_none : (m : FinMap nat_cmp ℕ) (s : List (ℕ × ℕ)) → from_entries s ≡ m → length s ≡ 0 → (key : ℕ) → get m key ≡ None
-first_none m s e none key = get_scanned m s key e ∙ find_absent s key (λ i h. absurd (omega arith))

@@ -1,1 +1,4 @@
 pub mod Found
+pub mod Heaps
+pub mod Kept
+pub mod Told

@@ -13,16 +13,6 @@ pub record Keyed : Type 0 where
 abbrev pub key_at : List (ℕ × ℕ) → ℕ → ℕ
 key_at pairs i = (slice_index_or pairs i (0, 0)).0
 
--- the value of the pair at `i`, or 0 past the end
-abbrev pub value_at : List (ℕ × ℕ) → ℕ → ℕ
-value_at pairs i = (slice_index_or pairs i (0, 0)).1
-
--- the value at `place` is no more than any, and less than those before it
-pub record IsLeastPlace (pairs : List (ℕ × ℕ)) (place : ℕ) : Type 0 where
-  pub within : place < length pairs
-  pub least : (i : ℕ) → i < length pairs → value_at pairs place ≤ value_at pairs i
-  pub first : (i : ℕ) → i < place → value_at pairs place < value_at pairs i
-
 -- the keys rise
 abbrev pub IsRising : List (ℕ × ℕ) → Type 0
 IsRising pairs = (i j : ℕ) → i < j → j < length pairs → key_at pairs i < key_at pairs j

@@ -1,2 +1,5 @@
 pub mod Entries
+pub mod Heaps
+pub mod Moments
+pub mod Order
 pub mod Timers

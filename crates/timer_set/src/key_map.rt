@@ -1,8 +1,7 @@
 // A map from keys to numbers, in a vector in the order of the keys.
 ghost use Rattle.std.specs.Prelude.{◌≡◌, ℕ, ◌+◌, ◌-◌, ◌<◌, ◌≤◌, length, None, OnOk, IfOk, IfErr, if◌then◌else◌, vec_len, vec_capacity, insert};
 ghost use Rattle.std.specs.FinMap as map;
-ghost use Rattle.timer_set.specs.Entries.{IsRising, IsAt, IsGap, IsLeastPlace, key_at};
-ghost use Rattle.timer_set.specs.Timers.{IsFirst};
+ghost use Rattle.timer_set.specs.Entries.{IsRising, IsAt, IsGap, key_at};
 
 use relay_model::NoMemory;
 use std::alloc::Global;
@@ -10,7 +9,7 @@ use std::marker::Model;
 
 #[derive(Debug, Drop)]
 pub(crate) struct KeyMap {
-    pairs: Vec<(u32, u64)>,
+    pairs: Vec<(u32, usize)>,
 }
 
 impl Model for KeyMap {
@@ -50,7 +49,7 @@ impl KeyMap {
     }
 
     /// The value at this key.
-    pub(crate) fn get(&self, key: u32) -> Option<u64>
+    pub(crate) fn get(&self, key: u32) -> Option<usize>
         ensures { result ≡ map.get self.now.values key }
     {
         match search(&self.pairs, key) {
@@ -59,19 +58,8 @@ impl KeyMap {
         }
     }
 
-    /// The least value, and among the keys that have it the least.
-    pub(crate) fn least(&self) -> Option<(u64, u32)>
-        ensures { IsFirst self.now.values result }
-    {
-        if self.pairs.is_empty() {
-            return None;
-        }
-        let (key, value) = self.pairs[least_place(&self.pairs)];
-        Some((value, key))
-    }
-
     /// Gives this key this value.
-    pub(crate) fn put(&mut self, key: u32, value: u64)
+    pub(crate) fn put(&mut self, key: u32, value: usize)
         requires { map.get self.old.values key ≡ None → 0 < self.old.room }
         ensures values { self.new.values ≡ map.insert self.old.values key value }
         ensures room { self.new.room ≡ (if map.contains_key self.old.values key then self.old.room else self.old.room - 1) }
@@ -82,33 +70,21 @@ impl KeyMap {
         }
     }
 
-    /// Takes this key out, where it is there.
-    pub(crate) fn remove(&mut self, key: u32)
+    /// Takes this key out, where it is there, and answers its value.
+    pub(crate) fn remove(&mut self, key: u32) -> Option<usize>
+        ensures value { result ≡ map.get self.old.values key }
         ensures values { self.new.values ≡ map.remove self.old.values key }
         ensures room { self.new.room ≡ (if map.contains_key self.old.values key then self.old.room + 1 else self.old.room) }
     {
-        if let Ok(place) = search(&self.pairs, key) {
-            self.pairs.remove(place);
+        match search(&self.pairs, key) {
+            Ok(place) => Some(self.pairs.remove(place).1),
+            Err(_) => None,
         }
     }
-}
-
-/// The first place of the least value.
-fn least_place(pairs: &[(u32, u64)]) -> usize
-    requires { 0 < length pairs.now }
-    ensures { IsLeastPlace pairs.now result }
-{
-    let mut least = 0;
-    for i in 1..pairs.len() {
-        if pairs[i].1 < pairs[least].1 {
-            least = i;
-        }
-    }
-    least
 }
 
 /// Inserts into the room that there is.
-fn insert_pair(pairs: &mut Vec<(u32, u64)>, place: usize, pair: (u32, u64))
+fn insert_pair(pairs: &mut Vec<(u32, usize)>, place: usize, pair: (u32, usize))
     requires place { place ≤ vec_len pairs.old }
     requires room { vec_len pairs.old < vec_capacity pairs.old }
     ensures items { pairs.new.items ≡ insert pairs.old.items place pair }
@@ -119,7 +95,7 @@ fn insert_pair(pairs: &mut Vec<(u32, u64)>, place: usize, pair: (u32, u64))
 }
 
 /// Where the key stands, or else where it belongs.
-fn search(pairs: &[(u32, u64)], key: u32) -> Result<usize, usize>
+fn search(pairs: &[(u32, usize)], key: u32) -> Result<usize, usize>
     requires { IsRising pairs.now }
     ensures found { IfOk result (λ place. IsAt pairs.now key place) }
     ensures absent { IfErr result (λ place. IsGap pairs.now key place) }
@@ -133,7 +109,7 @@ fn search(pairs: &[(u32, u64)], key: u32) -> Result<usize, usize>
 }
 
 /// How many keys lie below this one.
-fn place_of(pairs: &[(u32, u64)], key: u32) -> usize
+fn place_of(pairs: &[(u32, usize)], key: u32) -> usize
     requires { IsRising pairs.now }
     ensures bound { result ≤ length pairs.now }
     ensures below { (i : ℕ) → i < result → key_at pairs.now i < key }

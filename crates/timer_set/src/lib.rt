@@ -1,7 +1,9 @@
 // Timers by key: which falls due first, and when.
 #![tactic(auto)]
 
+mod heap;
 mod key_map;
+mod timer;
 mod timers;
 
 pub use timers::TimerSet;

@@ -1,8 +1,11 @@
-// Timers by key, of which the first can be asked for.
-ghost use Rattle.std.specs.Prelude.{◌≡◌, ℕ, ◌+◌, ◌-◌, ◌<◌, ◌≤◌, None, OnOk, IfSome, IfNone, if◌then◌else◌};
+// Timers by key, of which the first can be asked for. The keys stand in order with their slots, and a slot leads to
+// its timer's place in the heap. So a call compares a number of keys and of moments that grows as the logarithm of
+// how many are set, and asking for the first compares none.
+ghost use Rattle.std.specs.Prelude.{◌≡◌, ℕ, ◌+◌, ◌-◌, ◌<◌, ◌≤◌, None, OnOk, OnErr, IfSome, IfNone, if◌then◌else◌};
 ghost use Rattle.std.specs.FinMap as map;
 ghost use Rattle.timer_set.specs.Timers.{IsFirst, IsDue, TakenOut};
 
+use crate::heap::Heap;
 use crate::key_map::KeyMap;
 use relay_model::NoMemory;
 use std::alloc::Global;
@@ -12,7 +15,8 @@ use std::marker::Model;
 /// keys that there is room for.
 #[derive(Debug, Drop)]
 pub struct TimerSet {
-    moments: KeyMap,
+    slots: KeyMap,
+    heap: Heap,
 }
 
 impl Model for TimerSet {
@@ -22,7 +26,12 @@ impl Model for TimerSet {
 
     ghost coded = { timers_code };
 
-    ghost view = { λ timers. record { moments = timers.moments.values; room = timers.moments.room } };
+    ghost use Rattle.std.specs.Prelude.{◌-◌, vec_len};
+    ghost use Rattle.timer_set.specs.Moments.{moments_of, IsKeptHeap};
+
+    ghost view = { λ t. record { moments = moments_of t.heap.timers.items t.heap.places.items t.slots.values; room = vec_len t.heap.timers - t.heap.live } };
+
+    ghost invariant = { λ t. IsKeptHeap t.heap.timers.items (vec_len t.heap.timers) t.heap.live t.slots };
 }
 
 impl TimerSet {
@@ -31,17 +40,20 @@ impl TimerSet {
         ensures { result.moments ≡ map.empty }
     {
         TimerSet {
-            moments: KeyMap::new(alloc),
+            slots: KeyMap::new(alloc),
+            heap: Heap::new(alloc),
         }
     }
 
-    /// Makes room for `n` further keys, or changes nothing that is set.
+    /// Makes room for `n` further keys, or changes nothing.
     pub fn reserve(&mut self, n: usize) -> Result<(), NoMemory>
         ensures room { OnOk result (n ≤ self.new.room) }
         ensures kept { self.old.room ≤ self.new.room }
+        ensures refused { OnErr result (self.new ≡ self.old) }
         ensures moments { self.new.moments ≡ self.old.moments }
     {
-        self.moments.reserve(n)
+        self.slots.reserve(n)?;
+        self.heap.reserve(n)
     }
 
     /// This key falls due at this moment, and at no other. A key that isn't set takes room for one.
@@ -50,7 +62,13 @@ impl TimerSet {
         ensures moments { self.new.moments ≡ map.insert self.old.moments key at }
         ensures room { self.new.room ≡ (if map.contains_key self.old.moments key then self.old.room else self.old.room - 1) }
     {
-        self.moments.put(key, at);
+        match self.slots.get(key) {
+            Some(slot) => self.heap.change(slot, at),
+            None => {
+                let slot = self.heap.insert(at, key);
+                self.slots.put(key, slot);
+            }
+        }
     }
 
     /// This key is no longer set; where it was, its room is free again.
@@ -58,14 +76,16 @@ impl TimerSet {
         ensures moments { self.new.moments ≡ map.remove self.old.moments key }
         ensures room { self.new.room ≡ (if map.contains_key self.old.moments key then self.old.room + 1 else self.old.room) }
     {
-        self.moments.remove(key);
+        if let Some(slot) = self.slots.remove(key) {
+            self.heap.remove(slot);
+        }
     }
 
     /// The least moment, and among the keys that fall due at it the least. None exactly where no key is set.
     pub fn first(&self) -> Option<(u64, u32)>
         ensures { IsFirst self.now.moments result }
     {
-        self.moments.least()
+        self.heap.first()
     }
 
     /// Takes the first key out, where it falls due at `now` or before.

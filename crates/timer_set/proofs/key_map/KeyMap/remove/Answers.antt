@@ -16,11 +16,17 @@ returns-in-Ok-clause-room c =
     omega (arith, c.remove.ensures.len, c.remove.ensures.capacity) in
     left ∙ sym (chosen_some _ _ _ _ found)
 
-pub returns-in_default-clause-values : goal.returns-in_default-clause-values
-returns-in_default-clause-values c =
-    removed_gap _ _ _ _ (ap (λ (k : Keyed). k.values) c.self.view_is) (rw c.deref.ensures.value at c.in_default.ensures.absent)
+pub returns-in-Err-clause-values : goal.returns-in-Err-clause-values
+returns-in-Err-clause-values c =
+    removed_gap _ _ _ _ (ap (λ (k : Keyed). k.values) c.self.view_is) (rw c.deref.ensures.value at c.in-Err.ensures.absent)
 
-pub returns-in_default-clause-room : goal.returns-in_default-clause-room
-returns-in_default-clause-room c =
-    let none = got_none _ _ _ _ (ap (λ (k : Keyed). k.values) c.self.view_is) (rw c.deref.ensures.value at c.in_default.ensures.absent) in
+pub returns-in-Err-clause-room : goal.returns-in-Err-clause-room
+returns-in-Err-clause-room c =
+    let none = got_none _ _ _ _ (ap (λ (k : Keyed). k.values) c.self.view_is) (rw c.deref.ensures.value at c.in-Err.ensures.absent) in
     sym (chosen_none _ _ _ none)
+
+pub returns-in-Ok-clause-value : goal.returns-in-Ok-clause-value
+returns-in-Ok-clause-value c = sym (got_at _ _ _ _ _ (ap (λ (k : Keyed). k.values) c.self.view_is) (rw c.deref.ensures.value at c.in-Ok.ensures.found) c.remove.ensures.value)
+
+pub returns-in-Err-clause-value : goal.returns-in-Err-clause-value
+returns-in-Err-clause-value c = sym (got_none _ _ _ _ (ap (λ (k : Keyed). k.values) c.self.view_is) (rw c.deref.ensures.value at c.in-Err.ensures.absent))
