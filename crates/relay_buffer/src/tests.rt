@@ -1,5 +1,5 @@
 // Flows that are filled and taken from step by step.
-ghost use Rattle.std.specs.Prelude.{◌≤◌, length};
+ghost use Rattle.std.specs.Prelude.{◌≡◌, ◌≤◌, None, length};
 
 use crate::{Flow, Lane};
 use line_ends::Convs;
@@ -18,7 +18,9 @@ const STREAM: Lane = Lane {
     packets: None,
 };
 
-fn fill(rt: &impl Abort, flow: &mut Flow, bytes: &[u8]) {
+fn fill(rt: &impl Abort, flow: &mut Flow, bytes: &[u8])
+    ensures { flow.new.lane ≡ flow.old.lane }
+{
     let room = flow.room();
     assert!(rt; bytes.len() <= room);
     flow.fill(bytes);
@@ -34,6 +36,17 @@ fn take_piece(rt: &impl Abort, flow: &mut Flow, want: &[u8]) -> usize
     assert_eq!(rt; piece, &want[..count]);
     flow.took(count);
     count
+}
+
+/// Takes one byte of a stream, which must be the first that waits.
+fn take_byte(rt: &impl Abort, flow: &mut Flow, want: u8)
+    requires { flow.old.lane.packets ≡ None }
+    ensures { flow.new.lane ≡ flow.old.lane }
+{
+    let piece = flow.pending();
+    assert!(rt; piece.len() >= 1);
+    assert_eq!(rt; piece[0], want);
+    flow.took(1);
 }
 
 /// Takes all that waits, in at most two pieces.
@@ -58,7 +71,9 @@ fn a_byte_is_read_only_once_the_backlog_leaves_room(rt: HostRuntime) -> Result<(
     fill(&rt, &mut flow, b"\n");
     assert_eq!(rt; flow.pending(), b"\r\n".as_slice());
     assert_eq!(rt; flow.room(), 0);
-    take_all(&rt, &mut flow, b"\r\n");
+    take_byte(&rt, &mut flow, b'\r');
+    assert_eq!(rt; flow.room(), 0);
+    take_byte(&rt, &mut flow, b'\n');
     assert_eq!(rt; flow.room(), 1);
     fill(&rt, &mut flow, b"b");
     take_all(&rt, &mut flow, b"b");
