@@ -1,0 +1,19 @@
+// What an address asks for: its kind with the parameters, and its options. `specs/Resolving.antt` says which
+// address of words it is, or what is wrong with it.
+#![tactic(auto)]
+
+mod effects;
+mod faults;
+mod kinds;
+mod options;
+mod resolving;
+mod rules;
+mod table;
+mod targets;
+#[cfg(test)]
+mod tests;
+mod uses;
+
+pub use faults::KindFault;
+pub use resolving::{listens, resolve};
+pub use uses::Asked;
