@@ -1,0 +1,104 @@
+// What a command line asks for.
+ghost use Rattle.std.specs.Prelude.{◌≡◌, ◌+◌, ◌<◌, ◌^◌, None, length, IfOk};
+ghost use Rattle.relay_model.specs.declared.places.Side.TheVariants.{Left, Right};
+ghost use Rattle.cmd_words.specs.Flags.{IsBounded};
+ghost use Rattle.cmd_words.specs.Commands.{Answers, IsFit, whole, misplaced_fork, instead_of, directed, config_of, between, command};
+
+use crate::addresses::address_at;
+use crate::directions::has_direction;
+use crate::faults::{CommandFault, capped};
+use crate::leading::read_flags;
+use crate::settings::{Flagged, Instead, Settings};
+use relay_model::{Address, Config, Refusal, Refused, Side, Text};
+use std::alloc::Global;
+
+/// What a command line asks for: a relay, the usage, the version, or the run that is generated from a number.
+#[derive(Debug, Drop)]
+pub enum Command {
+    Relay(Config),
+    Usage,
+    Version,
+    Load(u64),
+}
+
+fn instead_of(what: Instead) -> Command
+    ensures { result ≡ instead_of what }
+{
+    match what {
+        Instead::Usage => Command::Usage,
+        Instead::Version => Command::Version,
+        Instead::Load(number) => Command::Load(number),
+    }
+}
+
+/// A refusal of no word in particular.
+fn whole(why: Refusal) -> CommandFault
+    ensures { result ≡ whole why }
+{
+    CommandFault::Refused(Refused {
+        word: 0,
+        half: 0,
+        why,
+    })
+}
+
+/// The relay between two addresses, where they form a direction.
+fn directed(settings: Settings, left: Address, right: Address) -> Result<Command, CommandFault>
+    requires bounded { IsBounded settings }
+    requires left { misplaced_fork Left left ≡ None }
+    requires right { misplaced_fork Right right ≡ None }
+    ensures exact { result ≡ directed (config_of settings left right) }
+    ensures fit { IfOk result IsFit }
+{
+    if !has_direction(settings.ways, &left, &right) {
+        return Err(whole(Refusal::NoDirection));
+    }
+    Ok(Command::Relay(Config {
+        block: settings.block,
+        closing: settings.closing,
+        idle: settings.idle,
+        ways: settings.ways,
+        dump: settings.dump,
+        sloppy: settings.sloppy,
+        left,
+        right,
+    }))
+}
+
+/// The relay between the addresses that are the words from the place `first` on.
+#[tactic(auto, unfolding(crate::specs::Commands::between))]
+fn between(
+    alloc: Global,
+    settings: Settings,
+    first: usize,
+    words: &[Text],
+) -> Result<Command, CommandFault>
+    requires bounded { IsBounded settings }
+    requires within { first + length words.now < 2 ^ 64 }
+    ensures exact { Answers result (between settings first words.now) }
+    ensures fit { IfOk result IsFit }
+{
+    let [left, right] = words else {
+        let have = capped(words.len());
+        return Err(whole(Refusal::AddressCount { have }));
+    };
+    let left = address_at(alloc, settings, first, Side::Left, left.as_slice())?;
+    let right = address_at(alloc, settings, first + 1, Side::Right, right.as_slice())?;
+    directed(settings, left, right)
+}
+
+/// What a command line asks for (socat(1), "SYNOPSIS"); the words don't include the program's name. Words that
+/// ask for nothing are answered with the first refusal there is.
+#[tactic(auto, unfolding(crate::specs::Commands::command))]
+pub fn command_of(alloc: Global, words: &[Text]) -> Result<Command, CommandFault>
+    // It is the command that the words make, or their first refusal; memory may run out at any place.
+    ensures exact { Answers result (command words.now) }
+    // A relay that is asked for can be run.
+    ensures fit { IfOk result IsFit }
+{
+    match read_flags(words) {
+        Ok(Flagged::Relay { settings, first }) => between(alloc, settings, first, &words[first..]),
+        Ok(Flagged::Instead(what)) => Ok(instead_of(what)),
+        Err(refused) => Err(CommandFault::Refused(refused)),
+    }
+}

@@ -1,0 +1,16 @@
+// The words of a command line: the flags, the two addresses, and what is wrong with words that make no
+// command. `specs/Commands.antt` says which command a list of words makes.
+#![tactic(auto)]
+
+mod addresses;
+mod commands;
+mod directions;
+mod faults;
+mod flags;
+mod leading;
+mod settings;
+#[cfg(test)]
+mod tests;
+
+pub use commands::{Command, command_of};
+pub use faults::CommandFault;
