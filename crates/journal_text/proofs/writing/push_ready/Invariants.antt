@@ -1,0 +1,7 @@
+use Rattle.std.proofs.Common.{◌≡◌, ◌++◌, drop}
+use Rattle.journal_text.specs.Fields.{ready_text}
+use Rattle.journal_text.proofs.WritingLemmas.{later}
+use Rattle.journal_text.proofs.writing.push_ready.Given as goal
+
+abbrev pub invariant-loop-i : goal.invariant-loop-i
+invariant-loop-i l = l.text.items ++ later (drop l.i l.ready.entries) ≡ l.fn.text.items ++ ready_text l.ready.entries

@@ -1,0 +1,6 @@
+use Rattle.std.proofs.Common.{◌≡◌, ◌++◌, drop, reverse}
+use Rattle.journal_text.proofs.WritingLemmas.{lines_of}
+use Rattle.journal_text.proofs.writing.write_journal.Given as goal
+
+abbrev pub invariant-loop-i : goal.invariant-loop-i
+invariant-loop-i l = l.text.items ++ lines_of (drop l.i (reverse l.journal.acts)) ≡ lines_of (reverse l.journal.acts)

@@ -1,0 +1,6 @@
+pub mod Fields
+pub mod Kinds
+pub mod Lines
+pub mod Ranges
+pub mod Reading
+pub mod Texts
