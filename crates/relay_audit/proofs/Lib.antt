@@ -1,0 +1,7 @@
+pub mod Below
+pub mod Holding
+pub mod Implied
+pub mod Judged
+pub mod Lists
+pub mod OneVerdict
+pub mod Streams

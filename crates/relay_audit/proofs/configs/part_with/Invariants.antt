@@ -1,0 +1,9 @@
+use Rattle.std.proofs.Common.{◌≡◌, length}
+use Rattle.relay_laws.specs.Configs.{part_with}
+use Rattle.relay_audit.proofs.configs.part_with.Given as goal
+
+abbrev pub invariant-loop-parts : goal.invariant-loop-parts
+invariant-loop-parts l = part_with l.half l.parts ≡ part_with l.half l.initial.parts
+
+abbrev pub decreases-loop-parts : goal.decreases-loop-parts
+decreases-loop-parts l = length l.parts

@@ -1,0 +1,10 @@
+use Rattle.std.proofs.Common.{◌≡◌, length}
+use Rattle.std.proofs.Common.{◌++◌, ◌+◌, ◌≤◌, map}
+use Rattle.relay_laws.specs.Configs.{place_at}
+use Rattle.relay_audit.proofs.configs.push_places.Given as goal
+
+abbrev pub invariant-loop-parts : goal.invariant-loop-parts
+invariant-loop-parts l = (l.list ++ map (place_at l.session l.side) l.parts ≡ l.initial.list ++ map (place_at l.session l.side) l.initial.parts) × (length l.list + length l.parts ≤ 8)
+
+abbrev pub decreases-loop-parts : goal.decreases-loop-parts
+decreases-loop-parts l = length l.parts

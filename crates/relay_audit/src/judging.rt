@@ -1,0 +1,143 @@
+// Whether each act of a journal may come after the acts before it.
+ghost use Rattle.std.specs.Prelude.{◌≡◌, ◌<◌, ◌≤◌, ◌*◌, ◌^◌, ◌+◌, length, count_by, drop, IfOk, true};
+ghost use Rattle.relay_laws.specs.History.{held};
+ghost use Rattle.relay_laws.specs.Sessions.{admitted};
+ghost use Rattle.relay_laws.specs.May.{Legal};
+ghost use Rattle.relay_laws.specs.Audit.{held_count, first_illegal, may_come};
+ghost use Rattle.relay_audit.specs.Pasts.{acts, reads_some, held_below};
+ghost use Rattle.relay_audit.specs.Judging.{Judges};
+
+use crate::configs::{has_fork, options_of, program_door, things};
+use crate::history::held;
+use crate::may::may_come;
+use crate::sessions::numbers;
+use relay_laws::{admitted_is_bounded, one_test_is_right, tests_are_right};
+use relay_model::{Act, Config, Journal, NoMemory, Place};
+use std::alloc::Global;
+
+/// What is found of a journal: after its acts so many places and doors are held, or the act at this place, counted
+/// from 1, is the first that may not come after the acts before it.
+#[derive(Clone, Copy, Debug, PartialEq, Eq)]
+pub enum Judgement {
+    Legal { held: u64 },
+    Illegal { act: u64 },
+}
+
+// ---- what is held
+
+fn count_held(past: &[&Act], places: &[Place]) -> usize
+    ensures count { result ≡ count_by (held (acts past.now)) places.now }
+{
+    places.iter().filter(|place| held(past, **place)).count()
+}
+
+#[tactic(auto, using(crate::proofs::Holding::held_below_more))]
+fn held_in_sessions(config: &Config, past: &[&Act], count: u32) -> u64
+    ensures count { result ≡ held_below config.now (acts past.now) count }
+    ensures few { result ≤ 8 * count }
+{
+    let mut total: u64 = 0;
+    for session in 0..count {
+        total += count_held(past, things(config, session).as_slice()) as u64;
+    }
+    total
+}
+
+/// How many places and doors are held; those that are still settling count.
+#[tactic(auto, using(crate::proofs::Holding::held_count_is))]
+pub fn held_count(config: &Config, past: &[&Act]) -> u64
+    requires { admitted config.now (acts past.now) < 2 ^ 32 }
+    ensures { result ≡ held_count config.now (acts past.now) }
+{
+    let next = numbers(config, past);
+    let begun = held_in_sessions(config, past, next);
+    let coming = count_held(past, things(config, next).as_slice()) as u64;
+    let door = if has_fork(config) && held(past, program_door()) {
+        1
+    } else {
+        0
+    };
+    coming + begun + door
+}
+
+// ---- each act
+
+/// A legal history has no more sessions than numbers for them, and no read of nothing.
+fn legal_is_small(config: &Config, limit: u64, past: &[&Act])
+    requires { Legal config.now limit (acts past.now) }
+    ensures few { admitted config.now (acts past.now) < 2 ^ 32 }
+    ensures some { reads_some (acts past.now) ≡ true }
+{
+    admitted_is_bounded();
+    let _most = options_of(config, program_door()).stop_after;
+    let _last = past.len();
+}
+
+fn newest_first<'a>(alloc: Global, journal: &'a Journal) -> Result<Vec<&'a Act>, NoMemory>
+    ensures { IfOk result (λ past. acts past.items ≡ journal.now.acts) }
+{
+    let mut past = Vec::new(alloc);
+    let mut k = journal.len();
+    while k > 0 {
+        k -= 1;
+        past.push(journal.get(k))?;
+    }
+    Ok(past)
+}
+
+/// Whether the act may come after a legal history.
+fn may_follow(
+    alloc: Global,
+    config: &Config,
+    limit: u64,
+    past: &[&Act],
+    act: &Act,
+) -> Result<bool, NoMemory>
+    requires { first_illegal config.now limit (acts past.now) ≡ 0 }
+    ensures { IfOk result (λ may. may ≡ may_come config.now limit (acts past.now) act.now) }
+{
+    tests_are_right();
+    legal_is_small(config, limit, past);
+    may_come(alloc, config, limit, past, act)
+}
+
+fn judge_acts(
+    alloc: Global,
+    config: &Config,
+    past: &[&Act],
+    limit: u64,
+) -> Result<Judgement, NoMemory>
+    ensures { IfOk result (Judges config.now limit (acts past.now)) }
+{
+    tests_are_right();
+    one_test_is_right();
+    let mut k = past.len();
+    while k > 0 {
+        k -= 1;
+        let older = &past[k + 1..];
+        let act: &Act = past[k];
+        if !may_follow(alloc, config, limit, older, act)? {
+            return Ok(Judgement::Illegal {
+                act: (past.len() - k) as u64,
+            });
+        }
+    }
+    legal_is_small(config, limit, past);
+    Ok(Judgement::Legal {
+        held: held_count(config, past),
+    })
+}
+
+/// Whether the journal is a legal history of this command, in a run of so many turns at most. The acts of the
+/// journal are judged one by one, and the time grows with the square of their number.
+pub fn judge(
+    alloc: Global,
+    config: &Config,
+    journal: &Journal,
+    turns: u64,
+) -> Result<Judgement, NoMemory>
+    ensures { IfOk result (Judges config.now turns journal.now.acts) }
+{
+    let past = newest_first(alloc, journal)?;
+    judge_acts(alloc, config, past.as_slice(), turns)
+}

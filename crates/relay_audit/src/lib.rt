@@ -1,0 +1,29 @@
+// Whether a written history is one that its command may have.
+#![tactic(auto)]
+
+mod arming;
+mod calls;
+mod cause;
+mod choices;
+mod configs;
+mod history;
+mod judging;
+mod laws;
+mod may;
+mod moments;
+mod openings;
+mod outcome;
+mod place_lists;
+mod reports;
+mod rest;
+mod sessions;
+mod transfers;
+mod verdicts;
+
+pub use judging::{Judgement, judge};
+pub use laws::one_verdict;
+pub use reports::{Report, audit_run};
+pub use verdicts::{Verdict, audit};
+
+#[cfg(test)]
+mod tests;

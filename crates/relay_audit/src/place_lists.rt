@@ -1,0 +1,57 @@
+// A short list of places, as a session has: it takes no memory.
+ghost use Rattle.std.specs.Prelude.{◌≡◌, ◌<◌, ◌∷◌, ◌++◌, [], length};
+
+use relay_model::{Part, Place, Side};
+use std::marker::Model;
+
+/// A session has at most four places, and each at most one door.
+const MOST: usize = 8;
+
+const FREE: Place = Place {
+    session: 0,
+    side: Side::Left,
+    part: Part::Both,
+    door: false,
+};
+
+#[derive(Debug, Drop)]
+pub struct PlaceList {
+    items: [Place; 8],
+    count: usize,
+}
+
+impl Model for PlaceList {
+    ghost use Rattle.std.specs.Prelude.{List, take, ◌≤◌};
+    ghost use Rattle.relay_model.specs.declared.places.Place.{Place as Kept};
+
+    ghost Value = { List Kept };
+
+    ghost view = { λ list. take list.count list.items };
+
+    ghost invariant = { λ list. list.count ≤ 8 };
+}
+
+impl PlaceList {
+    pub fn new() -> PlaceList
+        ensures { result ≡ [] }
+    {
+        PlaceList {
+            items: [FREE; 8],
+            count: 0,
+        }
+    }
+
+    pub fn push(&mut self, place: Place)
+        requires { length self.old < 8 }
+        ensures { self.new ≡ self.old ++ place ∷ [] }
+    {
+        self.items[self.count] = place;
+        self.count += 1;
+    }
+
+    pub fn as_slice(&self) -> &[Place]
+        ensures { result.now ≡ self.now }
+    {
+        &self.items[..self.count]
+    }
+}

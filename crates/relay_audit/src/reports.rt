@@ -1,0 +1,161 @@
+// The program's work: what a source gives is audited, and one line says what was found.
+ghost use Rattle.std.specs.Prelude.{◌≡◌, ◌<◌, ◌++◌, ◌⊎◌, option_map, IfOk, IfErr, string_bytes};
+ghost use Rattle.std.specs.Bool.{OnTrue, OnFalse};
+ghost use Rattle.port_trait.specs.Counting.{Rose};
+ghost use Rattle.relay_audit.specs.declared.reports.Unread.TheVariants as unread;
+ghost use Rattle.relay_audit.specs.Reports.{IsReportOf, yes_line, line_of_verdict, line_of, status_of_verdict, status_of, Reported, HasRead, WhyUnread};
+
+use crate::verdicts::{Verdict, audit};
+use port_trait::{Sink, SinkTook, Source, SourceGot};
+use relay_model::{NoMemory, Text};
+use std::alloc::{AllocError, Global};
+
+/// What the auditor reports of what a source gives.
+#[derive(Clone, Copy, Debug, PartialEq, Eq)]
+pub enum Report {
+    /// More than 16,777,216 bytes were given; the rest isn't read.
+    TooLong,
+    /// The verdict on all that was given.
+    Found(Verdict),
+}
+
+/// The longest text that is audited, in bytes.
+const LONGEST_TEXT: usize = 16_777_216;
+
+/// How much is read at once, in bytes.
+const CHUNK: usize = 16_384;
+
+/// The status where memory is wanting.
+const NO_MEMORY: u8 = 2;
+
+/// The status where the source or the sink fails.
+const FAILED: u8 = 3;
+
+/// Why a text isn't read.
+#[derive(Clone, Copy, Debug, PartialEq, Eq)]
+enum Unread {
+    Memory,
+    Failed,
+}
+
+impl From<AllocError> for Unread {
+    ghost from_gives = { λ _ found. found ≡ unread.Memory };
+
+    fn from(_error: AllocError) -> Unread {
+        Unread::Memory
+    }
+}
+
+/// Reads the source to its end, or until it has given more than is audited.
+fn read_text<S: Source>(alloc: Global, source: &mut S) -> Result<Vec<u8>, Unread>
+    ensures text { IfOk result (λ text. HasRead text.items (S.left source.old) (S.left source.new) (S.ends source.old) (S.ends source.new)) }
+    ensures unread { IfErr result (WhyUnread (S.faults source.old) (S.faults source.new)) }
+{
+    let mut text = Vec::new(alloc);
+    let mut chunk = [0u8; CHUNK];
+    while text.len() <= LONGEST_TEXT {
+        match source.read(&mut chunk) {
+            SourceGot::Bytes(count) => text.extend_from_slice(&chunk[..count])?,
+            SourceGot::End => return Ok(text),
+            SourceGot::Failed => return Err(Unread::Failed),
+        }
+    }
+    Ok(text)
+}
+
+/// The report on a text.
+fn report_on(alloc: Global, text: &[u8], words: &[Text], turns: u64) -> Result<Report, NoMemory>
+    ensures { IfOk result (IsReportOf words.now turns text.now) }
+{
+    if text.len() > LONGEST_TEXT {
+        return Ok(Report::TooLong);
+    }
+    let verdict = audit(alloc, text, words, turns)?;
+    Ok(Report::Found(verdict))
+}
+
+fn yes_line(alloc: Global, acts: u64, held: u64) -> Result<String, NoMemory>
+    ensures { IfOk result (λ line. string_bytes line ≡ yes_line acts held) }
+{
+    Ok(format!(in alloc; "yes: {acts} acts, {held} held\n")?)
+}
+
+fn line_of_verdict(alloc: Global, verdict: Verdict) -> Result<String, NoMemory>
+    ensures { IfOk result (λ line. string_bytes line ≡ line_of_verdict verdict) }
+{
+    match verdict {
+        Verdict::Yes { acts, held } => yes_line(alloc, acts, held),
+        Verdict::BadLine { number } => Ok(format!(in alloc; "no: line {number}\n")?),
+        Verdict::BadWords => Ok(format!(in alloc; "no: words\n")?),
+        Verdict::Illegal { act } => Ok(format!(in alloc; "no: act {act}\n")?),
+    }
+}
+
+fn line_of(alloc: Global, report: Report) -> Result<String, NoMemory>
+    ensures { IfOk result (λ line. string_bytes line ≡ line_of report) }
+{
+    match report {
+        Report::TooLong => Ok(format!(in alloc; "no: too long\n")?),
+        Report::Found(verdict) => line_of_verdict(alloc, verdict),
+    }
+}
+
+fn status_of(report: Report) -> u8
+    ensures value { result ≡ status_of report }
+    ensures known { result < 2 }
+{
+    match report {
+        Report::TooLong => 1,
+        Report::Found(verdict) => match verdict {
+            Verdict::Yes { .. } => 0,
+            Verdict::BadLine { .. } | Verdict::BadWords | Verdict::Illegal { .. } => 1,
+        },
+    }
+}
+
+/// Writes all bytes, and says so where the sink took each.
+fn put_line<K: Sink>(sink: &mut K, line: &[u8]) -> bool
+    ensures took { OnTrue result (K.took sink.new ≡ option_map (λ all. all ++ line.now) (K.took sink.old)) }
+    ensures failed { OnFalse result (Rose (K.faults sink.old) (K.faults sink.new)) }
+{
+    let mut rest = line;
+    while rest.len() > 0 {
+        match sink.write(rest) {
+            SinkTook::Took(count) => rest = &rest[count..],
+            SinkTook::Failed => return false,
+        }
+    }
+    sink.finish()
+}
+
+/// Audits what the source gives until its end, and writes one line of what was found. The status is 0 where the text
+/// is the journal of a legal run, 1 where it isn't or is too long, 2 where memory is wanting, and 3 where the source
+/// or the sink fails.
+pub fn audit_run<S: Source, K: Sink>(
+    alloc: Global,
+    source: &mut S,
+    sink: &mut K,
+    words: &[Text],
+    turns: u64,
+) -> u8
+    ensures known { result < 4 }
+    ensures reported { result < 2 → Reported words.now turns (S.left source.old) (S.left source.new) (S.ends source.old) (S.ends source.new) (K.took sink.old) (K.took sink.new) result }
+    ensures failed { result ≡ 3 → (Rose (S.faults source.old) (S.faults source.new)) ⊎ (Rose (K.faults sink.old) (K.faults sink.new)) }
+{
+    let text = match read_text(alloc, source) {
+        Ok(text) => text,
+        Err(Unread::Memory) => return NO_MEMORY,
+        Err(Unread::Failed) => return FAILED,
+    };
+    let Ok(report) = report_on(alloc, text.as_slice(), words, turns) else {
+        return NO_MEMORY;
+    };
+    let Ok(line) = line_of(alloc, report) else {
+        return NO_MEMORY;
+    };
+    if put_line(sink, line.as_bytes()) {
+        status_of(report)
+    } else {
+        FAILED
+    }
+}

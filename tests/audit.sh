@@ -1,0 +1,111 @@
+#!/usr/bin/env bash
+# Runs the built auditor on the journals of tests/data/journals.txt, which were judged by other means, and on files
+# that are missing, empty, cut or too long. One line a case that fails, and 'N passed, M failed' at the end; the status
+# is 1 where a case failed.
+# Usage: tests/audit.sh [PROGRAM]      (bin/socat-audit where none is given)
+set -u
+
+here="$(cd "$(dirname "${BASH_SOURCE[0]}")/.." && pwd)"
+program="${1:-$here/bin/socat-audit}"
+case "$program" in
+    /*) ;;
+    *) program="$PWD/$program" ;;
+esac
+if [ ! -x "$program" ]; then
+    echo "no program at $program: run make first"
+    echo "0 passed, 1 failed"
+    exit 1
+fi
+
+scratch="$(mktemp -d)" || exit 1
+trap 'rm -rf "$scratch"' EXIT
+
+passed=0
+failed=0
+
+# expect NAME LINE STATUS FILE WORDS..: the auditor says this line, and ends with this status.
+expect() {
+    local name="$1" line="$2" status="$3" file="$4" said got
+    shift 4
+    said="$(timeout 120 "$program" "$file" "$@")"
+    got=$?
+    if [ "$said" = "$line" ] && [ "$got" -eq "$status" ]; then
+        passed=$((passed + 1))
+    else
+        failed=$((failed + 1))
+        echo "FAILED  $name: '$said' and status $got, not '$line' and status $status"
+    fi
+}
+
+# The status that goes with a line.
+status_of() {
+    case "$1" in
+        yes:*) echo 0 ;;
+        *) echo 1 ;;
+    esac
+}
+
+# Each case of the file: a line 'words', a line 'verdict', a line 'lines' with their number, and the journal's text,
+# without its last newline where 'unfinished' follows the number.
+run_cases() {
+    local number=0 key rest words='' verdict='' count unfinished i line
+    while IFS=' ' read -r key rest; do
+        case "$key" in
+            words) words="$rest" ;;
+            verdict) verdict="$rest" ;;
+            lines)
+                number=$((number + 1))
+                count="${rest%% *}"
+                unfinished=''
+                [ "$rest" = "$count unfinished" ] && unfinished=yes
+                for ((i = 1; i <= count; i++)); do
+                    IFS= read -r line
+                    if [ "$i" -eq "$count" ] && [ -n "$unfinished" ]; then
+                        printf '%s' "$line"
+                    else
+                        printf '%s\n' "$line"
+                    fi
+                done >"$scratch/journal"
+                # The words have no spaces or quotes of their own.
+                # shellcheck disable=SC2086
+                expect "case $number ($words)" "$verdict" "$(status_of "$verdict")" "$scratch/journal" $words
+                ;;
+        esac
+    done <"$here/tests/data/journals.txt"
+    echo "$number journals"
+}
+
+run_cases
+
+: >"$scratch/empty"
+printf 'opened 0LI-\nopened 0RO' >"$scratch/cut"
+head -c 16777217 /dev/zero >"$scratch/long"
+head -c 16777216 /dev/zero >"$scratch/longest"
+relay=(-u STDIN STDOUT)
+expect "an empty file" 'yes: 0 acts, 0 held' 0 "$scratch/empty" "${relay[@]}"
+expect "a cut line" 'no: line 2' 1 "$scratch/cut" "${relay[@]}"
+expect "one byte too many" 'no: too long' 1 "$scratch/long" "${relay[@]}"
+expect "as long as may be" 'no: line 1' 1 "$scratch/longest" "${relay[@]}"
+expect "too long comes before the words" 'no: too long' 1 "$scratch/long" nothing
+expect "words come before the lines" 'no: words' 1 "$scratch/cut" nothing
+expect "the flag that saves a journal" 'no: words' 1 "$scratch/empty" --journal=j "${relay[@]}"
+expect "a file that isn't there" '' 3 "$scratch/missing" "${relay[@]}"
+expect "a folder" '' 3 "$scratch" "${relay[@]}"
+
+said="$("$program")"
+if [ $? -eq 3 ] && [ -z "$said" ]; then
+    passed=$((passed + 1))
+else
+    failed=$((failed + 1))
+    echo "FAILED  no arguments"
+fi
+"$program" "$scratch/empty" "${relay[@]}" >/dev/full
+if [ $? -eq 3 ]; then
+    passed=$((passed + 1))
+else
+    failed=$((failed + 1))
+    echo "FAILED  a full device"
+fi
+
+echo "$passed passed, $failed failed"
+[ "$failed" -eq 0 ]
