@@ -97,33 +97,3 @@ pub fn settle<T: Item>(
     queue.learn_as::<Total>(&mut both);
     both
 }
-
-#[cfg(test)]
-mod tests {
-    use super::*;
-    use std::test::Fail;
-
-    // each number is how many were sent before it
-    impl Item for u64 {
-        ghost follows = { λ before number. number ≡ length before };
-    }
-
-    #[test]
-    fn items_come_out_in_order(rt: HostRuntime) -> Result<(), Fail> {
-        let (queue, mut sender, mut taker) = ordered::<u64>(rt.alloc(), 2)?;
-        assert!(rt; is_empty(&queue, &mut taker));
-        let Ok(()) = put(&rt, &queue, &mut sender, 0) else {
-            return Err("full")?;
-        };
-        let Ok(()) = put(&rt, &queue, &mut sender, 1) else {
-            return Err("full")?;
-        };
-        assert!(rt; is_full(&queue, &mut sender));
-        assert_eq!(rt; put(&rt, &queue, &mut sender, 2), Err(2));
-        assert_eq!(rt; take(&rt, &queue, &mut taker), Some(0));
-        assert_eq!(rt; take(&rt, &queue, &mut taker), Some(1));
-        assert_eq!(rt; take(&rt, &queue, &mut taker), None);
-        let _ = settle(&queue, sender, taker);
-        Ok(())
-    }
-}
