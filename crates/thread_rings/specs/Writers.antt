@@ -1,0 +1,73 @@
+-- What contracts see of a writer, and what the calls of its port do.
+use Rattle.std.specs.Prelude.{◌≡◌, ℕ, ◌+◌, ◌-◌, ◌^◌, ◌≤◌, min, Bool, true, false, ◌&&◌, List, [], ◌∷◌, ◌++◌, length, take, Option, None, Some, if◌then◌else◌}
+use Rattle.port_trait.specs.declared.counts.Counts.{Counts}
+use Rattle.port_trait.specs.declared.answers.Took.{Took as WriteAnswer}
+use Rattle.port_trait.specs.declared.answers.Took.TheVariants as writes
+use Rattle.thread_rings.specs.declared.items.RingItem.TheVariants as items
+use Rattle.thread_rings.specs.Items.{bytes_of, told}
+use Rattle.thread_rings.specs.Feeding.{AddsChunks}
+use Rattle.thread_rings.specs.WriterRing.{WriterLine, WriterBehind, WritesChunk, is_open}
+
+-- how its line stands, what was counted, how often it failed for no fault of the sink, and the faults of its spawner
+pub record WriterState : Type 0 where
+  pub line : WriterLine
+  pub counts : Counts
+  pub misuses : ℕ
+  pub spawner_faults : ℕ
+
+-- a writer that hasn't begun
+abbrev pub fresh_writer : ℕ → WriterState
+fresh_writer spawner_faults = record {
+  line = record { sent = []; marks = 0; begun = false; refused = false; behind = None };
+  counts = record { faults = 0; ends = 0; empties = 0; stalls = 0 };
+  misuses = 0;
+  spawner_faults = spawner_faults;
+}
+
+abbrev pub took_of : WriterState → List ℕ
+took_of writer = bytes_of writer.line.sent
+
+abbrev pub took_behind : Option WriterBehind → Option (List ℕ)
+took_behind None = None
+took_behind (Some behind) = behind.took
+
+abbrev pub faults_behind : Option WriterBehind → Option ℕ
+faults_behind None = None
+faults_behind (Some behind) = Some behind.faults
+
+-- it fails only at the fault marks that were taken and at calls that it can't serve, and never ends
+pub record IsTallied (line : WriterLine) (counts : Counts) (misuses : ℕ) : Type 0 where
+  pub faults : counts.faults ≤ misuses + line.marks
+  pub ends : counts.ends ≡ 0
+
+-- a call that the writer can't serve changes no more than the counts
+pub record IsMisused (before now : WriterState) : Type 0 where
+  pub line : now.line ≡ before.line
+  pub misuses : now.misuses ≡ min (before.misuses + 1) (2 ^ 64 - 1)
+
+-- a write puts one chunk, where the writer is open
+abbrev pub WriterWrites : Bool → WriterState → WriterState → List ℕ → WriteAnswer → Type 0
+WriterWrites true before now bytes answer = WritesChunk before.line now.line bytes answer × (now.misuses ≡ before.misuses)
+WriterWrites false before now bytes answer = IsMisused before now × (answer ≡ writes.Failed)
+
+-- chunks with these bytes were put, and so many fault marks were taken
+abbrev pub PutsMore : WriterLine → WriterLine → List ℕ → ℕ → Type 0
+PutsMore before now bytes heard = AddsChunks before.sent now.sent bytes × (now ≡ record before { sent = now.sent; marks = before.marks + heard })
+
+-- all bytes are put in chunks, or a front of them before a fault mark was taken
+abbrev pub PutsAll : WriterLine → WriterLine → List ℕ → WriteAnswer → Type 0
+PutsAll before now bytes (writes.Took n) = (n ≡ length bytes) × PutsMore before now bytes 0
+PutsAll before now bytes writes.NotYet = ⊥
+PutsAll before now bytes writes.Failed = (n : ℕ) × (n ≤ length bytes) × PutsMore before now (take n bytes) 1
+
+abbrev pub WriterPutsAll : Bool → WriterState → WriterState → List ℕ → WriteAnswer → Type 0
+WriterPutsAll true before now bytes answer = PutsAll before.line now.line bytes answer × (now.misuses ≡ before.misuses)
+WriterPutsAll false before now bytes answer = IsMisused before now × (answer ≡ writes.Failed)
+
+-- the end mark tells how many bytes were put before it
+abbrev pub with_end_mark : WriterLine → WriterLine
+with_end_mark line = record line { sent = line.sent ++ items.End (told (bytes_of line.sent)) ∷ [] }
+
+-- the end of the bytes is put once, where the writer is open
+abbrev pub line_after_shut : Bool → WriterLine → WriterLine
+line_after_shut finishes line = if finishes && is_open line then with_end_mark line else line

@@ -1,0 +1,262 @@
+// The two queues between a port and its thread, and how each side sleeps and wakes the other.
+ghost use Rattle.std.specs.Prelude.{◌≡◌, ◌<◌, ◌++◌, ◌∷◌, [], List, true, false, length, IfOk};
+ghost use Rattle.crossbeam_queue.specs.Passes.{view, IsPassOf, IsSamePass, ruled_capacity};
+ghost use Rattle.ordered_queue.specs.Order.{view_of, IsSound};
+
+use crate::items::RingItem;
+use crossbeam_queue::protocol::{Join, Lesson};
+use ordered_queue::{Item, OrderedPass, OrderedQueue, View, ordered, put, take};
+use relay_model::NoMemory;
+use std::alloc::Global;
+use std::sync::atomic::{AtomicU64, Ordering};
+use std::sync::{Arc, Wait};
+
+/// The items that a queue holds at most.
+pub(crate) const ROOM: usize = 64;
+
+/// Where one side sleeps while there is nothing to do for it. It watches first, then tries once more, and
+/// sleeps only where nobody rang since: so the ring for what its try didn't see isn't lost.
+#[derive(Drop)]
+pub(crate) struct Bell {
+    rings: AtomicU64,
+    watched: AtomicU64,
+}
+
+impl Bell {
+    pub(crate) fn new() -> Bell {
+        Bell {
+            rings: AtomicU64::new(0),
+            watched: AtomicU64::new(0),
+        }
+    }
+
+    /// The number of rings so far. From now on they are heard.
+    pub(crate) fn watch(&self) -> u64 {
+        self.watched.store(1, Ordering::SeqCst);
+        self.rings.load(Ordering::SeqCst)
+    }
+
+    /// Sleeps until the next ring after that number of them, or for a shorter time.
+    pub(crate) fn sleep<R: Wait>(&self, rt: &R, seen: u64) {
+        if self.rings.load(Ordering::SeqCst) == seen {
+            self.rings.park(rt, (seen & 0xffff_ffff) as u32);
+        }
+    }
+
+    /// Rings are heard no more.
+    pub(crate) fn leave(&self) {
+        self.watched.store(0, Ordering::SeqCst);
+    }
+
+    /// Wakes who sleeps.
+    pub(crate) fn ring(&self) {
+        if self.watched.load(Ordering::SeqCst) != 0 {
+            self.rings.fetch_add(1, Ordering::SeqCst);
+            self.rings.wake_all();
+        }
+    }
+}
+
+/// Whether the loop found nothing to do at the port, and so may sleep.
+#[derive(Drop)]
+pub(crate) struct LoopWaits {
+    waits: AtomicU64,
+}
+
+impl LoopWaits {
+    pub(crate) fn new() -> LoopWaits {
+        LoopWaits {
+            waits: AtomicU64::new(0),
+        }
+    }
+
+    pub(crate) fn set(&self) {
+        self.waits.store(1, Ordering::SeqCst);
+    }
+
+    /// Whether it was set since the last call.
+    pub(crate) fn fetch(&self) -> bool {
+        self.waits.load(Ordering::SeqCst) != 0 && self.waits.swap(0, Ordering::SeqCst) != 0
+    }
+}
+
+/// Whether the port has begun.
+#[derive(Drop)]
+pub(crate) struct Start {
+    begun: AtomicU64,
+}
+
+impl Start {
+    pub(crate) fn new() -> Start {
+        Start {
+            begun: AtomicU64::new(0),
+        }
+    }
+
+    /// Lets the thread begin, which sleeps at this bell.
+    pub(crate) fn give(&self, bell: &Bell) {
+        self.begun.store(1, Ordering::SeqCst);
+        bell.ring();
+    }
+
+    /// Sleeps at this bell until the port begins.
+    pub(crate) fn wait<R: Wait>(&self, rt: &R, bell: &Bell) {
+        for _ in rt.forever() {
+            let seen = bell.watch();
+            if self.begun.load(Ordering::SeqCst) != 0 {
+                bell.leave();
+                return;
+            }
+            bell.sleep(rt, seen);
+        }
+    }
+}
+
+/// What a port and its thread share: the items, the words that go back, and where each side sleeps.
+#[derive(Drop)]
+pub(crate) struct Lines<B: Item> {
+    pub(crate) items: OrderedQueue<RingItem>,
+    pub(crate) back: OrderedQueue<B>,
+    pub(crate) thread: Bell,
+    pub(crate) port: Bell,
+    pub(crate) waits: LoopWaits,
+    pub(crate) start: Start,
+}
+
+/// The lines, once for the port and once for the thread, with the four sides of their queues.
+#[derive(Drop)]
+pub(crate) struct Ends<B: Item> {
+    pub(crate) port: Arc<Lines<B>, Global>,
+    pub(crate) thread: Arc<Lines<B>, Global>,
+    pub(crate) sender: OrderedPass<RingItem>,
+    pub(crate) taker: OrderedPass<RingItem>,
+    pub(crate) back_sender: OrderedPass<B>,
+    pub(crate) back_taker: OrderedPass<B>,
+}
+
+/// Empty queues: one for items, and one for so many words that go back.
+pub(crate) fn make_lines<B: Item + Drop>(
+    alloc: Global,
+    back_room: usize,
+) -> Result<Ends<B>, NoMemory>
+    requires { 0 < back_room }
+    ensures same { IfOk result (λ ends. ends.thread.value ≡ ends.port.value) }
+    ensures rooms { IfOk result (λ ends. (ruled_capacity ends.port.value.items ≡ 64) × (ruled_capacity ends.port.value.back ≡ back_room)) }
+    ensures items { IfOk result (λ ends. IsPassOf ends.port.value.items ends.sender × IsPassOf ends.port.value.items ends.taker) }
+    ensures back { IfOk result (λ ends. IsPassOf ends.port.value.back ends.back_sender × IsPassOf ends.port.value.back ends.back_taker) }
+    ensures item_views { IfOk result (λ ends. (view ends.sender ≡ view_of true false [] []) × (view ends.taker ≡ view_of false true [] [])) }
+    ensures back_views { IfOk result (λ ends. (view ends.back_sender ≡ view_of true false [] []) × (view ends.back_taker ≡ view_of false true [] [])) }
+{
+    let (items, sender, taker) = ordered::<RingItem>(alloc, ROOM)?;
+    let (back, back_sender, back_taker) = ordered::<B>(alloc, back_room)?;
+    let port = Arc::new(
+        alloc,
+        Lines {
+            items,
+            back,
+            thread: Bell::new(),
+            port: Bell::new(),
+            waits: LoopWaits::new(),
+            start: Start::new(),
+        },
+    )?;
+    let thread = Arc::try_clone(&port)?;
+    Ok(Ends {
+        port,
+        thread,
+        sender,
+        taker,
+        back_sender,
+        back_taker,
+    })
+}
+
+/// Sends the item, and sleeps while the queue is full.
+pub(crate) fn send<T: Item + Drop, R: Wait>(
+    rt: &R,
+    queue: &OrderedQueue<T>,
+    bell: &Bell,
+    pass: &mut OrderedPass<T>,
+    item: T,
+)
+    requires queue { IsPassOf queue.now pass.old }
+    requires sends { (view pass.old).sends ≡ true }
+    requires follows { T.follows (view pass.old).sent item }
+    ensures queue { IsSamePass pass.old pass.new }
+    ensures sent { view pass.new ≡ view_of (view pass.old).sends (view pass.old).takes ((view pass.old).sent ++ item ∷ []) (view pass.old).taken }
+{
+    let Err(back) = put(rt, queue, pass, item) else {
+        return;
+    };
+    let mut item = back;
+    for _ in rt.forever() {
+        let seen = bell.watch();
+        match put(rt, queue, pass, item) {
+            Ok(()) => {
+                bell.leave();
+                return;
+            }
+            Err(back) => item = back,
+        }
+        bell.sleep(rt, seen);
+    }
+    unreachable!()
+}
+
+/// Takes the oldest item, and sleeps while the queue is empty.
+pub(crate) fn receive<T: Item + Drop, R: Wait>(
+    rt: &R,
+    queue: &OrderedQueue<T>,
+    bell: &Bell,
+    pass: &mut OrderedPass<T>,
+) -> T
+    requires queue { IsPassOf queue.now pass.old }
+    requires takes { (view pass.old).takes ≡ true }
+    ensures queue { IsSamePass pass.old pass.new }
+    ensures taken { view pass.new ≡ view_of (view pass.old).sends (view pass.old).takes (view pass.old).sent ((view pass.old).taken ++ result ∷ []) }
+    ensures follows { T.follows (view pass.old).taken result }
+{
+    if let Some(item) = take(rt, queue, pass) {
+        return item;
+    }
+    for _ in rt.forever() {
+        let seen = bell.watch();
+        if let Some(item) = take(rt, queue, pass) {
+            bell.leave();
+            return item;
+        }
+        bell.sleep(rt, seen);
+    }
+    unreachable!()
+}
+
+// the sender's side takes in the taker's
+struct Both;
+
+impl<T> Join<View<T>> for Both {
+    ghost both = { λ v w. view_of true true v.sent w.taken };
+
+    ghost spent = { view_of false false [] [] };
+}
+
+struct Total;
+
+impl<T: Item> Lesson<T, View<T>> for Total {
+    ghost fact = { λ v items. (v.sent ≡ v.taken ++ items) × IsSound T.follows [] v.sent };
+}
+
+/// The sender's side takes in the taker's. What was taken is the front of what was sent.
+pub(crate) fn take_in<T: Item>(
+    queue: &OrderedQueue<T>,
+    sender: &mut OrderedPass<T>,
+    taker: OrderedPass<T>,
+)
+    requires queue { IsPassOf queue.now sender.old × IsPassOf queue.now taker }
+    requires sides { ((view sender.old).sends ≡ true) × ((view taker).takes ≡ true) }
+    ensures queue { IsSamePass sender.old sender.new }
+    ensures view { view sender.new ≡ view_of true true (view sender.old).sent (view taker).taken }
+    ensures order { (rest : List T) × ((view sender.old).sent ≡ (view taker).taken ++ rest) }
+{
+    queue.absorb::<Both>(sender, taker);
+    queue.learn_as::<Total>(sender);
+}

@@ -1,0 +1,303 @@
+// The port of a sink that a thread writes to.
+ghost use Rattle.std.specs.Prelude.{◌≡◌, ◌≢◌, ◌<◌, ◌≤◌, ◌+◌, ◌-◌, ◌^◌, min, Bool, true, false, length, None, Some, IfOk, IfSome, IsSome};
+ghost use Rattle.port_trait.specs.Counting.{Rose, Tallied, Fault};
+ghost use Rattle.port_trait.specs.Streams.{finishes};
+ghost use Rattle.port_trait.specs.Meanings.{Gives, Accepts, AcceptsWhole, AcceptsAll, Behind, OnJoined, join_answer, begun_after, is_end, begin_event, read_event, write_event, shut_event};
+ghost use Rattle.port_trait.specs.declared.answers.Begun.TheVariants as begins;
+ghost use Rattle.port_trait.specs.declared.answers.Got.TheVariants as reads;
+ghost use Rattle.port_trait.specs.declared.answers.Took.TheVariants as writes;
+ghost use Rattle.port_trait.specs.declared.answers.Shutting.TheVariants as shuts;
+ghost use Rattle.thread_rings.specs.Items.{bytes_of};
+ghost use Rattle.thread_rings.specs.WriterRing.{IsBehind, is_open, may_join, line_after_begin};
+ghost use Rattle.thread_rings.specs.Writers.{IsMisused, WriterWrites, WriterPutsAll, fresh_writer, took_of, took_behind, faults_behind, line_after_shut};
+
+use crate::lines::make_lines;
+use crate::words::SinkFault;
+use crate::writer_outlet::Outlet;
+use crate::writer_puts::Putter;
+use crate::writer_stages::{Stage, start_thread};
+use crate::writer_thread::{GATHERED, WriterWork};
+use port_trait::{
+    Begun, Counts, Got, Hint, Joining, Port, PortReap, Settled, Shutting, Sink, Spawner, Took, Wake,
+};
+use relay_model::{NoMemory, Shut};
+use std::alloc::Global;
+use std::marker::{Model, PhantomData};
+use std::mem;
+use std::snapshot::Snapshot;
+use std::sync::Wait;
+
+/// How many fault marks may lie untaken. Those that find no room are dropped, since the others tell the same.
+const MARKS: usize = 64;
+
+/// A ring whose thread writes to a sink that may block. Its other half fails.
+#[derive(Drop)]
+pub struct RingWriter<K, P, W>
+where
+    K: Sink + Drop,
+    P: Spawner,
+{
+    spawner: P,
+    stage: Stage<K>,
+    counts: Counts,
+    misuses: u64,
+    wake: PhantomData<W>,
+}
+
+impl<K, P, W> Model for RingWriter<K, P, W>
+where
+    K: Sink + Drop,
+    P: Spawner,
+{
+    ghost use Rattle.thread_rings.specs.Writers.{WriterState};
+
+    ghost Value = { WriterState };
+
+    ghost use Rattle.thread_rings.specs.WriterRing.{Stands, line_of};
+    ghost use Rattle.thread_rings.specs.Writers.{IsTallied};
+
+    ghost view = { λ w. record { line = line_of K.took K.faults w.stage; counts = w.counts; misuses = w.misuses; spawner_faults = P.faults w.spawner } };
+
+    ghost invariant = { λ w. Stands K.took K.faults w.stage × IsTallied (line_of K.took K.faults w.stage) w.counts w.misuses };
+}
+
+impl<K, P, W> RingWriter<K, P, W>
+where
+    K: Sink + Send + Drop + 'static,
+    P: Spawner + Drop,
+    P::Runtime: Wait + Copy + Send + 'static,
+    W: Wake + Send + Drop + 'static,
+{
+    /// A ring that is to write to this sink. Its queue has room for 64 items of at most 512 bytes. The thread is
+    /// made here, as is all else that takes memory, and sleeps until something is put. Where the system has no
+    /// thread to give, the sink is dropped, and `begin` doesn't succeed.
+    pub fn new(alloc: Global, sink: K, spawner: P, wake: W) -> Result<RingWriter<K, P, W>, NoMemory>
+        ensures { IfOk result (λ ring. ring ≡ fresh_writer (P.faults spawner)) }
+    {
+        let ends = make_lines::<SinkFault>(alloc, MARKS)?;
+        let buffer = Vec::with_capacity(alloc, GATHERED)?;
+        let putter = Putter {
+            lines: ends.port,
+            sender: ends.sender,
+            taker: ends.back_taker,
+            count: 0,
+            ended: false,
+        };
+        let begun = Snapshot::of(&sink);
+        let rt = *spawner.threads();
+        let work = WriterWork {
+            rt,
+            lines: ends.thread,
+            outlet: Outlet::new(sink),
+            wake,
+            taker: ends.taker,
+            sender: ends.back_sender,
+            buffer,
+        };
+        Ok(RingWriter {
+            spawner,
+            stage: Stage::Ready(putter, begun, start_thread(work)),
+            counts: Counts::new(),
+            misuses: 0,
+            wake: PhantomData,
+        })
+    }
+}
+
+impl<K, P, W> RingWriter<K, P, W>
+where
+    K: Sink + Drop,
+    P: Spawner,
+{
+    /// Counts a call that the writer can't serve.
+    fn misuse(&mut self)
+        ensures misused { IsMisused self.old self.new }
+        ensures kept { self.new.spawner_faults ≡ self.old.spawner_faults }
+        ensures counts { Tallied (Some Fault) self.old.counts self.new.counts }
+    {
+        self.counts.count_fault();
+        self.misuses = self.misuses.saturating_add(1);
+    }
+}
+
+impl<K, P, W> Port for RingWriter<K, P, W>
+where
+    K: Sink + Send + Drop + 'static,
+    P: Spawner + Drop,
+    P::Runtime: Wait + Copy + Send + 'static,
+    W: Wake + Send + Drop + 'static,
+{
+    ghost took = { λ w. Some (took_of w) };
+
+    ghost behind_took = { λ w. took_behind w.line.behind };
+
+    ghost behind_faults = { λ w. faults_behind w.line.behind };
+
+    ghost counts = { λ w. w.counts };
+
+    ghost begun = { λ w. w.line.begun };
+
+    ghost ended = { λ _. false };
+
+    ghost joins = { λ w. may_join w.line };
+
+    ghost child = { λ _. false };
+
+    /// Where the spawner refuses, the thread is sent away with the sink, and the writer never begins.
+    fn begin(&mut self) -> Begun
+        ensures again { self.old.line.begun ≡ true → (result ≡ begins.Begun) × (self.new ≡ self.old) }
+        ensures refused_again { self.old.line.refused ≡ true → result ≡ begins.Failed }
+        ensures cause { result ≡ begins.Failed → self.old.line.refused ≡ false → Rose self.old.spawner_faults self.new.spawner_faults }
+        ensures line { self.new.line ≡ line_after_begin self.old.line result }
+        ensures begun { self.new.line.begun ≡ begun_after self.old.line.begun result }
+        ensures kept { Some (took_of self.new) ≡ Some (took_of self.old) }
+        ensures counts { Tallied (begin_event result) self.old.counts self.new.counts }
+    {
+        let rt = *self.spawner.threads();
+        match self.stage.begin(&mut self.spawner, &rt) {
+            Begun::Begun => Begun::Begun,
+            Begun::Memory => Begun::Memory,
+            Begun::Failed => {
+                self.counts.count_fault();
+                self.misuses = self.misuses.saturating_add(1);
+                Begun::Failed
+            }
+        }
+    }
+
+    fn settle(&mut self) -> Settled {
+        Settled::Ready
+    }
+
+    fn read(&mut self, into: &mut [u8]) -> Got
+        requires { 0 < length into.old }
+        ensures failed { result ≡ reads.Failed }
+        ensures misused { IsMisused self.old self.new }
+        ensures gives { Gives None None into.new result }
+        ensures ended { false ≡ is_end result }
+        ensures kept { (Some (took_of self.new) ≡ Some (took_of self.old)) × (self.new.line.begun ≡ self.old.line.begun) }
+        ensures counts { Tallied (read_event result) self.old.counts self.new.counts }
+    {
+        let _ = into;
+        self.misuse();
+        Got::Failed
+    }
+
+    /// Puts one chunk of at most 512 bytes.
+    fn write(&mut self, bytes: &[u8]) -> Took
+        requires { 0 < length bytes.now }
+        ensures writes { WriterWrites (is_open self.old.line) self.old self.new bytes.now result }
+        ensures accepts { Accepts (Some (took_of self.old)) (Some (took_of self.new)) bytes.now result }
+        ensures kept { (self.new.line.begun ≡ self.old.line.begun) × (self.new.line.refused ≡ self.old.line.refused) }
+        ensures counts { Tallied (write_event result) self.old.counts self.new.counts }
+    {
+        if !self.stage.is_open() {
+            self.misuse();
+            return Took::Failed;
+        }
+        let rt = *self.spawner.threads();
+        match self.stage.put(&rt, bytes) {
+            Took::Took(count) => Took::Took(count),
+            Took::NotYet => {
+                self.counts.count_stall();
+                Took::NotYet
+            }
+            Took::Failed => {
+                self.counts.count_fault();
+                Took::Failed
+            }
+        }
+    }
+
+    fn send(&mut self, bytes: &[u8]) -> Took
+        requires { 0 < length bytes.now }
+        ensures failed { result ≡ writes.Failed }
+        ensures misused { IsMisused self.old self.new }
+        ensures accepts { AcceptsWhole (Some (took_of self.old)) (Some (took_of self.new)) bytes.now result }
+        ensures kept { (self.new.line.begun ≡ self.old.line.begun) × (self.new.line.refused ≡ self.old.line.refused) }
+        ensures counts { Tallied (write_event result) self.old.counts self.new.counts }
+    {
+        let _ = bytes;
+        self.misuse();
+        Took::Failed
+    }
+
+    /// Puts all bytes in chunks, and waits for room.
+    fn put_all(&mut self, bytes: &[u8]) -> Took
+        ensures writes { WriterPutsAll (is_open self.old.line) self.old self.new bytes.now result }
+        ensures accepts { AcceptsAll (Some (took_of self.old)) (Some (took_of self.new)) bytes.now result }
+        ensures kept { (self.new.line.begun ≡ self.old.line.begun) × (self.new.line.refused ≡ self.old.line.refused) }
+        ensures counts { Tallied (write_event result) self.old.counts self.new.counts }
+    {
+        if !self.stage.is_open() {
+            self.misuse();
+            return Took::Failed;
+        }
+        let rt = *self.spawner.threads();
+        let (count, failed) = self.stage.put_all(&rt, bytes);
+        if failed {
+            self.counts.count_fault();
+            return Took::Failed;
+        }
+        Took::Took(count)
+    }
+
+    /// Puts the end mark at the first `Down` or `Close` after the begin, and waits for room.
+    fn shut(&mut self, how: Shut) -> Shutting
+        ensures done { result ≡ shuts.Done }
+        ensures line { self.new.line ≡ line_after_shut (finishes how) self.old.line }
+        ensures same { self.new ≡ record self.old { line = self.new.line } }
+        ensures kept { (Some (took_of self.new) ≡ Some (took_of self.old)) × (self.new.line.begun ≡ self.old.line.begun) }
+        ensures counts { Tallied (shut_event result) self.old.counts self.new.counts }
+    {
+        match how {
+            Shut::Nothing | Shut::Null => Shutting::Done,
+            Shut::Down | Shut::Close => {
+                if self.stage.is_open() {
+                    let rt = *self.spawner.threads();
+                    self.stage.end(&rt);
+                }
+                Shutting::Done
+            }
+        }
+    }
+
+    /// Writable where there is room, or where the next write tells of a fault.
+    fn hint(&mut self) -> Hint
+        ensures same { self.new ≡ self.old }
+        ensures kept { (Some (took_of self.new) ≡ Some (took_of self.old)) × (self.new.counts ≡ self.old.counts) × (self.new.line.begun ≡ self.old.line.begun) × (may_join self.new.line ≡ may_join self.old.line) }
+        ensures behind { (took_behind self.new.line.behind ≡ took_behind self.old.line.behind) × (faults_behind self.new.line.behind ≡ faults_behind self.old.line.behind) }
+    {
+        Hint {
+            readable: false,
+            writable: self.stage.is_ready(),
+        }
+    }
+
+    fn may_hint(&self) -> bool {
+        true
+    }
+
+    fn reap(&mut self) -> PortReap {
+        PortReap::NoChild
+    }
+
+    /// Waits for the thread where the end mark was put.
+    fn join(&mut self) -> Joining
+        ensures joined { result ≡ join_answer (may_join self.old.line) }
+        ensures same { self.new ≡ record self.old { line = record self.old.line { behind = self.new.line.behind } } }
+        ensures knows { OnJoined result (self.new.line.begun ≡ true → IsSome self.new.line.behind) }
+        ensures shows { OnJoined result (IfSome self.new.line.behind (IsBehind self.new.line)) }
+        ensures bounded { OnJoined result (IfSome self.new.line.behind (λ behind. self.new.counts.faults ≤ self.new.misuses + behind.faults)) }
+        ensures no_ends { self.new.counts.ends ≡ 0 }
+        ensures kept { (Some (took_of self.new) ≡ Some (took_of self.old)) × (self.new.counts ≡ self.old.counts) × (self.new.line.begun ≡ self.old.line.begun) × (may_join self.new.line ≡ may_join self.old.line) }
+        ensures behind { OnJoined result (Behind None (Some (took_of self.new)) None (took_behind self.new.line.behind) None (faults_behind self.new.line.behind) false) }
+    {
+        if !self.stage.may_join() {
+            return Joining::Running;
+        }
+        let stage = mem::replace(&mut self.stage, Stage::Refused);
+        self.stage = stage.join(self.spawner.threads());
+        Joining::Joined
+    }
+}

@@ -1,0 +1,239 @@
+// What becomes of a writer: it is made, its thread is started or refused, works, and is joined.
+ghost use Rattle.std.specs.Prelude.{◌≡◌, ◌<◌, ◌≤◌, ◌+◌, ◌++◌, ◌∷◌, [], true, false, length, take, IfSome, IsSome, if◌then◌else◌};
+ghost use Rattle.crossbeam_queue.specs.Passes.{view};
+ghost use Rattle.port_trait.specs.Counting.{Rose};
+ghost use Rattle.port_trait.specs.declared.answers.Begun.TheVariants as begins;
+ghost use Rattle.thread_rings.specs.declared.items.RingItem.TheVariants as ring_items;
+ghost use Rattle.thread_rings.specs.Items.{bytes_of, told};
+ghost use Rattle.thread_rings.specs.Feeding.{AddsChunks};
+ghost use Rattle.thread_rings.specs.WriterThread.{IsToBegin, ThreadEnded};
+ghost use Rattle.thread_rings.specs.WriterPuts.{IsPutting};
+ghost use Rattle.thread_rings.specs.WriterRing.{Stands, TaskStands, IsBack, IsBehind, WritesChunk, line_of, line_after_begin, is_open, may_join};
+
+use crate::items::RingItem;
+use crate::words::SinkFault;
+use crate::writer_outlet::Outlet;
+use crate::writer_puts::Putter;
+use crate::writer_thread::{WriterDone, WriterPromise, WriterWork};
+use ordered_queue::{OrderedPass, settle};
+use port_trait::{Begun, Sink, Spawner, Task, Took, Wake};
+use std::snapshot::Snapshot;
+use std::sync::Wait;
+use std::thread::Threads;
+use std::{mem, thread};
+
+/// What is left after the thread's return: both sides of each queue in one hand, and the sink as it stood when
+/// the thread was started and as it came back.
+#[derive(Drop)]
+pub(crate) struct WriterBack<K> {
+    pub(crate) items: OrderedPass<RingItem>,
+    pub(crate) marks: OrderedPass<SinkFault>,
+    pub(crate) begun: Snapshot<K>,
+    pub(crate) outlet: Outlet<K>,
+}
+
+/// A writer that hasn't begun, one that was refused, one at work, and one whose thread has come back. Before the
+/// begin there is no thread where the system had none to give.
+#[derive(Drop)]
+pub(crate) enum Stage<K: Sink + Drop> {
+    Ready(Putter, Snapshot<K>, Option<Task<WriterDone<K>, WriterPromise<K>>>),
+    Refused,
+    Working(Putter, Snapshot<K>, Task<WriterDone<K>, WriterPromise<K>>),
+    Back(WriterBack<K>),
+}
+
+impl<K: Sink + Drop> Stage<K> {
+    /// Whether bytes may be put.
+    pub(crate) fn is_open(&self) -> bool
+        requires { Stands K.took K.faults self.now }
+        ensures { result ≡ is_open (line_of K.took K.faults self.now) }
+    {
+        match self {
+            Stage::Working(putter, _, _) => !putter.ended,
+            Stage::Ready(_, _, _) | Stage::Refused | Stage::Back(_) => false,
+        }
+    }
+
+    /// Whether a join needn't wait for more than the end mark.
+    pub(crate) fn may_join(&self) -> bool
+        requires { Stands K.took K.faults self.now }
+        ensures { result ≡ may_join (line_of K.took K.faults self.now) }
+    {
+        match self {
+            Stage::Working(putter, _, _) => putter.ended,
+            Stage::Ready(_, _, _) | Stage::Refused | Stage::Back(_) => true,
+        }
+    }
+
+    /// Begins, unless the spawner refuses or did so before. A thread that is refused is sent away. Work that is to
+    /// be done in the call would wait for what is put after it, so it is no answer to a want of threads.
+    pub(crate) fn begin<P: Spawner, R: Wait>(&mut self, spawner: &mut P, rt: &R) -> Begun
+        requires { Stands K.took K.faults self.old }
+        ensures stands { Stands K.took K.faults self.new }
+        ensures again { (line_of K.took K.faults self.old).begun ≡ true → (result ≡ begins.Begun) × (line_of K.took K.faults self.new ≡ line_of K.took K.faults self.old) × (P.faults spawner.new ≡ P.faults spawner.old) }
+        ensures refused_again { (line_of K.took K.faults self.old).refused ≡ true → result ≡ begins.Failed }
+        ensures line { line_of K.took K.faults self.new ≡ line_after_begin (line_of K.took K.faults self.old) result }
+        ensures cause { result ≡ begins.Failed → (line_of K.took K.faults self.old).refused ≡ false → Rose (P.faults spawner.old) (P.faults spawner.new) }
+    {
+        match mem::replace(self, Stage::Refused) {
+            Stage::Ready(putter, begun, task) => {
+                if spawner.refuses() {
+                    let mut putter = putter;
+                    putter.end(rt);
+                    return Begun::Failed;
+                }
+                if let Some(task) = task {
+                    *self = Stage::Working(putter, begun, task);
+                    return Begun::Begun;
+                }
+                if spawner.works_here() {
+                    *self = Stage::Ready(putter, begun, None);
+                    return Begun::Memory;
+                }
+                Begun::Failed
+            }
+            Stage::Refused => Begun::Failed,
+            Stage::Working(putter, begun, task) => {
+                *self = Stage::Working(putter, begun, task);
+                Begun::Begun
+            }
+            Stage::Back(back) => {
+                *self = Stage::Back(back);
+                Begun::Begun
+            }
+        }
+    }
+
+    /// Puts a chunk of the front of the bytes, and waits for nobody.
+    pub(crate) fn put<R: Wait>(&mut self, rt: &R, bytes: &[u8]) -> Took
+        requires stands { Stands K.took K.faults self.old }
+        requires open { is_open (line_of K.took K.faults self.old) ≡ true }
+        requires some { 0 < length bytes.now }
+        ensures stands { Stands K.took K.faults self.new }
+        ensures writes { WritesChunk (line_of K.took K.faults self.old) (line_of K.took K.faults self.new) bytes.now result }
+    {
+        let Stage::Working(putter, _, _) = self else {
+            unreachable!()
+        };
+        putter.put(rt, bytes)
+    }
+
+    /// Puts all bytes, and waits for room, or a front of them before the sink failed. The second is whether it
+    /// did.
+    pub(crate) fn put_all<R: Wait>(&mut self, rt: &R, bytes: &[u8]) -> (usize, bool)
+        requires stands { Stands K.took K.faults self.old }
+        requires open { is_open (line_of K.took K.faults self.old) ≡ true }
+        ensures stands { Stands K.took K.faults self.new }
+        ensures bound { result.0 ≤ length bytes.now }
+        ensures all { result.1 ≡ false → result.0 ≡ length bytes.now }
+        ensures put { AddsChunks (line_of K.took K.faults self.old).sent (line_of K.took K.faults self.new).sent (take result.0 bytes.now) }
+        ensures kept { line_of K.took K.faults self.new ≡ record (line_of K.took K.faults self.old) { sent = (line_of K.took K.faults self.new).sent; marks = (line_of K.took K.faults self.old).marks + (if result.1 then 1 else 0) } }
+    {
+        let Stage::Working(putter, _, _) = self else {
+            unreachable!()
+        };
+        putter.put_all(rt, bytes)
+    }
+
+    /// Puts the end mark, and waits for room.
+    pub(crate) fn end<R: Wait>(&mut self, rt: &R)
+        requires stands { Stands K.took K.faults self.old }
+        requires open { is_open (line_of K.took K.faults self.old) ≡ true }
+        ensures stands { Stands K.took K.faults self.new }
+        ensures line { line_of K.took K.faults self.new ≡ record (line_of K.took K.faults self.old) { sent = (line_of K.took K.faults self.old).sent ++ ring_items.End (told (bytes_of (line_of K.took K.faults self.old).sent)) ∷ [] } }
+    {
+        let Stage::Working(putter, _, _) = self else {
+            unreachable!()
+        };
+        putter.end(rt);
+    }
+
+    /// Whether a `put` has something to say.
+    pub(crate) fn is_ready(&mut self) -> bool
+        requires stands { Stands K.took K.faults self.old }
+        ensures stands { Stands K.took K.faults self.new }
+        ensures kept { line_of K.took K.faults self.new ≡ line_of K.took K.faults self.old }
+    {
+        match self {
+            Stage::Working(putter, _, _) => putter.is_ready(),
+            Stage::Ready(_, _, _) | Stage::Refused | Stage::Back(_) => true,
+        }
+    }
+
+    /// Waits for the thread, if it was started.
+    pub(crate) fn join<R: Threads>(self, threads: &R) -> Stage<K>
+        requires stands { Stands K.took K.faults self }
+        requires may { may_join (line_of K.took K.faults self) ≡ true }
+        ensures stands { Stands K.took K.faults result }
+        ensures kept { line_of K.took K.faults result ≡ record (line_of K.took K.faults self) { behind = (line_of K.took K.faults result).behind } }
+        ensures joined { (line_of K.took K.faults self).begun ≡ true → IsSome (line_of K.took K.faults result).behind }
+        ensures behind { IfSome (line_of K.took K.faults result).behind (IsBehind (line_of K.took K.faults result)) }
+    {
+        match self {
+            Stage::Working(putter, begun, task) => {
+                let done = task.join(threads);
+                Stage::Back(joined(putter, begun, done))
+            }
+            Stage::Ready(putter, begun, task) => Stage::Ready(putter, begun, task),
+            Stage::Refused => Stage::Refused,
+            Stage::Back(back) => Stage::Back(back),
+        }
+    }
+}
+
+/// Starts the thread, which waits for the first item. None where the system has no thread to give.
+pub(crate) fn start_thread<K, W, R>(
+    work: WriterWork<K, W, R>,
+) -> Option<Task<WriterDone<K>, WriterPromise<K>>>
+where
+    K: Sink + Send + Drop + 'static,
+    W: Wake + Send + Drop + 'static,
+    R: Threads + Wait + Copy + Send + 'static,
+    requires { IsToBegin K.took K.faults work }
+    ensures { IfSome result (TaskStands K.took K.faults work.lines.value work.outlet.sink) }
+{
+    let promise = WriterPromise {
+        lines: Snapshot::of(&*work.lines),
+        begun: Snapshot::of(&work.outlet.sink),
+    };
+    let rt = work.rt;
+    let run = move || -> WriterDone<K>
+        requires { IsToBegin K.took K.faults work }
+        ensures { ThreadEnded K.took K.faults work.lines.value work.outlet.sink result }
+    { work.run() };
+    match thread::spawn_with(&rt, promise, run) {
+        Ok(handle) => Some(Task::Running(handle)),
+        Err(_) => None,
+    }
+}
+
+/// Puts the sides of each queue into one hand. The thread took all that was put.
+fn joined<K: Sink + Drop>(putter: Putter, begun: Snapshot<K>, done: WriterDone<K>) -> WriterBack<K>
+    requires putting { IsPutting putter }
+    requires over { putter.ended ≡ true }
+    requires done { ThreadEnded K.took K.faults putter.lines.value begun.value done }
+    ensures back { IsBack K.took K.faults result }
+    ensures sent { (view result.items).sent ≡ (view putter.sender).sent }
+    ensures marks { (view result.marks).taken ≡ (view putter.taker).taken }
+{
+    let Putter {
+        lines,
+        sender,
+        taker,
+        count: _,
+        ended: _,
+    } = putter;
+    let WriterDone {
+        taker: thread_taker,
+        sender: thread_sender,
+        outlet,
+    } = done;
+    let items = settle(&lines.items, sender, thread_taker);
+    let marks = settle(&lines.back, thread_sender, taker);
+    WriterBack {
+        items,
+        marks,
+        begun,
+        outlet,
+    }
+}
