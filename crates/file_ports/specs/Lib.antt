@@ -1,1 +1,4 @@
+pub mod Access
 pub mod Echoes
+pub mod Files
+pub mod Openings

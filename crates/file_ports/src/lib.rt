@@ -1,8 +1,18 @@
-// Ports that aren't sockets or children: the echo pipe.
+// Ports that aren't sockets or children: files and the echo pipe.
 #![tactic(auto)]
 
+mod access;
 mod echo;
+mod file;
+mod making;
+mod open;
+mod streams;
 #[cfg(test)]
 mod tests;
 
+pub use access::{Access, FileKind};
 pub use echo::EchoPort;
+pub use file::FilePort;
+pub use making::{Worker, file_port};
+pub use open::{FileEnds, OpenedFile, Removal, open_file};
+pub use streams::{FileSink, FileSource};

@@ -1,7 +1,63 @@
 use super::*;
-use port_trait::{Got, Port, Took};
-use relay_model::Shut;
+use port_objects::{MemSink, MemSource, SureSpawner};
+use port_trait::{Begun, Got, Joining, Making, Port, Shutting, Took, Wake};
+use relay_model::{Bytes, NoMemory, Options, Part, Shut, Single, Target, Text};
+use std::alloc::{AllocError, Global};
+use std::process::Command;
+use std::sync::Wait;
 use std::test::Fail;
+use std::{fs, thread};
+
+#[derive(Drop)]
+struct Nobody;
+
+impl Wake for Nobody {
+    fn wake(&self) {}
+}
+
+type HostPort = FilePort<
+    FileSource<HostRuntime>,
+    FileSink<HostRuntime>,
+    SureSpawner<HostRuntime>,
+    Nobody,
+    Option<Removal<HostRuntime>>,
+>;
+
+fn worker(rt: HostRuntime) -> Worker<SureSpawner<HostRuntime>, Nobody> {
+    Worker {
+        spawner: SureSpawner::new(rt),
+        wake: Nobody,
+    }
+}
+
+// an address without options
+fn plain(rt: HostRuntime, target: Target) -> Result<Single, NoMemory> {
+    let options = Options::defaults(rt.alloc())?;
+    Ok(Single { target, options })
+}
+
+fn port_of(rt: HostRuntime, single: &Single, part: Part) -> Result<Option<HostPort>, NoMemory> {
+    let Making::Made(opened) = open_file(rt, rt.alloc(), single, part) else {
+        return Ok(None);
+    };
+    let OpenedFile { ends, removal } = opened;
+    let port = file_port(rt.alloc(), ends, worker(rt), worker(rt), removal)?;
+    Ok(Some(port))
+}
+
+// reads to the next mark
+fn read_on(rt: HostRuntime, port: &mut HostPort) -> Result<(Vec<u8>, Got), AllocError> {
+    let mut all = Vec::new(rt.alloc());
+    let mut into = [0u8; 700];
+    for _ in rt.forever() {
+        match port.read(&mut into) {
+            Got::Bytes(count) => all.extend_from_slice(&into[..count])?,
+            Got::NotYet => thread::yield_now(),
+            got => return Ok((all, got)),
+        }
+    }
+    unreachable!()
+}
 
 #[test]
 fn a_pipe_gives_back_what_it_took(rt: HostRuntime) -> Result<(), Fail> {
@@ -24,5 +80,95 @@ fn a_shut_pipe_ends(rt: HostRuntime) -> Result<(), Fail> {
     port.shut(Shut::Down);
     assert_eq!(rt; port.read(&mut into), Got::Bytes(1));
     assert_eq!(rt; port.read(&mut into), Got::End);
+    Ok(())
+}
+
+#[test]
+fn a_file_is_written_and_read_back(rt: HostRuntime) -> Result<(), Fail> {
+    let mut data = Vec::new(rt.alloc());
+    for at in 0..100_000u32 {
+        data.push((at % 251) as u8)?;
+    }
+    let name = Text::of(rt.alloc(), b"written")?;
+    let single = plain(rt, Target::Create(name))?;
+    let Some(mut port) = port_of(rt, &single, Part::Writing)? else {
+        return Err("not created")?;
+    };
+    assert_eq!(rt; port.begin(), Begun::Begun);
+    assert_eq!(rt; port.put_all(data.as_slice()), Took::Took(100_000));
+    assert_eq!(rt; port.join(), Joining::Running);
+    assert_eq!(rt; port.shut(Shut::Close), Shutting::Done);
+    assert_eq!(rt; port.join(), Joining::Joined);
+    let name = Text::of(rt.alloc(), b"written")?;
+    let mut single = plain(rt, Target::FileAt(name))?;
+    single.options.unlink_close = true;
+    let Some(mut port) = port_of(rt, &single, Part::Reading)? else {
+        return Err("not opened")?;
+    };
+    assert_eq!(rt; port.begin(), Begun::Begun);
+    let (all, got) = read_on(rt, &mut port)?;
+    assert_eq!(rt; got, Got::End);
+    assert_eq!(rt; all.as_slice(), data.as_slice());
+    assert_eq!(rt; port.join(), Joining::Joined);
+    drop(port);
+    assert!(rt; !fs::exists(&rt, "written")?);
+    Ok(())
+}
+
+#[test]
+fn a_named_pipe_is_opened_by_its_thread(rt: HostRuntime) -> Result<(), Fail> {
+    let made = Command::new(rt.alloc(), "mkfifo")?
+        .arg("fifo")?
+        .status(&rt)?;
+    assert!(rt; made.success());
+    let name = Text::of(rt.alloc(), b"fifo")?;
+    let mut single = plain(rt, Target::NamedPipe(name))?;
+    single.options.unlink_close = true;
+    let Some(mut port) = port_of(rt, &single, Part::Reading)? else {
+        return Err("not opened")?;
+    };
+    assert_eq!(rt; port.begin(), Begun::Begun);
+    fs::write(&rt, "fifo", "hello")?;
+    let (all, got) = read_on(rt, &mut port)?;
+    assert_eq!(rt; got, Got::End);
+    assert_eq!(rt; all.as_slice(), b"hello".as_slice());
+    assert_eq!(rt; port.write(b"a"), Took::Failed);
+    assert_eq!(rt; port.join(), Joining::Joined);
+    Ok(())
+}
+
+#[test]
+fn what_is_not_there_is_not_opened(rt: HostRuntime) -> Result<(), Fail> {
+    let name = Text::of(rt.alloc(), b"missing")?;
+    let single = plain(rt, Target::FileAt(name))?;
+    assert!(rt; port_of(rt, &single, Part::Reading)?.is_none());
+    let name = Text::of(rt.alloc(), b"missing")?;
+    let single = plain(rt, Target::NamedPipe(name))?;
+    assert!(rt; port_of(rt, &single, Part::Both)?.is_none());
+    let name = Text::of(rt.alloc(), b"\xff")?;
+    let single = plain(rt, Target::Create(name))?;
+    assert!(rt; port_of(rt, &single, Part::Writing)?.is_none());
+    Ok(())
+}
+
+#[test]
+fn a_file_in_memory_is_used_both_ways(rt: HostRuntime) -> Result<(), Fail> {
+    let source = MemSource::new(Bytes::of(rt.alloc(), b"abc")?, true);
+    let sink = MemSink::new(rt.alloc(), 8)?;
+    let tap = sink.tap();
+    let ends = FileEnds::Both(source, sink);
+    let mut port = file_port(rt.alloc(), ends, worker(rt), worker(rt), ())?;
+    let mut into = [0u8; 8];
+    assert_eq!(rt; port.begin(), Begun::Begun);
+    assert_eq!(rt; port.write(b"xyz"), Took::Took(3));
+    assert_eq!(rt; port.send(b"xyz"), Took::Failed);
+    assert_eq!(rt; port.shut(Shut::Down), Shutting::Done);
+    for _ in rt.forever() {
+        if port.read(&mut into) == Got::End {
+            break;
+        }
+    }
+    assert_eq!(rt; port.join(), Joining::Joined);
+    assert_eq!(rt; tap.bytes()?.as_slice(), b"xyz".as_slice());
     Ok(())
 }

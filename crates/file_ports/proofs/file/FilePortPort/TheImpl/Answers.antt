@@ -1,0 +1,42 @@
+-- The clauses of a port, from those of a file. A file has no child.
+use Rattle.std.proofs.Common.{refl}
+use Rattle.file_ports.proofs.file.FilePortPort.TheImpl.Goals as goal
+
+pub settle-tells : goal.settle-tells
+settle-tells g x c = record { kept = (c.ensures.kept.0, c.ensures.kept.1, c.ensures.kept.2, c.ensures.kept.3, refl); counts = c.ensures.counts }
+
+pub read-tells : goal.read-tells
+read-tells g x c = record { gives = c.ensures.gives; ended = c.ensures.ended; kept = (c.ensures.kept.0, c.ensures.kept.1, refl); counts = c.ensures.counts }
+
+pub write-tells : goal.write-tells
+write-tells g x c = record { accepts = c.ensures.accepts; kept = (c.ensures.kept.0, c.ensures.kept.1, c.ensures.kept.2, refl); counts = c.ensures.counts }
+
+pub send-tells : goal.send-tells
+send-tells g x c = record { accepts = c.ensures.accepts; kept = (c.ensures.kept.0, c.ensures.kept.1, c.ensures.kept.2, refl); counts = c.ensures.counts }
+
+pub put_all-tells : goal.put_all-tells
+put_all-tells g x c = record { accepts = c.ensures.accepts; kept = (c.ensures.kept.0, c.ensures.kept.1, c.ensures.kept.2, refl); counts = c.ensures.counts }
+
+pub shut-tells : goal.shut-tells
+shut-tells g x c = record { kept = (c.ensures.kept.0, c.ensures.kept.1, c.ensures.kept.2, c.ensures.kept.3, refl); counts = c.ensures.counts }
+
+pub hint-tells : goal.hint-tells
+hint-tells g x c = record {
+  hinted = tt;
+  kept = (c.ensures.kept.0, c.ensures.kept.1, refl, c.ensures.kept.2, c.ensures.kept.3, c.ensures.kept.4, c.ensures.kept.5, refl);
+  behind = c.ensures.behind;
+}
+
+pub reap-tells : goal.reap-tells
+reap-tells g x c = record {
+  reaped = rw c.ensures.reaped refl;
+  kept = (c.ensures.kept.0, c.ensures.kept.1, c.ensures.kept.2, c.ensures.kept.3, refl);
+  counts = c.ensures.counts;
+}
+
+pub join-tells : goal.join-tells
+join-tells g x c = record {
+  joined = c.ensures.joined;
+  kept = (c.ensures.kept.0, c.ensures.kept.1, c.ensures.kept.2, c.ensures.kept.3, c.ensures.kept.4, c.ensures.kept.5, refl);
+  behind = c.ensures.behind;
+}

@@ -1,0 +1,26 @@
+-- What is asked of the opening of a file.
+use Rattle.std.specs.Prelude.{Bool, true, false, not, ◌&&◌}
+use Rattle.relay_model.specs.declared.places.Part.{Part}
+use Rattle.relay_model.specs.declared.places.Part.TheVariants as parts
+use Rattle.relay_model.specs.declared.commands.FileFlags.{FileFlags}
+use Rattle.file_ports.specs.declared.access.Access.{Access}
+use Rattle.file_ports.specs.declared.access.FileKind.{FileKind}
+use Rattle.file_ports.specs.declared.access.FileKind.TheVariants as kinds
+
+abbrev pub reads_by : Part → Bool
+reads_by parts.Both = true
+reads_by parts.Reading = true
+reads_by parts.Writing = false
+
+abbrev pub writes_by : Part → Bool
+writes_by parts.Both = true
+writes_by parts.Reading = false
+writes_by parts.Writing = true
+
+-- a file that is opened as such by its flags, one that is opened for appending and made where it is written, and one
+-- that is there
+abbrev pub access_of : FileKind → FileFlags → Part → Access
+access_of kinds.Create flags part = record { read = false; write = true; append = false; truncate = true; create = true; create_new = false }
+access_of kinds.Open flags part = record { read = reads_by part; write = writes_by part; append = writes_by part && flags.append; truncate = flags.trunc; create = flags.creat; create_new = flags.creat && flags.excl }
+access_of kinds.Generic flags part = record { read = reads_by part; write = writes_by part; append = writes_by part && not flags.trunc; truncate = flags.trunc; create = writes_by part; create_new = flags.creat && flags.excl }
+access_of kinds.Pipe flags part = record { read = reads_by part; write = writes_by part; append = false; truncate = false; create = false; create_new = false }

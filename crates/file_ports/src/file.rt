@@ -1,0 +1,327 @@
+// A file: what reads it and what writes it.
+ghost use Rattle.std.specs.Prelude.{◌≡◌, ◌<◌, ◌+◌, ◌-◌, ◌^◌, min, Bool, true, false, ◌&&◌, length, Some, None, IfNone, IfSome, option_map};
+ghost use Rattle.port_trait.specs.Counting.{Tallied};
+ghost use Rattle.port_trait.specs.Meanings.{Gives, Accepts, AcceptsWhole, AcceptsAll, Behind, OnJoined, begun_after, is_end, begin_event, settle_event, read_event, write_event, shut_event, join_answer};
+ghost use Rattle.port_trait.specs.declared.answers.Begun.TheVariants as begins;
+ghost use Rattle.port_trait.specs.declared.answers.Settled.TheVariants as settles;
+ghost use Rattle.port_trait.specs.declared.answers.Took.TheVariants as writes;
+ghost use Rattle.port_trait.specs.declared.answers.Shutting.TheVariants as shuts;
+ghost use Rattle.port_trait.specs.declared.answers.PortReap.TheVariants as reaps;
+ghost use Rattle.port_trait.specs.declared.answers.Joining.TheVariants as joining;
+ghost use Rattle.thread_rings.specs.Readers.{given_of};
+ghost use Rattle.file_ports.specs.Files.{gave_of, took_of, behind_gave_of, behind_took_of, behind_faults_of, behind_ends_of, behind_left_of, counts_of, begun_of, ended_of, joins_of, FileBegins, FileReads, FileWrites, FilePutsAll, FileShuts, IsMissed, ReaderBegins, SameReader, SameWriter, KnowsSource, KnowsSink, reader_begun, reader_ended, reader_counts, reader_joins};
+
+use port_trait::{
+    Begun, Got, Hint, Joining, Port, PortReap, Settled, Shutting, Sink, Source, Spawner, Took, Wake,
+};
+use relay_model::Shut;
+use std::marker::Model;
+use std::sync::Wait;
+use thread_rings::{RingReader, RingWriter};
+
+/// A file behind the ring that reads it and the ring that writes it. One that is used one way has one of them,
+/// and its other half fails. What is kept is let go with the port.
+#[derive(Drop)]
+pub struct FilePort<S, K, P, W, G>
+where
+    S: Source + Drop,
+    K: Sink + Drop,
+    P: Spawner,
+{
+    reader: Option<RingReader<S, P>>,
+    writer: Option<RingWriter<K, P, W>>,
+    missed: u64,
+    kept: G,
+}
+
+impl<S, K, P, W, G> Model for FilePort<S, K, P, W, G>
+where
+    S: Source + Drop,
+    K: Sink + Drop,
+    P: Spawner,
+{
+    ghost use Rattle.file_ports.specs.Files.{FileState};
+
+    ghost Value = { FileState };
+
+    ghost view = { λ port. record { reader = port.reader; writer = port.writer; missed = port.missed } };
+}
+
+impl<S, K, P, W, G> FilePort<S, K, P, W, G>
+where
+    S: Source + Drop,
+    K: Sink + Drop,
+    P: Spawner,
+{
+    /// A file that is read.
+    pub fn reading(reader: RingReader<S, P>, kept: G) -> FilePort<S, K, P, W, G>
+        ensures { result ≡ record { reader = Some reader; writer = None; missed = 0 } }
+    {
+        FilePort {
+            reader: Some(reader),
+            writer: None,
+            missed: 0,
+            kept,
+        }
+    }
+
+    /// A file that is written.
+    pub fn writing(writer: RingWriter<K, P, W>, kept: G) -> FilePort<S, K, P, W, G>
+        ensures { result ≡ record { reader = None; writer = Some writer; missed = 0 } }
+    {
+        FilePort {
+            reader: None,
+            writer: Some(writer),
+            missed: 0,
+            kept,
+        }
+    }
+
+    /// A file that is read and written.
+    pub fn both(
+        reader: RingReader<S, P>,
+        writer: RingWriter<K, P, W>,
+        kept: G,
+    ) -> FilePort<S, K, P, W, G>
+        ensures { result ≡ record { reader = Some reader; writer = Some writer; missed = 0 } }
+    {
+        FilePort {
+            reader: Some(reader),
+            writer: Some(writer),
+            missed: 0,
+            kept,
+        }
+    }
+}
+
+impl<S, K, P, W, G> Port for FilePort<S, K, P, W, G>
+where
+    S: Source + Drop,
+    K: Sink + Send + Drop + 'static,
+    P: Spawner + Drop,
+    P::Runtime: Wait + Copy + Send + 'static,
+    W: Wake + Send + Drop + 'static,
+    G: Drop,
+{
+    ghost gave = { gave_of };
+
+    ghost took = { took_of };
+
+    ghost behind_gave = { behind_gave_of };
+
+    ghost behind_took = { behind_took_of };
+
+    ghost behind_faults = { behind_faults_of };
+
+    ghost behind_ends = { behind_ends_of };
+
+    ghost behind_left = { behind_left_of };
+
+    ghost counts = { counts_of };
+
+    ghost begun = { begun_of };
+
+    ghost ended = { ended_of };
+
+    ghost joins = { joins_of };
+
+    ghost child = { λ _. false };
+
+    /// Begins the reading ring, and then the writing one unless the first didn't begin.
+    fn begin(&mut self) -> Begun
+        ensures again { begun_of self.old ≡ true → (result ≡ begins.Begun) × (self.new ≡ self.old) }
+        ensures begins { FileBegins self.old self.new result }
+        ensures begun { begun_of self.new ≡ begun_after (begun_of self.old) result }
+        ensures kept { (gave_of self.new ≡ gave_of self.old) × (took_of self.new ≡ took_of self.old) × (ended_of self.new ≡ ended_of self.old) }
+        ensures counts { Tallied (begin_event result) (counts_of self.old) (counts_of self.new) }
+    {
+        match begin_reader(&mut self.reader) {
+            Begun::Begun => match &mut self.writer {
+                Some(writer) => writer.begin(),
+                None => Begun::Begun,
+            },
+            Begun::Failed => Begun::Failed,
+            Begun::Memory => Begun::Memory,
+        }
+    }
+
+    fn settle(&mut self) -> Settled
+        ensures ready { result ≡ settles.Ready }
+        ensures same { self.new ≡ self.old }
+        ensures kept { (gave_of self.new ≡ gave_of self.old) × (took_of self.new ≡ took_of self.old) × (begun_of self.new ≡ begun_of self.old) × (ended_of self.new ≡ ended_of self.old) }
+        ensures counts { Tallied (settle_event result) (counts_of self.old) (counts_of self.new) }
+    {
+        Settled::Ready
+    }
+
+    /// Reads from the reading ring.
+    fn read(&mut self, into: &mut [u8]) -> Got
+        requires { 0 < length into.old }
+        ensures reads { FileReads self.old.reader self.old self.new into.new result }
+        ensures gives { Gives (gave_of self.old) (gave_of self.new) into.new result }
+        ensures ended { ended_of self.new ≡ is_end result }
+        ensures kept { (took_of self.new ≡ took_of self.old) × (begun_of self.new ≡ begun_of self.old) }
+        ensures counts { Tallied (read_event result) (counts_of self.old) (counts_of self.new) }
+    {
+        match &mut self.reader {
+            Some(reader) => reader.read(into),
+            None => {
+                self.missed = self.missed.saturating_add(1);
+                Got::Failed
+            }
+        }
+    }
+
+    /// Writes to the writing ring.
+    fn write(&mut self, bytes: &[u8]) -> Took
+        requires { 0 < length bytes.now }
+        ensures writes { FileWrites self.old.writer self.old self.new bytes.now result }
+        ensures accepts { Accepts (took_of self.old) (took_of self.new) bytes.now result }
+        ensures kept { (gave_of self.new ≡ gave_of self.old) × (begun_of self.new ≡ begun_of self.old) × (ended_of self.new ≡ ended_of self.old) }
+        ensures counts { Tallied (write_event result) (counts_of self.old) (counts_of self.new) }
+    {
+        match &mut self.writer {
+            Some(writer) => writer.write(bytes),
+            None => {
+                self.missed = self.missed.saturating_add(1);
+                Took::Failed
+            }
+        }
+    }
+
+    /// A file has no packets.
+    fn send(&mut self, bytes: &[u8]) -> Took
+        ensures failed { result ≡ writes.Failed }
+        ensures missed { IsMissed self.old self.new }
+        ensures accepts { AcceptsWhole (took_of self.old) (took_of self.new) bytes.now result }
+        ensures kept { (gave_of self.new ≡ gave_of self.old) × (begun_of self.new ≡ begun_of self.old) × (ended_of self.new ≡ ended_of self.old) }
+        ensures counts { Tallied (write_event result) (counts_of self.old) (counts_of self.new) }
+    {
+        let _ = bytes;
+        self.missed = self.missed.saturating_add(1);
+        Took::Failed
+    }
+
+    /// Writes all to the writing ring.
+    fn put_all(&mut self, bytes: &[u8]) -> Took
+        ensures writes { FilePutsAll self.old.writer self.old self.new bytes.now result }
+        ensures accepts { AcceptsAll (took_of self.old) (took_of self.new) bytes.now result }
+        ensures kept { (gave_of self.new ≡ gave_of self.old) × (begun_of self.new ≡ begun_of self.old) × (ended_of self.new ≡ ended_of self.old) }
+        ensures counts { Tallied (write_event result) (counts_of self.old) (counts_of self.new) }
+    {
+        match &mut self.writer {
+            Some(writer) => writer.put_all(bytes),
+            None => {
+                self.missed = self.missed.saturating_add(1);
+                Took::Failed
+            }
+        }
+    }
+
+    /// Shuts the writing ring. A file that is only read has nothing to pass on.
+    fn shut(&mut self, how: Shut) -> Shutting
+        ensures done { result ≡ shuts.Done }
+        ensures shuts { FileShuts self.old.writer self.old self.new how }
+        ensures kept { (gave_of self.new ≡ gave_of self.old) × (took_of self.new ≡ took_of self.old) × (begun_of self.new ≡ begun_of self.old) × (ended_of self.new ≡ ended_of self.old) }
+        ensures counts { Tallied (shut_event result) (counts_of self.old) (counts_of self.new) }
+    {
+        match &mut self.writer {
+            Some(writer) => writer.shut(how),
+            None => Shutting::Done,
+        }
+    }
+
+    /// What its rings know. A half that isn't there is never ready.
+    fn hint(&mut self) -> Hint
+        ensures unread { IfNone self.old.reader (result.readable ≡ false) }
+        ensures unwritten { IfNone self.old.writer (result.writable ≡ false) }
+        ensures same { self.new ≡ self.old }
+        ensures kept { (gave_of self.new ≡ gave_of self.old) × (took_of self.new ≡ took_of self.old) × (counts_of self.new ≡ counts_of self.old) × (begun_of self.new ≡ begun_of self.old) × (ended_of self.new ≡ ended_of self.old) × (joins_of self.new ≡ joins_of self.old) }
+        ensures behind { (behind_gave_of self.new ≡ behind_gave_of self.old) × (behind_took_of self.new ≡ behind_took_of self.old) × (behind_faults_of self.new ≡ behind_faults_of self.old) × (behind_ends_of self.new ≡ behind_ends_of self.old) × (behind_left_of self.new ≡ behind_left_of self.old) }
+    {
+        let readable = match &mut self.reader {
+            Some(reader) => reader.hint().readable,
+            None => false,
+        };
+        let writable = match &mut self.writer {
+            Some(writer) => writer.hint().writable,
+            None => false,
+        };
+        Hint { readable, writable }
+    }
+
+    fn may_hint(&self) -> bool {
+        true
+    }
+
+    fn reap(&mut self) -> PortReap
+        ensures reaped { result ≡ reaps.NoChild }
+        ensures same { self.new ≡ self.old }
+        ensures kept { (gave_of self.new ≡ gave_of self.old) × (took_of self.new ≡ took_of self.old) × (begun_of self.new ≡ begun_of self.old) × (ended_of self.new ≡ ended_of self.old) }
+        ensures counts { Tallied None (counts_of self.old) (counts_of self.new) }
+    {
+        PortReap::NoChild
+    }
+
+    /// Joins both rings, as far as they have come to their ends.
+    fn join(&mut self) -> Joining
+        ensures joined { result ≡ join_answer (joins_of self.old) }
+        ensures reader { SameReader self.old.reader self.new.reader }
+        ensures writer { SameWriter self.old.writer self.new.writer }
+        ensures missed { self.new.missed ≡ self.old.missed }
+        ensures source { OnJoined result (IfSome self.new.reader KnowsSource) }
+        ensures sink { OnJoined result (IfSome self.new.writer KnowsSink) }
+        ensures kept { (gave_of self.new ≡ gave_of self.old) × (took_of self.new ≡ took_of self.old) × (counts_of self.new ≡ counts_of self.old) × (begun_of self.new ≡ begun_of self.old) × (ended_of self.new ≡ ended_of self.old) × (joins_of self.new ≡ joins_of self.old) }
+        ensures behind { OnJoined result (Behind (gave_of self.new) (took_of self.new) (behind_gave_of self.new) (behind_took_of self.new) (behind_left_of self.new) (behind_faults_of self.new) (ended_of self.new)) }
+    {
+        let reader = join_reader(&mut self.reader);
+        match &mut self.writer {
+            Some(writer) => both_joined(reader, writer.join()),
+            None => reader,
+        }
+    }
+}
+
+/// Begins the reading ring, if there is one.
+fn begin_reader<S, P>(reader: &mut Option<RingReader<S, P>>) -> Begun
+where
+    S: Source + Drop,
+    P: Spawner + Drop,
+    P::Runtime: Wait + Copy,
+    ensures again { reader_begun reader.old ≡ true → (result ≡ begins.Begun) × (reader.new ≡ reader.old) }
+    ensures begins { ReaderBegins reader.old reader.new result }
+    ensures begun { reader_begun reader.new ≡ begun_after (reader_begun reader.old) result }
+    ensures kept { (option_map given_of reader.new ≡ option_map given_of reader.old) × (reader_ended reader.new ≡ reader_ended reader.old) }
+    ensures counts { Tallied (begin_event result) (reader_counts reader.old) (reader_counts reader.new) }
+{
+    match reader {
+        Some(reader) => reader.begin(),
+        None => Begun::Begun,
+    }
+}
+
+/// Joins the reading ring, if there is one.
+fn join_reader<S, P>(reader: &mut Option<RingReader<S, P>>) -> Joining
+where
+    S: Source + Drop,
+    P: Spawner + Drop,
+    P::Runtime: Wait + Copy,
+    ensures joined { result ≡ join_answer (reader_joins reader.old) }
+    ensures same { SameReader reader.old reader.new }
+    ensures source { OnJoined result (IfSome reader.new KnowsSource) }
+{
+    match reader {
+        Some(reader) => reader.join(),
+        None => Joining::Joined,
+    }
+}
+
+fn both_joined(reader: Joining, writer: Joining) -> Joining
+    ensures both { (a : Bool) (b : Bool) → reader ≡ join_answer a → writer ≡ join_answer b → result ≡ join_answer (a && b) }
+    ensures each { OnJoined result ((reader ≡ joining.Joined) × (writer ≡ joining.Joined)) }
+{
+    match (reader, writer) {
+        (Joining::Joined, Joining::Joined) => Joining::Joined,
+        _ => Joining::Running,
+    }
+}
