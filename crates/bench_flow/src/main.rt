@@ -1,4 +1,4 @@
-//! How many megabytes a second a flow passes on, for each way of passing them. Arguments: the number of rounds.
+//! How many megabytes a second a flow passes on, for each way of passing them. Arguments: the number of blocks.
 #![tactic(auto)]
 
 ghost use Rattle.std.specs.Prelude.{◌≡◌, None};
@@ -67,6 +67,7 @@ fn report(rt: &impl Print, name: &str, rounds: u64, spent: (u128, u8)) -> io::Re
     println!(rt; "{name}: {megabytes} MB/s in {micros} us ({seen})")
 }
 
+/// Prints how fast a flow by this lane passes `source` on, and answers the microseconds that it took.
 fn measure(
     rt: &(impl Clock + Print),
     alloc: Global,
@@ -74,13 +75,41 @@ fn measure(
     lane: Lane,
     source: &[u8],
     rounds: u64,
-) -> io::Result<()>
+) -> io::Result<u128>
     requires { lane.packets ≡ None }
 {
     let Ok(mut flow) = Flow::new(alloc, lane) else {
-        return Ok(());
+        println!(rt; "{name}: no memory")?;
+        return Ok(0);
     };
-    report(rt, name, rounds, rate(rt, &mut flow, source, rounds)?)
+    let spent = rate(rt, &mut flow, source, rounds)?;
+    report(rt, name, rounds, spent)?;
+    Ok(spent.0)
+}
+
+fn lane(read: Conv, write: Conv, escape: Option<u8>) -> Lane
+    ensures { result.packets ≡ None }
+{
+    Lane {
+        block: 8192,
+        how: Convs { read, write },
+        readbytes: None,
+        escape,
+        packets: None,
+    }
+}
+
+/// One block of lines of 40 bytes, which end in a newline, or in a carriage return and a newline.
+fn lines(alloc: Global, returns: bool) -> io::Result<Vec<u8>> {
+    let mut text = vec![in alloc; b'x'; BLOCK]?;
+    for (i, byte) in text.iter_mut().enumerate() {
+        if i % LINE == LINE - 1 {
+            *byte = b'\n';
+        } else if returns && i % LINE == LINE - 2 {
+            *byte = b'\r';
+        }
+    }
+    Ok(text)
 }
 
 fn main(rt: HostRuntime) -> io::Result<()> {
@@ -88,50 +117,31 @@ fn main(rt: HostRuntime) -> io::Result<()> {
         None => return Ok(()),
         Some(word) => word.as_str().parse::<u64>().unwrap_or(1000),
     };
-    let plain = Lane {
-        block: 8192,
-        how: Convs {
-            read: Conv::Plain,
-            write: Conv::Plain,
-        },
-        readbytes: None,
-        escape: None,
-        packets: None,
-    };
-    let lines = Lane {
-        how: Convs {
-            read: Conv::Plain,
-            write: Conv::Crnl,
-        },
-        ..plain
-    };
-    let returns = Lane {
-        how: Convs {
-            read: Conv::Cr,
-            write: Conv::Plain,
-        },
-        ..plain
-    };
-    let mut source = vec![in rt.alloc(); b'x'; BLOCK]?;
-    for (i, byte) in source.iter_mut().enumerate() {
-        if i % LINE == LINE - 1 {
-            *byte = b'\n';
-        }
-    }
+    let text = lines(rt.alloc(), false)?;
+    let returns = lines(rt.alloc(), true)?;
     let mut out = vec![in rt.alloc(); 0u8; BLOCK]?;
-    report(
-        &rt,
-        "memcpy",
-        rounds,
-        copies(&rt, &source, &mut out, rounds)?,
+    let copy = copies(&rt, &text, &mut out, rounds)?;
+    report(&rt, "memcpy", rounds, copy)?;
+    let plain = lane(Conv::Plain, Conv::Plain, None);
+    let micros = measure(&rt, rt.alloc(), "plain", plain, &text, rounds)?;
+    let hundredths = copy.0.saturating_mul(100) / micros.max(1);
+    println!(&rt;
+        "plain to memcpy: {}.{:02}",
+        hundredths / 100,
+        hundredths % 100
     )?;
-    measure(&rt, rt.alloc(), "plain", plain, &source, rounds)?;
-    let escape = Lane {
-        escape: Some(1),
-        ..plain
-    };
-    measure(&rt, rt.alloc(), "escape", escape, &source, rounds)?;
-    measure(&rt, rt.alloc(), "crnl writing", lines, &source, rounds)?;
-    measure(&rt, rt.alloc(), "cr reading", returns, &source, rounds)?;
+    let escape = lane(Conv::Plain, Conv::Plain, Some(1));
+    measure(
+        &rt,
+        rt.alloc(),
+        "escape byte that never comes",
+        escape,
+        &text,
+        rounds,
+    )?;
+    let writing = lane(Conv::Plain, Conv::Crnl, None);
+    measure(&rt, rt.alloc(), "crnl writing", writing, &text, rounds)?;
+    let reading = lane(Conv::Crnl, Conv::Plain, None);
+    measure(&rt, rt.alloc(), "crnl reading", reading, &returns, rounds)?;
     Ok(())
 }

@@ -1,0 +1,72 @@
+//! What a set and a due of a timer cost together, with few keys and with many. Arguments: how many pairs of them to
+//! time at each number of keys.
+#![tactic(auto)]
+
+ghost use Rattle.std.specs.Prelude.{◌≤◌};
+
+use std::alloc::Global;
+use std::rt::Clock;
+use std::time::Instant;
+use std::{env, io};
+use timer_set::TimerSet;
+
+const SIZES: [u32; 3] = [10, 1_000, 100_000];
+
+/// The next number of Knuth's linear congruential generator, whose high bits are the random ones.
+fn next(state: u64) -> u64 {
+    state
+        .wrapping_mul(6364136223846793005)
+        .wrapping_add(1442695040888963407)
+}
+
+/// Sets each key below `keys`, in rising order, to a random moment.
+fn set_all(timers: &mut TimerSet, keys: u32, mut state: u64) -> u64
+    requires { keys ≤ timers.old.room }
+{
+    for key in 0..keys {
+        state = next(state);
+        timers.set(key, state >> 32);
+    }
+    state
+}
+
+/// Takes the keys out as they fall due, and answers a number that depends on their order.
+fn due_all(timers: &mut TimerSet, keys: u32) -> u64 {
+    let mut seen = 0;
+    for _ in 0..keys {
+        if let Some(key) = timers.due(u64::MAX) {
+            seen = next(seen ^ u64::from(key));
+        }
+    }
+    seen
+}
+
+fn measure(rt: &(impl Clock + Print), alloc: Global, keys: u32, rounds: u64) -> io::Result<()> {
+    let mut timers = TimerSet::new(alloc);
+    let mut state = 1;
+    let mut seen = 0;
+    let start = Instant::now(rt)?;
+    for _ in 0..rounds {
+        if timers.reserve(keys as usize).is_err() {
+            return println!(rt; "{keys} keys: no memory");
+        }
+        state = set_all(&mut timers, keys, state);
+        seen = next(seen ^ due_all(&mut timers, keys));
+    }
+    let nanos = start.elapsed(rt)?.as_nanos();
+    let pairs = u128::from(rounds).saturating_mul(u128::from(keys));
+    let each = nanos / pairs.max(1);
+    println!(rt; "{keys} keys: {each} ns for a set and a due ({seen})")
+}
+
+fn main(rt: HostRuntime) -> io::Result<()> {
+    let pairs = match env::args(&rt)?.nth(1) {
+        None => return Ok(()),
+        Some(word) => word.as_str().parse::<u64>().unwrap_or(100_000),
+    };
+    for keys in SIZES {
+        let rounds = (pairs / u64::from(keys)).max(1);
+        measure(&rt, rt.alloc(), keys, rounds)?;
+    }
+    Ok(())
+}
