@@ -2,7 +2,7 @@
 #![tactic(auto)]
 
 use relay_model::{NoMemory, Text, Texts};
-use socat_top::run;
+use socat_top::run_program;
 use std::alloc::Global;
 use std::env::{Env, FillError};
 use std::marker::Brand;
@@ -42,6 +42,6 @@ fn main(rt: HostRuntime) -> ExitCode {
         rt.stderr(),
         Recorder::Skip,
     );
-    let thin = run(alloc, desk, words.as_slice(), u64::MAX);
+    let thin = run_program(alloc, desk, words.as_slice(), u64::MAX);
     ExitCode::from(thin.status)
 }

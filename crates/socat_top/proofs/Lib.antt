@@ -1,2 +1,3 @@
-pub mod Nothing
+pub mod Endings
+pub mod Plainly
 pub mod Wholly

@@ -1,8 +1,9 @@
 -- What a run of the plain relay leaves is legal by the definitions for every command.
-use Rattle.std.proofs.Common.{◌≡◌, ℕ, Bool, true, false, not, ◌&&◌, if◌then◌else◌, List, Option, refl, ap, ◌∙◌, inl, inr, ◌⊎◌, arith}
+use Rattle.std.proofs.Common.{◌≡◌, ◌≤◌, ℕ, Bool, true, false, not, ◌&&◌, if◌then◌else◌, List, Option, Some, refl, ap, subst, sym, ◌∙◌, inl, inr, ◌⊎◌, arith}
 use Rattle.relay_model.specs.declared.acts.Act.{Act}
 use Rattle.relay_model.specs.declared.places.Place.{Place}
 use Rattle.relay_model.specs.declared.places.Way.TheVariants.{LeftToRight}
+use Rattle.relay_model.specs.declared.commands.Config.{Config}
 use Rattle.relay_model.specs.Journals.{History}
 use Rattle.relay_model.specs.Holding as holds
 use Rattle.relay_model.specs.Holding.{Hold, standing, is_free}
@@ -10,13 +11,17 @@ use Rattle.relay_model.specs.Directions.{source, sink}
 use Rattle.relay_model.specs.Causes.{is_held}
 use Rattle.relay_model.specs.Legality as small
 use Rattle.relay_model.specs.PlainRelay.{plain_relay}
+use Rattle.relay_laws.specs.Outcome as whole
 use Rattle.exit_status.specs.declared.outcomes.Outcome.{Outcome}
 use Rattle.exit_status.specs.declared.outcomes.Outcome.TheVariants as outcomes
 use Rattle.exit_status.specs.Outcomes as exit
 use Rattle.plain_laws.specs.Laws.{PlainIsLegal, HoldingsAgree, BytesAgree, PlainRests}
-use Rattle.plain_laws.specs.Outcomes.{OutcomesAgree, known_outcome}
-use Rattle.event_loop.specs.Headline.{Headline}
-use Rattle.socat_top.specs.Whole.{WholeHeadline, AnswersFor}
+use Rattle.plain_laws.specs.Outcomes.{OutcomesAgree, known_outcome, outcome_of, why_of, half_of}
+use Rattle.event_loop.specs.Courses.{extend}
+use Rattle.event_loop.specs.Headline as plain
+use Rattle.event_loop.specs.Headline.{is_relayed}
+use Rattle.socat_top.specs.Notes.{Tail}
+use Rattle.socat_top.specs.Headline.{Headline, AnswersFor}
 
 free_of : (h : Hold) → h ≡ holds.Free → not (is_free h) ≡ false
 free_of h e = rw e refl
@@ -27,22 +32,50 @@ nothing_of x y e f = rw (e, f) refl
 chosen : {A : Type 0} (t : Bool) (x y : A) → t ≡ true → (if t then x else y) ≡ x
 chosen t x y e = rw e refl
 
-answers : (b n : ℕ) (acts : List Act) (answer : Outcome) → small.Legal (plain_relay b) n acts → PlainRests → OutcomesAgree → ((p : Place) → is_held acts p ≡ false) → BytesAgree → exit.IsOutcome (plain_relay b) n acts answer ⊎ (answer ≡ outcomes.Memory) → AnswersFor (plain_relay b) n acts answer
-answers b n acts answer legal rests agree free bytes (inr e) = inr (inr e)
-answers b n acts answer legal rests agree free bytes (inl (inl e)) =
-    inl (agree b n acts legal ∙ (chosen (small.holds_nothing (plain_relay b) acts) _ _ (nothing_of (is_held acts (source LeftToRight)) (is_held acts (sink LeftToRight)) (free (source LeftToRight)) (free (sink LeftToRight))) ∙ ap known_outcome e))
-answers b n acts answer legal rests agree free bytes (inl (inr (t, rest, e))) =
+-- an answer of a relay is an outcome that the definitions know
+ending_of : (answer : Outcome) → is_relayed answer ≡ true → (ending : whole.Outcome) × (outcome_of answer ≡ Some ending)
+ending_of (outcomes.Ended why) h = (whole.Ended (why_of why), refl)
+ending_of outcomes.Told h = cc
+ending_of outcomes.Loaded h = cc
+ending_of (outcomes.Refused refused) h = cc
+ending_of (outcomes.OpenFailed side attempts) h = (whole.OpenFailed side attempts, refl)
+ending_of (outcomes.ListenFailed attempts) h = cc
+ending_of outcomes.AcceptFailed h = cc
+ending_of (outcomes.Faulted place op) h = (whole.Faulted place (half_of op), refl)
+ending_of (outcomes.Stopped turns) h = (whole.Stopped turns, refl)
+ending_of outcomes.Memory h = (whole.Memory, refl)
+
+answers : (b n : ℕ) (acts : List Act) (answer : Outcome) → is_relayed answer ≡ true → small.Legal (plain_relay b) n acts → PlainRests → OutcomesAgree → ((p : Place) → is_held acts p ≡ false) → BytesAgree → exit.IsOutcome (plain_relay b) n acts answer ⊎ (answer ≡ outcomes.Memory) → AnswersFor (plain_relay b) n acts answer
+answers b n acts answer relayed legal rests agree free bytes (inr e) = inr (inr e)
+answers b n acts answer relayed legal rests agree free bytes (inl (inl e)) =
+    let ending = ending_of answer relayed in
+    let told : whole.outcome (plain_relay b) acts ≡ outcome_of answer = agree b n acts legal ∙ (chosen (small.holds_nothing (plain_relay b) acts) _ _ (nothing_of (is_held acts (source LeftToRight)) (is_held acts (sink LeftToRight)) (free (source LeftToRight)) (free (sink LeftToRight))) ∙ ap known_outcome e) in
+    inl (ending.0, told ∙ ending.1, ending.1)
+answers b n acts answer relayed legal rests agree free bytes (inl (inr (t, rest, e))) =
     inr (inl ((bytes acts (source LeftToRight)).2 ∙ t, (rests b n acts legal rest).0, e))
 
-pub wholly : (n : ℕ) (before : History) (told : Option History) (answer : Outcome) → PlainIsLegal → HoldingsAgree → PlainRests → OutcomesAgree → BytesAgree → Headline (plain_relay 8192) n before told answer → WholeHeadline (plain_relay 8192) n before told answer
-wholly n before told answer legal_is held_is rests agree bytes h =
+-- the answer that is given is that of the relay, or want of memory
+given : (c : Config) (n : ℕ) (acts : List Act) (answer given_answer : Outcome) → AnswersFor c n acts answer → (given_answer ≡ answer) ⊎ (given_answer ≡ outcomes.Memory) → AnswersFor c n acts given_answer
+given c n acts answer given_answer a (inl e) = let P : Outcome → Type 0 = λ x. AnswersFor c n acts x in subst P (sym e) a
+given c n acts answer given_answer a (inr e) = inr (inr e)
+
+of_plain : (b n : ℕ) (before : History) (told told' : Option History) (answer given_answer : Outcome) → PlainIsLegal → HoldingsAgree → PlainRests → OutcomesAgree → BytesAgree → 1 ≤ b → is_relayed answer ≡ true → plain.Headline (plain_relay b) n before told answer → Tail given_answer told told' → (given_answer ≡ answer) ⊎ (given_answer ≡ outcomes.Memory) → Headline (plain_relay b) n before told' given_answer
+of_plain b n before told told' answer given_answer legal_is held_is rests agree bytes some relayed h tail same =
     let free : (p : Place) → is_held h.acts p ≡ false = λ p. free_of (standing h.acts p) (h.free p) in
+    let P : Option History → Type 0 = λ t. Tail given_answer t told' in
     record {
       acts = h.acts;
       asked = h.asked;
-      told_is = h.told_is;
-      legal = legal_is 8192 n h.acts (omega arith) h.legal;
-      free = λ p. held_is 8192 n h.acts p h.legal ∙ free p;
-      answer_is = answers 8192 n h.acts answer h.legal rests agree free bytes h.outcome_is;
+      tail = subst P h.told_is tail;
+      legal = legal_is b n h.acts some h.legal;
+      free = λ p. held_is b n h.acts p h.legal ∙ free p;
+      answer_is = given (plain_relay b) n h.acts answer given_answer (answers b n h.acts answer relayed h.legal rests agree free bytes h.outcome_is) same;
       own = h.own;
     }
+
+-- the same of a command that is the plain relay
+pub wholly : (c : Config) (n : ℕ) (before : History) (told told' : Option History) (answer given_answer : Outcome) → PlainIsLegal → HoldingsAgree → PlainRests → OutcomesAgree → BytesAgree → c ≡ plain_relay c.block → 1 ≤ c.block → is_relayed answer ≡ true → plain.Headline c n before told answer → Tail given_answer told told' → (given_answer ≡ answer) ⊎ (given_answer ≡ outcomes.Memory) → Headline c n before told' given_answer
+wholly c n before told told' answer given_answer legal_is held_is rests agree bytes e some relayed h tail same =
+    let P : Config → Type 0 = λ x. plain.Headline x n before told answer in
+    let Q : Config → Type 0 = λ x. Headline x n before told' given_answer in
+    subst Q (sym e) (of_plain c.block n before told told' answer given_answer legal_is held_is rests agree bytes some relayed (subst P e h) tail same)

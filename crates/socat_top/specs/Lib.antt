@@ -1,3 +1,5 @@
+pub mod Built
+pub mod Headline
 pub mod Kept
-pub mod Refusing
-pub mod Whole
+pub mod Notes
+pub mod Tasks

@@ -1,60 +1,142 @@
-// The relay of a list of words over any world.
-ghost use Rattle.std.specs.Prelude.{◌≡◌, ◌≢◌, true, is_some, Some};
+// What a list of words asks for, done over any world.
+ghost use Rattle.std.specs.Prelude.{◌≡◌, ◌≤◌, ℕ, true, false, is_some, Some, Ok};
 ghost use Rattle.relay_model.specs.declared.places.Place.{Place as Spot};
 ghost use Rattle.relay_model.specs.Holding.{Free};
 ghost use Rattle.relay_model.specs.Journals.{History};
-ghost use Rattle.relay_model.specs.PlainRelay.{plain_words, plain_relay};
+ghost use Rattle.cmd_words.specs.Commands.{IsFit};
 ghost use Rattle.event_loop.specs.Courses.{Risen};
-ghost use Rattle.event_loop.specs.Headline.{Headline, StopCause, is_failure};
-ghost use Rattle.socat_top.specs.Refusing.{not_built};
-ghost use Rattle.socat_top.specs.Whole.{WholeHeadline};
-ghost use Rattle.exit_status.specs.declared.outcomes.Outcome.TheVariants as outcomes;
+ghost use Rattle.relay_laws.specs.Configs.{Fit};
+ghost use Rattle.event_loop.specs.Headline.{StopCause, is_failure, is_relayed};
+ghost use Rattle.socat_top.specs.Built.{is_built};
+ghost use Rattle.socat_top.specs.Headline.{Answers, Headline, Leaves};
+ghost use Rattle.socat_top.specs.Tasks.{task, command_task, task_of, unrelayed, asks_for_journal, program_task};
 
-use crate::spoken::is_plain;
+use crate::built::can_run;
+use crate::notes::{conclude, print};
+use cmd_words::{Command, CommandFault, command_of};
 use event_loop::relay;
-use exit_status::Outcome;
+use exit_status::{Outcome, usage_text, version_text};
 use plain_laws::{bytes_agree, holdings_agree, outcomes_agree, plain_is_legal, plain_rests};
-use relay_model::{Config, NoMemory, Options, Refusal, Refused, Text};
+use relay_model::{Config, Refusal, Refused, Text};
 use std::alloc::Global;
 use world_trait::World;
 
-/// The words that aren't built yet: no word of them is wrong.
+/// The refusal of a command that can't be run yet: no word of it is wrong.
 const NOT_BUILT: Refused = Refused {
     word: 0,
     half: 0,
     why: Refusal::NotBuilt,
 };
 
-/// Relays as the words ask, over any world, with at most `turns` waits. The words don't include the program's
-/// name. Only `-u STDIN STDOUT` is built so far; for all other words nothing is opened.
+/// Does what the words ask, over any world, with at most `turns` waits. The words don't include the program's name.
+/// Words that are refused open nothing. The line of the outcome is noted at the end, where it has one.
 pub fn socat<W: World>(alloc: Global, world: &mut W, words: &[Text], turns: u64) -> Outcome
     requires free { (p : Spot) → W.held world.old p ≡ Free }
     ensures free { (p : Spot) → W.held world.new p ≡ Free }
-    ensures headline { words.now ≡ plain_words → (before : History) → W.told world.old ≡ Some before → Headline (plain_relay 8192) turns before (W.told world.new) result }
-    ensures whole { words.now ≡ plain_words → (before : History) → W.told world.old ≡ Some before → WholeHeadline (plain_relay 8192) turns before (W.told world.new) result }
-
-    // The refusal comes exactly for other words, and then nothing is done.
-    ensures refused { words.now ≢ plain_words → result ≡ outcomes.Refused not_built }
-    ensures built { words.now ≡ plain_words → result ≢ outcomes.Refused not_built }
-    ensures untouched { words.now ≢ plain_words → W.told world.new ≡ W.told world.old }
-
+    ensures headline { (before : History) → W.told world.old ≡ Some before → Leaves (task words.now) turns before (W.told world.new) result }
+    ensures answers { Answers (task words.now) result }
     ensures tells { is_some (W.told world.new) ≡ is_some (W.told world.old) }
     ensures failed { is_failure result ≡ true → Risen (W.faults world.old) (W.faults world.new) }
     ensures stopped { StopCause turns (W.waits world.old) (W.waits world.new) (W.stops world.old) (W.stops world.new) result }
 {
-    if !is_plain(words) {
-        return Outcome::Refused(NOT_BUILT);
+    match command_of(alloc, words) {
+        Ok(command) => obey(alloc, world, &command, turns),
+        Err(CommandFault::Refused(refused)) => { conclude(alloc, world, Outcome::Refused(refused)) }
+        Err(CommandFault::Memory) => conclude(alloc, world, Outcome::Memory),
     }
-    match Config::plain(alloc, Options::BLOCK) {
-        Ok(config) => {
-            let outcome = relay(alloc, world, &config, turns);
-            plain_is_legal();
-            bytes_agree();
-            holdings_agree();
-            plain_rests();
-            outcomes_agree();
-            outcome
-        }
-        Err(NoMemory) => Outcome::Memory,
+}
+
+/// Does what the words of the program ask, over any world, with at most `turns` waits. A first word `--journal=..`
+/// asks for a written journal, which can't be made yet: behind it nothing is relayed. Elsewhere it is an unknown flag.
+pub fn program<W: World>(alloc: Global, world: &mut W, words: &[Text], turns: u64) -> Outcome
+    requires free { (p : Spot) → W.held world.old p ≡ Free }
+    ensures free { (p : Spot) → W.held world.new p ≡ Free }
+    ensures headline { (before : History) → W.told world.old ≡ Some before → Leaves (program_task words.now) turns before (W.told world.new) result }
+    ensures answers { Answers (program_task words.now) result }
+    ensures tells { is_some (W.told world.new) ≡ is_some (W.told world.old) }
+    ensures failed { is_failure result ≡ true → Risen (W.faults world.old) (W.faults world.new) }
+    ensures stopped { StopCause turns (W.waits world.old) (W.waits world.new) (W.stops world.old) (W.stops world.new) result }
+{
+    match words {
+        [first, others @ ..] if is_journal_flag(first) => answer_unrelayed(alloc, world, others),
+        _ => socat(alloc, world, words, turns),
     }
+}
+
+/// Whether the word asks for a written journal.
+fn is_journal_flag(word: &Text) -> bool
+    ensures { result ≡ asks_for_journal word.now }
+{
+    word.as_slice().starts_with(b"--journal=")
+}
+
+/// Answers the words, but relays nothing.
+fn answer_unrelayed<W: World>(alloc: Global, world: &mut W, words: &[Text]) -> Outcome
+    ensures held { (p : Spot) → W.held world.new p ≡ W.held world.old p }
+    ensures headline { (n : ℕ) (before : History) → W.told world.old ≡ Some before → Leaves (unrelayed (task words.now)) n before (W.told world.new) result }
+    ensures answers { Answers (unrelayed (task words.now)) result }
+    ensures tells { is_some (W.told world.new) ≡ is_some (W.told world.old) }
+    ensures calm { is_failure result ≡ false }
+    ensures unstopped { (n a b d e : ℕ) → StopCause n a b d e result }
+{
+    match command_of(alloc, words) {
+        Ok(command) => decline(alloc, world, &command),
+        Err(CommandFault::Refused(refused)) => conclude(alloc, world, Outcome::Refused(refused)),
+        Err(CommandFault::Memory) => conclude(alloc, world, Outcome::Memory),
+    }
+}
+
+/// Prints what a command asks for, and refuses one that asks for a relay.
+fn decline<W: World>(alloc: Global, world: &mut W, command: &Command) -> Outcome
+    ensures held { (p : Spot) → W.held world.new p ≡ W.held world.old p }
+    ensures headline { (n : ℕ) (before : History) → W.told world.old ≡ Some before → Leaves (unrelayed (command_task command.now)) n before (W.told world.new) result }
+    ensures answers { Answers (unrelayed (command_task command.now)) result }
+    ensures tells { is_some (W.told world.new) ≡ is_some (W.told world.old) }
+    ensures calm { is_failure result ≡ false }
+    ensures unstopped { (n a b d e : ℕ) → StopCause n a b d e result }
+{
+    match command {
+        Command::Relay(_config) => conclude(alloc, world, Outcome::Refused(NOT_BUILT)),
+        Command::Load(_number) => conclude(alloc, world, Outcome::Refused(NOT_BUILT)),
+        Command::Usage => print(alloc, world, usage_text(alloc)),
+        Command::Version => print(alloc, world, version_text(alloc)),
+    }
+}
+
+/// Runs a command, and notes the line of its outcome.
+fn obey<W: World>(alloc: Global, world: &mut W, command: &Command, turns: u64) -> Outcome
+    requires fit { IsFit command.now }
+    requires free { (p : Spot) → W.held world.old p ≡ Free }
+    ensures free { (p : Spot) → W.held world.new p ≡ Free }
+    ensures headline { (before : History) → W.told world.old ≡ Some before → Leaves (command_task command.now) turns before (W.told world.new) result }
+    ensures answers { Answers (command_task command.now) result }
+    ensures tells { is_some (W.told world.new) ≡ is_some (W.told world.old) }
+    ensures failed { is_failure result ≡ true → Risen (W.faults world.old) (W.faults world.new) }
+    ensures stopped { StopCause turns (W.waits world.old) (W.waits world.new) (W.stops world.old) (W.stops world.new) result }
+{
+    match command {
+        Command::Relay(config) if can_run(config) => run_relay(alloc, world, config, turns),
+        _ => decline(alloc, world, command),
+    }
+}
+
+/// Relays, and notes the line of the outcome.
+fn run_relay<W: World>(alloc: Global, world: &mut W, config: &Config, turns: u64) -> Outcome
+    requires fit { Fit config.now }
+    requires built { is_built config.now ≡ true }
+    requires free { (p : Spot) → W.held world.old p ≡ Free }
+    ensures free { (p : Spot) → W.held world.new p ≡ Free }
+    ensures headline { (before : History) → W.told world.old ≡ Some before → Headline config.now turns before (W.told world.new) result }
+    ensures answers { is_relayed result ≡ true }
+    ensures tells { is_some (W.told world.new) ≡ is_some (W.told world.old) }
+    ensures failed { is_failure result ≡ true → Risen (W.faults world.old) (W.faults world.new) }
+    ensures stopped { StopCause turns (W.waits world.old) (W.waits world.new) (W.stops world.old) (W.stops world.new) result }
+{
+    let outcome = relay(alloc, world, config, turns);
+    plain_is_legal();
+    bytes_agree();
+    holdings_agree();
+    plain_rests();
+    outcomes_agree();
+    conclude(alloc, world, outcome)
 }

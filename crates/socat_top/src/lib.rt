@@ -1,13 +1,14 @@
 // The top call: it reads the words, relays, and answers how the run ended.
 #![tactic(auto)]
 
+mod built;
 mod calls;
+mod notes;
 #[cfg(test)]
 mod run_tests;
 mod runs;
-mod spoken;
 #[cfg(test)]
 mod tests;
 
-pub use calls::socat;
-pub use runs::{Thin, run};
+pub use calls::{program, socat};
+pub use runs::{Thin, run, run_program};

@@ -1,19 +1,17 @@
 // The run of a list of words over two plain streams.
-ghost use Rattle.std.specs.Prelude.{◌≡◌, ◌≢◌, true, Some};
+ghost use Rattle.std.specs.Prelude.{◌≡◌, true, Some};
 ghost use Rattle.relay_model.specs.declared.places.Place.{Place as Spot};
 ghost use Rattle.relay_model.specs.Holding.{Free};
 ghost use Rattle.relay_model.specs.Journals.{History};
-ghost use Rattle.relay_model.specs.PlainRelay.{plain_words, plain_relay};
 ghost use Rattle.thin_desk.specs.Streams.{ReadSince, WrittenSince};
 ghost use Rattle.event_loop.specs.Courses.{Risen};
-ghost use Rattle.event_loop.specs.Headline.{Headline, StopCause, is_failure};
+ghost use Rattle.event_loop.specs.Headline.{StopCause, is_failure};
 ghost use Rattle.exit_status.specs.Statuses.{exit_code};
-ghost use Rattle.exit_status.specs.declared.outcomes.Outcome.TheVariants as outcomes;
-ghost use Rattle.socat_top.specs.Refusing.{not_built};
 ghost use Rattle.socat_top.specs.Kept.{history_of};
-ghost use Rattle.socat_top.specs.Whole.{WholeHeadline};
+ghost use Rattle.socat_top.specs.Headline.{Answers, Leaves};
+ghost use Rattle.socat_top.specs.Tasks.{task, program_task};
 
-use crate::calls::socat;
+use crate::calls::{program, socat};
 use exit_status::{Outcome, status};
 use relay_model::Text;
 use std::alloc::Global;
@@ -29,7 +27,7 @@ pub struct Thin<R: Read + Drop, K: Write + Drop, E: Write + Drop> {
     pub done: Done<R, K, E>,
 }
 
-/// Relays as the words ask between the reader and the writer of a desk, with at most `turns` waits. Where the
+/// Does what the words ask between the reader and the writer of a desk, with at most `turns` waits. Where the
 /// desk keeps its history, what it kept is legal, and it accounts for each byte that the streams tell.
 pub fn run<R: Read + Drop, K: Write + Drop, E: Write + Drop, S: Start>(
     alloc: Global,
@@ -39,15 +37,10 @@ pub fn run<R: Read + Drop, K: Write + Drop, E: Write + Drop, S: Start>(
 ) -> Thin<R, K, E>
     requires free { (p : Spot) → ⟦<ThinDesk<R, K, E, S> as World>⟧.held desk p ≡ Free }
     ensures status { result.status ≡ exit_code result.outcome }
-    ensures headline { words.now ≡ plain_words → (before : History) → ⟦<ThinDesk<R, K, E, S> as World>⟧.told desk ≡ Some before → Headline (plain_relay 8192) turns before (Some (history_of result.done.kept)) result.outcome }
-    ensures whole { words.now ≡ plain_words → (before : History) → ⟦<ThinDesk<R, K, E, S> as World>⟧.told desk ≡ Some before → WholeHeadline (plain_relay 8192) turns before (Some (history_of result.done.kept)) result.outcome }
+    ensures headline { (before : History) → ⟦<ThinDesk<R, K, E, S> as World>⟧.told desk ≡ Some before → Leaves (task words.now) turns before (Some (history_of result.done.kept)) result.outcome }
+    ensures answers { Answers (task words.now) result.outcome }
     ensures reads { (before : History) → ⟦<ThinDesk<R, K, E, S> as World>⟧.told desk ≡ Some before → ReadSince S.input (Some (history_of result.done.kept)) (R.remaining result.done.reader) }
     ensures writes { (before : History) → ⟦<ThinDesk<R, K, E, S> as World>⟧.told desk ≡ Some before → WrittenSince S.output (Some (history_of result.done.kept)) (K.contents result.done.writer) }
-
-    // The refusal comes exactly for words that aren't built.
-    ensures refused { words.now ≢ plain_words → result.outcome ≡ outcomes.Refused not_built }
-    ensures built { words.now ≡ plain_words → result.outcome ≢ outcomes.Refused not_built }
-
     ensures failed { is_failure result.outcome ≡ true → Risen (⟦<ThinDesk<R, K, E, S> as World>⟧.faults desk) result.done.counts.faults }
     ensures stopped { let w = ⟦<ThinDesk<R, K, E, S> as World>⟧ in StopCause turns (w.waits desk) result.done.counts.waits (w.stops desk) result.done.counts.stops result.outcome }
 {
@@ -58,5 +51,30 @@ pub fn run<R: Read + Drop, K: Write + Drop, E: Write + Drop, S: Start>(
         outcome,
         status,
         done,
+    }
+}
+
+/// Does what the words of the program ask between the reader and the writer of a desk, with at most `turns` waits. Where the
+/// desk keeps its history, what it kept is legal, and it accounts for each byte that the streams tell.
+pub fn run_program<R: Read + Drop, K: Write + Drop, E: Write + Drop, S: Start>(
+    alloc: Global,
+    mut desk: ThinDesk<R, K, E, S>,
+    words: &[Text],
+    turns: u64,
+) -> Thin<R, K, E>
+    requires free { (p : Spot) → ⟦<ThinDesk<R, K, E, S> as World>⟧.held desk p ≡ Free }
+    ensures status { result.status ≡ exit_code result.outcome }
+    ensures headline { (before : History) → ⟦<ThinDesk<R, K, E, S> as World>⟧.told desk ≡ Some before → Leaves (program_task words.now) turns before (Some (history_of result.done.kept)) result.outcome }
+    ensures answers { Answers (program_task words.now) result.outcome }
+    ensures reads { (before : History) → ⟦<ThinDesk<R, K, E, S> as World>⟧.told desk ≡ Some before → ReadSince S.input (Some (history_of result.done.kept)) (R.remaining result.done.reader) }
+    ensures writes { (before : History) → ⟦<ThinDesk<R, K, E, S> as World>⟧.told desk ≡ Some before → WrittenSince S.output (Some (history_of result.done.kept)) (K.contents result.done.writer) }
+    ensures failed { is_failure result.outcome ≡ true → Risen (⟦<ThinDesk<R, K, E, S> as World>⟧.faults desk) result.done.counts.faults }
+    ensures stopped { let w = ⟦<ThinDesk<R, K, E, S> as World>⟧ in StopCause turns (w.waits desk) result.done.counts.waits (w.stops desk) result.done.counts.stops result.outcome }
+{
+    let outcome = program(alloc, &mut desk, words, turns);
+    Thin {
+        outcome,
+        status: status(&outcome),
+        done: desk.finish(),
     }
 }

@@ -6,9 +6,7 @@ ghost use Rattle.world_trait.specs.Scripts.{HasBytes, HasCount};
 
 use crate::socat;
 use exit_status::{EndWhy, Op, Outcome, status};
-use relay_model::{
-    Act, Bytes, NoMemory, Part, Place, Refusal, Refused, Shut, Side, Text, Texts, Why,
-};
+use relay_model::{Act, Bytes, NoMemory, Part, Place, Shut, Side, Text, Texts, Why};
 use std::alloc::Global;
 use std::test::Fail;
 use world_trait::{MemWorld, OpenItem, ReadItem, World, WriteItem};
@@ -148,6 +146,11 @@ fn write_act(lines: &mut Vec<u8>, act: &Act) -> Result<(), NoMemory> {
         Act::WriteNotYet(place) => write_line(lines, "not yet", *place),
         Act::Shut(place, Shut::Close) => write_line(lines, "shut", *place),
         Act::Closed(place, why) => write_line(lines, reason(*why), *place),
+        Act::Note(text) => {
+            lines.extend_from_slice(b"noted ")?;
+            lines.extend_from_slice(text.as_slice())?;
+            Ok(())
+        }
         _ => write_bytes(lines, b"other"),
     }
 }
@@ -230,7 +233,7 @@ fn relays_nothing(rt: HostRuntime) -> Result<(), Fail> {
 #[test]
 fn writes_byte_by_byte(rt: HostRuntime) -> Result<(), Fail> {
     let alloc = rt.alloc();
-    let ran = relays(alloc, dripping(alloc)?, MANY)?;
+    let ran = play(alloc, dripping(alloc)?, "-b4 -u STDIN STDOUT", MANY)?;
     assert_eq!(rt; ran.outcome, Outcome::Ended(EndWhy::Finished));
     assert_eq!(rt; ran.taken.as_slice(), b"abcdefgh".as_slice());
     assert!(rt;
@@ -244,14 +247,14 @@ fn writes_byte_by_byte(rt: HostRuntime) -> Result<(), Fail> {
 #[test]
 fn stops_after_its_turns(rt: HostRuntime) -> Result<(), Fail> {
     let alloc = rt.alloc();
-    let ran = relays(alloc, dripping(alloc)?, 3)?;
+    let ran = play(alloc, dripping(alloc)?, "-b4 -u STDIN STDOUT", 3)?;
     assert_eq!(rt; ran.outcome, Outcome::Stopped { turns: 3 });
     assert_eq!(rt; status(&ran.outcome), 3);
-    assert!(rt; b"abcdefgh".starts_with(ran.taken.as_slice()));
+    assert!(rt; b"abcd".starts_with(ran.taken.as_slice()));
     assert!(rt;
-        ran.acts
-            .as_slice()
-            .ends_with(b"\nstopped left\nstopped right\n")
+        ran.acts.as_slice().ends_with(
+            b"\nstopped left\nstopped right\nnoted socat: stopped after 3 turns\n"
+        )
     );
     Ok(())
 }
@@ -268,9 +271,9 @@ fn blames_a_read(rt: HostRuntime) -> Result<(), Fail> {
     assert_eq!(rt; status(&ran.outcome), 1);
     assert_eq!(rt; ran.taken.as_slice(), b"abc".as_slice());
     assert!(rt;
-        ran.acts
-            .as_slice()
-            .ends_with(b"\nfault left\nfaulted left\nfaulted right\n")
+        ran.acts.as_slice().ends_with(
+            b"\nfaulted left\nfaulted right\nnoted socat: read failed on the left\n"
+        )
     );
     Ok(())
 }
@@ -290,9 +293,9 @@ fn blames_a_write(rt: HostRuntime) -> Result<(), Fail> {
     assert_eq!(rt; status(&ran.outcome), 1);
     assert_eq!(rt; ran.taken.as_slice(), b"ab".as_slice());
     assert!(rt;
-        ran.acts
-            .as_slice()
-            .ends_with(b"\nfault right\nfaulted left\nfaulted right\n")
+        ran.acts.as_slice().ends_with(
+            b"\nfaulted left\nfaulted right\nnoted socat: write failed on the right\n"
+        )
     );
     Ok(())
 }
@@ -309,7 +312,8 @@ fn blames_the_left_opening(rt: HostRuntime) -> Result<(), Fail> {
     };
     assert_eq!(rt; ran.outcome, wanted);
     assert_eq!(rt; status(&ran.outcome), 1);
-    assert_eq!(rt; ran.acts.as_slice(), b"not opened left\n".as_slice());
+    let acts = "not opened left\nnoted socat: open failed on the left after 1 attempts\n";
+    assert_eq!(rt; ran.acts.as_slice(), acts.as_bytes());
     Ok(())
 }
 
@@ -324,30 +328,38 @@ fn blames_the_right_opening(rt: HostRuntime) -> Result<(), Fail> {
         attempts: 1,
     };
     assert_eq!(rt; ran.outcome, wanted);
-    let acts = "opened left\nnot opened right\nunopened left\n";
+    let acts =
+        "opened left\nnot opened right\nunopened left\nnoted socat: open failed on the right after 1 attempts\n";
     assert_eq!(rt; ran.acts.as_slice(), acts.as_bytes());
     Ok(())
 }
 
-#[test]
-fn refuses_other_words(rt: HostRuntime) -> Result<(), Fail> {
-    let alloc = rt.alloc();
-    let refused = Outcome::Refused(Refused {
-        word: 0,
-        half: 0,
-        why: Refusal::NotBuilt,
-    });
-    for line in [
-        "",
-        "-",
-        "-u STDIN",
+/// Words that open nothing, and the one note of each.
+const NOTED: [(&str, &str, u8); 6] = [
+    ("STDIO", "socat: E21: addresses want 2 have 1\n", 1),
+    (
+        "FOO STDIO",
+        "socat: E12 word 1 half 1: unknown address kind\n",
+        1,
+    ),
+    ("STDOUT STDERR", "socat: E22: no direction\n", 1),
+    (
         "-U STDIN STDOUT",
-        "-u stdin stdout",
-        "-u STDIN STDOUT STDOUT",
-    ] {
-        let ran = play(alloc, empty(alloc), line, MANY)?;
-        assert_eq!(rt; ran.outcome, refused, "at {line}");
-        assert_eq!(rt; ran.acts.len(), 0, "at {line}");
+        "socat: E16 word 2 half 1: wrong use\n",
+        1,
+    ),
+    ("-u STDIN,cr STDOUT", "socat: E23: not built\n", 1),
+    ("-V", "socat relay, profile of 1.7\n", 0),
+];
+
+#[test]
+fn notes_what_opens_nothing(rt: HostRuntime) -> Result<(), Fail> {
+    let alloc = rt.alloc();
+    for case in &NOTED {
+        let ran = play(alloc, empty(alloc), case.0, MANY)?;
+        let text = ran.acts.as_slice().strip_prefix(b"noted ");
+        assert_eq!(rt; text, Some(case.1.as_bytes()), "at {}", case.0);
+        assert_eq!(rt; status(&ran.outcome), case.2, "at {}", case.0);
     }
     Ok(())
 }

@@ -1,22 +1,15 @@
 use Rattle.std.proofs.Common.{◌≡◌, true, is_some, Option, subst, refl, ◌∙◌}
 use Rattle.relay_model.specs.Journals.{History}
-use Rattle.relay_model.specs.PlainRelay.{plain_relay}
-use Rattle.event_loop.specs.Headline.{Headline}
 use Rattle.thin_desk.specs.Streams.{ReadSince, WrittenSince}
-use Rattle.socat_top.specs.Whole.{WholeHeadline}
+use Rattle.socat_top.specs.Headline.{Leaves}
+use Rattle.socat_top.specs.Tasks.{task}
 use Rattle.socat_top.proofs.runs.run.Goals as goal
 
 pub returns-clause-headline : goal.returns-clause-headline
-returns-clause-headline g c = λ plain before told.
+returns-clause-headline g c = λ before told.
     let told_on : is_some c.socat-outcome.new.world.channels.recording.told ≡ true = c.socat-outcome.ensures.tells ∙ rw told refl in
-    let P : Option History → Type 0 = λ t. Headline (plain_relay 8192) c.args.turns before t c.socat-outcome.result in
-    subst P (c.finish-done.ensures.kept told_on) (c.socat-outcome.ensures.headline plain before told)
-
-pub returns-clause-whole : goal.returns-clause-whole
-returns-clause-whole g c = λ plain before told.
-    let told_on : is_some c.socat-outcome.new.world.channels.recording.told ≡ true = c.socat-outcome.ensures.tells ∙ rw told refl in
-    let P : Option History → Type 0 = λ t. WholeHeadline (plain_relay 8192) c.args.turns before t c.socat-outcome.result in
-    subst P (c.finish-done.ensures.kept told_on) (c.socat-outcome.ensures.whole plain before told)
+    let P : Option History → Type 0 = λ t. Leaves (task c.args.words.now) c.args.turns before t c.socat-outcome.result in
+    subst P (c.finish-done.ensures.kept told_on) (c.socat-outcome.ensures.headline before told)
 
 pub returns-clause-reads : goal.returns-clause-reads
 returns-clause-reads g c = λ before told.

@@ -1,0 +1,60 @@
+-- Runs that end for want of memory.
+use Rattle.std.proofs.Common.{◌≡◌, ℕ, true, false, if◌then◌else◌, List, [], ◌∷◌, ◌++◌, Option, Some, refl, ap, subst, sym, ◌∙◌, inl, inr, ◌⊎◌}
+use Rattle.relay_model.specs.declared.commands.Config.{Config}
+use Rattle.relay_model.specs.Journals.{History, Asking}
+use Rattle.exit_status.specs.declared.outcomes.Outcome.{Outcome}
+use Rattle.exit_status.specs.declared.outcomes.Outcome.TheVariants as outcomes
+use Rattle.exit_status.specs.Lines.{line}
+use Rattle.event_loop.specs.Courses.{extend}
+use Rattle.event_loop.specs.Headline.{is_relayed}
+use Rattle.socat_top.specs.Notes.{Said, Tail}
+use Rattle.cmd_words.specs.declared.commands.Command.TheVariants as commands
+use Rattle.socat_top.specs.Built.{is_built}
+use Rattle.socat_top.specs.Tasks.{Task, Relaying, Telling, Refusing, Unread, not_built, command_task, unrelayed}
+use Rattle.socat_top.specs.Headline.{Headline, Leaves, Answers}
+
+pub either : {A : Type 0} → A ⊎ A → A
+either (inl a) = a
+either (inr a) = a
+
+-- the line of want of memory was said, or not
+pub memory_tail : (text : List ℕ) (answer : Outcome) (told told' : Option History) → text ≡ line outcomes.Memory → ((answer ≡ outcomes.Memory) × Said text told told') ⊎ ((answer ≡ outcomes.Memory) × (told' ≡ told)) → Tail answer told told'
+memory_tail text answer told told' e (inl (a, said)) =
+    let P : List ℕ → Type 0 = λ t. Said t told told' in
+    let Q : Outcome → Type 0 = λ x. Said (line x) told told' in
+    inl (subst Q (sym a) (subst P e said))
+memory_tail text answer told told' e (inr same) = inr same
+
+nil_right : {A : Type 0} (xs : List A) → xs ++ [] ≡ xs
+nil_right [] = refl
+nil_right (x ∷ xs) = ap (λ ys. x ∷ ys) (nil_right xs)
+
+extended : (before : History) → before ≡ extend [] [] before
+extended before = ap (λ pairs. record { acts = before.acts; asked = pairs }) (sym (nil_right before.asked))
+
+-- whatever was asked for, want of memory may come before anything was done
+pub lacking : (task : Task) (n : ℕ) (before : History) (told told' : Option History) (answer : Outcome) → answer ≡ outcomes.Memory → told ≡ Some before → Tail answer told told' → Leaves task n before told' answer
+lacking (Relaying c) n before told told' answer e from tail =
+    let P : Option History → Type 0 = λ t. Tail answer t told' in
+    record {
+      acts = [];
+      asked = [];
+      tail = subst P (from ∙ ap Some (extended before)) tail;
+      legal = tt;
+      free = λ p. refl;
+      answer_is = inr (inr e);
+      own = tt;
+    }
+lacking (Telling text) n before told told' answer e from tail = let P : Option History → Type 0 = λ t. Tail answer t told' in inr (e, subst P from tail)
+lacking (Refusing refused) n before told told' answer e from tail = let P : Option History → Type 0 = λ t. Tail answer t told' in subst P from tail
+lacking Unread n before told told' answer e from tail = let P : Option History → Type 0 = λ t. Tail answer t told' in subst P from tail
+
+pub lacking_answers : (task : Task) (answer : Outcome) → answer ≡ outcomes.Memory → Answers task answer
+lacking_answers (Relaying c) answer e = ap is_relayed e
+lacking_answers (Telling text) answer e = inr e
+lacking_answers (Refusing refused) answer e = inr e
+lacking_answers Unread answer e = e
+
+-- a relay is refused, whether or not it can be run
+pub unrelayed_relay : (c : Config) → unrelayed (command_task (commands.Relay c)) ≡ Refusing not_built
+unrelayed_relay c = elim (is_built c) as (λ b. unrelayed (if b then Relaying c else Refusing not_built) ≡ Refusing not_built) [ true ↦ refl | false ↦ refl ]

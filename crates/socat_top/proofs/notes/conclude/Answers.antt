@@ -1,0 +1,8 @@
+use Rattle.std.proofs.Common.{refl}
+use Rattle.exit_status.specs.Lines.{line}
+use Rattle.socat_top.proofs.Endings.{memory_tail}
+use Rattle.socat_top.proofs.notes.conclude.Goals as goal
+
+pub returns-in-Err-clause-tail : goal.returns-in-Err-clause-tail
+unfolding line
+returns-in-Err-clause-tail g c = memory_tail _ c.say-in-Err.result (g.W.World.told c.args.world.now) (g.W.World.told c.say-in-Err.new.world) refl c.say-in-Err.ensures.said

@@ -1,0 +1,52 @@
+-- What a run leaves: a legal history, nothing held, the outcome that the history gives, and its line.
+use Rattle.std.specs.Prelude.{◌≡◌, ℕ, true, false, ◌⊎◌, List, Option, Some}
+use Rattle.relay_model.specs.declared.acts.Act.{Act}
+use Rattle.relay_model.specs.declared.places.Place.{Place}
+use Rattle.relay_model.specs.declared.commands.Config.{Config}
+use Rattle.relay_model.specs.Journals.{History, Asking}
+use Rattle.exit_status.specs.declared.outcomes.Outcome.{Outcome}
+use Rattle.exit_status.specs.declared.outcomes.Outcome.TheVariants as outcomes
+use Rattle.relay_laws.specs.History.{turns, held}
+use Rattle.relay_laws.specs.Rest.{Rest}
+use Rattle.relay_laws.specs.May.{Legal}
+use Rattle.relay_laws.specs.Outcome as whole
+use Rattle.plain_laws.specs.Outcomes.{outcome_of}
+use Rattle.event_loop.specs.Courses.{extend, OnlyOwn}
+use Rattle.event_loop.specs.Headline.{is_relayed}
+use Rattle.socat_top.specs.Notes.{Said, Tail}
+use Rattle.socat_top.specs.Tasks.{Task, Relaying, Telling, Refusing, Unread}
+
+-- the answer is the outcome of the acts; or the turns were used up while a wait was in order; or memory was wanting
+abbrev pub AnswersFor : Config → ℕ → List Act → Outcome → Type 0
+AnswersFor c n acts answer =
+    ((ending : whole.Outcome) × (whole.outcome c acts ≡ Some ending) × (outcome_of answer ≡ Some ending))
+    ⊎ (((turns acts ≡ n) × Rest c acts × (answer ≡ outcomes.Stopped n)) ⊎ (answer ≡ outcomes.Memory))
+
+-- the world told `before`, and tells `told` now: the acts of the relay between are legal, nothing is held after them,
+-- the answer is theirs, each place that was asked for is the command's own, and after them comes the answer's line
+pub record Headline (c : Config) (n : ℕ) (before : History) (told : Option History) (answer : Outcome) : Type 0 where
+  pub acts : List Act
+  pub asked : List Asking
+  pub tail : Tail answer (Some (extend acts asked before)) told
+  pub legal : Legal c n acts
+  pub free : (p : Place) → held acts p ≡ false
+  pub answer_is : AnswersFor c n acts answer
+  pub own : OnlyOwn c asked
+
+-- a text was printed, or there was no memory for it
+abbrev pub Printed : List ℕ → Option History → Option History → Outcome → Type 0
+Printed text before told answer = ((answer ≡ outcomes.Told) × Said text before told) ⊎ ((answer ≡ outcomes.Memory) × Tail answer before told)
+
+-- what a world that told `before` tells after the task
+abbrev pub Leaves : Task → ℕ → History → Option History → Outcome → Type 0
+Leaves (Relaying c) n before told answer = Headline c n before told answer
+Leaves (Telling text) n before told answer = Printed text (Some before) told answer
+Leaves (Refusing refused) n before told answer = Tail answer (Some before) told
+Leaves Unread n before told answer = Tail answer (Some before) told
+
+-- the answers that a task can get from any world; each may also be want of memory
+abbrev pub Answers : Task → Outcome → Type 0
+Answers (Relaying c) answer = is_relayed answer ≡ true
+Answers (Telling text) answer = (answer ≡ outcomes.Told) ⊎ (answer ≡ outcomes.Memory)
+Answers (Refusing refused) answer = (answer ≡ outcomes.Refused refused) ⊎ (answer ≡ outcomes.Memory)
+Answers Unread answer = answer ≡ outcomes.Memory

@@ -1,0 +1,21 @@
+-- What a run says on standard error at its end.
+use Rattle.std.specs.Prelude.{◌≡◌, ℕ, ◌⊎◌, List, [], ◌∷◌, Option, option_map}
+use Rattle.relay_model.specs.declared.acts.Act.TheVariants.{Note, NoteFault}
+use Rattle.relay_model.specs.Journals.{History}
+use Rattle.world_trait.specs.Recordings.{with_act}
+use Rattle.exit_status.specs.declared.outcomes.Outcome.{Outcome}
+use Rattle.exit_status.specs.declared.outcomes.Outcome.TheVariants as outcomes
+use Rattle.exit_status.specs.Lines.{line}
+
+-- one note of the text, which was taken or failed
+abbrev pub Noted : List ℕ → Option History → Option History → Type 0
+Noted text told told' = (told' ≡ option_map (with_act (Note text)) told) ⊎ (told' ≡ option_map (with_act (NoteFault text)) told)
+
+-- nothing, where there is nothing to say
+abbrev pub Said : List ℕ → Option History → Option History → Type 0
+Said [] told told' = told' ≡ told
+Said (b ∷ text) told told' = Noted (b ∷ text) told told'
+
+-- the line of the answer, where it has one; want of memory may leave it out
+abbrev pub Tail : Outcome → Option History → Option History → Type 0
+Tail answer told told' = Said (line answer) told told' ⊎ ((answer ≡ outcomes.Memory) × (told' ≡ told))

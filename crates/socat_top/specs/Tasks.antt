@@ -1,0 +1,56 @@
+-- What a list of words asks of the program.
+use Rattle.std.specs.Prelude.{ℕ, Bool, List, [], ◌∷◌, Result, Ok, Err, codes, nat_eq, if◌then◌else◌}
+use Rattle.std.specs.List.{starts_with}
+use Rattle.relay_model.specs.declared.commands.Config.{Config}
+use Rattle.relay_model.specs.declared.refusals.Refused.{Refused}
+use Rattle.relay_model.specs.declared.refusals.Refusal.TheVariants.{NotBuilt}
+use Rattle.exit_status.specs.Lines.{usage, version}
+use Rattle.cmd_words.specs.declared.commands.Command.{Command}
+use Rattle.cmd_words.specs.declared.commands.Command.TheVariants as commands
+use Rattle.cmd_words.specs.declared.faults.CommandFault.{CommandFault}
+use Rattle.cmd_words.specs.declared.faults.CommandFault.TheVariants as faults
+use Rattle.cmd_words.specs.Commands.{command}
+use Rattle.socat_top.specs.Built.{is_built}
+
+-- a relay, a text to be printed, or a refusal; with `Unread` there was no memory to read them
+pub data Task : Type 0 where
+  Relaying : Config → Task
+  Telling : List ℕ → Task
+  Refusing : Refused → Task
+  Unread : Task
+
+-- the refusal of a command that can't be run yet: no word of it is wrong
+abbrev pub not_built : Refused
+not_built = record { word = 0; half = 0; why = NotBuilt }
+
+abbrev pub command_task : Command → Task
+command_task (commands.Relay c) = if is_built c then Relaying c else Refusing not_built
+command_task commands.Usage = Telling usage
+command_task commands.Version = Telling version
+command_task (commands.Load number) = Refusing not_built
+
+abbrev pub task_of : Result Command CommandFault → Task
+task_of (Ok asked) = command_task asked
+task_of (Err (faults.Refused refused)) = Refusing refused
+task_of (Err faults.Memory) = Unread
+
+abbrev pub task : List (List ℕ) → Task
+task words = task_of (command words)
+
+-- ---- the program
+
+-- whether a word asks for a written journal
+abbrev pub asks_for_journal : List ℕ → Bool
+asks_for_journal word = starts_with nat_eq word (codes "--journal=")
+
+-- a journal can't be written yet, so with it nothing is relayed
+abbrev pub unrelayed : Task → Task
+unrelayed (Relaying c) = Refusing not_built
+unrelayed (Telling text) = Telling text
+unrelayed (Refusing refused) = Refusing refused
+unrelayed Unread = Unread
+
+-- the first word of the program may ask for a written journal; the others are numbered from behind it
+abbrev pub program_task : List (List ℕ) → Task
+program_task [] = task []
+program_task (word ∷ words) = if asks_for_journal word then unrelayed (task words) else task (word ∷ words)
