@@ -1,13 +1,14 @@
-# Proves, builds, tests and installs the relay. `rt` must be on the PATH.
+# Proves, builds, tests and installs the relay and the auditor of its journals. `rt` must be on the PATH.
 
 PREFIX ?= /usr/local
 DESTDIR ?=
 PROGRAM = crates/socat_main/out/socat_main
+AUDITOR = crates/audit_main/out/audit_main
 SOURCES = $(shell find crates -name out -prune -o -type f \( -name '*.rt' -o -name '*.antt' \) -print) crates.txt
 
 .PHONY: all check test install clean bench
 
-all: bin/socat
+all: bin/socat bin/socat-audit
 
 # The run of the proved program on an empty input leaves it in out/; its status is 0 where all is proved.
 bin/socat: $(SOURCES)
@@ -18,19 +19,32 @@ bin/socat: $(SOURCES)
 	mv bin/socat.new bin/socat
 	@echo "bin/socat is built."
 
+bin/socat-audit: $(SOURCES)
+	@echo "Proving and building bin/socat-audit."
+	cd crates/audit_main && rt run -- data/journal -u STDIN STDOUT </dev/null
+	mkdir -p bin
+	cp $(AUDITOR) bin/socat-audit.new
+	mv bin/socat-audit.new bin/socat-audit
+	@echo "bin/socat-audit is built."
+
 check:
 	.ci/run
 
-# The checks of the built program alone, without the proofs' gate.
-test: bin/socat
+# The checks of the built programs alone, without the proofs' gate.
+test: bin/socat bin/socat-audit
 	tests/program.sh bin/socat
+	tests/words.sh bin/socat
+	tests/audit.sh bin/socat-audit
 
-install: bin/socat
+install: bin/socat bin/socat-audit
 	install -d "$(DESTDIR)$(PREFIX)/bin"
 	install -m 755 bin/socat "$(DESTDIR)$(PREFIX)/bin/socat"
+	install -m 755 bin/socat-audit "$(DESTDIR)$(PREFIX)/bin/socat-audit"
 
 bench: bin/socat
 	bench/throughput.sh bin/socat
+	bench/words.sh bin/socat
+	bench/parts.sh
 
 clean:
 	rm -rf bin crates/*/out

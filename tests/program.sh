@@ -1,6 +1,6 @@
 #!/usr/bin/env bash
-# Runs the built program on plain inputs, on readers, writers and devices that fail, and on words that it
-# refuses. One line a case, and 'N passed, M failed' at the end; the status is 1 where a case failed.
+# Runs the built program on plain inputs, and on readers, writers and devices that fail. One line a case, and
+# 'N passed, M failed' at the end; the status is 1 where a case failed.
 # Usage: tests/program.sh [PROGRAM]      (bin/socat where none is given)
 set -u
 
@@ -53,34 +53,21 @@ size_of() {
 # passes NAME FILE: the relay of the file gives the same bytes and status 0.
 passes() {
     local problem='' status
-    timeout 60 "$program" "${relay[@]}" <"$2" >"$scratch/out"
+    timeout 60 "$program" "${relay[@]}" <"$2" >"$scratch/out" 2>"$scratch/err"
     status=$?
     if [ "$status" -ne 0 ]; then
         problem="status $status"
+    elif [ -s "$scratch/err" ]; then
+        problem="said $(cat "$scratch/err")"
     elif [ "$(cksum <"$scratch/out")" != "$(cksum <"$2")" ]; then
         problem="other bytes came out"
     fi
     report "$1" "$problem"
 }
 
-# refuses NAME WORD..: these words end with status 1, write nothing and take nothing from the input.
-refuses() {
-    local name="$1" problem='' status left
-    shift
-    printf 'abc' >"$scratch/offered"
-    {
-        timeout 20 "$program" "$@" >"$scratch/out" 2>/dev/null
-        status=$?
-        left="$(cat)"
-    } <"$scratch/offered"
-    if [ "$status" -ne 1 ]; then
-        problem="status $status"
-    elif [ -s "$scratch/out" ]; then
-        problem="something was written"
-    elif [ "$left" != abc ]; then
-        problem="the input was read"
-    fi
-    report "$name" "$problem"
+# said LINE: standard error was just this line.
+said() {
+    printf '%s\n' "$1" | cmp -s - "$scratch/err"
 }
 
 # --- inputs that end
@@ -115,6 +102,18 @@ elif [ "${sums%$'\n'*}" != "$(large | cksum)" ]; then
 fi
 report "an input of 100 MB through two pipes" "$problem"
 
+for block in 1 3 0x10 1048576; do
+    problem=''
+    seq 1 2000 | timeout 60 "$program" "-b$block" "${relay[@]}" >"$scratch/out"
+    status="${PIPESTATUS[1]}"
+    if [ "$status" -ne 0 ]; then
+        problem="status $status"
+    elif [ "$(cksum <"$scratch/out")" != "$(seq 1 2000 | cksum)" ]; then
+        problem="other bytes came out"
+    fi
+    report "blocks of $block bytes" "$problem"
+done
+
 problem=''
 got="$( (printf a; sleep 0.2; printf b; sleep 0.2; printf c) | timeout 20 "$program" "${relay[@]}"
     echo " ${PIPESTATUS[1]}")"
@@ -129,10 +128,12 @@ report "a reader that is slow" "$problem"
 # --- ends and failures from outside
 
 problem=''
-timeout 20 "$program" "${relay[@]}" </dev/zero 2>/dev/null | head -c 10 >"$scratch/out"
+timeout 20 "$program" "${relay[@]}" </dev/zero 2>"$scratch/err" | head -c 10 >"$scratch/out"
 statuses=("${PIPESTATUS[@]}")
 if [ "${statuses[0]}" -ne 1 ]; then
     problem="status ${statuses[0]}"
+elif ! said 'socat: write failed on the right'; then
+    problem="said $(cat "$scratch/err")"
 elif [ "$(size_of "$scratch/out")" -ne 10 ]; then
     problem="the reader didn't get its 10 bytes"
 fi
@@ -140,19 +141,22 @@ report "a reader that closes early, on an input without end" "$problem"
 
 if [ -c /dev/full ]; then
     problem=''
-    printf 'abc' | timeout 20 "$program" "${relay[@]}" >/dev/full 2>/dev/null
+    printf 'abc' | timeout 20 "$program" "${relay[@]}" >/dev/full 2>"$scratch/err"
     status="${PIPESTATUS[1]}"
     [ "$status" -eq 1 ] || problem="status $status"
+    said 'socat: write failed on the right' || problem="said $(cat "$scratch/err")"
     report "a full device as the output" "$problem"
 else
     echo "skipped a full device as the output: there is no /dev/full"
 fi
 
 problem=''
-timeout 20 "$program" "${relay[@]}" </ >"$scratch/out" 2>/dev/null
+timeout 20 "$program" "${relay[@]}" </ >"$scratch/out" 2>"$scratch/err"
 status=$?
 if [ "$status" -ne 1 ]; then
     problem="status $status"
+elif ! said 'socat: read failed on the left'; then
+    problem="said $(cat "$scratch/err")"
 elif [ -s "$scratch/out" ]; then
     problem="something was written"
 fi
@@ -160,35 +164,29 @@ report "a directory as the input, which can't be read" "$problem"
 
 # What can't be read is a failure, and so is what can't be written.
 problem=''
-timeout 20 "$program" "${relay[@]}" <&- >"$scratch/out" 2>/dev/null
+timeout 20 "$program" "${relay[@]}" <&- >"$scratch/out" 2>"$scratch/err"
 status=$?
 if [ "$status" -ne 1 ]; then
     problem="status $status"
+elif ! said 'socat: read failed on the left'; then
+    problem="said $(cat "$scratch/err")"
 elif [ -s "$scratch/out" ]; then
     problem="something was written"
 fi
 report "standard input closed" "$problem"
 
 problem=''
-printf 'abc' | timeout 20 "$program" "${relay[@]}" >&- 2>/dev/null
+printf 'abc' | timeout 20 "$program" "${relay[@]}" >&- 2>"$scratch/err"
 status="${PIPESTATUS[1]}"
 [ "$status" -eq 1 ] || problem="status $status"
+said 'socat: write failed on the right' || problem="said $(cat "$scratch/err")"
 report "standard output closed" "$problem"
 
-# --- words that aren't built
-
-refuses "no words"
-refuses "only -" -
-refuses "one address" -u STDIN
-refuses "three addresses" -u STDIN STDOUT STDERR
-refuses "a word too many that is empty" -u STDIN STDOUT ''
-refuses "the other direction" -U STDIN STDOUT
-refuses "no flag" STDIN STDOUT
-refuses "the addresses the other way round" -u STDOUT STDIN
-refuses "usage" -h
-refuses "another flag" -v -u STDIN STDOUT
-refuses "an option" -u STDIN,cr STDOUT
-refuses "a longer word" -u STDIN STDOUTX
+problem=''
+timeout 20 "$program" "${relay[@]}" </ >"$scratch/out" 2>&-
+status=$?
+[ "$status" -eq 1 ] || problem="status $status"
+report "a failure with standard error closed" "$problem"
 
 # --- memory and signals
 

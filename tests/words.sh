@@ -1,0 +1,151 @@
+#!/usr/bin/env bash
+# Runs the built program on words that it refuses, and on those that ask for usage or version: each has its one
+# text on standard error, its status, nothing on standard output, and opens and creates nothing.
+# tests/data/refusals.txt has most of them; it was made by an independent model. One line a group, and
+# 'N passed, M failed' at the end; the status is 1 where a case failed.
+# Usage: tests/words.sh [PROGRAM]      (bin/socat where none is given)
+set -u
+
+here="$(cd "$(dirname "${BASH_SOURCE[0]}")/.." && pwd)"
+program="${1:-$here/bin/socat}"
+case "$program" in
+    /*) ;;
+    *) program="$PWD/$program" ;;
+esac
+if [ ! -x "$program" ]; then
+    echo "no program at $program: run make first"
+    echo "0 passed, 1 failed"
+    exit 1
+fi
+
+scratch="$(mktemp -d)" || exit 1
+trap 'rm -rf "$scratch"' EXIT
+mkdir "$scratch/empty"
+cd "$scratch/empty" || exit 1
+
+passed=0
+failed=0
+
+# says STATUS TEXT WORD..: the words end with the status, say the text and do nothing else.
+says() {
+    local status text problem='' got left
+    status="$1"
+    text="$2"
+    shift 2
+    printf 'abc' >"$scratch/offered"
+    {
+        timeout 20 "$program" "$@" >"$scratch/out" 2>"$scratch/err"
+        got=$?
+        left="$(cat)"
+    } <"$scratch/offered"
+    printf '%s' "$text" >"$scratch/wanted"
+    if [ "$got" -ne "$status" ]; then
+        problem="status $got"
+    elif ! cmp -s "$scratch/err" "$scratch/wanted"; then
+        problem="said $(head -c 200 "$scratch/err")"
+    elif [ -s "$scratch/out" ]; then
+        problem="something was written"
+    elif [ "$left" != abc ]; then
+        problem="the input was read"
+    elif [ -n "$(ls -A .)" ]; then
+        problem="something was made: $(ls -A . | head -n 1)"
+        rm -rf "$scratch/empty"/*
+    fi
+    if [ -z "$problem" ]; then
+        passed=$((passed + 1))
+    else
+        failed=$((failed + 1))
+        printf 'FAILED  %s: %s\n' "$(printf '%q ' "$@" | head -c 200)" "$problem"
+    fi
+}
+
+# refused LINE WORD..: status 1 and this line.
+refused() {
+    local line="$1"
+    shift
+    says 1 "$line"$'\n' "$@"
+}
+
+# --- the table of an independent model
+
+cases() {
+    local line count status text words
+    while IFS= read -r line; do
+        case "$line" in
+            'case '*) ;;
+            *) continue ;;
+        esac
+        count="${line#case }"
+        words=()
+        while [ "${#words[@]}" -lt "$count" ]; do
+            IFS= read -r line
+            words+=("$line")
+        done
+        IFS= read -r line
+        status="${line#status }"
+        IFS= read -r text
+        says "$status" "$text"$'\n' "${words[@]+"${words[@]}"}"
+    done
+}
+cases <"$here/tests/data/refusals.txt"
+echo "the table: $passed passed, $failed failed"
+
+# --- rows of one kind each
+
+refused 'socat: E07 word 1: empty option at 7' 'OPEN:x,,creat' STDIO
+refused 'socat: E13 word 2 half 1: address kind left out' STDIO PTY
+refused 'socat: E12 word 1 half 1: unknown address kind' FOO STDIO
+refused 'socat: E14 word 2 half 1: parameters want 2 have 1' STDIO TCP:h
+refused 'socat: E01 word 1: unclosed at 0' '(a' STDIO
+refused 'socat: E21: addresses want 2 have 1' STDIO
+refused 'socat: E22: no direction' STDOUT STDERR
+
+refused 'socat: E20 word 1: bad flag value' -b0 - -
+refused 'socat: E19 word 1: flag without value' -b
+refused 'socat: E20 word 1: bad flag value' -t 4000001 - -
+refused 'socat: E18 word 1: unknown flag' -z - -
+refused 'socat: E05 word 1: empty address' '' -
+refused 'socat: E15 word 1 half 1: bad parameter 1' OPEN: -
+refused 'socat: E15 word 1 half 1: bad parameter 2' TCP:h:65536 -
+refused 'socat: E10 word 1 half 1: option 1 of another group' -,fork -
+refused 'socat: E17 word 2 half 1: fork not here' -g -,fork -
+refused 'socat: E11 word 1 half 1: bad value of option 1' -,escape=256 -
+refused 'socat: E09 word 1 half 1: left-out option 1' -,pty -
+refused 'socat: E16 word 2 half 1: wrong use' -u STDOUT -
+refused 'socat: E16 word 2 half 1: wrong use' -U STDIN STDOUT
+refused 'socat: E21: addresses want 2 have 3' - - -
+refused 'socat: E21: addresses want 2 have 0'
+
+long() {
+    printf "%0$1d" 0 | tr 0 "$2"
+}
+refused 'socat: E03 word 1: address too long' "$(long 65537 a)" -
+refused 'socat: E01 word 1: unclosed at 0' "$(long 65536 '(')" -
+
+# Arguments are bytes, whatever they spell.
+refused 'socat: E12 word 1 half 1: unknown address kind' $'\xff\xfe' -
+refused 'socat: E18 word 1: unknown flag' $'-\xff' - -
+
+# --- what is in order and can't be run yet
+
+for words in '- -' '-U STDOUT STDIN' '-u STDIN,cr STDOUT' '-u OPEN:no-such-file STDOUT' \
+    'TCP-LISTEN:1,fork TCP:localhost:2' '-v -u STDIN STDOUT' '--load 7'; do
+    # The words are split at spaces.
+    # shellcheck disable=SC2086
+    refused 'socat: E23: not built' $words
+done
+refused 'socat: E23: not built' -u $'OPEN:\xff\xfe' STDOUT
+
+# --- usage and version
+
+usage='usage: socat [options] <address> <address>
+options: -b<size> -t<time> -T<time> -u -U -s -v -x -g -d -h -V
+'
+says 0 "$usage" -h
+says 0 "$usage" '-?' and more words
+says 0 "$usage" -u -b4 -h
+says 0 'socat relay, profile of 1.7
+' -V
+
+echo "$passed passed, $failed failed"
+[ "$failed" -eq 0 ]
