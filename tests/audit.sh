@@ -5,23 +5,8 @@
 # Usage: tests/audit.sh [PROGRAM]      (bin/socat-audit where none is given)
 set -u
 
-here="$(cd "$(dirname "${BASH_SOURCE[0]}")/.." && pwd)"
-program="${1:-$here/bin/socat-audit}"
-case "$program" in
-    /*) ;;
-    *) program="$PWD/$program" ;;
-esac
-if [ ! -x "$program" ]; then
-    echo "no program at $program: run make first"
-    echo "0 passed, 1 failed"
-    exit 1
-fi
-
-scratch="$(mktemp -d)" || exit 1
-trap 'rm -rf "$scratch"' EXIT
-
-passed=0
-failed=0
+. "$(dirname "${BASH_SOURCE[0]}")/common.sh"
+use_program "${1:-$here/bin/socat-audit}"
 
 # expect NAME LINE STATUS FILE WORDS..: the auditor says this line, and ends with this status.
 expect() {

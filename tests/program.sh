@@ -4,24 +4,10 @@
 # Usage: tests/program.sh [PROGRAM]      (bin/socat where none is given)
 set -u
 
-here="$(cd "$(dirname "${BASH_SOURCE[0]}")/.." && pwd)"
-program="${1:-$here/bin/socat}"
-case "$program" in
-    /*) ;;
-    *) program="$PWD/$program" ;;
-esac
-if [ ! -x "$program" ]; then
-    echo "no program at $program: run make first"
-    echo "0 passed, 1 failed"
-    exit 1
-fi
-
-scratch="$(mktemp -d)" || exit 1
-trap 'rm -rf "$scratch"' EXIT
+. "$(dirname "${BASH_SOURCE[0]}")/common.sh"
+use_program "${1:-$here/bin/socat}"
 
 relay=(-u STDIN STDOUT)
-passed=0
-failed=0
 
 # report NAME PROBLEM: a case passed where no problem is named.
 report() {

@@ -6,25 +6,10 @@
 # Usage: tests/words.sh [PROGRAM]      (bin/socat where none is given)
 set -u
 
-here="$(cd "$(dirname "${BASH_SOURCE[0]}")/.." && pwd)"
-program="${1:-$here/bin/socat}"
-case "$program" in
-    /*) ;;
-    *) program="$PWD/$program" ;;
-esac
-if [ ! -x "$program" ]; then
-    echo "no program at $program: run make first"
-    echo "0 passed, 1 failed"
-    exit 1
-fi
-
-scratch="$(mktemp -d)" || exit 1
-trap 'rm -rf "$scratch"' EXIT
+. "$(dirname "${BASH_SOURCE[0]}")/common.sh"
+use_program "${1:-$here/bin/socat}"
 mkdir "$scratch/empty"
 cd "$scratch/empty" || exit 1
-
-passed=0
-failed=0
 
 # says STATUS TEXT WORD..: the words end with the status, say the text and do nothing else.
 says() {
