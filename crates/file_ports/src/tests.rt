@@ -6,6 +6,7 @@ use std::alloc::{AllocError, Global};
 use std::process::Command;
 use std::sync::Wait;
 use std::test::Fail;
+use std::thread::Threads;
 use std::{fs, thread};
 
 #[derive(Drop)]
@@ -15,15 +16,7 @@ impl Wake for Nobody {
     fn wake(&self) {}
 }
 
-type HostPort = FilePort<
-    FileSource<HostRuntime>,
-    FileSink<HostRuntime>,
-    SureSpawner<HostRuntime>,
-    Nobody,
-    Option<Removal<HostRuntime>>,
->;
-
-fn worker(rt: HostRuntime) -> Worker<SureSpawner<HostRuntime>, Nobody> {
+fn worker<R: Threads>(rt: R) -> Worker<SureSpawner<R>, Nobody> {
     Worker {
         spawner: SureSpawner::new(rt),
         wake: Nobody,
@@ -31,23 +24,18 @@ fn worker(rt: HostRuntime) -> Worker<SureSpawner<HostRuntime>, Nobody> {
 }
 
 // an address without options
-fn plain(rt: HostRuntime, target: Target) -> Result<Single, NoMemory> {
-    let options = Options::defaults(rt.alloc())?;
+fn plain(alloc: Global, target: Target) -> Result<Single, NoMemory> {
+    let options = Options::defaults(alloc)?;
     Ok(Single { target, options })
 }
 
-fn port_of(rt: HostRuntime, single: &Single, part: Part) -> Result<Option<HostPort>, NoMemory> {
-    let Making::Made(opened) = open_file(rt, rt.alloc(), single, part) else {
-        return Ok(None);
-    };
-    let OpenedFile { ends, removal } = opened;
-    let port = file_port(rt.alloc(), ends, worker(rt), worker(rt), removal)?;
-    Ok(Some(port))
-}
-
 // reads to the next mark
-fn read_on(rt: HostRuntime, port: &mut HostPort) -> Result<(Vec<u8>, Got), AllocError> {
-    let mut all = Vec::new(rt.alloc());
+fn read_on<R: Wait, P: Port>(
+    rt: &R,
+    alloc: Global,
+    port: &mut P,
+) -> Result<(Vec<u8>, Got), AllocError> {
+    let mut all = Vec::new(alloc);
     let mut into = [0u8; 700];
     for _ in rt.forever() {
         match port.read(&mut into) {
@@ -90,23 +78,35 @@ fn a_file_is_written_and_read_back(rt: HostRuntime) -> Result<(), Fail> {
         data.push((at % 251) as u8)?;
     }
     let name = Text::of(rt.alloc(), b"written")?;
-    let single = plain(rt, Target::Create(name))?;
-    let Some(mut port) = port_of(rt, &single, Part::Writing)? else {
-        return Err("not created")?;
+    let single = plain(rt.alloc(), Target::Create(name))?;
+    let Making::Made(OpenedFile { ends, removal }) = open_file(
+        rt,
+        rt.alloc(),
+        &single,
+        Part::Writing,
+    ) else {
+        return Err("not made")?;
     };
+    let mut port = file_port(rt.alloc(), ends, worker(rt), worker(rt), removal)?;
     assert_eq!(rt; port.begin(), Begun::Begun);
     assert_eq!(rt; port.put_all(data.as_slice()), Took::Took(100_000));
     assert_eq!(rt; port.join(), Joining::Running);
     assert_eq!(rt; port.shut(Shut::Close), Shutting::Done);
     assert_eq!(rt; port.join(), Joining::Joined);
     let name = Text::of(rt.alloc(), b"written")?;
-    let mut single = plain(rt, Target::FileAt(name))?;
+    let mut single = plain(rt.alloc(), Target::FileAt(name))?;
     single.options.unlink_close = true;
-    let Some(mut port) = port_of(rt, &single, Part::Reading)? else {
+    let Making::Made(OpenedFile { ends, removal }) = open_file(
+        rt,
+        rt.alloc(),
+        &single,
+        Part::Reading,
+    ) else {
         return Err("not opened")?;
     };
+    let mut port = file_port(rt.alloc(), ends, worker(rt), worker(rt), removal)?;
     assert_eq!(rt; port.begin(), Begun::Begun);
-    let (all, got) = read_on(rt, &mut port)?;
+    let (all, got) = read_on(&rt, rt.alloc(), &mut port)?;
     assert_eq!(rt; got, Got::End);
     assert_eq!(rt; all.as_slice(), data.as_slice());
     assert_eq!(rt; port.join(), Joining::Joined);
@@ -122,32 +122,46 @@ fn a_named_pipe_is_opened_by_its_thread(rt: HostRuntime) -> Result<(), Fail> {
         .status(&rt)?;
     assert!(rt; made.success());
     let name = Text::of(rt.alloc(), b"fifo")?;
-    let mut single = plain(rt, Target::NamedPipe(name))?;
-    single.options.unlink_close = true;
-    let Some(mut port) = port_of(rt, &single, Part::Reading)? else {
+    let single = plain(rt.alloc(), Target::NamedPipe(name))?;
+    let Making::Made(OpenedFile { ends, removal }) = open_file(
+        rt,
+        rt.alloc(),
+        &single,
+        Part::Reading,
+    ) else {
         return Err("not opened")?;
     };
+    let mut port = file_port(rt.alloc(), ends, worker(rt), worker(rt), removal)?;
     assert_eq!(rt; port.begin(), Begun::Begun);
     fs::write(&rt, "fifo", "hello")?;
-    let (all, got) = read_on(rt, &mut port)?;
+    let (all, got) = read_on(&rt, rt.alloc(), &mut port)?;
     assert_eq!(rt; got, Got::End);
     assert_eq!(rt; all.as_slice(), b"hello".as_slice());
     assert_eq!(rt; port.write(b"a"), Took::Failed);
     assert_eq!(rt; port.join(), Joining::Joined);
+    fs::remove_file(&rt, "fifo")?;
     Ok(())
 }
 
 #[test]
 fn what_is_not_there_is_not_opened(rt: HostRuntime) -> Result<(), Fail> {
     let name = Text::of(rt.alloc(), b"missing")?;
-    let single = plain(rt, Target::FileAt(name))?;
-    assert!(rt; port_of(rt, &single, Part::Reading)?.is_none());
+    let single = plain(rt.alloc(), Target::FileAt(name))?;
+    let opened = open_file(rt, rt.alloc(), &single, Part::Reading);
+    assert!(rt; matches!(&opened, Making::Failed));
     let name = Text::of(rt.alloc(), b"missing")?;
-    let single = plain(rt, Target::NamedPipe(name))?;
-    assert!(rt; port_of(rt, &single, Part::Both)?.is_none());
-    let name = Text::of(rt.alloc(), b"\xff")?;
-    let single = plain(rt, Target::Create(name))?;
-    assert!(rt; port_of(rt, &single, Part::Writing)?.is_none());
+    let single = plain(rt.alloc(), Target::NamedPipe(name))?;
+    let opened = open_file(rt, rt.alloc(), &single, Part::Both);
+    assert!(rt; matches!(&opened, Making::Failed));
+    Ok(())
+}
+
+#[test]
+fn a_name_is_utf8(rt: HostRuntime) -> Result<(), Fail> {
+    let name = Text::of(rt.alloc(), &[255])?;
+    let single = plain(rt.alloc(), Target::Create(name))?;
+    let opened = open_file(rt, rt.alloc(), &single, Part::Writing);
+    assert!(rt; matches!(&opened, Making::Failed));
     Ok(())
 }
 
@@ -158,16 +172,13 @@ fn a_file_in_memory_is_used_both_ways(rt: HostRuntime) -> Result<(), Fail> {
     let tap = sink.tap();
     let ends = FileEnds::Both(source, sink);
     let mut port = file_port(rt.alloc(), ends, worker(rt), worker(rt), ())?;
-    let mut into = [0u8; 8];
     assert_eq!(rt; port.begin(), Begun::Begun);
     assert_eq!(rt; port.write(b"xyz"), Took::Took(3));
     assert_eq!(rt; port.send(b"xyz"), Took::Failed);
     assert_eq!(rt; port.shut(Shut::Down), Shutting::Done);
-    for _ in rt.forever() {
-        if port.read(&mut into) == Got::End {
-            break;
-        }
-    }
+    let (all, got) = read_on(&rt, rt.alloc(), &mut port)?;
+    assert_eq!(rt; got, Got::End);
+    assert_eq!(rt; all.as_slice(), b"abc".as_slice());
     assert_eq!(rt; port.join(), Joining::Joined);
     assert_eq!(rt; tap.bytes()?.as_slice(), b"xyz".as_slice());
     Ok(())
