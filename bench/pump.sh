@@ -3,6 +3,7 @@
 # pipe to pipe and from a file to /dev/null, the time of one byte there and back, and the processor time while
 # nothing comes. Prints medians, and the ratios to socat's. 1 MB is 1,000,000 bytes.
 # Usage: bench/pump.sh [PROGRAM]    (what `rt run` built in crates/bench_pump where none is given)
+# On a busy machine run it as chrt -r 1 bench/pump.sh, which lets nothing else run in between.
 # ROUNDS, BYTES and TRIPS change the number of rounds (5), the bytes of one run (1073741824) and the trips of one
 # round (3000).
 set -u

@@ -1,4 +1,5 @@
 pub mod Access
 pub mod Echoes
 pub mod Files
+pub mod Opened
 pub mod Openings

@@ -1,4 +1,7 @@
 // Files are opened by their addresses.
+ghost use Rattle.std.specs.Prelude.{◌≡◌, None, Some, IfSome, IfNone, is_some, not, IsUtf8};
+ghost use Rattle.port_trait.specs.declared.makers.Making.TheVariants as makings;
+ghost use Rattle.file_ports.specs.Opened.{file_named, OnMade, FitsPart, IsOpened};
 
 use crate::access::{Access, FileKind};
 use crate::streams::{FileSink, FileSource};
@@ -44,6 +47,9 @@ pub struct OpenedFile<R: Files + Drop> {
 pub fn open_file<R>(files: R, alloc: Global, single: &Single, part: Part) -> Making<OpenedFile<R>>
 where
     R: Files + Copy + Drop,
+    ensures made { OnMade result (λ opened. IsOpened single.now part opened.ends opened.removal) }
+    ensures other { file_named single.now.target ≡ None → result ≡ makings.Failed }
+    ensures unnamed { IfSome (file_named single.now.target) (λ file. ¬ (IsUtf8 file.1) → result ≡ makings.Failed) }
 {
     let Some((kind, name)) = file_of(&single.target) else {
         return Making::Failed;
@@ -54,19 +60,27 @@ where
     if single.options.unlink_early {
         let _ = files.remove_file(name);
     }
-    let ends = match open_ends(
-        files,
-        alloc,
-        kind,
-        Access::of(kind, single.options.file, part),
-        name,
-        part,
-    ) {
-        Making::Made(ends) => ends,
-        Making::Later(_) | Making::Failed => return Making::Failed,
-        Making::Memory => return Making::Memory,
-    };
-    if !single.options.unlink_close {
+    let access = Access::of(kind, single.options.file, part);
+    match open_ends(files, alloc, kind, access, name, part) {
+        Making::Made(ends) => keep_entry(files, alloc, ends, name, !single.options.unlink_close),
+        Making::Later(_) | Making::Failed => Making::Failed,
+        Making::Memory => Making::Memory,
+    }
+}
+
+/// The opened file, with what removes its entry unless that is to stay.
+fn keep_entry<R>(
+    files: R,
+    alloc: Global,
+    ends: FileEnds<FileSource<R>, FileSink<R>>,
+    name: &str,
+    stays: bool,
+) -> Making<OpenedFile<R>>
+where
+    R: Files + Copy + Drop,
+    ensures { OnMade result (λ opened. (opened.ends ≡ ends) × (is_some opened.removal ≡ not stays)) }
+{
+    if stays {
         return Making::Made(OpenedFile {
             ends,
             removal: None,
@@ -82,7 +96,10 @@ where
 }
 
 /// The kind and the name of an address of a file.
-fn file_of(target: &Target) -> Option<(FileKind, &Text)> {
+fn file_of(target: &Target) -> Option<(FileKind, &Text)>
+    ensures found { IfSome result (λ file. file_named target.now ≡ Some (file.0, file.1.now)) }
+    ensures other { IfNone result (file_named target.now ≡ None) }
+{
     match target {
         Target::Create(name) => Some((FileKind::Create, name)),
         Target::FileAt(name) => Some((FileKind::Open, name)),
@@ -103,13 +120,14 @@ fn open_ends<R>(
 ) -> Making<FileEnds<FileSource<R>, FileSink<R>>>
 where
     R: Files + Copy + Drop,
+    ensures { OnMade result (FitsPart part) }
 {
     let pipe = is_pipe(&files, name);
     if kind == FileKind::Pipe && !pipe {
         return Making::Failed;
     }
-    if pipe && !access.create_new && !(access.read && access.write) {
-        return wait_for_end(files, alloc, access, name);
+    if pipe && !access.create_new && part != Part::Both {
+        return wait_for_end(files, alloc, access, name, part);
     }
     if kind == FileKind::Generic && !access.write {
         make_missing(&files, name);
@@ -140,23 +158,25 @@ fn make_missing<R: Files>(files: &R, name: &str) {
     let _ = files.open_file(&access.options(), name);
 }
 
-/// The end of a named pipe that is opened later.
+/// The end of a named pipe that is opened later. One that is used both ways fails.
 fn wait_for_end<R>(
     files: R,
     alloc: Global,
     access: Access,
     name: &str,
+    part: Part,
 ) -> Making<FileEnds<FileSource<R>, FileSink<R>>>
 where
     R: Files + Copy + Drop,
+    ensures { OnMade result (FitsPart part) }
 {
     let Ok(name) = String::from_str(alloc, name) else {
         return Making::Memory;
     };
-    if access.read {
-        Making::Made(FileEnds::Reading(FileSource::waiting(files, name, access)))
-    } else {
-        Making::Made(FileEnds::Writing(FileSink::waiting(files, name, access)))
+    match part {
+        Part::Reading => Making::Made(FileEnds::Reading(FileSource::waiting(files, name, access))),
+        Part::Writing => Making::Made(FileEnds::Writing(FileSink::waiting(files, name, access))),
+        Part::Both => Making::Failed,
     }
 }
 
@@ -164,6 +184,7 @@ where
 fn ends_of<R>(file: R::File, part: Part) -> Making<FileEnds<FileSource<R>, FileSink<R>>>
 where
     R: Files + Copy + Drop,
+    ensures { OnMade result (FitsPart part) }
 {
     match part {
         Part::Reading => Making::Made(FileEnds::Reading(FileSource::open(file))),
