@@ -1,5 +1,5 @@
 // The port of a source that a thread reads.
-ghost use Rattle.std.specs.Prelude.{◌≡◌, ◌≤◌, true, IfOk};
+ghost use Rattle.std.specs.Prelude.{◌≡◌, true, IfOk};
 ghost use Rattle.port_trait.specs.Counting.{Rose};
 ghost use Rattle.thread_rings.specs.Readers.{fresh_reader};
 
@@ -18,18 +18,18 @@ use std::alloc::Global;
 use std::marker::Model;
 use std::snapshot::Snapshot;
 use std::sync::{Arc, Wait};
-use std::thread::Threads;
 
 /// The words that the queue that goes back has room for.
 const WORDS: usize = 2;
 
 /// A ring whose thread reads a source that may block. Its other half fails.
 #[derive(Drop)]
-pub struct RingReader<S, R>
+pub struct RingReader<S, P>
 where
     S: Source + Drop,
+    P: Spawner,
 {
-    pub(crate) rt: R,
+    pub(crate) spawner: P,
     pub(crate) lines: Arc<Lines<Word>, Global>,
     pub(crate) start: Snapshot<S>,
     pub(crate) items: OrderedPass<RingItem>,
@@ -44,9 +44,10 @@ where
     pub(crate) pace: Pace,
 }
 
-impl<S, R> Model for RingReader<S, R>
+impl<S, P> Model for RingReader<S, P>
 where
     S: Source + Drop,
+    P: Spawner,
 {
     ghost use Rattle.crossbeam_queue.specs.Passes.{view as known, IsPassOf};
     ghost use Rattle.thread_rings.specs.Readers.{ReaderState};
@@ -55,33 +56,33 @@ where
 
     ghost use Rattle.thread_rings.specs.Readers.{IsReading, is_begun, is_refused, behind_of};
 
-    ghost view = { λ r. record { taken = (known r.items).taken; held = r.held; marked = r.marked; ended = r.ended; begun = is_begun r.stage; refused = is_refused r.stage; counts = r.counts; since = r.since; strayed = r.strayed; behind = behind_of S.left S.faults S.ends r.start.value r.stage } };
+    ghost view = { λ r. record { taken = (known r.items).taken; held = r.held; marked = r.marked; ended = r.ended; begun = is_begun r.stage; refused = is_refused r.stage; counts = r.counts; since = r.since; strayed = r.strayed; spawner_faults = P.faults r.spawner; behind = behind_of S.left S.faults S.ends r.start.value r.stage } };
 
     ghost invariant = { λ r. IsPassOf r.lines.value.items r.items × IsPassOf r.lines.value.back r.words × IsReading S.left S.faults S.ends r.lines.value r.start.value (known r.items) (known r.words) r.held r.marked r.ended r.strayed r.since r.counts r.stage };
 }
 
-impl<S, R> RingReader<S, R>
+impl<S, P> RingReader<S, P>
 where
     S: Source + Send + Drop + 'static,
-    R: Threads + Wait + Copy + Send + 'static,
+    P: Spawner + Drop,
+    P::Runtime: Wait + Copy + Send + 'static,
 {
     /// A ring that is to read this source. Its queues have room for 64 items of at most 512 bytes. The thread is
     /// made here and waits for `begin`; where it can't be made, the source is dropped, and `begin` fails.
-    pub fn new<P, W>(
+    pub fn new<W>(
         alloc: Global,
         source: S,
-        spawner: &mut P,
+        spawner: P,
         wake: W,
-    ) -> Result<RingReader<S, R>, NoMemory>
+    ) -> Result<RingReader<S, P>, NoMemory>
     where
-        P: Spawner<Runtime = R>,
         W: Wake + Send + Drop + 'static,
-        ensures grows { P.faults spawner.old ≤ P.faults spawner.new }
-        ensures fresh { IfOk result (λ ring. ring ≡ fresh_reader ring.refused) }
-        ensures refused { IfOk result (λ ring. ring.refused ≡ true → Rose (P.faults spawner.old) (P.faults spawner.new)) }
+        ensures fresh { IfOk result (λ ring. ring ≡ fresh_reader ring.refused ring.spawner_faults) }
+        ensures refused { IfOk result (λ ring. ring.refused ≡ true → Rose (P.faults spawner) ring.spawner_faults) }
     {
         let ends = make_lines::<Word>(alloc, WORDS)?;
         let block = Block::new(alloc)?;
+        let mut spawner = spawner;
         let rt = *spawner.threads();
         let start = Snapshot::of(&source);
         let feeder = Feeder {
@@ -94,9 +95,9 @@ where
             block,
             count: 0,
         };
-        let stage = Stage::of(launch(spawner, feeder));
+        let stage = Stage::of(launch(&mut spawner, feeder));
         Ok(RingReader {
-            rt,
+            spawner,
             lines: ends.port,
             start,
             items: ends.taker,

@@ -13,16 +13,18 @@ use crate::items::RingItem;
 use crate::reader::RingReader;
 use crate::reader_stage::Stage;
 use crate::reader_steps::{ask_again, find_empty, finish, has_some, next};
-use port_trait::{Begun, Got, Hint, Joining, Port, PortReap, Settled, Shutting, Source, Took};
+use port_trait::{
+    Begun, Got, Hint, Joining, Port, PortReap, Settled, Shutting, Source, Spawner, Took,
+};
 use relay_model::Shut;
 use std::mem;
 use std::sync::Wait;
-use std::thread::Threads;
 
-impl<S, R> Port for RingReader<S, R>
+impl<S, P> Port for RingReader<S, P>
 where
     S: Source + Drop,
-    R: Threads + Wait + Copy,
+    P: Spawner + Drop,
+    P::Runtime: Wait + Copy,
 {
     ghost gave = { λ ring. Some (given_of ring) };
 
@@ -93,7 +95,7 @@ where
             self.marked = false;
             return Got::Bytes(self.held.give(into));
         }
-        let rt = self.rt;
+        let rt = *self.spawner.threads();
         if !self.stage.is_running() {
             find_empty(&rt, &self.lines, &mut self.items);
             self.marked = false;
@@ -219,7 +221,7 @@ where
         let Stage::Running(task) = mem::replace(&mut self.stage, Stage::Refused) else {
             unreachable!()
         };
-        let rt = self.rt;
+        let rt = *self.spawner.threads();
         let source = finish(
             &rt,
             &self.lines,

@@ -1,12 +1,11 @@
 use super::*;
 use port_objects::{ListSpawner, MemSource, SureSpawner};
 use port_trait::{Begun, Got, Joining, Port, Shutting, Took, Wake};
-use relay_model::{Bytes, NoMemory, Shut};
+use relay_model::{Bytes, Shut};
 use std::alloc::{AllocError, Global};
 use std::sync::Wait;
 use std::test::Fail;
 use std::thread;
-use std::thread::Threads;
 
 #[derive(Drop)]
 struct Nobody;
@@ -33,19 +32,14 @@ fn read_on<R: Wait>(
     unreachable!()
 }
 
-fn fill(data: &mut Vec<u8>) -> Result<(), AllocError> {
-    for at in 0..100_000u32 {
-        data.push((at % 251) as u8)?;
-    }
-    Ok(())
-}
-
 #[test]
 fn a_stream_comes_whole(rt: HostRuntime) -> Result<(), Fail> {
     let mut data = Vec::new(rt.alloc());
-    fill(&mut data)?;
+    for at in 0..100_000u32 {
+        data.push((at % 251) as u8)?;
+    }
     let source = MemSource::new(Bytes::of(rt.alloc(), data.as_slice())?, true);
-    let ring = RingReader::new(rt.alloc(), source, &mut SureSpawner::new(rt), Nobody)?;
+    let ring = RingReader::new(rt.alloc(), source, SureSpawner::new(rt), Nobody)?;
     let mut port: Box<dyn Port> = Box::new(rt.alloc(), ring)?;
     assert_eq!(rt; port.begin(), Begun::Begun);
     let (all, got) = read_on(&rt, rt.alloc(), &mut port)?;
@@ -60,7 +54,7 @@ fn a_stream_comes_whole(rt: HostRuntime) -> Result<(), Fail> {
 #[test]
 fn a_source_that_fails_is_asked_again(rt: HostRuntime) -> Result<(), Fail> {
     let source = MemSource::new(Bytes::of(rt.alloc(), b"abc")?, false);
-    let ring = RingReader::new(rt.alloc(), source, &mut SureSpawner::new(rt), Nobody)?;
+    let ring = RingReader::new(rt.alloc(), source, SureSpawner::new(rt), Nobody)?;
     let mut port: Box<dyn Port> = Box::new(rt.alloc(), ring)?;
     assert_eq!(rt; port.begin(), Begun::Begun);
     let (all, got) = read_on(&rt, rt.alloc(), &mut port)?;
@@ -76,8 +70,8 @@ fn a_source_that_fails_is_asked_again(rt: HostRuntime) -> Result<(), Fail> {
 #[test]
 fn a_ring_without_a_thread_never_begins(rt: HostRuntime) -> Result<(), Fail> {
     let source = MemSource::new(Bytes::of(rt.alloc(), b"abc")?, true);
-    let mut spawner = ListSpawner::new(rt, Bytes::of(rt.alloc(), &[0])?);
-    let mut ring = RingReader::new(rt.alloc(), source, &mut spawner, Nobody)?;
+    let spawner = ListSpawner::new(rt, Bytes::of(rt.alloc(), &[0])?);
+    let mut ring = RingReader::new(rt.alloc(), source, spawner, Nobody)?;
     assert_eq!(rt; ring.begin(), Begun::Failed);
     assert_eq!(rt; ring.begin(), Begun::Failed);
     assert_eq!(rt; ring.read(&mut [0]), Got::NotYet);
@@ -85,29 +79,16 @@ fn a_ring_without_a_thread_never_begins(rt: HostRuntime) -> Result<(), Fail> {
     Ok(())
 }
 
-// one ring from its begin to its join
-fn begun_and_joined<R>(rt: R, alloc: Global) -> Result<bool, NoMemory>
-where
-    R: Threads + Wait + Copy + Send + 'static,
-{
-    let source = MemSource::new(Bytes::of(alloc, b"abcdef")?, true);
-    let mut ring = RingReader::new(alloc, source, &mut SureSpawner::new(rt), Nobody)?;
-    let _ = ring.begin();
-    let mut total = 0usize;
-    for _ in rt.forever() {
-        match ring.read(&mut [0u8; 4]) {
-            Got::Bytes(count) => total = total.wrapping_add(count),
-            Got::NotYet => thread::yield_now(),
-            _ => break,
-        }
-    }
-    Ok(total == 6 && ring.join() == Joining::Joined)
-}
-
 #[test]
 fn rings_are_joined_again_and_again(rt: HostRuntime) -> Result<(), Fail> {
     for _ in 0..50 {
-        assert!(rt; begun_and_joined(rt, rt.alloc())?);
+        let source = MemSource::new(Bytes::of(rt.alloc(), b"abcdef")?, true);
+        let ring = RingReader::new(rt.alloc(), source, SureSpawner::new(rt), Nobody)?;
+        let mut port: Box<dyn Port> = Box::new(rt.alloc(), ring)?;
+        let _ = port.begin();
+        let (all, _) = read_on(&rt, rt.alloc(), &mut port)?;
+        assert_eq!(rt; all.as_slice(), b"abcdef".as_slice());
+        assert_eq!(rt; port.join(), Joining::Joined);
     }
     Ok(())
 }
