@@ -6,7 +6,7 @@ use Rattle.relay_model.specs.declared.places.Side.TheVariants.{Left, Right}
 use Rattle.relay_model.specs.declared.places.Way.TheVariants.{LeftToRight, RightToLeft}
 use Rattle.relay_model.specs.declared.commands.Address.{Address}
 use Rattle.relay_model.specs.declared.commands.Address.TheVariants.{One, Two}
-use Rattle.relay_laws.specs.Configs.{Fit, listens, formed, fork_is_placed}
+use Rattle.relay_model.specs.Configs.{Fit, listens, formed, fork_is_placed}
 use Rattle.option_table.specs.Parts.{only_if}
 use Rattle.cmd_words.specs.declared.settings.Settings.{Settings}
 use Rattle.cmd_words.specs.Flags.{IsBounded}

@@ -14,7 +14,7 @@ use Rattle.relay_model.specs.declared.commands.Single.{Single}
 use Rattle.relay_model.specs.declared.refusals.Refusal.{Refusal}
 use Rattle.relay_model.specs.declared.refusals.Refusal.TheVariants as refusals
 use Rattle.relay_model.specs.declared.refusals.Refused.{Refused}
-use Rattle.relay_laws.specs.Configs.{Fit, listens, parts_of, part_with, formed}
+use Rattle.relay_model.specs.Configs.{Fit, listens, parts_of, part_with, formed}
 use Rattle.option_table.specs.Parts.{only_if}
 use Rattle.addr_grammar.specs.declared.addresses.RawAddress.{RawAddress}
 use Rattle.addr_grammar.specs.declared.addresses.RawAddress.TheVariants as written

@@ -1,6 +1,6 @@
 // Which directions two addresses form.
 ghost use Rattle.std.specs.Prelude.{◌≡◌};
-ghost use Rattle.relay_laws.specs.Configs.{narrowed, offered};
+ghost use Rattle.relay_model.specs.Configs.{narrowed, offered};
 ghost use Rattle.cmd_words.specs.Commands.{is_read, is_written, has_direction};
 
 use relay_model::{Address, FileFlags, Part, Side, Single, Target, Ways};

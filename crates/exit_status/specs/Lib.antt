@@ -1,3 +1,3 @@
-pub mod Outcomes
 pub mod Lines
+pub mod Outcomes
 pub mod Statuses

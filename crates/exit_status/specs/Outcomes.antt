@@ -1,45 +1,51 @@
--- The outcome of a run, recomputed from its acts. It is spoken of where nothing is held any more.
-use Rattle.std.specs.Prelude.{◌≡◌, ℕ, Bool, true, false, List, [], ◌∷◌, Option, Some, None, if◌then◌else◌, ◌==◌, ◌⊎◌}
-use Rattle.relay_model.specs.declared.places.Side.TheVariants.{Left, Right}
+-- How the outcome that is told stands to the one that a list of acts gives.
+use Rattle.std.specs.Prelude.{◌≡◌, ℕ, ◌⊎◌, List, Option, Some, None}
 use Rattle.relay_model.specs.declared.commands.Config.{Config}
 use Rattle.relay_model.specs.declared.acts.Act.{Act}
-use Rattle.relay_model.specs.declared.acts.Act.TheVariants.{ReadFault, WriteFault}
 use Rattle.relay_model.specs.declared.acts.Why.{Why}
-use Rattle.relay_model.specs.declared.acts.Why.TheVariants as causes
-use Rattle.relay_model.specs.Directions.{left_place, right_place}
-use Rattle.relay_model.specs.Causes.{turns, failures, memory_said, stop_said, cause}
-use Rattle.relay_model.specs.Legality.{Rest}
+use Rattle.relay_model.specs.declared.acts.Why.TheVariants as whys
+use Rattle.relay_model.specs.declared.places.Half.{Half}
+use Rattle.relay_model.specs.declared.places.Half.TheVariants.{ToRead, ToWrite}
+use Rattle.relay_model.specs.History.{turns}
+use Rattle.relay_model.specs.Rest.{Rest}
+use Rattle.relay_model.specs.Outcome.{Outcome}
+use Rattle.relay_model.specs.Outcome as endings
+use Rattle.exit_status.specs.declared.outcomes.EndWhy.{EndWhy}
 use Rattle.exit_status.specs.declared.outcomes.EndWhy.TheVariants as ends
+use Rattle.exit_status.specs.declared.outcomes.Op.{Op}
 use Rattle.exit_status.specs.declared.outcomes.Op.TheVariants.{Reading, Writing}
-use Rattle.exit_status.specs.declared.outcomes.Outcome.{Outcome}
-use Rattle.exit_status.specs.declared.outcomes.Outcome.TheVariants as outcomes
+use Rattle.exit_status.specs.declared.outcomes.Outcome.{Outcome as Told}
+use Rattle.exit_status.specs.declared.outcomes.Outcome.TheVariants as told
 
--- the place and the operation of the fault
-abbrev pub fault_of : List Act → Option Outcome
-fault_of [] = None
-fault_of (ReadFault p ∷ past) = Some (outcomes.Faulted p Reading)
-fault_of (WriteFault p ∷ past) = Some (outcomes.Faulted p Writing)
-fault_of (act ∷ past) = fault_of past
+abbrev pub why_of : EndWhy → Why
+why_of ends.Finished = whys.Finished
+why_of ends.ClosingTime = whys.ClosingTime
+why_of ends.Idle = whys.Idle
+why_of ends.Served = whys.Served
 
--- the side whose opening failed, and how often
-abbrev pub failure_of : Config → List Act → Outcome
-failure_of c past =
-    if failures past (left_place c) == 0 then outcomes.OpenFailed Right (failures past (right_place c)) else outcomes.OpenFailed Left (failures past (left_place c))
+abbrev pub half_of : Op → Half
+half_of Reading = ToRead
+half_of Writing = ToWrite
 
--- the outcome that a cause gives
-abbrev pub outcome_by : Config → List Act → Option Why → Option Outcome
-outcome_by c past (Some causes.OpenFailed) = Some (failure_of c past)
-outcome_by c past (Some causes.Faulted) = fault_of past
-outcome_by c past (Some causes.Finished) = Some (outcomes.Ended ends.Finished)
-outcome_by c past why = None
+-- the outcome of a run, where what is told is one: a refusal and what is printed are not
+abbrev pub outcome_of : Told → Option Outcome
+outcome_of (told.Ended why) = Some (endings.Ended (why_of why))
+outcome_of told.Told = None
+outcome_of told.Loaded = None
+outcome_of (told.Refused refused) = None
+outcome_of (told.OpenFailed side attempts) = Some (endings.OpenFailed side attempts)
+outcome_of (told.ListenFailed attempts) = Some (endings.ListenFailed attempts)
+outcome_of told.AcceptFailed = Some endings.AcceptFailed
+outcome_of (told.Faulted place op) = Some (endings.Faulted place (half_of op))
+outcome_of (told.Stopped turns) = Some (endings.Stopped turns)
+outcome_of told.Memory = Some endings.Memory
 
--- memory was wanting; the run was stopped; else by the cause
-abbrev pub outcome : Config → List Act → Option Outcome
-outcome c past =
-    if memory_said past then Some outcomes.Memory
-    else (if stop_said past then Some (outcomes.Stopped (turns past)) else outcome_by c past (cause c past))
+abbrev pub known_outcome : Option Told → Option Outcome
+known_outcome None = None
+known_outcome (Some answer) = outcome_of answer
 
--- the outcome, also where the turns were used up while a wait was in order
-abbrev pub IsOutcome : Config → ℕ → List Act → Outcome → Type 0
-IsOutcome c n past o =
-    (outcome c past ≡ Some o) ⊎ ((turns past ≡ n) × Rest c past × (o ≡ outcomes.Stopped n))
+-- the answer is the outcome of the acts, once nothing is held; or the turns were used up while a wait was in order
+abbrev pub IsOutcome : Config → ℕ → List Act → Told → Type 0
+IsOutcome c n past answer =
+    ((ending : Outcome) × (endings.outcome c past ≡ Some ending) × (outcome_of answer ≡ Some ending))
+    ⊎ ((turns past ≡ n) × Rest c past × (answer ≡ told.Stopped n))

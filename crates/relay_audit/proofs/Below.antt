@@ -1,7 +1,7 @@
 -- What holds of the numbers below a bound, and the first of several answers.
 use Rattle.std.proofs.Common.{◌≡◌, ℕ, zero, suc, ◌+◌, ◌<◌, Bool, true, false, ◌||◌, ◌&&◌, below_more, add-one, refl, ap, arith}
 use Rattle.std.specs.Prelude.{Option, Some, None}
-use Rattle.relay_laws.specs.Choices.{or_else, earlier, some_below, each_below, least_below}
+use Rattle.relay_model.specs.Choices.{or_else, earlier, some_below, each_below, least_below}
 
 or_left : (a b : Bool) → a ≡ true → (a || b) ≡ true
 or_left a b holds = ap (λ x. x || b) holds

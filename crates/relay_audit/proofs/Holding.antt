@@ -3,11 +3,11 @@ use Rattle.std.proofs.Common.{◌≡◌, ℕ, ◌+◌, ◌&&◌, count_by, add-o
 use Rattle.std.specs.Prelude.{List}
 use Rattle.relay_model.specs.declared.commands.Config.{Config}
 use Rattle.relay_model.specs.declared.acts.Act.{Act}
-use Rattle.relay_laws.specs.Choices.{one_more}
-use Rattle.relay_laws.specs.Configs.{things, has_fork, program_door}
-use Rattle.relay_laws.specs.History.{held}
-use Rattle.relay_laws.specs.Sessions.{numbers}
-use Rattle.relay_laws.specs.Audit.{held_count}
+use Rattle.relay_model.specs.Choices.{one_more}
+use Rattle.relay_model.specs.Configs.{things, has_fork, program_door}
+use Rattle.relay_model.specs.History.{held}
+use Rattle.relay_model.specs.Sessions.{numbers}
+use Rattle.relay_model.specs.Audit.{held_count}
 use Rattle.relay_audit.specs.Pasts.{held_below}
 
 pub held_below_more : (c : Config) (past : List Act) (k : ℕ) → held_below c past (k + 1) ≡ count_by (held past) (things c k) + held_below c past k

@@ -1,6 +1,6 @@
 -- Tests that follow one from the other.
 use Rattle.std.proofs.Common.{◌≡◌, Bool, true, false, not, refl}
-use Rattle.relay_laws.specs.Audit.{implies}
+use Rattle.relay_model.specs.Audit.{implies}
 
 pub implies_met : (a : Bool) → implies a true ≡ true
 implies_met true = refl

@@ -3,9 +3,9 @@ use Rattle.std.proofs.Common.{◌≡◌, ℕ, suc, ◌+◌, ◌-◌, ◌<◌, �
 use Rattle.std.proofs.lemmas.List.{map-append, take-append-drop, length-map, length-drop, take_all}
 use Rattle.relay_model.specs.declared.commands.Config.{Config}
 use Rattle.relay_model.specs.declared.acts.Act.{Act}
-use Rattle.relay_laws.specs.May.{Legal}
-use Rattle.relay_laws.specs.Audit.{may_come, first_illegal}
-use Rattle.relay_laws.specs.Laws.{TestsAreRight, OneTestIsRight}
+use Rattle.relay_model.specs.May.{Legal}
+use Rattle.relay_model.specs.Audit.{may_come, first_illegal}
+use Rattle.relay_model.specs.Laws.{TestsAreRight, OneTestIsRight}
 use Rattle.relay_audit.specs.Pasts.{acts}
 use Rattle.relay_audit.specs.Judging.{IsFirstIllegal}
 use Rattle.relay_audit.proofs.Lists.{acts_before}

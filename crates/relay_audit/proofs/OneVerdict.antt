@@ -6,8 +6,8 @@ use Rattle.std.proofs.lemmas.Bool.{cases_order}
 use Rattle.std.proofs.Math.Seq.{drop-append_seam}
 use Rattle.relay_model.specs.declared.commands.Config.{Config}
 use Rattle.relay_model.specs.declared.acts.Act.{Act}
-use Rattle.relay_laws.specs.May.{May, Legal}
-use Rattle.relay_laws.specs.Laws.{PrefixesAreLegal}
+use Rattle.relay_model.specs.May.{May, Legal}
+use Rattle.relay_model.specs.Laws.{PrefixesAreLegal}
 use Rattle.journal_text.specs.Texts.{IsTextOf, IsFirstBadLine, kept}
 use Rattle.cmd_words.specs.declared.commands.Command.TheVariants.{Relay}
 use Rattle.cmd_words.specs.Commands.{command}

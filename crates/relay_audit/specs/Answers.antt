@@ -1,16 +1,16 @@
 -- What the enums of the code stand for among the definitions.
-use Rattle.relay_laws.specs.Configs.{Medium}
-use Rattle.relay_laws.specs.Configs as media
-use Rattle.relay_laws.specs.History.{Stage}
-use Rattle.relay_laws.specs.History as stages
-use Rattle.relay_laws.specs.Arming.{Arming}
-use Rattle.relay_laws.specs.Arming as armings
-use Rattle.relay_laws.specs.Openings.{Call}
-use Rattle.relay_laws.specs.Openings as calls
+use Rattle.relay_model.specs.Configs.{Medium}
+use Rattle.relay_model.specs.Configs as media
+use Rattle.relay_model.specs.History.{Stage}
+use Rattle.relay_model.specs.History as stages
+use Rattle.relay_model.specs.Arming.{Arming}
+use Rattle.relay_model.specs.Arming as armings
+use Rattle.relay_model.specs.Openings.{Call}
+use Rattle.relay_model.specs.Openings as calls
 use Rattle.relay_audit.specs.declared.openings.Call.{Call as ForCall}
 use Rattle.relay_audit.specs.declared.openings.Call.TheVariants as to
-use Rattle.relay_laws.specs.Outcome.{Outcome}
-use Rattle.relay_laws.specs.Outcome as outcomes
+use Rattle.relay_model.specs.Outcome.{Outcome}
+use Rattle.relay_model.specs.Outcome as outcomes
 use Rattle.relay_audit.specs.declared.outcome.Outcome.{Outcome as WithOutcome}
 use Rattle.relay_audit.specs.declared.outcome.Outcome.TheVariants as end
 use Rattle.relay_audit.specs.declared.configs.Medium.{Medium as OnMedium}

@@ -2,8 +2,8 @@
 use Rattle.std.specs.Prelude.{◌≡◌, ℕ, suc, List, ◌∷◌, ◌++◌, length}
 use Rattle.relay_model.specs.declared.commands.Config.{Config}
 use Rattle.relay_model.specs.declared.acts.Act.{Act}
-use Rattle.relay_laws.specs.May.{May, Legal}
-use Rattle.relay_laws.specs.Audit.{held_count}
+use Rattle.relay_model.specs.May.{May, Legal}
+use Rattle.relay_model.specs.Audit.{held_count}
 use Rattle.relay_audit.specs.declared.judging.Judgement.{Judgement}
 use Rattle.relay_audit.specs.declared.judging.Judgement.TheVariants as found
 

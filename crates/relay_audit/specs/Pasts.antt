@@ -7,11 +7,11 @@ use Rattle.relay_model.specs.declared.acts.Why.{Why}
 use Rattle.relay_model.specs.declared.acts.Why.TheVariants as whys
 use Rattle.relay_model.specs.declared.acts.Act.{Act}
 use Rattle.relay_model.specs.declared.acts.Act.TheVariants.{Read, Closed, Note, NoteFault}
-use Rattle.relay_laws.specs.Configs.{things, is_program_door}
-use Rattle.relay_laws.specs.History.{held, same_why}
-use Rattle.relay_laws.specs.Cause.{cause, closed_why}
-use Rattle.relay_laws.specs.Calls.{called_at}
-use Rattle.relay_laws.specs.Audit.{closes, door_ends, is_cause}
+use Rattle.relay_model.specs.Configs.{things, is_program_door}
+use Rattle.relay_model.specs.History.{held, same_why}
+use Rattle.relay_model.specs.Cause.{cause, closed_why}
+use Rattle.relay_model.specs.Calls.{called_at}
+use Rattle.relay_model.specs.Audit.{closes, door_ends, is_cause}
 
 -- the acts that a slice of references shows
 abbrev pub acts : List (Bor Act) → List Act

@@ -2,8 +2,8 @@
 use Rattle.std.specs.Prelude.{◌≡◌, ◌≢◌, ℕ, List, length, Option, Some, None, Ok}
 use Rattle.relay_model.specs.declared.commands.Config.{Config}
 use Rattle.relay_model.specs.declared.acts.Act.{Act}
-use Rattle.relay_laws.specs.May.{Legal}
-use Rattle.relay_laws.specs.Audit.{held_count}
+use Rattle.relay_model.specs.May.{Legal}
+use Rattle.relay_model.specs.Audit.{held_count}
 use Rattle.journal_text.specs.Texts.{IsTextOf, IsFirstBadLine, kept}
 use Rattle.cmd_words.specs.declared.commands.Command.TheVariants.{Relay}
 use Rattle.cmd_words.specs.Commands.{command}

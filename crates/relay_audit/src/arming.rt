@@ -1,6 +1,6 @@
 // Which halves and doors are armed, which is to say worth asking, and which were asked since the last turn.
 ghost use Rattle.std.specs.Prelude.{◌≡◌};
-ghost use Rattle.relay_laws.specs.Arming.{pause_after_end, read_arming, is_armed, armed_to_read, arming_moment, armed_to_write, armed_to_accept, asked_to_read, asked_to_write, asked_to_accept};
+ghost use Rattle.relay_model.specs.Arming.{pause_after_end, read_arming, is_armed, armed_to_read, arming_moment, armed_to_write, armed_to_accept, asked_to_read, asked_to_write, asked_to_accept};
 ghost use Rattle.relay_audit.specs.Pasts.{acts};
 ghost use Rattle.relay_audit.specs.Answers.{as_arming};
 

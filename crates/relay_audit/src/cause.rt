@@ -1,11 +1,11 @@
 // Why a session has to end, if it has to.
 ghost use Rattle.std.specs.Prelude.{◌≡◌, ◌<◌, ◌^◌};
 ghost use Rattle.std.specs.List.{list_any};
-ghost use Rattle.relay_laws.specs.History.{accept_failed};
-ghost use Rattle.relay_laws.specs.Sessions.{admitted};
-ghost use Rattle.relay_laws.specs.Openings.{out_of_tries};
-ghost use Rattle.relay_laws.specs.Moments.{passed, broken, done};
-ghost use Rattle.relay_laws.specs.Cause.{is_end, closed_why, accept_failed_for, listening_failed, opening_failed, fault_at, fault_stands, each_formed, some_formed, faulted, finished, cause, running};
+ghost use Rattle.relay_model.specs.History.{accept_failed};
+ghost use Rattle.relay_model.specs.Sessions.{admitted};
+ghost use Rattle.relay_model.specs.Openings.{out_of_tries};
+ghost use Rattle.relay_model.specs.Moments.{passed, broken, done};
+ghost use Rattle.relay_model.specs.Cause.{is_end, closed_why, accept_failed_for, listening_failed, opening_failed, fault_at, fault_stands, each_formed, some_formed, faulted, finished, cause, running};
 ghost use Rattle.relay_audit.specs.Pasts.{acts};
 
 use crate::configs::{formed, has_fork, is_of, own_doors, places, program_door};

@@ -3,7 +3,7 @@
 ghost use Rattle.std.specs.Prelude.{◌≡◌, ◌≤◌, ◌+◌, ◌++◌, ◌∷◌, [], length, map, filter, count_by};
 ghost use Rattle.std.specs.List.{list_any};
 ghost use Rattle.relay_model.specs.Places.{same_place, door_of};
-ghost use Rattle.relay_laws.specs.Configs.{medium, is_datagrams, is_program, listens, source, sink, way_from, way_to, address, narrowed, offered, parts_of, parts, place_at, places, single_for, single, options_of, medium_of, listens_at, forks, has_fork, program_door, is_left, is_program_door, has_own_door, accepting_door, own_doors, is_place_of, things, is_of, has_half, part_with, formed, input, output, keeps_borders, writes_output, stands_on_output, output_is_shared, is_error_stream, writes_shared_stream, datagram_shut, connection_shut, plain_shut, shut_on, how};
+ghost use Rattle.relay_model.specs.Configs.{medium, is_datagrams, is_program, listens, source, sink, way_from, way_to, address, narrowed, offered, parts_of, parts, place_at, places, single_for, single, options_of, medium_of, listens_at, forks, has_fork, program_door, is_left, is_program_door, has_own_door, accepting_door, own_doors, is_place_of, things, is_of, has_half, part_with, formed, input, output, keeps_borders, writes_output, stands_on_output, output_is_shared, is_error_stream, writes_shared_stream, datagram_shut, connection_shut, plain_shut, shut_on, how};
 ghost use Rattle.relay_audit.specs.Answers.{as_medium};
 
 use crate::place_lists::PlaceList;

@@ -4,7 +4,7 @@ ghost use Rattle.std.specs.Prelude.{◌≡◌, ◌&&◌, length, IfOk};
 ghost use Rattle.relay_model.specs.Places.{same_place, same_half};
 ghost use Rattle.relay_model.specs.Readiness.{names};
 ghost use Rattle.relay_model.specs.Tries.{next_due};
-ghost use Rattle.relay_laws.specs.History.{now, turns, same_why, stop_said, memory_said, stage, held, is_gone_with, served, failures, woken, accept_failed, was_closed, was_reaped, got, put, sent, met_end, met_empty, shut_at, read_fault_at, write_fault_at};
+ghost use Rattle.relay_model.specs.History.{now, turns, same_why, stop_said, memory_said, stage, held, is_gone_with, served, failures, woken, accept_failed, was_closed, was_reaped, got, put, sent, met_end, met_empty, shut_at, read_fault_at, write_fault_at};
 ghost use Rattle.relay_audit.specs.Pasts.{acts};
 ghost use Rattle.relay_audit.specs.Answers.{as_stage};
 

@@ -1,9 +1,9 @@
 // Whether each act of a journal may come after the acts before it.
 ghost use Rattle.std.specs.Prelude.{◌≡◌, ◌<◌, ◌≤◌, ◌*◌, ◌^◌, ◌+◌, length, count_by, drop, IfOk, true};
-ghost use Rattle.relay_laws.specs.History.{held};
-ghost use Rattle.relay_laws.specs.Sessions.{admitted};
-ghost use Rattle.relay_laws.specs.May.{Legal};
-ghost use Rattle.relay_laws.specs.Audit.{held_count, first_illegal, may_come};
+ghost use Rattle.relay_model.specs.History.{held};
+ghost use Rattle.relay_model.specs.Sessions.{admitted};
+ghost use Rattle.relay_model.specs.May.{Legal};
+ghost use Rattle.relay_model.specs.Audit.{held_count, first_illegal, may_come};
 ghost use Rattle.relay_audit.specs.Pasts.{acts, reads_some, held_below};
 ghost use Rattle.relay_audit.specs.Judging.{Judges};
 

@@ -1,15 +1,15 @@
 // What may come and what rests, as tests that compute.
 ghost use Rattle.std.specs.Prelude.{◌≡◌, ◌≢◌, ◌<◌, ◌^◌, ◌&&◌, ◌||◌, ◌==◌, not, nat_lt, nat_le, [], ◌∷◌, ◌++◌, length, IfOk, is_none, true};
 ghost use Rattle.relay_model.specs.Dumps.{dump_of};
-ghost use Rattle.relay_laws.specs.Choices.{each_below};
-ghost use Rattle.relay_laws.specs.History.{turns, got, put, sent, was_closed, was_reaped, same_why};
-ghost use Rattle.relay_laws.specs.Arming.{asked_to_read, asked_to_write};
-ghost use Rattle.relay_laws.specs.Sessions.{admitted, live};
-ghost use Rattle.relay_laws.specs.Cause.{cause, running};
-ghost use Rattle.relay_laws.specs.Configs.{input, output, way_to, medium_of, is_program};
-ghost use Rattle.relay_laws.specs.Transfers.{due, due_pieces, backlog};
-ghost use Rattle.relay_laws.specs.Rest.{owed, may_read, may_write, until_of};
-ghost use Rattle.relay_laws.specs.Audit.{implies, accept_tried, way_rests, session_rests, door_rests, rests, same_number, same_list, same_text, begins, begins_pieces, same_shut, opens, listens_to, accepts_for, accepts_at, closes, may_ask, may_take, may_offer, may_put, may_shut, door_ends, is_cause, may_close, may_come};
+ghost use Rattle.relay_model.specs.Choices.{each_below};
+ghost use Rattle.relay_model.specs.History.{turns, got, put, sent, was_closed, was_reaped, same_why};
+ghost use Rattle.relay_model.specs.Arming.{asked_to_read, asked_to_write};
+ghost use Rattle.relay_model.specs.Sessions.{admitted, live};
+ghost use Rattle.relay_model.specs.Cause.{cause, running};
+ghost use Rattle.relay_model.specs.Configs.{input, output, way_to, medium_of, is_program};
+ghost use Rattle.relay_model.specs.Transfers.{due, due_pieces, backlog};
+ghost use Rattle.relay_model.specs.Rest.{owed, may_read, may_write, until_of};
+ghost use Rattle.relay_model.specs.Audit.{implies, accept_tried, way_rests, session_rests, door_rests, rests, same_number, same_list, same_text, begins, begins_pieces, same_shut, opens, listens_to, accepts_for, accepts_at, closes, may_ask, may_take, may_offer, may_put, may_shut, door_ends, is_cause, may_close, may_come};
 ghost use Rattle.relay_audit.specs.Pasts.{acts, reads_some, awaits_dump, may_end};
 ghost use Rattle.relay_audit.specs.Answers.{as_call};
 

@@ -1,6 +1,6 @@
 // The moments of a session: when it last moved, when its directions were done, and when its timers fall due.
 ghost use Rattle.std.specs.Prelude.{◌≡◌};
-ghost use Rattle.relay_laws.specs.Moments.{moved, passed_at, passed, broken_at, broken, done_at, done, after_one, closing_moment, is_unfinished, idle_moment, reached};
+ghost use Rattle.relay_model.specs.Moments.{moved, passed_at, passed, broken_at, broken, done_at, done, after_one, closing_moment, is_unfinished, idle_moment, reached};
 ghost use Rattle.relay_audit.specs.Pasts.{acts};
 
 use crate::choices::or_else;

@@ -1,7 +1,7 @@
 // Which places are ready, and what the opening of one that isn't calls for.
 ghost use Rattle.std.specs.Prelude.{◌≡◌};
 ghost use Rattle.std.specs.List.{list_any, list_all};
-ghost use Rattle.relay_laws.specs.Openings.{out_of_tries, when_due, try_again, is_ready, ready, opening_call, listening_call, peer_call, place_call, first_call};
+ghost use Rattle.relay_model.specs.Openings.{out_of_tries, when_due, try_again, is_ready, ready, opening_call, listening_call, peer_call, place_call, first_call};
 ghost use Rattle.relay_audit.specs.Pasts.{acts};
 ghost use Rattle.relay_audit.specs.Answers.{as_stage, as_call};
 

@@ -1,9 +1,9 @@
 // How a run ended, once nothing is held.
 ghost use Rattle.std.specs.Prelude.{◌≡◌, ◌<◌, ◌^◌, option_map, is_some, Some};
-ghost use Rattle.relay_laws.specs.Choices.{or_else, some_below};
-ghost use Rattle.relay_laws.specs.Sessions.{admitted, holds, live};
-ghost use Rattle.relay_laws.specs.Outcome.{holds_something, program_doors, first_fault, failed_listening, failed_opening, outcome_by, outcome_of_sessions, outcome};
-ghost use Rattle.relay_laws.specs.Outcome as outcomes;
+ghost use Rattle.relay_model.specs.Choices.{or_else, some_below};
+ghost use Rattle.relay_model.specs.Sessions.{admitted, holds, live};
+ghost use Rattle.relay_model.specs.Outcome.{holds_something, program_doors, first_fault, failed_listening, failed_opening, outcome_by, outcome_of_sessions, outcome};
+ghost use Rattle.relay_model.specs.Outcome as outcomes;
 ghost use Rattle.relay_audit.specs.Pasts.{acts};
 ghost use Rattle.relay_audit.specs.Answers.{as_outcome};
 

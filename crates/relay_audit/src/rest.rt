@@ -1,9 +1,9 @@
 // When a wait is in order, and until when.
 ghost use Rattle.std.specs.Prelude.{◌≡◌, ◌<◌, ◌^◌, IfOk, is_none};
-ghost use Rattle.relay_laws.specs.Choices.{some_below, least_below};
-ghost use Rattle.relay_laws.specs.Sessions.{admitted, live};
-ghost use Rattle.relay_laws.specs.Cause.{cause, running};
-ghost use Rattle.relay_laws.specs.Rest.{owed, goes, moves, may_read, may_write, must_pass, accepts, presses, way_work, session_work, try_moment, input_moment, timer_moment, session_moment, door_moment, until_of};
+ghost use Rattle.relay_model.specs.Choices.{some_below, least_below};
+ghost use Rattle.relay_model.specs.Sessions.{admitted, live};
+ghost use Rattle.relay_model.specs.Cause.{cause, running};
+ghost use Rattle.relay_model.specs.Rest.{owed, goes, moves, may_read, may_write, must_pass, accepts, presses, way_work, session_work, try_moment, input_moment, timer_moment, session_moment, door_moment, until_of};
 ghost use Rattle.relay_audit.specs.Pasts.{acts};
 ghost use Rattle.relay_audit.specs.Answers.{as_call};
 

@@ -2,9 +2,9 @@
 // from 0 in order.
 ghost use Rattle.std.specs.Prelude.{◌≡◌, ◌<◌, ◌^◌};
 ghost use Rattle.std.specs.List.{list_any};
-ghost use Rattle.relay_laws.specs.Choices.{count};
-ghost use Rattle.relay_laws.specs.History.{held};
-ghost use Rattle.relay_laws.specs.Sessions.{permits, is_admission, admitted, holds, live, live_count, numbers, first_part, next_place};
+ghost use Rattle.relay_model.specs.Choices.{count};
+ghost use Rattle.relay_model.specs.History.{held};
+ghost use Rattle.relay_model.specs.Sessions.{permits, is_admission, admitted, holds, live, live_count, numbers, first_part, next_place};
 ghost use Rattle.relay_audit.specs.Pasts.{acts};
 
 use crate::configs::{has_fork, is_left, options_of, parts, place_at, things};

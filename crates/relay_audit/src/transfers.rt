@@ -2,10 +2,10 @@
 ghost use Rattle.std.specs.Prelude.{◌≡◌, ◌==◌, [], ◌∷◌, not, length, IfOk, OnOk};
 ghost use Rattle.std.specs.List.{before_first, list_any};
 ghost use Rattle.relay_model.specs.Conversions.{read_converted, write_converted, first_bytes, before_escape, effective, due_of, is_used_up, holds_escape, is_met, is_over, at_most_left, read_size, packet_cap, packet_size};
-ghost use Rattle.relay_laws.specs.Choices.{joined};
-ghost use Rattle.relay_laws.specs.Configs.{input, options_of};
-ghost use Rattle.relay_laws.specs.History.{got};
-ghost use Rattle.relay_laws.specs.Transfers.{is_empty, due, due_part, due_pieces, over, backlog, room, is_spent};
+ghost use Rattle.relay_model.specs.Choices.{joined};
+ghost use Rattle.relay_model.specs.Configs.{input, options_of};
+ghost use Rattle.relay_model.specs.History.{got};
+ghost use Rattle.relay_model.specs.Transfers.{is_empty, due, due_part, due_pieces, over, backlog, room, is_spent};
 ghost use Rattle.relay_audit.specs.Pasts.{acts};
 
 use crate::configs::{input, keeps_borders, options_of, output};

@@ -8,17 +8,17 @@ use Rattle.relay_model.specs.declared.acts.Peer.{Peer}
 use Rattle.relay_model.specs.declared.acts.Act.{Act}
 use Rattle.relay_model.specs.declared.acts.Act.TheVariants.{Turn, Opened, OpenLater, OpenFailed, Listening, ListenFailed, Accepted, NoPeer, AcceptFailed, Read, ReadEmpty, ReadEnd, ReadNotYet, ReadFault, Wrote, WriteNotYet, WriteFault, Shut, ShutFault, Closed, Reaped, Note, NoteFault}
 use Rattle.relay_model.specs.Places.{same_place}
-use Rattle.relay_laws.specs.Choices.{one_more, count}
-use Rattle.relay_laws.specs.Configs.{places, things, options_of, has_fork, is_left, program_door, is_program_door}
-use Rattle.relay_laws.specs.History.{now, Stage, Untried, Failed, Waiting, stage, held, failures}
-use Rattle.relay_laws.specs.Arming.{armed_to_accept}
-use Rattle.relay_laws.specs.Sessions.{numbers, permits, live, live_count, holds, admitted, is_admission, next_place, door_options}
+use Rattle.relay_model.specs.Choices.{one_more, count}
+use Rattle.relay_model.specs.Configs.{places, things, options_of, has_fork, is_left, program_door, is_program_door}
+use Rattle.relay_model.specs.History.{now, Stage, Untried, Failed, Waiting, stage, held, failures}
+use Rattle.relay_model.specs.Arming.{armed_to_accept}
+use Rattle.relay_model.specs.Sessions.{numbers, permits, live, live_count, holds, admitted, is_admission, next_place, door_options}
 use Rattle.relay_model.specs.Tries.{next_due}
-use Rattle.relay_laws.specs.Openings.{Call, Nothing, TryAt, Open, Settle, Listen, Accept, Refuse, Serve, out_of_tries, when_due, try_again, listening_call, first_call}
-use Rattle.relay_laws.specs.Cause.{cause}
-use Rattle.relay_laws.specs.Calls.{call, door_cut, enough, full, program_door_call, door_call, called_at}
-use Rattle.relay_laws.specs.May.{Legal}
-use Rattle.relay_laws.specs.Laws.{DoorTells, begins}
+use Rattle.relay_model.specs.Openings.{Call, Nothing, TryAt, Open, Settle, Listen, Accept, Refuse, Serve, out_of_tries, when_due, try_again, listening_call, first_call}
+use Rattle.relay_model.specs.Cause.{cause}
+use Rattle.relay_model.specs.Calls.{call, door_cut, enough, full, program_door_call, door_call, called_at}
+use Rattle.relay_model.specs.May.{Legal}
+use Rattle.relay_model.specs.Laws.{DoorTells, begins}
 use Rattle.relay_laws.proofs.PlaceLemmas.{same_place_equal}
 use Rattle.relay_laws.proofs.Holdings.{stays_over}
 use Rattle.relay_laws.proofs.Apart.{EachOwn, each_thing}

@@ -15,15 +15,15 @@ use Rattle.relay_model.specs.declared.acts.Why.TheVariants as whys
 use Rattle.relay_model.specs.declared.acts.Act.{Act}
 use Rattle.relay_model.specs.declared.acts.Act.TheVariants.{Turn, Opened, Accepted, AcceptFailed, Read, Wrote, Closed}
 use Rattle.relay_model.specs.Places.{same_place, same_side, same_part, door_of}
-use Rattle.relay_laws.specs.Choices.{only_if, or_else, first_some, one_more}
-use Rattle.relay_laws.specs.Configs.{places, parts, place_at, things, own_doors, has_own_door, options_of, listens_at, has_fork, is_left, program_door, is_program_door, is_of, is_place_of, input, output, formed}
-use Rattle.relay_laws.specs.History.{now, Stage, Unsettled, Failed, Met, Waiting, stage, held, holds_at, is_gone_with, served, stop_said, memory_said, same_why, accept_failed}
-use Rattle.relay_laws.specs.Sessions.{permits, holds, admitted, is_admission, numbers}
+use Rattle.relay_model.specs.Choices.{only_if, or_else, first_some, one_more}
+use Rattle.relay_model.specs.Configs.{places, parts, place_at, things, own_doors, has_own_door, options_of, listens_at, has_fork, is_left, program_door, is_program_door, is_of, is_place_of, input, output, formed}
+use Rattle.relay_model.specs.History.{now, Stage, Unsettled, Failed, Met, Waiting, stage, held, holds_at, is_gone_with, served, stop_said, memory_said, same_why, accept_failed}
+use Rattle.relay_model.specs.Sessions.{permits, holds, admitted, is_admission, numbers}
 use Rattle.relay_model.specs.Tries.{next_due, is_out_of_tries}
-use Rattle.relay_laws.specs.Moments.{moved, passed_at, broken_at, done_at, after_one, closing_moment, idle_moment, reached}
-use Rattle.relay_laws.specs.Openings.{Call, Nothing, Open, Settle, Listen, Accept, Refuse, Serve, out_of_tries, when_due, try_again, stands_ready, is_ready, ready, opening_call, listening_call, peer_call, place_call, first_call}
-use Rattle.relay_laws.specs.Cause.{is_end, closed_why, fault_at, faulted, finished, cause}
-use Rattle.relay_laws.specs.Frames.{is_turn, SameAt, IsForeign, is_common, SameSession}
+use Rattle.relay_model.specs.Moments.{moved, passed_at, broken_at, done_at, after_one, closing_moment, idle_moment, reached}
+use Rattle.relay_model.specs.Openings.{Call, Nothing, Open, Settle, Listen, Accept, Refuse, Serve, out_of_tries, when_due, try_again, stands_ready, is_ready, ready, opening_call, listening_call, peer_call, place_call, first_call}
+use Rattle.relay_model.specs.Cause.{is_end, closed_why, fault_at, faulted, finished, cause}
+use Rattle.relay_model.specs.Frames.{is_turn, SameAt, IsForeign, is_common, SameSession}
 use Rattle.relay_laws.proofs.PlaceLemmas.{same_place_equal, same_place_self}
 use Rattle.relay_laws.proofs.Elsewhere.{elsewhere}
 

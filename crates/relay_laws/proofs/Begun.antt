@@ -11,16 +11,16 @@ use Rattle.relay_model.specs.declared.commands.Config.{Config}
 use Rattle.relay_model.specs.declared.acts.Act.{Act}
 use Rattle.relay_model.specs.declared.acts.Act.TheVariants.{Opened, OpenLater, OpenFailed, Listening, ListenFailed, Accepted, Closed}
 use Rattle.relay_model.specs.Places.{same_place, door_of}
-use Rattle.relay_laws.specs.Choices.{one_more}
-use Rattle.relay_laws.specs.Configs.{places, parts, place_at, things, own_doors, has_own_door, options_of, listens_at, has_fork, is_left, program_door}
-use Rattle.relay_laws.specs.History.{now, Stage, Untried, Usable, Unsettled, Failed, Met, Waiting, Gone, stage, held, holds_at, woken, failures}
-use Rattle.relay_laws.specs.Arming.{armed_to_accept}
-use Rattle.relay_laws.specs.Sessions.{permits, live, holds, admitted, is_admission, numbers, next_place}
+use Rattle.relay_model.specs.Choices.{one_more}
+use Rattle.relay_model.specs.Configs.{places, parts, place_at, things, own_doors, has_own_door, options_of, listens_at, has_fork, is_left, program_door}
+use Rattle.relay_model.specs.History.{now, Stage, Untried, Usable, Unsettled, Failed, Met, Waiting, Gone, stage, held, holds_at, woken, failures}
+use Rattle.relay_model.specs.Arming.{armed_to_accept}
+use Rattle.relay_model.specs.Sessions.{permits, live, holds, admitted, is_admission, numbers, next_place}
 use Rattle.relay_model.specs.Tries.{next_due}
-use Rattle.relay_laws.specs.Openings.{Call, Nothing, TryAt, Open, Settle, Listen, Accept, Refuse, Serve, out_of_tries, when_due, try_again, is_ready, opening_call, listening_call, peer_call, place_call, first_call}
-use Rattle.relay_laws.specs.Cause.{cause}
-use Rattle.relay_laws.specs.Calls.{call, door_cut, enough, full, program_door_call, door_call, called_at}
-use Rattle.relay_laws.specs.May.{Legal}
+use Rattle.relay_model.specs.Openings.{Call, Nothing, TryAt, Open, Settle, Listen, Accept, Refuse, Serve, out_of_tries, when_due, try_again, is_ready, opening_call, listening_call, peer_call, place_call, first_call}
+use Rattle.relay_model.specs.Cause.{cause}
+use Rattle.relay_model.specs.Calls.{call, door_cut, enough, full, program_door_call, door_call, called_at}
+use Rattle.relay_model.specs.May.{Legal}
 use Rattle.relay_laws.proofs.PlaceLemmas.{same_place_equal}
 
 -- ---- what a call opens belongs to a session below the bound

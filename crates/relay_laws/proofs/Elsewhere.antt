@@ -4,10 +4,10 @@ use Rattle.std.proofs.lemmas.Bool.{true≢false}
 use Rattle.relay_model.specs.declared.places.Place.{Place}
 use Rattle.relay_model.specs.declared.acts.Act.{Act}
 use Rattle.relay_model.specs.declared.acts.Act.TheVariants.{Turn, Opened, OpenLater, OpenFailed, Listening, ListenFailed, Accepted, NoPeer, AcceptFailed, Read, ReadEmpty, ReadEnd, ReadNotYet, ReadFault, Wrote, WriteNotYet, WriteFault, Shut, ShutFault, Closed, Reaped, Note, NoteFault}
-use Rattle.relay_laws.specs.Choices.{joined, noted}
-use Rattle.relay_laws.specs.History.{now, Usable, Unsettled, Failed, Met, Waiting, Gone, stage, failures, woken, accept_failed, was_closed, was_reaped, got, put, sent, met_end, met_empty, shut_at, read_fault_at, write_fault_at}
-use Rattle.relay_laws.specs.Arming.{Disarmed, Armed, AtEnd, read_arming, armed_to_write, armed_to_accept, asked_to_read}
-use Rattle.relay_laws.specs.Frames.{is_at, is_turn, SameAt, Leaves}
+use Rattle.relay_model.specs.Choices.{joined, noted}
+use Rattle.relay_model.specs.History.{now, Usable, Unsettled, Failed, Met, Waiting, Gone, stage, failures, woken, accept_failed, was_closed, was_reaped, got, put, sent, met_end, met_empty, shut_at, read_fault_at, write_fault_at}
+use Rattle.relay_model.specs.Arming.{Disarmed, Armed, AtEnd, read_arming, armed_to_write, armed_to_accept, asked_to_read}
+use Rattle.relay_model.specs.Frames.{is_at, is_turn, SameAt, Leaves}
 
 impossible : {P : Type 0} → true ≡ false → P
 impossible e = absurd (true≢false e)

@@ -27,10 +27,10 @@ use Rattle.relay_model.specs.declared.commands.Address.TheVariants as addresses
 use Rattle.relay_model.specs.declared.commands.Single.{Single}
 use Rattle.relay_model.specs.declared.commands.Options.{Options}
 use Rattle.relay_model.specs.declared.commands.FileFlags.{FileFlags}
-use Rattle.relay_laws.specs.Outcome.{outcome}
-use Rattle.relay_laws.specs.Outcome as outcomes
-use Rattle.relay_laws.specs.Rest.{until_of}
-use Rattle.relay_laws.specs.May.{Legal}
+use Rattle.relay_model.specs.Outcome.{outcome}
+use Rattle.relay_model.specs.Outcome as outcomes
+use Rattle.relay_model.specs.Rest.{until_of}
+use Rattle.relay_model.specs.May.{Legal}
 use Rattle.relay_laws.proofs.Sound.{legal_is}
 use Rattle.relay_laws.proofs.Complete.{legal_test}
 

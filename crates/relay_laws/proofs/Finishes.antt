@@ -11,13 +11,13 @@ use Rattle.relay_model.specs.declared.acts.Why.TheVariants as whys
 use Rattle.relay_model.specs.declared.acts.Act.{Act}
 use Rattle.relay_model.specs.declared.acts.Act.TheVariants.{Shut, ShutFault, Closed}
 use Rattle.relay_model.specs.Places.{same_place}
-use Rattle.relay_laws.specs.Configs.{input, output, things, is_of, formed}
-use Rattle.relay_laws.specs.History.{now, got, put, stop_said, memory_said, shut_at}
-use Rattle.relay_laws.specs.Transfers.{due}
-use Rattle.relay_laws.specs.Moments.{passed, closing_moment, idle_moment, reached}
-use Rattle.relay_laws.specs.Openings.{ready}
-use Rattle.relay_laws.specs.Cause.{is_end, closed_why, accept_failed_for, listening_failed, opening_failed, faulted, finished, each_formed, cause}
-use Rattle.relay_laws.specs.May.{Legal, for_memory, for_stop, for_accept, Licensed, by_cause, by_refusal, by_service, by_door, by_memory, by_turns}
+use Rattle.relay_model.specs.Configs.{input, output, things, is_of, formed}
+use Rattle.relay_model.specs.History.{now, got, put, stop_said, memory_said, shut_at}
+use Rattle.relay_model.specs.Transfers.{due}
+use Rattle.relay_model.specs.Moments.{passed, closing_moment, idle_moment, reached}
+use Rattle.relay_model.specs.Openings.{ready}
+use Rattle.relay_model.specs.Cause.{is_end, closed_why, accept_failed_for, listening_failed, opening_failed, faulted, finished, each_formed, cause}
+use Rattle.relay_model.specs.May.{Legal, for_memory, for_stop, for_accept, Licensed, by_cause, by_refusal, by_service, by_door, by_memory, by_turns}
 use Rattle.relay_laws.proofs.Apart.{cause_from, among_own, each_thing}
 use Rattle.relay_laws.proofs.Written.{passed_whole}
 

@@ -8,9 +8,9 @@ use Rattle.relay_model.specs.declared.places.Way.{Way}
 use Rattle.relay_model.specs.declared.commands.Config.{Config}
 use Rattle.relay_model.specs.declared.commands.Conv.{Conv}
 use Rattle.relay_model.specs.declared.commands.Conv.TheVariants.{Plain, Cr, Crnl}
-use Rattle.relay_laws.specs.Configs.{input, output, options_of}
+use Rattle.relay_model.specs.Configs.{input, output, options_of}
 use Rattle.relay_model.specs.Conversions.{read_converted, write_converted, first_bytes, before_escape, effective, due_of}
-use Rattle.relay_laws.specs.Transfers.{due}
+use Rattle.relay_model.specs.Transfers.{due}
 
 -- the second list is the first and at most n more
 pub record Grows (xs zs : List ℕ) (n : ℕ) : Type 0 where

@@ -18,17 +18,17 @@ use Rattle.relay_model.specs.declared.acts.Act.{Act}
 use Rattle.relay_model.specs.declared.acts.Act.TheVariants.{Opened, OpenLater, OpenFailed, Listening, ListenFailed, Accepted, NoPeer, AcceptFailed, Read, ReadEmpty, ReadEnd, ReadNotYet, ReadFault, Wrote, WriteNotYet, WriteFault, Shut, ShutFault, Closed}
 use Rattle.relay_model.specs.Places.{same_place}
 use Rattle.relay_model.specs.Holding.{Hold, Free, Settling, Open, ShutDown, standing, is_free}
-use Rattle.relay_laws.specs.Configs.{input, output, parts, part_with, has_half, place_at, places, formed, way_from, way_to}
-use Rattle.relay_laws.specs.History.{Stage, Untried, Usable, Unsettled, Failed, Met, Waiting, Gone, stage, held, holds_at}
-use Rattle.relay_laws.specs.Openings.{is_ready, stands_ready, ready}
-use Rattle.relay_laws.specs.Openings as calls
-use Rattle.relay_laws.specs.Cause.{running, cause}
-use Rattle.relay_laws.specs.Sessions.{live}
-use Rattle.relay_laws.specs.Moments.{broken}
-use Rattle.relay_laws.specs.Rest.{moves, goes}
-use Rattle.relay_laws.specs.Calls.{called_at}
-use Rattle.relay_laws.specs.May.{Legal, MayAsk}
-use Rattle.relay_laws.specs.Laws.{uses, begins, Tells}
+use Rattle.relay_model.specs.Configs.{input, output, parts, part_with, has_half, place_at, places, formed, way_from, way_to}
+use Rattle.relay_model.specs.History.{Stage, Untried, Usable, Unsettled, Failed, Met, Waiting, Gone, stage, held, holds_at}
+use Rattle.relay_model.specs.Openings.{is_ready, stands_ready, ready}
+use Rattle.relay_model.specs.Openings as calls
+use Rattle.relay_model.specs.Cause.{running, cause}
+use Rattle.relay_model.specs.Sessions.{live}
+use Rattle.relay_model.specs.Moments.{broken}
+use Rattle.relay_model.specs.Rest.{moves, goes}
+use Rattle.relay_model.specs.Calls.{called_at}
+use Rattle.relay_model.specs.May.{Legal, MayAsk}
+use Rattle.relay_model.specs.Laws.{uses, begins, Tells}
 use Rattle.relay_laws.proofs.PlaceLemmas.{same_place_equal, same_place_self}
 use Rattle.relay_laws.proofs.CallLemmas.{called_tells}
 

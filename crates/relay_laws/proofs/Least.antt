@@ -4,13 +4,13 @@ use Rattle.std.proofs.lemmas.Bool.{cases_lt, cases_eq}
 use Rattle.std.proofs.lemmas.Option.{same_Some}
 use Rattle.relay_model.specs.declared.commands.Config.{Config}
 use Rattle.relay_model.specs.declared.acts.Act.{Act}
-use Rattle.relay_laws.specs.Choices.{earlier, least_below}
-use Rattle.relay_laws.specs.History.{now}
-use Rattle.relay_laws.specs.Sessions.{numbers}
-use Rattle.relay_laws.specs.Outcome.{outcome}
-use Rattle.relay_laws.specs.Rest.{owed, session_moment, door_moment, SessionRests, DoorRests, Rest, until_of}
-use Rattle.relay_laws.specs.May.{Legal}
-use Rattle.relay_laws.specs.Waits.{works, FallsDue, IsUntil, at_once, at_least, never}
+use Rattle.relay_model.specs.Choices.{earlier, least_below}
+use Rattle.relay_model.specs.History.{now}
+use Rattle.relay_model.specs.Sessions.{numbers}
+use Rattle.relay_model.specs.Outcome.{outcome}
+use Rattle.relay_model.specs.Rest.{owed, session_moment, door_moment, SessionRests, DoorRests, Rest, until_of}
+use Rattle.relay_model.specs.May.{Legal}
+use Rattle.relay_model.specs.Waits.{works, FallsDue, IsUntil, at_once, at_least, never}
 use Rattle.relay_laws.proofs.Begun.{unbegun_holds, unbegun_live}
 use Rattle.relay_laws.proofs.Sound.{silent}
 

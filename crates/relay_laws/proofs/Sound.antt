@@ -12,20 +12,20 @@ use Rattle.relay_model.specs.declared.acts.Shut.TheVariants as shuts
 use Rattle.relay_model.specs.declared.acts.Act.{Act}
 use Rattle.relay_model.specs.declared.acts.Act.TheVariants.{Turn, Opened, OpenLater, OpenFailed, Listening, ListenFailed, Accepted, NoPeer, AcceptFailed, Read, ReadEmpty, ReadEnd, ReadNotYet, ReadFault, Wrote, WriteNotYet, WriteFault, Shut, ShutFault, Closed, Reaped, Note, NoteFault}
 use Rattle.relay_model.specs.Places.{same_place}
-use Rattle.relay_laws.specs.Choices.{each_below}
-use Rattle.relay_laws.specs.Configs.{input, output, way_from, way_to, is_program_door, program_door, has_fork, medium_of, is_program, keeps_borders, how, places}
-use Rattle.relay_laws.specs.History.{turns, held, got, put, sent, was_closed, was_reaped, same_why}
-use Rattle.relay_laws.specs.Arming.{armed_to_read, armed_to_write, asked_to_read, asked_to_write}
-use Rattle.relay_laws.specs.Sessions.{holds, live, numbers}
-use Rattle.relay_laws.specs.Transfers.{due, due_pieces, over, backlog, room, is_spent}
-use Rattle.relay_laws.specs.Moments.{passed}
-use Rattle.relay_laws.specs.Openings.{Call, Nothing, TryAt, Open, Settle, Listen, Accept, Refuse, Serve, ready, first_call}
-use Rattle.relay_laws.specs.Cause.{cause, closed_why, running}
-use Rattle.relay_laws.specs.Calls.{called_at, call, door_call, door_cut}
-use Rattle.relay_laws.specs.Outcome.{outcome}
-use Rattle.relay_laws.specs.Rest.{owed, goes, moves, may_read, may_write, must_pass, presses, AcceptTried, SessionRests, DoorRests, Rest, until_of}
-use Rattle.relay_laws.specs.May.{MayAsk, MayRead, MayOffer, MayWrite, MayTryWrite, MayShut, MayOpen, MayAccept, MayClose, MayTurn, MayReap, DoorEnds, for_memory, for_stop, for_accept, Licensed, by_cause, by_refusal, by_service, by_door, by_memory, by_turns, BeginsWith, KeepsBorders, May, Legal}
-use Rattle.relay_laws.specs.Audit.{implies, accept_tried, way_rests, session_rests, door_rests, rests, same_number, same_list, same_text, begins, begins_pieces, same_shut, opens, listens_to, accepts_for, accepts_at, closes, may_ask, may_take, may_offer, may_put, may_shut, door_ends, is_cause, may_close, timely, may_come, first_of_two, first_illegal}
+use Rattle.relay_model.specs.Choices.{each_below}
+use Rattle.relay_model.specs.Configs.{input, output, way_from, way_to, is_program_door, program_door, has_fork, medium_of, is_program, keeps_borders, how, places}
+use Rattle.relay_model.specs.History.{turns, held, got, put, sent, was_closed, was_reaped, same_why}
+use Rattle.relay_model.specs.Arming.{armed_to_read, armed_to_write, asked_to_read, asked_to_write}
+use Rattle.relay_model.specs.Sessions.{holds, live, numbers}
+use Rattle.relay_model.specs.Transfers.{due, due_pieces, over, backlog, room, is_spent}
+use Rattle.relay_model.specs.Moments.{passed}
+use Rattle.relay_model.specs.Openings.{Call, Nothing, TryAt, Open, Settle, Listen, Accept, Refuse, Serve, ready, first_call}
+use Rattle.relay_model.specs.Cause.{cause, closed_why, running}
+use Rattle.relay_model.specs.Calls.{called_at, call, door_call, door_cut}
+use Rattle.relay_model.specs.Outcome.{outcome}
+use Rattle.relay_model.specs.Rest.{owed, goes, moves, may_read, may_write, must_pass, presses, AcceptTried, SessionRests, DoorRests, Rest, until_of}
+use Rattle.relay_model.specs.May.{MayAsk, MayRead, MayOffer, MayWrite, MayTryWrite, MayShut, MayOpen, MayAccept, MayClose, MayTurn, MayReap, DoorEnds, for_memory, for_stop, for_accept, Licensed, by_cause, by_refusal, by_service, by_door, by_memory, by_turns, BeginsWith, KeepsBorders, May, Legal}
+use Rattle.relay_model.specs.Audit.{implies, accept_tried, way_rests, session_rests, door_rests, rests, same_number, same_list, same_text, begins, begins_pieces, same_shut, opens, listens_to, accepts_for, accepts_at, closes, may_ask, may_take, may_offer, may_put, may_shut, door_ends, is_cause, may_close, timely, may_come, first_of_two, first_illegal}
 use Rattle.relay_laws.proofs.PlaceLemmas.{same_place_equal}
 use Rattle.relay_laws.proofs.Begun.{unbegun_holds, unbegun_live}
 

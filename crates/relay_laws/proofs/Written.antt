@@ -9,14 +9,14 @@ use Rattle.relay_model.specs.declared.acts.Shut.{Shut as Shutting}
 use Rattle.relay_model.specs.declared.acts.Act.{Act}
 use Rattle.relay_model.specs.declared.acts.Act.TheVariants.{Read, Wrote, WriteNotYet, WriteFault, Shut, ShutFault}
 use Rattle.relay_model.specs.Places.{same_place}
-use Rattle.relay_laws.specs.Choices.{joined}
-use Rattle.relay_laws.specs.Configs.{input, output, options_of, keeps_borders}
+use Rattle.relay_model.specs.Choices.{joined}
+use Rattle.relay_model.specs.Configs.{input, output, options_of, keeps_borders}
 use Rattle.relay_model.specs.Conversions.{at_most_left, read_size, packet_size, packet_cap}
-use Rattle.relay_laws.specs.History.{now, got, put, shut_at}
-use Rattle.relay_laws.specs.Transfers.{due, backlog, room, is_spent}
-use Rattle.relay_laws.specs.Moments.{passed}
-use Rattle.relay_laws.specs.May.{Legal, BeginsWith, MayAsk, MayRead, MayOffer, MayWrite, MayShut}
-use Rattle.relay_laws.specs.Laws.{uses_output}
+use Rattle.relay_model.specs.History.{now, got, put, shut_at}
+use Rattle.relay_model.specs.Transfers.{due, backlog, room, is_spent}
+use Rattle.relay_model.specs.Moments.{passed}
+use Rattle.relay_model.specs.May.{Legal, BeginsWith, MayAsk, MayRead, MayOffer, MayWrite, MayShut}
+use Rattle.relay_model.specs.Laws.{uses_output}
 use Rattle.relay_laws.proofs.PlaceLemmas.{same_place_equal}
 use Rattle.relay_laws.proofs.Growth.{due_grows, due_nil}
 

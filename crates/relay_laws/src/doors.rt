@@ -1,5 +1,5 @@
 // The program door of `fork`, and the sessions that it begins.
-ghost use Rattle.relay_laws.specs.Laws.{AdmittedIsBounded, CausedBeginsNothing, EndedStaysEnded, LiveIsBounded, ProgramDoorTells};
+ghost use Rattle.relay_model.specs.Laws.{AdmittedIsBounded, CausedBeginsNothing, EndedStaysEnded, LiveIsBounded, ProgramDoorTells};
 
 /// An accepting at the program door is for the next session, while fewer live than may and fewer were permitted
 /// than are to be served.

@@ -1,5 +1,5 @@
 // What an act leaves as it is.
-ghost use Rattle.relay_laws.specs.Frames.{ElsewhereIsUntouched, StepsLeave, SessionsAreApart};
+ghost use Rattle.relay_model.specs.Frames.{ElsewhereIsUntouched, StepsLeave, SessionsAreApart};
 
 /// An act elsewhere changes nothing that is said of a place or door.
 pub fn elsewhere_is_untouched()

@@ -1,5 +1,5 @@
 // What holds of every legal list of acts.
-ghost use Rattle.relay_laws.specs.Laws.{FinishedIsWhole, PrefixesAreLegal, WrittenIsDue, BacklogIsBounded, EndIsLast, PassedIsWhole, OutputsAgree, UsedIsHeld, ClosedIsOver, StandingIsHeld, CallsTell, HeldHasBegun, TestsAreRight, OneTestIsRight};
+ghost use Rattle.relay_model.specs.Laws.{FinishedIsWhole, PrefixesAreLegal, WrittenIsDue, BacklogIsBounded, EndIsLast, PassedIsWhole, OutputsAgree, UsedIsHeld, ClosedIsOver, StandingIsHeld, CallsTell, HeldHasBegun, TestsAreRight, OneTestIsRight};
 
 /// What stood before some of the last acts of a legal list is legal.
 pub fn prefixes_are_legal()

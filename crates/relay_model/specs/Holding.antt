@@ -35,3 +35,10 @@ is_free Free = true
 is_free Settling = false
 is_free Open = false
 is_free ShutDown = false
+
+-- it can be used; a place that was shut can still be read
+abbrev pub is_open : Hold → Bool
+is_open Free = false
+is_open Settling = false
+is_open Open = true
+is_open ShutDown = true

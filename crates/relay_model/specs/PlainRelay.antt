@@ -1,5 +1,5 @@
 -- The command of the three words `-u STDIN STDOUT`, with every option at its default.
-use Rattle.std.specs.Prelude.{ℕ, true, false, List, [], ◌∷◌, Some, None, codes}
+use Rattle.std.specs.Prelude.{ℕ, false, List, [], ◌∷◌, None, codes}
 use Rattle.relay_model.specs.declared.commands.Config.{Config}
 use Rattle.relay_model.specs.declared.commands.Single.{Single}
 use Rattle.relay_model.specs.declared.commands.Options.{Options}
@@ -10,10 +10,6 @@ use Rattle.relay_model.specs.declared.commands.Address.TheVariants.{One}
 use Rattle.relay_model.specs.declared.commands.Conv.TheVariants.{Plain}
 use Rattle.relay_model.specs.declared.commands.Dump.TheVariants.{Off}
 use Rattle.relay_model.specs.declared.commands.Ways.TheVariants.{OnlyRight}
-
--- the words that name it
-abbrev pub plain_words : List (List ℕ)
-plain_words = codes "-u" ∷ codes "STDIN" ∷ codes "STDOUT" ∷ []
 
 abbrev pub no_flags : FileFlags
 no_flags = record { creat = false; excl = false; append = false; trunc = false; rdonly = false; wronly = false }

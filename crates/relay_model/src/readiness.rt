@@ -24,14 +24,14 @@ pub struct ReadyList {
 }
 
 impl Model for ReadyList {
-    ghost use Rattle.std.specs.Prelude.{◌≤◌, vec_capacity};
+    ghost use Rattle.std.specs.Prelude.{◌≤◌, vec_len, vec_capacity};
     ghost use Rattle.relay_model.specs.Readiness.{Listed};
 
     ghost Value = { Listed };
 
     ghost view = { λ list. record { entries = list.entries.items; room = list.room } };
 
-    ghost invariant = { λ list. list.room ≤ vec_capacity list.entries };
+    ghost invariant = { λ list. (list.room ≤ vec_capacity list.entries) × (vec_len list.entries ≤ 256) };
 }
 
 impl ReadyList {
@@ -50,7 +50,8 @@ impl ReadyList {
 
     /// The number of entries.
     pub fn len(&self) -> usize
-        ensures { result ≡ length self.now.entries }
+        ensures len { result ≡ length self.now.entries }
+        ensures bounded { result ≤ 256 }
     {
         self.entries.len()
     }

@@ -1,5 +1,5 @@
 use Rattle.std.proofs.Common.{◌≡◌, length}
-use Rattle.relay_laws.specs.Arming.{armed_to_accept}
+use Rattle.relay_model.specs.Arming.{armed_to_accept}
 use Rattle.relay_audit.specs.Pasts.{acts}
 use Rattle.relay_audit.proofs.arming.armed_to_accept.Given as goal
 

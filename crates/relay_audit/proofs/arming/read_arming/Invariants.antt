@@ -1,5 +1,5 @@
 use Rattle.std.proofs.Common.{◌≡◌, length}
-use Rattle.relay_laws.specs.Arming.{read_arming}
+use Rattle.relay_model.specs.Arming.{read_arming}
 use Rattle.relay_audit.specs.Pasts.{acts}
 use Rattle.relay_audit.proofs.arming.read_arming.Given as goal
 

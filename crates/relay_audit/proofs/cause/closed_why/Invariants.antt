@@ -1,5 +1,5 @@
 use Rattle.std.proofs.Common.{◌≡◌, length}
-use Rattle.relay_laws.specs.Cause.{closed_why}
+use Rattle.relay_model.specs.Cause.{closed_why}
 use Rattle.relay_audit.specs.Pasts.{acts}
 use Rattle.relay_audit.proofs.cause.closed_why.Given as goal
 

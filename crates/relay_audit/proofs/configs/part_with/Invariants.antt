@@ -1,5 +1,5 @@
 use Rattle.std.proofs.Common.{◌≡◌, length}
-use Rattle.relay_laws.specs.Configs.{part_with}
+use Rattle.relay_model.specs.Configs.{part_with}
 use Rattle.relay_audit.proofs.configs.part_with.Given as goal
 
 abbrev pub invariant-loop-parts : goal.invariant-loop-parts

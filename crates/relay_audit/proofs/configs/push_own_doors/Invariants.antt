@@ -1,7 +1,7 @@
 use Rattle.std.proofs.Common.{◌≡◌, length}
 use Rattle.std.proofs.Common.{◌++◌, ◌+◌, ◌≤◌, map, filter}
 use Rattle.relay_model.specs.Places.{door_of}
-use Rattle.relay_laws.specs.Configs.{has_own_door}
+use Rattle.relay_model.specs.Configs.{has_own_door}
 use Rattle.relay_audit.proofs.configs.push_own_doors.Given as goal
 
 abbrev pub invariant-loop-places : goal.invariant-loop-places

@@ -1,6 +1,6 @@
 use Rattle.std.proofs.Common.{◌≡◌, length}
 use Rattle.std.proofs.Common.{◌++◌, ◌+◌, ◌≤◌, map}
-use Rattle.relay_laws.specs.Configs.{place_at}
+use Rattle.relay_model.specs.Configs.{place_at}
 use Rattle.relay_audit.proofs.configs.push_places.Given as goal
 
 abbrev pub invariant-loop-parts : goal.invariant-loop-parts

@@ -1,5 +1,5 @@
 use Rattle.std.proofs.Common.{◌≡◌, length}
-use Rattle.relay_laws.specs.History.{accept_failed}
+use Rattle.relay_model.specs.History.{accept_failed}
 use Rattle.relay_audit.specs.Pasts.{acts}
 use Rattle.relay_audit.proofs.history.accept_failed.Given as goal
 

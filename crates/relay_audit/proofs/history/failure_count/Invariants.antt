@@ -1,6 +1,6 @@
 use Rattle.std.proofs.Common.{◌≡◌, length}
 use Rattle.std.proofs.Common.{◌+◌, ◌≤◌}
-use Rattle.relay_laws.specs.History.{failures}
+use Rattle.relay_model.specs.History.{failures}
 use Rattle.relay_audit.specs.Pasts.{acts}
 use Rattle.relay_audit.proofs.history.failure_count.Given as goal
 

@@ -1,6 +1,6 @@
 use Rattle.std.proofs.Common.{◌≡◌, length}
 use Rattle.std.proofs.Common.{◌+◌}
-use Rattle.relay_laws.specs.History.{got}
+use Rattle.relay_model.specs.History.{got}
 use Rattle.relay_audit.specs.Pasts.{acts}
 use Rattle.relay_audit.proofs.history.got_length.Given as goal
 

@@ -1,5 +1,5 @@
 use Rattle.std.proofs.Common.{◌≡◌, length}
-use Rattle.relay_laws.specs.History.{met_end}
+use Rattle.relay_model.specs.History.{met_end}
 use Rattle.relay_audit.specs.Pasts.{acts}
 use Rattle.relay_audit.proofs.history.met_end.Given as goal
 

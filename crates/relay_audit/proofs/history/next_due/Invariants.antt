@@ -1,6 +1,6 @@
 use Rattle.std.proofs.Common.{◌≡◌, length}
 use Rattle.relay_model.specs.Tries.{next_due}
-use Rattle.relay_laws.specs.History.{failures}
+use Rattle.relay_model.specs.History.{failures}
 use Rattle.relay_audit.specs.Pasts.{acts}
 use Rattle.relay_audit.proofs.history.next_due.Given as goal
 

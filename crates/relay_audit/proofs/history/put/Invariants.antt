@@ -1,6 +1,6 @@
 use Rattle.std.proofs.Common.{◌≡◌, length}
 use Rattle.std.proofs.Common.{◌≤◌, drop}
-use Rattle.relay_laws.specs.History.{put}
+use Rattle.relay_model.specs.History.{put}
 use Rattle.relay_audit.specs.Pasts.{acts}
 use Rattle.relay_audit.proofs.history.put.Given as goal
 

@@ -1,5 +1,5 @@
 use Rattle.std.proofs.Common.{◌≡◌, length}
-use Rattle.relay_laws.specs.History.{read_fault_at}
+use Rattle.relay_model.specs.History.{read_fault_at}
 use Rattle.relay_audit.specs.Pasts.{acts}
 use Rattle.relay_audit.proofs.history.read_fault_at.Given as goal
 

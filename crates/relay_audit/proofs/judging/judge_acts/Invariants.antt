@@ -1,6 +1,6 @@
 use Rattle.std.proofs.Common.{◌≡◌, length}
 use Rattle.std.proofs.Common.{◌≤◌, drop}
-use Rattle.relay_laws.specs.Audit.{first_illegal}
+use Rattle.relay_model.specs.Audit.{first_illegal}
 use Rattle.relay_audit.specs.Pasts.{acts}
 use Rattle.relay_audit.proofs.judging.judge_acts.Given as goal
 

@@ -1,5 +1,5 @@
 use Rattle.std.proofs.Common.{sym, ◌∙◌}
-use Rattle.relay_laws.specs.Audit.{session_rests}
+use Rattle.relay_model.specs.Audit.{session_rests}
 use Rattle.relay_audit.specs.Pasts.{acts}
 use Rattle.relay_audit.proofs.Below.{each_below_at}
 use Rattle.relay_audit.proofs.may.all_sessions_rest.Goals as goal

@@ -1,7 +1,7 @@
 use Rattle.std.proofs.Common.{◌≡◌}
 use Rattle.std.proofs.Common.{true}
-use Rattle.relay_laws.specs.Choices.{each_below}
-use Rattle.relay_laws.specs.Audit.{session_rests}
+use Rattle.relay_model.specs.Choices.{each_below}
+use Rattle.relay_model.specs.Audit.{session_rests}
 use Rattle.relay_audit.specs.Pasts.{acts}
 use Rattle.relay_audit.proofs.may.all_sessions_rest.Given as goal
 

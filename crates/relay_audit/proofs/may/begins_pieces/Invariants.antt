@@ -1,5 +1,5 @@
 use Rattle.std.proofs.Common.{◌≡◌, length}
-use Rattle.relay_laws.specs.Audit.{begins_pieces}
+use Rattle.relay_model.specs.Audit.{begins_pieces}
 use Rattle.relay_audit.proofs.may.begins_pieces.Given as goal
 
 abbrev pub invariant-loop-first : goal.invariant-loop-first

@@ -1,5 +1,5 @@
 use Rattle.std.proofs.Common.{◌≡◌, length}
-use Rattle.relay_laws.specs.Audit.{same_list}
+use Rattle.relay_model.specs.Audit.{same_list}
 use Rattle.relay_audit.proofs.may.same_list.Given as goal
 
 abbrev pub invariant-loop-one : goal.invariant-loop-one

@@ -1,5 +1,5 @@
 use Rattle.std.proofs.Common.{◌≡◌, length}
-use Rattle.relay_laws.specs.Moments.{moved}
+use Rattle.relay_model.specs.Moments.{moved}
 use Rattle.relay_audit.specs.Pasts.{acts}
 use Rattle.relay_audit.proofs.moments.moved.Given as goal
 

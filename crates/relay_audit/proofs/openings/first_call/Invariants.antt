@@ -1,5 +1,5 @@
 use Rattle.std.proofs.Common.{◌≡◌, length}
-use Rattle.relay_laws.specs.Openings.{first_call}
+use Rattle.relay_model.specs.Openings.{first_call}
 use Rattle.relay_audit.specs.Pasts.{acts}
 use Rattle.relay_audit.proofs.openings.first_call.Given as goal
 

@@ -1,5 +1,5 @@
 use Rattle.std.proofs.Common.{◌≡◌, length}
-use Rattle.relay_laws.specs.Outcome.{failed_listening}
+use Rattle.relay_model.specs.Outcome.{failed_listening}
 use Rattle.relay_audit.specs.Pasts.{acts}
 use Rattle.relay_audit.proofs.outcome.failed_listening.Given as goal
 

@@ -1,7 +1,7 @@
 use Rattle.std.proofs.Common.{◌≡◌, length}
 use Rattle.std.specs.Prelude.{option_map}
-use Rattle.relay_laws.specs.Choices.{or_else}
-use Rattle.relay_laws.specs.Outcome.{first_fault}
+use Rattle.relay_model.specs.Choices.{or_else}
+use Rattle.relay_model.specs.Outcome.{first_fault}
 use Rattle.relay_audit.specs.Answers.{as_outcome}
 use Rattle.relay_audit.specs.Pasts.{acts}
 use Rattle.relay_audit.proofs.outcome.first_fault.Given as goal

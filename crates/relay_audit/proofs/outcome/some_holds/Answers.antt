@@ -1,5 +1,5 @@
 use Rattle.std.proofs.Common.{sym, ◌∙◌}
-use Rattle.relay_laws.specs.Sessions.{holds}
+use Rattle.relay_model.specs.Sessions.{holds}
 use Rattle.relay_audit.specs.Pasts.{acts}
 use Rattle.relay_audit.proofs.Below.{some_below_at}
 use Rattle.relay_audit.proofs.outcome.some_holds.Goals as goal

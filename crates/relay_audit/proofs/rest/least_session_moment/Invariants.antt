@@ -1,6 +1,6 @@
 use Rattle.std.proofs.Common.{◌≡◌}
-use Rattle.relay_laws.specs.Choices.{least_below}
-use Rattle.relay_laws.specs.Rest.{session_moment}
+use Rattle.relay_model.specs.Choices.{least_below}
+use Rattle.relay_model.specs.Rest.{session_moment}
 use Rattle.relay_audit.specs.Pasts.{acts}
 use Rattle.relay_audit.proofs.rest.least_session_moment.Given as goal
 

@@ -1,5 +1,5 @@
 use Rattle.std.proofs.Common.{sym, ◌∙◌}
-use Rattle.relay_laws.specs.Rest.{session_work}
+use Rattle.relay_model.specs.Rest.{session_work}
 use Rattle.relay_audit.specs.Pasts.{acts}
 use Rattle.relay_audit.proofs.Below.{some_below_at}
 use Rattle.relay_audit.proofs.rest.some_session_works.Goals as goal

@@ -1,7 +1,7 @@
 use Rattle.std.proofs.Common.{◌≡◌}
 use Rattle.std.proofs.Common.{false}
-use Rattle.relay_laws.specs.Choices.{some_below}
-use Rattle.relay_laws.specs.Rest.{session_work}
+use Rattle.relay_model.specs.Choices.{some_below}
+use Rattle.relay_model.specs.Rest.{session_work}
 use Rattle.relay_audit.specs.Pasts.{acts}
 use Rattle.relay_audit.proofs.rest.some_session_works.Given as goal
 

@@ -1,6 +1,6 @@
 use Rattle.std.proofs.Common.{◌≡◌, length}
 use Rattle.std.proofs.Common.{◌+◌}
-use Rattle.relay_laws.specs.Sessions.{admitted}
+use Rattle.relay_model.specs.Sessions.{admitted}
 use Rattle.relay_audit.specs.Pasts.{acts}
 use Rattle.relay_audit.proofs.sessions.admitted.Given as goal
 

@@ -1,7 +1,7 @@
 use Rattle.std.proofs.Common.{◌≡◌}
 use Rattle.std.proofs.Common.{◌≤◌}
-use Rattle.relay_laws.specs.Choices.{count}
-use Rattle.relay_laws.specs.Sessions.{live}
+use Rattle.relay_model.specs.Choices.{count}
+use Rattle.relay_model.specs.Sessions.{live}
 use Rattle.relay_audit.specs.Pasts.{acts}
 use Rattle.relay_audit.proofs.sessions.live_count.Given as goal
 

@@ -1,6 +1,6 @@
 use Rattle.std.proofs.Common.{◌≡◌, length}
 use Rattle.std.proofs.Common.{◌≤◌, drop}
-use Rattle.relay_laws.specs.Transfers.{due_pieces}
+use Rattle.relay_model.specs.Transfers.{due_pieces}
 use Rattle.relay_audit.specs.Pasts.{acts}
 use Rattle.relay_audit.proofs.transfers.due_pieces.Given as goal
 

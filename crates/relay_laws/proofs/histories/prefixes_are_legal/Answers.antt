@@ -2,7 +2,7 @@
 use Rattle.std.proofs.Common.{ℕ, zero, suc, List, [], ◌∷◌, drop}
 use Rattle.relay_model.specs.declared.commands.Config.{Config}
 use Rattle.relay_model.specs.declared.acts.Act.{Act}
-use Rattle.relay_laws.specs.May.{Legal}
+use Rattle.relay_model.specs.May.{Legal}
 use Rattle.relay_laws.proofs.histories.prefixes_are_legal.Goals as goal
 
 legal_drop : (c : Config) (n k : ℕ) (past : List Act) → Legal c n past → Legal c n (drop k past)

@@ -11,18 +11,18 @@ use Rattle.relay_model.specs.declared.acts.Shut.TheVariants as shuts
 use Rattle.relay_model.specs.declared.acts.Act.{Act}
 use Rattle.relay_model.specs.declared.acts.Act.TheVariants.{Turn, Opened, OpenLater, OpenFailed, Listening, ListenFailed, Accepted, NoPeer, AcceptFailed, Read, ReadEmpty, ReadEnd, ReadNotYet, ReadFault, Wrote, WriteNotYet, WriteFault, Shut, ShutFault, Closed, Reaped, Note, NoteFault}
 use Rattle.relay_model.specs.Places.{same_place}
-use Rattle.relay_laws.specs.Choices.{each_below, one_more}
-use Rattle.relay_laws.specs.Configs.{input, output, things, way_from, way_to, is_program_door, program_door, has_fork, medium_of, is_program, keeps_borders, how}
-use Rattle.relay_laws.specs.History.{turns, held, got, put, sent, stop_said, memory_said, accept_failed, was_closed, was_reaped, same_why}
-use Rattle.relay_laws.specs.Arming.{armed_to_read, armed_to_write, asked_to_read, asked_to_write, asked_to_accept}
-use Rattle.relay_laws.specs.Sessions.{holds, numbers}
-use Rattle.relay_laws.specs.Transfers.{due, due_pieces, over, backlog, room, is_spent}
-use Rattle.relay_laws.specs.Moments.{passed}
-use Rattle.relay_laws.specs.Openings.{Call, Open, Settle, Listen, Accept, Refuse, Serve}
-use Rattle.relay_laws.specs.Cause.{cause, closed_why}
-use Rattle.relay_laws.specs.Calls.{called_at, call, door_call, door_cut}
-use Rattle.relay_laws.specs.Outcome.{outcome}
-use Rattle.relay_laws.specs.Rest.{owed, moves, may_read, may_write, must_pass, presses, until_of}
+use Rattle.relay_model.specs.Choices.{each_below, one_more}
+use Rattle.relay_model.specs.Configs.{input, output, things, way_from, way_to, is_program_door, program_door, has_fork, medium_of, is_program, keeps_borders, how}
+use Rattle.relay_model.specs.History.{turns, held, got, put, sent, stop_said, memory_said, accept_failed, was_closed, was_reaped, same_why}
+use Rattle.relay_model.specs.Arming.{armed_to_read, armed_to_write, asked_to_read, asked_to_write, asked_to_accept}
+use Rattle.relay_model.specs.Sessions.{holds, numbers}
+use Rattle.relay_model.specs.Transfers.{due, due_pieces, over, backlog, room, is_spent}
+use Rattle.relay_model.specs.Moments.{passed}
+use Rattle.relay_model.specs.Openings.{Call, Open, Settle, Listen, Accept, Refuse, Serve}
+use Rattle.relay_model.specs.Cause.{cause, closed_why}
+use Rattle.relay_model.specs.Calls.{called_at, call, door_call, door_cut}
+use Rattle.relay_model.specs.Outcome.{outcome}
+use Rattle.relay_model.specs.Rest.{owed, moves, may_read, may_write, must_pass, presses, until_of}
 
 abbrev pub implies : Bool → Bool → Bool
 implies true b = b

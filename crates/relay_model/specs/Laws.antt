@@ -10,17 +10,17 @@ use Rattle.relay_model.specs.declared.acts.Act.{Act}
 use Rattle.relay_model.specs.declared.acts.Act.TheVariants.{Opened, OpenLater, Listening, Accepted, NoPeer, AcceptFailed, Read, ReadEmpty, ReadEnd, ReadNotYet, ReadFault, Wrote, WriteNotYet, WriteFault, Shut, ShutFault, Closed}
 use Rattle.relay_model.specs.Places.{same_place}
 use Rattle.relay_model.specs.Holding.{standing, is_free}
-use Rattle.relay_laws.specs.Configs.{input, output, formed, has_fork, program_door, is_program_door}
-use Rattle.relay_laws.specs.History.{now, got, put, held, stage, Unsettled, Waiting, woken}
-use Rattle.relay_laws.specs.Arming.{armed_to_accept}
-use Rattle.relay_laws.specs.Sessions.{numbers, admitted, holds, live_count, next_place, door_options}
-use Rattle.relay_laws.specs.Transfers.{due, backlog}
-use Rattle.relay_laws.specs.Moments.{passed}
-use Rattle.relay_laws.specs.Openings.{Call, Nothing, TryAt, Open, Settle, Listen, Accept, Refuse, Serve}
-use Rattle.relay_laws.specs.Cause.{cause}
-use Rattle.relay_laws.specs.Calls.{called_at, door_call, enough, full}
-use Rattle.relay_laws.specs.May.{May, Legal, BeginsWith}
-use Rattle.relay_laws.specs.Audit.{may_come, first_illegal}
+use Rattle.relay_model.specs.Configs.{input, output, formed, has_fork, program_door, is_program_door}
+use Rattle.relay_model.specs.History.{now, got, put, held, stage, Unsettled, Waiting, woken}
+use Rattle.relay_model.specs.Arming.{armed_to_accept}
+use Rattle.relay_model.specs.Sessions.{numbers, admitted, holds, live_count, next_place, door_options}
+use Rattle.relay_model.specs.Transfers.{due, backlog}
+use Rattle.relay_model.specs.Moments.{passed}
+use Rattle.relay_model.specs.Openings.{Call, Nothing, TryAt, Open, Settle, Listen, Accept, Refuse, Serve}
+use Rattle.relay_model.specs.Cause.{cause}
+use Rattle.relay_model.specs.Calls.{called_at, door_call, enough, full}
+use Rattle.relay_model.specs.May.{May, Legal, BeginsWith}
+use Rattle.relay_model.specs.Audit.{may_come, first_illegal}
 
 -- what stood before some of the last acts of a legal list is legal
 abbrev pub PrefixesAreLegal : Type 0

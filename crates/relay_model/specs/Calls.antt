@@ -3,11 +3,11 @@ use Rattle.std.specs.Prelude.{ℕ, Bool, not, ◌&&◌, ◌||◌, nat_le, List, 
 use Rattle.relay_model.specs.declared.places.Place.{Place}
 use Rattle.relay_model.specs.declared.commands.Config.{Config}
 use Rattle.relay_model.specs.declared.acts.Act.{Act}
-use Rattle.relay_laws.specs.Configs.{places, has_fork, is_left, program_door}
-use Rattle.relay_laws.specs.History.{Stage, Waiting, stage, held, stop_said, memory_said, accept_failed}
-use Rattle.relay_laws.specs.Sessions.{admitted, live, live_count, next_place, door_options}
-use Rattle.relay_laws.specs.Openings.{Call, Nothing, Refuse, Serve, first_call, listening_call}
-use Rattle.relay_laws.specs.Cause.{cause}
+use Rattle.relay_model.specs.Configs.{places, has_fork, is_left, program_door}
+use Rattle.relay_model.specs.History.{Stage, Waiting, stage, held, stop_said, memory_said, accept_failed}
+use Rattle.relay_model.specs.Sessions.{admitted, live, live_count, next_place, door_options}
+use Rattle.relay_model.specs.Openings.{Call, Nothing, Refuse, Serve, first_call, listening_call}
+use Rattle.relay_model.specs.Cause.{cause}
 
 -- what the opening of a session calls for
 abbrev pub call : Config → List Act → ℕ → Call

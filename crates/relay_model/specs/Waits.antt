@@ -2,13 +2,13 @@
 use Rattle.std.specs.Prelude.{◌≡◌, ◌<◌, ◌≤◌, ℕ, suc, Bool, true, false, ◌||◌, ◌⊎◌, List, Option, Some, None}
 use Rattle.relay_model.specs.declared.commands.Config.{Config}
 use Rattle.relay_model.specs.declared.acts.Act.{Act}
-use Rattle.relay_laws.specs.Choices.{some_below}
-use Rattle.relay_laws.specs.History.{now}
-use Rattle.relay_laws.specs.Sessions.{numbers}
-use Rattle.relay_laws.specs.Calls.{door_call}
-use Rattle.relay_laws.specs.Outcome.{outcome}
-use Rattle.relay_laws.specs.Rest.{owed, accepts, session_work, session_moment, door_moment, SessionRests, DoorRests, Rest, until_of}
-use Rattle.relay_laws.specs.May.{Legal}
+use Rattle.relay_model.specs.Choices.{some_below}
+use Rattle.relay_model.specs.History.{now}
+use Rattle.relay_model.specs.Sessions.{numbers}
+use Rattle.relay_model.specs.Calls.{door_call}
+use Rattle.relay_model.specs.Outcome.{outcome}
+use Rattle.relay_model.specs.Rest.{owed, accepts, session_work, session_moment, door_moment, SessionRests, DoorRests, Rest, until_of}
+use Rattle.relay_model.specs.May.{Legal}
 
 -- armed work is left at the program door or in some session
 abbrev pub works : Config → List Act → Bool

@@ -11,10 +11,10 @@ use Rattle.relay_model.specs.declared.commands.Options.{Options}
 use Rattle.relay_model.specs.declared.acts.Peer.{Peer}
 use Rattle.relay_model.specs.declared.acts.Act.{Act}
 use Rattle.relay_model.specs.declared.acts.Act.TheVariants.{Accepted}
-use Rattle.relay_laws.specs.Choices.{count, one_more}
-use Rattle.relay_laws.specs.Configs.{things, parts, place_at, options_of, has_fork, is_left, program_door}
+use Rattle.relay_model.specs.Choices.{count, one_more}
+use Rattle.relay_model.specs.Configs.{things, parts, place_at, options_of, has_fork, is_left, program_door}
 use Rattle.relay_model.specs.Permits.{is_permitted, admission_of}
-use Rattle.relay_laws.specs.History.{held}
+use Rattle.relay_model.specs.History.{held}
 
 -- whether a place takes this peer
 abbrev pub permits : Config → Place → Peer → Bool

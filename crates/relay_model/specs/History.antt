@@ -10,7 +10,7 @@ use Rattle.relay_model.specs.declared.acts.Act.{Act}
 use Rattle.relay_model.specs.declared.acts.Act.TheVariants.{Turn, Opened, OpenLater, OpenFailed, Listening, ListenFailed, Accepted, AcceptFailed, Read, ReadEmpty, ReadEnd, ReadFault, Wrote, WriteFault, Shut, ShutFault, Closed, Reaped}
 use Rattle.relay_model.specs.Places.{same_place}
 use Rattle.relay_model.specs.Readiness.{names}
-use Rattle.relay_laws.specs.Choices.{joined, noted}
+use Rattle.relay_model.specs.Choices.{joined, noted}
 
 -- ---- turns
 
@@ -124,6 +124,13 @@ abbrev pub was_reaped : List Act → Place → Bool
 was_reaped [] p = false
 was_reaped (Reaped q end ∷ past) p = same_place q p || was_reaped past p
 was_reaped (act ∷ past) p = was_reaped past p
+
+-- the child of a closed place was reaped since its last closing
+abbrev pub reaped_since : List Act → Place → Bool
+reaped_since [] p = false
+reaped_since (Closed q why ∷ past) p = not (same_place q p) && reaped_since past p
+reaped_since (Reaped q end ∷ past) p = same_place q p || reaped_since past p
+reaped_since (act ∷ past) p = reaped_since past p
 
 -- ---- bytes
 

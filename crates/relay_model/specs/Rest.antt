@@ -7,18 +7,18 @@ use Rattle.relay_model.specs.declared.commands.Dump.{Dump}
 use Rattle.relay_model.specs.declared.commands.Dump.TheVariants as dumps
 use Rattle.relay_model.specs.declared.acts.Act.{Act}
 use Rattle.relay_model.specs.declared.acts.Act.TheVariants.{Read}
-use Rattle.relay_laws.specs.Choices.{earlier, later, some_below, least_below}
-use Rattle.relay_laws.specs.Configs.{input, output, formed, way_from, has_fork, program_door}
+use Rattle.relay_model.specs.Choices.{earlier, later, some_below, least_below}
+use Rattle.relay_model.specs.Configs.{input, output, formed, way_from, has_fork, program_door}
 use Rattle.relay_model.specs.Dumps.{dump_of}
-use Rattle.relay_laws.specs.History.{now, got, held}
-use Rattle.relay_laws.specs.Arming.{read_arming, armed_to_read, armed_to_write, arming_moment, asked_to_read, asked_to_write, asked_to_accept}
-use Rattle.relay_laws.specs.Sessions.{holds, numbers}
-use Rattle.relay_laws.specs.Transfers.{over, backlog, is_spent}
-use Rattle.relay_laws.specs.Moments.{passed, broken, closing_moment, idle_moment}
-use Rattle.relay_laws.specs.Openings.{Call, Nothing, TryAt, Open, Settle, Listen, Accept, Refuse, Serve}
-use Rattle.relay_laws.specs.Cause.{cause, running}
-use Rattle.relay_laws.specs.Calls.{call, door_call, door_cut}
-use Rattle.relay_laws.specs.Outcome.{outcome}
+use Rattle.relay_model.specs.History.{now, got, held}
+use Rattle.relay_model.specs.Arming.{read_arming, armed_to_read, armed_to_write, arming_moment, asked_to_read, asked_to_write, asked_to_accept}
+use Rattle.relay_model.specs.Sessions.{holds, numbers}
+use Rattle.relay_model.specs.Transfers.{over, backlog, is_spent}
+use Rattle.relay_model.specs.Moments.{passed, broken, closing_moment, idle_moment}
+use Rattle.relay_model.specs.Openings.{Call, Nothing, TryAt, Open, Settle, Listen, Accept, Refuse, Serve}
+use Rattle.relay_model.specs.Cause.{cause, running}
+use Rattle.relay_model.specs.Calls.{call, door_call, door_cut}
+use Rattle.relay_model.specs.Outcome.{outcome}
 
 -- ---- dumps
 

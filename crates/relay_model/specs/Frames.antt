@@ -7,13 +7,13 @@ use Rattle.relay_model.specs.declared.acts.Why.TheVariants as whys
 use Rattle.relay_model.specs.declared.acts.Act.{Act}
 use Rattle.relay_model.specs.declared.acts.Act.TheVariants.{Turn, Opened, OpenLater, OpenFailed, Listening, ListenFailed, Accepted, NoPeer, AcceptFailed, Read, ReadEmpty, ReadEnd, ReadNotYet, ReadFault, Wrote, WriteNotYet, WriteFault, Shut, ShutFault, Closed, Reaped, Note, NoteFault}
 use Rattle.relay_model.specs.Places.{same_place}
-use Rattle.relay_laws.specs.Configs.{is_program_door}
-use Rattle.relay_laws.specs.History.{now, turns, same_why, stage, failures, woken, accept_failed, was_closed, was_reaped, got, put, sent, met_end, met_empty, shut_at, read_fault_at, write_fault_at}
-use Rattle.relay_laws.specs.Arming.{read_arming, armed_to_write, armed_to_accept, asked_to_read}
-use Rattle.relay_laws.specs.Sessions.{numbers, live, holds}
-use Rattle.relay_laws.specs.Openings.{ready}
-use Rattle.relay_laws.specs.Cause.{cause, running}
-use Rattle.relay_laws.specs.Calls.{call}
+use Rattle.relay_model.specs.Configs.{is_program_door}
+use Rattle.relay_model.specs.History.{now, turns, same_why, stage, failures, woken, accept_failed, was_closed, was_reaped, got, put, sent, met_end, met_empty, shut_at, read_fault_at, write_fault_at}
+use Rattle.relay_model.specs.Arming.{read_arming, armed_to_write, armed_to_accept, asked_to_read}
+use Rattle.relay_model.specs.Sessions.{numbers, live, holds}
+use Rattle.relay_model.specs.Openings.{ready}
+use Rattle.relay_model.specs.Cause.{cause, running}
+use Rattle.relay_model.specs.Calls.{call}
 
 -- the place or door that the act is at
 abbrev pub is_at : Act → Place → Bool

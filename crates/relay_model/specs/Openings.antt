@@ -5,10 +5,10 @@ use Rattle.relay_model.specs.declared.places.Place.{Place}
 use Rattle.relay_model.specs.declared.commands.Config.{Config}
 use Rattle.relay_model.specs.declared.acts.Act.{Act}
 use Rattle.relay_model.specs.Places.{door_of}
-use Rattle.relay_laws.specs.Configs.{places, options_of, listens_at, has_own_door}
-use Rattle.relay_laws.specs.History.{now, Stage, Untried, Usable, Unsettled, Failed, Met, Waiting, stage, held, served, failures, woken}
-use Rattle.relay_laws.specs.Arming.{armed_to_accept}
-use Rattle.relay_laws.specs.Sessions.{permits}
+use Rattle.relay_model.specs.Configs.{places, options_of, listens_at, has_own_door}
+use Rattle.relay_model.specs.History.{now, Stage, Untried, Usable, Unsettled, Failed, Met, Waiting, stage, held, served, failures, woken}
+use Rattle.relay_model.specs.Arming.{armed_to_accept}
+use Rattle.relay_model.specs.Sessions.{permits}
 use Rattle.relay_model.specs.Tries.{is_out_of_tries, next_due}
 
 -- what is called for; with `TryAt` nothing before that moment

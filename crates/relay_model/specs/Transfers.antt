@@ -6,10 +6,10 @@ use Rattle.relay_model.specs.declared.commands.Config.{Config}
 use Rattle.relay_model.specs.declared.acts.Act.{Act}
 use Rattle.relay_model.specs.declared.acts.Act.TheVariants.{Read}
 use Rattle.relay_model.specs.Places.{same_place}
-use Rattle.relay_laws.specs.Choices.{joined}
-use Rattle.relay_laws.specs.Configs.{input, output, options_of, keeps_borders}
+use Rattle.relay_model.specs.Choices.{joined}
+use Rattle.relay_model.specs.Configs.{input, output, options_of, keeps_borders}
 use Rattle.relay_model.specs.Conversions.{due_of, is_over, read_size, packet_size, packet_cap}
-use Rattle.relay_laws.specs.History.{got, put, met_end, met_empty}
+use Rattle.relay_model.specs.History.{got, put, met_end, met_empty}
 
 -- what is to be written of the bytes that a direction reads
 abbrev pub due : Config → Way → List ℕ → List ℕ

@@ -10,12 +10,12 @@ use Rattle.relay_model.specs.declared.acts.Why.{Why}
 use Rattle.relay_model.specs.declared.acts.Why.TheVariants as whys
 use Rattle.relay_model.specs.declared.acts.Act.{Act}
 use Rattle.relay_model.specs.declared.acts.Act.TheVariants.{ReadFault, WriteFault}
-use Rattle.relay_laws.specs.Choices.{only_if, or_else, first_some, some_below}
-use Rattle.relay_laws.specs.Configs.{places, own_doors, is_place_of, has_fork, program_door}
-use Rattle.relay_laws.specs.History.{turns, stop_said, memory_said, accept_failed, held, served, failures}
-use Rattle.relay_laws.specs.Sessions.{holds, live, numbers}
-use Rattle.relay_laws.specs.Openings.{out_of_tries}
-use Rattle.relay_laws.specs.Cause.{cause}
+use Rattle.relay_model.specs.Choices.{only_if, or_else, first_some, some_below}
+use Rattle.relay_model.specs.Configs.{places, own_doors, is_place_of, has_fork, program_door}
+use Rattle.relay_model.specs.History.{turns, stop_said, memory_said, accept_failed, held, served, failures}
+use Rattle.relay_model.specs.Sessions.{holds, live, numbers}
+use Rattle.relay_model.specs.Openings.{out_of_tries}
+use Rattle.relay_model.specs.Cause.{cause}
 
 pub data Outcome : Type 0 where
   Memory : Outcome

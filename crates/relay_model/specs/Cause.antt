@@ -9,12 +9,12 @@ use Rattle.relay_model.specs.declared.acts.Why.{Why}
 use Rattle.relay_model.specs.declared.acts.Why.TheVariants as whys
 use Rattle.relay_model.specs.declared.acts.Act.{Act}
 use Rattle.relay_model.specs.declared.acts.Act.TheVariants.{Closed}
-use Rattle.relay_laws.specs.Choices.{only_if, first_some}
-use Rattle.relay_laws.specs.Configs.{places, own_doors, is_of, has_fork, program_door, formed}
-use Rattle.relay_laws.specs.History.{now, stop_said, memory_said, same_why, accept_failed, read_fault_at, write_fault_at}
-use Rattle.relay_laws.specs.Sessions.{live}
-use Rattle.relay_laws.specs.Openings.{out_of_tries, ready}
-use Rattle.relay_laws.specs.Moments.{passed, broken, done, closing_moment, idle_moment, reached}
+use Rattle.relay_model.specs.Choices.{only_if, first_some}
+use Rattle.relay_model.specs.Configs.{places, own_doors, is_of, has_fork, program_door, formed}
+use Rattle.relay_model.specs.History.{now, stop_said, memory_said, same_why, accept_failed, read_fault_at, write_fault_at}
+use Rattle.relay_model.specs.Sessions.{live}
+use Rattle.relay_model.specs.Openings.{out_of_tries, ready}
+use Rattle.relay_model.specs.Moments.{passed, broken, done, closing_moment, idle_moment, reached}
 
 -- whether a closing with this reason ends a session: a refused peer and a door that served don't
 abbrev pub is_end : Place → Why → Bool

@@ -8,15 +8,15 @@ use Rattle.relay_model.specs.declared.acts.Shut.{Shut as Shutting}
 use Rattle.relay_model.specs.declared.acts.Act.{Act}
 use Rattle.relay_model.specs.declared.acts.Act.TheVariants.{Turn, Opened, OpenLater, OpenFailed, Listening, ListenFailed, Accepted, NoPeer, AcceptFailed, Read, ReadEmpty, ReadEnd, ReadNotYet, ReadFault, Wrote, WriteNotYet, WriteFault, Shut, ShutFault, Closed, Reaped, Note, NoteFault}
 use Rattle.relay_model.specs.Places.{same_place}
-use Rattle.relay_laws.specs.Configs.{input, output, way_from, way_to, is_program_door, program_door, medium_of, is_program, keeps_borders, how}
-use Rattle.relay_laws.specs.History.{turns, held, got, put, sent, stop_said, memory_said, accept_failed, was_closed, was_reaped}
-use Rattle.relay_laws.specs.Arming.{armed_to_read, armed_to_write}
-use Rattle.relay_laws.specs.Transfers.{due, due_pieces, over, backlog, room, is_spent}
-use Rattle.relay_laws.specs.Moments.{passed}
-use Rattle.relay_laws.specs.Openings.{Open, Settle, Listen, Accept, Refuse, Serve}
-use Rattle.relay_laws.specs.Cause.{cause, closed_why}
-use Rattle.relay_laws.specs.Calls.{called_at}
-use Rattle.relay_laws.specs.Rest.{owed, moves, Rest, until_of}
+use Rattle.relay_model.specs.Configs.{input, output, way_from, way_to, is_program_door, program_door, medium_of, is_program, keeps_borders, how}
+use Rattle.relay_model.specs.History.{turns, held, got, put, sent, stop_said, memory_said, accept_failed, was_closed, was_reaped}
+use Rattle.relay_model.specs.Arming.{armed_to_read, armed_to_write}
+use Rattle.relay_model.specs.Transfers.{due, due_pieces, over, backlog, room, is_spent}
+use Rattle.relay_model.specs.Moments.{passed}
+use Rattle.relay_model.specs.Openings.{Open, Settle, Listen, Accept, Refuse, Serve}
+use Rattle.relay_model.specs.Cause.{cause, closed_why}
+use Rattle.relay_model.specs.Calls.{called_at}
+use Rattle.relay_model.specs.Rest.{owed, moves, Rest, until_of}
 
 -- ---- reads and writes
 

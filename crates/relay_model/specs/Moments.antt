@@ -5,9 +5,9 @@ use Rattle.relay_model.specs.declared.places.Way.TheVariants.{LeftToRight, Right
 use Rattle.relay_model.specs.declared.commands.Config.{Config}
 use Rattle.relay_model.specs.declared.acts.Act.{Act}
 use Rattle.relay_model.specs.declared.acts.Act.TheVariants.{Opened, Accepted, Read, Wrote}
-use Rattle.relay_laws.specs.Choices.{or_else}
-use Rattle.relay_laws.specs.Configs.{input, output, formed, is_place_of}
-use Rattle.relay_laws.specs.History.{now, shut_at, read_fault_at, write_fault_at}
+use Rattle.relay_model.specs.Choices.{or_else}
+use Rattle.relay_model.specs.Configs.{input, output, formed, is_place_of}
+use Rattle.relay_model.specs.History.{now, shut_at, read_fault_at, write_fault_at}
 
 -- the moment at which a place of the session was last opened or accepted, or bytes were last read or written at one
 abbrev pub moved : Config → List Act → ℕ → ℕ
