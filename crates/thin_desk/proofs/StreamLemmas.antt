@@ -1,9 +1,10 @@
 -- What was read and written, over an act that moves no bytes, and where all of it was at one place.
-use Rattle.std.proofs.Common.{◌≡◌, ℕ, Bool, List, [], ◌∷◌, ◌++◌, Option, None, Some, true, false, is_some, option_map, if◌then◌else◌, ap, refl}
+use Rattle.std.proofs.Common.{◌≡◌, ℕ, Bool, List, [], ◌∷◌, ◌++◌, Option, None, Some, true, false, is_some, option_map, ap, refl}
 use Rattle.relay_model.specs.declared.acts.Act.{Act}
 use Rattle.relay_model.specs.declared.acts.Act.TheVariants.{Read, Wrote}
 use Rattle.relay_model.specs.declared.places.Place.{Place}
-use Rattle.relay_model.specs.Bytes.{got, put}
+use Rattle.relay_model.specs.History.{got, put}
+use Rattle.relay_model.specs.Choices.{joined}
 use Rattle.relay_model.specs.Places.{same_place}
 use Rattle.relay_model.specs.Journals.{History, Asking}
 use Rattle.world_trait.specs.Recordings.{with_act, with_asking}
@@ -40,7 +41,7 @@ pub tells_nothing : (f : History → History) (told : Option History) → is_som
 tells_nothing f None none = refl
 tells_nothing f (Some history) none = absurd (let e : true ≡ false = none in cc)
 
-at_place : (b : Bool) (all own bytes : List ℕ) → b ≡ true → all ≡ own → all ++ bytes ≡ (if b then own ++ bytes else own)
+at_place : (b : Bool) (all own bytes : List ℕ) → b ≡ true → all ≡ own → all ++ bytes ≡ joined b own bytes
 at_place true all own bytes here same = ap (λ xs. xs ++ bytes) same
 at_place false all own bytes here same = absurd (let e : false ≡ true = here in cc)
 

@@ -12,8 +12,8 @@ use std::alloc::Global;
 use std::io::{Read, Write};
 use std::marker::Brand;
 use world_trait::{
-    Holdings, NoteAnswer, OpenAnswer, ReadAnswer, Recorder, ShutAnswer, Standing, Turned, World,
-    WriteAnswer,
+    AcceptAnswer, Holdings, ListenAnswer, NoteAnswer, OpenAnswer, ReadAnswer, ReapAnswer, Recorder,
+    SendAnswer, ShutAnswer, Standing, Turned, World, WriteAnswer,
 };
 
 /// The stream that a place stands on.
@@ -30,7 +30,8 @@ struct Station {
     stream: Stream,
 }
 
-/// A world in which STDIN is the reader and STDOUT the writer. Every other target fails at its opening. Each error
+/// A world in which STDIN is the reader and STDOUT the writer. Every other target fails at its opening, and so does
+/// each listening, accepting, settling and sending. There are no children. Each error
 /// of a read, a write or a flush in a shut is a fault that it counts, and so is a write that takes nothing; a call
 /// that a signal interrupted is made again. Its clock follows the moments that its waits are given.
 pub struct ThinDesk<R: Read + Drop, K: Write + Drop, E: Write + Drop, S: Start = Brand> {
@@ -235,6 +236,44 @@ impl<R: Read + Drop, K: Write + Drop, E: Write + Drop, S: Start> World for ThinD
         OpenAnswer::Opened
     }
 
+    /// No opening is ever under way, and this one fails.
+    fn settle(&mut self, place: Place) -> OpenAnswer {
+        let Ok(()) = self.channels.reserve(self.held.len() + 1) else {
+            return OpenAnswer::Memory;
+        };
+        self.held.remove(place);
+        self.faults = self.faults.saturating_add(1);
+        self.channels.note(Act::OpenFailed(place));
+        OpenAnswer::Failed
+    }
+
+    /// Fails: there is nothing to listen at.
+    fn listen(&mut self, door: Place, single: &Single) -> ListenAnswer {
+        let Ok(asked) = single.copy() else {
+            return ListenAnswer::Memory;
+        };
+        let Ok(()) = self.channels.reserve(self.held.len() + 1) else {
+            return ListenAnswer::Memory;
+        };
+        let Ok(()) = self.channels.reserve_asking() else {
+            return ListenAnswer::Memory;
+        };
+        self.faults = self.faults.saturating_add(1);
+        self.channels
+            .note_asking(Act::ListenFailed(door), door, asked);
+        ListenAnswer::Failed
+    }
+
+    /// Fails: no peer ever comes.
+    fn accept(&mut self, door: Place, _place: Place) -> AcceptAnswer {
+        let Ok(()) = self.channels.reserve(self.held.len() + 1) else {
+            return AcceptAnswer::Memory;
+        };
+        self.faults = self.faults.saturating_add(1);
+        self.channels.note(Act::AcceptFailed(door));
+        AcceptAnswer::Failed
+    }
+
     fn read(&mut self, place: Place, into: &mut [u8]) -> ReadAnswer {
         let Ok(()) = self.channels.reserve(self.held.len() + 1) else {
             return ReadAnswer::Memory;
@@ -269,6 +308,16 @@ impl<R: Read + Drop, K: Write + Drop, E: Write + Drop, S: Start> World for ThinD
             }
             answer => answer,
         }
+    }
+
+    /// Fails: neither stream carries packets.
+    fn send(&mut self, place: Place, _bytes: &[u8]) -> SendAnswer {
+        let Ok(()) = self.channels.reserve(self.held.len() + 1) else {
+            return SendAnswer::Memory;
+        };
+        self.faults = self.faults.saturating_add(1);
+        self.channels.note(Act::WriteFault(place));
+        SendAnswer::Failed
     }
 
     /// `Down` and `Close` flush the writer at a place on it; the others do nothing.
@@ -311,5 +360,10 @@ impl<R: Read + Drop, K: Write + Drop, E: Write + Drop, S: Start> World for ThinD
             }
             answer => answer,
         }
+    }
+
+    /// There are no children.
+    fn reap(&mut self, _place: Place) -> ReapAnswer {
+        ReapAnswer::NoChild
     }
 }

@@ -2,11 +2,12 @@
 -- holds, and how its counts rise. `Memory` stands for no act: then nothing was done.
 use Rattle.std.specs.Prelude.{◌≡◌, ◌≤◌, ◌<◌, ◌+◌, ◌^◌, ◌-◌, ℕ, Bool, true, false, List, Option, Some, None, take, min, option_map, is_some, ⊤}
 use Rattle.relay_model.specs.declared.acts.Act.{Act}
-use Rattle.relay_model.specs.declared.acts.Act.TheVariants.{Turn, Opened, OpenFailed, Read, ReadEnd, ReadNotYet, ReadFault, Wrote, WriteNotYet, WriteFault, Shut, ShutFault, Closed, Note, NoteFault}
+use Rattle.relay_model.specs.declared.acts.Act.TheVariants.{Turn, Opened, OpenLater, OpenFailed, Listening, ListenFailed, Accepted, NoPeer, AcceptFailed, Read, ReadEmpty, ReadEnd, ReadNotYet, ReadFault, Wrote, WriteNotYet, WriteFault, Shut, ShutFault, Closed, Reaped, Note, NoteFault}
 use Rattle.relay_model.specs.declared.acts.Shut.{Shut as Shutting}
 use Rattle.relay_model.specs.declared.acts.Why.{Why}
 use Rattle.relay_model.specs.declared.places.Place.{Place}
 use Rattle.relay_model.specs.Holding.{Hold, hold_after}
+use Rattle.relay_model.specs.History.{reaped_since}
 use Rattle.relay_model.specs.Readiness.{Listed, copied_list}
 use Rattle.relay_model.specs.Journals.{History, Asking}
 use Rattle.world_trait.specs.Recordings.{with_act, with_asking}
@@ -14,14 +15,22 @@ use Rattle.world_trait.specs.declared.answers.Turned.{Turned}
 use Rattle.world_trait.specs.declared.answers.Turned.TheVariants as turns
 use Rattle.world_trait.specs.declared.answers.OpenAnswer.{OpenAnswer}
 use Rattle.world_trait.specs.declared.answers.OpenAnswer.TheVariants as opens
+use Rattle.world_trait.specs.declared.answers.ListenAnswer.{ListenAnswer}
+use Rattle.world_trait.specs.declared.answers.ListenAnswer.TheVariants as listens
+use Rattle.world_trait.specs.declared.answers.AcceptAnswer.{AcceptAnswer}
+use Rattle.world_trait.specs.declared.answers.AcceptAnswer.TheVariants as accepts
 use Rattle.world_trait.specs.declared.answers.ReadAnswer.{ReadAnswer}
 use Rattle.world_trait.specs.declared.answers.ReadAnswer.TheVariants as reads
 use Rattle.world_trait.specs.declared.answers.WriteAnswer.{WriteAnswer}
 use Rattle.world_trait.specs.declared.answers.WriteAnswer.TheVariants as writes
+use Rattle.world_trait.specs.declared.answers.SendAnswer.{SendAnswer}
+use Rattle.world_trait.specs.declared.answers.SendAnswer.TheVariants as sends
 use Rattle.world_trait.specs.declared.answers.ShutAnswer.{ShutAnswer}
 use Rattle.world_trait.specs.declared.answers.ShutAnswer.TheVariants as shuts
 use Rattle.world_trait.specs.declared.answers.NoteAnswer.{NoteAnswer}
 use Rattle.world_trait.specs.declared.answers.NoteAnswer.TheVariants as notes
+use Rattle.world_trait.specs.declared.answers.ReapAnswer.{ReapAnswer}
+use Rattle.world_trait.specs.declared.answers.ReapAnswer.TheVariants as reaps
 
 abbrev pub wait_act : Option ℕ → Listed → Turned → Option Act
 wait_act until ready (turns.Turned at stop) = Some (Turn until at (copied_list ready) stop)
@@ -29,11 +38,24 @@ wait_act until ready turns.Memory = None
 
 abbrev pub open_act : Place → OpenAnswer → Option Act
 open_act place opens.Opened = Some (Opened place)
+open_act place opens.Later = Some (OpenLater place)
 open_act place opens.Failed = Some (OpenFailed place)
 open_act place opens.Memory = None
 
+abbrev pub listen_act : Place → ListenAnswer → Option Act
+listen_act door listens.Listening = Some (Listening door)
+listen_act door listens.Failed = Some (ListenFailed door)
+listen_act door listens.Memory = None
+
+abbrev pub accept_act : Place → Place → AcceptAnswer → Option Act
+accept_act door place (accepts.Accepted peer) = Some (Accepted place peer)
+accept_act door place accepts.NoPeer = Some (NoPeer door)
+accept_act door place accepts.Failed = Some (AcceptFailed door)
+accept_act door place accepts.Memory = None
+
 abbrev pub read_act : Place → List ℕ → ReadAnswer → Option Act
 read_act place into (reads.Bytes n) = Some (Read place (take n into))
+read_act place into reads.Empty = Some (ReadEmpty place)
 read_act place into reads.End = Some (ReadEnd place)
 read_act place into reads.NotYet = Some (ReadNotYet place)
 read_act place into reads.Failed = Some (ReadFault place)
@@ -44,6 +66,12 @@ write_act place bytes (writes.Took n) = Some (Wrote place (take n bytes))
 write_act place bytes writes.NotYet = Some (WriteNotYet place)
 write_act place bytes writes.Failed = Some (WriteFault place)
 write_act place bytes writes.Memory = None
+
+abbrev pub send_act : Place → List ℕ → SendAnswer → Option Act
+send_act place bytes sends.Sent = Some (Wrote place bytes)
+send_act place bytes sends.NotYet = Some (WriteNotYet place)
+send_act place bytes sends.Failed = Some (WriteFault place)
+send_act place bytes sends.Memory = None
 
 abbrev pub shut_act : Place → Shutting → ShutAnswer → Option Act
 shut_act place how shuts.Done = Some (Shut place how)
@@ -57,6 +85,12 @@ abbrev pub note_act : List ℕ → NoteAnswer → Option Act
 note_act text notes.Noted = Some (Note text)
 note_act text notes.Failed = Some (NoteFault text)
 note_act text notes.Memory = None
+
+-- that there is no child stands for no act
+abbrev pub reap_act : Place → ReapAnswer → Option Act
+reap_act place (reaps.Reaped end) = Some (Reaped place end)
+reap_act place reaps.NoChild = None
+reap_act place reaps.Memory = None
 
 -- the act is told, where the world tells its acts, and changes how its place stands
 pub record Did (told_old told_new : Option History) (held_old held_new : Place → Hold) (act : Act) : Type 0 where
@@ -89,11 +123,24 @@ pub record Rose (before now : ℕ) (failed : Bool) : Type 0 where
 
 abbrev pub is_open_fault : OpenAnswer → Bool
 is_open_fault opens.Opened = false
+is_open_fault opens.Later = false
 is_open_fault opens.Failed = true
 is_open_fault opens.Memory = false
 
+abbrev pub is_listen_fault : ListenAnswer → Bool
+is_listen_fault listens.Listening = false
+is_listen_fault listens.Failed = true
+is_listen_fault listens.Memory = false
+
+abbrev pub is_accept_fault : AcceptAnswer → Bool
+is_accept_fault (accepts.Accepted peer) = false
+is_accept_fault accepts.NoPeer = false
+is_accept_fault accepts.Failed = true
+is_accept_fault accepts.Memory = false
+
 abbrev pub is_read_fault : ReadAnswer → Bool
 is_read_fault (reads.Bytes n) = false
+is_read_fault reads.Empty = false
 is_read_fault reads.End = false
 is_read_fault reads.NotYet = false
 is_read_fault reads.Failed = true
@@ -104,6 +151,12 @@ is_write_fault (writes.Took n) = false
 is_write_fault writes.NotYet = false
 is_write_fault writes.Failed = true
 is_write_fault writes.Memory = false
+
+abbrev pub is_send_fault : SendAnswer → Bool
+is_send_fault sends.Sent = false
+is_send_fault sends.NotYet = false
+is_send_fault sends.Failed = true
+is_send_fault sends.Memory = false
 
 abbrev pub is_shut_fault : ShutAnswer → Bool
 is_shut_fault shuts.Done = false
@@ -118,6 +171,7 @@ is_note_fault notes.Memory = false
 -- some bytes, and no more than there was room for
 abbrev pub ReadFits : ℕ → ReadAnswer → Type 0
 ReadFits room (reads.Bytes n) = (0 < n) × (n ≤ room)
+ReadFits room reads.Empty = ⊤
 ReadFits room reads.End = ⊤
 ReadFits room reads.NotYet = ⊤
 ReadFits room reads.Failed = ⊤
@@ -129,6 +183,11 @@ WriteFits count (writes.Took n) = (0 < n) × (n ≤ count)
 WriteFits count writes.NotYet = ⊤
 WriteFits count writes.Failed = ⊤
 WriteFits count writes.Memory = ⊤
+
+-- where the history is told, no child of the place was reaped since its last closing
+abbrev pub NotReaped : Option History → Place → Type 0
+NotReaped None place = ⊤
+NotReaped (Some history) place = reaped_since history.acts place ≡ false
 
 -- a turn is counted, its moment is the clock's, and a stop comes only where the count of stops rose
 pub record TurnCounts (waits waits' stops stops' clock clock' at : ℕ) (stop : Bool) : Type 0 where
@@ -153,6 +212,7 @@ wants_turn_memory turns.Memory = true
 
 abbrev pub wants_read_memory : ReadAnswer → Bool
 wants_read_memory (reads.Bytes n) = false
+wants_read_memory reads.Empty = false
 wants_read_memory reads.End = false
 wants_read_memory reads.NotYet = false
 wants_read_memory reads.Failed = false
@@ -163,6 +223,12 @@ wants_write_memory (writes.Took n) = false
 wants_write_memory writes.NotYet = false
 wants_write_memory writes.Failed = false
 wants_write_memory writes.Memory = true
+
+abbrev pub wants_send_memory : SendAnswer → Bool
+wants_send_memory sends.Sent = false
+wants_send_memory sends.NotYet = false
+wants_send_memory sends.Failed = false
+wants_send_memory sends.Memory = true
 
 abbrev pub wants_shut_memory : ShutAnswer → Bool
 wants_shut_memory shuts.Done = false

@@ -1,6 +1,7 @@
 -- What a recording tells, and how an act is put into it.
 use Rattle.std.specs.Prelude.{◌≡◌, ◌≤◌, ℕ, true, ◌∷◌, ◌++◌, [], Option, Some, None, is_some}
 use Rattle.relay_model.specs.declared.acts.Act.{Act}
+use Rattle.relay_model.specs.declared.journals.Kept.{Kept}
 use Rattle.relay_model.specs.Journals.{Story, AskedFor, Asking, History}
 use Rattle.world_trait.specs.declared.recorders.Recorder.{Recorder}
 use Rattle.world_trait.specs.declared.recorders.Recorder.TheVariants.{Skip, Keep}
@@ -15,6 +16,10 @@ pub record Recorded : Type 0 where
 abbrev pub told_by : Recorder → Story → AskedFor → Option History
 told_by Skip story asked = None
 told_by Keep story asked = Some (record { acts = story.acts; asked = asked.pairs })
+
+-- what was kept, told whole
+abbrev pub told_kept : Kept → Option History
+told_kept kept = Some (record { acts = kept.journal.acts; asked = kept.asked.pairs })
 
 -- a history with one more act
 abbrev pub with_act : Act → History → History

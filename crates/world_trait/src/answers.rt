@@ -1,4 +1,5 @@
 // The answers of a world. `Memory`: there was none, and nothing was done.
+use relay_model::{ChildEnd, Peer};
 
 /// The end of a wait: its moment in milliseconds since the run began, and whether the run is to stop.
 #[derive(Clone, Copy, Debug, PartialEq, Eq)]
@@ -7,18 +8,37 @@ pub enum Turned {
     Memory,
 }
 
-/// The answer to an opening.
+/// The answer to an opening, and to a settling of one that was under way. After `Later` it is under way.
 #[derive(Clone, Copy, Debug, PartialEq, Eq)]
 pub enum OpenAnswer {
     Opened,
+    Later,
     Failed,
     Memory,
 }
 
-/// The answer to a read: so many bytes, the end of the input, or none yet.
+/// The answer to a listening.
+#[derive(Clone, Copy, Debug, PartialEq, Eq)]
+pub enum ListenAnswer {
+    Listening,
+    Failed,
+    Memory,
+}
+
+/// The answer to an accepting: the peer that came, or that none has come yet.
+#[derive(Clone, Copy, Debug, PartialEq, Eq)]
+pub enum AcceptAnswer {
+    Accepted(Peer),
+    NoPeer,
+    Failed,
+    Memory,
+}
+
+/// The answer to a read: so many bytes, an empty datagram, the end of the input, or none yet.
 #[derive(Clone, Copy, Debug, PartialEq, Eq)]
 pub enum ReadAnswer {
     Bytes(usize),
+    Empty,
     End,
     NotYet,
     Failed,
@@ -29,6 +49,15 @@ pub enum ReadAnswer {
 #[derive(Clone, Copy, Debug, PartialEq, Eq)]
 pub enum WriteAnswer {
     Took(usize),
+    NotYet,
+    Failed,
+    Memory,
+}
+
+/// The answer to a sending: all bytes were taken in one piece, or none yet.
+#[derive(Clone, Copy, Debug, PartialEq, Eq)]
+pub enum SendAnswer {
+    Sent,
     NotYet,
     Failed,
     Memory,
@@ -47,5 +76,13 @@ pub enum ShutAnswer {
 pub enum NoteAnswer {
     Noted,
     Failed,
+    Memory,
+}
+
+/// The answer to a reaping: what is known of the child, or that there is none.
+#[derive(Clone, Copy, Debug, PartialEq, Eq)]
+pub enum ReapAnswer {
+    Reaped(ChildEnd),
+    NoChild,
     Memory,
 }

@@ -1,344 +1,191 @@
-// What a scripted world is told to answer: lists of items in order, each not before its moment.
-ghost use Rattle.std.specs.Prelude.{◌≡◌, ◌≤◌, ◌<◌, length};
-ghost use Rattle.world_trait.specs.Scripts.{GivenFits, TakenFits, HasBytes, HasCount};
+// What a scripted world is told to answer, and what its waits look at.
+ghost use Rattle.std.specs.Prelude.{◌≡◌, ◌≤◌, ◌++◌, ◌∷◌, [], length, take, if◌then◌else◌};
+ghost use Rattle.relay_model.specs.Choices.{earlier};
+ghost use Rattle.world_trait.specs.Lines.{next_of};
+ghost use Rattle.world_trait.specs.Looks.{name_of};
+ghost use Rattle.world_trait.specs.Scripts.{at_of, earliest, empty_script, is_ready, is_stop, least_moment, opening, ready_from, ready_ones};
 
-use relay_model::{Bytes, Half, NoMemory, Place, ReadyAt, ReadyList};
+use crate::accepting::DuePeer;
+use crate::items::OpenItem;
+use crate::lines::Lines;
+use crate::looking::{Looked, Lookout, Watch};
+use crate::marks::{Moments, Places};
+use crate::reading::DueRead;
+use crate::writing::DueWrite;
+use relay_model::{ChildEnd, Place, ReadyAt, ReadyList};
 use std::alloc::Global;
 
-/// What a read gives: these bytes (longer ones in parts), the end of the input, or a fault.
-#[derive(Debug, Drop)]
-pub enum ReadItem {
-    Bytes(Bytes),
-    End,
-    Fault,
-}
-
-/// What becomes of a write: up to so many bytes are taken, none yet, or it fails.
-#[derive(Clone, Copy, Debug, PartialEq, Eq)]
-pub enum WriteItem {
-    Upto(u32),
-    NotYet,
-    Fault,
-}
-
-/// What becomes of an opening.
-#[derive(Clone, Copy, Debug, PartialEq, Eq)]
-pub enum OpenItem {
-    Opens,
-    Fails,
-}
-
-/// Bytes that were given up to `from`.
-#[derive(Debug, Drop)]
-struct Remainder {
-    bytes: Bytes,
-    from: usize,
-    ghost some: { from < length bytes },
-}
-
-/// What the next read of a place gives.
-#[derive(Debug, Drop)]
-enum Reading {
-    Bytes(Remainder),
-    End,
-    Fault,
-}
-
-#[derive(Debug, Drop)]
-struct ReadLine {
-    place: Place,
-    at: u64,
-    reading: Reading,
-}
-
-/// The least count of an `Upto` is 1.
-#[derive(Clone, Copy, Debug)]
-struct Limit {
-    most: u32,
-    ghost some: { 0 < most },
-}
-
-#[derive(Clone, Copy, Debug)]
-enum Writing {
-    Upto(Limit),
-    NotYet,
-    Fault,
-}
-
-#[derive(Clone, Copy, Debug)]
-struct WriteLine {
-    place: Place,
-    at: u64,
-    writing: Writing,
-}
-
-#[derive(Clone, Copy, Debug)]
-struct OpenLine {
-    place: Place,
-    item: OpenItem,
-}
-
-/// What a read gives now.
-#[derive(Clone, Copy, Debug, PartialEq, Eq)]
-pub enum Given {
-    Bytes(usize),
-    End,
-    NotYet,
-    Fault,
-}
-
-/// What a write takes now.
-#[derive(Clone, Copy, Debug, PartialEq, Eq)]
-pub enum Taken {
-    Upto(usize),
-    NotYet,
-    Fault,
-}
-
-/// The items of a script that aren't used up, and the halves whose last answer was that there is nothing yet.
+/// The items that aren't used up, each list in order, and what a wait looks at: that whose last answer was that there
+/// is nothing yet, and that no turn has named since.
 #[derive(Debug, Drop)]
 pub struct Script {
-    reads: Vec<ReadLine>,
-    writes: Vec<WriteLine>,
-    opens: Vec<OpenLine>,
-    stops: Vec<u64>,
-    waiting: Vec<ReadyAt>,
+    pub reads: Lines<DueRead>,
+    pub writes: Lines<DueWrite>,
+    pub opens: Lines<OpenItem>,
+    pub peers: Lines<DuePeer>,
+    pub reaps: Lines<ChildEnd>,
+    pub shut_faults: Places,
+    pub stops: Moments,
+    pub looked: Lookout,
 }
 
 impl Script {
     /// No items; takes no memory.
-    pub fn new(alloc: Global) -> Script {
+    pub fn new(alloc: Global) -> Script
+        ensures { result ≡ empty_script }
+    {
         Script {
-            reads: Vec::new(alloc),
-            writes: Vec::new(alloc),
-            opens: Vec::new(alloc),
-            stops: Vec::new(alloc),
-            waiting: Vec::new(alloc),
+            reads: Lines::new(alloc),
+            writes: Lines::new(alloc),
+            opens: Lines::new(alloc),
+            peers: Lines::new(alloc),
+            reaps: Lines::new(alloc),
+            shut_faults: Places::new(alloc),
+            stops: Moments::new(alloc),
+            looked: Lookout::new(alloc),
         }
+    }
+
+    /// What becomes of the next opening of the place or listening at the door: with no item left it opens.
+    pub fn opening(&self, place: Place) -> OpenItem
+        ensures { result ≡ opening (next_of self.now.opens place) }
+    {
+        match self.opens.next(place) {
+            None => OpenItem::Opens,
+            Some(item) => *item,
+        }
+    }
+
+    /// What the next reaping of the place finds.
+    pub fn end_of(&self, place: Place) -> Option<ChildEnd>
+        ensures { result ≡ next_of self.now.reaps place }
+    {
+        self.reaps.next(place).copied()
     }
 
     pub fn allocator(&self) -> Global {
-        *self.reads.allocator()
+        *self.reads.entries.allocator()
     }
 
-    pub fn add_read(&mut self, place: Place, at: u64, item: ReadItem) -> Result<(), NoMemory>
-        requires { HasBytes item }
+    /// The moment at which a wait ends that lasts until `until` at most: now, where nothing will ever happen.
+    pub fn moment(&self, until: Option<u64>, clock: u64) -> u64
+        ensures is { result ≡ at_of self.now until clock }
+        ensures later { clock ≤ result }
     {
-        let reading = match item {
-            ReadItem::Bytes(bytes) => Reading::Bytes(Remainder { bytes, from: 0 }),
-            ReadItem::End => Reading::End,
-            ReadItem::Fault => Reading::Fault,
-        };
-        self.reads.push(ReadLine { place, at, reading })?;
-        Ok(())
+        match self.earliest(until) {
+            Some(moment) => moment.max(clock),
+            None => clock,
+        }
     }
 
-    pub fn add_write(&mut self, place: Place, at: u64, item: WriteItem) -> Result<(), NoMemory>
-        requires { HasCount item }
+    /// The earliest moment at which a wait ends that lasts until `until` at most, if it ever ends.
+    fn earliest(&self, until: Option<u64>) -> Option<u64>
+        ensures { result ≡ earliest self.now until }
     {
-        let writing = match item {
-            WriteItem::Upto(most) => Writing::Upto(Limit { most }),
-            WriteItem::NotYet => Writing::NotYet,
-            WriteItem::Fault => Writing::Fault,
-        };
-        self.writes.push(WriteLine { place, at, writing })?;
-        Ok(())
+        let ready = self.least_moment(self.looked.as_slice());
+        let moment = earlier(self.stops.least(), ready);
+        earlier(until, moment)
     }
 
-    pub fn add_open(&mut self, place: Place, item: OpenItem) -> Result<(), NoMemory> {
-        self.opens.push(OpenLine { place, item })?;
-        Ok(())
-    }
-
-    pub fn add_stop(&mut self, at: u64) -> Result<(), NoMemory> {
-        self.stops.push(at)?;
-        Ok(())
-    }
-
-    /// What a read of the place would give at this moment, with its bytes put into `into`.
-    pub fn look(&self, place: Place, now: u64, into: &mut [u8]) -> Given
-        requires { 0 < length into.old }
-        ensures { GivenFits (length into.old) result }
+    /// Whether a wait that ends at this moment answers a stop: a stop moment has come, or nothing will ever happen.
+    pub fn is_stop(&self, until: Option<u64>, at: u64) -> bool
+        ensures { result ≡ is_stop self.now until at }
     {
-        for line in &self.reads {
-            if line.place.is(place) {
-                if line.at > now {
-                    return Given::NotYet;
-                }
-                return match &line.reading {
-                    Reading::Bytes(remainder) => Given::Bytes(copy_rest(remainder, into)),
-                    Reading::End => Given::End,
-                    Reading::Fault => Given::Fault,
-                };
-            }
-        }
-        Given::NotYet
+        self.earliest(until).is_none() || self.stops.has_come(at)
     }
 
-    /// Uses up the next read item of the place, or so many of its bytes.
-    pub fn use_read(&mut self, place: Place, count: usize) {
-        self.forget_half(place, Half::ToRead);
-        let found = self.reads.iter().position(|line| line.place.is(place));
-        let Some(index) = found else {
-            return;
-        };
-        let line = &mut self.reads[index];
-        if !skips(&mut line.reading, count) {
-            let _ = self.reads.remove(index);
-        }
-    }
-
-    /// What becomes of a write to the place at this moment, and the index of the item that it would use.
-    pub fn room(&self, place: Place, now: u64, count: usize) -> Taken
-        requires { 0 < count }
-        ensures { TakenFits count result }
+    /// The earliest moment from which one of these is ready.
+    fn least_moment(&self, entries: &[Looked]) -> Option<u64>
+        ensures { result ≡ least_moment self.now entries.now }
     {
-        for line in &self.writes {
-            if line.place.is(place) {
-                if line.at > now {
-                    return Taken::NotYet;
-                }
-                return match line.writing {
-                    Writing::Upto(limit) => Taken::Upto(count.min(limit.most as usize)),
-                    Writing::NotYet => Taken::NotYet,
-                    Writing::Fault => Taken::Fault,
-                };
-            }
-        }
-        Taken::Upto(count)
-    }
-
-    /// Uses up the next write item of the place, if its moment has come.
-    pub fn use_write(&mut self, place: Place, now: u64) {
-        let found = self.writes.iter().position(|line| line.place.is(place));
-        let Some(index) = found else {
-            return;
-        };
-        if self.writes[index].at <= now {
-            let _ = self.writes.remove(index);
-        }
-    }
-
-    /// Whether the next opening of the place fails.
-    pub fn fails_to_open(&self, place: Place) -> bool {
-        match self.opens.iter().find(|line| line.place.is(place)) {
-            Some(line) => line.item == OpenItem::Fails,
-            None => false,
-        }
-    }
-
-    /// Uses up the next opening item of the place.
-    pub fn use_open(&mut self, place: Place) {
-        let found = self.opens.iter().position(|line| line.place.is(place));
-        if let Some(index) = found {
-            let _ = self.opens.remove(index);
-        }
-    }
-
-    /// From now on this half is looked at by a wait.
-    pub fn await_half(&mut self, place: Place, half: Half) -> Result<(), NoMemory> {
-        self.forget_half(place, half);
-        self.waiting.push(ReadyAt { place, half })?;
-        Ok(())
-    }
-
-    /// From now on this half isn't looked at.
-    pub fn forget_half(&mut self, place: Place, half: Half) {
-        self.waiting
-            .retain(|entry| !(entry.place.is(place) && entry.half == half));
-    }
-
-    /// From now on no half of the place is looked at.
-    pub fn forget_place(&mut self, place: Place) {
-        self.waiting.retain(|entry| !entry.place.is(place));
-    }
-
-    /// The earliest moment at which something happens, if anything does: a half becomes ready, or a stop comes.
-    pub fn earliest(&self) -> Option<u64> {
-        let mut least = self.stop_moment();
-        for entry in &self.waiting {
+        let mut least = None;
+        for entry in entries {
             least = earlier(least, self.ready_from(*entry));
         }
         least
     }
 
-    /// Whether a stop moment has come by this moment.
-    pub fn is_stopped(&self, at: u64) -> bool {
-        self.stops.iter().any(|moment| *moment <= at)
-    }
-
-    /// The earliest stop moment.
-    fn stop_moment(&self) -> Option<u64> {
-        self.stops.iter().copied().min()
-    }
-
-    /// The moment from which a half is ready; none where its input has no items left.
-    fn ready_from(&self, entry: ReadyAt) -> Option<u64> {
-        match entry.half {
-            Half::ToRead => {
-                let next = self.reads.iter().find(|line| line.place.is(entry.place));
-                next.map(|line| line.at)
-            }
-            Half::ToWrite => {
-                let next = self.writes.iter().find(|line| line.place.is(entry.place));
+    /// The moment from which something is ready; none where no items are left for it. With no items left for writes
+    /// it is ready at once.
+    fn ready_from(&self, entry: Looked) -> Option<u64>
+        ensures { result ≡ ready_from self.now entry }
+    {
+        match entry.watch {
+            Watch::Read => self.reads.next(entry.place).map(|line| line.at),
+            Watch::Write => {
+                let next = self.writes.next(entry.place);
                 Some(next.map_or(0, |line| line.at))
             }
+            Watch::Peer => self.peers.next(entry.place).map(|line| line.at),
+            Watch::Opening(_) => Some(0),
         }
     }
 
-    /// Names the halves that are ready at this moment, as many as there is room for.
-    pub fn name_ready(&self, at: u64, ready: &mut ReadyList)
-        requires { 256 ≤ ready.old.room }
-        ensures { 256 ≤ ready.new.room }
+    /// Whether something is ready at this moment.
+    fn is_ready(&self, entry: Looked, at: u64) -> bool
+        ensures { result ≡ is_ready self.now at entry }
     {
-        for entry in &self.waiting {
-            if self.ready_from(*entry).is_some_and(|moment| moment <= at) {
-                let _ = ready.push(*entry);
-            }
+        match self.ready_from(entry) {
+            None => false,
+            Some(moment) => moment <= at,
         }
     }
 
-    /// From now on no half that the list names is looked at.
-    pub fn forget_named(&mut self, ready: &ReadyList) {
-        for i in 0..ready.len() {
-            let entry = ready.get(i);
-            self.forget_half(entry.place, entry.half);
+    /// Names what is looked at and ready at this moment, in order, as much as there is room for.
+    pub fn name_ready(&self, at: u64, ready: &mut ReadyList)
+        requires room { 256 ≤ ready.old.room }
+        requires empty { ready.old.entries ≡ [] }
+        ensures room { 256 ≤ ready.new.room }
+        ensures named { ready.new.entries ≡ take 256 (ready_ones self.now at self.now.looked) }
+    {
+        self.name_those(self.looked.as_slice(), at, ready);
+    }
+
+    /// Names those of these that are ready at this moment, in order, as many as there is room for.
+    fn name_those(&self, entries: &[Looked], at: u64, ready: &mut ReadyList)
+        requires room { 256 ≤ ready.old.room }
+        requires empty { ready.old.entries ≡ [] }
+        ensures room { 256 ≤ ready.new.room }
+        ensures named { ready.new.entries ≡ take 256 (ready_ones self.now at entries.now) }
+    {
+        for entry in entries {
+            self.name_if_ready(*entry, at, ready);
         }
+    }
+
+    /// Names this, if it is ready at this moment and there is room for it.
+    fn name_if_ready(&self, entry: Looked, at: u64, ready: &mut ReadyList)
+        requires room { 256 ≤ ready.old.room }
+        requires few { length ready.old.entries ≤ 256 }
+        ensures room { 256 ≤ ready.new.room }
+        ensures few { length ready.new.entries ≤ 256 }
+        ensures named { ready.new.entries ≡ (if is_ready self.now at entry then take 256 (ready.old.entries ++ name_of entry ∷ []) else ready.old.entries) }
+    {
+        if self.is_ready(entry, at) {
+            name(ready, entry.named());
+        }
+    }
+}
+
+/// Appends the entry, if there is room for it.
+fn name(ready: &mut ReadyList, entry: ReadyAt)
+    requires { 256 ≤ ready.old.room }
+    ensures room { 256 ≤ ready.new.room }
+    ensures few { length ready.new.entries ≤ 256 }
+    ensures named { ready.new.entries ≡ take 256 (ready.old.entries ++ entry ∷ []) }
+{
+    if ready.len() < ReadyList::MOST {
+        let _ = ready.push(entry);
     }
 }
 
 /// The lesser of two moments, or the one that is there.
-pub fn earlier(one: Option<u64>, other: Option<u64>) -> Option<u64> {
+pub fn earlier(one: Option<u64>, other: Option<u64>) -> Option<u64>
+    ensures { result ≡ earlier one other }
+{
     match (one, other) {
         (None, other) => other,
         (one, None) => one,
         (Some(one), Some(other)) => Some(one.min(other)),
-    }
-}
-
-/// Copies what is left into the front of `into`, and answers how many bytes that were.
-fn copy_rest(remainder: &Remainder, into: &mut [u8]) -> usize
-    requires { 0 < length into.old }
-    ensures some { 0 < result }
-    ensures fits { result ≤ length into.old }
-{
-    let rest = &remainder.bytes.as_slice()[remainder.from..];
-    let count = rest.len().min(into.len());
-    into[..count].copy_from_slice(&rest[..count]);
-    count
-}
-
-/// Leaves out so many bytes more, and answers whether any are left.
-fn skips(reading: &mut Reading, count: usize) -> bool {
-    match reading {
-        Reading::Bytes(remainder) => {
-            if count < remainder.bytes.len() - remainder.from {
-                remainder.from += count;
-                return true;
-            }
-            false
-        }
-        Reading::End => false,
-        Reading::Fault => false,
     }
 }

@@ -3,8 +3,8 @@ use Rattle.world_trait.specs.HoldTables.{lookup}
 use Rattle.world_trait.proofs.TableLemmas.{free_stays}
 use Rattle.world_trait.proofs.mem_world.MemWorldWorld.open_place.Goals as goal
 
-pub returns-then-fails_to_open-clause-act : goal.returns-then-fails_to_open-clause-act
-returns-then-fails_to_open-clause-act c = record {
+pub returns-in-Fails-clause-act : goal.returns-in-Fails-clause-act
+returns-in-Fails-clause-act c = record {
   told = search rules;
   held = rw c.reserve-3.ensures.entries (free_stays (lookup c.args.self.now.held.entries) c.args.place c.requires);
 }
