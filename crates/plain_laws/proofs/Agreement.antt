@@ -10,19 +10,19 @@ use Rattle.relay_model.specs.declared.acts.Act.TheVariants.{Turn, Opened, OpenLa
 use Rattle.relay_model.specs.Places.{same_place}
 use Rattle.relay_model.specs.Readiness.{names}
 use Rattle.relay_model.specs.PlainRelay.{plain_relay}
-use Rattle.relay_model.specs.Bytes as bytes
-use Rattle.relay_model.specs.Directions.{source, sink}
-use Rattle.relay_model.specs.Arming as arms
-use Rattle.relay_model.specs.Causes as ends
-use Rattle.relay_model.specs.Legality as plain
-use Rattle.relay_laws.specs.Choices as choices
-use Rattle.relay_laws.specs.History as history
-use Rattle.relay_laws.specs.History.{Stage, Untried, Usable, Unsettled, Failed, Met, Waiting, Gone}
-use Rattle.relay_laws.specs.Arming as arming
-use Rattle.relay_laws.specs.Arming.{Arming, Disarmed, Armed, AtEnd}
-use Rattle.relay_laws.specs.Cause as causes
-use Rattle.relay_laws.specs.Rest as rests
-use Rattle.relay_laws.specs.May as whole
+use Rattle.relay_session.specs.Bytes as bytes
+use Rattle.relay_session.specs.Directions.{source, sink}
+use Rattle.relay_session.specs.Arming as arms
+use Rattle.relay_session.specs.Causes as ends
+use Rattle.relay_session.specs.Legality as plain
+use Rattle.relay_model.specs.Choices as choices
+use Rattle.relay_model.specs.History as history
+use Rattle.relay_model.specs.History.{Stage, Untried, Usable, Unsettled, Failed, Met, Waiting, Gone}
+use Rattle.relay_model.specs.Arming as arming
+use Rattle.relay_model.specs.Arming.{Arming, Disarmed, Armed, AtEnd}
+use Rattle.relay_model.specs.Cause as causes
+use Rattle.relay_model.specs.Rest as rests
+use Rattle.relay_model.specs.May as whole
 use Rattle.relay_laws.proofs.PlaceLemmas.{same_place_equal}
 
 -- ---- what any list says
@@ -143,7 +143,7 @@ pub asked_to_read_same : (b n : ℕ) (past : List Act) (p : Place) → plain.Leg
 asked_to_read_same b n [] p legal = refl
 asked_to_read_same b n (Turn until at ready stop ∷ past) p legal = refl
 asked_to_read_same b n (Read q more ∷ past) p legal = ap (λ x. same_place q p || x) (asked_to_read_same b n past p legal.1)
-asked_to_read_same b n (ReadEmpty q ∷ past) p legal = absurd legal.0
+asked_to_read_same b n (ReadEmpty q ∷ past) p legal = ap (λ x. same_place q p || x) (asked_to_read_same b n past p legal.1)
 asked_to_read_same b n (ReadEnd q ∷ past) p legal = ap (λ x. same_place q p || x) (asked_to_read_same b n past p legal.1)
 asked_to_read_same b n (ReadNotYet q ∷ past) p legal = ap (λ x. same_place q p || x) (asked_to_read_same b n past p legal.1)
 asked_to_read_same b n (ReadFault q ∷ past) p legal = ap (λ x. same_place q p || x) (asked_to_read_same b n past p legal.1)
@@ -228,7 +228,7 @@ no_arming_moment past p e = no_moment_before_end (arming.read_arming past p) (no
 abbrev pub is_plain : Stage → Bool
 is_plain Untried = true
 is_plain Usable = true
-is_plain Unsettled = false
+is_plain Unsettled = true
 is_plain Failed = true
 is_plain (Met peer) = false
 is_plain Waiting = false
@@ -241,7 +241,7 @@ keeps_plain false new st f e = e
 pub stage_is_plain : (b n : ℕ) (past : List Act) (p : Place) → plain.Legal (plain_relay b) n past → is_plain (history.stage past p) ≡ true
 stage_is_plain b n [] p legal = refl
 stage_is_plain b n (Opened q ∷ past) p legal = keeps_plain (same_place q p) Usable (history.stage past p) refl (stage_is_plain b n past p legal.1)
-stage_is_plain b n (OpenLater q ∷ past) p legal = absurd legal.0
+stage_is_plain b n (OpenLater q ∷ past) p legal = keeps_plain (same_place q p) Unsettled (history.stage past p) refl (stage_is_plain b n past p legal.1)
 stage_is_plain b n (OpenFailed q ∷ past) p legal = keeps_plain (same_place q p) Failed (history.stage past p) refl (stage_is_plain b n past p legal.1)
 stage_is_plain b n (Listening q ∷ past) p legal = absurd legal.0
 stage_is_plain b n (ListenFailed q ∷ past) p legal = absurd legal.0
@@ -283,7 +283,7 @@ held_there past q p h e = subst (λ x. history.held past x ≡ true) (same_place
 pub tried_same : (b n : ℕ) (past : List Act) (p : Place) → plain.Legal (plain_relay b) n past → whole.Legal (plain_relay b) n past → ends.tried past p ≡ not (is_untried (history.stage past p))
 tried_same b n [] p legal all = refl
 tried_same b n (Opened q ∷ past) p legal all = tried_now (same_place q p) Usable (history.stage past p) (ends.tried past p) refl (tried_same b n past p legal.1 all.1)
-tried_same b n (OpenLater q ∷ past) p legal all = absurd legal.0
+tried_same b n (OpenLater q ∷ past) p legal all = tried_now (same_place q p) Unsettled (history.stage past p) (ends.tried past p) refl (tried_same b n past p legal.1 all.1)
 tried_same b n (OpenFailed q ∷ past) p legal all = tried_now (same_place q p) Failed (history.stage past p) (ends.tried past p) refl (tried_same b n past p legal.1 all.1)
 tried_same b n (Listening q ∷ past) p legal all = absurd legal.0
 tried_same b n (ListenFailed q ∷ past) p legal all = absurd legal.0

@@ -1,5 +1,5 @@
 -- The outcome of the plain relay is the same by both definitions.
-use Rattle.std.proofs.Common.{◌≡◌, refl, sym, ap, subst, ◌∙◌, ℕ, Bool, true, false, not, cond, ◌&&◌, ◌||◌, ◌==◌, nat_lt, is_some, is_none, List, [], ◌∷◌, length, Option, Some, None, inl, inr}
+use Rattle.std.proofs.Common.{◌≡◌, refl, sym, ap, subst, ◌∙◌, ℕ, Bool, true, false, not, cond, ◌&&◌, ◌||◌, ◌==◌, nat_lt, is_some, is_none, List, [], ◌∷◌, length, Option, Some, None, inl, inr, ◌⊎◌}
 use Rattle.relay_model.specs.declared.places.Half.TheVariants.{ToRead, ToWrite}
 use Rattle.relay_model.specs.declared.places.Side.TheVariants.{Left, Right}
 use Rattle.relay_model.specs.declared.places.Place.{Place}
@@ -8,20 +8,20 @@ use Rattle.relay_model.specs.declared.acts.Why.TheVariants as whys
 use Rattle.relay_model.specs.declared.acts.Act.{Act}
 use Rattle.relay_model.specs.declared.acts.Act.TheVariants.{Turn, OpenFailed, ReadFault, WriteFault, Closed}
 use Rattle.relay_model.specs.PlainRelay.{plain_relay}
-use Rattle.relay_model.specs.Causes as ends
-use Rattle.relay_model.specs.Legality as plain
-use Rattle.relay_laws.specs.Choices as choices
-use Rattle.relay_laws.specs.Configs as configs
-use Rattle.relay_laws.specs.History as history
-use Rattle.relay_laws.specs.History.{Stage, Untried, Usable, Unsettled, Failed, Met, Waiting, Gone}
-use Rattle.relay_laws.specs.Cause as causes
-use Rattle.relay_laws.specs.Sessions as sessions
-use Rattle.relay_laws.specs.Outcome as outcomes
+use Rattle.relay_session.specs.Causes as ends
+use Rattle.relay_session.specs.Legality as plain
+use Rattle.relay_model.specs.Choices as choices
+use Rattle.relay_model.specs.Configs as configs
+use Rattle.relay_model.specs.History as history
+use Rattle.relay_model.specs.History.{Stage, Untried, Usable, Unsettled, Failed, Met, Waiting, Gone}
+use Rattle.relay_model.specs.Cause as causes
+use Rattle.relay_model.specs.Sessions as sessions
+use Rattle.relay_model.specs.Outcome as outcomes
 use Rattle.exit_status.specs.declared.outcomes.Outcome.{Outcome as Told}
 use Rattle.exit_status.specs.declared.outcomes.Outcome.TheVariants as told
-use Rattle.exit_status.specs.Outcomes as exit
-use Rattle.relay_laws.specs.Outcome.{Outcome}
-use Rattle.plain_laws.specs.Outcomes.{outcome_of, known_outcome}
+use Rattle.plain_laws.specs.Endings as exit
+use Rattle.relay_model.specs.Outcome.{Outcome}
+use Rattle.exit_status.specs.Outcomes.{outcome_of, known_outcome}
 use Rattle.plain_laws.proofs.Agreement.{from, to, turns_same, stop_said_same, memory_said_same, failures_same}
 use Rattle.plain_laws.proofs.CauseLemmas.{IsEnd, source_is, sink_is, held_same, positive_same, cause_same}
 use Rattle.plain_laws.proofs.Waits.{Both, others_hold}
@@ -79,8 +79,9 @@ uncaused None false false false false fin e = (refl, refl)
 unended : (b : ℕ) (past : List Act) → is_some (ends.cause (plain_relay b) past) ≡ false → (ends.closed_why (plain_relay b) past ≡ None) × (ends.faulted (plain_relay b) past ≡ false)
 unended b past e = uncaused (ends.closed_why (plain_relay b) past) (ends.memory_said past) (ends.stop_said past) (ends.failed_to_open (plain_relay b) past) (ends.faulted (plain_relay b) past) (ends.ready (plain_relay b) past && ends.all_passed (plain_relay b) past) e
 
-call_uncaused : (t : Bool) (k : plain.Call) (p : Place) → cond t plain.Nothing k ≡ plain.Open p → t ≡ false
-call_uncaused true k p e = cc
+call_uncaused : (t : Bool) (k : plain.Call) (p : Place) → (cond t plain.Nothing k ≡ plain.Open p) ⊎ (cond t plain.Nothing k ≡ plain.Settle p) → t ≡ false
+call_uncaused true k p (inl e) = cc
+call_uncaused true k p (inr e) = cc
 call_uncaused false k p e = refl
 
 runs_uncaused : (r : Bool) (k : Option Why) → (r && is_none k) ≡ true → is_some k ≡ false
@@ -88,7 +89,7 @@ runs_uncaused true None e = refl
 runs_uncaused true (Some why) e = cc
 runs_uncaused false k e = let f : false ≡ true = e in cc
 
-opens_uncaused : (b : ℕ) (past : List Act) (p : Place) → plain.call (plain_relay b) past ≡ plain.Open p → is_some (ends.cause (plain_relay b) past) ≡ false
+opens_uncaused : (b : ℕ) (past : List Act) (p : Place) → plain.MayOpen (plain_relay b) past p → is_some (ends.cause (plain_relay b) past) ≡ false
 opens_uncaused b past p e = call_uncaused (is_some (ends.cause (plain_relay b) past)) _ p e
 
 still_running : (b : ℕ) (past : List Act) → ends.running (plain_relay b) past ≡ true → is_some (ends.cause (plain_relay b) past) ≡ false
@@ -192,7 +193,7 @@ free_same b n past legal =
     words_same (history.memory_said past) (ends.memory_said past) (history.stop_said past) (ends.stop_said past) (history.turns past) (ends.turns past)
     (outcomes.outcome_by (plain_relay b) past (causes.cause (plain_relay b) past 0)) (exit.outcome_by (plain_relay b) past (ends.cause (plain_relay b) past))
     (memory_said_same past) (stop_said_same past) (turns_same past)
-    (λ m s. whole_by b past (causes.cause (plain_relay b) past 0) (ends.cause (plain_relay b) past) (cause_same b n past legal.plainly legal.wholly)
+    (λ m s. whole_by b past (causes.cause (plain_relay b) past 0) (ends.cause (plain_relay b) past) (cause_same b n past legal.plainly)
     (answer_same b n past (ends.cause (plain_relay b) past) legal.plainly (λ why e. cause_ended b past why m s (λ k. closed_ended b n past why legal.plainly m s k) e)))
 
 holding_same : (x y x' y' one : Bool) → one ≡ false → x ≡ x' → y ≡ y' → ((one || ((x || (y || false)) || false)) || false) ≡ not (not x' && not y')

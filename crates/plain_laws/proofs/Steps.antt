@@ -9,30 +9,31 @@ use Rattle.relay_model.specs.declared.acts.Act.TheVariants.{Turn, Opened, OpenLa
 use Rattle.relay_model.specs.declared.acts.Shut.{Shut as Shutting}
 use Rattle.relay_model.specs.Places.{same_place}
 use Rattle.relay_model.specs.PlainRelay.{plain_relay}
-use Rattle.relay_model.specs.Bytes as bytes
-use Rattle.relay_model.specs.Directions.{source, way_from, way_to}
-use Rattle.relay_model.specs.Causes as ends
-use Rattle.relay_model.specs.Legality as plain
-use Rattle.relay_laws.specs.Configs as configs
-use Rattle.relay_laws.specs.History as history
-use Rattle.relay_laws.specs.History.{Stage, Untried, Usable, Unsettled, Failed, Met, Waiting, Gone}
-use Rattle.relay_laws.specs.Openings as openings
-use Rattle.relay_laws.specs.Calls as calls
-use Rattle.relay_laws.specs.Cause as causes
-use Rattle.relay_laws.specs.Transfers as transfers
-use Rattle.relay_laws.specs.May as whole
+use Rattle.relay_session.specs.Bytes as bytes
+use Rattle.relay_session.specs.Directions.{source, way_from, way_to}
+use Rattle.relay_session.specs.Causes as ends
+use Rattle.relay_session.specs.Legality as plain
+use Rattle.relay_model.specs.Configs as configs
+use Rattle.relay_model.specs.History as history
+use Rattle.relay_model.specs.History.{Stage, Untried, Usable, Unsettled, Failed, Met, Waiting, Gone}
+use Rattle.relay_model.specs.Calls as calls
+use Rattle.relay_model.specs.Cause as causes
+use Rattle.relay_model.specs.Transfers as transfers
+use Rattle.relay_model.specs.May as whole
 use Rattle.plain_laws.proofs.Agreement.{from, to, got_same, put_same, turns_same, passed_same, write_armed_same, read_armed_same, owes_nothing}
 use Rattle.plain_laws.proofs.CauseLemmas.{IsEnd, called_end, source_is, sink_is, held_is_end, held_same, closed_why_same, cause_same, running_same, as_whole, call_same}
 use Rattle.plain_laws.proofs.Waits.{Both, backlog_same, room_same, over_same, rest_is, until_same}
 
 -- ---- openings
 
-opened_end : (b : ℕ) (past : List Act) (p : Place) → IsEnd p → calls.call (plain_relay b) past 0 ≡ openings.Open p → calls.called_at (plain_relay b) past p ≡ openings.Open p
-opened_end b past p (inl e) h = let P : Place → Type 0 = λ x. calls.called_at (plain_relay b) past x ≡ openings.Open x in let k : calls.call (plain_relay b) past 0 ≡ openings.Open from = h ∙ ap openings.Open e in subst P (sym e) k
-opened_end b past p (inr e) h = let P : Place → Type 0 = λ x. calls.called_at (plain_relay b) past x ≡ openings.Open x in let k : calls.call (plain_relay b) past 0 ≡ openings.Open to = h ∙ ap openings.Open e in subst P (sym e) k
+-- what is called for at one of the two places is what the session calls for
+called_there : (b : ℕ) (past : List Act) (p : Place) → IsEnd p → calls.called_at (plain_relay b) past p ≡ calls.call (plain_relay b) past 0
+called_there b past p (inl e) = ap (λ x. calls.called_at (plain_relay b) past x) e
+called_there b past p (inr e) = ap (λ x. calls.called_at (plain_relay b) past x) e
 
-opens : (b n : ℕ) (past : List Act) (p : Place) → Both b n past → plain.call (plain_relay b) past ≡ plain.Open p → whole.MayOpen (plain_relay b) past p
-opens b n past p legal e = inl (opened_end b past p (called_end b past p e) (call_same b n past legal.plainly legal.wholly ∙ ap as_whole e))
+opens : (b n : ℕ) (past : List Act) (p : Place) → Both b n past → plain.MayOpen (plain_relay b) past p → whole.MayOpen (plain_relay b) past p
+opens b n past p legal (inl e) = inl (called_there b past p (called_end b past p (inl e)) ∙ call_same b n past legal.plainly legal.wholly ∙ ap as_whole e)
+opens b n past p legal (inr e) = inr (called_there b past p (called_end b past p (inr e)) ∙ call_same b n past legal.plainly legal.wholly ∙ ap as_whole e)
 
 -- ---- reads
 
@@ -40,7 +41,7 @@ asks_there : (b n : ℕ) (past : List Act) → Both b n past → plain.MayRead (
 asks_there b n past legal m =
     record {
       is_input = refl;
-      moving = running_same b n past legal.plainly legal.wholly ∙ m.runs;
+      moving = running_same b n past legal.plainly ∙ m.runs;
       not_passed = passed_same past to ∙ m.not_passed;
       not_over = over_same b past ∙ m.not_over;
       armed = read_armed_same b n past from legal.plainly m.not_over ∙ m.armed;
@@ -65,7 +66,7 @@ offers_there : (b n : ℕ) (past : List Act) → Both b n past → plain.MayWrit
 offers_there b n past legal m =
     record {
       is_output = refl;
-      moving = running_same b n past legal.plainly legal.wholly ∙ m.runs;
+      moving = running_same b n past legal.plainly ∙ m.runs;
       not_passed = passed_same past to ∙ m.not_passed;
       armed = write_armed_same b n past to legal.plainly ∙ m.armed;
     }
@@ -113,7 +114,7 @@ shuts_there : (b n : ℕ) (past : List Act) (way : Shutting) → Both b n past �
 shuts_there b n past way legal m e =
     record {
       is_output = refl;
-      moving = running_same b n past legal.plainly legal.wholly ∙ m.runs;
+      moving = running_same b n past legal.plainly ∙ m.runs;
       spent = is_spent_by (transfers.over (plain_relay b) past from) (transfers.backlog (plain_relay b) past 0 LeftToRight) (over_same b past ∙ m.over) (backlog_same b past ∙ m.emptied);
       not_passed = passed_same past to ∙ m.not_passed;
       is_how = e;
@@ -131,7 +132,7 @@ first_session p (inl e) = ap (λ x. x.session) e
 first_session p (inr e) = ap (λ x. x.session) e
 
 licensed : (b n : ℕ) (past : List Act) (q : Place) (why : Why) → Both b n past → q.session ≡ 0 → plain.Licensed (plain_relay b) n past why → whole.Licensed (plain_relay b) n past q why
-licensed b n past q why legal z (plain.by_cause e) = whole.by_cause (and_right (same_place q configs.program_door) false refl) (subst (λ s. causes.cause (plain_relay b) past s ≡ Some why) (sym z) (cause_same b n past legal.plainly legal.wholly ∙ e))
+licensed b n past q why legal z (plain.by_cause e) = whole.by_cause (and_right (same_place q configs.program_door) false refl) (subst (λ s. causes.cause (plain_relay b) past s ≡ Some why) (sym z) (cause_same b n past legal.plainly ∙ e))
 licensed b n past q why legal z (plain.by_memory e none) = whole.by_memory e (inr (subst (λ s. causes.closed_why (plain_relay b) past s ≡ None) (sym z) (closed_why_same b n past legal.plainly ∙ none)))
 licensed b n past q why legal z (plain.by_turns e used rest) = whole.by_turns e (turns_same past ∙ used) (rest_is b n past legal rest)
 
@@ -161,7 +162,7 @@ some_byte k h = omega (arith, h)
 may : (b n : ℕ) (past : List Act) (act : Act) → Both b n past → plain.May (plain_relay b) n past act → whole.May (plain_relay b) n past act
 may b n past (Turn until at ready stop) legal m = (owes_nothing b past, turns_on b n past until legal m.0 m.1 m.2)
 may b n past (Opened p) legal m = (owes_nothing b past, opens b n past p legal m)
-may b n past (OpenLater p) legal m = absurd m
+may b n past (OpenLater p) legal m = (owes_nothing b past, opens b n past p legal m)
 may b n past (OpenFailed p) legal m = (owes_nothing b past, opens b n past p legal m)
 may b n past (Listening p) legal m = absurd m
 may b n past (ListenFailed p) legal m = absurd m
@@ -169,7 +170,7 @@ may b n past (Accepted p peer) legal m = absurd m
 may b n past (NoPeer p) legal m = absurd m
 may b n past (AcceptFailed p) legal m = absurd m
 may b n past (Read p more) legal m = (owes_nothing b past, reads b n (length more) past p legal (m.0, some_byte (length more) m.1, m.2))
-may b n past (ReadEmpty p) legal m = absurd m
+may b n past (ReadEmpty p) legal m = (owes_nothing b past, reads b n 1 past p legal (m.0, omega arith, m.1))
 may b n past (ReadEnd p) legal m = (owes_nothing b past, reads b n 1 past p legal (m.0, omega arith, m.1))
 may b n past (ReadNotYet p) legal m = (owes_nothing b past, reads b n 1 past p legal (m.0, omega arith, m.1))
 may b n past (ReadFault p) legal m = (owes_nothing b past, reads b n 1 past p legal (m.0, omega arith, m.1))

@@ -8,24 +8,24 @@ use Rattle.relay_model.specs.declared.acts.Why.{Why}
 use Rattle.relay_model.specs.declared.acts.Why.TheVariants as whys
 use Rattle.relay_model.specs.declared.acts.Act.{Act}
 use Rattle.relay_model.specs.PlainRelay.{plain_relay}
-use Rattle.relay_model.specs.Bytes as bytes
-use Rattle.relay_model.specs.Arming as arms
-use Rattle.relay_model.specs.Causes as ends
-use Rattle.relay_model.specs.Legality as plain
-use Rattle.relay_laws.specs.Choices as choices
-use Rattle.relay_laws.specs.Configs as configs
-use Rattle.relay_laws.specs.History as history
-use Rattle.relay_laws.specs.History.{Stage, Untried, Usable, Unsettled, Failed, Met, Waiting, Gone}
-use Rattle.relay_laws.specs.Arming as arming
-use Rattle.relay_laws.specs.Arming.{Arming, Disarmed, Armed, AtEnd}
-use Rattle.relay_laws.specs.Openings as openings
-use Rattle.relay_laws.specs.Calls as calls
-use Rattle.relay_laws.specs.Cause as causes
-use Rattle.relay_laws.specs.Sessions as sessions
-use Rattle.relay_laws.specs.Transfers as transfers
-use Rattle.relay_laws.specs.Rest as rests
-use Rattle.relay_laws.specs.Outcome as outcomes
-use Rattle.relay_laws.specs.May as whole
+use Rattle.relay_session.specs.Bytes as bytes
+use Rattle.relay_session.specs.Arming as arms
+use Rattle.relay_session.specs.Causes as ends
+use Rattle.relay_session.specs.Legality as plain
+use Rattle.relay_model.specs.Choices as choices
+use Rattle.relay_model.specs.Configs as configs
+use Rattle.relay_model.specs.History as history
+use Rattle.relay_model.specs.History.{Stage, Untried, Usable, Unsettled, Failed, Met, Waiting, Gone}
+use Rattle.relay_model.specs.Arming as arming
+use Rattle.relay_model.specs.Arming.{Arming, Disarmed, Armed, AtEnd}
+use Rattle.relay_model.specs.Openings as openings
+use Rattle.relay_model.specs.Calls as calls
+use Rattle.relay_model.specs.Cause as causes
+use Rattle.relay_model.specs.Sessions as sessions
+use Rattle.relay_model.specs.Transfers as transfers
+use Rattle.relay_model.specs.Rest as rests
+use Rattle.relay_model.specs.Outcome as outcomes
+use Rattle.relay_model.specs.May as whole
 use Rattle.relay_laws.proofs.Sound.{silent}
 use Rattle.plain_laws.proofs.Agreement.{from, to, got_same, put_same, now_same, stop_said_same, memory_said_same, ended_same, passed_same, write_armed_same, asked_to_read_same, asked_to_write_same, read_armed_same, no_arming_moment, owes_nothing}
 use Rattle.plain_laws.proofs.CauseLemmas.{either, IsEnd, held_is_end, held_same, positive_same, cause_same, running_same, as_whole, call_same}
@@ -70,7 +70,7 @@ reads_same r r' a a' o true j k er eo ek h = rw (er, eo, ek) (over_both r' a a' 
 pub may_read_same : (b n : ℕ) (past : List Act) → Both b n past → rests.may_read (plain_relay b) past 0 LeftToRight ≡ plain.input_waits (plain_relay b) past LeftToRight
 may_read_same b n past legal =
     reads_same (causes.running (plain_relay b) past 0) (ends.running (plain_relay b) past) (arming.armed_to_read past from) (arms.armed_to_read past from) (transfers.over (plain_relay b) past from) (arms.ended past from) (transfers.backlog (plain_relay b) past 0 LeftToRight) (ends.backlog past LeftToRight)
-    (running_same b n past legal.plainly legal.wholly) (over_same b past) (backlog_same b past) (λ e. read_armed_same b n past from legal.plainly e)
+    (running_same b n past legal.plainly) (over_same b past) (backlog_same b past) (λ e. read_armed_same b n past from legal.plainly e)
 
 writes_same : (r r' a a' x y : Bool) → r ≡ r' → a ≡ a' → x ≡ y → ((r && a) && x) ≡ ((r' && a') && y)
 writes_same r r' a a' x y er ea ex = rw (er, ea, ex) refl
@@ -78,7 +78,7 @@ writes_same r r' a a' x y er ea ex = rw (er, ea, ex) refl
 pub may_write_same : (b n : ℕ) (past : List Act) → Both b n past → rests.may_write (plain_relay b) past 0 LeftToRight ≡ plain.output_waits (plain_relay b) past LeftToRight
 may_write_same b n past legal =
     writes_same (causes.running (plain_relay b) past 0) (ends.running (plain_relay b) past) (arming.armed_to_write past to) (arms.armed_to_write past to) (nat_lt 0 (transfers.backlog (plain_relay b) past 0 LeftToRight)) (not (ends.backlog past LeftToRight == 0))
-    (running_same b n past legal.plainly legal.wholly) (write_armed_same b n past to legal.plainly) (positive_same (transfers.backlog (plain_relay b) past 0 LeftToRight) (ends.backlog past LeftToRight) (backlog_same b past))
+    (running_same b n past legal.plainly) (write_armed_same b n past to legal.plainly) (positive_same (transfers.backlog (plain_relay b) past 0 LeftToRight) (ends.backlog past LeftToRight) (backlog_same b past))
 
 passed_there : (r e p : Bool) (k : ℕ) → (r ≡ true → e ≡ true → k ≡ 0 → p ≡ true) → ((r && (e && (k == 0))) && not p) ≡ false
 passed_there false e p k h = refl
@@ -91,7 +91,7 @@ must_pass_as r r' o e p p' j k er eo ep ek = rw (er, eo, ep, ek) refl
 passes_nothing : (b n : ℕ) (past : List Act) → Both b n past → plain.LaneRests (plain_relay b) past LeftToRight → rests.must_pass (plain_relay b) past 0 LeftToRight ≡ false
 passes_nothing b n past legal lane =
     must_pass_as (causes.running (plain_relay b) past 0) (ends.running (plain_relay b) past) (transfers.over (plain_relay b) past from) (arms.ended past from) (is_some (history.shut_at past to)) (arms.passed past to) (transfers.backlog (plain_relay b) past 0 LeftToRight) (ends.backlog past LeftToRight)
-    (running_same b n past legal.plainly legal.wholly) (over_same b past) (passed_same past to) (backlog_same b past)
+    (running_same b n past legal.plainly) (over_same b past) (passed_same past to) (backlog_same b past)
     ∙ passed_there (ends.running (plain_relay b) past) (arms.ended past from) (arms.passed past to) (ends.backlog past LeftToRight) (λ r e k. lane.end refl r e k)
 
 -- ---- rest
@@ -121,7 +121,7 @@ no_answer b past false m s t k em es ek = rw (em, es, ek) refl
 no_outcome : (b n : ℕ) (past : List Act) → Both b n past → ends.cause (plain_relay b) past ≡ None → outcomes.outcome (plain_relay b) past ≡ None
 no_outcome b n past legal e =
     no_answer b past (outcomes.holds_something (plain_relay b) past) (history.memory_said past) (history.stop_said past) (history.turns past) (causes.cause (plain_relay b) past 0)
-    (memory_said_same past ∙ (said_nothing b past e).0) (stop_said_same past ∙ (said_nothing b past e).1) (cause_same b n past legal.plainly legal.wholly ∙ e)
+    (memory_said_same past ∙ (said_nothing b past e).0) (stop_said_same past ∙ (said_nothing b past e).1) (cause_same b n past legal.plainly ∙ e)
 
 none_some : (o : Option Why) → o ≡ None → is_some o ≡ true → ⊥
 none_some None e f = cc
@@ -136,7 +136,7 @@ refuted e = cc
 session_rests : (b n : ℕ) (past : List Act) → Both b n past → plain.Rest (plain_relay b) past → rests.SessionRests (plain_relay b) past 0
 session_rests b n past legal rest =
     record {
-      ended = λ h. absurd (none_some (causes.cause (plain_relay b) past 0) (cause_same b n past legal.plainly legal.wholly ∙ no_cause b past rest) h);
+      ended = λ h. absurd (none_some (causes.cause (plain_relay b) past 0) (cause_same b n past legal.plainly ∙ no_cause b past rest) h);
       no_call = ap rests.presses (calls_nothing b n past legal rest);
       read_tried = λ w h. reading w h;
       write_tried = λ w h. writing w h;

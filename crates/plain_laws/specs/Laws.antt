@@ -4,14 +4,14 @@ use Rattle.relay_model.specs.declared.places.Place.{Place}
 use Rattle.relay_model.specs.declared.places.Way.TheVariants.{LeftToRight}
 use Rattle.relay_model.specs.declared.acts.Act.{Act}
 use Rattle.relay_model.specs.PlainRelay.{plain_relay}
-use Rattle.relay_model.specs.Bytes as bytes
-use Rattle.relay_model.specs.Causes as ends
-use Rattle.relay_model.specs.Legality as small
-use Rattle.relay_laws.specs.History as history
-use Rattle.relay_laws.specs.Cause as causes
-use Rattle.relay_laws.specs.Transfers as transfers
-use Rattle.relay_laws.specs.Rest as rests
-use Rattle.relay_laws.specs.May as whole
+use Rattle.relay_session.specs.Bytes as bytes
+use Rattle.relay_session.specs.Causes as ends
+use Rattle.relay_session.specs.Legality as small
+use Rattle.relay_model.specs.History as history
+use Rattle.relay_model.specs.Cause as causes
+use Rattle.relay_model.specs.Transfers as transfers
+use Rattle.relay_model.specs.Rest as rests
+use Rattle.relay_model.specs.May as whole
 
 -- a list of acts that is legal for the plain relay is legal by the whole definitions
 abbrev pub PlainIsLegal : Type 0

@@ -5,10 +5,10 @@ use Rattle.relay_model.specs.declared.places.Way.{Way}
 use Rattle.relay_model.specs.declared.places.Way.TheVariants.{LeftToRight, RightToLeft}
 use Rattle.relay_model.specs.Holding as holds
 use Rattle.relay_model.specs.Holding.{Hold, standing, is_free}
-use Rattle.relay_model.specs.Directions.{source, sink}
-use Rattle.relay_model.specs.Bytes.{got, put}
-use Rattle.relay_model.specs.Causes.{backlog}
-use Rattle.relay_model.specs.Legality.{Rest}
+use Rattle.relay_session.specs.Directions.{source, sink}
+use Rattle.relay_session.specs.Bytes.{got, put}
+use Rattle.relay_session.specs.Causes.{backlog}
+use Rattle.relay_session.specs.Legality.{Rest}
 use Rattle.relay_model.specs.PlainRelay.{plain_relay}
 use Rattle.relay_session.specs.declared.states.State.{State}
 use Rattle.relay_session.specs.declared.states.Task.{Task}
@@ -22,6 +22,7 @@ use Rattle.relay_session.specs.Heard.{HeardBy}
 
 pub none_of_live : (b n : ℕ) (past : List Act) (s : State) (t : Task) → Allowed b n past s t → is_live (wish_from t) ≡ true → s.ending ≡ None
 none_of_live b n past s (tasks.Open side) a e = a.3
+none_of_live b n past s (tasks.Settle side) a e = a.3
 none_of_live b n past s (tasks.Read w at_most) a e = a.5
 none_of_live b n past s (tasks.Write w) a e = a.4
 none_of_live b n past s (tasks.Shut w) a e = a.2
@@ -32,6 +33,7 @@ none_of_live b n past s (tasks.Done why) a e = cc
 -- a session that wishes to sleep is at rest
 pub rest_of_sleep : (b n : ℕ) (past : List Act) (s : State) (t : Task) (until : Option ℕ) → Allowed b n past s t → wish_from t ≡ wishes.Sleep until → Rest (plain_relay b) past × (s.ending ≡ None)
 rest_of_sleep b n past s (tasks.Open side) until a e = cc
+rest_of_sleep b n past s (tasks.Settle side) until a e = cc
 rest_of_sleep b n past s (tasks.Read w at_most) until a e = cc
 rest_of_sleep b n past s (tasks.Write w) until a e = cc
 rest_of_sleep b n past s (tasks.Shut w) until a e = cc
@@ -60,6 +62,7 @@ offers b past s RightToLeft g h = waiting_of (put past (sink RightToLeft)) s.to_
 -- what a task promises of the history, to the layer above
 pub wished_of : (b n : ℕ) (past : List Act) (s : State) (t : Task) → Fields b n past s → Allowed b n past s t → Wished b n past (offered_for s t) (wish_from t)
 wished_of b n past s (tasks.Open side) f a = (a.1, a.0)
+wished_of b n past s (tasks.Settle side) f a = a.1
 wished_of b n past s (tasks.Read w at_most) f a = (a.1, a.2, omega (arith, a.3))
 wished_of b n past s (tasks.Write w) f a = (a.1, offers b past s w f.ground a.2)
 wished_of b n past s (tasks.Shut w) f a = a.1

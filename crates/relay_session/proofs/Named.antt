@@ -1,10 +1,15 @@
 -- What a turn names, entry by entry.
-use Rattle.std.proofs.Common.{◌≡◌, Bool, true, false, ◌||◌, ◌&&◌, List, [], ◌∷◌, ◌++◌, refl}
+use Rattle.std.proofs.Common.{◌≡◌, ℕ, Bool, true, false, ◌||◌, ◌&&◌, List, [], ◌∷◌, ◌++◌, Option, refl}
+use Rattle.relay_model.specs.declared.acts.Act.{Act}
+use Rattle.relay_model.specs.declared.acts.Act.TheVariants.{Turn}
 use Rattle.relay_model.specs.declared.places.Half.{Half}
+use Rattle.relay_model.specs.declared.places.Half.TheVariants.{ToRead, ToWrite}
 use Rattle.relay_model.specs.declared.places.Place.{Place}
 use Rattle.relay_model.specs.declared.readiness.ReadyAt.{ReadyAt}
 use Rattle.relay_model.specs.Places.{same_place, same_half}
 use Rattle.relay_model.specs.Readiness.{names}
+use Rattle.relay_model.specs.History.{woken}
+use Rattle.relay_session.specs.Lanes.{copied}
 
 or_assoc : (a b c : Bool) → (a || (b || c)) ≡ ((a || b) || c)
 or_assoc true b c = refl
@@ -22,3 +27,42 @@ or_swap false true true = refl
 or_swap false true false = refl
 or_swap false false true = refl
 or_swap false false false = refl
+
+woken_swap : (r w k s : Bool) (h : Half) → ((r || (s && same_half h ToRead || false)) || (w || (s && same_half h ToWrite || false)) || k) ≡ ((r || w || k) || s)
+woken_swap true true true true ToRead = refl
+woken_swap true true true false ToRead = refl
+woken_swap true true false true ToRead = refl
+woken_swap true true false false ToRead = refl
+woken_swap true false true true ToRead = refl
+woken_swap true false true false ToRead = refl
+woken_swap true false false true ToRead = refl
+woken_swap true false false false ToRead = refl
+woken_swap false true true true ToRead = refl
+woken_swap false true true false ToRead = refl
+woken_swap false true false true ToRead = refl
+woken_swap false true false false ToRead = refl
+woken_swap false false true true ToRead = refl
+woken_swap false false true false ToRead = refl
+woken_swap false false false true ToRead = refl
+woken_swap false false false false ToRead = refl
+woken_swap true true true true ToWrite = refl
+woken_swap true true true false ToWrite = refl
+woken_swap true true false true ToWrite = refl
+woken_swap true true false false ToWrite = refl
+woken_swap true false true true ToWrite = refl
+woken_swap true false true false ToWrite = refl
+woken_swap true false false true ToWrite = refl
+woken_swap true false false false ToWrite = refl
+woken_swap false true true true ToWrite = refl
+woken_swap false true true false ToWrite = refl
+woken_swap false true false true ToWrite = refl
+woken_swap false true false false ToWrite = refl
+woken_swap false false true true ToWrite = refl
+woken_swap false false true false ToWrite = refl
+woken_swap false false false true ToWrite = refl
+woken_swap false false false false ToWrite = refl
+
+-- one entry more wakes the place that it names, with either half
+pub woken_more : (past : List Act) (until : Option ℕ) (at : ℕ) (xs : List ReadyAt) (e : ReadyAt) (p : Place) → woken (Turn until at (copied (xs ++ e ∷ [])) false ∷ past) p ≡ (woken (Turn until at (copied xs) false ∷ past) p || same_place e.place p)
+woken_more past until at xs e p =
+    rw (names_append xs (e ∷ []) p ToRead, names_append xs (e ∷ []) p ToWrite) (woken_swap (names xs p ToRead) (names xs p ToWrite) (woken past p) (same_place e.place p) e.half)

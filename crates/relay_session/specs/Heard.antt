@@ -1,7 +1,7 @@
 -- What an act makes of a session that heard it.
 use Rattle.std.specs.Prelude.{ℕ, ◌<◌, List, ◌∷◌, Option, Some, None}
 use Rattle.relay_model.specs.declared.acts.Act.{Act}
-use Rattle.relay_model.specs.Legality.{May}
+use Rattle.relay_session.specs.Legality.{May}
 use Rattle.relay_model.specs.PlainRelay.{plain_relay}
 use Rattle.relay_session.specs.declared.sessions.Session.{Session}
 use Rattle.relay_session.specs.Sessions.{Stands, left_of}

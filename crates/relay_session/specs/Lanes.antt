@@ -2,11 +2,11 @@
 use Rattle.std.specs.Prelude.{◌≡◌, ℕ, ◌+◌, ◌*◌, ◌<◌, ◌≤◌, Bool, true, false, List, [], ◌++◌, length}
 use Rattle.relay_model.specs.declared.acts.Act.{Act}
 use Rattle.relay_model.specs.declared.places.Way.{Way}
-use Rattle.relay_model.specs.Bytes.{got, put}
-use Rattle.relay_model.specs.Directions.{source, sink, formed}
-use Rattle.relay_model.specs.Arming.{armed_to_read, armed_to_write, asked_to_read, asked_to_write, ended, passed}
-use Rattle.relay_model.specs.Causes.{backlog, read_size}
-use Rattle.relay_model.specs.Legality.{LaneRests}
+use Rattle.relay_session.specs.Bytes.{got, put}
+use Rattle.relay_session.specs.Directions.{source, sink, formed}
+use Rattle.relay_session.specs.Arming.{armed_to_read, armed_to_write, asked_to_read, asked_to_write, ended, passed}
+use Rattle.relay_session.specs.Causes.{backlog, read_size}
+use Rattle.relay_session.specs.Legality.{LaneRests}
 use Rattle.relay_model.specs.PlainRelay.{plain_relay}
 use Rattle.relay_model.specs.declared.readiness.ReadyAt.{ReadyAt}
 use Rattle.relay_model.specs.Readiness.{Listed}

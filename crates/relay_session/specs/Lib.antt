@@ -1,5 +1,10 @@
+pub mod Arming
+pub mod Bytes
+pub mod Causes
+pub mod Directions
 pub mod Heard
 pub mod Lanes
+pub mod Legality
 pub mod Sessions
 pub mod Stages
 pub mod States

@@ -4,8 +4,8 @@ use Rattle.relay_model.specs.declared.acts.Act.{Act}
 use Rattle.relay_model.specs.declared.places.Place.{Place}
 use Rattle.relay_model.specs.Holding as holds
 use Rattle.relay_model.specs.Holding.{standing, is_free}
-use Rattle.relay_model.specs.Legality as legality
-use Rattle.relay_model.specs.Legality.{call, Rest, until_of, Licensed}
+use Rattle.relay_session.specs.Legality as legality
+use Rattle.relay_session.specs.Legality.{call, Rest, until_of, Licensed}
 use Rattle.relay_model.specs.PlainRelay.{plain_relay}
 use Rattle.relay_session.specs.declared.wishes.Wish.{Wish}
 use Rattle.relay_session.specs.declared.wishes.Wish.TheVariants as wishes
@@ -32,6 +32,7 @@ left_of s = steps_in s.state
 -- what a wish promises of the history: the call that it wishes for may be made, and a sleep comes only at rest
 abbrev pub Wished : ℕ → ℕ → List Act → List ℕ → Wish → Type 0
 Wished b n past offered (wishes.Open p) = (standing past p ≡ holds.Free) × (call (plain_relay b) past ≡ legality.Open p)
+Wished b n past offered (wishes.Settle p) = standing past p ≡ holds.Settling
 Wished b n past offered (wishes.Read p at_most) = (standing past p ≡ holds.Open) × (1 ≤ at_most) × (at_most ≤ b)
 Wished b n past offered (wishes.Write p) = (standing past p ≡ holds.Open) × (0 < length offered)
 Wished b n past offered (wishes.Shut p how) = standing past p ≡ holds.Open

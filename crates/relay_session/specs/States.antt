@@ -11,13 +11,16 @@ use Rattle.relay_model.specs.declared.places.Way.TheVariants.{LeftToRight, Right
 use Rattle.relay_model.specs.Places.{same_place}
 use Rattle.relay_model.specs.Holding as holds
 use Rattle.relay_model.specs.Holding.{standing}
-use Rattle.relay_model.specs.Directions.{source, sink}
-use Rattle.relay_model.specs.Arming.{passed, asked_to_read, asked_to_write}
-use Rattle.relay_model.specs.Causes.{now, tried, failures, closed_why, memory_said, stop_said, faulted, read_size, backlog, is_held}
-use Rattle.relay_model.specs.Legality as legality
-use Rattle.relay_model.specs.Legality.{call, until_of, MayRead, MayWrite, MayShut, Licensed, Rest, May, how}
+use Rattle.relay_model.specs.History.{woken}
+use Rattle.relay_session.specs.Directions.{source, sink}
+use Rattle.relay_session.specs.Arming.{passed, asked_to_read, asked_to_write}
+use Rattle.relay_session.specs.Causes.{now, tried, failures, closed_why, memory_said, stop_said, faulted, read_size, backlog, is_held}
+use Rattle.relay_session.specs.Legality as legality
+use Rattle.relay_session.specs.Legality.{call, until_of, MayRead, MayWrite, MayShut, Licensed, Rest, May, how}
 use Rattle.relay_model.specs.PlainRelay.{plain_relay}
-use Rattle.relay_session.specs.Stages.{hold_at, tried_at, is_gone, is_shut_at, is_open_at, steps_of}
+use Rattle.relay_session.specs.Stages.{hold_at, tried_at, is_gone, is_shut_at, is_open_at, steps_of, NamedIs}
+use Rattle.relay_session.specs.declared.stages.Stage.{Stage}
+use Rattle.relay_session.specs.declared.stages.Stage.TheVariants.{Untried, Named}
 use Rattle.relay_session.specs.Lanes.{LaneIs, steps_left}
 use Rattle.relay_session.specs.declared.wishes.Wish.{Wish}
 use Rattle.relay_session.specs.declared.wishes.Wish.TheVariants as wishes
@@ -36,6 +39,8 @@ pub record Ground (b : ℕ) (past : List Act) (s : State) : Type 0 where
   pub left_tried : tried past (source LeftToRight) ≡ tried_at s.left
   pub right_stands : standing past (sink LeftToRight) ≡ hold_at s.right
   pub right_tried : tried past (sink LeftToRight) ≡ tried_at s.right
+  pub left_named : NamedIs s.left (woken past (source LeftToRight))
+  pub right_named : NamedIs s.right (woken past (sink LeftToRight))
   pub to_right : LaneIs b past LeftToRight s.to_right
   pub to_left : LaneIs b past RightToLeft s.to_left
   pub clock_is : s.clock ≡ now past
@@ -75,6 +80,7 @@ is_ready_at s = is_open_at s.left && is_open_at s.right
 -- which tasks the history allows
 abbrev pub Allowed : ℕ → ℕ → List Act → State → Task → Type 0
 Allowed b n past s (tasks.Open side) = (call (plain_relay b) past ≡ legality.Open (place_at side)) × (standing past (place_at side) ≡ holds.Free) × (tried past (place_at side) ≡ false) × (s.ending ≡ None)
+Allowed b n past s (tasks.Settle side) = (call (plain_relay b) past ≡ legality.Settle (place_at side)) × (standing past (place_at side) ≡ holds.Settling) × (woken past (place_at side) ≡ true) × (s.ending ≡ None)
 Allowed b n past s (tasks.Read w at_most) = MayRead (plain_relay b) past (source w) × (standing past (source w) ≡ holds.Open) × (1 ≤ at_most) × (at_most ≡ read_size (plain_relay b) past w) × (asked_to_read past (source w) ≡ false) × (s.ending ≡ None)
 Allowed b n past s (tasks.Write w) = MayWrite (plain_relay b) past (sink w) × (standing past (sink w) ≡ holds.Open) × (0 < backlog past w) × (asked_to_write past (source w) (sink w) ≡ false) × (s.ending ≡ None)
 Allowed b n past s (tasks.Shut w) = MayShut (plain_relay b) past (sink w) × (standing past (sink w) ≡ holds.Open) × (s.ending ≡ None)
@@ -99,6 +105,7 @@ AbsorbedBy b n past None old new = Unit {0}
 -- the wish that a task is, with its place
 abbrev pub wish_from : Task → Wish
 wish_from (tasks.Open side) = wishes.Open (place_at side)
+wish_from (tasks.Settle side) = wishes.Settle (place_at side)
 wish_from (tasks.Read w at_most) = wishes.Read (source w) at_most
 wish_from (tasks.Write w) = wishes.Write (sink w)
 wish_from (tasks.Shut w) = wishes.Shut (sink w) how
@@ -110,3 +117,9 @@ wish_from (tasks.Done why) = wishes.Done why
 abbrev pub offered_for : State → Task → List ℕ
 offered_for s (tasks.Write w) = offered_at s w
 offered_for s task = []
+
+-- what is to be done at a side whose place isn't open
+abbrev pub opening_at : Side → Stage → Task
+opening_at side Untried = tasks.Open side
+opening_at side Named = tasks.Settle side
+opening_at side stage = tasks.Sleep None

@@ -10,8 +10,13 @@ use Rattle.relay_session.specs.declared.wishes.Answer.TheVariants as answers
 -- the answer is one of the wish's kind, and its number is in range; `offered` are the bytes that a write offers
 abbrev pub Fits : Wish → List ℕ → Answer → Type 0
 Fits (wishes.Open p) offered answers.Opened = Unit {0}
+Fits (wishes.Open p) offered answers.Later = Unit {0}
 Fits (wishes.Open p) offered answers.Failed = Unit {0}
+Fits (wishes.Settle p) offered answers.Opened = Unit {0}
+Fits (wishes.Settle p) offered answers.Later = Unit {0}
+Fits (wishes.Settle p) offered answers.Failed = Unit {0}
 Fits (wishes.Read p at_most) offered (answers.Bytes bytes) = (0 < length bytes.now) × (length bytes.now ≤ at_most)
+Fits (wishes.Read p at_most) offered answers.Empty = Unit {0}
 Fits (wishes.Read p at_most) offered answers.End = Unit {0}
 Fits (wishes.Read p at_most) offered answers.NotYet = Unit {0}
 Fits (wishes.Read p at_most) offered answers.Failed = Unit {0}
@@ -27,8 +32,13 @@ Fits wish offered answer = ⊥
 -- the act that the call and its answer are; a sleep's is a turn, which is heard piece by piece
 abbrev pub act_of : Wish → List ℕ → Answer → Option Act
 act_of (wishes.Open p) offered answers.Opened = Some (acts.Opened p)
+act_of (wishes.Open p) offered answers.Later = Some (acts.OpenLater p)
 act_of (wishes.Open p) offered answers.Failed = Some (acts.OpenFailed p)
+act_of (wishes.Settle p) offered answers.Opened = Some (acts.Opened p)
+act_of (wishes.Settle p) offered answers.Later = Some (acts.OpenLater p)
+act_of (wishes.Settle p) offered answers.Failed = Some (acts.OpenFailed p)
 act_of (wishes.Read p at_most) offered (answers.Bytes bytes) = Some (acts.Read p bytes.now)
+act_of (wishes.Read p at_most) offered answers.Empty = Some (acts.ReadEmpty p)
 act_of (wishes.Read p at_most) offered answers.End = Some (acts.ReadEnd p)
 act_of (wishes.Read p at_most) offered answers.NotYet = Some (acts.ReadNotYet p)
 act_of (wishes.Read p at_most) offered answers.Failed = Some (acts.ReadFault p)
@@ -43,6 +53,7 @@ act_of wish offered answer = None
 -- the session goes on: nothing has ended it yet
 abbrev pub is_live : Wish → Bool
 is_live (wishes.Open p) = true
+is_live (wishes.Settle p) = true
 is_live (wishes.Read p at_most) = true
 is_live (wishes.Write p) = true
 is_live (wishes.Shut p how) = true

@@ -7,8 +7,8 @@ ghost use Rattle.relay_model.specs.declared.places.Way.{Way as Direction};
 ghost use Rattle.relay_model.specs.declared.places.Way.TheVariants.{LeftToRight, RightToLeft};
 ghost use Rattle.relay_model.specs.declared.readiness.ReadyAt.{ReadyAt as Entry};
 ghost use Rattle.relay_model.specs.Readiness.{Listed};
-ghost use Rattle.relay_model.specs.Causes.{read_size, running};
-ghost use Rattle.relay_model.specs.Legality.{lane_works};
+ghost use Rattle.relay_session.specs.Causes.{read_size, running};
+ghost use Rattle.relay_session.specs.Legality.{lane_works};
 ghost use Rattle.relay_model.specs.PlainRelay.{plain_relay};
 
 use crate::backlogs::Backlog;
@@ -41,7 +41,7 @@ pub struct Lane {
 
 impl Lane {
     ghost use Rattle.relay_session.specs.Lanes.{LaneIs, Wants, steps_left, copied};
-    ghost use Rattle.relay_model.specs.Directions.{source as source_of, sink as sink_of};
+    ghost use Rattle.relay_session.specs.Directions.{source as source_of, sink as sink_of};
 
     /// A direction at the beginning. Only one that is formed takes memory.
     pub fn new(alloc: Global, formed: bool, block: u32) -> Result<Lane, NoMemory>
@@ -115,6 +115,14 @@ impl Lane {
         self.asked_in = true;
         self.asked_out = false;
         self.backlog.keep(bytes);
+    }
+
+    /// An empty datagram was read.
+    pub fn read_empty(&mut self)
+        ensures goes { (b : ℕ) (past : List Act) (w : Direction) → LaneIs b past w self.old → LaneIs b (acts.ReadEmpty (source_of w) ∷ past) w self.new }
+        ensures fewer { self.old.asked_in ≡ false → steps_left self.new < steps_left self.old }
+    {
+        self.asked_in = true;
     }
 
     /// The end of the input was read.

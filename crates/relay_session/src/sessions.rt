@@ -4,7 +4,7 @@ ghost use Rattle.relay_model.specs.declared.acts.Act.{Act};
 ghost use Rattle.relay_model.specs.declared.acts.Act.TheVariants as acts;
 ghost use Rattle.relay_model.specs.declared.acts.Why.TheVariants as causes;
 ghost use Rattle.relay_model.specs.declared.readiness.ReadyAt.{ReadyAt as Entry};
-ghost use Rattle.relay_model.specs.Causes.{turns};
+ghost use Rattle.relay_session.specs.Causes.{turns};
 ghost use Rattle.relay_model.specs.PlainRelay.{plain_relay};
 ghost use Rattle.relay_session.specs.declared.wishes.Wish.TheVariants as wishes;
 ghost use Rattle.relay_session.specs.declared.wishes.Answer.TheVariants as answers;

@@ -7,10 +7,13 @@ ghost use Rattle.relay_model.specs.declared.acts.Shut.TheVariants as shuts;
 ghost use Rattle.relay_model.specs.declared.acts.Why.{Why as Cause};
 ghost use Rattle.relay_model.specs.declared.acts.Why.TheVariants as causes;
 ghost use Rattle.relay_model.specs.declared.readiness.ReadyAt.{ReadyAt as Entry};
-ghost use Rattle.relay_model.specs.Causes.{turns};
-ghost use Rattle.relay_model.specs.Legality.{Rest, LaneRests, until_of};
+ghost use Rattle.relay_session.specs.Causes.{turns};
+ghost use Rattle.relay_session.specs.Legality.{Rest, LaneRests, until_of};
 ghost use Rattle.relay_model.specs.declared.places.Side.TheVariants.{Left, Right};
 ghost use Rattle.relay_model.specs.declared.places.Way.TheVariants.{LeftToRight, RightToLeft};
+ghost use Rattle.relay_model.specs.Places.{same_place};
+ghost use Rattle.relay_session.specs.Stages.{named_stage};
+ghost use Rattle.relay_session.specs.States.{opening_at};
 
 use crate::lanes::{Lane, Want, either};
 use crate::stages::Stage;
@@ -22,6 +25,7 @@ use std::alloc::Global;
 #[derive(Clone, Copy, Debug, PartialEq, Eq)]
 pub enum Task {
     Open(Side),
+    Settle(Side),
     Read(Way, usize),
     Write(Way),
     Shut(Way),
@@ -68,6 +72,8 @@ impl Task {
         match self {
             Task::Open(Side::Left) => Wish::Open(LEFT_INPUT),
             Task::Open(Side::Right) => Wish::Open(RIGHT_OUTPUT),
+            Task::Settle(Side::Left) => Wish::Settle(LEFT_INPUT),
+            Task::Settle(Side::Right) => Wish::Settle(RIGHT_OUTPUT),
             Task::Read(Way::LeftToRight, at_most) => Wish::Read {
                 place: LEFT_INPUT,
                 at_most,
@@ -105,8 +111,8 @@ impl State {
     ghost use Rattle.relay_session.specs.States.{AbsorbedBy, wish_from, offered_for};
     ghost use Rattle.relay_session.specs.declared.states.Task.TheVariants as tasks;
     ghost use Rattle.relay_session.specs.Lanes.{copied};
-    ghost use Rattle.relay_model.specs.Directions.{source as source_of, sink as sink_of};
-    ghost use Rattle.relay_model.specs.Causes.{ready, all_passed};
+    ghost use Rattle.relay_session.specs.Directions.{source as source_of, sink as sink_of};
+    ghost use Rattle.relay_session.specs.Causes.{ready, all_passed};
     ghost use Rattle.relay_model.specs.PlainRelay.{plain_relay};
 
     pub fn new(alloc: Global, block: u32) -> Result<State, NoMemory>
@@ -140,9 +146,9 @@ impl State {
         ensures over { is_live (wish_from result) ≡ false }
         ensures allowed { (b n : ℕ) (past : List Act) → Fields b n past self.now → self.now.ending ≡ Some why → Allowed b n past self.now result }
     {
-        if self.left.is_open() {
+        if self.left.is_held() {
             Task::Close(Side::Left, why)
-        } else if self.right.is_open() {
+        } else if self.right.is_held() {
             Task::Close(Side::Right, why)
         } else {
             Task::Done(why)
@@ -155,11 +161,11 @@ impl State {
     {
         let left = self.left.is_open();
         if !left {
-            return Task::Open(Side::Left);
+            return opening(Side::Left, self.left);
         }
         let right = self.right.is_open();
         if !right {
-            return Task::Open(Side::Right);
+            return opening(Side::Right, self.right);
         }
         match self.to_right.want() {
             Want::Shut => Task::Shut(Way::LeftToRight),
@@ -192,9 +198,10 @@ impl State {
         }
     }
 
-    /// The place of this side was opened.
+    /// The place of this side was opened, at once or after its opening was under way.
     pub fn opened(&mut self, side: Side)
-        ensures { (b n : ℕ) (past : List Act) → Fields b n past self.old → Allowed b n past self.old (tasks.Open side) → Absorbed b n past (acts.Opened (place_at side)) self.old self.new }
+        ensures goes { (b n : ℕ) (past : List Act) → Fields b n past self.old → Allowed b n past self.old (tasks.Open side) → Absorbed b n past (acts.Opened (place_at side)) self.old self.new }
+        ensures settles { (b n : ℕ) (past : List Act) → Fields b n past self.old → Allowed b n past self.old (tasks.Settle side) → Absorbed b n past (acts.Opened (place_at side)) self.old self.new }
     {
         match side {
             Side::Left => self.left_opened(),
@@ -203,28 +210,42 @@ impl State {
     }
 
     fn left_opened(&mut self)
-        ensures { (b n : ℕ) (past : List Act) → Fields b n past self.old → Allowed b n past self.old (tasks.Open Left) → Absorbed b n past (acts.Opened (place_at Left)) self.old self.new }
+        ensures goes { (b n : ℕ) (past : List Act) → Fields b n past self.old → Allowed b n past self.old (tasks.Open Left) → Absorbed b n past (acts.Opened (place_at Left)) self.old self.new }
+        ensures settles { (b n : ℕ) (past : List Act) → Fields b n past self.old → Allowed b n past self.old (tasks.Settle Left) → Absorbed b n past (acts.Opened (place_at Left)) self.old self.new }
     {
         self.left = Stage::Standing;
         self.to_right.source_opened();
     }
 
     fn right_opened(&mut self)
-        ensures { (b n : ℕ) (past : List Act) → Fields b n past self.old → Allowed b n past self.old (tasks.Open Right) → Absorbed b n past (acts.Opened (place_at Right)) self.old self.new }
+        ensures goes { (b n : ℕ) (past : List Act) → Fields b n past self.old → Allowed b n past self.old (tasks.Open Right) → Absorbed b n past (acts.Opened (place_at Right)) self.old self.new }
+        ensures settles { (b n : ℕ) (past : List Act) → Fields b n past self.old → Allowed b n past self.old (tasks.Settle Right) → Absorbed b n past (acts.Opened (place_at Right)) self.old self.new }
     {
         self.right = Stage::Standing;
         self.to_right.sink_opened();
     }
 
+    /// The opening of this side's place is under way.
+    pub fn open_later(&mut self, side: Side)
+        ensures goes { (b n : ℕ) (past : List Act) → Fields b n past self.old → Allowed b n past self.old (tasks.Open side) → Absorbed b n past (acts.OpenLater (place_at side)) self.old self.new }
+        ensures settles { (b n : ℕ) (past : List Act) → Fields b n past self.old → Allowed b n past self.old (tasks.Settle side) → Absorbed b n past (acts.OpenLater (place_at side)) self.old self.new }
+    {
+        match side {
+            Side::Left => self.left = Stage::Settling,
+            Side::Right => self.right = Stage::Settling,
+        }
+    }
+
     /// The opening of this side's place failed.
     pub fn open_failed(&mut self, side: Side)
-        ensures { (b n : ℕ) (past : List Act) → Fields b n past self.old → Allowed b n past self.old (tasks.Open side) → Absorbed b n past (acts.OpenFailed (place_at side)) self.old self.new }
+        ensures settles { (b n : ℕ) (past : List Act) → Fields b n past self.old → Allowed b n past self.old (tasks.Settle side) → Absorbed b n past (acts.OpenFailed (place_at side)) self.old self.new }
+        ensures goes { (b n : ℕ) (past : List Act) → Fields b n past self.old → Allowed b n past self.old (tasks.Open side) → Absorbed b n past (acts.OpenFailed (place_at side)) self.old self.new }
     {
+        self.ending = Some(Why::OpenFailed);
         match side {
             Side::Left => self.left = Stage::Gone,
             Side::Right => self.right = Stage::Gone,
         }
-        self.ending = Some(Why::OpenFailed);
     }
 
     /// Bytes were read.
@@ -234,6 +255,16 @@ impl State {
         match way {
             Way::LeftToRight => self.to_right.read(bytes),
             Way::RightToLeft => self.to_left.read(bytes),
+        }
+    }
+
+    /// An empty datagram was read.
+    pub fn read_empty(&mut self, way: Way, at_most: usize)
+        ensures { (b n : ℕ) (past : List Act) → Fields b n past self.old → Allowed b n past self.old (tasks.Read way at_most) → Absorbed b n past (acts.ReadEmpty (source_of way)) self.old self.new }
+    {
+        match way {
+            Way::LeftToRight => self.to_right.read_empty(),
+            Way::RightToLeft => self.to_left.read_empty(),
         }
     }
 
@@ -348,6 +379,8 @@ impl State {
     {
         self.to_right.named(entry, LEFT_INPUT, RIGHT_OUTPUT);
         self.to_left.named(entry, RIGHT_INPUT, LEFT_OUTPUT);
+        self.left = stage_named(self.left, LEFT_INPUT, entry);
+        self.right = stage_named(self.right, RIGHT_OUTPUT, entry);
         self.ending = None;
     }
 
@@ -390,8 +423,13 @@ impl State {
     {
         match (task, answer) {
             (Task::Open(side), Answer::Opened) => self.opened(side),
+            (Task::Open(side), Answer::Later) => self.open_later(side),
             (Task::Open(side), Answer::Failed) => self.open_failed(side),
+            (Task::Settle(side), Answer::Opened) => self.opened(side),
+            (Task::Settle(side), Answer::Later) => self.open_later(side),
+            (Task::Settle(side), Answer::Failed) => self.open_failed(side),
             (Task::Read(way, at_most), Answer::Bytes(bytes)) => self.read(way, at_most, bytes),
+            (Task::Read(way, at_most), Answer::Empty) => self.read_empty(way, at_most),
             (Task::Read(way, at_most), Answer::End) => self.ended(way, at_most),
             (Task::Read(way, at_most), Answer::NotYet) => self.read_not_yet(way, at_most),
             (Task::Read(way, at_most), Answer::Failed) => self.read_failed(way, at_most),
@@ -417,5 +455,26 @@ impl State {
             Answer::Woken => self.woken(now),
             answer => self.absorb(task, answer),
         }
+    }
+}
+
+/// What is to be done at a side whose place isn't open: it is opened, or looked at again once a turn has named it.
+fn opening(side: Side, stage: Stage) -> Task
+    ensures { result ≡ opening_at side stage }
+{
+    match stage {
+        Stage::Untried => Task::Open(side),
+        Stage::Named => Task::Settle(side),
+        Stage::Settling | Stage::Standing | Stage::ShutDown | Stage::Gone => Task::Sleep(None),
+    }
+}
+
+/// The stage of the place after a turn has named this half.
+fn stage_named(stage: Stage, place: Place, entry: ReadyAt) -> Stage
+    ensures { result ≡ named_stage (same_place entry.place place) stage }
+{
+    match stage {
+        Stage::Settling if entry.place.is(place) => Stage::Named,
+        stage => stage,
     }
 }

@@ -18,6 +18,16 @@ const OUTPUT: Place = Place {
     door: false,
 };
 
+const INPUT_READY: ReadyAt = ReadyAt {
+    place: INPUT,
+    half: Half::ToRead,
+};
+
+const INPUT_WRITABLE: ReadyAt = ReadyAt {
+    place: INPUT,
+    half: Half::ToWrite,
+};
+
 const OUTPUT_READY: ReadyAt = ReadyAt {
     place: OUTPUT,
     half: Half::ToWrite,
@@ -33,6 +43,46 @@ fn opens(session: &mut Session, wanted: Place) -> bool {
     }
 }
 
+fn opens_later(session: &mut Session, wanted: Place) -> bool {
+    match session.wish() {
+        Wish::Open(place) => {
+            session.heard(0, Answer::Later);
+            place.is(wanted)
+        }
+        _ => false,
+    }
+}
+
+fn settles(session: &mut Session, wanted: Place) -> bool {
+    match session.wish() {
+        Wish::Settle(place) => {
+            session.heard(0, Answer::Opened);
+            place.is(wanted)
+        }
+        _ => false,
+    }
+}
+
+fn settles_later(session: &mut Session, wanted: Place) -> bool {
+    match session.wish() {
+        Wish::Settle(place) => {
+            session.heard(0, Answer::Later);
+            place.is(wanted)
+        }
+        _ => false,
+    }
+}
+
+fn fails_to_settle(session: &mut Session, wanted: Place) -> bool {
+    match session.wish() {
+        Wish::Settle(place) => {
+            session.heard(0, Answer::Failed);
+            place.is(wanted)
+        }
+        _ => false,
+    }
+}
+
 fn reads(session: &mut Session, bytes: &[u8]) -> bool {
     match session.wish() {
         Wish::Read { place, at_most } => {
@@ -41,6 +91,16 @@ fn reads(session: &mut Session, bytes: &[u8]) -> bool {
             }
             session.heard(0, Answer::Bytes(bytes));
             place.is(INPUT) && at_most == 4
+        }
+        _ => false,
+    }
+}
+
+fn reads_nothing(session: &mut Session) -> bool {
+    match session.wish() {
+        Wish::Read { place, .. } => {
+            session.heard(0, Answer::Empty);
+            place.is(INPUT)
         }
         _ => false,
     }
@@ -103,11 +163,11 @@ fn shuts(session: &mut Session) -> bool {
     }
 }
 
-fn closes(session: &mut Session, wanted: Place) -> bool {
+fn closes(session: &mut Session, wanted: Place, cause: Why) -> bool {
     match session.wish() {
         Wish::Close(place, why) => {
             session.heard(0, Answer::Done);
-            place.is(wanted) && why == Why::Finished
+            place.is(wanted) && why == cause
         }
         _ => false,
     }
@@ -134,9 +194,28 @@ fn empties(session: &mut Session) -> bool {
 
 fn ends(session: &mut Session) -> bool {
     shuts(session)
-        && closes(session, INPUT)
-        && closes(session, OUTPUT)
+        && closes(session, INPUT, Why::Finished)
+        && closes(session, OUTPUT, Why::Finished)
         && session.wish() == Wish::Done(Why::Finished)
+}
+
+fn waits_for_the_input(session: &mut Session) -> bool {
+    opens_later(session, INPUT) && sleeps(session, None, 5) && sleeps(session, None, 6)
+}
+
+fn opens_and_reads(session: &mut Session) -> bool {
+    opens(session, OUTPUT) && reads(session, b"abcd") && offers(session, b"abcd")
+}
+
+fn waits_for_the_output(session: &mut Session) -> bool {
+    opens(session, INPUT) && opens_later(session, OUTPUT) && sleeps(session, None, 5)
+}
+
+fn relays_two(session: &mut Session, bytes: &[u8], until: u64, now: u64) -> bool {
+    if !reads(session, bytes) || !offers(session, bytes) {
+        return false;
+    }
+    writes(session, 2) && sleeps(session, Some(until), now)
 }
 
 fn session_of_four(alloc: Global) -> Result<Session, NoMemory> {
@@ -153,5 +232,74 @@ fn relays_four_bytes(rt: HostRuntime) -> Result<(), Fail> {
     assert!(rt; fills_the_sink(&mut session));
     assert!(rt; empties(&mut session));
     assert!(rt; ends(&mut session));
+    Ok(())
+}
+
+#[test]
+fn an_input_settles_once_a_turn_has_named_it(rt: HostRuntime) -> Result<(), Fail> {
+    let mut session = session_of_four(rt.alloc())?;
+    assert!(rt; waits_for_the_input(&mut session));
+    session.ready(OUTPUT_READY);
+    assert!(rt; sleeps(&mut session, None, 7));
+    session.ready(INPUT_READY);
+    assert!(rt; settles(&mut session, INPUT));
+    assert!(rt; opens_and_reads(&mut session));
+    Ok(())
+}
+
+#[test]
+fn an_output_settles_once_a_turn_has_named_it(rt: HostRuntime) -> Result<(), Fail> {
+    let mut session = session_of_four(rt.alloc())?;
+    assert!(rt; waits_for_the_output(&mut session));
+    session.ready(OUTPUT_READY);
+    assert!(rt; settles(&mut session, OUTPUT));
+    assert!(rt; relays_two(&mut session, b"ab", 5, 6));
+    Ok(())
+}
+
+#[test]
+fn a_settling_may_go_on(rt: HostRuntime) -> Result<(), Fail> {
+    let mut session = session_of_four(rt.alloc())?;
+    assert!(rt; waits_for_the_input(&mut session));
+    session.ready(INPUT_READY);
+    assert!(rt; settles_later(&mut session, INPUT));
+    assert!(rt; sleeps(&mut session, None, 7));
+    session.ready(INPUT_WRITABLE);
+    assert!(rt; settles(&mut session, INPUT));
+    assert!(rt; opens_and_reads(&mut session));
+    Ok(())
+}
+
+#[test]
+fn a_settling_that_fails_ends_the_session(rt: HostRuntime) -> Result<(), Fail> {
+    let mut session = session_of_four(rt.alloc())?;
+    assert!(rt; waits_for_the_output(&mut session));
+    session.ready(OUTPUT_READY);
+    assert!(rt; fails_to_settle(&mut session, OUTPUT));
+    assert!(rt; closes(&mut session, INPUT, Why::OpenFailed));
+    assert!(rt; session.wish() == Wish::Done(Why::OpenFailed));
+    Ok(())
+}
+
+#[test]
+fn a_stop_closes_what_settles(rt: HostRuntime) -> Result<(), Fail> {
+    let mut session = session_of_four(rt.alloc())?;
+    assert!(rt; waits_for_the_output(&mut session));
+    session.cut(Why::Stopped);
+    assert!(rt; closes(&mut session, INPUT, Why::Stopped));
+    assert!(rt; closes(&mut session, OUTPUT, Why::Stopped));
+    assert!(rt; session.wish() == Wish::Done(Why::Stopped));
+    Ok(())
+}
+
+#[test]
+fn an_empty_datagram_changes_nothing(rt: HostRuntime) -> Result<(), Fail> {
+    let mut session = session_of_four(rt.alloc())?;
+    assert!(rt; opens(&mut session, INPUT) && opens(&mut session, OUTPUT));
+    assert!(rt; relays_two(&mut session, b"ab", 0, 3));
+    assert!(rt; reads_nothing(&mut session));
+    assert!(rt; sleeps(&mut session, Some(3), 4));
+    assert!(rt; relays_two(&mut session, b"cd", 4, 5));
+    assert!(rt; reads_the_end(&mut session) && ends(&mut session));
     Ok(())
 }

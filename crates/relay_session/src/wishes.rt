@@ -5,6 +5,7 @@ use relay_model::{Place, Shut, Why};
 #[derive(Clone, Copy, Debug, PartialEq, Eq)]
 pub enum Wish {
     Open(Place),
+    Settle(Place),
     Read { place: Place, at_most: usize },
     Write(Place),
     Shut(Place, Shut),
@@ -13,11 +14,14 @@ pub enum Wish {
     Done(Why),
 }
 
-/// The answer to a wish. `Done` answers a shut or a close, and `Woken` a sleep.
+/// The answer to a wish. `Later` answers an opening or a settling, `Empty` a read of an empty datagram, `Done` a shut or
+/// a close, and `Woken` a sleep.
 #[derive(Clone, Copy)]
 pub enum Answer<'a> {
     Opened,
+    Later,
     Bytes(&'a [u8]),
+    Empty,
     End,
     NotYet,
     Took(usize),

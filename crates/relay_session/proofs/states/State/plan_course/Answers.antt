@@ -1,8 +1,19 @@
-use Rattle.std.proofs.Common.{◌≡◌, true, refl}
+use Rattle.std.proofs.Common.{◌≡◌, true, false, refl}
 use Rattle.relay_model.specs.declared.places.Way.TheVariants.{LeftToRight}
 use Rattle.relay_session.specs.Stages.{is_open_at}
-use Rattle.relay_session.proofs.Courses.{running_of, ready_from, source_open, sink_open}
+use Rattle.relay_session.proofs.Courses.{running_of, ready_from, source_open, sink_open, opens_left, opens_right}
 use Rattle.relay_session.proofs.states.State.plan_course.Goals as goal
+
+pub returns-then-not-left-clause-allowed : goal.returns-then-not-left-clause-allowed
+returns-then-not-left-clause-allowed c = λ b n past f e.
+    let left : is_open_at c.args.self.now.left ≡ false = cc in
+    rw c.opening.ensures (opens_left b n past c.args.self.now f e left)
+
+pub returns-then-not-right-clause-allowed : goal.returns-then-not-right-clause-allowed
+returns-then-not-right-clause-allowed c = λ b n past f e.
+    let left : is_open_at c.args.self.now.left ≡ true = cc in
+    let right : is_open_at c.args.self.now.right ≡ false = cc in
+    rw c.opening-then-not-right.ensures (opens_right b n past c.args.self.now f e left right)
 
 pub returns-in-Shut-clause-allowed : goal.returns-in-Shut-clause-allowed
 returns-in-Shut-clause-allowed c = λ b n past f e.

@@ -1,6 +1,6 @@
 use Rattle.relay_model.specs.declared.places.Way.TheVariants.{LeftToRight, RightToLeft}
-use Rattle.relay_session.proofs.Courses.{going_of}
-use Rattle.relay_session.proofs.Steps.{woken_ground, woken_going, kept_left, kept_right, not_gone}
+use Rattle.relay_session.proofs.Courses.{going_of, kept_left, kept_right}
+use Rattle.relay_session.proofs.Steps.{woken_ground, woken_going, not_gone}
 use Rattle.relay_session.proofs.states.State.woken.Goals as goal
 
 pub returns-clause-goes : goal.returns-clause-goes
