@@ -14,15 +14,16 @@ use Rattle.relay_model.specs.declared.places.Way.TheVariants.{LeftToRight}
 use Rattle.relay_model.specs.Places.{same_place}
 use Rattle.relay_model.specs.Holding as holds
 use Rattle.relay_model.specs.Holding.{Hold, standing, is_free}
-use Rattle.relay_model.specs.Directions.{way_from, way_to, source, sink, formed}
-use Rattle.relay_model.specs.Causes.{turns, is_held, is_of, failures, closed_why, memory_said, stop_said, failed_to_open, faulted, ready, all_passed, cause, running, or_else, only_if, is_memory, is_stopped}
-use Rattle.relay_model.specs.Legality as legality
-use Rattle.relay_model.specs.Legality.{call, place_call, Legal, Licensed, Rest, holds_nothing, by_cause, by_memory, by_turns}
+use Rattle.relay_session.specs.Directions.{way_from, way_to, source, sink, formed}
+use Rattle.relay_session.specs.Causes.{turns, is_held, is_settled, is_settling, tried, is_of, failures, closed_why, memory_said, stop_said, failed_to_open, faulted, ready, all_passed, cause, running, or_else, only_if, is_memory, is_stopped}
+use Rattle.relay_session.specs.Legality as legality
+use Rattle.relay_model.specs.History.{woken}
+use Rattle.relay_session.specs.Legality.{Call, MayOpen, call, place_call, Legal, Licensed, Rest, holds_nothing, by_cause, by_memory, by_turns}
 use Rattle.relay_model.specs.PlainRelay.{plain_relay}
 use Rattle.exit_status.specs.declared.outcomes.Outcome.{Outcome}
 use Rattle.exit_status.specs.declared.outcomes.Outcome.TheVariants as outcomes
 use Rattle.exit_status.specs.declared.outcomes.Op.TheVariants.{Reading, Writing}
-use Rattle.exit_status.specs.Outcomes.{IsOutcome, outcome, outcome_by, failure_of, fault_of}
+use Rattle.plain_laws.specs.Endings.{IsOutcome, outcome, outcome_by, failure_of, fault_of}
 use Rattle.event_loop.specs.Courses.{Risen, blame_of, stop_turned, outcome_for}
 use Rattle.event_loop.specs.Headline.{StopCause, is_failure, is_relayed}
 
@@ -38,17 +39,35 @@ both true true e = (refl, refl)
 both true false e = cc
 both false b e = cc
 
--- what is called for is one of the two places, and nothing has ended the session
-call_inv : (t h g u v : Bool) (l r p : Place) → (if t then legality.Nothing else (if h then (if g then legality.Nothing else (if u then legality.Nothing else legality.Open r)) else (if v then legality.Nothing else legality.Open l))) ≡ legality.Open p → (t ≡ false) × ((p ≡ l) ⊎ (p ≡ r))
-call_inv true h g u v l r p e = cc
-call_inv false true true u v l r p e = cc
-call_inv false true false true v l r p e = cc
-call_inv false true false false v l r p e = let k : p ≡ r = cc in (refl, inr k)
-call_inv false false g u true l r p e = cc
-call_inv false false g u false l r p e = let k : p ≡ l = cc in (refl, inl k)
+-- the place that is called for
+abbrev names_of : Call → Option Place
+names_of legality.Nothing = None
+names_of (legality.Open p) = Some p
+names_of (legality.Settle p) = Some p
 
-called : (b : ℕ) (past : List Act) (p : Place) → call (plain_relay b) past ≡ legality.Open p → (is_some (cause (plain_relay b) past) ≡ false) × ((p ≡ source LeftToRight) ⊎ (p ≡ sink LeftToRight))
-called b past p e = call_inv (is_some (cause (plain_relay b) past)) (is_held past (source LeftToRight)) (is_held past (sink LeftToRight)) _ _ (source LeftToRight) (sink LeftToRight) p e
+place_named : (s w t : Bool) (q p : Place) → names_of (if s then (if w then legality.Settle q else legality.Nothing) else (if t then legality.Nothing else legality.Open q)) ≡ Some p → p ≡ q
+place_named true true t q p e = let k : p ≡ q = cc in k
+place_named true false t q p e = cc
+place_named false w true q p e = cc
+place_named false w false q p e = let k : p ≡ q = cc in k
+
+-- what is called for is one of the two places, and nothing has ended the session
+call_inv : (t h g : Bool) (x y : Call) (l r p : Place) → (names_of x ≡ Some p → p ≡ l) → (names_of y ≡ Some p → p ≡ r) → names_of (if t then legality.Nothing else (if h then (if g then legality.Nothing else y) else x)) ≡ Some p → (t ≡ false) × ((p ≡ l) ⊎ (p ≡ r))
+call_inv true h g x y l r p at_left at_right e = cc
+call_inv false true true x y l r p at_left at_right e = cc
+call_inv false true false x y l r p at_left at_right e = (refl, inr (at_right e))
+call_inv false false g x y l r p at_left at_right e = (refl, inl (at_left e))
+
+may_named : (b : ℕ) (past : List Act) (p : Place) → MayOpen (plain_relay b) past p → names_of (call (plain_relay b) past) ≡ Some p
+may_named b past p (inl e) = ap names_of e
+may_named b past p (inr e) = ap names_of e
+
+place_is : (past : List Act) (q p : Place) → names_of (place_call past q) ≡ Some p → p ≡ q
+place_is past q p e = place_named (is_settling past q) (woken past q) (tried past q) q p e
+
+called : (b : ℕ) (past : List Act) (p : Place) → MayOpen (plain_relay b) past p → (is_some (cause (plain_relay b) past) ≡ false) × ((p ≡ source LeftToRight) ⊎ (p ≡ sink LeftToRight))
+called b past p may =
+    call_inv (is_some (cause (plain_relay b) past)) (is_settled past (source LeftToRight)) (is_settled past (sink LeftToRight)) (place_call past (source LeftToRight)) (place_call past (sink LeftToRight)) (source LeftToRight) (sink LeftToRight) p (place_is past (source LeftToRight) p) (place_is past (sink LeftToRight) p) (may_named b past p may)
 
 of_either : (b : ℕ) (p : Place) → (p ≡ source LeftToRight) ⊎ (p ≡ sink LeftToRight) → is_of (plain_relay b) p ≡ true
 of_either b p (inl e) = rw e refl
@@ -87,7 +106,7 @@ pub held_is_of : (b n : ℕ) (past : List Act) (x : Place) → Legal (plain_rela
 held_is_of b n [] x legal held = cc
 held_is_of b n (acts.Turn until at ready stop ∷ past) x legal held = held_is_of b n past x legal.1 held
 held_is_of b n (acts.Opened p ∷ past) x legal held = held_if b p x holds.Open (standing past x) (of_either b p (called b past p legal.0).1) (λ h. held_is_of b n past x legal.1 h) (same_place p x) refl held
-held_is_of b n (acts.OpenLater p ∷ past) x legal held = absurd legal.0
+held_is_of b n (acts.OpenLater p ∷ past) x legal held = held_if b p x holds.Settling (standing past x) (of_either b p (called b past p legal.0).1) (λ h. held_is_of b n past x legal.1 h) (same_place p x) refl held
 held_is_of b n (acts.OpenFailed p ∷ past) x legal held = freed_if b x (standing past x) (λ h. held_is_of b n past x legal.1 h) (same_place p x) held
 held_is_of b n (acts.Listening p ∷ past) x legal held = absurd legal.0
 held_is_of b n (acts.ListenFailed p ∷ past) x legal held = absurd legal.0
@@ -95,7 +114,7 @@ held_is_of b n (acts.Accepted p peer ∷ past) x legal held = absurd legal.0
 held_is_of b n (acts.NoPeer p ∷ past) x legal held = absurd legal.0
 held_is_of b n (acts.AcceptFailed p ∷ past) x legal held = absurd legal.0
 held_is_of b n (acts.Read p bytes ∷ past) x legal held = held_is_of b n past x legal.1 held
-held_is_of b n (acts.ReadEmpty p ∷ past) x legal held = absurd legal.0
+held_is_of b n (acts.ReadEmpty p ∷ past) x legal held = held_is_of b n past x legal.1 held
 held_is_of b n (acts.ReadEnd p ∷ past) x legal held = held_is_of b n past x legal.1 held
 held_is_of b n (acts.ReadNotYet p ∷ past) x legal held = held_is_of b n past x legal.1 held
 held_is_of b n (acts.ReadFault p ∷ past) x legal held = held_is_of b n past x legal.1 held
@@ -187,7 +206,7 @@ pub agree : (b n : ℕ) (past : List Act) (w : Why) → Legal (plain_relay b) n 
 agree b n [] w legal e = cc
 agree b n (acts.Turn until at ready stop ∷ past) w legal e = closed_over b past w e (rest_quiet b past legal.0.1)
 agree b n (acts.Opened p ∷ past) w legal e = agree b n past w legal.1 e
-agree b n (acts.OpenLater p ∷ past) w legal e = absurd legal.0
+agree b n (acts.OpenLater p ∷ past) w legal e = agree b n past w legal.1 e
 agree b n (acts.OpenFailed p ∷ past) w legal e = closed_over b past w e (called b past p legal.0).0
 agree b n (acts.Listening p ∷ past) w legal e = absurd legal.0
 agree b n (acts.ListenFailed p ∷ past) w legal e = absurd legal.0
@@ -195,7 +214,7 @@ agree b n (acts.Accepted p peer ∷ past) w legal e = absurd legal.0
 agree b n (acts.NoPeer p ∷ past) w legal e = absurd legal.0
 agree b n (acts.AcceptFailed p ∷ past) w legal e = absurd legal.0
 agree b n (acts.Read p bytes ∷ past) w legal e = agree b n past w legal.1 e
-agree b n (acts.ReadEmpty p ∷ past) w legal e = absurd legal.0
+agree b n (acts.ReadEmpty p ∷ past) w legal e = agree b n past w legal.1 e
 agree b n (acts.ReadEnd p ∷ past) w legal e = agree b n past w legal.1 e
 agree b n (acts.ReadNotYet p ∷ past) w legal e = agree b n past w legal.1 e
 agree b n (acts.ReadFault p ∷ past) w legal e = closed_over b past w e (runs_on b past legal.0.0.runs)
@@ -240,7 +259,7 @@ pub stop_cause : (b n : ℕ) (past : List Act) → Legal (plain_relay b) n past 
 stop_cause b n [] legal e = cc
 stop_cause b n (acts.Turn until at ready stop ∷ past) legal e = turn_stop n past stop legal.0.0 (λ h. stop_cause b n past legal.1 h) e
 stop_cause b n (acts.Opened p ∷ past) legal e = stop_cause b n past legal.1 e
-stop_cause b n (acts.OpenLater p ∷ past) legal e = absurd legal.0
+stop_cause b n (acts.OpenLater p ∷ past) legal e = stop_cause b n past legal.1 e
 stop_cause b n (acts.OpenFailed p ∷ past) legal e = stop_cause b n past legal.1 e
 stop_cause b n (acts.Listening p ∷ past) legal e = absurd legal.0
 stop_cause b n (acts.ListenFailed p ∷ past) legal e = absurd legal.0
@@ -248,7 +267,7 @@ stop_cause b n (acts.Accepted p peer ∷ past) legal e = absurd legal.0
 stop_cause b n (acts.NoPeer p ∷ past) legal e = absurd legal.0
 stop_cause b n (acts.AcceptFailed p ∷ past) legal e = absurd legal.0
 stop_cause b n (acts.Read p bytes ∷ past) legal e = stop_cause b n past legal.1 e
-stop_cause b n (acts.ReadEmpty p ∷ past) legal e = absurd legal.0
+stop_cause b n (acts.ReadEmpty p ∷ past) legal e = stop_cause b n past legal.1 e
 stop_cause b n (acts.ReadEnd p ∷ past) legal e = stop_cause b n past legal.1 e
 stop_cause b n (acts.ReadNotYet p ∷ past) legal e = stop_cause b n past legal.1 e
 stop_cause b n (acts.ReadFault p ∷ past) legal e = stop_cause b n past legal.1 e
@@ -294,6 +313,11 @@ keep-Turn b past until at ready stop (nothing bl l r fa) = nothing bl l r fa
 keep-Turn b past until at ready stop (opening bl fo) = opening bl fo
 keep-Turn b past until at ready stop (fault o bl fo fa ff) = fault o bl fo fa ff
 
+keep-OpenLater : (b : ℕ) (past : List Act) (p : Place) → Blamed b past → Blamed b (acts.OpenLater p ∷ past)
+keep-OpenLater b past p (nothing bl l r fa) = nothing bl l r fa
+keep-OpenLater b past p (opening bl fo) = opening bl fo
+keep-OpenLater b past p (fault o bl fo fa ff) = fault o bl fo fa ff
+
 keep-Opened : (b : ℕ) (past : List Act) (p : Place) → Blamed b past → Blamed b (acts.Opened p ∷ past)
 keep-Opened b past p (nothing bl l r fa) = nothing bl l r fa
 keep-Opened b past p (opening bl fo) = opening bl fo
@@ -303,6 +327,11 @@ keep-Read : (b : ℕ) (past : List Act) (p : Place) (bytes : List ℕ) → Blame
 keep-Read b past p bytes (nothing bl l r fa) = nothing bl l r fa
 keep-Read b past p bytes (opening bl fo) = opening bl fo
 keep-Read b past p bytes (fault o bl fo fa ff) = fault o bl fo fa ff
+
+keep-ReadEmpty : (b : ℕ) (past : List Act) (p : Place) → Blamed b past → Blamed b (acts.ReadEmpty p ∷ past)
+keep-ReadEmpty b past p (nothing bl l r fa) = nothing bl l r fa
+keep-ReadEmpty b past p (opening bl fo) = opening bl fo
+keep-ReadEmpty b past p (fault o bl fo fa ff) = fault o bl fo fa ff
 
 keep-ReadEnd : (b : ℕ) (past : List Act) (p : Place) → Blamed b past → Blamed b (acts.ReadEnd p ∷ past)
 keep-ReadEnd b past p (nothing bl l r fa) = nothing bl l r fa
@@ -344,7 +373,7 @@ blamed : (b n : ℕ) (past : List Act) → Legal (plain_relay b) n past → Blam
 blamed b n [] legal = nothing refl refl refl refl
 blamed b n (acts.Turn until at ready stop ∷ past) legal = keep-Turn b past until at ready stop (blamed b n past legal.1)
 blamed b n (acts.Opened p ∷ past) legal = keep-Opened b past p (blamed b n past legal.1)
-blamed b n (acts.OpenLater p ∷ past) legal = absurd legal.0
+blamed b n (acts.OpenLater p ∷ past) legal = keep-OpenLater b past p (blamed b n past legal.1)
 blamed b n (acts.OpenFailed p ∷ past) legal = let k = called b past p legal.0 in let z = quiet_at b past k.0 in open_blamed b past p k.1 z.3 z.4 (blamed b n past legal.1)
 blamed b n (acts.Listening p ∷ past) legal = absurd legal.0
 blamed b n (acts.ListenFailed p ∷ past) legal = absurd legal.0
@@ -352,7 +381,7 @@ blamed b n (acts.Accepted p peer ∷ past) legal = absurd legal.0
 blamed b n (acts.NoPeer p ∷ past) legal = absurd legal.0
 blamed b n (acts.AcceptFailed p ∷ past) legal = absurd legal.0
 blamed b n (acts.Read p bytes ∷ past) legal = keep-Read b past p bytes (blamed b n past legal.1)
-blamed b n (acts.ReadEmpty p ∷ past) legal = absurd legal.0
+blamed b n (acts.ReadEmpty p ∷ past) legal = keep-ReadEmpty b past p (blamed b n past legal.1)
 blamed b n (acts.ReadEnd p ∷ past) legal = keep-ReadEnd b past p (blamed b n past legal.1)
 blamed b n (acts.ReadNotYet p ∷ past) legal = keep-ReadNotYet b past p (blamed b n past legal.1)
 blamed b n (acts.ReadFault p ∷ past) legal = read_blamed b past p (of_either b p (inl (source_at b p.side p legal.0.0.is_source legal.0.0.is_formed))) (quiet_at b past (runs_on b past legal.0.0.runs)).3

@@ -13,8 +13,8 @@ use Rattle.relay_model.specs.declared.commands.Config.{Config}
 use Rattle.relay_model.specs.declared.commands.Single.{Single}
 use Rattle.relay_model.specs.Journals.{History, Asking}
 use Rattle.relay_model.specs.Holding.{Hold, hold_after, standing}
-use Rattle.relay_model.specs.Causes.{turns}
-use Rattle.relay_model.specs.Legality.{May}
+use Rattle.relay_session.specs.Causes.{turns}
+use Rattle.relay_session.specs.Legality.{May}
 use Rattle.relay_model.specs.PlainRelay.{plain_relay}
 use Rattle.world_trait.specs.Recordings.{with_act, with_asking}
 use Rattle.world_trait.specs.Answers.{Did, DidAsking, DidNothing, Rose, TurnCounts}

@@ -8,8 +8,8 @@ use Rattle.relay_model.specs.declared.places.Place.{Place}
 use Rattle.relay_model.specs.declared.commands.Config.{Config}
 use Rattle.relay_model.specs.Journals.{History, Asking}
 use Rattle.relay_model.specs.Holding.{standing}
-use Rattle.relay_model.specs.Causes.{turns}
-use Rattle.relay_model.specs.Legality.{Legal}
+use Rattle.relay_session.specs.Causes.{turns}
+use Rattle.relay_session.specs.Legality.{Legal}
 use Rattle.relay_model.specs.PlainRelay.{plain_relay}
 use Rattle.relay_session.specs.declared.wishes.Wish.{Wish}
 use Rattle.relay_session.specs.declared.wishes.Wish.TheVariants as wishes

@@ -4,10 +4,8 @@ use Rattle.relay_model.specs.declared.acts.Act.{Act}
 use Rattle.relay_model.specs.declared.places.Place.{Place}
 use Rattle.relay_model.specs.declared.commands.Config.{Config}
 use Rattle.relay_model.specs.Journals.{History, Asking}
-use Rattle.relay_model.specs.Holding as holds
-use Rattle.relay_model.specs.Holding.{standing}
-use Rattle.relay_model.specs.Causes.{memory_said}
-use Rattle.relay_model.specs.Legality.{Legal}
+use Rattle.relay_model.specs.History.{held}
+use Rattle.relay_model.specs.May.{Legal}
 use Rattle.exit_status.specs.declared.outcomes.Outcome.{Outcome}
 use Rattle.exit_status.specs.declared.outcomes.Outcome.TheVariants as outcomes
 use Rattle.exit_status.specs.Outcomes.{IsOutcome}
@@ -20,9 +18,8 @@ pub record Headline (c : Config) (n : ℕ) (before : History) (told : Option His
   pub asked : List Asking
   pub told_is : told ≡ Some (extend acts asked before)
   pub legal : Legal c n acts
-  pub free : (p : Place) → standing acts p ≡ holds.Free
+  pub free : (p : Place) → held acts p ≡ false
   pub outcome_is : IsOutcome c n acts answer ⊎ (answer ≡ outcomes.Memory)
-  pub memory : memory_said acts ≡ true → answer ≡ outcomes.Memory
   pub own : OnlyOwn c asked
 
 -- the answers that say that something failed

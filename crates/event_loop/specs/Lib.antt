@@ -1,4 +1,5 @@
 pub mod Courses
 pub mod Headline
+pub mod Plain
 pub mod Seen
 pub mod Singles

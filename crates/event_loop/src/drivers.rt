@@ -6,7 +6,7 @@ ghost use Rattle.relay_model.specs.declared.acts.Act.TheVariants as acts;
 ghost use Rattle.relay_model.specs.declared.acts.Why.{Why as Cause};
 ghost use Rattle.relay_model.specs.declared.places.Place.{Place as Spot};
 ghost use Rattle.relay_model.specs.declared.acts.Shut.{Shut as Shutting};
-ghost use Rattle.relay_model.specs.Holding.{Free, Open, is_free};
+ghost use Rattle.relay_model.specs.Holding.{Free, Settling, Open, is_free};
 ghost use Rattle.relay_model.specs.Journals.{History};
 ghost use Rattle.relay_model.specs.PlainRelay.{plain_relay};
 ghost use Rattle.relay_session.specs.declared.wishes.Wish.{Wish as Wished};
@@ -14,6 +14,7 @@ ghost use Rattle.relay_session.specs.declared.wishes.Wish.TheVariants as wishes;
 ghost use Rattle.relay_session.specs.Wishes.{is_live};
 ghost use Rattle.relay_session.specs.Sessions.{Stands, wish_of, offered_of, left_of};
 ghost use Rattle.relay_session.specs.Lanes.{copied};
+ghost use Rattle.exit_status.specs.declared.outcomes.Outcome.TheVariants as outcomes;
 ghost use Rattle.event_loop.specs.Seen.{Seen, seen};
 ghost use Rattle.event_loop.specs.Singles.{single_of};
 
@@ -90,11 +91,29 @@ impl Driver {
     {
         match world.open_place(place, single_at(config, place), None) {
             OpenAnswer::Opened => self.session.heard(0, Answer::Opened),
+            OpenAnswer::Later => self.session.heard(0, Answer::Later),
             OpenAnswer::Failed => {
-                self.blame = Some(Outcome::OpenFailed {
-                    side: place.side,
-                    attempts: 1,
-                });
+                self.blame = Some(unopened(place));
+                self.session.heard(0, Answer::Failed);
+            }
+            OpenAnswer::Memory => self.session.cut(Why::Memory),
+        }
+    }
+
+    /// Looks again at an opening that is under way, as it is wished for.
+    fn settle<W: World>(&mut self, world: &mut W, place: Place)
+        requires wish { wish_of self.old.session ≡ wishes.Settle place }
+        requires settling { W.held world.old place ≡ Settling }
+        requires course { Somewhere (seen W.told W.held W.faults W.waits W.stops W.clock world.old) self.old }
+        ensures course { Keeps (seen W.told W.held W.faults W.waits W.stops W.clock world.old) (seen W.told W.held W.faults W.waits W.stops W.clock world.new) self.old self.new }
+        ensures fewer { rank self.new < rank self.old }
+        ensures made { self.new.made ≡ self.old.made }
+    {
+        match world.settle(place) {
+            OpenAnswer::Opened => self.session.heard(0, Answer::Opened),
+            OpenAnswer::Later => self.session.heard(0, Answer::Later),
+            OpenAnswer::Failed => {
+                self.blame = Some(unopened(place));
                 self.session.heard(0, Answer::Failed);
             }
             OpenAnswer::Memory => self.session.cut(Why::Memory),
@@ -116,6 +135,7 @@ impl Driver {
         let into = &mut scratch[..most];
         match world.read(place, into) {
             ReadAnswer::Bytes(count) => self.session.heard(0, Answer::Bytes(&into[..count])),
+            ReadAnswer::Empty => self.session.heard(0, Answer::Empty),
             ReadAnswer::End => self.session.heard(0, Answer::End),
             ReadAnswer::NotYet => self.session.heard(0, Answer::NotYet),
             ReadAnswer::Failed => {
@@ -202,6 +222,7 @@ impl Driver {
     {
         match self.session.wish() {
             Wish::Open(place) => self.open(world, config, place),
+            Wish::Settle(place) => self.settle(world, place),
             Wish::Read { place, at_most } => self.read(world, scratch, place, at_most),
             Wish::Write(place) => self.write(world, place),
             Wish::Shut(place, how) => self.shut(world, place, how),
@@ -325,6 +346,16 @@ impl Driver {
             (Why::Faulted, Some(blame)) => blame,
             _ => Outcome::Memory,
         }
+    }
+}
+
+/// The outcome of a run whose opening of this place failed. Each is tried once.
+fn unopened(place: Place) -> Outcome
+    ensures { result ≡ outcomes.OpenFailed place.side 1 }
+{
+    Outcome::OpenFailed {
+        side: place.side,
+        attempts: 1,
     }
 }
 

@@ -7,9 +7,11 @@ ghost use Rattle.relay_model.specs.PlainRelay.{plain_relay};
 ghost use Rattle.event_loop.specs.Seen.{Seen};
 ghost use Rattle.event_loop.specs.Courses.{Risen, Course};
 ghost use Rattle.event_loop.specs.Headline.{Headline, StopCause, is_failure, is_relayed};
+ghost use Rattle.event_loop.specs.Plain.{PlainHeadline};
 
 use crate::drivers::Driver;
 use exit_status::Outcome;
+use plain_laws::{bytes_agree, holdings_agree, outcomes_agree, plain_is_legal, plain_rests};
 use relay_model::{Config, NoMemory};
 use std::alloc::Global;
 use world_trait::World;
@@ -22,6 +24,27 @@ pub fn relay<W: World>(alloc: Global, world: &mut W, config: &Config, turns: u64
     requires free { (p : Spot) → W.held world.old p ≡ Free }
     ensures free { (p : Spot) → W.held world.new p ≡ Free }
     ensures headline { (before : History) → W.told world.old ≡ Some before → Headline config.now turns before (W.told world.new) result }
+    ensures tells { is_some (W.told world.new) ≡ is_some (W.told world.old) }
+    ensures answers { is_relayed result ≡ true }
+    ensures failed { is_failure result ≡ true → Risen (W.faults world.old) (W.faults world.new) }
+    ensures stopped { StopCause turns (W.waits world.old) (W.waits world.new) (W.stops world.old) (W.stops world.new) result }
+{
+    let outcome = relay_plainly(alloc, world, config, turns);
+    plain_is_legal();
+    bytes_agree();
+    holdings_agree();
+    plain_rests();
+    outcomes_agree();
+    outcome
+}
+
+/// The same, by the narrow definitions.
+fn relay_plainly<W: World>(alloc: Global, world: &mut W, config: &Config, turns: u64) -> Outcome
+    requires plain { config.now ≡ plain_relay config.now.block }
+    requires block { 1 ≤ config.now.block }
+    requires free { (p : Spot) → W.held world.old p ≡ Free }
+    ensures free { (p : Spot) → W.held world.new p ≡ Free }
+    ensures headline { (before : History) → W.told world.old ≡ Some before → PlainHeadline config.now turns before (W.told world.new) result }
     ensures tells { is_some (W.told world.new) ≡ is_some (W.told world.old) }
     ensures answers { is_relayed result ≡ true }
     ensures failed { is_failure result ≡ true → Risen (W.faults world.old) (W.faults world.new) }

@@ -6,7 +6,10 @@ use Rattle.exit_status.specs.declared.outcomes.Outcome.{Outcome}
 use Rattle.exit_status.specs.declared.outcomes.Outcome.TheVariants as outcomes
 use Rattle.exit_status.specs.Lines.{line}
 use Rattle.event_loop.specs.Courses.{extend}
+use Rattle.event_loop.specs.Headline as relayed
 use Rattle.event_loop.specs.Headline.{is_relayed}
+use Rattle.exit_status.specs.Outcomes.{IsOutcome}
+use Rattle.relay_model.specs.declared.acts.Act.{Act}
 use Rattle.socat_top.specs.Notes.{Said, Tail}
 use Rattle.cmd_words.specs.declared.commands.Command.TheVariants as commands
 use Rattle.socat_top.specs.Built.{is_built}
@@ -42,7 +45,7 @@ lacking (Relaying c) n before told told' answer e from tail =
       tail = subst P (from ∙ ap Some (extended before)) tail;
       legal = tt;
       free = λ p. refl;
-      answer_is = inr (inr e);
+      answer_is = inr e;
       own = tt;
     }
 lacking (Telling text) n before told told' answer e from tail = let P : Option History → Type 0 = λ t. Tail answer t told' in inr (e, subst P from tail)
@@ -58,3 +61,22 @@ lacking_answers Unread answer e = e
 -- a relay is refused, whether or not it can be run
 pub unrelayed_relay : (c : Config) → unrelayed (command_task (commands.Relay c)) ≡ Refusing not_built
 unrelayed_relay c = elim (is_built c) as (λ b. unrelayed (if b then Relaying c else Refusing not_built) ≡ Refusing not_built) [ true ↦ refl | false ↦ refl ]
+
+-- the answer that is given is that of the relay, or want of memory
+given : (c : Config) (n : ℕ) (acts : List Act) (answer given_answer : Outcome) → IsOutcome c n acts answer ⊎ (answer ≡ outcomes.Memory) → (given_answer ≡ answer) ⊎ (given_answer ≡ outcomes.Memory) → IsOutcome c n acts given_answer ⊎ (given_answer ≡ outcomes.Memory)
+given c n acts answer given_answer a (inl e) = let P : Outcome → Type 0 = λ x. IsOutcome c n acts x ⊎ (x ≡ outcomes.Memory) in subst P (sym e) a
+given c n acts answer given_answer a (inr e) = inr e
+
+-- after the relay its line was said
+pub concluded : (c : Config) (n : ℕ) (before : History) (told told' : Option History) (answer given_answer : Outcome) → relayed.Headline c n before told answer → Tail given_answer told told' → (given_answer ≡ answer) ⊎ (given_answer ≡ outcomes.Memory) → Headline c n before told' given_answer
+concluded c n before told told' answer given_answer h tail same =
+    let P : Option History → Type 0 = λ t. Tail given_answer t told' in
+    record {
+      acts = h.acts;
+      asked = h.asked;
+      tail = subst P h.told_is tail;
+      legal = h.legal;
+      free = h.free;
+      answer_is = given c n h.acts answer given_answer h.outcome_is same;
+      own = h.own;
+    }

@@ -6,21 +6,13 @@ use Rattle.relay_model.specs.declared.commands.Config.{Config}
 use Rattle.relay_model.specs.Journals.{History, Asking}
 use Rattle.exit_status.specs.declared.outcomes.Outcome.{Outcome}
 use Rattle.exit_status.specs.declared.outcomes.Outcome.TheVariants as outcomes
-use Rattle.relay_laws.specs.History.{turns, held}
-use Rattle.relay_laws.specs.Rest.{Rest}
-use Rattle.relay_laws.specs.May.{Legal}
-use Rattle.relay_laws.specs.Outcome as whole
-use Rattle.plain_laws.specs.Outcomes.{outcome_of}
+use Rattle.relay_model.specs.History.{held}
+use Rattle.relay_model.specs.May.{Legal}
+use Rattle.exit_status.specs.Outcomes.{IsOutcome}
 use Rattle.event_loop.specs.Courses.{extend, OnlyOwn}
 use Rattle.event_loop.specs.Headline.{is_relayed}
 use Rattle.socat_top.specs.Notes.{Said, Tail}
 use Rattle.socat_top.specs.Tasks.{Task, Relaying, Telling, Refusing, Unread}
-
--- the answer is the outcome of the acts; or the turns were used up while a wait was in order; or memory was wanting
-abbrev pub AnswersFor : Config → ℕ → List Act → Outcome → Type 0
-AnswersFor c n acts answer =
-    ((ending : whole.Outcome) × (whole.outcome c acts ≡ Some ending) × (outcome_of answer ≡ Some ending))
-    ⊎ (((turns acts ≡ n) × Rest c acts × (answer ≡ outcomes.Stopped n)) ⊎ (answer ≡ outcomes.Memory))
 
 -- the world told `before`, and tells `told` now: the acts of the relay between are legal, nothing is held after them,
 -- the answer is theirs, each place that was asked for is the command's own, and after them comes the answer's line
@@ -30,7 +22,7 @@ pub record Headline (c : Config) (n : ℕ) (before : History) (told : Option His
   pub tail : Tail answer (Some (extend acts asked before)) told
   pub legal : Legal c n acts
   pub free : (p : Place) → held acts p ≡ false
-  pub answer_is : AnswersFor c n acts answer
+  pub answer_is : IsOutcome c n acts answer ⊎ (answer ≡ outcomes.Memory)
   pub own : OnlyOwn c asked
 
 -- a text was printed, or there was no memory for it

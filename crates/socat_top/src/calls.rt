@@ -5,7 +5,7 @@ ghost use Rattle.relay_model.specs.Holding.{Free};
 ghost use Rattle.relay_model.specs.Journals.{History};
 ghost use Rattle.cmd_words.specs.Commands.{IsFit};
 ghost use Rattle.event_loop.specs.Courses.{Risen};
-ghost use Rattle.relay_laws.specs.Configs.{Fit};
+ghost use Rattle.relay_model.specs.Configs.{Fit};
 ghost use Rattle.event_loop.specs.Headline.{StopCause, is_failure, is_relayed};
 ghost use Rattle.socat_top.specs.Built.{is_built};
 ghost use Rattle.socat_top.specs.Headline.{Answers, Headline, Leaves};
@@ -16,7 +16,6 @@ use crate::notes::{conclude, print};
 use cmd_words::{Command, CommandFault, command_of};
 use event_loop::relay;
 use exit_status::{Outcome, usage_text, version_text};
-use plain_laws::{bytes_agree, holdings_agree, outcomes_agree, plain_is_legal, plain_rests};
 use relay_model::{Config, Refusal, Refused, Text};
 use std::alloc::Global;
 use world_trait::World;
@@ -133,10 +132,5 @@ fn run_relay<W: World>(alloc: Global, world: &mut W, config: &Config, turns: u64
     ensures stopped { StopCause turns (W.waits world.old) (W.waits world.new) (W.stops world.old) (W.stops world.new) result }
 {
     let outcome = relay(alloc, world, config, turns);
-    plain_is_legal();
-    bytes_agree();
-    holdings_agree();
-    plain_rests();
-    outcomes_agree();
     conclude(alloc, world, outcome)
 }

@@ -2,7 +2,8 @@
 ghost use Rattle.std.specs.Prelude.{◌≡◌, IfOk};
 ghost use Rattle.relay_model.specs.declared.places.Place.{Place as Spot};
 ghost use Rattle.relay_model.specs.Holding.{Free};
-ghost use Rattle.world_trait.specs.Scripts.{HasBytes, HasCount};
+ghost use Rattle.world_trait.specs.Reads.{HasBytes};
+ghost use Rattle.world_trait.specs.Writes.{HasCount};
 
 use crate::socat;
 use exit_status::{EndWhy, Op, Outcome, status};

@@ -1,7 +1,7 @@
 use Rattle.std.proofs.Common.{◌≡◌, ◌≤◌, arith}
 use Rattle.std.proofs.lemmas.Grind.{common_steps}
 use Rattle.socat_top.proofs.Plainly.{built_is_plain}
-use Rattle.socat_top.proofs.Wholly.{wholly}
+use Rattle.socat_top.proofs.Endings.{concluded}
 use Rattle.socat_top.proofs.calls.run_relay.Goals as goal
 
 pub relay-outcome-requires-clause-plain : goal.relay-outcome-requires-clause-plain
@@ -9,7 +9,4 @@ relay-outcome-requires-clause-plain g c = built_is_plain c.args.config.now c.req
 
 pub returns-clause-headline : goal.returns-clause-headline
 returns-clause-headline g c = λ before told.
-    let some : 1 ≤ c.args.config.now.block = grind (arith, common_steps, c.requires.fit.some_block) in
-    wholly c.args.config.now c.args.turns before (g.W.World.told c.relay-outcome.new.world) (g.W.World.told c.conclude.new.world) c.relay-outcome.result c.conclude.result
-    c.plain_is_legal.ensures c.holdings_agree.ensures c.plain_rests.ensures c.outcomes_agree.ensures c.bytes_agree.ensures
-    (built_is_plain c.args.config.now c.requires.built) some c.relay-outcome.ensures.answers (c.relay-outcome.ensures.headline before told) c.conclude.ensures.tail c.conclude.ensures.answer
+    concluded c.args.config.now c.args.turns before (g.W.World.told c.relay-outcome.new.world) (g.W.World.told c.conclude.new.world) c.relay-outcome.result c.conclude.result (c.relay-outcome.ensures.headline before told) c.conclude.ensures.tail c.conclude.ensures.answer

@@ -8,6 +8,12 @@ returns-in-Bytes-clause-course g c = λ b n start past on. went b n start _ _ c.
 pub returns-in-Bytes-clause-fewer : goal.returns-in-Bytes-clause-fewer
 returns-in-Bytes-clause-fewer g c = let at = c.requires.course in let h = rw c.requires.wish at (c.heard.ensures.act at.b at.n at.past at.course.stands) in rank_heard _ _ _ _ h.fewer
 
+pub returns-in-Empty-clause-course : goal.returns-in-Empty-clause-course
+returns-in-Empty-clause-course g c = λ b n start past on. went b n start _ _ c.args.self.now _ past _ on c.in-Empty.ensures.act (rw c.requires.wish at (c.heard-in-Empty.ensures.act b n past on.stands)) refl refl refl refl refl c.in-Empty.ensures.cause.later c.in-Empty.ensures.waits c.in-Empty.ensures.stops
+
+pub returns-in-Empty-clause-fewer : goal.returns-in-Empty-clause-fewer
+returns-in-Empty-clause-fewer g c = let at = c.requires.course in let h = rw c.requires.wish at (c.heard-in-Empty.ensures.act at.b at.n at.past at.course.stands) in rank_heard _ _ _ _ h.fewer
+
 pub returns-in-End-clause-course : goal.returns-in-End-clause-course
 returns-in-End-clause-course g c = λ b n start past on. went b n start _ _ c.args.self.now _ past _ on c.in-End.ensures.act (rw c.requires.wish at (c.heard-in-End.ensures.act b n past on.stands)) refl refl refl refl refl c.in-End.ensures.cause.later c.in-End.ensures.waits c.in-End.ensures.stops
 
