@@ -18,8 +18,9 @@ fn main(rt: HostRuntime) -> Result<ExitCode, NoMemory> {
     let writer_wake = LoopWake::new(Arc::try_clone(&bell)?);
     let source = StdSource::new(rt.stdin());
     let sink = StdSink::new(rt.stdout());
-    let mut reader = RingReader::new(rt.alloc(), source, StdSpawner::new(rt), reader_wake)?;
-    let mut writer = RingWriter::new(rt.alloc(), sink, StdSpawner::new(rt), writer_wake)?;
+    let mut spawner = StdSpawner::new(rt);
+    let mut reader = RingReader::new(rt.alloc(), source, &mut spawner, reader_wake)?;
+    let mut writer = RingWriter::new(rt.alloc(), sink, &mut spawner, writer_wake)?;
     if reader.begin() != Begun::Begun || writer.begin() != Begun::Begun {
         return Ok(ExitCode::from(1));
     }

@@ -2,6 +2,7 @@ pub mod Feeding
 pub mod Items
 pub mod Readers
 pub mod Starting
+pub mod Stores
 pub mod Words
 pub mod Writer
 pub mod WriterPuts

@@ -44,7 +44,6 @@ pub record ReaderState : Type 0 where
   -- the counts at the begin, and whether a fault was counted since that no mark tells of
   pub since : Counts
   pub strayed : Bool
-  pub spawner_faults : ℕ
   pub behind : Option SourceBehind
 
 -- the bytes that were given
@@ -128,8 +127,8 @@ abbrev pub no_counts : Counts
 no_counts = record { faults = 0; ends = 0; empties = 0; stalls = 0 }
 
 -- a reader that was just made, whose thread waits or couldn't be started
-abbrev pub fresh_reader : Bool → ℕ → ReaderState
-fresh_reader refused spawner_faults = record {
+abbrev pub fresh_reader : Bool → ReaderState
+fresh_reader refused = record {
   taken = [];
   held = [];
   marked = false;
@@ -139,7 +138,6 @@ fresh_reader refused spawner_faults = record {
   counts = no_counts;
   since = no_counts;
   strayed = false;
-  spawner_faults = spawner_faults;
   behind = None;
 }
 
@@ -184,7 +182,6 @@ pub record KeptByRead (old new : ReaderState) : Type 0 where
   pub refused : new.refused ≡ old.refused
   pub since : new.since ≡ old.since
   pub strayed : new.strayed ≡ old.strayed
-  pub spawner_faults : new.spawner_faults ≡ old.spawner_faults
   pub behind : new.behind ≡ old.behind
 
 -- a begin by its answer: it fails exactly where no thread could be started

@@ -44,8 +44,8 @@ pub record WriterBehind : Type 0 where
   pub took : Option (List ℕ)
   pub faults : ℕ
 
--- what was put, how many fault marks were taken, whether the thread was started or refused, and what is known since
--- its end
+-- what was put, how many fault marks were taken, whether the writer has begun, whether its thread was refused, and what
+-- is known since the thread's end
 pub record WriterLine : Type 0 where
   pub sent : List RingItem
   pub marks : ℕ
@@ -60,9 +60,13 @@ behind_of took faults back = record {
   faults = max (faults back.outlet.sink - faults back.begun.value) back.outlet.faults;
 }
 
+-- the line of a writer that was just made
+abbrev pub fresh_line : Bool → WriterLine
+fresh_line refused = record { sent = []; marks = 0; begun = false; refused = refused; behind = None }
+
 abbrev pub line_of : {K : Type 0} → (K → Option (List ℕ)) → (K → ℕ) → Stage K → WriterLine
-line_of took faults (stages.Ready putter begun task) = record { sent = []; marks = 0; begun = false; refused = false; behind = None }
-line_of took faults stages.Refused = record { sent = []; marks = 0; begun = false; refused = true; behind = None }
+line_of took faults (stages.Ready putter begun task) = fresh_line false
+line_of took faults stages.Refused = fresh_line true
 line_of took faults (stages.Working putter begun task) = record { sent = (view putter.sender).sent; marks = length (view putter.taker).taken; begun = true; refused = false; behind = None }
 line_of took faults (stages.Back back) = record { sent = (view back.items).sent; marks = length (view back.marks).taken; begun = true; refused = false; behind = Some (behind_of took faults back) }
 
@@ -90,16 +94,16 @@ pub record IsBack {K : Type 0} (took : K → Option (List ℕ)) (faults : K → 
   pub true_to_sink : IsTrueToSink took faults (took back.begun.value) (faults back.begun.value) back.outlet (view back.items).taken (view back.marks).taken
 
 abbrev pub Stands : {K : Type 0} → (K → Option (List ℕ)) → (K → ℕ) → Stage K → Type 0
-Stands took faults (stages.Ready putter begun task) = IsPutting putter × (view putter.sender).sent ≡ [] × (view putter.taker).taken ≡ [] × IfSome task (TaskStands took faults putter.lines.value begun.value)
+Stands took faults (stages.Ready putter begun task) = IsPutting putter × (view putter.sender).sent ≡ [] × (view putter.taker).taken ≡ [] × TaskStands took faults putter.lines.value begun.value task
 Stands took faults stages.Refused = Unit {0}
 Stands took faults (stages.Working putter begun task) = IsPutting putter × TaskStands took faults putter.lines.value begun.value task
 Stands took faults (stages.Back back) = IsBack took faults back
 
--- the thread works on, or it is refused for good
-abbrev pub line_after_begin : WriterLine → BeginAnswer → WriterLine
-line_after_begin line begins.Begun = record line { begun = true }
-line_after_begin line begins.Failed = record line { refused = true }
-line_after_begin line begins.Memory = line
+-- a begin by its answer: it fails exactly where no thread could be started
+abbrev pub LineBegins : WriterLine → WriterLine → BeginAnswer → Type 0
+LineBegins before now begins.Begun = (before.refused ≡ false) × (now ≡ record before { begun = true })
+LineBegins before now begins.Failed = (before.refused ≡ true) × (now ≡ before)
+LineBegins before now begins.Memory = ⊥
 
 -- what the thread took is what was put, the sink took a front of its bytes before its first fault, and all of them
 -- where it never failed; it failed as often as the port was told

@@ -6,22 +6,20 @@ use Rattle.port_trait.specs.declared.answers.Took.TheVariants as writes
 use Rattle.thread_rings.specs.declared.items.RingItem.TheVariants as items
 use Rattle.thread_rings.specs.Items.{bytes_of, told}
 use Rattle.thread_rings.specs.Feeding.{AddsChunks}
-use Rattle.thread_rings.specs.WriterRing.{WriterLine, WriterBehind, WritesChunk, is_open}
+use Rattle.thread_rings.specs.WriterRing.{WriterLine, WriterBehind, WritesChunk, fresh_line, is_open}
 
--- how its line stands, what was counted, how often it failed for no fault of the sink, and the faults of its spawner
+-- how its line stands, what was counted, and how often it failed for no fault of the sink
 pub record WriterState : Type 0 where
   pub line : WriterLine
   pub counts : Counts
   pub misuses : ℕ
-  pub spawner_faults : ℕ
 
--- a writer that hasn't begun
-abbrev pub fresh_writer : ℕ → WriterState
-fresh_writer spawner_faults = record {
-  line = record { sent = []; marks = 0; begun = false; refused = false; behind = None };
+-- a writer that was just made, whose thread waits or couldn't be started
+abbrev pub fresh_writer : Bool → WriterState
+fresh_writer refused = record {
+  line = fresh_line refused;
   counts = record { faults = 0; ends = 0; empties = 0; stalls = 0 };
   misuses = 0;
-  spawner_faults = spawner_faults;
 }
 
 abbrev pub took_of : WriterState → List ℕ

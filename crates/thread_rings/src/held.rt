@@ -2,54 +2,61 @@
 ghost use Rattle.std.specs.Prelude.{◌≡◌, ◌<◌, ◌↔◌, [], length, min, take, drop, IsTrue};
 
 use crate::items::Chunk;
+use crate::pages::{Pages, Spent};
 use port_trait::copy_front;
 use std::marker::Model;
+use std::mem;
+use std::sync::Wait;
 
-/// The bytes that are still to be given.
+/// A chunk, where the bytes of it begin that are still to be given, and the pages of those before it.
 #[derive(Drop)]
 pub(crate) struct Held {
-    bytes: [u8; 512],
+    chunk: Option<Chunk>,
     from: usize,
-    to: usize,
+    spent: Spent,
 }
 
 impl Model for Held {
-    ghost use Rattle.std.specs.Prelude.{List, ℕ, ◌-◌, ◌≤◌, take, drop};
+    ghost use Rattle.std.specs.Prelude.{List, ℕ};
+    ghost use Rattle.thread_rings.specs.Stores.{rest_of, Within};
 
     ghost Value = { List ℕ };
 
-    ghost view = { λ held. take (held.to - held.from) (drop held.from held.bytes) };
+    ghost view = { λ held. rest_of held.chunk held.from };
 
-    ghost invariant = { λ held. (held.from ≤ held.to) × (held.to ≤ 512) };
+    ghost invariant = { λ held. Within held.chunk held.from };
 }
 
 impl Held {
     /// Nothing.
-    pub(crate) fn new() -> Held
+    pub(crate) fn new(spent: Spent) -> Held
         ensures { result ≡ [] }
     {
         Held {
-            bytes: [0; 512],
+            chunk: None,
             from: 0,
-            to: 0,
+            spent,
         }
     }
 
     pub(crate) fn is_empty(&self) -> bool
         ensures { IsTrue result ↔ (self.now ≡ []) }
     {
-        self.from == self.to
+        let Some(chunk) = &self.chunk else {
+            return true;
+        };
+        let (_, rest) = chunk.as_slice().split_at(self.from);
+        rest.is_empty()
     }
 
-    /// Holds this chunk.
-    pub(crate) fn put(&mut self, chunk: &Chunk)
-        ensures { self.new ≡ chunk.now }
+    /// Holds this chunk, and hands back the page of the one before.
+    pub(crate) fn put<R: Wait>(&mut self, rt: &R, pages: &Pages, chunk: Chunk)
+        ensures { self.new ≡ chunk }
     {
-        let bytes = chunk.as_slice();
-        let count = bytes.len();
         self.from = 0;
-        self.to = count;
-        self.bytes[..count].copy_from_slice(bytes);
+        if let Some(before) = mem::replace(&mut self.chunk, Some(chunk)) {
+            self.spent.take_back(rt, pages, before);
+        }
     }
 
     /// Gives as many bytes as fit.
@@ -58,7 +65,11 @@ impl Held {
         ensures given { take result into.new ≡ take result self.old }
         ensures rest { self.new ≡ drop result self.old }
     {
-        let count = copy_front(&self.bytes[self.from..self.to], into);
+        let Some(chunk) = &self.chunk else {
+            return 0;
+        };
+        let (_, rest) = chunk.as_slice().split_at(self.from);
+        let count = copy_front(rest, into);
         self.from += count;
         count
     }

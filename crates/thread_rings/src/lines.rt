@@ -4,54 +4,92 @@ ghost use Rattle.crossbeam_queue.specs.Passes.{view, IsPassOf, IsSamePass, ruled
 ghost use Rattle.ordered_queue.specs.Order.{view_of, IsSound};
 
 use crate::items::RingItem;
+use crate::pages::{Pages, Ready, Spent};
 use crossbeam_queue::protocol::{Join, Lesson};
 use ordered_queue::{Item, OrderedPass, OrderedQueue, View, ordered, put, take};
 use relay_model::NoMemory;
 use std::alloc::Global;
+use std::hint;
 use std::sync::atomic::{AtomicU64, Ordering};
 use std::sync::{Arc, Wait};
 
 /// The items that a queue holds at most.
 pub(crate) const ROOM: usize = 64;
 
+/// How often a side looks whether it was rung before it sleeps, so that what comes soon needs no wake.
+const LOOKS: u32 = 2000;
+
+/// Nobody is at a bell.
+const AWAY: u64 = 0;
+
+/// Somebody watches a bell, and sees when it rings.
+const WATCHING: u64 = 1;
+
+/// Somebody sleeps at a bell, and has to be woken.
+const ASLEEP: u64 = 2;
+
 /// Where one side sleeps while there is nothing to do for it. It watches first, then tries once more, and
 /// sleeps only where nobody rang since: so the ring for what its try didn't see isn't lost.
 #[derive(Drop)]
 pub(crate) struct Bell {
     rings: AtomicU64,
-    watched: AtomicU64,
+    listener: AtomicU64,
 }
 
 impl Bell {
     pub(crate) fn new() -> Bell {
         Bell {
             rings: AtomicU64::new(0),
-            watched: AtomicU64::new(0),
+            listener: AtomicU64::new(AWAY),
         }
     }
 
-    /// The number of rings so far. From now on they are heard.
+    /// The number of rings so far. The next is heard.
     pub(crate) fn watch(&self) -> u64 {
-        self.watched.store(1, Ordering::SeqCst);
+        self.listener.store(WATCHING, Ordering::SeqCst);
         self.rings.load(Ordering::SeqCst)
     }
 
-    /// Sleeps until the next ring after that number of them, or for a shorter time.
+    /// Waits until the next ring after that number of them, or for a shorter time. It sleeps where none comes soon.
     pub(crate) fn sleep<R: Wait>(&self, rt: &R, seen: u64) {
-        if self.rings.load(Ordering::SeqCst) == seen {
+        if self.rings_soon(seen) {
+            return;
+        }
+        let sleeps = self
+            .listener
+            .compare_exchange(WATCHING, ASLEEP, Ordering::SeqCst, Ordering::SeqCst);
+        if sleeps.is_ok() {
             self.rings.park(rt, (seen & 0xffff_ffff) as u32);
         }
     }
 
-    /// Rings are heard no more.
-    pub(crate) fn leave(&self) {
-        self.watched.store(0, Ordering::SeqCst);
+    /// Looks a short time whether it rings.
+    fn rings_soon(&self, seen: u64) -> bool {
+        for _ in 0..LOOKS {
+            if self.rings.load(Ordering::SeqCst) != seen {
+                return true;
+            }
+            hint::spin_loop();
+        }
+        false
     }
 
-    /// Wakes who sleeps.
+    /// Rings are heard no more.
+    pub(crate) fn leave(&self) {
+        self.listener.store(AWAY, Ordering::SeqCst);
+    }
+
+    /// Tells who watches, and wakes who sleeps. The next ring is heard only after the next watch, so that many in a
+    /// row wake once.
     pub(crate) fn ring(&self) {
-        if self.watched.load(Ordering::SeqCst) != 0 {
+        if self.listener.load(Ordering::SeqCst) == AWAY {
+            return;
+        }
+        let listener = self.listener.swap(AWAY, Ordering::SeqCst);
+        if listener != AWAY {
             self.rings.fetch_add(1, Ordering::SeqCst);
+        }
+        if listener == ASLEEP {
             self.rings.wake_all();
         }
     }
@@ -112,18 +150,21 @@ impl Start {
     }
 }
 
-/// What a port and its thread share: the items, the words that go back, and where each side sleeps.
+/// What a port and its thread share: the items, the words that go back, the pages that are free, and where each
+/// side sleeps.
 #[derive(Drop)]
 pub(crate) struct Lines<B: Item> {
     pub(crate) items: OrderedQueue<RingItem>,
     pub(crate) back: OrderedQueue<B>,
+    pub(crate) pages: Pages,
     pub(crate) thread: Bell,
     pub(crate) port: Bell,
     pub(crate) waits: LoopWaits,
     pub(crate) start: Start,
 }
 
-/// The lines, once for the port and once for the thread, with the four sides of their queues.
+/// The lines, once for the port and once for the thread, with the four sides of their queues and the hands for
+/// pages.
 #[derive(Drop)]
 pub(crate) struct Ends<B: Item> {
     pub(crate) port: Arc<Lines<B>, Global>,
@@ -132,9 +173,11 @@ pub(crate) struct Ends<B: Item> {
     pub(crate) taker: OrderedPass<RingItem>,
     pub(crate) back_sender: OrderedPass<B>,
     pub(crate) back_taker: OrderedPass<B>,
+    pub(crate) ready: Ready,
+    pub(crate) spent: Spent,
 }
 
-/// Empty queues: one for items, and one for so many words that go back.
+/// Empty queues: one for items, and one for so many words that go back. All pages are free.
 pub(crate) fn make_lines<B: Item + Drop>(
     alloc: Global,
     back_room: usize,
@@ -154,6 +197,7 @@ pub(crate) fn make_lines<B: Item + Drop>(
         Lines {
             items,
             back,
+            pages: Pages::new(alloc)?,
             thread: Bell::new(),
             port: Bell::new(),
             waits: LoopWaits::new(),
@@ -161,6 +205,8 @@ pub(crate) fn make_lines<B: Item + Drop>(
         },
     )?;
     let thread = Arc::try_clone(&port)?;
+    let ready = Ready::new(alloc)?;
+    let spent = Spent::new(alloc)?;
     Ok(Ends {
         port,
         thread,
@@ -168,6 +214,8 @@ pub(crate) fn make_lines<B: Item + Drop>(
         taker,
         back_sender,
         back_taker,
+        ready,
+        spent,
     })
 }
 

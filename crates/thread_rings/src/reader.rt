@@ -1,5 +1,5 @@
 // The port of a source that a thread reads.
-ghost use Rattle.std.specs.Prelude.{◌≡◌, true, IfOk};
+ghost use Rattle.std.specs.Prelude.{◌≡◌, ◌≤◌, true, IfOk};
 ghost use Rattle.port_trait.specs.Counting.{Rose};
 ghost use Rattle.thread_rings.specs.Readers.{fresh_reader};
 
@@ -18,18 +18,18 @@ use std::alloc::Global;
 use std::marker::Model;
 use std::snapshot::Snapshot;
 use std::sync::{Arc, Wait};
+use std::thread::Threads;
 
 /// The words that the queue that goes back has room for.
 const WORDS: usize = 2;
 
 /// A ring whose thread reads a source that may block. Its other half fails.
 #[derive(Drop)]
-pub struct RingReader<S, P>
+pub struct RingReader<S, R>
 where
     S: Source + Drop,
-    P: Spawner,
 {
-    pub(crate) spawner: P,
+    pub(crate) rt: R,
     pub(crate) lines: Arc<Lines<Word>, Global>,
     pub(crate) start: Snapshot<S>,
     pub(crate) items: OrderedPass<RingItem>,
@@ -44,10 +44,9 @@ where
     pub(crate) pace: Pace,
 }
 
-impl<S, P> Model for RingReader<S, P>
+impl<S, R> Model for RingReader<S, R>
 where
     S: Source + Drop,
-    P: Spawner,
 {
     ghost use Rattle.crossbeam_queue.specs.Passes.{view as known, IsPassOf};
     ghost use Rattle.thread_rings.specs.Readers.{ReaderState};
@@ -56,33 +55,33 @@ where
 
     ghost use Rattle.thread_rings.specs.Readers.{IsReading, is_begun, is_refused, behind_of};
 
-    ghost view = { λ r. record { taken = (known r.items).taken; held = r.held; marked = r.marked; ended = r.ended; begun = is_begun r.stage; refused = is_refused r.stage; counts = r.counts; since = r.since; strayed = r.strayed; spawner_faults = P.faults r.spawner; behind = behind_of S.left S.faults S.ends r.start.value r.stage } };
+    ghost view = { λ r. record { taken = (known r.items).taken; held = r.held; marked = r.marked; ended = r.ended; begun = is_begun r.stage; refused = is_refused r.stage; counts = r.counts; since = r.since; strayed = r.strayed; behind = behind_of S.left S.faults S.ends r.start.value r.stage } };
 
     ghost invariant = { λ r. IsPassOf r.lines.value.items r.items × IsPassOf r.lines.value.back r.words × IsReading S.left S.faults S.ends r.lines.value r.start.value (known r.items) (known r.words) r.held r.marked r.ended r.strayed r.since r.counts r.stage };
 }
 
-impl<S, P> RingReader<S, P>
+impl<S, R> RingReader<S, R>
 where
     S: Source + Send + Drop + 'static,
-    P: Spawner + Drop,
-    P::Runtime: Wait + Copy + Send + 'static,
+    R: Threads + Wait + Copy + Send + 'static,
 {
     /// A ring that is to read this source. Its queues have room for 64 items of at most 512 bytes. The thread is
     /// made here and waits for `begin`; where it can't be made, the source is dropped, and `begin` fails.
-    pub fn new<W>(
+    pub fn new<P, W>(
         alloc: Global,
         source: S,
-        spawner: P,
+        spawner: &mut P,
         wake: W,
-    ) -> Result<RingReader<S, P>, NoMemory>
+    ) -> Result<RingReader<S, R>, NoMemory>
     where
+        P: Spawner<Runtime = R>,
         W: Wake + Send + Drop + 'static,
-        ensures fresh { IfOk result (λ ring. ring ≡ fresh_reader ring.refused ring.spawner_faults) }
-        ensures refused { IfOk result (λ ring. ring.refused ≡ true → Rose (P.faults spawner) ring.spawner_faults) }
+        ensures grows { P.faults spawner.old ≤ P.faults spawner.new }
+        ensures fresh { IfOk result (λ ring. ring ≡ fresh_reader ring.refused) }
+        ensures refused { IfOk result (λ ring. ring.refused ≡ true → Rose (P.faults spawner.old) (P.faults spawner.new)) }
     {
         let ends = make_lines::<Word>(alloc, WORDS)?;
         let block = Block::new(alloc)?;
-        let mut spawner = spawner;
         let rt = *spawner.threads();
         let start = Snapshot::of(&source);
         let feeder = Feeder {
@@ -93,16 +92,17 @@ where
             items: ends.sender,
             words: ends.back_taker,
             block,
+            ready: ends.ready,
             count: 0,
         };
-        let stage = Stage::of(launch(&mut spawner, feeder));
+        let stage = Stage::of(launch(spawner, feeder));
         Ok(RingReader {
-            spawner,
+            rt,
             lines: ends.port,
             start,
             items: ends.taker,
             words: ends.back_sender,
-            held: Held::new(),
+            held: Held::new(ends.spent),
             marked: false,
             ended: false,
             stage,

@@ -13,18 +13,16 @@ use crate::items::RingItem;
 use crate::reader::RingReader;
 use crate::reader_stage::Stage;
 use crate::reader_steps::{ask_again, find_empty, finish, has_some, next};
-use port_trait::{
-    Begun, Got, Hint, Joining, Port, PortReap, Settled, Shutting, Source, Spawner, Took,
-};
+use port_trait::{Begun, Got, Hint, Joining, Port, PortReap, Settled, Shutting, Source, Took};
 use relay_model::Shut;
 use std::mem;
 use std::sync::Wait;
+use std::thread::Threads;
 
-impl<S, P> Port for RingReader<S, P>
+impl<S, R> Port for RingReader<S, R>
 where
     S: Source + Drop,
-    P: Spawner + Drop,
-    P::Runtime: Wait + Copy,
+    R: Threads + Wait + Copy,
 {
     ghost gave = { λ ring. Some (given_of ring) };
 
@@ -95,7 +93,7 @@ where
             self.marked = false;
             return Got::Bytes(self.held.give(into));
         }
-        let rt = *self.spawner.threads();
+        let rt = self.rt;
         if !self.stage.is_running() {
             find_empty(&rt, &self.lines, &mut self.items);
             self.marked = false;
@@ -111,7 +109,7 @@ where
             }
             Some(RingItem::Chunk(chunk)) => {
                 self.marked = false;
-                self.held.put(&chunk);
+                self.held.put(&rt, &self.lines.pages, chunk);
                 Got::Bytes(self.held.give(into))
             }
             Some(RingItem::End(_)) => {
@@ -221,7 +219,7 @@ where
         let Stage::Running(task) = mem::replace(&mut self.stage, Stage::Refused) else {
             unreachable!()
         };
-        let rt = *self.spawner.threads();
+        let rt = self.rt;
         let source = finish(
             &rt,
             &self.lines,

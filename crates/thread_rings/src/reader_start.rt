@@ -25,14 +25,14 @@ impl<S: Source> Promise<Fed<S>> for FeedPromise<S> {
 }
 
 /// Starts the thread. Where it can't be started, what it was to work with is dropped.
-pub(crate) fn launch<S, P, W>(
+pub(crate) fn launch<S, P, W, R>(
     spawner: &mut P,
-    feeder: Feeder<S, W, P::Runtime>,
+    feeder: Feeder<S, W, R>,
 ) -> Option<Task<Fed<S>, FeedPromise<S>>>
 where
     S: Source + Send + Drop + 'static,
     P: Spawner,
-    P::Runtime: Wait + Copy + Send + 'static,
+    R: Wait + Copy + Send + 'static,
     W: Wake + Send + Drop + 'static,
     requires queues { IsPassOf feeder.lines.value.items feeder.items × IsPassOf feeder.lines.value.back feeder.words }
     requires works { Works (S.left feeder.source) (S.left feeder.source) (S.faults feeder.source) (S.faults feeder.source) (S.ends feeder.source) (S.ends feeder.source) feeder.count 0 (view feeder.items) (view feeder.words) }

@@ -5,10 +5,11 @@ ghost use Rattle.ordered_queue.specs.Order.{view_of};
 ghost use Rattle.thread_rings.specs.Items.{Follows, bytes_of, told};
 ghost use Rattle.thread_rings.specs.Feeding.{AddsChunks, Works, EndsMarked, HasFed, marks_sent, ahead_after};
 
-use crate::items::{Chunk, RingItem};
+use crate::items::RingItem;
 use crate::lines::{Lines, receive, send};
+use crate::pages::Ready;
 use crate::words::Word;
-use ordered_queue::{OrderedPass, is_full};
+use ordered_queue::OrderedPass;
 use port_trait::{Source, SourceGot, Wake};
 use relay_model::NoMemory;
 use std::alloc::Global;
@@ -42,6 +43,7 @@ pub(crate) struct Feeder<S, W, R> {
     pub(crate) items: OrderedPass<RingItem>,
     pub(crate) words: OrderedPass<Word>,
     pub(crate) block: Block,
+    pub(crate) ready: Ready,
     pub(crate) count: u64,
 }
 
@@ -53,7 +55,7 @@ pub(crate) struct Fed<S> {
     pub(crate) words: OrderedPass<Word>,
 }
 
-/// Sends the item. Before it may sleep, it wakes the loop.
+/// Sends the item, and wakes the loop where it waits for one.
 fn send_item<W: Wake, R: Wait>(
     rt: &R,
     lines: &Lines<Word>,
@@ -67,13 +69,7 @@ fn send_item<W: Wake, R: Wait>(
     ensures queue { IsSamePass pass.old pass.new }
     ensures sent { view pass.new ≡ view_of (view pass.old).sends (view pass.old).takes ((view pass.old).sent ++ item ∷ []) (view pass.old).taken }
 {
-    if is_full(&lines.items, pass) {
-        wake_loop(lines, wake);
-    }
     send(rt, &lines.items, &lines.thread, pass, item);
-}
-
-fn wake_loop<W: Wake>(lines: &Lines<Word>, wake: &W) {
     if lines.waits.fetch() {
         wake.wake();
     }
@@ -85,6 +81,7 @@ fn send_chunks<W: Wake, R: Wait>(
     lines: &Lines<Word>,
     wake: &W,
     pass: &mut OrderedPass<RingItem>,
+    ready: &mut Ready,
     bytes: &[u8],
 )
     requires queue { IsPassOf lines.now.items pass.old }
@@ -96,9 +93,10 @@ fn send_chunks<W: Wake, R: Wait>(
     let mut at = 0;
     while at < bytes.len() {
         let (_, rest) = bytes.split_at(at);
-        let (piece, _) = rest.split_at(rest.len().min(512));
-        send_item(rt, lines, wake, pass, RingItem::Chunk(Chunk::of(piece)));
-        at += piece.len();
+        let chunk = ready.chunk_of(rt, &lines.pages, rest);
+        let count = chunk.as_slice().len();
+        send_item(rt, lines, wake, pass, RingItem::Chunk(chunk));
+        at += count;
     }
 }
 
@@ -122,21 +120,25 @@ where
         match self.source.read(block.bytes.as_mut_slice()) {
             SourceGot::Bytes(count) => {
                 let bytes = &block.bytes.as_slice()[..count];
-                send_chunks(&self.rt, &self.lines, &self.wake, &mut self.items, bytes);
+                send_chunks(
+                    &self.rt,
+                    &self.lines,
+                    &self.wake,
+                    &mut self.items,
+                    &mut self.ready,
+                    bytes,
+                );
                 self.count = self.count.saturating_add(count as u64);
-                wake_loop(&self.lines, &self.wake);
                 false
             }
             SourceGot::End => {
                 let mark = RingItem::End(self.count);
                 send_item(&self.rt, &self.lines, &self.wake, &mut self.items, mark);
-                wake_loop(&self.lines, &self.wake);
                 true
             }
             SourceGot::Failed => {
                 let mark = RingItem::Fault(self.count);
                 send_item(&self.rt, &self.lines, &self.wake, &mut self.items, mark);
-                wake_loop(&self.lines, &self.wake);
                 true
             }
         }

@@ -8,7 +8,7 @@ ghost use Rattle.port_trait.specs.declared.answers.Got.TheVariants as reads;
 ghost use Rattle.port_trait.specs.declared.answers.Took.TheVariants as writes;
 ghost use Rattle.port_trait.specs.declared.answers.Shutting.TheVariants as shuts;
 ghost use Rattle.thread_rings.specs.Items.{bytes_of};
-ghost use Rattle.thread_rings.specs.WriterRing.{IsBehind, is_open, may_join, line_after_begin};
+ghost use Rattle.thread_rings.specs.WriterRing.{IsBehind, LineBegins, is_open, may_join};
 ghost use Rattle.thread_rings.specs.Writers.{IsMisused, WriterWrites, WriterPutsAll, fresh_writer, took_of, took_behind, faults_behind, line_after_shut};
 
 use crate::lines::make_lines;
@@ -22,32 +22,30 @@ use port_trait::{
 };
 use relay_model::{NoMemory, Shut};
 use std::alloc::Global;
-use std::marker::{Model, PhantomData};
+use std::marker::Model;
 use std::mem;
 use std::snapshot::Snapshot;
 use std::sync::Wait;
+use std::thread::Threads;
 
 /// How many fault marks may lie untaken. Those that find no room are dropped, since the others tell the same.
 const MARKS: usize = 64;
 
 /// A ring whose thread writes to a sink that may block. Its other half fails.
 #[derive(Drop)]
-pub struct RingWriter<K, P, W>
+pub struct RingWriter<K, R>
 where
     K: Sink + Drop,
-    P: Spawner,
 {
-    spawner: P,
+    rt: R,
     stage: Stage<K>,
     counts: Counts,
     misuses: u64,
-    wake: PhantomData<W>,
 }
 
-impl<K, P, W> Model for RingWriter<K, P, W>
+impl<K, R> Model for RingWriter<K, R>
 where
     K: Sink + Drop,
-    P: Spawner,
 {
     ghost use Rattle.thread_rings.specs.Writers.{WriterState};
 
@@ -56,23 +54,31 @@ where
     ghost use Rattle.thread_rings.specs.WriterRing.{Stands, line_of};
     ghost use Rattle.thread_rings.specs.Writers.{IsTallied};
 
-    ghost view = { λ w. record { line = line_of K.took K.faults w.stage; counts = w.counts; misuses = w.misuses; spawner_faults = P.faults w.spawner } };
+    ghost view = { λ w. record { line = line_of K.took K.faults w.stage; counts = w.counts; misuses = w.misuses } };
 
     ghost invariant = { λ w. Stands K.took K.faults w.stage × IsTallied (line_of K.took K.faults w.stage) w.counts w.misuses };
 }
 
-impl<K, P, W> RingWriter<K, P, W>
+impl<K, R> RingWriter<K, R>
 where
     K: Sink + Send + Drop + 'static,
-    P: Spawner + Drop,
-    P::Runtime: Wait + Copy + Send + 'static,
-    W: Wake + Send + Drop + 'static,
+    R: Threads + Wait + Copy + Send + 'static,
 {
     /// A ring that is to write to this sink. Its queue has room for 64 items of at most 512 bytes. The thread is
-    /// made here, as is all else that takes memory, and sleeps until something is put. Where the system has no
-    /// thread to give, the sink is dropped, and `begin` doesn't succeed.
-    pub fn new(alloc: Global, sink: K, spawner: P, wake: W) -> Result<RingWriter<K, P, W>, NoMemory>
-        ensures { IfOk result (λ ring. ring ≡ fresh_writer (P.faults spawner)) }
+    /// made here, as is all else that takes memory, and sleeps until something is put; where it can't be made, the
+    /// sink is dropped, and `begin` fails.
+    pub fn new<P, W>(
+        alloc: Global,
+        sink: K,
+        spawner: &mut P,
+        wake: W,
+    ) -> Result<RingWriter<K, R>, NoMemory>
+    where
+        P: Spawner<Runtime = R>,
+        W: Wake + Send + Drop + 'static,
+        ensures grows { P.faults spawner.old ≤ P.faults spawner.new }
+        ensures fresh { IfOk result (λ ring. ring ≡ fresh_writer ring.line.refused) }
+        ensures refused { IfOk result (λ ring. ring.line.refused ≡ true → Rose (P.faults spawner.old) (P.faults spawner.new)) }
     {
         let ends = make_lines::<SinkFault>(alloc, MARKS)?;
         let buffer = Vec::with_capacity(alloc, GATHERED)?;
@@ -80,6 +86,7 @@ where
             lines: ends.port,
             sender: ends.sender,
             taker: ends.back_taker,
+            ready: ends.ready,
             count: 0,
             ended: false,
         };
@@ -92,27 +99,26 @@ where
             wake,
             taker: ends.taker,
             sender: ends.back_sender,
+            spent: ends.spent,
             buffer,
         };
+        let task = start_thread(spawner, work);
         Ok(RingWriter {
-            spawner,
-            stage: Stage::Ready(putter, begun, start_thread(work)),
+            rt,
+            stage: Stage::of(putter, begun, task),
             counts: Counts::new(),
             misuses: 0,
-            wake: PhantomData,
         })
     }
 }
 
-impl<K, P, W> RingWriter<K, P, W>
+impl<K, R> RingWriter<K, R>
 where
     K: Sink + Drop,
-    P: Spawner,
 {
     /// Counts a call that the writer can't serve.
     fn misuse(&mut self)
         ensures misused { IsMisused self.old self.new }
-        ensures kept { self.new.spawner_faults ≡ self.old.spawner_faults }
         ensures counts { Tallied (Some Fault) self.old.counts self.new.counts }
     {
         self.counts.count_fault();
@@ -120,12 +126,10 @@ where
     }
 }
 
-impl<K, P, W> Port for RingWriter<K, P, W>
+impl<K, R> Port for RingWriter<K, R>
 where
-    K: Sink + Send + Drop + 'static,
-    P: Spawner + Drop,
-    P::Runtime: Wait + Copy + Send + 'static,
-    W: Wake + Send + Drop + 'static,
+    K: Sink + Drop,
+    R: Threads + Wait + Copy,
 {
     ghost took = { λ w. Some (took_of w) };
 
@@ -143,18 +147,15 @@ where
 
     ghost child = { λ _. false };
 
-    /// Where the spawner refuses, the thread is sent away with the sink, and the writer never begins.
+    /// Lets bytes be put. It fails exactly where no thread could be made.
     fn begin(&mut self) -> Begun
         ensures again { self.old.line.begun ≡ true → (result ≡ begins.Begun) × (self.new ≡ self.old) }
-        ensures refused_again { self.old.line.refused ≡ true → result ≡ begins.Failed }
-        ensures cause { result ≡ begins.Failed → self.old.line.refused ≡ false → Rose self.old.spawner_faults self.new.spawner_faults }
-        ensures line { self.new.line ≡ line_after_begin self.old.line result }
+        ensures line { LineBegins self.old.line self.new.line result }
         ensures begun { self.new.line.begun ≡ begun_after self.old.line.begun result }
         ensures kept { Some (took_of self.new) ≡ Some (took_of self.old) }
         ensures counts { Tallied (begin_event result) self.old.counts self.new.counts }
     {
-        let rt = *self.spawner.threads();
-        match self.stage.begin(&mut self.spawner, &rt) {
+        match self.stage.begin() {
             Begun::Begun => Begun::Begun,
             Begun::Memory => Begun::Memory,
             Begun::Failed => {
@@ -195,7 +196,7 @@ where
             self.misuse();
             return Took::Failed;
         }
-        let rt = *self.spawner.threads();
+        let rt = self.rt;
         match self.stage.put(&rt, bytes) {
             Took::Took(count) => Took::Took(count),
             Took::NotYet => {
@@ -233,7 +234,7 @@ where
             self.misuse();
             return Took::Failed;
         }
-        let rt = *self.spawner.threads();
+        let rt = self.rt;
         let (count, failed) = self.stage.put_all(&rt, bytes);
         if failed {
             self.counts.count_fault();
@@ -254,7 +255,7 @@ where
             Shut::Nothing | Shut::Null => Shutting::Done,
             Shut::Down | Shut::Close => {
                 if self.stage.is_open() {
-                    let rt = *self.spawner.threads();
+                    let rt = self.rt;
                     self.stage.end(&rt);
                 }
                 Shutting::Done
@@ -297,7 +298,7 @@ where
             return Joining::Running;
         }
         let stage = mem::replace(&mut self.stage, Stage::Refused);
-        self.stage = stage.join(self.spawner.threads());
+        self.stage = stage.join(&self.rt);
         Joining::Joined
     }
 }

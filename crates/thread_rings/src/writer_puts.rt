@@ -1,26 +1,28 @@
 // The port's side of a writer: it puts chunks and the end mark, and takes the marks of the sink's faults.
-ghost use Rattle.std.specs.Prelude.{◌≡◌, ◌≢◌, ◌<◌, ◌≤◌, ◌+◌, ◌++◌, ◌∷◌, [], true, false, length, take, if◌then◌else◌};
+ghost use Rattle.std.specs.Prelude.{◌≡◌, ◌≢◌, ◌<◌, ◌≤◌, ◌+◌, ◌++◌, ◌∷◌, [], true, false, length, take, MatchOption, if◌then◌else◌};
 ghost use Rattle.crossbeam_queue.specs.Passes.{view};
 ghost use Rattle.port_trait.specs.declared.answers.Took.TheVariants as writes;
 ghost use Rattle.thread_rings.specs.declared.items.RingItem.TheVariants as ring_items;
 ghost use Rattle.thread_rings.specs.Items.{bytes_of, told};
 ghost use Rattle.thread_rings.specs.Feeding.{AddsChunks};
-ghost use Rattle.thread_rings.specs.WriterPuts.{IsPutting, PutsChunk, FullWhereNoRoom, marks_after};
+ghost use Rattle.thread_rings.specs.WriterPuts.{IsPutting, PutsChunk, FullWhereNoRoom, WasFull, marks_after};
 
-use crate::items::{Chunk, RingItem};
+use crate::items::RingItem;
 use crate::lines::{Lines, send};
+use crate::pages::Ready;
 use crate::words::SinkFault;
 use ordered_queue::{OrderedPass, is_empty, is_full, put, take as take_mark};
 use port_trait::Took;
 use std::alloc::Global;
 use std::sync::{Arc, Wait};
 
-/// The sides of the two queues that the port has, how many bytes it put, and whether it put the end mark.
+/// The sides of the two queues that the port has, its pages, how many bytes it put, and whether it put the end mark.
 #[derive(Drop)]
 pub(crate) struct Putter {
     pub(crate) lines: Arc<Lines<SinkFault>, Global>,
     pub(crate) sender: OrderedPass<RingItem>,
     pub(crate) taker: OrderedPass<SinkFault>,
+    pub(crate) ready: Ready,
     pub(crate) count: u64,
     pub(crate) ended: bool,
 }
@@ -40,21 +42,43 @@ impl Putter {
         if let Some(_) = take_mark(rt, &self.lines.back, &mut self.taker) {
             return Took::Failed;
         }
-        if is_full(&self.lines.items, &mut self.sender) {
-            self.lines.waits.set();
-            return Took::NotYet;
+        if let Some(count) = self.put_chunk(rt, bytes) {
+            return Took::Took(count);
         }
-        let (front, _) = bytes.split_at(bytes.len().min(512));
-        let item = RingItem::Chunk(Chunk::of(front));
-        match put(rt, &self.lines.items, &mut self.sender, item) {
+        // Room that the thread made before it was set isn't told, so this looks again.
+        self.lines.waits.set();
+        match self.put_chunk(rt, bytes) {
+            Some(count) => Took::Took(count),
+            None => Took::NotYet,
+        }
+    }
+
+    /// Puts a chunk of the front of the bytes, and answers how many. None where the queue was full at a moment of
+    /// this call.
+    fn put_chunk<R: Wait>(&mut self, rt: &R, bytes: &[u8]) -> Option<usize>
+        requires putting { IsPutting self.old }
+        requires open { self.old.ended ≡ false }
+        requires some { 0 < length bytes.now }
+        ensures putting { IsPutting self.new }
+        ensures kept { (self.new.lines ≡ self.old.lines) × (self.new.ended ≡ self.old.ended) × (self.new.taker ≡ self.old.taker) }
+        ensures put { MatchOption result (((view self.new.sender).sent ≡ (view self.old.sender).sent) × WasFull (view self.old.sender).sent) (λ n. PutsChunk (view self.old.sender).sent (view self.new.sender).sent bytes.now (writes.Took n)) }
+    {
+        let chunk = self.ready.chunk_of(rt, &self.lines.pages, bytes);
+        let count = chunk.as_slice().len();
+        match put(
+            rt,
+            &self.lines.items,
+            &mut self.sender,
+            RingItem::Chunk(chunk),
+        ) {
             Ok(()) => {
-                self.count = self.count.saturating_add(front.len() as u64);
+                self.count = self.count.saturating_add(count as u64);
                 self.lines.thread.ring();
-                Took::Took(front.len())
+                Some(count)
             }
-            Err(_) => {
-                self.lines.waits.set();
-                Took::NotYet
+            Err(item) => {
+                self.ready.take_back(item);
+                None
             }
         }
     }

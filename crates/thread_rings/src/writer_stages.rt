@@ -1,5 +1,5 @@
-// What becomes of a writer: it is made, its thread is started or refused, works, and is joined.
-ghost use Rattle.std.specs.Prelude.{◌≡◌, ◌<◌, ◌≤◌, ◌+◌, ◌++◌, ◌∷◌, [], true, false, length, take, IfSome, IsSome, if◌then◌else◌};
+// What becomes of a writer: its thread is started or refused, works, and is joined.
+ghost use Rattle.std.specs.Prelude.{◌≡◌, ◌<◌, ◌≤◌, ◌+◌, ◌++◌, ◌∷◌, [], true, false, length, take, None, IfSome, IsSome, if◌then◌else◌};
 ghost use Rattle.crossbeam_queue.specs.Passes.{view};
 ghost use Rattle.port_trait.specs.Counting.{Rose};
 ghost use Rattle.port_trait.specs.declared.answers.Begun.TheVariants as begins;
@@ -8,7 +8,7 @@ ghost use Rattle.thread_rings.specs.Items.{bytes_of, told};
 ghost use Rattle.thread_rings.specs.Feeding.{AddsChunks};
 ghost use Rattle.thread_rings.specs.WriterThread.{IsToBegin, ThreadEnded};
 ghost use Rattle.thread_rings.specs.WriterPuts.{IsPutting};
-ghost use Rattle.thread_rings.specs.WriterRing.{Stands, TaskStands, IsBack, IsBehind, WritesChunk, line_of, line_after_begin, is_open, may_join};
+ghost use Rattle.thread_rings.specs.WriterRing.{Stands, TaskStands, IsBack, IsBehind, LineBegins, WritesChunk, fresh_line, line_of, is_open, may_join};
 
 use crate::items::RingItem;
 use crate::words::SinkFault;
@@ -17,10 +17,10 @@ use crate::writer_puts::Putter;
 use crate::writer_thread::{WriterDone, WriterPromise, WriterWork};
 use ordered_queue::{OrderedPass, settle};
 use port_trait::{Begun, Sink, Spawner, Task, Took, Wake};
+use std::mem;
 use std::snapshot::Snapshot;
 use std::sync::Wait;
 use std::thread::Threads;
-use std::{mem, thread};
 
 /// What is left after the thread's return: both sides of each queue in one hand, and the sink as it stood when
 /// the thread was started and as it came back.
@@ -32,17 +32,36 @@ pub(crate) struct WriterBack<K> {
     pub(crate) outlet: Outlet<K>,
 }
 
-/// A writer that hasn't begun, one that was refused, one at work, and one whose thread has come back. Before the
-/// begin there is no thread where the system had none to give.
+/// A writer that hasn't begun, one whose thread couldn't be started, one at work, and one whose thread has come
+/// back.
 #[derive(Drop)]
 pub(crate) enum Stage<K: Sink + Drop> {
-    Ready(Putter, Snapshot<K>, Option<Task<WriterDone<K>, WriterPromise<K>>>),
+    Ready(Putter, Snapshot<K>, Task<WriterDone<K>, WriterPromise<K>>),
     Refused,
     Working(Putter, Snapshot<K>, Task<WriterDone<K>, WriterPromise<K>>),
     Back(WriterBack<K>),
 }
 
 impl<K: Sink + Drop> Stage<K> {
+    /// The stage of a writer whose thread was to be started.
+    pub(crate) fn of(
+        putter: Putter,
+        begun: Snapshot<K>,
+        task: Option<Task<WriterDone<K>, WriterPromise<K>>>,
+    ) -> Stage<K>
+        requires putting { IsPutting putter }
+        requires none { ((view putter.sender).sent ≡ []) × ((view putter.taker).taken ≡ []) }
+        requires task { IfSome task (TaskStands K.took K.faults putter.lines.value begun.value) }
+        ensures stands { Stands K.took K.faults result }
+        ensures line { line_of K.took K.faults result ≡ fresh_line (line_of K.took K.faults result).refused }
+        ensures refused { (line_of K.took K.faults result).refused ≡ true → task ≡ None }
+    {
+        match task {
+            Some(task) => Stage::Ready(putter, begun, task),
+            None => Stage::Refused,
+        }
+    }
+
     /// Whether bytes may be put.
     pub(crate) fn is_open(&self) -> bool
         requires { Stands K.took K.faults self.now }
@@ -65,32 +84,17 @@ impl<K: Sink + Drop> Stage<K> {
         }
     }
 
-    /// Begins, unless the spawner refuses or did so before. A thread that is refused is sent away. Work that is to
-    /// be done in the call would wait for what is put after it, so it is no answer to a want of threads.
-    pub(crate) fn begin<P: Spawner, R: Wait>(&mut self, spawner: &mut P, rt: &R) -> Begun
+    /// Begins, unless no thread could be started.
+    pub(crate) fn begin(&mut self) -> Begun
         requires { Stands K.took K.faults self.old }
         ensures stands { Stands K.took K.faults self.new }
-        ensures again { (line_of K.took K.faults self.old).begun ≡ true → (result ≡ begins.Begun) × (line_of K.took K.faults self.new ≡ line_of K.took K.faults self.old) × (P.faults spawner.new ≡ P.faults spawner.old) }
-        ensures refused_again { (line_of K.took K.faults self.old).refused ≡ true → result ≡ begins.Failed }
-        ensures line { line_of K.took K.faults self.new ≡ line_after_begin (line_of K.took K.faults self.old) result }
-        ensures cause { result ≡ begins.Failed → (line_of K.took K.faults self.old).refused ≡ false → Rose (P.faults spawner.old) (P.faults spawner.new) }
+        ensures again { (line_of K.took K.faults self.old).begun ≡ true → (result ≡ begins.Begun) × (line_of K.took K.faults self.new ≡ line_of K.took K.faults self.old) }
+        ensures line { LineBegins (line_of K.took K.faults self.old) (line_of K.took K.faults self.new) result }
     {
         match mem::replace(self, Stage::Refused) {
             Stage::Ready(putter, begun, task) => {
-                if spawner.refuses() {
-                    let mut putter = putter;
-                    putter.end(rt);
-                    return Begun::Failed;
-                }
-                if let Some(task) = task {
-                    *self = Stage::Working(putter, begun, task);
-                    return Begun::Begun;
-                }
-                if spawner.works_here() {
-                    *self = Stage::Ready(putter, begun, None);
-                    return Begun::Memory;
-                }
-                Begun::Failed
+                *self = Stage::Working(putter, begun, task);
+                Begun::Begun
             }
             Stage::Refused => Begun::Failed,
             Stage::Working(putter, begun, task) => {
@@ -181,28 +185,32 @@ impl<K: Sink + Drop> Stage<K> {
     }
 }
 
-/// Starts the thread, which waits for the first item. None where the system has no thread to give.
-pub(crate) fn start_thread<K, W, R>(
+/// Starts the thread, which waits for the first item. Where it can't be started, what it was to work with is
+/// dropped.
+pub(crate) fn start_thread<K, P, W, R>(
+    spawner: &mut P,
     work: WriterWork<K, W, R>,
 ) -> Option<Task<WriterDone<K>, WriterPromise<K>>>
 where
     K: Sink + Send + Drop + 'static,
+    P: Spawner,
     W: Wake + Send + Drop + 'static,
-    R: Threads + Wait + Copy + Send + 'static,
+    R: Wait + Copy + Send + 'static,
     requires { IsToBegin K.took K.faults work }
-    ensures { IfSome result (TaskStands K.took K.faults work.lines.value work.outlet.sink) }
+    ensures grows { P.faults spawner.old ≤ P.faults spawner.new }
+    ensures started { IfSome result (TaskStands K.took K.faults work.lines.value work.outlet.sink) }
+    ensures refused { result ≡ None → Rose (P.faults spawner.old) (P.faults spawner.new) }
 {
     let promise = WriterPromise {
         lines: Snapshot::of(&*work.lines),
         begun: Snapshot::of(&work.outlet.sink),
     };
-    let rt = work.rt;
     let run = move || -> WriterDone<K>
         requires { IsToBegin K.took K.faults work }
         ensures { ThreadEnded K.took K.faults work.lines.value work.outlet.sink result }
     { work.run() };
-    match thread::spawn_with(&rt, promise, run) {
-        Ok(handle) => Some(Task::Running(handle)),
+    match spawner.start(promise, run) {
+        Ok(task) => Some(task),
         Err(_) => None,
     }
 }
@@ -220,6 +228,7 @@ fn joined<K: Sink + Drop>(putter: Putter, begun: Snapshot<K>, done: WriterDone<K
         lines,
         sender,
         taker,
+        ready: _,
         count: _,
         ended: _,
     } = putter;

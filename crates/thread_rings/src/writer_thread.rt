@@ -1,16 +1,19 @@
 // The thread of a writer: it takes what the port put, and gives it to the sink.
-ghost use Rattle.std.specs.Prelude.{◌≡◌, ℕ, List, [], true, false, ◌++◌, ◌+◌, ◌≤◌, length, vec_len, vec_capacity};
-ghost use Rattle.crossbeam_queue.specs.Passes.{view, IsPassOf};
-ghost use Rattle.thread_rings.specs.Items.{item_bytes, bytes_of, is_end_mark, last_is};
+ghost use Rattle.std.specs.Prelude.{◌≡◌, ℕ, List, [], true, false, ◌++◌, ◌∷◌, ◌+◌, ◌≤◌, length, vec_len, vec_capacity, MatchOption};
+ghost use Rattle.crossbeam_queue.specs.Passes.{view, IsPassOf, IsSamePass};
+ghost use Rattle.ordered_queue.specs.Order.{view_of};
+ghost use Rattle.thread_rings.specs.Items.{Follows, item_bytes, bytes_of, is_end_mark, last_is};
 ghost use Rattle.thread_rings.specs.WriterThread.{CanWork, KeepsTrue, IsToBegin, ThreadEnded};
 
-use crate::items::RingItem;
+use crate::items::{CHUNK, RingItem};
 use crate::lines::{Lines, receive};
+use crate::pages::{Pages, Spent};
 use crate::words::SinkFault;
 use crate::writer_outlet::Outlet;
 use ordered_queue::{OrderedPass, OrderedQueue, put, take};
 use port_trait::{Sink, Wake};
 use std::alloc::Global;
+use std::hint;
 use std::snapshot::Snapshot;
 use std::sync::{Arc, Wait};
 use std::thread::Promise;
@@ -27,6 +30,7 @@ pub(crate) struct WriterWork<K, W, R> {
     pub(crate) wake: W,
     pub(crate) taker: OrderedPass<RingItem>,
     pub(crate) sender: OrderedPass<SinkFault>,
+    pub(crate) spent: Spent,
     pub(crate) buffer: Vec<u8>,
 }
 
@@ -74,7 +78,13 @@ impl<K: Sink + Drop, W: Wake + Drop, R: Wait + Copy> WriterWork<K, W, R> {
         ensures ended { result ≡ true → last_is is_end_mark (view self.new.taker).taken ≡ true }
     {
         let rt = self.rt;
-        let ended = gather(&rt, &self.lines, &mut self.taker, &mut self.buffer);
+        let ended = gather(
+            &rt,
+            &self.lines,
+            &mut self.taker,
+            &mut self.spent,
+            &mut self.buffer,
+        );
         self.tell();
         if self.outlet.give(self.buffer.as_slice()) {
             return ended;
@@ -84,7 +94,7 @@ impl<K: Sink + Drop, W: Wake + Drop, R: Wait + Copy> WriterWork<K, W, R> {
             self.tell();
             return true;
         }
-        let dropped = drop_ready(&rt, &self.lines.items, &mut self.taker);
+        let dropped = drop_ready(&rt, &self.lines, &mut self.taker, &mut self.spent);
         complain(&rt, &self.lines.back, &mut self.sender);
         self.tell();
         dropped
@@ -115,6 +125,7 @@ impl<K: Sink + Drop, W: Wake + Drop, R: Wait + Copy> WriterWork<K, W, R> {
             wake: _,
             taker,
             sender,
+            spent: _,
             buffer: _,
         } = self;
         WriterDone {
@@ -133,12 +144,13 @@ impl<K: Sink + Drop, W: Wake + Drop, R: Wait + Copy> WriterWork<K, W, R> {
     }
 }
 
-/// Waits for an item, and gathers the bytes of all that lie ready then, up to 64. True where the last of them
-/// is the end mark.
+/// Waits for an item, and gathers the bytes of all that lie ready then or come soon, up to 64. True where the last
+/// of them is the end mark.
 fn gather<R: Wait>(
     rt: &R,
     lines: &Lines<SinkFault>,
     taker: &mut OrderedPass<RingItem>,
+    spent: &mut Spent,
     buffer: &mut Vec<u8>,
 ) -> bool
     requires pass { IsPassOf lines.now.items taker.old }
@@ -152,88 +164,116 @@ fn gather<R: Wait>(
 {
     buffer.clear();
     let first = receive(rt, &lines.items, &lines.thread, taker);
-    if add(buffer, first) {
+    if add(rt, &lines.pages, spent, buffer, first) {
         return true;
     }
-    gather_ready(rt, &lines.items, taker, buffer)
+    gather_ready(rt, lines, taker, spent, buffer)
 }
 
-/// Gathers the bytes of up to 63 items that lie ready, after those of one.
+/// Gathers the bytes of up to 63 items that lie ready or come soon, after those of one.
 fn gather_ready<R: Wait>(
     rt: &R,
-    items: &OrderedQueue<RingItem>,
+    lines: &Lines<SinkFault>,
     taker: &mut OrderedPass<RingItem>,
+    spent: &mut Spent,
     buffer: &mut Vec<u8>,
 ) -> bool
-    requires pass { IsPassOf items.now taker.old }
+    requires pass { IsPassOf lines.now.items taker.old }
     requires takes { (view taker.old).takes ≡ true }
     requires room { GATHERED ≤ vec_capacity buffer.old }
     requires one { vec_len buffer.old ≤ 512 }
-    ensures pass { IsPassOf items.now taker.new }
+    ensures pass { IsPassOf lines.now.items taker.new }
     ensures takes { (view taker.new).takes ≡ true }
     ensures room { GATHERED ≤ vec_capacity buffer.new }
     ensures taken { (before : List ℕ) → bytes_of (view taker.old).taken ≡ before ++ buffer.old.items → bytes_of (view taker.new).taken ≡ before ++ buffer.new.items }
     ensures ended { result ≡ true → last_is is_end_mark (view taker.new).taken ≡ true }
 {
     for i in 1..64usize {
-        let Some(item) = take(rt, items, taker) else {
+        let Some(item) = take_soon(rt, &lines.items, taker, buffer.len()) else {
             return false;
         };
-        if add(buffer, item) {
+        if add(rt, &lines.pages, spent, buffer, item) {
             return true;
         }
     }
     false
 }
 
-/// Appends the bytes of the item. True where it is the end mark.
-fn add(buffer: &mut Vec<u8>, item: RingItem) -> bool
+/// Takes an item that lies ready. After whole chunks more is to come, so it waits a short time for that. Then items
+/// are taken by many, and the two sides don't hinder each other at each.
+fn take_soon<R: Wait>(
+    rt: &R,
+    items: &OrderedQueue<RingItem>,
+    taker: &mut OrderedPass<RingItem>,
+    gathered: usize,
+) -> Option<RingItem>
+    requires pass { IsPassOf items.now taker.old }
+    requires takes { (view taker.old).takes ≡ true }
+    ensures queue { IsSamePass taker.old taker.new }
+    ensures taken { MatchOption result (view taker.new ≡ view taker.old) (λ item. (view taker.new ≡ view_of (view taker.old).sends (view taker.old).takes (view taker.old).sent ((view taker.old).taken ++ item ∷ [])) × Follows (view taker.old).taken item) }
+{
+    if let Some(item) = take(rt, items, taker) {
+        return Some(item);
+    }
+    if gathered % CHUNK != 0 {
+        return None;
+    }
+    pause();
+    take(rt, items, taker)
+}
+
+/// Waits some microseconds.
+fn pause() {
+    for _ in 0..400 {
+        hint::spin_loop();
+    }
+}
+
+/// Appends the bytes of the item, and hands back its page. True where it is the end mark.
+fn add<R: Wait>(
+    rt: &R,
+    pages: &Pages,
+    spent: &mut Spent,
+    buffer: &mut Vec<u8>,
+    item: RingItem,
+) -> bool
     requires { vec_len buffer.old + 512 ≤ vec_capacity buffer.old }
     ensures bytes { buffer.new.items ≡ buffer.old.items ++ item_bytes item }
     ensures length { vec_len buffer.new ≤ vec_len buffer.old + 512 }
     ensures room { vec_capacity buffer.old ≤ vec_capacity buffer.new }
     ensures ended { result ≡ is_end_mark item }
 {
-    match item {
-        RingItem::Chunk(chunk) => {
-            let Ok(()) = buffer.extend_from_slice(chunk.as_slice()) else {
-                unreachable!()
-            };
-            false
-        }
-        RingItem::End(_) => true,
-        RingItem::Fault(_) => false,
+    if let RingItem::Chunk(chunk) = &item {
+        let Ok(()) = buffer.extend_from_slice(chunk.as_slice()) else {
+            unreachable!()
+        };
     }
+    spent.take_item(rt, pages, item)
 }
 
 /// Drops what the queue holds, but no end mark. True where that came.
 fn drop_ready<R: Wait>(
     rt: &R,
-    items: &OrderedQueue<RingItem>,
+    lines: &Lines<SinkFault>,
     taker: &mut OrderedPass<RingItem>,
+    spent: &mut Spent,
 ) -> bool
-    requires pass { IsPassOf items.now taker.old }
+    requires pass { IsPassOf lines.now.items taker.old }
     requires takes { (view taker.old).takes ≡ true }
-    ensures pass { IsPassOf items.now taker.new }
+    ensures pass { IsPassOf lines.now.items taker.new }
     ensures takes { (view taker.new).takes ≡ true }
     ensures taken { (more : List ℕ) × (bytes_of (view taker.new).taken ≡ bytes_of (view taker.old).taken ++ more) }
     ensures ended { result ≡ true → last_is is_end_mark (view taker.new).taken ≡ true }
 {
     for _ in 0..64 {
-        let Some(item) = take(rt, items, taker) else {
+        let Some(item) = take(rt, &lines.items, taker) else {
             return false;
         };
-        if is_end(item) {
+        if spent.take_item(rt, &lines.pages, item) {
             return true;
         }
     }
     false
-}
-
-fn is_end(item: RingItem) -> bool
-    ensures { result ≡ is_end_mark item }
-{
-    matches!(item, RingItem::End(_))
 }
 
 /// Tells the port that the sink failed. Where as many such marks lie untaken as the queue holds, they tell it

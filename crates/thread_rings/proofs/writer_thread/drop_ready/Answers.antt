@@ -6,11 +6,11 @@ use Rattle.thread_rings.specs.Items.{is_end_mark}
 use Rattle.thread_rings.proofs.Taking.{drops_on, last_taken}
 use Rattle.thread_rings.proofs.writer_thread.drop_ready.Goals as goal
 
-pub returns-then-is_end-clause-taken : goal.returns-then-is_end-clause-taken
-returns-then-is_end-clause-taken g c = drops_on (view c.args.taker.now).taken (view c.loop.taker).taken c.in-Some.item (view c.take.new.pass).taken (ap (λ (v : View RingItem). v.taken) c.in-Some.ensures.taken.0) c.loop.invariant.taken
+pub returns-then-take_item-clause-taken : goal.returns-then-take_item-clause-taken
+returns-then-take_item-clause-taken g c = drops_on (view c.args.taker.now).taken (view c.loop.taker).taken c.in-Some.item (view c.take.new.pass).taken (ap (λ (v : View RingItem). v.taken) c.in-Some.ensures.taken.0) c.loop.invariant.taken
 
-pub returns-then-is_end-clause-ended : goal.returns-then-is_end-clause-ended
-returns-then-is_end-clause-ended g c = λ _. last_taken is_end_mark (view c.loop.taker).taken c.in-Some.item (view c.take.new.pass).taken (ap (λ (v : View RingItem). v.taken) c.in-Some.ensures.taken.0) c.if-is_end.ensures
+pub returns-then-take_item-clause-ended : goal.returns-then-take_item-clause-ended
+returns-then-take_item-clause-ended g c = λ _. last_taken is_end_mark (view c.loop.taker).taken c.in-Some.item (view c.take.new.pass).taken (ap (λ (v : View RingItem). v.taken) c.in-Some.ensures.taken.0) c.if-take_item.ensures
 
 pub loop-preserved : goal.loop-preserved
 loop-preserved g c = record {

@@ -5,7 +5,7 @@ use Rattle.thread_rings.proofs.writer_thread.gather_ready.Given as goal
 
 abbrev pub invariant-loop-i : goal.invariant-loop-i
 invariant-loop-i g l = record {
-  pass : IsPassOf l.items l.taker;
+  pass : IsPassOf l.lines.items l.taker;
   takes : (view l.taker).takes ≡ true;
   room : 32768 ≤ vec_capacity l.buffer;
   fits : vec_len l.buffer ≤ 512 * l.i;
