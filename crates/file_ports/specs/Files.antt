@@ -8,14 +8,14 @@ use Rattle.port_trait.specs.declared.answers.Got.{Got}
 use Rattle.port_trait.specs.declared.answers.Got.TheVariants as reads
 use Rattle.port_trait.specs.declared.answers.Took.{Took as WriteAnswer}
 use Rattle.port_trait.specs.declared.answers.Took.TheVariants as writes
-use Rattle.port_trait.specs.Counting.{Tallied, Rose}
-use Rattle.port_trait.specs.Meanings.{Behind, begin_event, read_event, write_event, is_end}
+use Rattle.port_trait.specs.Counting.{Tallied}
+use Rattle.port_trait.specs.Meanings.{Behind, read_event, write_event, is_end}
 use Rattle.port_trait.specs.Streams.{finishes}
 use Rattle.thread_rings.specs.Readers.{ReaderState, given_of, gave_behind, left_behind, ends_behind, faults_behind, BeginStep, ReadStep, KeptByRead, is_of_mark, CountsWithin, TellsSource}
 use Rattle.thread_rings.specs.Readers as readers
 use Rattle.thread_rings.specs.Writers.{WriterState, WriterWrites, WriterPutsAll, took_behind, line_after_shut}
 use Rattle.thread_rings.specs.Writers as writers
-use Rattle.thread_rings.specs.WriterRing.{IsBehind, is_open, may_join, line_after_begin}
+use Rattle.thread_rings.specs.WriterRing.{IsBehind, LineBegins, is_open, may_join}
 
 -- the ring that reads it, the ring that writes it, and how many calls found no half that serves them
 pub record FileState : Type 0 where
@@ -124,15 +124,10 @@ abbrev pub ReaderBegins : Option ReaderState → Option ReaderState → BeginAns
 ReaderBegins None now answer = (now ≡ None) × (answer ≡ begins.Begun)
 ReaderBegins (Some reader) now answer = (after : ReaderState) × (now ≡ Some after) × BeginStep reader after answer
 
--- why a writing ring doesn't begin: it never will, or its spawner just refused
-abbrev pub IsRefusal : WriterState → WriterState → BeginAnswer → Type 0
-IsRefusal old new begins.Begun = Unit {0}
-IsRefusal old new begins.Failed = old.line.refused ≡ false → Rose old.spawner_faults new.spawner_faults
-IsRefusal old new begins.Memory = Unit {0}
-
+-- a writing ring that begins, by its answer
 abbrev pub WriterBegins : Option WriterState → Option WriterState → BeginAnswer → Type 0
 WriterBegins None now answer = (now ≡ None) × (answer ≡ begins.Begun)
-WriterBegins (Some writer) now answer = (after : WriterState) × (now ≡ Some after) × (after.line ≡ line_after_begin writer.line answer) × IsRefusal writer after answer
+WriterBegins (Some writer) now answer = (after : WriterState) × (now ≡ Some after) × LineBegins writer.line after.line answer
 
 -- the writing ring begins where the reading one did
 abbrev pub ThenBegins : BeginAnswer → Option WriterState → Option WriterState → BeginAnswer → Type 0

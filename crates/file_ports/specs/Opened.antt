@@ -1,5 +1,5 @@
 -- What a file is when it was opened.
-use Rattle.std.specs.Prelude.{◌≡◌, ℕ, Bool, List, Option, None, Some, is_some, IsUtf8}
+use Rattle.std.specs.Prelude.{◌≡◌, ℕ, List, Option, None, Some, is_some, IsUtf8}
 use Rattle.relay_model.specs.declared.places.Part.{Part}
 use Rattle.relay_model.specs.declared.places.Part.TheVariants as parts
 use Rattle.relay_model.specs.declared.commands.Target.{Target}

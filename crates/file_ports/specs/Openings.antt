@@ -1,18 +1,20 @@
 -- The port that is made of what a file's ends are.
-use Rattle.std.specs.Prelude.{◌≡◌, ℕ, true, Option, None, Some}
-use Rattle.port_trait.specs.Counting.{Rose}
-use Rattle.thread_rings.specs.Readers.{ReaderState, fresh_reader}
+use Rattle.std.specs.Prelude.{◌≡◌, ℕ, ◌+◌, Bool, true, false, None, Some}
+use Rattle.thread_rings.specs.Feeding.{RoseTimes}
+use Rattle.thread_rings.specs.Readers.{fresh_reader}
 use Rattle.thread_rings.specs.Writers.{fresh_writer}
 use Rattle.file_ports.specs.declared.open.FileEnds.{FileEnds}
 use Rattle.file_ports.specs.declared.open.FileEnds.TheVariants as ends
 use Rattle.file_ports.specs.Files.{FileState}
 
--- a ring that hasn't begun; it never will where its spawner refused
-abbrev pub IsFreshReader : ℕ → ReaderState → Type 0
-IsFreshReader faults reader = (reader ≡ fresh_reader reader.refused reader.spawner_faults) × (reader.refused ≡ true → Rose faults reader.spawner_faults)
+-- how many threads were refused to a ring
+abbrev pub refusals : Bool → ℕ
+refusals true = 1
+refusals false = 0
 
--- a port with the rings that serve the ends, by the faults of their spawners before
+-- a port with the rings that serve the ends, none of which has begun. One whose thread couldn't be started never will,
+-- and for each of those the faults of the spawner rose
 abbrev pub IsFreshFile : {S K : Type 0} → FileEnds S K → ℕ → ℕ → FileState → Type 0
-IsFreshFile (ends.Reading source) reading writing file = (reader : ReaderState) × (file ≡ record { reader = Some reader; writer = None; missed = 0 }) × IsFreshReader reading reader
-IsFreshFile (ends.Writing sink) reading writing file = file ≡ record { reader = None; writer = Some (fresh_writer writing); missed = 0 }
-IsFreshFile (ends.Both source sink) reading writing file = (reader : ReaderState) × (file ≡ record { reader = Some reader; writer = Some (fresh_writer writing); missed = 0 }) × IsFreshReader reading reader
+IsFreshFile (ends.Reading source) before now file = (refused : Bool) × (file ≡ record { reader = Some (fresh_reader refused); writer = None; missed = 0 }) × RoseTimes before (refusals refused) now
+IsFreshFile (ends.Writing sink) before now file = (refused : Bool) × (file ≡ record { reader = None; writer = Some (fresh_writer refused); missed = 0 }) × RoseTimes before (refusals refused) now
+IsFreshFile (ends.Both source sink) before now file = (reading : Bool) × (writing : Bool) × (file ≡ record { reader = Some (fresh_reader reading); writer = Some (fresh_writer writing); missed = 0 }) × RoseTimes before (refusals reading + refusals writing) now

@@ -12,33 +12,32 @@ ghost use Rattle.thread_rings.specs.Readers.{given_of};
 ghost use Rattle.file_ports.specs.Files.{gave_of, took_of, behind_gave_of, behind_took_of, behind_faults_of, behind_ends_of, behind_left_of, counts_of, begun_of, ended_of, joins_of, FileBegins, FileReads, FileWrites, FilePutsAll, FileShuts, IsMissed, ReaderBegins, SameReader, SameWriter, KnowsSource, KnowsSink, reader_begun, reader_ended, reader_counts, reader_joins};
 
 use port_trait::{
-    Begun, Got, Hint, Joining, Port, PortReap, Settled, Shutting, Sink, Source, Spawner, Took, Wake,
+    Begun, Got, Hint, Joining, Port, PortReap, Settled, Shutting, Sink, Source, Took,
 };
 use relay_model::Shut;
 use std::marker::Model;
 use std::sync::Wait;
+use std::thread::Threads;
 use thread_rings::{RingReader, RingWriter};
 
 /// A file behind the ring that reads it and the ring that writes it. One that is used one way has one of them,
 /// and its other half fails. What is kept is let go with the port.
 #[derive(Drop)]
-pub struct FilePort<S, K, P, W, G>
+pub struct FilePort<S, K, R, G>
 where
     S: Source + Drop,
     K: Sink + Drop,
-    P: Spawner,
 {
-    reader: Option<RingReader<S, P>>,
-    writer: Option<RingWriter<K, P, W>>,
+    reader: Option<RingReader<S, R>>,
+    writer: Option<RingWriter<K, R>>,
     missed: u64,
     kept: G,
 }
 
-impl<S, K, P, W, G> Model for FilePort<S, K, P, W, G>
+impl<S, K, R, G> Model for FilePort<S, K, R, G>
 where
     S: Source + Drop,
     K: Sink + Drop,
-    P: Spawner,
 {
     ghost use Rattle.file_ports.specs.Files.{FileState};
 
@@ -47,14 +46,13 @@ where
     ghost view = { λ port. record { reader = port.reader; writer = port.writer; missed = port.missed } };
 }
 
-impl<S, K, P, W, G> FilePort<S, K, P, W, G>
+impl<S, K, R, G> FilePort<S, K, R, G>
 where
     S: Source + Drop,
     K: Sink + Drop,
-    P: Spawner,
 {
     /// A file that is read.
-    pub fn reading(reader: RingReader<S, P>, kept: G) -> FilePort<S, K, P, W, G>
+    pub fn reading(reader: RingReader<S, R>, kept: G) -> FilePort<S, K, R, G>
         ensures { result ≡ record { reader = Some reader; writer = None; missed = 0 } }
     {
         FilePort {
@@ -66,7 +64,7 @@ where
     }
 
     /// A file that is written.
-    pub fn writing(writer: RingWriter<K, P, W>, kept: G) -> FilePort<S, K, P, W, G>
+    pub fn writing(writer: RingWriter<K, R>, kept: G) -> FilePort<S, K, R, G>
         ensures { result ≡ record { reader = None; writer = Some writer; missed = 0 } }
     {
         FilePort {
@@ -78,11 +76,7 @@ where
     }
 
     /// A file that is read and written.
-    pub fn both(
-        reader: RingReader<S, P>,
-        writer: RingWriter<K, P, W>,
-        kept: G,
-    ) -> FilePort<S, K, P, W, G>
+    pub fn both(reader: RingReader<S, R>, writer: RingWriter<K, R>, kept: G) -> FilePort<S, K, R, G>
         ensures { result ≡ record { reader = Some reader; writer = Some writer; missed = 0 } }
     {
         FilePort {
@@ -94,13 +88,11 @@ where
     }
 }
 
-impl<S, K, P, W, G> Port for FilePort<S, K, P, W, G>
+impl<S, K, R, G> Port for FilePort<S, K, R, G>
 where
     S: Source + Drop,
-    K: Sink + Send + Drop + 'static,
-    P: Spawner + Drop,
-    P::Runtime: Wait + Copy + Send + 'static,
-    W: Wake + Send + Drop + 'static,
+    K: Sink + Drop,
+    R: Threads + Wait + Copy,
     G: Drop,
 {
     ghost gave = { gave_of };
@@ -283,11 +275,10 @@ where
 }
 
 /// Begins the reading ring, if there is one.
-fn begin_reader<S, P>(reader: &mut Option<RingReader<S, P>>) -> Begun
+fn begin_reader<S, R>(reader: &mut Option<RingReader<S, R>>) -> Begun
 where
     S: Source + Drop,
-    P: Spawner + Drop,
-    P::Runtime: Wait + Copy,
+    R: Threads + Wait + Copy,
     ensures again { reader_begun reader.old ≡ true → (result ≡ begins.Begun) × (reader.new ≡ reader.old) }
     ensures begins { ReaderBegins reader.old reader.new result }
     ensures begun { reader_begun reader.new ≡ begun_after (reader_begun reader.old) result }
@@ -301,11 +292,10 @@ where
 }
 
 /// Joins the reading ring, if there is one.
-fn join_reader<S, P>(reader: &mut Option<RingReader<S, P>>) -> Joining
+fn join_reader<S, R>(reader: &mut Option<RingReader<S, R>>) -> Joining
 where
     S: Source + Drop,
-    P: Spawner + Drop,
-    P::Runtime: Wait + Copy,
+    R: Threads + Wait + Copy,
     ensures joined { result ≡ join_answer (reader_joins reader.old) }
     ensures same { SameReader reader.old reader.new }
     ensures source { OnJoined result (IfSome reader.new KnowsSource) }

@@ -13,6 +13,6 @@ mod tests;
 pub use access::{Access, FileKind};
 pub use echo::EchoPort;
 pub use file::FilePort;
-pub use making::{Worker, file_port};
+pub use making::{Wakes, file_port};
 pub use open::{FileEnds, OpenedFile, Removal, open_file};
 pub use streams::{FileSink, FileSource};
