@@ -1,6 +1,4 @@
 -- What the enums of the code stand for among the definitions.
-use Rattle.relay_model.specs.Configs.{Medium}
-use Rattle.relay_model.specs.Configs as media
 use Rattle.relay_model.specs.History.{Stage}
 use Rattle.relay_model.specs.History as stages
 use Rattle.relay_model.specs.Arming.{Arming}
@@ -13,19 +11,10 @@ use Rattle.relay_model.specs.Outcome.{Outcome}
 use Rattle.relay_model.specs.Outcome as outcomes
 use Rattle.relay_audit.specs.declared.outcome.Outcome.{Outcome as WithOutcome}
 use Rattle.relay_audit.specs.declared.outcome.Outcome.TheVariants as end
-use Rattle.relay_audit.specs.declared.configs.Medium.{Medium as OnMedium}
-use Rattle.relay_audit.specs.declared.configs.Medium.TheVariants as on
 use Rattle.relay_audit.specs.declared.history.Stage.{Stage as AtStage}
 use Rattle.relay_audit.specs.declared.history.Stage.TheVariants as at
 use Rattle.relay_audit.specs.declared.arming.Arming.{Arming as ByArming}
 use Rattle.relay_audit.specs.declared.arming.Arming.TheVariants as by
-
-abbrev pub as_medium : OnMedium → Medium
-as_medium on.Standard = media.Standard
-as_medium on.Storage = media.Storage
-as_medium on.Program = media.Program
-as_medium on.Connection = media.Connection
-as_medium on.Datagrams = media.Datagrams
 
 abbrev pub as_stage : AtStage → Stage
 as_stage at.Untried = stages.Untried

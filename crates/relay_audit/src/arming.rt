@@ -4,8 +4,8 @@ ghost use Rattle.relay_model.specs.Arming.{pause_after_end, read_arming, is_arme
 ghost use Rattle.relay_audit.specs.Pasts.{acts};
 ghost use Rattle.relay_audit.specs.Answers.{as_arming};
 
-use crate::configs::accepting_door;
 use crate::history::{names, now};
+use command_places::accepting_door;
 use relay_model::{Act, Config, Half, Place};
 
 /// How an input stands: not armed, armed, or at an end that was met at a moment.

@@ -7,10 +7,10 @@ ghost use Rattle.relay_audit.specs.Pasts.{acts};
 ghost use Rattle.relay_audit.specs.Answers.{as_stage, as_call};
 
 use crate::cause::cause;
-use crate::configs::{has_fork, is_left, options_of, places, program_door};
 use crate::history::{Stage, accept_failed, held, memory_said, stage_of, stop_said};
 use crate::openings::{Call, first_call, listening_call};
 use crate::sessions::{admitted, live, live_count, next_place};
+use command_places::{has_fork, is_left, options_of, places, program_door};
 use relay_model::{Act, Config, Place, Why};
 
 /// What the opening of a session calls for, where it is known whether the session lives and why it has to end.

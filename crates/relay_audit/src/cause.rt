@@ -8,11 +8,11 @@ ghost use Rattle.relay_model.specs.Moments.{passed, broken, done};
 ghost use Rattle.relay_model.specs.Cause.{is_end, closed_why, accept_failed_for, listening_failed, opening_failed, fault_at, fault_stands, each_formed, some_formed, faulted, finished, cause, running};
 ghost use Rattle.relay_audit.specs.Pasts.{acts};
 
-use crate::configs::{formed, has_fork, is_of, own_doors, places, program_door};
 use crate::history::{accept_failed, memory_said, now, read_fault_at, stop_said, write_fault_at};
 use crate::moments::{broken, closing_moment, done, idle_moment, passed, reached};
 use crate::openings::{out_of_tries, ready};
 use crate::sessions::live;
+use command_places::{formed, has_fork, is_of, own_doors, places, program_door};
 use relay_model::{Act, Config, Place, Way, Why};
 
 /// Whether a closing with this reason ends a session: a refused peer and a door that served don't.

@@ -7,10 +7,10 @@ ghost use Rattle.relay_model.specs.Audit.{held_count, first_illegal, may_come};
 ghost use Rattle.relay_audit.specs.Pasts.{acts, reads_some, held_below};
 ghost use Rattle.relay_audit.specs.Judging.{Judges};
 
-use crate::configs::{has_fork, options_of, program_door, things};
 use crate::history::held;
 use crate::may::may_come;
 use crate::sessions::numbers;
+use command_places::{has_fork, options_of, program_door, things};
 use relay_laws::{admitted_is_bounded, one_test_is_right, tests_are_right};
 use relay_model::{Act, Config, Journal, NoMemory, Place};
 use std::alloc::Global;

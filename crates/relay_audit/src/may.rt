@@ -18,10 +18,6 @@ use crate::arming::{
 };
 use crate::calls::{called_at, door_call, door_cut, known_call};
 use crate::cause::{cause, closed_why, running};
-use crate::configs::{
-    has_fork, how, input, is_program, is_program_door, keeps_borders, medium_of, output,
-    program_door, way_from, way_to,
-};
 use crate::history::{
     accept_failed, got, got_length, held, memory_said, put, sent, stop_said, turns, was_closed,
     was_reaped,
@@ -34,6 +30,10 @@ use crate::rest::{
 };
 use crate::sessions::{holds, live, numbers};
 use crate::transfers::{backlog, due, due_pieces, is_spent, over, room};
+use command_places::{
+    has_fork, how, input, is_program, is_program_door, keeps_borders, medium_of, output,
+    program_door, way_from, way_to,
+};
 use dump_format::dump_text;
 use relay_model::{Act, Bytes, Config, Dump, NoMemory, Place, Shut, Way, Why};
 use std::alloc::Global;

@@ -4,8 +4,8 @@ ghost use Rattle.relay_model.specs.Moments.{moved, passed_at, passed, broken_at,
 ghost use Rattle.relay_audit.specs.Pasts.{acts};
 
 use crate::choices::or_else;
-use crate::configs::{formed, input, is_place_of, output};
 use crate::history::{now, read_fault_at, shut_at, write_fault_at};
+use command_places::{formed, input, is_place_of, output};
 use relay_model::{Act, Config, Way};
 
 /// The moment at which a place of the session was last opened or accepted, or bytes were last read or written

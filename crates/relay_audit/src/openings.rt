@@ -6,9 +6,9 @@ ghost use Rattle.relay_audit.specs.Pasts.{acts};
 ghost use Rattle.relay_audit.specs.Answers.{as_stage, as_call};
 
 use crate::arming::armed_to_accept;
-use crate::configs::{has_own_door, listens_at, options_of, places};
 use crate::history::{Stage, failure_count, held, next_due, now, served, stage_of, woken};
 use crate::sessions::permits;
+use command_places::{has_own_door, listens_at, options_of, places};
 use relay_model::{Act, Config, Place};
 
 /// What is called for; with `TryAt` nothing before that moment. An accepting is at a door, for a place.

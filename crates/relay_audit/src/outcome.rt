@@ -8,11 +8,10 @@ ghost use Rattle.relay_audit.specs.Pasts.{acts};
 ghost use Rattle.relay_audit.specs.Answers.{as_outcome};
 
 use crate::cause::{any_accept_failed, cause};
-use crate::configs::{has_fork, is_place_of, own_doors, places, program_door};
 use crate::history::{failure_count, held, memory_said, served, stop_said, turns};
 use crate::openings::out_of_tries;
-use crate::place_lists::PlaceList;
 use crate::sessions::{holds, live, numbers};
+use command_places::{PlaceList, has_fork, is_place_of, own_doors, places, program_door};
 use relay_model::{Act, Config, Half, Place, Side, Why};
 
 /// How a run ended. A listening or an opening failed after so many tries, a stop came after so many turns.

@@ -11,12 +11,12 @@ use crate::arming::{armed_to_read, armed_to_write, arming_moment, read_arming};
 use crate::calls::{door_call, known_call};
 use crate::cause::cause;
 use crate::choices::{earlier, later};
-use crate::configs::{formed, input, output};
 use crate::history::now;
 use crate::moments::{broken, closing_moment, idle_moment, passed};
 use crate::openings::{Call, ready};
 use crate::sessions::{live, numbers};
 use crate::transfers::{backlog, is_spent, over};
+use command_places::{formed, input, output};
 use relay_model::{Act, Config, Dump, NoMemory, Way, Why};
 use std::alloc::Global;
 

@@ -7,8 +7,8 @@ ghost use Rattle.relay_model.specs.History.{held};
 ghost use Rattle.relay_model.specs.Sessions.{permits, is_admission, admitted, holds, live, live_count, numbers, first_part, next_place};
 ghost use Rattle.relay_audit.specs.Pasts.{acts};
 
-use crate::configs::{has_fork, is_left, options_of, parts, place_at, things};
 use crate::history::held;
+use command_places::{has_fork, is_left, options_of, parts, place_at, things};
 use peer_filter::Filter;
 use relay_model::{Act, Config, Part, Peer, Place, Side};
 

@@ -8,8 +8,8 @@ ghost use Rattle.relay_model.specs.History.{got};
 ghost use Rattle.relay_model.specs.Transfers.{is_empty, due, due_part, due_pieces, over, backlog, room, is_spent};
 ghost use Rattle.relay_audit.specs.Pasts.{acts};
 
-use crate::configs::{input, keeps_borders, options_of, output};
 use crate::history::{got, got_length, met_empty, met_end, put_length};
+use command_places::{input, keeps_borders, options_of, output};
 use relay_model::{Act, Bytes, Config, Conv, NoMemory, Place, Way};
 use std::alloc::Global;
 

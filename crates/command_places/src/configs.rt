@@ -4,7 +4,7 @@ ghost use Rattle.std.specs.Prelude.{◌≡◌, ◌≤◌, ◌+◌, ◌++◌, ◌
 ghost use Rattle.std.specs.List.{list_any};
 ghost use Rattle.relay_model.specs.Places.{same_place, door_of};
 ghost use Rattle.relay_model.specs.Configs.{medium, is_datagrams, is_program, listens, source, sink, way_from, way_to, address, narrowed, offered, parts_of, parts, place_at, places, single_for, single, options_of, medium_of, listens_at, forks, has_fork, program_door, is_left, is_program_door, has_own_door, accepting_door, own_doors, is_place_of, things, is_of, has_half, part_with, formed, input, output, keeps_borders, writes_output, stands_on_output, output_is_shared, is_error_stream, writes_shared_stream, datagram_shut, connection_shut, plain_shut, shut_on, how};
-ghost use Rattle.relay_audit.specs.Answers.{as_medium};
+ghost use Rattle.command_places.specs.Media.{as_medium};
 
 use crate::place_lists::PlaceList;
 use relay_model::{
@@ -105,6 +105,7 @@ pub fn way_to(side: Side) -> Way
 
 // ---- places
 
+/// The address of a side, as it was given.
 pub fn address(config: &Config, side: Side) -> &Address
     ensures { result.now ≡ address config.now side }
 {
@@ -169,6 +170,7 @@ fn only(part: Part) -> &'static [Part]
     }
 }
 
+/// The parts that a side opens, in opening order; at most two.
 pub fn parts(config: &Config, side: Side) -> &'static [Part]
     ensures parts { result.now ≡ parts config.now side }
     ensures few { length result.now ≤ 2 }
@@ -176,6 +178,7 @@ pub fn parts(config: &Config, side: Side) -> &'static [Part]
     parts_of(config.ways, address(config, side), side)
 }
 
+/// The place of a session at a side.
 pub fn place_at(session: u32, side: Side, part: Part) -> Place
     ensures { result ≡ place_at session side part }
 {
@@ -227,18 +230,21 @@ fn single(config: &Config, place: Place) -> &Single
     single_for(address(config, place.side), place.part)
 }
 
+/// The options of the address that a place stands for; a door has those of its place.
 pub fn options_of(config: &Config, place: Place) -> &Options
     ensures { result.now ≡ options_of config.now place }
 {
     &single(config, place).options
 }
 
+/// What the place stands on.
 pub fn medium_of(config: &Config, place: Place) -> Medium
     ensures { as_medium result ≡ medium_of config.now place }
 {
     stands_on(&single(config, place).target)
 }
 
+/// Whether the place waits for a peer.
 pub fn listens_at(config: &Config, place: Place) -> bool
     ensures { result ≡ listens_at config.now place }
 {
@@ -275,6 +281,7 @@ pub fn program_door() -> Place
     }
 }
 
+/// Whether a place or door belongs to the left address.
 pub fn is_left(place: Place) -> bool
     ensures { result ≡ is_left place }
 {
@@ -284,6 +291,7 @@ pub fn is_left(place: Place) -> bool
     }
 }
 
+/// Whether it is the one door of a command with `fork`.
 pub fn is_program_door(config: &Config, place: Place) -> bool
     ensures { result ≡ is_program_door config.now place }
 {
@@ -329,12 +337,14 @@ pub fn own_doors(config: &Config, session: u32) -> PlaceList
     list
 }
 
+/// Whether the place is one of these.
 pub fn is_among(place: Place, places: &[Place]) -> bool
     ensures { result ≡ list_any (same_place place) places.now }
 {
     places.iter().any(|other| place.is(*other))
 }
 
+/// Whether the place is one of the session's.
 pub fn is_place_of(config: &Config, session: u32, place: Place) -> bool
     ensures { result ≡ is_place_of config.now session place }
 {
@@ -350,6 +360,7 @@ pub fn things(config: &Config, session: u32) -> PlaceList
     list
 }
 
+/// Whether the place or door is one of the session's.
 pub fn is_of(config: &Config, session: u32, place: Place) -> bool
     ensures { result ≡ is_of config.now session place }
 {
@@ -414,6 +425,7 @@ fn is_datagrams(medium: Medium) -> bool
     }
 }
 
+/// Whether it is a child, which is reaped after it was closed.
 pub fn is_program(medium: Medium) -> bool
     ensures { result ≡ is_program (as_medium medium) }
 {

@@ -14,6 +14,7 @@ const FREE: Place = Place {
     door: false,
 };
 
+/// Up to eight places or doors, in order. Contracts see them as a list.
 #[derive(Debug, Drop)]
 pub struct PlaceList {
     items: [Place; 8],
@@ -32,6 +33,7 @@ impl Model for PlaceList {
 }
 
 impl PlaceList {
+    /// No places.
     pub fn new() -> PlaceList
         ensures { result ≡ [] }
     {
@@ -41,6 +43,7 @@ impl PlaceList {
         }
     }
 
+    /// One more place, at the end.
     pub fn push(&mut self, place: Place)
         requires { length self.old < 8 }
         ensures { self.new ≡ self.old ++ place ∷ [] }
@@ -49,6 +52,7 @@ impl PlaceList {
         self.count += 1;
     }
 
+    /// The places, in order.
     pub fn as_slice(&self) -> &[Place]
         ensures { result.now ≡ self.now }
     {
