@@ -34,7 +34,7 @@ pub enum Outcome {
     ListenFailed { attempts: u64 },
     AcceptFailed,
     Faulted { place: Place, op: Op },
-    /// A signal or the last allowed turn cut the run short.
+    /// A turn that said stop, or the last allowed turn, cut the run short.
     Stopped { turns: u64 },
     Memory,
 }

@@ -38,7 +38,7 @@ pub enum OptionId {
     Proxyport,
 }
 
-/// The groups into which the manual page sorts its options. A kind of address takes the options of its groups.
+/// The groups of this relay's options. A kind of address takes the options of its groups.
 #[derive(Clone, Copy, Debug, PartialEq, Eq)]
 pub enum Group {
     Relay,
