@@ -200,28 +200,39 @@ peak_of() {
     done <"/proc/$1/status"
 }
 
-if [ -r /proc/self/status ]; then
-    problem=''
-    mkfifo "$scratch/feed"
+# feed BYTES: relays so many zeros. `peak` is the most memory that the program held, and `problem` what went wrong.
+feed() {
+    local pid status
     "$program" "${relay[@]}" <"$scratch/feed" >/dev/null &
     pid=$!
     after 60 "$pid"
     exec 3>"$scratch/feed"
-    head -c 209715200 /dev/zero >&3
+    head -c "$1" /dev/zero >&3
     peak="$(peak_of "$pid" 2>/dev/null)"
     exec 3>&-
     wait "$pid"
     status=$?
     kill "$watch" 2>/dev/null
     wait "$watch" 2>/dev/null
+    problem=''
     if [ "$status" -ne 0 ]; then
         problem="status $status"
     elif [ -z "$peak" ]; then
         problem="its memory couldn't be read"
-    elif [ "$peak" -ge 65536 ]; then
-        problem="$peak kB at the most"
     fi
-    report "memory stays below 64 MB over an input of 200 MB (${peak:-?} kB)" "$problem"
+}
+
+if [ -r /proc/self/status ]; then
+    mkfifo "$scratch/feed"
+    feed 1048576
+    short="$peak"
+    if [ -z "$problem" ]; then
+        feed 209715200
+    fi
+    if [ -z "$problem" ] && [ "$peak" -gt $((short + 1024)) ]; then
+        problem="it grew by $((peak - short)) kB"
+    fi
+    report "memory for 200 MB is at most 1 MB above that for 1 MB (${peak:-?} kB, ${short:-?} kB)" "$problem"
 else
     echo "skipped memory: there is no /proc"
 fi
