@@ -13,13 +13,14 @@ if [ ! -x "$program" ]; then
     exit 1
 fi
 
-# repeated TEXT LENGTH: the text over and over, up to the length.
+# repeated PREFIX TEXT LENGTH: the prefix, and then the text as often as it fits into the length.
 repeated() {
-    local all="$1"
-    while [ "${#all}" -lt "$2" ]; do
+    local text="$2" room=$(($3 - ${#1}))
+    local whole=$((room / ${#text} * ${#text})) all="$text"
+    while [ "${#all}" -lt "$whole" ]; do
         all+="$all"
     done
-    printf '%s' "${all:0:$2}"
+    printf '%s' "$1${all:0:$whole}"
 }
 
 # cost WORD: microseconds of processor time for one run with the word as the first address.
@@ -32,10 +33,11 @@ cost() {
 
 start="$(cost '')"
 printf '%-26s %9s %9s %9s %9s\n' "shape" 8192 16384 32768 65536
+# row NAME TEXT [PREFIX]
 row() {
     local name="$1" length cells=()
     for length in 8192 16384 32768 65536; do
-        cells+=("$(($(cost "$(repeated "$2" "$length")") - start))")
+        cells+=("$(($(cost "$(repeated "${3:-}" "$2" "$length")") - start))")
     done
     printf '%-26s %9s %9s %9s %9s\n' "$name" "${cells[@]}"
 }
@@ -48,5 +50,5 @@ row "commas" a,b,
 row "colons" a:b:
 row "duals" 'a!!'
 row "equals signs" a,b=
-row "options of standard input" 'STDIN,cr,cr=0,'
+row "options of standard input" ,cr STDIN
 echo "an empty word: $start"
