@@ -82,6 +82,8 @@ refused 'socat: E13 word 2 half 1: address kind left out' STDIO PTY
 refused 'socat: E12 word 1 half 1: unknown address kind' FOO STDIO
 refused 'socat: E14 word 2 half 1: parameters want 2 have 1' STDIO TCP:h
 refused 'socat: E01 word 1: unclosed at 0' '(a' STDIO
+refused 'socat: E02 word 1: lone backslash at 1' 'a\' STDIO
+refused 'socat: E06 word 1: too many !! at 4' 'a!!b!!c' STDIO
 refused 'socat: E21: addresses want 2 have 1' STDIO
 refused 'socat: E22: no direction' STDOUT STDERR
 
