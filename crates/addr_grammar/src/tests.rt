@@ -20,18 +20,25 @@ fn keywords_parameters_and_options(rt: HostRuntime) -> Result<(), Fail> {
     let alloc = rt.alloc();
     let file = single(alloc, b"./f:g,append").ok_or("a file name")?;
     assert_eq!(rt; file.keyword(), b"GOPEN".as_slice());
-    assert_eq!(rt; file.params().len(), 1);
-    for param in file.params() {
-        assert_eq!(rt; param.as_slice(), b"./f:g".as_slice());
-    }
-    for option in file.options() {
-        assert_eq!(rt; option.name.as_slice(), b"append".as_slice());
-        assert_eq!(rt; option.at, 6);
-    }
+    let [param] = file.params() else {
+        return Err("one parameter".into());
+    };
+    assert_eq!(rt; param.as_slice(), b"./f:g".as_slice());
+    let [append] = file.options() else {
+        return Err("one option of the file".into());
+    };
+    assert_eq!(rt; append.name.as_slice(), b"append".as_slice());
+    assert!(rt; append.value.is_none());
+    assert_eq!(rt; append.at, 6);
     let streams = single(alloc, b"-,cr").ok_or("the standard streams")?;
     assert_eq!(rt; streams.keyword(), b"STDIO".as_slice());
     assert_eq!(rt; streams.params().len(), 0);
-    assert_eq!(rt; streams.options().len(), 1);
+    let [cr] = streams.options() else {
+        return Err("one option of the standard streams".into());
+    };
+    assert_eq!(rt; cr.name.as_slice(), b"cr".as_slice());
+    assert!(rt; cr.value.is_none());
+    assert_eq!(rt; cr.at, 2);
     Ok(())
 }
 
