@@ -15,6 +15,9 @@ const BLOCK: usize = 8192;
 
 const LINE: usize = 40;
 
+/// Where the random letters begin, so that each run passes the same text.
+const SEED: u64 = 1;
+
 /// Fills in and takes one block, and answers a byte of it.
 fn pass(flow: &mut Flow, source: &[u8]) -> u8 {
     let room = flow.room().min(source.len());
@@ -99,15 +102,31 @@ fn lane(read: Conv, write: Conv, escape: Option<u8>) -> Lane
     }
 }
 
-/// One block of lines of 40 bytes, which end in a newline, or in a carriage return and a newline.
+/// The next number of Knuth's linear congruential generator, whose high bits are the random ones.
+fn next(state: u64) -> u64 {
+    state
+        .wrapping_mul(6364136223846793005)
+        .wrapping_add(1442695040888963407)
+}
+
+fn letter(state: u64) -> u8 {
+    let place = (state >> 32) % 26;
+    b'a' + place as u8
+}
+
+/// One block of lines of 40 bytes, of random letters. They end in a newline, or in a carriage return and a newline.
 fn lines(alloc: Global, returns: bool) -> io::Result<Vec<u8>> {
-    let mut text = vec![in alloc; b'x'; BLOCK]?;
+    let mut text = vec![in alloc; 0; BLOCK]?;
+    let mut state = SEED;
     for (i, byte) in text.iter_mut().enumerate() {
-        if i % LINE == LINE - 1 {
-            *byte = b'\n';
+        state = next(state);
+        *byte = if i % LINE == LINE - 1 {
+            b'\n'
         } else if returns && i % LINE == LINE - 2 {
-            *byte = b'\r';
-        }
+            b'\r'
+        } else {
+            letter(state)
+        };
     }
     Ok(text)
 }
