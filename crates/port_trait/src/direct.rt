@@ -1,6 +1,7 @@
 // Ports that call their source or sink in the call itself, which may block.
 ghost use Rattle.std.specs.Prelude.{◌≡◌, ◌≢◌, ◌<◌, ◌≤◌, ◌++◌, Bool, true, false, length, take, option_map};
 ghost use Rattle.port_trait.specs.Counting.{Tallied, Counted};
+ghost use Rattle.port_trait.specs.Direct.{fresh_reading, fresh_writing};
 ghost use Rattle.port_trait.specs.Meanings.{AcceptsAll, is_end, read_event, write_event, shut_event, is_write_fault, is_shut_fault, IsOfStream};
 ghost use Rattle.port_trait.specs.Streams.{SourceGives, SinkTakes, source_failed, source_ended, sink_failed, as_source_answer, as_sink_answer, finishes};
 ghost use Rattle.port_trait.specs.declared.answers.Took.TheVariants as writes;
@@ -13,6 +14,7 @@ use crate::counts::Counts;
 use crate::ports::Port;
 use crate::streams::{Sink, Source};
 use relay_model::Shut;
+use std::marker::Model;
 
 /// The port of a source. Its other half fails.
 #[derive(Drop)]
@@ -23,10 +25,18 @@ pub struct DirectReader<S> {
     ended: bool,
 }
 
+impl<S> Model for DirectReader<S> {
+    ghost use Rattle.port_trait.specs.Direct.{DirectReading};
+
+    ghost Value = { DirectReading S };
+
+    ghost view = { λ port. record { source = port.source; counts = port.counts; begun = port.begun; ended = port.ended } };
+}
+
 impl<S: Source> DirectReader<S> {
     /// Reads from this source.
     pub fn new(source: S) -> DirectReader<S>
-        ensures { result.source ≡ source }
+        ensures { result ≡ fresh_reading source }
     {
         DirectReader {
             source,
@@ -136,10 +146,18 @@ pub struct DirectWriter<K> {
     ended: bool,
 }
 
+impl<K> Model for DirectWriter<K> {
+    ghost use Rattle.port_trait.specs.Direct.{DirectWriting};
+
+    ghost Value = { DirectWriting K };
+
+    ghost view = { λ port. record { sink = port.sink; counts = port.counts; begun = port.begun; ended = port.ended } };
+}
+
 impl<K: Sink> DirectWriter<K> {
     /// Writes to this sink.
     pub fn new(sink: K) -> DirectWriter<K>
-        ensures { result.sink ≡ sink }
+        ensures { result ≡ fresh_writing sink }
     {
         DirectWriter {
             sink,
