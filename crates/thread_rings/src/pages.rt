@@ -1,11 +1,12 @@
 // The memory for the bytes of chunks, which goes round between a port and its thread.
-ghost use Rattle.std.specs.Prelude.{◌≡◌, ◌<◌, ◌≤◌, length, take};
+ghost use Rattle.std.specs.Prelude.{◌≡◌, ◌<◌, ◌≤◌, ◌++◌, ◌∷◌, [], length, take, nat_le, if◌then◌else◌};
 ghost use Rattle.thread_rings.specs.Items.{is_end_mark};
 
 use crate::items::{CHUNK, Chunk, FEW, Page, RingItem};
 use crossbeam_queue::ArrayQueue;
 use relay_model::NoMemory;
 use std::alloc::Global;
+use std::marker::Model;
 use std::mem;
 use std::sync::Wait;
 
@@ -23,8 +24,8 @@ const EMPTY: usize = 2;
 /// sides don't hinder each other at each page.
 #[derive(Drop)]
 pub(crate) struct Pages {
-    full: ArrayQueue<Vec<Page>>,
-    empty: ArrayQueue<Vec<Page>>,
+    full: ArrayQueue<Bundle>,
+    empty: ArrayQueue<Bundle>,
 }
 
 impl Pages {
@@ -36,32 +37,72 @@ impl Pages {
 }
 
 /// A queue of so many bundles with so many pages each.
-fn bundles(alloc: Global, count: usize, pages: usize) -> Result<ArrayQueue<Vec<Page>>, NoMemory> {
+fn bundles(alloc: Global, count: usize, pages: usize) -> Result<ArrayQueue<Bundle>, NoMemory> {
     let mut queue = ArrayQueue::new(alloc, FULL + EMPTY + 2)?;
     for _ in 0..count {
-        let _ = queue.push_mut(bundle(alloc, pages)?);
+        let _ = queue.push_mut(Bundle::new(alloc, pages)?);
     }
     Ok(queue)
 }
 
-fn bundle(alloc: Global, count: usize) -> Result<Vec<Page>, NoMemory> {
-    let mut pages = Vec::with_capacity(alloc, BUNDLE)?;
-    for _ in 0..count {
-        let _ = pages.push(Page::new(alloc)?);
+/// Up to 16 pages, for which the room is taken at the start.
+#[derive(Drop)]
+struct Bundle {
+    pages: Vec<Page>,
+}
+
+impl Model for Bundle {
+    ghost use Rattle.std.specs.Prelude.{List, ℕ, ◌≤◌, vec_capacity};
+
+    ghost Value = { List (List ℕ) };
+
+    ghost view = { λ bundle. bundle.pages.items };
+
+    ghost invariant = { λ bundle. 16 ≤ vec_capacity bundle.pages };
+}
+
+impl Bundle {
+    /// With so many pages.
+    fn new(alloc: Global, count: usize) -> Result<Bundle, NoMemory> {
+        let mut bundle = Bundle {
+            pages: Vec::with_capacity(alloc, BUNDLE)?,
+        };
+        for _ in 0..count {
+            bundle.keep(Page::new(alloc)?);
+        }
+        Ok(bundle)
     }
-    Ok(pages)
+
+    fn is_full(&self) -> bool
+        ensures { result ≡ nat_le 16 (length self.now) }
+    {
+        self.pages.len() >= BUNDLE
+    }
+
+    /// Keeps the page where there is room, which takes no memory.
+    fn keep(&mut self, page: Page)
+        ensures { self.new ≡ (if nat_le 16 (length self.old) then self.old else self.old ++ page ∷ []) }
+    {
+        if self.pages.len() < BUNDLE {
+            self.pages.push_reserved(page);
+        }
+    }
+
+    fn pop(&mut self) -> Option<Page> {
+        self.pages.pop()
+    }
 }
 
 /// The pages in the hand of the side that fills them.
 #[derive(Drop)]
 pub(crate) struct Ready {
-    pages: Vec<Page>,
+    pages: Bundle,
 }
 
 impl Ready {
     pub(crate) fn new(alloc: Global) -> Result<Ready, NoMemory> {
         Ok(Ready {
-            pages: bundle(alloc, 0)?,
+            pages: Bundle::new(alloc, 0)?,
         })
     }
 
@@ -98,7 +139,7 @@ impl Ready {
     pub(crate) fn take_back(&mut self, item: RingItem) {
         if let RingItem::Chunk(chunk) = item {
             if let Some(page) = chunk.into_page() {
-                keep(&mut self.pages, page);
+                self.pages.keep(page);
             }
         }
     }
@@ -107,23 +148,23 @@ impl Ready {
 /// The pages in the hand of the side that uses them up.
 #[derive(Drop)]
 pub(crate) struct Spent {
-    pages: Vec<Page>,
+    pages: Bundle,
 }
 
 impl Spent {
     pub(crate) fn new(alloc: Global) -> Result<Spent, NoMemory> {
         Ok(Spent {
-            pages: bundle(alloc, 0)?,
+            pages: Bundle::new(alloc, 0)?,
         })
     }
 
     /// Takes the page of a chunk that is used up.
     pub(crate) fn take_back<R: Wait>(&mut self, rt: &R, pages: &Pages, chunk: Chunk) {
         if let Some(page) = chunk.into_page() {
-            if self.pages.len() >= BUNDLE {
+            if self.pages.is_full() {
                 self.hand_over(rt, pages);
             }
-            keep(&mut self.pages, page);
+            self.pages.keep(page);
         }
     }
 
@@ -146,12 +187,5 @@ impl Spent {
             RingItem::End(_) => true,
             RingItem::Fault(_) => false,
         }
-    }
-}
-
-/// Keeps the page where there is room, which takes no memory.
-fn keep(pages: &mut Vec<Page>, page: Page) {
-    if pages.len() < BUNDLE {
-        let _ = pages.push(page);
     }
 }
