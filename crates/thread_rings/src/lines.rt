@@ -163,38 +163,16 @@ pub(crate) struct Lines<B: Item> {
     pub(crate) start: Start,
 }
 
-/// The lines, once for the port and once for the thread, with the four sides of their queues and the hands for
-/// pages.
-#[derive(Drop)]
-pub(crate) struct Ends<B: Item> {
-    pub(crate) port: Arc<Lines<B>, Global>,
-    pub(crate) thread: Arc<Lines<B>, Global>,
-    pub(crate) sender: OrderedPass<RingItem>,
-    pub(crate) taker: OrderedPass<RingItem>,
-    pub(crate) back_sender: OrderedPass<B>,
-    pub(crate) back_taker: OrderedPass<B>,
-    pub(crate) ready: Ready,
-    pub(crate) spent: Spent,
-}
-
-/// Empty queues: one for items, and one for so many words that go back. All pages are free.
-pub(crate) fn make_lines<B: Item + Drop>(
-    alloc: Global,
-    back_room: usize,
-) -> Result<Ends<B>, NoMemory>
-    requires { 0 < back_room }
-    ensures same { IfOk result (λ ends. ends.thread.value ≡ ends.port.value) }
-    ensures rooms { IfOk result (λ ends. (ruled_capacity ends.port.value.items ≡ 64) × (ruled_capacity ends.port.value.back ≡ back_room)) }
-    ensures items { IfOk result (λ ends. IsPassOf ends.port.value.items ends.sender × IsPassOf ends.port.value.items ends.taker) }
-    ensures back { IfOk result (λ ends. IsPassOf ends.port.value.back ends.back_sender × IsPassOf ends.port.value.back ends.back_taker) }
-    ensures item_views { IfOk result (λ ends. (view ends.sender ≡ view_of true false [] []) × (view ends.taker ≡ view_of false true [] [])) }
-    ensures back_views { IfOk result (λ ends. (view ends.back_sender ≡ view_of true false [] []) × (view ends.back_taker ≡ view_of false true [] [])) }
-{
-    let (items, sender, taker) = ordered::<RingItem>(alloc, ROOM)?;
-    let (back, back_sender, back_taker) = ordered::<B>(alloc, back_room)?;
-    let port = Arc::new(
-        alloc,
-        Lines {
+impl<B: Item + Drop> Lines<B> {
+    /// The lines of these queues. All pages are free.
+    fn new(
+        alloc: Global,
+        items: OrderedQueue<RingItem>,
+        back: OrderedQueue<B>,
+    ) -> Result<Lines<B>, NoMemory>
+        ensures { IfOk result (λ lines. (lines.items ≡ items) × (lines.back ≡ back)) }
+    {
+        Ok(Lines {
             items,
             back,
             pages: Pages::new(alloc)?,
@@ -202,20 +180,67 @@ pub(crate) fn make_lines<B: Item + Drop>(
             port: Bell::new(),
             waits: LoopWaits::new(),
             start: Start::new(),
-        },
-    )?;
+        })
+    }
+}
+
+/// The side that sends the items, takes the words that come back, and fills pages.
+#[derive(Drop)]
+pub(crate) struct SendingSide<B: Item> {
+    pub(crate) items: OrderedPass<RingItem>,
+    pub(crate) back: OrderedPass<B>,
+    pub(crate) ready: Ready,
+}
+
+/// The side that takes the items, sends the words back, and uses pages up.
+#[derive(Drop)]
+pub(crate) struct TakingSide<B: Item> {
+    pub(crate) items: OrderedPass<RingItem>,
+    pub(crate) back: OrderedPass<B>,
+    pub(crate) spent: Spent,
+}
+
+/// The lines, once for the port and once for the thread, and their two sides.
+#[derive(Drop)]
+pub(crate) struct Ends<B: Item> {
+    pub(crate) port: Arc<Lines<B>, Global>,
+    pub(crate) thread: Arc<Lines<B>, Global>,
+    pub(crate) sending: SendingSide<B>,
+    pub(crate) taking: TakingSide<B>,
+}
+
+/// Empty queues: one for items, and one for so many words that go back.
+pub(crate) fn make_lines<B: Item + Drop>(
+    alloc: Global,
+    back_room: usize,
+) -> Result<Ends<B>, NoMemory>
+    requires { 0 < back_room }
+    ensures same { IfOk result (λ ends. ends.thread.value ≡ ends.port.value) }
+    ensures rooms { IfOk result (λ ends. (ruled_capacity ends.port.value.items ≡ 64) × (ruled_capacity ends.port.value.back ≡ back_room)) }
+    ensures items { IfOk result (λ ends. IsPassOf ends.port.value.items ends.sending.items × IsPassOf ends.port.value.items ends.taking.items) }
+    ensures back { IfOk result (λ ends. IsPassOf ends.port.value.back ends.taking.back × IsPassOf ends.port.value.back ends.sending.back) }
+    ensures item_views { IfOk result (λ ends. (view ends.sending.items ≡ view_of true false [] []) × (view ends.taking.items ≡ view_of false true [] [])) }
+    ensures back_views { IfOk result (λ ends. (view ends.taking.back ≡ view_of true false [] []) × (view ends.sending.back ≡ view_of false true [] [])) }
+{
+    let (items, sender, taker) = ordered::<RingItem>(alloc, ROOM)?;
+    let (back, back_sender, back_taker) = ordered::<B>(alloc, back_room)?;
+    let port = Arc::new(alloc, Lines::new(alloc, items, back)?)?;
     let thread = Arc::try_clone(&port)?;
-    let ready = Ready::new(alloc)?;
-    let spent = Spent::new(alloc)?;
+    let sending = SendingSide {
+        items: sender,
+        back: back_taker,
+        ready: Ready::new(alloc)?,
+    };
+    let taking = TakingSide {
+        items: taker,
+        back: back_sender,
+        spent: Spent::new(alloc)?,
+    };
     Ok(Ends {
         port,
         thread,
-        sender,
-        taker,
-        back_sender,
-        back_taker,
-        ready,
-        spent,
+        sending,
+        taking,
     })
 }
 

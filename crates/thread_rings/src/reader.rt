@@ -84,25 +84,15 @@ where
         let block = Block::new(alloc)?;
         let rt = *spawner.threads();
         let start = Snapshot::of(&source);
-        let feeder = Feeder {
-            rt,
-            lines: ends.thread,
-            source,
-            wake,
-            items: ends.sender,
-            words: ends.back_taker,
-            block,
-            ready: ends.ready,
-            count: 0,
-        };
+        let feeder = Feeder::new(rt, ends.thread, source, wake, block, ends.sending);
         let stage = Stage::of(launch(spawner, feeder));
         Ok(RingReader {
             rt,
             lines: ends.port,
             start,
-            items: ends.taker,
-            words: ends.back_sender,
-            held: Held::new(ends.spent),
+            items: ends.taking.items,
+            words: ends.taking.back,
+            held: Held::new(ends.taking.spent),
             marked: false,
             ended: false,
             stage,

@@ -1,8 +1,9 @@
 // A reader as a port.
-ghost use Rattle.std.specs.Prelude.{◌≡◌, ◌<◌, [], true, false, length, Some, None};
+ghost use Rattle.std.specs.Prelude.{◌≡◌, ◌<◌, ◌+◌, ◌-◌, ◌^◌, min, [], true, false, length, Some, None};
 ghost use Rattle.port_trait.specs.Counting.{Tallied};
 ghost use Rattle.port_trait.specs.Meanings.{Gives, Accepts, AcceptsWhole, AcceptsAll, Behind, OnJoined, begun_after, is_end, begin_event, settle_event, read_event, write_event, shut_event, join_answer};
 ghost use Rattle.port_trait.specs.declared.answers.Begun.TheVariants as begins;
+ghost use Rattle.port_trait.specs.declared.answers.Got.TheVariants as reads;
 ghost use Rattle.port_trait.specs.declared.answers.Took.TheVariants as writes;
 ghost use Rattle.port_trait.specs.declared.answers.Settled.TheVariants as settles;
 ghost use Rattle.port_trait.specs.declared.answers.Shutting.TheVariants as shuts;
@@ -13,11 +14,20 @@ use crate::items::RingItem;
 use crate::reader::RingReader;
 use crate::reader_stage::Stage;
 use crate::reader_steps::{ask_again, find_empty, finish, has_some, next};
-use port_trait::{Begun, Got, Hint, Joining, Port, PortReap, Settled, Shutting, Source, Took};
+use port_trait::{Begun, Counts, Got, Hint, Joining, Port, PortReap, Settled, Shutting, Source, Took};
 use relay_model::Shut;
 use std::mem;
 use std::sync::Wait;
 use std::thread::Threads;
+
+/// Counts that a read came too early.
+fn nothing_yet(counts: &mut Counts) -> Got
+    ensures answer { result ≡ reads.NotYet }
+    ensures value { counts.new ≡ record counts.old { stalls = min (counts.old.stalls + 1) (2 ^ 64 - 1) } }
+{
+    counts.count_stall();
+    Got::NotYet
+}
 
 impl<S, R> Port for RingReader<S, R>
 where
@@ -89,26 +99,20 @@ where
         ensures counts { Tallied (read_event result) self.old.counts self.new.counts }
     {
         self.ended = false;
+        let marked = self.marked;
+        self.marked = false;
         if !self.held.is_empty() {
-            self.marked = false;
             return Got::Bytes(self.held.give(into));
         }
         let rt = self.rt;
         if !self.stage.is_running() {
             find_empty(&rt, &self.lines, &mut self.items);
-            self.marked = false;
-            self.counts.count_stall();
-            return Got::NotYet;
+            return nothing_yet(&mut self.counts);
         }
-        ask_again(&rt, &self.lines, &mut self.words, self.marked);
+        ask_again(&rt, &self.lines, &mut self.words, marked);
         match next(&rt, &self.lines, &mut self.pace, &mut self.items) {
-            None => {
-                self.marked = false;
-                self.counts.count_stall();
-                Got::NotYet
-            }
+            None => nothing_yet(&mut self.counts),
             Some(RingItem::Chunk(chunk)) => {
-                self.marked = false;
                 self.held.put(&rt, &self.lines.pages, chunk);
                 Got::Bytes(self.held.give(into))
             }

@@ -6,7 +6,7 @@ ghost use Rattle.thread_rings.specs.Items.{Follows, bytes_of, told};
 ghost use Rattle.thread_rings.specs.Feeding.{AddsChunks, Works, EndsMarked, HasFed, marks_sent, ahead_after};
 
 use crate::items::RingItem;
-use crate::lines::{Lines, receive, send};
+use crate::lines::{Lines, SendingSide, receive, send};
 use crate::pages::Ready;
 use crate::words::Word;
 use ordered_queue::OrderedPass;
@@ -106,6 +106,30 @@ where
     W: Wake + Drop,
     R: Wait + Copy,
 {
+    /// Nothing was sent yet.
+    pub(crate) fn new(
+        rt: R,
+        lines: Arc<Lines<Word>, Global>,
+        source: S,
+        wake: W,
+        block: Block,
+        side: SendingSide<Word>,
+    ) -> Feeder<S, W, R>
+        ensures { result ≡ record { rt = rt; lines = lines; source = source; wake = wake; items = side.items; words = side.back; block = block; ready = side.ready; count = 0 } }
+    {
+        Feeder {
+            rt,
+            lines,
+            source,
+            wake,
+            items: side.items,
+            words: side.back,
+            block,
+            ready: side.ready,
+            count: 0,
+        }
+    }
+
     /// Reads once, and sends what came. True where that was a mark. `start` is the source as it was when the
     /// thread began.
     fn turn(&mut self, start: &Snapshot<S>) -> bool

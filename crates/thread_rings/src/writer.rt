@@ -82,14 +82,7 @@ where
     {
         let ends = make_lines::<SinkFault>(alloc, MARKS)?;
         let buffer = Vec::with_capacity(alloc, GATHERED)?;
-        let putter = Putter {
-            lines: ends.port,
-            sender: ends.sender,
-            taker: ends.back_taker,
-            ready: ends.ready,
-            count: 0,
-            ended: false,
-        };
+        let putter = Putter::new(ends.port, ends.sending);
         let begun = Snapshot::of(&sink);
         let rt = *spawner.threads();
         let work = WriterWork {
@@ -97,9 +90,9 @@ where
             lines: ends.thread,
             outlet: Outlet::new(sink),
             wake,
-            taker: ends.taker,
-            sender: ends.back_sender,
-            spent: ends.spent,
+            taker: ends.taking.items,
+            sender: ends.taking.back,
+            spent: ends.taking.spent,
             buffer,
         };
         let task = start_thread(spawner, work);

@@ -8,7 +8,7 @@ ghost use Rattle.thread_rings.specs.Feeding.{AddsChunks};
 ghost use Rattle.thread_rings.specs.WriterPuts.{IsPutting, PutsChunk, FullWhereNoRoom, WasFull, marks_after};
 
 use crate::items::RingItem;
-use crate::lines::{Lines, send};
+use crate::lines::{Lines, SendingSide, send};
 use crate::pages::Ready;
 use crate::words::SinkFault;
 use ordered_queue::{OrderedPass, is_empty, is_full, put, take as take_mark};
@@ -28,6 +28,20 @@ pub(crate) struct Putter {
 }
 
 impl Putter {
+    /// Nothing was put yet.
+    pub(crate) fn new(lines: Arc<Lines<SinkFault>, Global>, side: SendingSide<SinkFault>) -> Putter
+        ensures { result ≡ record { lines = lines; sender = side.items; taker = side.back; ready = side.ready; count = 0; ended = false } }
+    {
+        Putter {
+            lines,
+            sender: side.items,
+            taker: side.back,
+            ready: side.ready,
+            count: 0,
+            ended: false,
+        }
+    }
+
     /// Puts a chunk of the front of the bytes. It fails where the sink did, and waits for nobody.
     pub(crate) fn put<R: Wait>(&mut self, rt: &R, bytes: &[u8]) -> Took
         requires putting { IsPutting self.old }
