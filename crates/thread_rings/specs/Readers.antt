@@ -1,5 +1,5 @@
 -- What contracts see of a reader.
-use Rattle.std.specs.Prelude.{◌≡◌, ℕ, ◌+◌, ◌-◌, ◌≤◌, Bool, true, false, ◌||◌, not, List, [], ◌∷◌, ◌++◌, length, take, drop, Option, None, Some, IfSome}
+use Rattle.std.specs.Prelude.{◌≡◌, ℕ, ◌+◌, ◌-◌, ◌^◌, ◌≤◌, min, Bool, true, false, ◌||◌, not, List, [], ◌∷◌, ◌++◌, length, take, drop, Option, None, Some, IfSome, if◌then◌else◌}
 use Rattle.port_trait.specs.declared.answers.Got.{Got}
 use Rattle.port_trait.specs.declared.answers.Got.TheVariants as reads
 use Rattle.port_trait.specs.declared.answers.Begun.{Begun as BeginAnswer}
@@ -182,12 +182,21 @@ pub record KeptByRead (old new : ReaderState) : Type 0 where
   pub refused : new.refused ≡ old.refused
   pub since : new.since ≡ old.since
   pub strayed : new.strayed ≡ old.strayed
+  pub empties : new.counts.empties ≡ old.counts.empties
   pub behind : new.behind ≡ old.behind
+
+-- a call that a reader can't serve is one fault that no mark tells of, and changes nothing else
+abbrev pub strayed_reader : ReaderState → ReaderState
+strayed_reader reader = record reader { strayed = true; counts = record reader.counts { faults = min (reader.counts.faults + 1) (2 ^ 64 - 1) } }
+
+-- a reader that begins counts from there on; one that has begun stays as it is
+abbrev pub begun_reader : ReaderState → ReaderState
+begun_reader reader = if reader.begun then reader else record reader { begun = true; since = reader.counts; strayed = false }
 
 -- a begin by its answer: it fails exactly where no thread could be started
 abbrev pub BeginStep : ReaderState → ReaderState → BeginAnswer → Type 0
-BeginStep old new begins.Begun = (old.refused ≡ false) × (new ≡ record old { begun = true; since = new.since; strayed = new.strayed })
-BeginStep old new begins.Failed = (old.refused ≡ true) × (new ≡ record old { strayed = true; counts = new.counts })
+BeginStep old new begins.Begun = (old.refused ≡ false) × (new ≡ begun_reader old)
+BeginStep old new begins.Failed = (old.refused ≡ true) × (new ≡ strayed_reader old)
 BeginStep old new begins.Memory = ⊥
 
 -- where nothing else was counted since the begin, the source failed and ended as often as the reader counted, or its

@@ -1,6 +1,8 @@
 -- What contracts see of a writer, and what the calls of its port do.
 use Rattle.std.specs.Prelude.{◌≡◌, ℕ, ◌+◌, ◌-◌, ◌^◌, ◌≤◌, min, Bool, true, false, ◌&&◌, List, [], ◌∷◌, ◌++◌, length, take, Option, None, Some, if◌then◌else◌}
 use Rattle.port_trait.specs.declared.counts.Counts.{Counts}
+use Rattle.port_trait.specs.declared.answers.Begun.{Begun as BeginAnswer}
+use Rattle.port_trait.specs.declared.answers.Begun.TheVariants as begins
 use Rattle.port_trait.specs.declared.answers.Took.{Took as WriteAnswer}
 use Rattle.port_trait.specs.declared.answers.Took.TheVariants as writes
 use Rattle.thread_rings.specs.declared.items.RingItem.TheVariants as items
@@ -38,15 +40,20 @@ pub record IsTallied (line : WriterLine) (counts : Counts) (misuses : ℕ) : Typ
   pub faults : counts.faults ≤ misuses + line.marks
   pub ends : counts.ends ≡ 0
 
--- a call that the writer can't serve changes no more than the counts
-pub record IsMisused (before now : WriterState) : Type 0 where
-  pub line : now.line ≡ before.line
-  pub misuses : now.misuses ≡ min (before.misuses + 1) (2 ^ 64 - 1)
+-- a call that the writer can't serve is one fault and one misuse, and changes nothing else
+abbrev pub misused_writer : WriterState → WriterState
+misused_writer writer = record writer { counts = record writer.counts { faults = min (writer.counts.faults + 1) (2 ^ 64 - 1) }; misuses = min (writer.misuses + 1) (2 ^ 64 - 1) }
+
+-- a begin by its answer: it fails exactly where no thread could be started, which is a misuse
+abbrev pub WriterBeginStep : WriterState → WriterState → BeginAnswer → Type 0
+WriterBeginStep before now begins.Begun = (before.line.refused ≡ false) × (now ≡ record before { line = record before.line { begun = true } })
+WriterBeginStep before now begins.Failed = (before.line.refused ≡ true) × (now ≡ misused_writer before)
+WriterBeginStep before now begins.Memory = ⊥
 
 -- a write puts one chunk, where the writer is open
 abbrev pub WriterWrites : Bool → WriterState → WriterState → List ℕ → WriteAnswer → Type 0
 WriterWrites true before now bytes answer = WritesChunk before.line now.line bytes answer × (now.misuses ≡ before.misuses)
-WriterWrites false before now bytes answer = IsMisused before now × (answer ≡ writes.Failed)
+WriterWrites false before now bytes answer = (now ≡ misused_writer before) × (answer ≡ writes.Failed)
 
 -- chunks with these bytes were put, and so many fault marks were taken
 abbrev pub PutsMore : WriterLine → WriterLine → List ℕ → ℕ → Type 0
@@ -60,7 +67,7 @@ PutsAll before now bytes writes.Failed = (n : ℕ) × (n ≤ length bytes) × Pu
 
 abbrev pub WriterPutsAll : Bool → WriterState → WriterState → List ℕ → WriteAnswer → Type 0
 WriterPutsAll true before now bytes answer = PutsAll before.line now.line bytes answer × (now.misuses ≡ before.misuses)
-WriterPutsAll false before now bytes answer = IsMisused before now × (answer ≡ writes.Failed)
+WriterPutsAll false before now bytes answer = (now ≡ misused_writer before) × (answer ≡ writes.Failed)
 
 -- the end mark tells how many bytes were put before it
 abbrev pub with_end_mark : WriterLine → WriterLine

@@ -8,7 +8,7 @@ ghost use Rattle.port_trait.specs.declared.answers.Took.TheVariants as writes;
 ghost use Rattle.port_trait.specs.declared.answers.Settled.TheVariants as settles;
 ghost use Rattle.port_trait.specs.declared.answers.Shutting.TheVariants as shuts;
 ghost use Rattle.port_trait.specs.declared.answers.PortReap.TheVariants as reaps;
-ghost use Rattle.thread_rings.specs.Readers.{given_of, joins_of, gave_behind, left_behind, faults_behind, ends_behind, BeginStep, ReadStep, KeptByRead, CountsWithin, TellsSource, is_of_mark};
+ghost use Rattle.thread_rings.specs.Readers.{given_of, joins_of, gave_behind, left_behind, faults_behind, ends_behind, BeginStep, strayed_reader, ReadStep, KeptByRead, CountsWithin, TellsSource, is_of_mark};
 
 use crate::items::RingItem;
 use crate::reader::RingReader;
@@ -61,6 +61,7 @@ where
         ensures begun { self.new.begun ≡ begun_after self.old.begun result }
         ensures kept { (Some (given_of self.new) ≡ Some (given_of self.old)) × (self.new.ended ≡ self.old.ended) }
         ensures counts { Tallied (begin_event result) self.old.counts self.new.counts }
+        ensures empties { self.new.counts.empties ≡ self.old.counts.empties }
     {
         if self.stage.is_begun() {
             return Begun::Begun;
@@ -132,7 +133,7 @@ where
 
     fn write(&mut self, bytes: &[u8]) -> Took
         ensures failed { result ≡ writes.Failed }
-        ensures same { self.new ≡ record self.old { strayed = true; counts = self.new.counts } }
+        ensures same { self.new ≡ strayed_reader self.old }
         ensures accepts { Accepts None None bytes.now result }
         ensures kept { (Some (given_of self.new) ≡ Some (given_of self.old)) × (self.new.begun ≡ self.old.begun) × (self.new.ended ≡ self.old.ended) }
         ensures counts { Tallied (write_event result) self.old.counts self.new.counts }
@@ -145,7 +146,7 @@ where
 
     fn send(&mut self, bytes: &[u8]) -> Took
         ensures failed { result ≡ writes.Failed }
-        ensures same { self.new ≡ record self.old { strayed = true; counts = self.new.counts } }
+        ensures same { self.new ≡ strayed_reader self.old }
         ensures accepts { AcceptsWhole None None bytes.now result }
         ensures kept { (Some (given_of self.new) ≡ Some (given_of self.old)) × (self.new.begun ≡ self.old.begun) × (self.new.ended ≡ self.old.ended) }
         ensures counts { Tallied (write_event result) self.old.counts self.new.counts }
@@ -158,7 +159,7 @@ where
 
     fn put_all(&mut self, bytes: &[u8]) -> Took
         ensures failed { result ≡ writes.Failed }
-        ensures same { self.new ≡ record self.old { strayed = true; counts = self.new.counts } }
+        ensures same { self.new ≡ strayed_reader self.old }
         ensures accepts { AcceptsAll None None bytes.now result }
         ensures kept { (Some (given_of self.new) ≡ Some (given_of self.old)) × (self.new.begun ≡ self.old.begun) × (self.new.ended ≡ self.old.ended) }
         ensures counts { Tallied (write_event result) self.old.counts self.new.counts }
@@ -189,7 +190,9 @@ where
         }
     }
 
-    fn may_hint(&self) -> bool {
+    fn may_hint(&self) -> bool
+        ensures { result ≡ true }
+    {
         true
     }
 

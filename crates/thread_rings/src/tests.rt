@@ -225,3 +225,35 @@ fn a_reader_without_a_thread_never_begins(rt: HostRuntime) -> Result<(), Fail> {
     assert_eq!(rt; ring.join(), Joining::Joined);
     Ok(())
 }
+
+#[test]
+fn a_reader_hints_what_waits(rt: HostRuntime) -> Result<(), Fail> {
+    let source = MemSource::new(Bytes::of(rt.alloc(), b"abc")?, true);
+    let mut ring = RingReader::new(rt.alloc(), source, &mut SureSpawner::new(rt), Nobody)?;
+    assert!(rt; ring.may_hint());
+    assert!(rt; !ring.hint().readable);
+    assert_eq!(rt; ring.begin(), Begun::Begun);
+    // the thread sends by itself, and nothing is taken meanwhile
+    wait_for_hint(&rt, &mut ring);
+    assert!(rt; !ring.hint().writable);
+    // the rest of a chunk waits too
+    assert_eq!(rt; ring.read(&mut [0]), Got::Bytes(1));
+    assert!(rt; ring.hint().readable);
+    let mut port: Box<dyn Port> = Box::new(rt.alloc(), ring)?;
+    let (rest, got) = read_on(&rt, rt.alloc(), &mut port)?;
+    assert_eq!(rt; got, Got::End);
+    assert_eq!(rt; rest.as_slice(), b"bc".as_slice());
+    assert_eq!(rt; port.join(), Joining::Joined);
+    Ok(())
+}
+
+// waits until the port says that it is readable
+fn wait_for_hint<R: Wait, P: Port>(rt: &R, port: &mut P) {
+    for _ in rt.forever() {
+        if port.hint().readable {
+            return;
+        }
+        thread::yield_now();
+    }
+    unreachable!()
+}

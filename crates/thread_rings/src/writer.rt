@@ -2,14 +2,16 @@
 ghost use Rattle.std.specs.Prelude.{◌≡◌, ◌≢◌, ◌<◌, ◌≤◌, ◌+◌, ◌-◌, ◌^◌, min, Bool, true, false, length, None, Some, IfOk, IfSome, IsSome};
 ghost use Rattle.port_trait.specs.Counting.{Rose, Tallied, Fault};
 ghost use Rattle.port_trait.specs.Streams.{finishes};
-ghost use Rattle.port_trait.specs.Meanings.{Gives, Accepts, AcceptsWhole, AcceptsAll, Behind, OnJoined, join_answer, begun_after, is_end, begin_event, read_event, write_event, shut_event};
+ghost use Rattle.port_trait.specs.Meanings.{Gives, Accepts, AcceptsWhole, AcceptsAll, Behind, OnJoined, join_answer, begun_after, is_end, begin_event, settle_event, read_event, write_event, shut_event};
 ghost use Rattle.port_trait.specs.declared.answers.Begun.TheVariants as begins;
 ghost use Rattle.port_trait.specs.declared.answers.Got.TheVariants as reads;
 ghost use Rattle.port_trait.specs.declared.answers.Took.TheVariants as writes;
+ghost use Rattle.port_trait.specs.declared.answers.Settled.TheVariants as settles;
 ghost use Rattle.port_trait.specs.declared.answers.Shutting.TheVariants as shuts;
+ghost use Rattle.port_trait.specs.declared.answers.PortReap.TheVariants as reaps;
 ghost use Rattle.thread_rings.specs.Items.{bytes_of};
-ghost use Rattle.thread_rings.specs.WriterRing.{IsBehind, LineBegins, is_open, may_join};
-ghost use Rattle.thread_rings.specs.Writers.{IsMisused, WriterWrites, WriterPutsAll, fresh_writer, took_of, took_behind, faults_behind, line_after_shut};
+ghost use Rattle.thread_rings.specs.WriterRing.{IsBehind, is_open, may_join};
+ghost use Rattle.thread_rings.specs.Writers.{misused_writer, WriterBeginStep, WriterWrites, WriterPutsAll, fresh_writer, took_of, took_behind, faults_behind, line_after_shut};
 
 use crate::lines::make_lines;
 use crate::words::SinkFault;
@@ -111,7 +113,7 @@ where
 {
     /// Counts a call that the writer can't serve.
     fn misuse(&mut self)
-        ensures misused { IsMisused self.old self.new }
+        ensures misused { self.new ≡ misused_writer self.old }
         ensures counts { Tallied (Some Fault) self.old.counts self.new.counts }
     {
         self.counts.count_fault();
@@ -143,30 +145,35 @@ where
     /// Lets bytes be put. It fails exactly where no thread could be made.
     fn begin(&mut self) -> Begun
         ensures again { self.old.line.begun ≡ true → (result ≡ begins.Begun) × (self.new ≡ self.old) }
-        ensures line { LineBegins self.old.line self.new.line result }
+        ensures step { WriterBeginStep self.old self.new result }
         ensures begun { self.new.line.begun ≡ begun_after self.old.line.begun result }
         ensures kept { Some (took_of self.new) ≡ Some (took_of self.old) }
         ensures counts { Tallied (begin_event result) self.old.counts self.new.counts }
+        ensures empties { self.new.counts.empties ≡ self.old.counts.empties }
     {
         match self.stage.begin() {
             Begun::Begun => Begun::Begun,
             Begun::Memory => Begun::Memory,
             Begun::Failed => {
-                self.counts.count_fault();
-                self.misuses = self.misuses.saturating_add(1);
+                self.misuse();
                 Begun::Failed
             }
         }
     }
 
-    fn settle(&mut self) -> Settled {
+    fn settle(&mut self) -> Settled
+        ensures ready { result ≡ settles.Ready }
+        ensures same { self.new ≡ self.old }
+        ensures kept { (Some (took_of self.new) ≡ Some (took_of self.old)) × (self.new.line.begun ≡ self.old.line.begun) }
+        ensures counts { Tallied (settle_event result) self.old.counts self.new.counts }
+    {
         Settled::Ready
     }
 
     fn read(&mut self, into: &mut [u8]) -> Got
         requires { 0 < length into.old }
         ensures failed { result ≡ reads.Failed }
-        ensures misused { IsMisused self.old self.new }
+        ensures misused { self.new ≡ misused_writer self.old }
         ensures gives { Gives None None into.new result }
         ensures ended { false ≡ is_end result }
         ensures kept { (Some (took_of self.new) ≡ Some (took_of self.old)) × (self.new.line.begun ≡ self.old.line.begun) }
@@ -184,6 +191,7 @@ where
         ensures accepts { Accepts (Some (took_of self.old)) (Some (took_of self.new)) bytes.now result }
         ensures kept { (self.new.line.begun ≡ self.old.line.begun) × (self.new.line.refused ≡ self.old.line.refused) }
         ensures counts { Tallied (write_event result) self.old.counts self.new.counts }
+        ensures empties { self.new.counts.empties ≡ self.old.counts.empties }
     {
         if !self.stage.is_open() {
             self.misuse();
@@ -206,10 +214,11 @@ where
     fn send(&mut self, bytes: &[u8]) -> Took
         requires { 0 < length bytes.now }
         ensures failed { result ≡ writes.Failed }
-        ensures misused { IsMisused self.old self.new }
+        ensures misused { self.new ≡ misused_writer self.old }
         ensures accepts { AcceptsWhole (Some (took_of self.old)) (Some (took_of self.new)) bytes.now result }
         ensures kept { (self.new.line.begun ≡ self.old.line.begun) × (self.new.line.refused ≡ self.old.line.refused) }
         ensures counts { Tallied (write_event result) self.old.counts self.new.counts }
+        ensures empties { self.new.counts.empties ≡ self.old.counts.empties }
     {
         let _ = bytes;
         self.misuse();
@@ -222,6 +231,7 @@ where
         ensures accepts { AcceptsAll (Some (took_of self.old)) (Some (took_of self.new)) bytes.now result }
         ensures kept { (self.new.line.begun ≡ self.old.line.begun) × (self.new.line.refused ≡ self.old.line.refused) }
         ensures counts { Tallied (write_event result) self.old.counts self.new.counts }
+        ensures empties { self.new.counts.empties ≡ self.old.counts.empties }
     {
         if !self.stage.is_open() {
             self.misuse();
@@ -268,11 +278,18 @@ where
         }
     }
 
-    fn may_hint(&self) -> bool {
+    fn may_hint(&self) -> bool
+        ensures { result ≡ true }
+    {
         true
     }
 
-    fn reap(&mut self) -> PortReap {
+    fn reap(&mut self) -> PortReap
+        ensures reaped { result ≡ reaps.NoChild }
+        ensures same { self.new ≡ self.old }
+        ensures kept { (Some (took_of self.new) ≡ Some (took_of self.old)) × (self.new.line.begun ≡ self.old.line.begun) }
+        ensures counts { Tallied None self.old.counts self.new.counts }
+    {
         PortReap::NoChild
     }
 
