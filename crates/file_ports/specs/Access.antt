@@ -17,10 +17,10 @@ writes_by parts.Both = true
 writes_by parts.Reading = false
 writes_by parts.Writing = true
 
--- a file that is opened as such by its flags, one that is opened for appending and made where it is written, and one
--- that is there
+-- a file that is opened by its flags, which are the options of std of these names; one that is opened for appending
+-- and made where it is written, and emptied before that where it is to be truncated; and one that is there
 abbrev pub access_of : FileKind → FileFlags → Part → Access
-access_of kinds.Create flags part = record { read = false; write = true; append = false; truncate = true; create = true; create_new = false }
-access_of kinds.Open flags part = record { read = reads_by part; write = writes_by part; append = writes_by part && flags.append; truncate = flags.trunc; create = flags.creat; create_new = flags.creat && flags.excl }
-access_of kinds.Generic flags part = record { read = reads_by part; write = writes_by part; append = writes_by part && not flags.trunc; truncate = flags.trunc; create = writes_by part; create_new = flags.creat && flags.excl }
-access_of kinds.Pipe flags part = record { read = reads_by part; write = writes_by part; append = false; truncate = false; create = false; create_new = false }
+access_of kinds.Create flags part = record { read = false; write = true; append = false; truncate = true; empty_first = false; create = true; create_new = false }
+access_of kinds.Open flags part = record { read = reads_by part; write = writes_by part; append = writes_by part && flags.append; truncate = flags.trunc; empty_first = false; create = flags.creat; create_new = flags.excl }
+access_of kinds.Generic flags part = record { read = reads_by part; write = writes_by part; append = writes_by part; truncate = flags.trunc && not (writes_by part); empty_first = (flags.trunc && writes_by part) && not flags.excl; create = writes_by part; create_new = flags.excl }
+access_of kinds.Pipe flags part = record { read = reads_by part; write = writes_by part; append = false; truncate = false; empty_first = false; create = false; create_new = false }

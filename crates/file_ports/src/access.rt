@@ -1,5 +1,5 @@
 // How a file is to be opened, by its address and its use.
-ghost use Rattle.std.specs.Prelude.{◌≡◌};
+ghost use Rattle.std.specs.Prelude.{◌≡◌, false};
 ghost use Rattle.std.specs.Fs.{asks_read, asks_write, asks_append, asks_truncate, asks_create, asks_create_new};
 ghost use Rattle.file_ports.specs.Access.{access_of, reads_by, writes_by};
 
@@ -15,20 +15,22 @@ pub enum FileKind {
     Pipe,
 }
 
-/// What is asked of the opening. The names are those of open(2): `create_new` fails where something is there.
+/// What is asked of the opening. The names are those of std's options: `create_new` makes the file, and fails where
+/// something is there or where nothing is to be written. `empty_first` is no option: std opens no file to truncate
+/// it and to append to it, so it is emptied by an opening of its own.
 #[derive(Clone, Copy, Debug, PartialEq)]
 pub struct Access {
     pub read: bool,
     pub write: bool,
     pub append: bool,
     pub truncate: bool,
+    pub empty_first: bool,
     pub create: bool,
     pub create_new: bool,
 }
 
 impl Access {
-    /// The access of an address of this kind with these flags, in this use. `excl` without `creat` asks nothing,
-    /// as with open(2).
+    /// The access of an address of this kind with these flags, in this use. `excl` alone makes the file.
     pub fn of(kind: FileKind, flags: FileFlags, part: Part) -> Access
         ensures { result ≡ access_of kind flags part }
     {
@@ -36,37 +38,41 @@ impl Access {
         let write = writes(part);
         match kind {
             FileKind::Create => Access {
-                read: false,
-                write: true,
-                append: false,
                 truncate: true,
                 create: true,
-                create_new: false,
+                ..Access::plain(false, true)
             },
             FileKind::Open => Access {
-                read,
-                write,
                 append: write && flags.append,
                 truncate: flags.trunc,
                 create: flags.creat,
-                create_new: flags.creat && flags.excl,
+                create_new: flags.excl,
+                ..Access::plain(read, write)
             },
             FileKind::Generic => Access {
-                read,
-                write,
-                append: write && !flags.trunc,
-                truncate: flags.trunc,
+                append: write,
+                truncate: flags.trunc && !write,
+                empty_first: flags.trunc && write && !flags.excl,
                 create: write,
-                create_new: flags.creat && flags.excl,
+                create_new: flags.excl,
+                ..Access::plain(read, write)
             },
-            FileKind::Pipe => Access {
-                read,
-                write,
-                append: false,
-                truncate: false,
-                create: false,
-                create_new: false,
-            },
+            FileKind::Pipe => Access::plain(read, write),
+        }
+    }
+
+    /// What is there, to be read or written.
+    pub(crate) fn plain(read: bool, write: bool) -> Access
+        ensures { result ≡ record { read = read; write = write; append = false; truncate = false; empty_first = false; create = false; create_new = false } }
+    {
+        Access {
+            read,
+            write,
+            append: false,
+            truncate: false,
+            empty_first: false,
+            create: false,
+            create_new: false,
         }
     }
 

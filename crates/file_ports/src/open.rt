@@ -9,6 +9,7 @@ use port_trait::Making;
 use relay_model::{Part, Single, Target, Text};
 use std::alloc::Global;
 use std::fs::OpenFile;
+use std::io::ErrorKind;
 use std::os::unix::fs::FileTypeExt;
 use std::rt::Files;
 use std::str;
@@ -129,8 +130,11 @@ where
     if pipe && !access.create_new && part != Part::Both {
         return wait_for_end(files, alloc, access, name, part);
     }
-    if kind == FileKind::Generic && !access.write {
+    if kind == FileKind::Generic && !access.write && !access.create_new {
         make_missing(&files, name);
+    }
+    if access.empty_first && !pipe && !is_emptied(&files, name) {
+        return Making::Failed;
     }
     match files.open_file(&access.options(), name) {
         Ok(file) => ends_of(file, part),
@@ -148,14 +152,23 @@ fn is_pipe<R: Files>(files: &R, name: &str) -> bool {
 /// Makes a regular file where nothing is there.
 fn make_missing<R: Files>(files: &R, name: &str) {
     let access = Access {
-        read: false,
-        write: true,
-        append: false,
-        truncate: false,
         create: true,
         create_new: true,
+        ..Access::plain(false, true)
     };
     let _ = files.open_file(&access.options(), name);
+}
+
+/// Empties the file. True also where nothing is there.
+fn is_emptied<R: Files>(files: &R, name: &str) -> bool {
+    let access = Access {
+        truncate: true,
+        ..Access::plain(false, true)
+    };
+    match files.open_file(&access.options(), name) {
+        Ok(_) => true,
+        Err(error) => error.kind() == ErrorKind::NotFound,
+    }
 }
 
 /// The end of a named pipe that is opened later. One that is used both ways fails.

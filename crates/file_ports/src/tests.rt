@@ -70,6 +70,33 @@ fn a_shut_pipe_ends(rt: HostRuntime) -> Result<(), Fail> {
     Ok(())
 }
 
+// the port of a file on disk
+type DiskPort = FilePort<FileSource<HostRuntime>, FileSink<HostRuntime>, HostRuntime, Option<Removal<HostRuntime>>>;
+
+fn opened(rt: HostRuntime, single: &Single, part: Part) -> Result<DiskPort, Fail> {
+    let Making::Made(OpenedFile { ends, removal }) = open_file(rt, rt.alloc(), single, part) else {
+        return Err("not opened")?;
+    };
+    Ok(file_port(
+        rt.alloc(),
+        ends,
+        &mut SureSpawner::new(rt),
+        no_wakes(),
+        removal,
+    )?)
+}
+
+// writes these bytes to the file that is opened so
+fn write_all(rt: HostRuntime, single: &Single, bytes: &[u8]) -> Result<(), Fail> {
+    let mut port = opened(rt, single, Part::Writing)?;
+    assert_eq!(rt; port.begin(), Begun::Begun);
+    assert_eq!(rt; port.put_all(bytes), Took::Took(bytes.len()));
+    assert_eq!(rt; port.join(), Joining::Running);
+    assert_eq!(rt; port.shut(Shut::Close), Shutting::Done);
+    assert_eq!(rt; port.join(), Joining::Joined);
+    Ok(())
+}
+
 #[test]
 fn a_file_is_written_and_read_back(rt: HostRuntime) -> Result<(), Fail> {
     let mut data = Vec::new(rt.alloc());
@@ -78,45 +105,11 @@ fn a_file_is_written_and_read_back(rt: HostRuntime) -> Result<(), Fail> {
     }
     let name = Text::of(rt.alloc(), b"written")?;
     let single = plain(rt.alloc(), Target::Create(name))?;
-    let Making::Made(OpenedFile { ends, removal }) = open_file(
-        rt,
-        rt.alloc(),
-        &single,
-        Part::Writing,
-    ) else {
-        return Err("not made")?;
-    };
-    let made = file_port(
-        rt.alloc(),
-        ends,
-        &mut SureSpawner::new(rt),
-        no_wakes(),
-        removal,
-    )?;
-    let mut port: Box<dyn Port> = Box::new(rt.alloc(), made)?;
-    assert_eq!(rt; port.begin(), Begun::Begun);
-    assert_eq!(rt; port.put_all(data.as_slice()), Took::Took(100_000));
-    assert_eq!(rt; port.join(), Joining::Running);
-    assert_eq!(rt; port.shut(Shut::Close), Shutting::Done);
-    assert_eq!(rt; port.join(), Joining::Joined);
+    write_all(rt, &single, data.as_slice())?;
     let name = Text::of(rt.alloc(), b"written")?;
     let mut single = plain(rt.alloc(), Target::FileAt(name))?;
     single.options.unlink_close = true;
-    let Making::Made(OpenedFile { ends, removal }) = open_file(
-        rt,
-        rt.alloc(),
-        &single,
-        Part::Reading,
-    ) else {
-        return Err("not opened")?;
-    };
-    let made = file_port(
-        rt.alloc(),
-        ends,
-        &mut SureSpawner::new(rt),
-        no_wakes(),
-        removal,
-    )?;
+    let made = opened(rt, &single, Part::Reading)?;
     let mut port: Box<dyn Port> = Box::new(rt.alloc(), made)?;
     assert_eq!(rt; port.begin(), Begun::Begun);
     let (all, got) = read_on(&rt, rt.alloc(), &mut port)?;
@@ -129,6 +122,34 @@ fn a_file_is_written_and_read_back(rt: HostRuntime) -> Result<(), Fail> {
 }
 
 #[test]
+fn excl_makes_what_is_not_there(rt: HostRuntime) -> Result<(), Fail> {
+    let name = Text::of(rt.alloc(), b"new")?;
+    let mut single = plain(rt.alloc(), Target::FileAt(name))?;
+    single.options.file.wronly = true;
+    single.options.file.excl = true;
+    write_all(rt, &single, b"ab")?;
+    let again = open_file(rt, rt.alloc(), &single, Part::Writing);
+    assert!(rt; matches!(&again, Making::Failed));
+    assert_eq!(rt; fs::read(&rt, "new")?.as_slice(), b"ab".as_slice());
+    fs::remove_file(&rt, "new")?;
+    Ok(())
+}
+
+#[test]
+fn a_generic_opening_appends(rt: HostRuntime) -> Result<(), Fail> {
+    let name = Text::of(rt.alloc(), b"grown")?;
+    let mut single = plain(rt.alloc(), Target::GenericOpen(name))?;
+    write_all(rt, &single, b"ab")?;
+    write_all(rt, &single, b"cd")?;
+    assert_eq!(rt; fs::read(&rt, "grown")?.as_slice(), b"abcd".as_slice());
+    single.options.file.trunc = true;
+    write_all(rt, &single, b"ef")?;
+    assert_eq!(rt; fs::read(&rt, "grown")?.as_slice(), b"ef".as_slice());
+    fs::remove_file(&rt, "grown")?;
+    Ok(())
+}
+
+#[test]
 fn a_named_pipe_is_opened_by_its_thread(rt: HostRuntime) -> Result<(), Fail> {
     let made = Command::new(rt.alloc(), "mkfifo")?
         .arg("fifo")?
@@ -136,21 +157,7 @@ fn a_named_pipe_is_opened_by_its_thread(rt: HostRuntime) -> Result<(), Fail> {
     assert!(rt; made.success());
     let name = Text::of(rt.alloc(), b"fifo")?;
     let single = plain(rt.alloc(), Target::NamedPipe(name))?;
-    let Making::Made(OpenedFile { ends, removal }) = open_file(
-        rt,
-        rt.alloc(),
-        &single,
-        Part::Reading,
-    ) else {
-        return Err("not opened")?;
-    };
-    let made = file_port(
-        rt.alloc(),
-        ends,
-        &mut SureSpawner::new(rt),
-        no_wakes(),
-        removal,
-    )?;
+    let made = opened(rt, &single, Part::Reading)?;
     let mut port: Box<dyn Port> = Box::new(rt.alloc(), made)?;
     assert_eq!(rt; port.begin(), Begun::Begun);
     fs::write(&rt, "fifo", "hello")?;
