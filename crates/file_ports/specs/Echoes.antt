@@ -67,3 +67,4 @@ pub record KeptByTransfer (before now : EchoState) : Type 0 where
   pub capacity : now.capacity ≡ before.capacity
   pub is_shut : now.is_shut ≡ before.is_shut
   pub begun : now.begun ≡ before.begun
+  pub empties : now.counts.empties ≡ before.counts.empties

@@ -13,9 +13,9 @@ use Rattle.port_trait.specs.Meanings.{Behind, read_event, write_event, is_end}
 use Rattle.port_trait.specs.Streams.{finishes}
 use Rattle.thread_rings.specs.Readers.{ReaderState, given_of, gave_behind, left_behind, ends_behind, faults_behind, BeginStep, ReadStep, KeptByRead, is_of_mark, CountsWithin, TellsSource}
 use Rattle.thread_rings.specs.Readers as readers
-use Rattle.thread_rings.specs.Writers.{WriterState, WriterWrites, WriterPutsAll, took_behind, line_after_shut}
+use Rattle.thread_rings.specs.Writers.{WriterState, WriterBeginStep, WriterWrites, WriterPutsAll, took_behind, line_after_shut}
 use Rattle.thread_rings.specs.Writers as writers
-use Rattle.thread_rings.specs.WriterRing.{IsBehind, LineBegins, is_open, may_join}
+use Rattle.thread_rings.specs.WriterRing.{IsBehind, is_open, may_join}
 
 -- the ring that reads it, the ring that writes it, and how many calls found no half that serves them
 pub record FileState : Type 0 where
@@ -127,7 +127,7 @@ ReaderBegins (Some reader) now answer = (after : ReaderState) × (now ≡ Some a
 -- a writing ring that begins, by its answer
 abbrev pub WriterBegins : Option WriterState → Option WriterState → BeginAnswer → Type 0
 WriterBegins None now answer = (now ≡ None) × (answer ≡ begins.Begun)
-WriterBegins (Some writer) now answer = (after : WriterState) × (now ≡ Some after) × LineBegins writer.line after.line answer
+WriterBegins (Some writer) now answer = (after : WriterState) × (now ≡ Some after) × WriterBeginStep writer after answer
 
 -- the writing ring begins where the reading one did
 abbrev pub ThenBegins : BeginAnswer → Option WriterState → Option WriterState → BeginAnswer → Type 0
@@ -174,6 +174,10 @@ SameReader (Some reader) now = (after : ReaderState) × (now ≡ Some after) × 
 abbrev pub SameWriter : Option WriterState → Option WriterState → Type 0
 SameWriter None now = now ≡ None
 SameWriter (Some writer) now = (after : WriterState) × (now ≡ Some after) × (after ≡ record writer { line = record writer.line { behind = after.line.behind } })
+
+-- no file ever counts an empty datagram
+abbrev pub SameEmpties : FileState → FileState → Type 0
+SameEmpties old new = (counts_of new).empties ≡ (counts_of old).empties
 
 -- what a joined reading ring knows of its source
 pub record KnowsSource (reader : ReaderState) : Type 0 where

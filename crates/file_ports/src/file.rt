@@ -9,7 +9,7 @@ ghost use Rattle.port_trait.specs.declared.answers.Shutting.TheVariants as shuts
 ghost use Rattle.port_trait.specs.declared.answers.PortReap.TheVariants as reaps;
 ghost use Rattle.port_trait.specs.declared.answers.Joining.TheVariants as joining;
 ghost use Rattle.thread_rings.specs.Readers.{given_of};
-ghost use Rattle.file_ports.specs.Files.{gave_of, took_of, behind_gave_of, behind_took_of, behind_faults_of, behind_ends_of, behind_left_of, counts_of, begun_of, ended_of, joins_of, FileBegins, FileReads, FileWrites, FilePutsAll, FileShuts, IsMissed, ReaderBegins, SameReader, SameWriter, KnowsSource, KnowsSink, reader_begun, reader_ended, reader_counts, reader_joins};
+ghost use Rattle.file_ports.specs.Files.{gave_of, took_of, behind_gave_of, behind_took_of, behind_faults_of, behind_ends_of, behind_left_of, counts_of, begun_of, ended_of, joins_of, FileBegins, FileReads, FileWrites, FilePutsAll, FileShuts, IsMissed, ReaderBegins, SameReader, SameWriter, KnowsSource, KnowsSink, SameEmpties, reader_begun, reader_ended, reader_counts, reader_joins, writer_joins};
 
 use port_trait::{
     Begun, Got, Hint, Joining, Port, PortReap, Settled, Shutting, Sink, Source, Took,
@@ -126,6 +126,7 @@ where
         ensures begun { begun_of self.new ≡ begun_after (begun_of self.old) result }
         ensures kept { (gave_of self.new ≡ gave_of self.old) × (took_of self.new ≡ took_of self.old) × (ended_of self.new ≡ ended_of self.old) }
         ensures counts { Tallied (begin_event result) (counts_of self.old) (counts_of self.new) }
+        ensures empties { SameEmpties self.old self.new }
     {
         match begin_reader(&mut self.reader) {
             Begun::Begun => match &mut self.writer {
@@ -154,6 +155,7 @@ where
         ensures ended { ended_of self.new ≡ is_end result }
         ensures kept { (took_of self.new ≡ took_of self.old) × (begun_of self.new ≡ begun_of self.old) }
         ensures counts { Tallied (read_event result) (counts_of self.old) (counts_of self.new) }
+        ensures empties { SameEmpties self.old self.new }
     {
         match &mut self.reader {
             Some(reader) => reader.read(into),
@@ -171,6 +173,7 @@ where
         ensures accepts { Accepts (took_of self.old) (took_of self.new) bytes.now result }
         ensures kept { (gave_of self.new ≡ gave_of self.old) × (begun_of self.new ≡ begun_of self.old) × (ended_of self.new ≡ ended_of self.old) }
         ensures counts { Tallied (write_event result) (counts_of self.old) (counts_of self.new) }
+        ensures empties { SameEmpties self.old self.new }
     {
         match &mut self.writer {
             Some(writer) => writer.write(bytes),
@@ -188,6 +191,7 @@ where
         ensures accepts { AcceptsWhole (took_of self.old) (took_of self.new) bytes.now result }
         ensures kept { (gave_of self.new ≡ gave_of self.old) × (begun_of self.new ≡ begun_of self.old) × (ended_of self.new ≡ ended_of self.old) }
         ensures counts { Tallied (write_event result) (counts_of self.old) (counts_of self.new) }
+        ensures empties { SameEmpties self.old self.new }
     {
         let _ = bytes;
         self.missed = self.missed.saturating_add(1);
@@ -200,6 +204,7 @@ where
         ensures accepts { AcceptsAll (took_of self.old) (took_of self.new) bytes.now result }
         ensures kept { (gave_of self.new ≡ gave_of self.old) × (begun_of self.new ≡ begun_of self.old) × (ended_of self.new ≡ ended_of self.old) }
         ensures counts { Tallied (write_event result) (counts_of self.old) (counts_of self.new) }
+        ensures empties { SameEmpties self.old self.new }
     {
         match &mut self.writer {
             Some(writer) => writer.put_all(bytes),
@@ -216,6 +221,7 @@ where
         ensures shuts { FileShuts self.old.writer self.old self.new how }
         ensures kept { (gave_of self.new ≡ gave_of self.old) × (took_of self.new ≡ took_of self.old) × (begun_of self.new ≡ begun_of self.old) × (ended_of self.new ≡ ended_of self.old) }
         ensures counts { Tallied (shut_event result) (counts_of self.old) (counts_of self.new) }
+        ensures empties { SameEmpties self.old self.new }
     {
         match &mut self.writer {
             Some(writer) => writer.shut(how),
@@ -242,7 +248,9 @@ where
         Hint { readable, writable }
     }
 
-    fn may_hint(&self) -> bool {
+    fn may_hint(&self) -> bool
+        ensures { result ≡ true }
+    {
         true
     }
 
@@ -255,14 +263,14 @@ where
         PortReap::NoChild
     }
 
-    /// Joins both rings, as far as they have come to their ends.
+    /// Joins both rings, as far as they have come to their ends: each that has, also where the other still runs.
     fn join(&mut self) -> Joining
         ensures joined { result ≡ join_answer (joins_of self.old) }
         ensures reader { SameReader self.old.reader self.new.reader }
         ensures writer { SameWriter self.old.writer self.new.writer }
         ensures missed { self.new.missed ≡ self.old.missed }
-        ensures source { OnJoined result (IfSome self.new.reader KnowsSource) }
-        ensures sink { OnJoined result (IfSome self.new.writer KnowsSink) }
+        ensures source { reader_joins self.old.reader ≡ true → IfSome self.new.reader KnowsSource }
+        ensures sink { writer_joins self.old.writer ≡ true → IfSome self.new.writer KnowsSink }
         ensures kept { (gave_of self.new ≡ gave_of self.old) × (took_of self.new ≡ took_of self.old) × (counts_of self.new ≡ counts_of self.old) × (begun_of self.new ≡ begun_of self.old) × (ended_of self.new ≡ ended_of self.old) × (joins_of self.new ≡ joins_of self.old) }
         ensures behind { OnJoined result (Behind (gave_of self.new) (took_of self.new) (behind_gave_of self.new) (behind_took_of self.new) (behind_left_of self.new) (behind_faults_of self.new) (ended_of self.new)) }
     {
@@ -284,6 +292,7 @@ where
     ensures begun { reader_begun reader.new ≡ begun_after (reader_begun reader.old) result }
     ensures kept { (option_map given_of reader.new ≡ option_map given_of reader.old) × (reader_ended reader.new ≡ reader_ended reader.old) }
     ensures counts { Tallied (begin_event result) (reader_counts reader.old) (reader_counts reader.new) }
+    ensures empties { (reader_counts reader.new).empties ≡ (reader_counts reader.old).empties }
 {
     match reader {
         Some(reader) => reader.begin(),
@@ -298,7 +307,7 @@ where
     R: Threads + Wait + Copy,
     ensures joined { result ≡ join_answer (reader_joins reader.old) }
     ensures same { SameReader reader.old reader.new }
-    ensures source { OnJoined result (IfSome reader.new KnowsSource) }
+    ensures source { reader_joins reader.old ≡ true → IfSome reader.new KnowsSource }
 {
     match reader {
         Some(reader) => reader.join(),
