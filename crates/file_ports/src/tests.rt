@@ -4,8 +4,10 @@ use port_trait::{Begun, Got, Joining, Making, Port, Shutting, Took, Wake};
 use relay_model::{Bytes, NoMemory, Options, Part, Shut, Single, Target, Text};
 use std::alloc::{AllocError, Global};
 use std::process::Command;
+use std::rt::Files;
 use std::sync::Wait;
 use std::test::Fail;
+use std::thread::Threads;
 use std::{fs, thread};
 
 #[derive(Drop)]
@@ -71,29 +73,36 @@ fn a_shut_pipe_ends(rt: HostRuntime) -> Result<(), Fail> {
 }
 
 // the port of a file on disk
-type DiskPort = FilePort<FileSource<HostRuntime>, FileSink<HostRuntime>, HostRuntime, Option<Removal<HostRuntime>>>;
+type DiskPort<R> = FilePort<FileSource<R>, FileSink<R>, R, Option<Removal<R>>>;
 
-fn opened(rt: HostRuntime, single: &Single, part: Part) -> Result<DiskPort, Fail> {
-    let Making::Made(OpenedFile { ends, removal }) = open_file(rt, rt.alloc(), single, part) else {
+fn opened<R>(rt: R, alloc: Global, single: &Single, part: Part) -> Result<DiskPort<R>, Fail>
+where
+    R: Files + Threads + Wait + Copy + Send + Drop + 'static,
+    R::File: Send + 'static,
+{
+    let Making::Made(OpenedFile { ends, removal }) = open_file(rt, alloc, single, part) else {
         return Err("not opened")?;
     };
-    Ok(file_port(
-        rt.alloc(),
-        ends,
-        &mut SureSpawner::new(rt),
-        no_wakes(),
-        removal,
-    )?)
+    Ok(file_port(alloc, ends, &mut SureSpawner::new(rt), no_wakes(), removal)?)
 }
 
-// writes these bytes to the file that is opened so
-fn write_all(rt: HostRuntime, single: &Single, bytes: &[u8]) -> Result<(), Fail> {
-    let mut port = opened(rt, single, Part::Writing)?;
-    assert_eq!(rt; port.begin(), Begun::Begun);
-    assert_eq!(rt; port.put_all(bytes), Took::Took(bytes.len()));
-    assert_eq!(rt; port.join(), Joining::Running);
-    assert_eq!(rt; port.shut(Shut::Close), Shutting::Done);
-    assert_eq!(rt; port.join(), Joining::Joined);
+// writes these bytes to the file that is opened so, and waits until they are there
+fn write_all<R>(rt: R, alloc: Global, single: &Single, bytes: &[u8]) -> Result<(), Fail>
+where
+    R: Files + Threads + Wait + Copy + Send + Drop + 'static,
+    R::File: Send + 'static,
+{
+    let mut port = opened(rt, alloc, single, Part::Writing)?;
+    if port.begin() != Begun::Begun || port.put_all(bytes) != Took::Took(bytes.len()) {
+        return Err("not written")?;
+    }
+    if port.join() != Joining::Running {
+        return Err("joined before its end")?;
+    }
+    port.shut(Shut::Close);
+    if port.join() != Joining::Joined {
+        return Err("not joined")?;
+    }
     Ok(())
 }
 
@@ -105,11 +114,11 @@ fn a_file_is_written_and_read_back(rt: HostRuntime) -> Result<(), Fail> {
     }
     let name = Text::of(rt.alloc(), b"written")?;
     let single = plain(rt.alloc(), Target::Create(name))?;
-    write_all(rt, &single, data.as_slice())?;
+    write_all(rt, rt.alloc(), &single, data.as_slice())?;
     let name = Text::of(rt.alloc(), b"written")?;
     let mut single = plain(rt.alloc(), Target::FileAt(name))?;
     single.options.unlink_close = true;
-    let made = opened(rt, &single, Part::Reading)?;
+    let made = opened(rt, rt.alloc(), &single, Part::Reading)?;
     let mut port: Box<dyn Port> = Box::new(rt.alloc(), made)?;
     assert_eq!(rt; port.begin(), Begun::Begun);
     let (all, got) = read_on(&rt, rt.alloc(), &mut port)?;
@@ -127,7 +136,7 @@ fn excl_makes_what_is_not_there(rt: HostRuntime) -> Result<(), Fail> {
     let mut single = plain(rt.alloc(), Target::FileAt(name))?;
     single.options.file.wronly = true;
     single.options.file.excl = true;
-    write_all(rt, &single, b"ab")?;
+    write_all(rt, rt.alloc(), &single, b"ab")?;
     let again = open_file(rt, rt.alloc(), &single, Part::Writing);
     assert!(rt; matches!(&again, Making::Failed));
     assert_eq!(rt; fs::read(&rt, "new")?.as_slice(), b"ab".as_slice());
@@ -139,11 +148,11 @@ fn excl_makes_what_is_not_there(rt: HostRuntime) -> Result<(), Fail> {
 fn a_generic_opening_appends(rt: HostRuntime) -> Result<(), Fail> {
     let name = Text::of(rt.alloc(), b"grown")?;
     let mut single = plain(rt.alloc(), Target::GenericOpen(name))?;
-    write_all(rt, &single, b"ab")?;
-    write_all(rt, &single, b"cd")?;
+    write_all(rt, rt.alloc(), &single, b"ab")?;
+    write_all(rt, rt.alloc(), &single, b"cd")?;
     assert_eq!(rt; fs::read(&rt, "grown")?.as_slice(), b"abcd".as_slice());
     single.options.file.trunc = true;
-    write_all(rt, &single, b"ef")?;
+    write_all(rt, rt.alloc(), &single, b"ef")?;
     assert_eq!(rt; fs::read(&rt, "grown")?.as_slice(), b"ef".as_slice());
     fs::remove_file(&rt, "grown")?;
     Ok(())
@@ -157,7 +166,7 @@ fn a_named_pipe_is_opened_by_its_thread(rt: HostRuntime) -> Result<(), Fail> {
     assert!(rt; made.success());
     let name = Text::of(rt.alloc(), b"fifo")?;
     let single = plain(rt.alloc(), Target::NamedPipe(name))?;
-    let made = opened(rt, &single, Part::Reading)?;
+    let made = opened(rt, rt.alloc(), &single, Part::Reading)?;
     let mut port: Box<dyn Port> = Box::new(rt.alloc(), made)?;
     assert_eq!(rt; port.begin(), Begun::Begun);
     fs::write(&rt, "fifo", "hello")?;

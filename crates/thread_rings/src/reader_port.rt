@@ -14,7 +14,9 @@ use crate::items::RingItem;
 use crate::reader::RingReader;
 use crate::reader_stage::Stage;
 use crate::reader_steps::{ask_again, find_empty, finish, has_some, next};
-use port_trait::{Begun, Counts, Got, Hint, Joining, Port, PortReap, Settled, Shutting, Source, Took};
+use port_trait::{
+    Begun, Counts, Got, Hint, Joining, Port, PortReap, Settled, Shutting, Source, Took,
+};
 use relay_model::Shut;
 use std::mem;
 use std::sync::Wait;
