@@ -7,7 +7,6 @@ use std::process::Command;
 use std::rt::Files;
 use std::sync::Wait;
 use std::test::Fail;
-use std::thread::Threads;
 use std::{fs, thread};
 
 #[derive(Drop)]
@@ -72,27 +71,16 @@ fn a_shut_pipe_ends(rt: HostRuntime) -> Result<(), Fail> {
     Ok(())
 }
 
-// the port of a file on disk
-type DiskPort<R> = FilePort<FileSource<R>, FileSink<R>, R, Option<Removal<R>>>;
-
-fn opened<R>(rt: R, alloc: Global, single: &Single, part: Part) -> Result<DiskPort<R>, Fail>
-where
-    R: Files + Threads + Wait + Copy + Send + Drop + 'static,
-    R::File: Send + 'static,
-{
-    let Making::Made(OpenedFile { ends, removal }) = open_file(rt, alloc, single, part) else {
-        return Err("not opened")?;
-    };
-    Ok(file_port(alloc, ends, &mut SureSpawner::new(rt), no_wakes(), removal)?)
+// what was opened
+fn opened<R: Files + Drop>(making: Making<OpenedFile<R>>) -> Result<OpenedFile<R>, Fail> {
+    match making {
+        Making::Made(opened) => Ok(opened),
+        Making::Later(_) | Making::Failed | Making::Memory => Err("not opened")?,
+    }
 }
 
-// writes these bytes to the file that is opened so, and waits until they are there
-fn write_all<R>(rt: R, alloc: Global, single: &Single, bytes: &[u8]) -> Result<(), Fail>
-where
-    R: Files + Threads + Wait + Copy + Send + Drop + 'static,
-    R::File: Send + 'static,
-{
-    let mut port = opened(rt, alloc, single, Part::Writing)?;
+// writes these bytes to the file, and waits until they are there
+fn write_all<P: Port>(port: &mut P, bytes: &[u8]) -> Result<(), Fail> {
     if port.begin() != Begun::Begun || port.put_all(bytes) != Took::Took(bytes.len()) {
         return Err("not written")?;
     }
@@ -114,11 +102,16 @@ fn a_file_is_written_and_read_back(rt: HostRuntime) -> Result<(), Fail> {
     }
     let name = Text::of(rt.alloc(), b"written")?;
     let single = plain(rt.alloc(), Target::Create(name))?;
-    write_all(rt, rt.alloc(), &single, data.as_slice())?;
+    let OpenedFile { ends, removal } = opened(open_file(rt, rt.alloc(), &single, Part::Writing))?;
+    let mut spawner = SureSpawner::new(rt);
+    let mut port = file_port(rt.alloc(), ends, &mut spawner, no_wakes(), removal)?;
+    write_all(&mut port, data.as_slice())?;
     let name = Text::of(rt.alloc(), b"written")?;
     let mut single = plain(rt.alloc(), Target::FileAt(name))?;
     single.options.unlink_close = true;
-    let made = opened(rt, rt.alloc(), &single, Part::Reading)?;
+    let OpenedFile { ends, removal } = opened(open_file(rt, rt.alloc(), &single, Part::Reading))?;
+    let mut spawner = SureSpawner::new(rt);
+    let made = file_port(rt.alloc(), ends, &mut spawner, no_wakes(), removal)?;
     let mut port: Box<dyn Port> = Box::new(rt.alloc(), made)?;
     assert_eq!(rt; port.begin(), Begun::Begun);
     let (all, got) = read_on(&rt, rt.alloc(), &mut port)?;
@@ -136,7 +129,10 @@ fn excl_makes_what_is_not_there(rt: HostRuntime) -> Result<(), Fail> {
     let mut single = plain(rt.alloc(), Target::FileAt(name))?;
     single.options.file.wronly = true;
     single.options.file.excl = true;
-    write_all(rt, rt.alloc(), &single, b"ab")?;
+    let OpenedFile { ends, removal } = opened(open_file(rt, rt.alloc(), &single, Part::Writing))?;
+    let mut spawner = SureSpawner::new(rt);
+    let mut port = file_port(rt.alloc(), ends, &mut spawner, no_wakes(), removal)?;
+    write_all(&mut port, b"ab")?;
     let again = open_file(rt, rt.alloc(), &single, Part::Writing);
     assert!(rt; matches!(&again, Making::Failed));
     assert_eq!(rt; fs::read(&rt, "new")?.as_slice(), b"ab".as_slice());
@@ -148,11 +144,20 @@ fn excl_makes_what_is_not_there(rt: HostRuntime) -> Result<(), Fail> {
 fn a_generic_opening_appends(rt: HostRuntime) -> Result<(), Fail> {
     let name = Text::of(rt.alloc(), b"grown")?;
     let mut single = plain(rt.alloc(), Target::GenericOpen(name))?;
-    write_all(rt, rt.alloc(), &single, b"ab")?;
-    write_all(rt, rt.alloc(), &single, b"cd")?;
+    let OpenedFile { ends, removal } = opened(open_file(rt, rt.alloc(), &single, Part::Writing))?;
+    let mut spawner = SureSpawner::new(rt);
+    let mut port = file_port(rt.alloc(), ends, &mut spawner, no_wakes(), removal)?;
+    write_all(&mut port, b"ab")?;
+    let OpenedFile { ends, removal } = opened(open_file(rt, rt.alloc(), &single, Part::Writing))?;
+    let mut spawner = SureSpawner::new(rt);
+    let mut port = file_port(rt.alloc(), ends, &mut spawner, no_wakes(), removal)?;
+    write_all(&mut port, b"cd")?;
     assert_eq!(rt; fs::read(&rt, "grown")?.as_slice(), b"abcd".as_slice());
     single.options.file.trunc = true;
-    write_all(rt, rt.alloc(), &single, b"ef")?;
+    let OpenedFile { ends, removal } = opened(open_file(rt, rt.alloc(), &single, Part::Writing))?;
+    let mut spawner = SureSpawner::new(rt);
+    let mut port = file_port(rt.alloc(), ends, &mut spawner, no_wakes(), removal)?;
+    write_all(&mut port, b"ef")?;
     assert_eq!(rt; fs::read(&rt, "grown")?.as_slice(), b"ef".as_slice());
     fs::remove_file(&rt, "grown")?;
     Ok(())
@@ -166,7 +171,9 @@ fn a_named_pipe_is_opened_by_its_thread(rt: HostRuntime) -> Result<(), Fail> {
     assert!(rt; made.success());
     let name = Text::of(rt.alloc(), b"fifo")?;
     let single = plain(rt.alloc(), Target::NamedPipe(name))?;
-    let made = opened(rt, rt.alloc(), &single, Part::Reading)?;
+    let OpenedFile { ends, removal } = opened(open_file(rt, rt.alloc(), &single, Part::Reading))?;
+    let mut spawner = SureSpawner::new(rt);
+    let made = file_port(rt.alloc(), ends, &mut spawner, no_wakes(), removal)?;
     let mut port: Box<dyn Port> = Box::new(rt.alloc(), made)?;
     assert_eq!(rt; port.begin(), Begun::Begun);
     fs::write(&rt, "fifo", "hello")?;
