@@ -2,6 +2,7 @@
 ghost use Rattle.std.specs.Prelude.{◌≡◌, ◌≤◌, ◌∷◌, [], MatchBool, IfSome, Some, None, IfOk};
 ghost use Rattle.journal_text.specs.Reading.{Gives, GivesSeen, ready_in, hex_in, byte_in, digits_in, bytes_in, octets_in, addressed_in, peer_in, child_in, place_in, front_in, turn_in, fields_in, act_in, line_in};
 ghost use Rattle.relay_model.specs.declared.acts.Peer.TheVariants as peer;
+ghost use Rattle.journal_text.specs.declared.kinds.Kind.TheVariants as kinds;
 
 use crate::faults::LineFault;
 use crate::fields::{
@@ -187,6 +188,66 @@ fn read_turn(fields: &[u8], ready: &mut ReadyList) -> Result<Act, LineFault>
 }
 
 #[tactic(auto, unfolding(crate::specs::Reading::fields_in))]
+fn read_accepting(fields: &[u8], bytes: &mut Vec<u8>) -> Result<Act, LineFault>
+    ensures { Gives result (fields_in kinds.Accepted fields.now) }
+{
+    let (place, peer) = read_front(fields)?;
+    Ok(Act::Accepted(place, read_peer(peer, bytes)?))
+}
+
+/// Bytes that were read.
+#[tactic(auto, unfolding(crate::specs::Reading::fields_in))]
+fn read_input(alloc: Global, fields: &[u8], bytes: &mut Vec<u8>) -> Result<Act, LineFault>
+    ensures { Gives result (fields_in kinds.Read fields.now) }
+{
+    let (place, digits) = read_front(fields)?;
+    Ok(Act::Read(place, read_bytes(alloc, digits, bytes)?))
+}
+
+/// Bytes that were written.
+#[tactic(auto, unfolding(crate::specs::Reading::fields_in))]
+fn read_output(alloc: Global, fields: &[u8], bytes: &mut Vec<u8>) -> Result<Act, LineFault>
+    ensures { Gives result (fields_in kinds.Wrote fields.now) }
+{
+    let (place, digits) = read_front(fields)?;
+    Ok(Act::Wrote(place, read_bytes(alloc, digits, bytes)?))
+}
+
+/// An end that was passed on.
+#[tactic(auto, unfolding(crate::specs::Reading::fields_in))]
+fn read_passed_end(fields: &[u8]) -> Result<Act, LineFault>
+    ensures { Gives result (fields_in kinds.Shut fields.now) }
+{
+    let (place, how) = read_front(fields)?;
+    Ok(Act::Shut(place, read_shut(how).ok_or(LineFault::NoAct)?))
+}
+
+/// An end that couldn't be passed on.
+#[tactic(auto, unfolding(crate::specs::Reading::fields_in))]
+fn read_failed_end(fields: &[u8]) -> Result<Act, LineFault>
+    ensures { Gives result (fields_in kinds.ShutFault fields.now) }
+{
+    let (place, how) = read_front(fields)?;
+    Ok(Act::ShutFault(place, read_shut(how).ok_or(LineFault::NoAct)?))
+}
+
+#[tactic(auto, unfolding(crate::specs::Reading::fields_in))]
+fn read_closing(fields: &[u8]) -> Result<Act, LineFault>
+    ensures { Gives result (fields_in kinds.Closed fields.now) }
+{
+    let (place, why) = read_front(fields)?;
+    Ok(Act::Closed(place, read_why(why).ok_or(LineFault::NoAct)?))
+}
+
+#[tactic(auto, unfolding(crate::specs::Reading::fields_in))]
+fn read_reaping(fields: &[u8]) -> Result<Act, LineFault>
+    ensures { Gives result (fields_in kinds.Reaped fields.now) }
+{
+    let (place, end) = read_front(fields)?;
+    Ok(Act::Reaped(place, read_child(end).ok_or(LineFault::NoAct)?))
+}
+
+#[tactic(auto, unfolding(crate::specs::Reading::fields_in))]
 fn read_fields(
     alloc: Global,
     kind: Kind,
@@ -214,34 +275,13 @@ fn read_fields(
         Kind::WriteFault => Ok(Act::WriteFault(read_at_place(fields)?)),
         Kind::Note => Ok(Act::Note(read_bytes(alloc, fields, &mut scratch.bytes)?)),
         Kind::NoteFault => Ok(Act::NoteFault(read_bytes(alloc, fields, &mut scratch.bytes)?)),
-        Kind::Accepted => {
-            let (place, peer) = read_front(fields)?;
-            Ok(Act::Accepted(place, read_peer(peer, &mut scratch.bytes)?))
-        }
-        Kind::Read => {
-            let (place, bytes) = read_front(fields)?;
-            Ok(Act::Read(place, read_bytes(alloc, bytes, &mut scratch.bytes)?))
-        }
-        Kind::Wrote => {
-            let (place, bytes) = read_front(fields)?;
-            Ok(Act::Wrote(place, read_bytes(alloc, bytes, &mut scratch.bytes)?))
-        }
-        Kind::Shut => {
-            let (place, how) = read_front(fields)?;
-            Ok(Act::Shut(place, read_shut(how).ok_or(LineFault::NoAct)?))
-        }
-        Kind::ShutFault => {
-            let (place, how) = read_front(fields)?;
-            Ok(Act::ShutFault(place, read_shut(how).ok_or(LineFault::NoAct)?))
-        }
-        Kind::Closed => {
-            let (place, why) = read_front(fields)?;
-            Ok(Act::Closed(place, read_why(why).ok_or(LineFault::NoAct)?))
-        }
-        Kind::Reaped => {
-            let (place, end) = read_front(fields)?;
-            Ok(Act::Reaped(place, read_child(end).ok_or(LineFault::NoAct)?))
-        }
+        Kind::Accepted => read_accepting(fields, &mut scratch.bytes),
+        Kind::Read => read_input(alloc, fields, &mut scratch.bytes),
+        Kind::Wrote => read_output(alloc, fields, &mut scratch.bytes),
+        Kind::Shut => read_passed_end(fields),
+        Kind::ShutFault => read_failed_end(fields),
+        Kind::Closed => read_closing(fields),
+        Kind::Reaped => read_reaping(fields),
     }
 }
 
