@@ -69,6 +69,9 @@ reversed acts = onto_is acts [] ∙ append-nil (reverse acts)
 each_reversed : (acts : List Act) → AllActs acts → AllActs (reverse acts)
 each_reversed acts each = subst (λ (x : List Act). AllActs x) (reversed acts) (each_onto acts [] each tt)
 
+pub each_in_order : (acts : List Act) → AllActs (reverse acts) → AllActs acts
+each_in_order acts each = subst (λ (x : List Act). AllActs x) (reverse-reverse acts) (each_reversed (reverse acts) each)
+
 map_reversed : (acts : List Act) → map copied_act (reverse acts) ≡ reverse (map copied_act acts)
 map_reversed acts = ap (map copied_act) (sym (reversed acts)) ∙ map_onto acts [] ∙ reversed (map copied_act acts)
 

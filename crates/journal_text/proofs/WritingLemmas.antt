@@ -1,7 +1,7 @@
 -- What is still to be written of a list.
-use Rattle.std.proofs.Common.{◌≡◌, ℕ, ◌+◌, ◌≤◌, List, [], ◌∷◌, ◌++◌, map, reverse, length, drop, Some, refl, sym, ap, ◌∙◌, append_assoc}
+use Rattle.std.proofs.Common.{◌≡◌, ℕ, ◌+◌, ◌≤◌, List, [], ◌∷◌, ◌++◌, map, reverse, length, drop, Some, refl, sym, ap, subst, ◌∙◌, append_assoc}
 use Rattle.std.specs.Prelude.{slice_get}
-use Rattle.std.specs.List.{flat_map, join_with_byte}
+use Rattle.std.specs.List.{AllByRecursion, flat_map, join_with_byte}
 use Rattle.std.specs.Str.{byte}
 use Rattle.std.proofs.lemmas.List.{append-nil, drop_more, drop_all, reverse-append, flat_map_more}
 use Rattle.std.proofs.lemmas.Option.{slice_get_within, get_or_from_slice_get}
@@ -9,11 +9,24 @@ use Rattle.relay_model.specs.declared.readiness.ReadyAt.{ReadyAt}
 use Rattle.relay_model.specs.declared.acts.Act.{Act}
 use Rattle.journal_text.specs.Fields.{entry_text, ready_text}
 use Rattle.journal_text.specs.Lines.{line_of, spelt}
+use Rattle.journal_text.specs.Ranges.{IsPlace}
 
 -- the element at a place, and those after it
 pub drop_at_get : {A : Type 0} (xs : List A) (i : ℕ) (x : A) → slice_get xs i ≡ Some x → drop i xs ≡ x ∷ drop (i + 1) xs
 drop_at_get xs i x e =
     drop_more xs i x (slice_get_within xs i x e) ∙ ap (λ y. y ∷ drop (i + 1) xs) (get_or_from_slice_get xs i x x e)
+
+-- each entry names a place
+abbrev pub ArePlaces : List ReadyAt → Type 0
+ArePlaces entries = AllByRecursion (λ entry. IsPlace entry.place) entries
+
+-- what is said of each element, while those from a place on are still to be looked at
+
+pub each_more : {A : Type 0} (P : A → Type 0) (xs : List A) (i : ℕ) (x : A) → slice_get xs i ≡ Some x → P x → (AllByRecursion P (drop i xs) → AllByRecursion P xs) → AllByRecursion P (drop (i + 1) xs) → AllByRecursion P xs
+each_more P xs i x is here so_far others = so_far (subst (AllByRecursion P) (sym (drop_at_get xs i x is)) (here, others))
+
+pub each_done : {A : Type 0} (P : A → Type 0) (xs : List A) (i : ℕ) → length xs ≤ i → (AllByRecursion P (drop i xs) → AllByRecursion P xs) → AllByRecursion P xs
+each_done P xs i past so_far = so_far (subst (AllByRecursion P) (sym (drop_all i xs past)) tt)
 
 -- further entries, each behind a comma
 abbrev pub later : List ReadyAt → List ℕ

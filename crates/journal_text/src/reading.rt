@@ -16,7 +16,8 @@ pub fn read_journal(alloc: Global, text: &[u8]) -> Result<Journal, JournalFault>
     // What is read has this text.
     ensures found { IfOk result (λ journal. IsTextOf text.now journal.acts × (journal.acts ≡ kept journal.acts)) }
     ensures fault { IfErr result (IsFaultOf text.now) }
-    // A text of acts is read as these, and one with a bad line as that.
+    // A text of acts is read as these, so what `write_journal` wrote is that journal again; one with a bad line is
+    // read as that.
     ensures acts { (acts : List Act) → IsTextOf text.now acts → IsActsOrMemory acts result }
     ensures line { (number : ℕ) → IsFirstBadLine text.now number → IsLineOrMemory number result }
 {

@@ -6,13 +6,16 @@ ghost use Rattle.std.specs.Str.{byte};
 ghost use Rattle.relay_model.specs.Dumps.{hex_digit, hex_byte};
 ghost use Rattle.journal_text.specs.Fields.{optional_text, side_letter, part_letter, door_letter, half_letter, flag_text, place_text, entry_text, ready_text, digits_text, bytes_text, peer_text, child_text};
 ghost use Rattle.journal_text.specs.Kinds.{fields_of};
-ghost use Rattle.journal_text.specs.Lines.{line_of, spelt};
+ghost use Rattle.journal_text.specs.Lines.{line_of};
+ghost use Rattle.journal_text.specs.Ranges.{IsMoment, IsOptionalMoment, IsPlace, IsReady, IsBytes, IsPeer, IsChildEnd, IsAct};
+ghost use Rattle.journal_text.specs.Texts.{IsTextOf};
 
 use crate::fields::{shut_word, why_word};
 use crate::kinds::Kind;
 use itoa::{Buffer, Integer};
 use relay_model::{
-    Act, Bytes, ChildEnd, Half, Journal, NoMemory, Part, Peer, Place, ReadyAt, ReadyList, Side,
+    Act, Bytes, ChildEnd, Half, Journal, NoMemory, Part, Peer, Place, ReadyAt, ReadyList, Shut,
+    Side, Why,
 };
 use std::alloc::Global;
 
@@ -63,7 +66,8 @@ fn half_letter(half: Half) -> u8
 }
 
 fn push_place(text: &mut Vec<u8>, place: Place) -> Result<(), NoMemory>
-    ensures { OnOk result (text.new.items ≡ text.old.items ++ place_text place) }
+    ensures text { OnOk result (text.new.items ≡ text.old.items ++ place_text place) }
+    ensures range { IsPlace place }
 {
     push_number(text, place.session)?;
     text.push(side_letter(place.side))?;
@@ -73,7 +77,8 @@ fn push_place(text: &mut Vec<u8>, place: Place) -> Result<(), NoMemory>
 }
 
 fn push_entry(text: &mut Vec<u8>, entry: ReadyAt) -> Result<(), NoMemory>
-    ensures { OnOk result (text.new.items ≡ text.old.items ++ entry_text entry) }
+    ensures text { OnOk result (text.new.items ≡ text.old.items ++ entry_text entry) }
+    ensures range { IsPlace entry.place }
 {
     push_place(text, entry.place)?;
     text.push(half_letter(entry.half))?;
@@ -82,7 +87,8 @@ fn push_entry(text: &mut Vec<u8>, entry: ReadyAt) -> Result<(), NoMemory>
 
 #[tactic(auto, using(crate::proofs::WritingLemmas::ready_at_first, crate::proofs::WritingLemmas::ready_at, crate::proofs::WritingLemmas::ready_done))]
 fn push_ready(text: &mut Vec<u8>, ready: &ReadyList) -> Result<(), NoMemory>
-    ensures { OnOk result (text.new.items ≡ text.old.items ++ ready_text ready.now.entries) }
+    ensures text { OnOk result (text.new.items ≡ text.old.items ++ ready_text ready.now.entries) }
+    ensures range { OnOk result (IsReady ready.now.entries) }
 {
     if ready.len() == 0 {
         text.push(b'-')?;
@@ -108,7 +114,8 @@ fn hex_digit_of(value: u8) -> u8
 }
 
 fn push_digits(text: &mut Vec<u8>, bytes: &[u8]) -> Result<(), NoMemory>
-    ensures { OnOk result (text.new.items ≡ text.old.items ++ digits_text bytes.now) }
+    ensures text { OnOk result (text.new.items ≡ text.old.items ++ digits_text bytes.now) }
+    ensures range { OnOk result (IsBytes bytes.now) }
 {
     for byte in bytes {
         text.push(hex_digit_of(*byte / 16))?;
@@ -118,14 +125,16 @@ fn push_digits(text: &mut Vec<u8>, bytes: &[u8]) -> Result<(), NoMemory>
 }
 
 fn push_bytes(text: &mut Vec<u8>, bytes: &Bytes) -> Result<(), NoMemory>
-    ensures { OnOk result (text.new.items ≡ text.old.items ++ bytes_text bytes.now) }
+    ensures text { OnOk result (text.new.items ≡ text.old.items ++ bytes_text bytes.now) }
+    ensures range { OnOk result (IsBytes bytes.now) }
 {
     text.push(b'x')?;
     push_digits(text, bytes.as_slice())
 }
 
 fn push_peer(text: &mut Vec<u8>, peer: Peer) -> Result<(), NoMemory>
-    ensures { OnOk result (text.new.items ≡ text.old.items ++ peer_text peer) }
+    ensures text { OnOk result (text.new.items ≡ text.old.items ++ peer_text peer) }
+    ensures range { OnOk result (IsPeer peer) }
 {
     match peer {
         Peer::V4 { addr, port } => {
@@ -146,7 +155,8 @@ fn push_peer(text: &mut Vec<u8>, peer: Peer) -> Result<(), NoMemory>
 }
 
 fn push_child(text: &mut Vec<u8>, end: ChildEnd) -> Result<(), NoMemory>
-    ensures { OnOk result (text.new.items ≡ text.old.items ++ child_text end) }
+    ensures text { OnOk result (text.new.items ≡ text.old.items ++ child_text end) }
+    ensures range { IsChildEnd end }
 {
     match end {
         ChildEnd::Running => text.extend_from_slice(b"running")?,
@@ -160,7 +170,8 @@ fn push_child(text: &mut Vec<u8>, end: ChildEnd) -> Result<(), NoMemory>
 }
 
 fn push_fields(text: &mut Vec<u8>, act: &Act) -> Result<(), NoMemory>
-    ensures { OnOk result (text.new.items ≡ text.old.items ++ fields_of act.now) }
+    ensures text { OnOk result (text.new.items ≡ text.old.items ++ fields_of act.now) }
+    ensures range { OnOk result (IsAct act.now) }
 {
     match act {
         Act::Turn {
@@ -182,27 +193,12 @@ fn push_fields(text: &mut Vec<u8>, act: &Act) -> Result<(), NoMemory>
         | Act::ReadFault(place)
         | Act::WriteNotYet(place)
         | Act::WriteFault(place) => push_place(text, *place),
-        Act::Read(place, bytes) | Act::Wrote(place, bytes) => {
-            push_place_and_space(text, *place)?;
-            push_bytes(text, bytes)
-        }
+        Act::Accepted(place, peer) => push_met_peer(text, *place, *peer),
+        Act::Read(place, bytes) | Act::Wrote(place, bytes) => push_moved(text, *place, bytes),
+        Act::Shut(place, how) | Act::ShutFault(place, how) => push_shut(text, *place, *how),
+        Act::Closed(place, why) => push_closing(text, *place, *why),
+        Act::Reaped(place, end) => push_reaping(text, *place, *end),
         Act::Note(bytes) | Act::NoteFault(bytes) => push_bytes(text, bytes),
-        Act::Accepted(place, peer) => {
-            push_place_and_space(text, *place)?;
-            push_peer(text, *peer)
-        }
-        Act::Shut(place, how) | Act::ShutFault(place, how) => {
-            push_place_and_space(text, *place)?;
-            push_slice(text, shut_word(*how))
-        }
-        Act::Closed(place, why) => {
-            push_place_and_space(text, *place)?;
-            push_slice(text, why_word(*why))
-        }
-        Act::Reaped(place, end) => {
-            push_place_and_space(text, *place)?;
-            push_child(text, *end)
-        }
     }
 }
 
@@ -214,11 +210,53 @@ fn push_slice(text: &mut Vec<u8>, bytes: &[u8]) -> Result<(), NoMemory>
 }
 
 fn push_place_and_space(text: &mut Vec<u8>, place: Place) -> Result<(), NoMemory>
-    ensures { OnOk result (text.new.items ≡ text.old.items ++ place_text place ++ byte " " ∷ []) }
+    ensures text { OnOk result (text.new.items ≡ text.old.items ++ place_text place ++ byte " " ∷ []) }
+    ensures range { IsPlace place }
 {
     push_place(text, place)?;
     text.push(b' ')?;
     Ok(())
+}
+
+fn push_met_peer(text: &mut Vec<u8>, place: Place, peer: Peer) -> Result<(), NoMemory>
+    ensures text { OnOk result (text.new.items ≡ text.old.items ++ fields_of (Act.Accepted place peer)) }
+    ensures range { OnOk result (IsPlace place × IsPeer peer) }
+{
+    push_place_and_space(text, place)?;
+    push_peer(text, peer)
+}
+
+/// Bytes that were read or written at a place.
+fn push_moved(text: &mut Vec<u8>, place: Place, bytes: &Bytes) -> Result<(), NoMemory>
+    ensures text { OnOk result (text.new.items ≡ text.old.items ++ fields_of (Act.Read place bytes.now)) }
+    ensures range { OnOk result (IsPlace place × IsBytes bytes.now) }
+{
+    push_place_and_space(text, place)?;
+    push_bytes(text, bytes)
+}
+
+fn push_shut(text: &mut Vec<u8>, place: Place, how: Shut) -> Result<(), NoMemory>
+    ensures text { OnOk result (text.new.items ≡ text.old.items ++ fields_of (Act.Shut place how)) }
+    ensures range { IsPlace place }
+{
+    push_place_and_space(text, place)?;
+    push_slice(text, shut_word(how))
+}
+
+fn push_closing(text: &mut Vec<u8>, place: Place, why: Why) -> Result<(), NoMemory>
+    ensures text { OnOk result (text.new.items ≡ text.old.items ++ fields_of (Act.Closed place why)) }
+    ensures range { IsPlace place }
+{
+    push_place_and_space(text, place)?;
+    push_slice(text, why_word(why))
+}
+
+fn push_reaping(text: &mut Vec<u8>, place: Place, end: ChildEnd) -> Result<(), NoMemory>
+    ensures text { OnOk result (text.new.items ≡ text.old.items ++ fields_of (Act.Reaped place end)) }
+    ensures range { IsPlace place × IsChildEnd end }
+{
+    push_place_and_space(text, place)?;
+    push_child(text, end)
 }
 
 fn push_turn(
@@ -228,7 +266,8 @@ fn push_turn(
     ready: &ReadyList,
     stop: bool,
 ) -> Result<(), NoMemory>
-    ensures { OnOk result (text.new.items ≡ text.old.items ++ fields_of (Act.Turn until at ready.now stop)) }
+    ensures text { OnOk result (text.new.items ≡ text.old.items ++ fields_of (Act.Turn until at ready.now stop)) }
+    ensures range { OnOk result (IsOptionalMoment until × IsMoment at × IsReady ready.now.entries) }
 {
     push_optional(text, until)?;
     text.push(b' ')?;
@@ -241,7 +280,8 @@ fn push_turn(
 }
 
 fn push_line(text: &mut Vec<u8>, act: &Act) -> Result<(), NoMemory>
-    ensures { OnOk result (text.new.items ≡ text.old.items ++ line_of act.now) }
+    ensures text { OnOk result (text.new.items ≡ text.old.items ++ line_of act.now) }
+    ensures range { OnOk result (IsAct act.now) }
 {
     text.extend_from_slice(Kind::of(act).word())?;
     text.push(b' ')?;
@@ -251,10 +291,12 @@ fn push_line(text: &mut Vec<u8>, act: &Act) -> Result<(), NoMemory>
 }
 
 /// The text of the journal, one line an act, the oldest first: a word and its fields with one space between, and a
-/// newline. Bytes are written as `x` and two hexadecimal digits each, in lower case.
+/// newline. Bytes are written as `x` and two hexadecimal digits each, in lower case. Of this text `read_journal`
+/// makes the same acts again.
 #[tactic(auto, using(crate::proofs::WritingLemmas::spelt_in_order, crate::proofs::WritingLemmas::line_at, crate::proofs::WritingLemmas::lines_done))]
 pub fn write_journal(alloc: Global, journal: &Journal) -> Result<Bytes, NoMemory>
-    ensures { IfOk result (λ text. text ≡ spelt journal.now.acts) }
+    // Whatever the journal holds, this is what clause `acts` of `read_journal` asks of a text.
+    ensures { IfOk result (λ text. IsTextOf text journal.now.acts) }
 {
     let mut text = Vec::new(alloc);
     for i in 0..journal.len() {
