@@ -1,7 +1,7 @@
 #!/usr/bin/env bash
-# Runs the built auditor on the journals of tests/data/journals.txt, which were judged by other means, and on files
-# that are missing, empty, cut or too long. One line a case that fails, and 'N passed, M failed' at the end; the status
-# is 1 where a case failed.
+# Runs the built auditor on the journals of tests/data/journals.txt, which were judged by other means, on those of
+# tests/data/journals_by_hand.txt, and on files that are missing, empty, cut or too long. One line a case that fails,
+# and 'N passed, M failed' at the end; the status is 1 where a case failed.
 # Usage: tests/audit.sh [PROGRAM]      (bin/socat-audit where none is given)
 set -u
 
@@ -30,10 +30,10 @@ status_of() {
     esac
 }
 
-# Each case of the file: a line 'words', a line 'verdict', a line 'lines' with their number, and the journal's text,
-# without its last newline where 'unfinished' follows the number.
+# run_cases FILE: each case of the file in tests/data: a line 'words', a line 'verdict', a line 'lines' with their
+# number, and the journal's text, without its last newline where 'unfinished' follows the number.
 run_cases() {
-    local number=0 key rest words='' verdict='' count unfinished i line
+    local file="$1" number=0 key rest words='' verdict='' count unfinished i line
     while IFS=' ' read -r key rest; do
         case "$key" in
             words) words="$rest" ;;
@@ -53,14 +53,19 @@ run_cases() {
                 done >"$scratch/journal"
                 # The words have no spaces or quotes of their own.
                 # shellcheck disable=SC2086
-                expect "case $number ($words)" "$verdict" "$(status_of "$verdict")" "$scratch/journal" $words
+                expect "$file, case $number ($words)" "$verdict" "$(status_of "$verdict")" "$scratch/journal" $words
                 ;;
         esac
-    done <"$here/tests/data/journals.txt"
-    echo "$number journals"
+    done <"$here/tests/data/$file"
+    echo "$number journals of $file"
+    if [ "$number" -eq 0 ]; then
+        failed=$((failed + 1))
+        echo "FAILED  $file has no case"
+    fi
 }
 
-run_cases
+run_cases journals.txt
+run_cases journals_by_hand.txt
 
 : >"$scratch/empty"
 printf 'opened 0LI-\nopened 0RO' >"$scratch/cut"
