@@ -11,14 +11,18 @@ use relay_model::{Act, Config, Half, Place};
 /// How an input stands: not armed, armed, or at an end that was met at a moment.
 #[derive(Clone, Copy, Debug, PartialEq, Eq)]
 pub enum Arming {
+    /// Not worth asking.
     Disarmed,
+    /// Worth asking now.
     Armed,
+    /// It met an end at this moment, in milliseconds, and is asked again later.
     AtEnd(u64),
 }
 
 /// How long after an end an input is asked again, in milliseconds (socat(1), `ignoreeof`).
 const PAUSE_AFTER_END: u128 = 1000;
 
+/// How an input stands after these acts: what the last act that arms or disarms it says.
 pub fn read_arming(mut past: &[&Act], place: Place) -> Arming
     ensures { as_arming result ≡ read_arming (acts past.entry.now) place }
 {
@@ -45,6 +49,7 @@ fn is_armed(arming: Arming, at: u64) -> bool
     }
 }
 
+/// Whether a place is worth reading at the moment of the last turn.
 pub fn armed_to_read(past: &[&Act], place: Place) -> bool
     ensures { result ≡ armed_to_read (acts past.now) place }
 {
@@ -61,6 +66,7 @@ pub fn arming_moment(arming: Arming) -> Option<u128>
     }
 }
 
+/// Whether a place is worth writing: it was opened, accepted or named, and hasn't answered `NotYet` since.
 pub fn armed_to_write(mut past: &[&Act], place: Place) -> bool
     ensures { result ≡ armed_to_write (acts past.entry.now) place }
 {
@@ -76,6 +82,7 @@ pub fn armed_to_write(mut past: &[&Act], place: Place) -> bool
     false
 }
 
+/// Whether a door is worth asking for a peer: it listens or was named, and hasn't answered `NoPeer` since.
 pub fn armed_to_accept(mut past: &[&Act], door: Place) -> bool
     ensures { result ≡ armed_to_accept (acts past.entry.now) door }
 {

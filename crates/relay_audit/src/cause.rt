@@ -42,12 +42,14 @@ pub fn closed_why(config: &Config, mut past: &[&Act], session: u32) -> Option<Wh
     None
 }
 
+/// Whether an accepting failed at one of these doors.
 pub fn any_accept_failed(past: &[&Act], doors: &[Place]) -> bool
     ensures { result ≡ list_any (accept_failed (acts past.now)) doors.now }
 {
     doors.iter().any(|door| accept_failed(past, *door))
 }
 
+/// Whether one of these places or doors failed as often as it may be tried.
 pub fn any_out_of_tries(config: &Config, past: &[&Act], places: &[Place]) -> bool
     ensures { result ≡ list_any (out_of_tries config.now (acts past.now)) places.now }
 {

@@ -97,15 +97,23 @@ pub fn memory_said(mut past: &[&Act]) -> bool
 /// The last act of opening, accepting, listening or closing at a place or door.
 #[derive(Clone, Copy, Debug, PartialEq, Eq)]
 pub enum Stage {
+    /// There was none.
     Untried,
+    /// It was opened.
     Usable,
+    /// Its opening is under way.
     Unsettled,
+    /// Its opening or listening failed.
     Failed,
+    /// This peer was accepted there.
     Met(Peer),
+    /// The door listens.
     Waiting,
+    /// It was closed, for this reason.
     Gone(Why),
 }
 
+/// The last act of opening, accepting, listening or closing at a place or door, or that there was none.
 pub fn stage_of(mut past: &[&Act], place: Place) -> Stage
     ensures { as_stage result ≡ stage (acts past.entry.now) place }
 {
@@ -194,6 +202,7 @@ pub fn woken(mut past: &[&Act], place: Place) -> bool
     false
 }
 
+/// Whether an accepting failed at the door.
 pub fn accept_failed(mut past: &[&Act], door: Place) -> bool
     ensures { result ≡ accept_failed (acts past.entry.now) door }
 {
@@ -207,6 +216,7 @@ pub fn accept_failed(mut past: &[&Act], door: Place) -> bool
     false
 }
 
+/// Whether the place was ever closed, whatever came after that.
 pub fn was_closed(mut past: &[&Act], place: Place) -> bool
     ensures { result ≡ was_closed (acts past.entry.now) place }
 {
@@ -220,6 +230,7 @@ pub fn was_closed(mut past: &[&Act], place: Place) -> bool
     false
 }
 
+/// Whether the child of the place was reaped, also where it was still running.
 pub fn was_reaped(mut past: &[&Act], place: Place) -> bool
     ensures { result ≡ was_reaped (acts past.entry.now) place }
 {
@@ -325,6 +336,7 @@ pub fn sent(alloc: Global, past: &[&Act], place: Place) -> Result<Vec<Bytes>, No
 
 // ---- ends, faults and passed ends
 
+/// Whether a read of the place met the end of its input.
 pub fn met_end(mut past: &[&Act], place: Place) -> bool
     ensures { result ≡ met_end (acts past.entry.now) place }
 {
@@ -338,6 +350,7 @@ pub fn met_end(mut past: &[&Act], place: Place) -> bool
     false
 }
 
+/// Whether a read of the place brought an empty packet.
 pub fn met_empty(mut past: &[&Act], place: Place) -> bool
     ensures { result ≡ met_empty (acts past.entry.now) place }
 {
@@ -365,6 +378,7 @@ pub fn shut_at(mut past: &[&Act], place: Place) -> Option<u64>
     None
 }
 
+/// The moment, in milliseconds, at which a read of the place last failed.
 pub fn read_fault_at(mut past: &[&Act], place: Place) -> Option<u64>
     ensures { result ≡ read_fault_at (acts past.entry.now) place }
 {
@@ -378,6 +392,7 @@ pub fn read_fault_at(mut past: &[&Act], place: Place) -> Option<u64>
     None
 }
 
+/// The moment, in milliseconds, at which a write to the place last failed.
 pub fn write_fault_at(mut past: &[&Act], place: Place) -> Option<u64>
     ensures { result ≡ write_fault_at (acts past.entry.now) place }
 {

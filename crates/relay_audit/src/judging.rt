@@ -15,11 +15,12 @@ use relay_laws::{admitted_is_bounded, one_test_is_right, tests_are_right};
 use relay_model::{Act, Config, Journal, NoMemory, Place};
 use std::alloc::Global;
 
-/// What is found of a journal: after its acts so many places and doors are held, or the act at this place, counted
-/// from 1, is the first that may not come after the acts before it.
+/// What is found of a journal.
 #[derive(Clone, Copy, Debug, PartialEq, Eq)]
 pub enum Judgement {
+    /// Each act may come, and so many places and doors are held after the last.
     Legal { held: u64 },
+    /// The first act, counted from 1, that may not come after the acts before it.
     Illegal { act: u64 },
 }
 

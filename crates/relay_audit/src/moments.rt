@@ -35,6 +35,7 @@ pub fn passed_at(config: &Config, past: &[&Act], session: u32, way: Way) -> Opti
     shut_at(past, output(config, session, way))
 }
 
+/// Whether the direction passed its end on.
 pub fn passed(config: &Config, past: &[&Act], session: u32, way: Way) -> bool
     ensures { result ≡ passed config.now (acts past.now) session way }
 {
@@ -55,6 +56,7 @@ pub fn broken_at(config: &Config, past: &[&Act], session: u32, way: Way) -> Opti
     }
 }
 
+/// Whether a fault broke the direction; only with `-s` does one.
 pub fn broken(config: &Config, past: &[&Act], session: u32, way: Way) -> bool
     ensures { result ≡ broken config.now (acts past.now) session way }
 {
@@ -71,6 +73,7 @@ pub fn done_at(config: &Config, past: &[&Act], session: u32, way: Way) -> Option
     )
 }
 
+/// Whether the direction passed its end on or was broken.
 pub fn done(config: &Config, past: &[&Act], session: u32, way: Way) -> bool
     ensures { result ≡ done config.now (acts past.now) session way }
 {
@@ -93,6 +96,8 @@ fn after_one(closing: u64, one: Option<u64>, other: Option<u64>) -> Option<u128>
     }
 }
 
+/// The moment, in milliseconds, at which the closing time (`-t`) is over: it begins where the first of two directions
+/// is done.
 pub fn closing_moment(config: &Config, past: &[&Act], session: u32) -> Option<u128>
     ensures { result ≡ closing_moment config.now (acts past.now) session }
 {
@@ -115,6 +120,7 @@ pub fn is_unfinished(config: &Config, past: &[&Act], session: u32) -> bool
         || formed(config, Way::RightToLeft) && !done(config, past, session, Way::RightToLeft)
 }
 
+/// The moment, in milliseconds, at which the session was idle for as long as `-T` says, while a direction isn't done.
 pub fn idle_moment(config: &Config, past: &[&Act], session: u32) -> Option<u128>
     ensures { result ≡ idle_moment config.now (acts past.now) session }
 {
@@ -125,6 +131,7 @@ pub fn idle_moment(config: &Config, past: &[&Act], session: u32) -> Option<u128>
     }
 }
 
+/// Whether there is such a moment and it isn't later than `at`.
 pub fn reached(moment: Option<u128>, at: u64) -> bool
     ensures { result ≡ reached moment at }
 {

@@ -11,21 +11,30 @@ use crate::sessions::permits;
 use command_places::{has_own_door, listens_at, options_of, places};
 use relay_model::{Act, Config, Place};
 
-/// What is called for; with `TryAt` nothing before that moment. An accepting is at a door, for a place.
+/// What is called for.
 #[derive(Clone, Copy, Debug, PartialEq, Eq)]
 pub enum Call {
+    /// Nothing is called for.
     Nothing,
+    /// A further try, and nothing before this moment, in milliseconds.
     TryAt(u64),
+    /// The opening of a place.
     Open(Place),
+    /// The further opening of a place whose opening is under way.
     Settle(Place),
+    /// The listening of a door.
     Listen(Place),
+    /// An accepting at the door, for the place.
     Accept(Place, Place),
+    /// The closing of a place whose peer isn't permitted.
     Refuse(Place),
+    /// The closing of a door that has served.
     Serve(Place),
 }
 
 // ---- tries
 
+/// Whether more openings or listenings failed at the place or door than `retry` makes good.
 pub fn out_of_tries(config: &Config, past: &[&Act], place: Place) -> bool
     ensures { result ≡ out_of_tries config.now (acts past.now) place }
 {

@@ -14,15 +14,22 @@ use crate::sessions::{holds, live, numbers};
 use command_places::{PlaceList, has_fork, is_place_of, own_doors, places, program_door};
 use relay_model::{Act, Config, Half, Place, Side, Why};
 
-/// How a run ended. A listening or an opening failed after so many tries, a stop came after so many turns.
+/// How a run ended.
 #[derive(Clone, Copy, Debug, PartialEq, Eq)]
 pub enum Outcome {
+    /// Memory was wanting.
     Memory,
+    /// It was stopped after so many turns.
     Stopped(usize),
+    /// An accepting failed.
     AcceptFailed,
+    /// No listening succeeded in so many tries.
     ListenFailed(usize),
+    /// No opening of this side succeeded in so many tries.
     OpenFailed(Side, usize),
+    /// The first read or write that failed was at this half of the place.
     Faulted(Place, Half),
+    /// It ended for this reason, without a fault.
     Ended(Why),
 }
 

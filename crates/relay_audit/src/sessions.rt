@@ -42,6 +42,7 @@ pub fn admitted(config: &Config, mut past: &[&Act]) -> u32
     count
 }
 
+/// Whether one of these places or doors is held.
 pub fn any_held(past: &[&Act], places: &[Place]) -> bool
     ensures { result ≡ list_any (held (acts past.now)) places.now }
 {
@@ -55,6 +56,7 @@ pub fn holds(config: &Config, past: &[&Act], session: u32) -> bool
     any_held(past, things(config, session).as_slice())
 }
 
+/// Whether the session lives: without `fork` session 0 always does, with it each one that has begun and holds something.
 pub fn live(config: &Config, past: &[&Act], session: u32) -> bool
     requires { admitted config.now (acts past.now) < 2 ^ 32 }
     ensures { result ≡ live config.now (acts past.now) session }
