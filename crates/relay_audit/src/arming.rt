@@ -15,7 +15,7 @@ pub enum Arming {
     Disarmed,
     /// Worth asking now.
     Armed,
-    /// It met an end at this moment, in milliseconds, and is asked again later.
+    /// It met an end at this moment, in milliseconds, and is worth asking again only after a pause.
     AtEnd(u64),
 }
 

@@ -96,8 +96,8 @@ fn after_one(closing: u64, one: Option<u64>, other: Option<u64>) -> Option<u128>
     }
 }
 
-/// The moment, in milliseconds, at which the closing time (`-t`) is over: it begins where the first of two directions
-/// is done.
+/// The moment, in milliseconds, at which the closing time (`-t`) is over, where one of two directions is done and the
+/// other isn't.
 pub fn closing_moment(config: &Config, past: &[&Act], session: u32) -> Option<u128>
     ensures { result ≡ closing_moment config.now (acts past.now) session }
 {
@@ -120,7 +120,8 @@ pub fn is_unfinished(config: &Config, past: &[&Act], session: u32) -> bool
         || formed(config, Way::RightToLeft) && !done(config, past, session, Way::RightToLeft)
 }
 
-/// The moment, in milliseconds, at which the session was idle for as long as `-T` says, while a direction isn't done.
+/// The moment, in milliseconds, at which the session has been idle for as long as `-T` says, where it is given and a
+/// direction isn't done.
 pub fn idle_moment(config: &Config, past: &[&Act], session: u32) -> Option<u128>
     ensures { result ≡ idle_moment config.now (acts past.now) session }
 {

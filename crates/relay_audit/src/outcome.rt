@@ -29,7 +29,7 @@ pub enum Outcome {
     OpenFailed(Side, usize),
     /// The first read or write that failed was at this half of the place.
     Faulted(Place, Half),
-    /// It ended for this reason, without a fault.
+    /// It ended for this reason.
     Ended(Why),
 }
 
