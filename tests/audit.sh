@@ -1,7 +1,7 @@
 #!/usr/bin/env bash
 # Runs the built auditor on the journals of tests/data/journals.txt, which were judged by other means, on those of
-# tests/data/journals_by_hand.txt, and on files that are missing, empty, cut or too long. One line a case that fails,
-# and 'N passed, M failed' at the end; the status is 1 where a case failed.
+# tests/data/journals_by_hand.txt, on one of 2,000 acts, and on files that are missing, empty, cut or too long. One line
+# a case that fails, and 'N passed, M failed' at the end; the status is 1 where a case failed.
 # Usage: tests/audit.sh [PROGRAM]      (bin/socat-audit where none is given)
 set -u
 
@@ -64,8 +64,49 @@ run_cases() {
     fi
 }
 
+# The journal of a run of 2,000 acts: a door of `fork` serves ten sessions, which take turns. In each of 62 rounds each
+# session passes one byte on and finds no other; 8 sessions pass one byte more, and then all of them end.
+two_thousand_acts() {
+    local sessions=(0 1 2 3 4 5 6 7 8 9) s round named
+    echo 'listening 0LBd'
+    for s in "${sessions[@]}"; do
+        printf 'accepted %sLI- 4:0a000001:%s\nopened %sRO-\n' "$s" $((4000 + s)) "$s"
+    done
+    echo 'closed 0LBd served'
+    named="$(printf ',%sLI-r' "${sessions[@]}")"
+    for ((round = 1; round <= 62; round++)); do
+        for s in "${sessions[@]}"; do
+            printf 'read %sLI- x61\nwrote %sRO- x61\nreadnotyet %sLI-\n' "$s" "$s" "$s"
+        done
+        echo "turn - $round ${named#,} 0"
+    done
+    for s in 0 1 2 3 4 5 6 7; do
+        printf 'read %sLI- x62\nwrote %sRO- x62\n' "$s" "$s"
+    done
+    for s in "${sessions[@]}"; do
+        printf 'end %sLI-\nshut %sRO- close\nclosed %sLI- finished\nclosed %sRO- finished\n' "$s" "$s" "$s" "$s"
+    done
+}
+
+# A journal of 2,000 acts is judged within 5 seconds.
+run_long_journal() {
+    local said begun ended
+    two_thousand_acts >"$scratch/many"
+    begun="$(date +%s%N)"
+    said="$(timeout 5 "$program" "$scratch/many" -u TCP-LISTEN:80,fork,max-children=10,stop-after=10 CREATE:f)"
+    ended="$(date +%s%N)"
+    if [ "$said" = 'yes: 2000 acts, 0 held' ]; then
+        passed=$((passed + 1))
+        echo "2000 acts in $(((ended - begun) / 1000000)) ms"
+    else
+        failed=$((failed + 1))
+        echo "FAILED  2000 acts: '$said' after $(((ended - begun) / 1000000)) ms"
+    fi
+}
+
 run_cases journals.txt
 run_cases journals_by_hand.txt
+run_long_journal
 
 : >"$scratch/empty"
 printf 'opened 0LI-\nopened 0RO' >"$scratch/cut"
