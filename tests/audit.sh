@@ -64,25 +64,22 @@ run_cases() {
     fi
 }
 
-# The journal of a run of 2,000 acts: a door of `fork` serves ten sessions, which take turns. In each of 62 rounds each
-# session passes one byte on and finds no other; 8 sessions pass one byte more, and then all of them end.
+# The journal of a run of 2,000 acts: a door of `fork` serves ten sessions. 481 turns name one session each, in order,
+# which passes one byte on; then one session passes two bytes on, one by one, and all of them end.
 two_thousand_acts() {
-    local sessions=(0 1 2 3 4 5 6 7 8 9) s round named
+    local sessions=(0 1 2 3 4 5 6 7 8 9) s moment named
     echo 'listening 0LBd'
     for s in "${sessions[@]}"; do
         printf 'accepted %sLI- 4:0a000001:%s\nopened %sRO-\n' "$s" $((4000 + s)) "$s"
     done
     echo 'closed 0LBd served'
+    printf 'readnotyet %sLI-\n' "${sessions[@]}"
+    for ((moment = 0; moment < 481; moment++)); do
+        s=$((moment % 10))
+        printf 'turn - %s %sLI-r 0\nread %sLI- x61\nwrote %sRO- x61\nreadnotyet %sLI-\n' "$moment" "$s" "$s" "$s" "$s"
+    done
     named="$(printf ',%sLI-r' "${sessions[@]}")"
-    for ((round = 1; round <= 62; round++)); do
-        for s in "${sessions[@]}"; do
-            printf 'read %sLI- x61\nwrote %sRO- x61\nreadnotyet %sLI-\n' "$s" "$s" "$s"
-        done
-        echo "turn - $round ${named#,} 0"
-    done
-    for s in 0 1 2 3 4 5 6 7; do
-        printf 'read %sLI- x62\nwrote %sRO- x62\n' "$s" "$s"
-    done
+    printf 'turn - 481 %s 0\nread 0LI- x6262\nwrote 0RO- x62\nwrote 0RO- x62\n' "${named#,}"
     for s in "${sessions[@]}"; do
         printf 'end %sLI-\nshut %sRO- close\nclosed %sLI- finished\nclosed %sRO- finished\n' "$s" "$s" "$s" "$s"
     done
