@@ -121,6 +121,13 @@ impl Flow {
         self.left == Some(0) || self.met
     }
 
+    /// How many bytes wait to be written.
+    pub fn waiting(&self) -> usize
+        ensures { result ≡ length self.now.backlog }
+    {
+        self.held.len()
+    }
+
     /// Whether nothing waits to be written.
     pub fn spent(&self) -> bool
         ensures spent { result ≡ (length self.now.backlog == 0) }

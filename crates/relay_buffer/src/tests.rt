@@ -70,6 +70,7 @@ fn a_byte_is_read_only_once_the_backlog_leaves_room(rt: HostRuntime) -> Result<(
     assert_eq!(rt; flow.room(), 1);
     fill(&rt, &mut flow, b"\n");
     assert_eq!(rt; flow.pending(), b"\r\n".as_slice());
+    assert_eq!(rt; flow.waiting(), 2);
     assert_eq!(rt; flow.room(), 0);
     take_byte(&rt, &mut flow, b'\r');
     assert_eq!(rt; flow.room(), 0);
