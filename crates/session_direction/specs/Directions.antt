@@ -1,0 +1,105 @@
+-- What a direction stands for after a list of acts, and what its wants say of it.
+use Rattle.std.specs.Prelude.{◌≡◌, ℕ, ◌≤◌, Bool, true, false, not, ◌&&◌, ◌||◌, List, [], ◌∷◌, ◌++◌, is_some}
+use Rattle.relay_model.specs.declared.places.Way.{Way}
+use Rattle.relay_model.specs.declared.commands.Config.{Config}
+use Rattle.relay_model.specs.declared.acts.Act.{Act}
+use Rattle.relay_model.specs.declared.readiness.ReadyAt.{ReadyAt}
+use Rattle.relay_model.specs.Readiness.{Listed}
+use Rattle.relay_model.specs.Choices.{only_if}
+use Rattle.relay_model.specs.Configs.{input, output, formed, options_of, keeps_borders, how}
+use Rattle.relay_model.specs.Conversions.{packet_cap}
+use Rattle.relay_model.specs.History.{got, put, sent, met_end, met_empty}
+use Rattle.relay_model.specs.Arming.{read_arming, armed_to_read, armed_to_write, asked_to_read, asked_to_write}
+use Rattle.relay_model.specs.Transfers.{due_pieces, over, backlog, room}
+use Rattle.relay_model.specs.Moments.{passed_at, broken_at}
+use Rattle.relay_model.specs.Rest.{moves, may_read, may_write, must_pass}
+use Rattle.relay_model.specs.May.{MayRead, MayTryWrite, MayShut}
+use Rattle.relay_buffer.specs.declared.lanes.Lane.{Lane}
+use Rattle.relay_buffer.specs.Flows.{IsFlow, room_in}
+use Rattle.session_direction.specs.declared.directions.Want.{Want}
+use Rattle.session_direction.specs.declared.directions.Want.TheVariants as wants
+use Rattle.session_direction.specs.States.{DirectionState}
+
+-- how the direction passes bytes on; the options of a place are the same in each session
+abbrev pub terms_of : Config → Way → Lane
+terms_of c w =
+    record {
+      block = c.block;
+      how = record { read = (options_of c (input c 0 w)).conv; write = (options_of c (output c 0 w)).conv };
+      readbytes = (options_of c (input c 0 w)).readbytes;
+      escape = (options_of c (input c 0 w)).escape;
+      packets = only_if (keeps_borders c w) (packet_cap (options_of c (output c 0 w)).conv);
+    }
+
+-- an end that counts was met: one of the input, or an empty packet
+abbrev pub met_last : Config → List Act → ℕ → Way → Bool
+met_last c past s w =
+    met_end past (input c s w) && not (options_of c (input c s w)).ignoreeof
+    || met_empty past (input c s w) && (options_of c (input c s w)).null_eof
+
+-- the bytes as one piece, or no piece where there are none
+abbrev pub as_pieces : List ℕ → List (List ℕ)
+as_pieces [] = []
+as_pieces (b ∷ bs) = (b ∷ bs) ∷ []
+
+-- where the end was passed on, nothing waits and the input is over
+pub record IsSpent (c : Config) (past : List Act) (s : ℕ) (w : Way) (d : DirectionState) : Type 0 where
+  pub emptied : d.flow.backlog ≡ []
+  pub is_over : over c past (input c s w) ≡ true
+
+-- each field is what the list of acts says
+pub record IsDirection (c : Config) (past : List Act) (s : ℕ) (w : Way) (d : DirectionState) : Type 0 where
+  pub is_formed : formed c w ≡ true
+  pub source_is : d.source ≡ input c s w
+  pub sink_is : d.sink ≡ output c s w
+  pub ignores_end_is : d.ignores_end ≡ (options_of c (input c s w)).ignoreeof
+  pub ends_at_empty_is : d.ends_at_empty ≡ (options_of c (input c s w)).null_eof
+  pub sloppy_is : d.sloppy ≡ c.sloppy
+  pub how_is : d.how ≡ how c (output c s w)
+  pub flow_is : IsFlow (terms_of c w) (got past (input c s w)) (put past (output c s w)) d.flow
+  pub arming_is : d.arming ≡ read_arming past (input c s w)
+  pub armed_out_is : d.armed_out ≡ armed_to_write past (output c s w)
+  pub asked_in_is : d.asked_in ≡ asked_to_read past (input c s w)
+  pub asked_out_is : d.asked_out ≡ asked_to_write past (input c s w) (output c s w)
+  pub ended_is : d.ended ≡ met_last c past s w
+  pub passed_is : d.passed_at ≡ passed_at c past s w
+  pub broken_is : d.broken_at ≡ broken_at c past s w
+  pub pieces_are : keeps_borders c w ≡ true → due_pieces c past s w ≡ sent past (output c s w) ++ as_pieces d.flow.backlog
+  pub passed_is_spent : is_some d.passed_at ≡ true → IsSpent c past s w d
+
+-- a list of entries as a turn keeps it
+abbrev pub listed : List ReadyAt → Listed
+listed entries = record { entries = entries; room = 0 }
+
+-- ---- wants
+
+-- bytes may be offered to the output, which wasn't asked yet
+pub record WantsWrite (c : Config) (past : List Act) (s : ℕ) (w : Way) (keeps : Bool) : Type 0 where
+  pub may : MayTryWrite c past (output c s w)
+  pub borders : keeps_borders c w ≡ keeps
+  pub not_asked : asked_to_write past (input c s w) (output c s w) ≡ false
+
+-- so many bytes may be read, as many as there is room for, from an input that wasn't asked yet
+pub record WantsRead (c : Config) (past : List Act) (s : ℕ) (w : Way) (n : ℕ) : Type 0 where
+  pub may : MayRead c past (input c s w) n
+  pub size : n ≡ room c past s w
+  pub not_asked : asked_to_read past (input c s w) ≡ false
+
+-- nothing is left to be done before the next turn
+pub record WantsNothing (c : Config) (past : List Act) (s : ℕ) (w : Way) : Type 0 where
+  pub read_tried : may_read c past s w ≡ true → asked_to_read past (input c s w) ≡ true
+  pub write_tried : may_write c past s w ≡ true → asked_to_write past (input c s w) (output c s w) ≡ true
+  pub passed_on : must_pass c past s w ≡ false
+  pub read_ahead : moves c past s w ≡ true → armed_to_read past (input c s w) ≡ true → over c past (input c s w) ≡ false → backlog c past s w ≤ c.block → 1 ≤ room c past s w → asked_to_read past (input c s w) ≡ true
+
+abbrev pub Wants : Config → List Act → ℕ → Way → Want → Type 0
+Wants c past s w (wants.Shut way) = MayShut c past (output c s w) way
+Wants c past s w wants.Write = WantsWrite c past s w false
+Wants c past s w wants.Send = WantsWrite c past s w true
+Wants c past s w (wants.Read n) = WantsRead c past s w n
+Wants c past s w wants.Nothing = WantsNothing c past s w
+
+-- what is wanted to be read has room
+abbrev pub FitsRoom : DirectionState → Want → Type 0
+FitsRoom d (wants.Read n) = n ≡ room_in d.flow
+FitsRoom d other = Unit {0}

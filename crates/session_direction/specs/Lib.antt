@@ -1,0 +1,4 @@
+pub mod Armings
+pub mod Directions
+pub mod States
+pub mod Touches

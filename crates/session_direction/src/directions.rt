@@ -1,0 +1,460 @@
+// The fields of a direction, what it wants, and what each act makes of it.
+ghost use Rattle.std.specs.Prelude.{◌≡◌, ◌∷◌, ◌++◌, ◌≤◌, ◌<◌, ◌*◌, ◌&&◌, ◌||◌, not, ℕ, List, [], true, false, Option, Some, None, IfOk, if◌then◌else◌, is_some, length, take};
+ghost use Rattle.relay_model.specs.declared.acts.Act.{Act};
+ghost use Rattle.relay_model.specs.declared.acts.Act.TheVariants as acts;
+ghost use Rattle.relay_model.specs.declared.acts.Peer.{Peer};
+ghost use Rattle.relay_model.specs.declared.acts.Shut.{Shut as Shutting};
+ghost use Rattle.relay_model.specs.declared.commands.Config.{Config as Command};
+ghost use Rattle.relay_model.specs.declared.places.Way.{Way as WayOf};
+ghost use Rattle.relay_model.specs.declared.readiness.ReadyAt.{ReadyAt as Entry};
+ghost use Rattle.relay_model.specs.Readiness.{Listed};
+ghost use Rattle.relay_model.specs.Choices.{later};
+ghost use Rattle.relay_model.specs.Configs.{Fit, formed, input, output, keeps_borders};
+ghost use Rattle.relay_model.specs.Conversions.{packet_cap};
+ghost use Rattle.relay_model.specs.Cause.{running};
+ghost use Rattle.relay_model.specs.History.{now};
+ghost use Rattle.relay_model.specs.Moments.{broken, done_at, passed};
+ghost use Rattle.relay_model.specs.May.{MayOffer, MayShut, MayWrite};
+ghost use Rattle.relay_model.specs.Rest.{input_moment, may_write, way_work};
+ghost use Rattle.relay_model.specs.Transfers.{is_spent, over, room, backlog};
+ghost use Rattle.relay_model.specs.Arming.{armed_to_read, asked_to_write};
+ghost use Rattle.relay_buffer.specs.Flows.{room_in};
+ghost use Rattle.session_direction.specs.Directions.{IsDirection, Wants, FitsRoom, listed, terms_of};
+ghost use Rattle.session_direction.specs.States.{steps_in};
+ghost use Rattle.session_direction.specs.Touches.{touches};
+
+use crate::armings::Arming;
+use command_places::{how, input, keeps_borders, options_of, output};
+use line_ends::Convs;
+use relay_buffer::{Flow, Lane};
+use relay_model::{Config, Conv, Half, NoMemory, Place, ReadyAt, Shut, Way};
+use std::alloc::Global;
+use std::marker::Model;
+
+/// What a direction wants to be done. `Send` is a write of one packet, and `Read` has the most bytes to ask for.
+#[derive(Clone, Copy, Debug, PartialEq, Eq)]
+pub enum Want {
+    Shut(Shut),
+    Write,
+    Send,
+    Read(usize),
+    Nothing,
+}
+
+/// One formed direction of a session. Moments are milliseconds since the run began.
+#[derive(Drop)]
+pub struct Direction {
+    source: Place,
+    sink: Place,
+    ignores_end: bool,
+    ends_at_empty: bool,
+    sloppy: bool,
+    how: Shut,
+    terms: Lane,
+    flow: Flow,
+    arming: Arming,
+    armed_out: bool,
+    asked_in: bool,
+    asked_out: bool,
+    ended: bool,
+    passed_at: Option<u64>,
+    broken_at: Option<u64>,
+}
+
+impl Model for Direction {
+    ghost use Rattle.std.specs.Prelude.{◌≡◌};
+    ghost use Rattle.session_direction.specs.Armings.{as_arming};
+    ghost use Rattle.session_direction.specs.States.{DirectionState};
+
+    ghost Value = { DirectionState };
+
+    ghost view = { λ d. record { source = d.source; sink = d.sink; ignores_end = d.ignores_end; ends_at_empty = d.ends_at_empty; sloppy = d.sloppy; how = d.how; flow = d.flow; arming = as_arming d.arming; armed_out = d.armed_out; asked_in = d.asked_in; asked_out = d.asked_out; ended = d.ended; passed_at = d.passed_at; broken_at = d.broken_at } };
+
+    ghost invariant = { λ d. d.flow.lane ≡ d.terms };
+}
+
+impl Direction {
+    /// A direction of the session with this number, before anything happened.
+    pub fn new(alloc: Global, config: &Config, number: u32, way: Way) -> Result<Direction, NoMemory>
+        requires formed { formed config.now way ≡ true }
+        ensures { IfOk result (λ direction. IsDirection config.now [] number way direction) }
+    {
+        let terms = terms_of(config, way);
+        let source = input(config, number, way);
+        let sink = output(config, number, way);
+        let options = options_of(config, source);
+        let flow = Flow::new(alloc, terms)?;
+        Ok(Direction {
+            source,
+            sink,
+            ignores_end: options.ignoreeof,
+            ends_at_empty: options.null_eof,
+            sloppy: config.sloppy,
+            how: how(config, sink),
+            terms,
+            flow,
+            arming: Arming::Disarmed,
+            armed_out: false,
+            asked_in: false,
+            asked_out: false,
+            ended: false,
+            passed_at: None,
+            broken_at: None,
+        })
+    }
+
+    // ---- what it stands for
+
+    /// The place that it is read from.
+    pub fn source(&self) -> Place
+        ensures { result ≡ self.now.source }
+    {
+        self.source
+    }
+
+    /// The place that it is written to.
+    pub fn sink(&self) -> Place
+        ensures { result ≡ self.now.sink }
+    {
+        self.sink
+    }
+
+    /// Whether the end was passed on; an end that couldn't be counts too.
+    pub fn has_passed(&self) -> bool
+        ensures state { result ≡ is_some self.now.passed_at }
+        ensures stands { (c : Command) (past : List Act) (s : ℕ) (w : WayOf) → IsDirection c past s w self.now → result ≡ passed c past s w }
+    {
+        self.passed_at.is_some()
+    }
+
+    /// Whether a fault broke it.
+    pub fn is_broken(&self) -> bool
+        ensures state { result ≡ is_some self.now.broken_at }
+        ensures stands { (c : Command) (past : List Act) (s : ℕ) (w : WayOf) → IsDirection c past s w self.now → result ≡ broken c past s w }
+    {
+        self.broken_at.is_some()
+    }
+
+    /// The moment at which it was done: it had passed its end or was broken.
+    pub fn done_at(&self) -> Option<u64>
+        ensures { (c : Command) (past : List Act) (s : ℕ) (w : WayOf) → IsDirection c past s w self.now → result ≡ done_at c past s w }
+    {
+        match self.passed_at {
+            Some(passed) => Some(passed),
+            None => self.broken_at,
+        }
+    }
+
+    /// The bytes to be written next: the first that wait, and all of them where they are one packet.
+    pub fn pending(&self) -> &[u8]
+        ensures front { result.now ≡ take (length result.now) self.now.flow.backlog }
+        ensures some { result.now ≡ [] → self.now.flow.backlog ≡ [] }
+        ensures whole { is_some self.now.flow.lane.packets ≡ true → result.now ≡ self.now.flow.backlog }
+        ensures bound { length self.now.flow.backlog ≤ 2 * self.now.flow.lane.block }
+    {
+        self.flow.pending()
+    }
+
+    /// How many bytes wait.
+    pub fn waiting(&self) -> usize
+        ensures state { result ≡ length self.now.flow.backlog }
+        ensures stands { (c : Command) (past : List Act) (s : ℕ) (w : WayOf) → IsDirection c past s w self.now → result ≡ backlog c past s w }
+    {
+        self.flow.waiting()
+    }
+
+    /// How many bytes may be read next.
+    pub fn room(&self) -> usize
+        ensures state { result ≡ room_in self.now.flow }
+        ensures stands { (c : Command) (past : List Act) (s : ℕ) (w : WayOf) → IsDirection c past s w self.now → over c past (input c s w) ≡ false → result ≡ room c past s w }
+    {
+        self.flow.room()
+    }
+
+    /// Whether each piece that was read goes out as one packet.
+    pub fn keeps_borders(&self) -> bool
+        ensures state { result ≡ is_some self.now.flow.lane.packets }
+        ensures stands { (c : Command) (past : List Act) (s : ℕ) (w : WayOf) → IsDirection c past s w self.now → result ≡ keeps_borders c w }
+    {
+        self.terms.packets.is_some()
+    }
+
+    // ---- what it wants
+
+    /// Whether nothing more counts of what may come.
+    fn is_over(&self) -> bool
+        ensures { (c : Command) (past : List Act) (s : ℕ) (w : WayOf) → IsDirection c past s w self.now → result ≡ over c past (input c s w) }
+    {
+        self.ended || self.flow.over()
+    }
+
+    /// Whether the input is over and all was written.
+    fn is_spent(&self) -> bool
+        ensures { (c : Command) (past : List Act) (s : ℕ) (w : WayOf) → IsDirection c past s w self.now → result ≡ is_spent c past s w }
+    {
+        self.is_over() && self.flow.spent()
+    }
+
+    /// Whether bytes wait for an output that is armed.
+    fn may_write(&self) -> bool
+        ensures { (c : Command) (past : List Act) (s : ℕ) (w : WayOf) → IsDirection c past s w self.now → running c past s ≡ true → broken c past s w ≡ false → result ≡ may_write c past s w }
+    {
+        self.armed_out && !self.flow.spent()
+    }
+
+    /// A write of the bytes that wait.
+    fn want_to_write(&self) -> Want
+        ensures wants { (c : Command) (past : List Act) (s : ℕ) (w : WayOf) → IsDirection c past s w self.now → passed c past s w ≡ false → may_write c past s w ≡ true → asked_to_write past (input c s w) (output c s w) ≡ false → Wants c past s w result }
+        ensures fits { FitsRoom self.now result }
+    {
+        if self.terms.packets.is_some() {
+            Want::Send
+        } else {
+            Want::Write
+        }
+    }
+
+    /// What is to be done next while the session runs, where `at` is the moment of the last turn.
+    pub fn want(&self, at: u64) -> Want
+        ensures wants { (c : Command) (past : List Act) (s : ℕ) (w : WayOf) → IsDirection c past s w self.now → at ≡ now past → running c past s ≡ true → 1 ≤ c.block → Wants c past s w result }
+        ensures fits { FitsRoom self.now result }
+    {
+        if self.is_broken() {
+            return Want::Nothing;
+        }
+        if self.has_passed() {
+            return Want::Nothing;
+        }
+        if self.is_spent() {
+            return Want::Shut(self.how);
+        }
+        if self.may_write() && !self.asked_out {
+            return self.want_to_write();
+        }
+        self.want_to_read(at)
+    }
+
+    /// Whether the input is armed, and more of it counts.
+    fn is_worth_asking(&self, at: u64) -> bool
+        ensures { (c : Command) (past : List Act) (s : ℕ) (w : WayOf) → IsDirection c past s w self.now → at ≡ now past → result ≡ (armed_to_read past (input c s w) && not (over c past (input c s w))) }
+    {
+        self.arming.is_armed(at) && !self.is_over()
+    }
+
+    /// A read, where the input is worth asking. While more than a block waits in one piece, nothing more is read.
+    fn want_to_read(&self, at: u64) -> Want
+        ensures wants { (c : Command) (past : List Act) (s : ℕ) (w : WayOf) → IsDirection c past s w self.now → at ≡ now past → running c past s ≡ true → 1 ≤ c.block → broken c past s w ≡ false → passed c past s w ≡ false → is_spent c past s w ≡ false → (may_write c past s w ≡ true → asked_to_write past (input c s w) (output c s w) ≡ true) → Wants c past s w result }
+        ensures fits { FitsRoom self.now result }
+    {
+        if self.asked_in {
+            return Want::Nothing;
+        }
+        if !self.is_worth_asking(at) {
+            return Want::Nothing;
+        }
+        let room = self.flow.room();
+        if room == 0 {
+            return Want::Nothing;
+        }
+        if self.flow.pending().len() > self.terms.block as usize {
+            return Want::Nothing;
+        }
+        Want::Read(room)
+    }
+
+    /// Whether an armed half has work left, so that a wait must return at once.
+    pub fn works(&self, at: u64) -> bool
+        ensures { (c : Command) (past : List Act) (s : ℕ) (w : WayOf) → IsDirection c past s w self.now → at ≡ now past → running c past s ≡ true → result ≡ way_work c past s w }
+    {
+        if self.is_broken() {
+            return false;
+        }
+        if self.flow.spent() {
+            self.is_worth_asking(at)
+        } else {
+            self.armed_out
+        }
+    }
+
+    /// The moment, later than this one, from which an input that met an end is asked again.
+    pub fn moment(&self, at: u64) -> Option<u64>
+        ensures { (c : Command) (past : List Act) (s : ℕ) (w : WayOf) → IsDirection c past s w self.now → at ≡ now past → running c past s ≡ true → result ≡ later (now past) (input_moment c past s w) }
+    {
+        if self.is_broken() || self.is_over() {
+            None
+        } else {
+            self.arming.moment(at)
+        }
+    }
+
+    // ---- what was done
+
+    /// A place was opened, or a peer was accepted there.
+    pub fn opened(&mut self, place: Place)
+        ensures opened { (c : Command) (past : List Act) (s : ℕ) (w : WayOf) → IsDirection c past s w self.old → IsDirection c (acts.Opened place ∷ past) s w self.new }
+        ensures accepted { (c : Command) (past : List Act) (s : ℕ) (w : WayOf) (peer : Peer) → IsDirection c past s w self.old → IsDirection c (acts.Accepted place peer ∷ past) s w self.new }
+        ensures same { steps_in self.new ≡ steps_in self.old }
+    {
+        self.arming = self.arming.armed_where(place.is(self.source));
+        self.armed_out = either(place.is(self.sink), self.armed_out);
+    }
+
+    /// Bytes were read.
+    pub fn read(&mut self, bytes: &[u8])
+        requires { length bytes.now ≤ room_in self.old.flow }
+        ensures goes { (c : Command) (past : List Act) (s : ℕ) (w : WayOf) → IsDirection c past s w self.old → passed c past s w ≡ false → IsDirection c (acts.Read (input c s w) bytes.now ∷ past) s w self.new }
+        ensures fewer { self.old.asked_in ≡ false → steps_in self.new < steps_in self.old }
+    {
+        self.asked_in = true;
+        self.asked_out = false;
+        self.flow.fill(bytes);
+    }
+
+    /// An empty packet was read.
+    pub fn read_empty(&mut self)
+        ensures goes { (c : Command) (past : List Act) (s : ℕ) (w : WayOf) → IsDirection c past s w self.old → IsDirection c (acts.ReadEmpty (input c s w) ∷ past) s w self.new }
+        ensures fewer { self.old.asked_in ≡ false → steps_in self.new < steps_in self.old }
+    {
+        self.asked_in = true;
+        self.ended = either(self.ends_at_empty, self.ended);
+    }
+
+    /// The end of the input was read.
+    pub fn ended(&mut self, at: u64)
+        ensures goes { (c : Command) (past : List Act) (s : ℕ) (w : WayOf) → IsDirection c past s w self.old → at ≡ now past → IsDirection c (acts.ReadEnd (input c s w) ∷ past) s w self.new }
+        ensures fewer { self.old.asked_in ≡ false → steps_in self.new < steps_in self.old }
+    {
+        self.asked_in = true;
+        self.arming = Arming::AtEnd(at);
+        self.ended = either(!self.ignores_end, self.ended);
+    }
+
+    /// A read found nothing yet.
+    pub fn read_not_yet(&mut self)
+        ensures goes { (c : Command) (past : List Act) (s : ℕ) (w : WayOf) → IsDirection c past s w self.old → IsDirection c (acts.ReadNotYet (input c s w) ∷ past) s w self.new }
+        ensures fewer { self.old.asked_in ≡ false → steps_in self.new < steps_in self.old }
+    {
+        self.asked_in = true;
+        self.arming = Arming::Disarmed;
+    }
+
+    /// A read failed, which breaks a sloppy direction.
+    pub fn read_failed(&mut self, at: u64)
+        ensures goes { (c : Command) (past : List Act) (s : ℕ) (w : WayOf) → IsDirection c past s w self.old → at ≡ now past → IsDirection c (acts.ReadFault (input c s w) ∷ past) s w self.new }
+        ensures fewer { self.old.asked_in ≡ false → steps_in self.new < steps_in self.old }
+    {
+        self.asked_in = true;
+        self.broken_at = broken_by_fault(self.sloppy, at);
+    }
+
+    /// So many of the bytes that wait were written.
+    pub fn wrote(&mut self, count: usize)
+        requires within { count ≤ length self.old.flow.backlog }
+        requires whole { is_some self.old.flow.lane.packets ≡ true → count ≡ length self.old.flow.backlog }
+        ensures goes { (c : Command) (past : List Act) (s : ℕ) (w : WayOf) → IsDirection c past s w self.old → 1 ≤ count → passed c past s w ≡ false → IsDirection c (acts.Wrote (output c s w) (take count self.old.flow.backlog) ∷ past) s w self.new }
+        ensures may { (c : Command) (past : List Act) (s : ℕ) (w : WayOf) → IsDirection c past s w self.old → 1 ≤ count → MayOffer c past (output c s w) → MayWrite c past (output c s w) (take count self.old.flow.backlog) }
+        ensures fewer { self.old.asked_out ≡ false → steps_in self.new < steps_in self.old }
+    {
+        self.asked_out = true;
+        self.flow.took(count);
+    }
+
+    /// The output takes nothing yet.
+    pub fn write_not_yet(&mut self)
+        ensures goes { (c : Command) (past : List Act) (s : ℕ) (w : WayOf) → IsDirection c past s w self.old → IsDirection c (acts.WriteNotYet (output c s w) ∷ past) s w self.new }
+        ensures fewer { self.old.asked_out ≡ false → steps_in self.new < steps_in self.old }
+    {
+        self.asked_out = true;
+        self.armed_out = false;
+    }
+
+    /// A write failed, which breaks a sloppy direction.
+    pub fn write_failed(&mut self, at: u64)
+        ensures goes { (c : Command) (past : List Act) (s : ℕ) (w : WayOf) → IsDirection c past s w self.old → at ≡ now past → broken c past s w ≡ false → IsDirection c (acts.WriteFault (output c s w) ∷ past) s w self.new }
+        ensures fewer { self.old.asked_out ≡ false → steps_in self.new < steps_in self.old }
+    {
+        self.asked_out = true;
+        self.broken_at = broken_by_fault(self.sloppy, at);
+    }
+
+    /// The end was passed on, or failed to be.
+    pub fn passed(&mut self, at: u64)
+        ensures shut { (c : Command) (past : List Act) (s : ℕ) (w : WayOf) (way : Shutting) → IsDirection c past s w self.old → at ≡ now past → MayShut c past (output c s w) way → IsDirection c (acts.Shut (output c s w) way ∷ past) s w self.new }
+        ensures failed { (c : Command) (past : List Act) (s : ℕ) (w : WayOf) (way : Shutting) → IsDirection c past s w self.old → at ≡ now past → MayShut c past (output c s w) way → IsDirection c (acts.ShutFault (output c s w) way ∷ past) s w self.new }
+        ensures fewer { is_some self.old.passed_at ≡ false → steps_in self.new < steps_in self.old }
+    {
+        self.passed_at = Some(at);
+    }
+
+    /// A wait has returned, and names nothing yet.
+    pub fn woken(&mut self)
+        ensures { (c : Command) (past : List Act) (s : ℕ) (w : WayOf) (until : Option ℕ) (at : ℕ) → IsDirection c past s w self.old → IsDirection c (acts.Turn until at (listed []) false ∷ past) s w self.new }
+    {
+        self.asked_in = false;
+        self.asked_out = false;
+    }
+
+    /// The last turn names this half too, which may be one of the direction's.
+    pub fn named(&mut self, entry: ReadyAt)
+        ensures goes { (c : Command) (past : List Act) (s : ℕ) (w : WayOf) (until : Option ℕ) (at : ℕ) (names : List Entry) → IsDirection c (acts.Turn until at (listed names) false ∷ past) s w self.old → IsDirection c (acts.Turn until at (listed (names ++ entry ∷ [])) false ∷ past) s w self.new }
+        ensures same { steps_in self.new ≡ steps_in self.old }
+    {
+        match entry.half {
+            Half::ToRead => self.arming = self.arming.armed_where(entry.place.is(self.source)),
+            Half::ToWrite => self.armed_out = either(entry.place.is(self.sink), self.armed_out),
+        }
+    }
+
+    /// A law: an act that doesn't touch the direction leaves it, and so does a stop that a turn tells of.
+    pub fn unmoved(&self)
+        ensures untouched { (c : Command) (past : List Act) (s : ℕ) (w : WayOf) (act : Act) → touches c s w act ≡ false → IsDirection c past s w self.now → IsDirection c (act ∷ past) s w self.now }
+        ensures stopped { (c : Command) (past : List Act) (s : ℕ) (w : WayOf) (until : Option ℕ) (at : ℕ) (ready : Listed) → IsDirection c (acts.Turn until at ready false ∷ past) s w self.now → IsDirection c (acts.Turn until at ready true ∷ past) s w self.now }
+    {}
+}
+
+/// How the direction passes bytes on.
+fn terms_of(config: &Config, way: Way) -> Lane
+    ensures { result ≡ terms_of config.now way }
+{
+    let read = options_of(config, input(config, 0, way));
+    let written = options_of(config, output(config, 0, way));
+    let packets = if keeps_borders(config, way) {
+        Some(packet_cap(written.conv))
+    } else {
+        None
+    };
+    Lane {
+        block: config.block,
+        how: Convs {
+            read: read.conv,
+            write: written.conv,
+        },
+        readbytes: read.readbytes,
+        escape: read.escape,
+        packets,
+    }
+}
+
+/// The longest piece that is read for one packet: converted, it still fits a UDP datagram over IPv4.
+fn packet_cap(conv: Conv) -> u32
+    ensures { result ≡ packet_cap conv }
+{
+    match conv {
+        Conv::Plain | Conv::Cr => 65_507,
+        Conv::Crnl => 32_753,
+    }
+}
+
+/// The moment at which a fault breaks a direction, if it does.
+fn broken_by_fault(sloppy: bool, at: u64) -> Option<u64>
+    ensures { result ≡ (if sloppy then Some at else None) }
+{
+    if sloppy { Some(at) } else { None }
+}
+
+/// Whether one of the two holds.
+fn either(one: bool, other: bool) -> bool
+    ensures { result ≡ (one || other) }
+{
+    one || other
+}

@@ -1,0 +1,10 @@
+//! One direction of a session: what it has read, owes and has written, what of it is armed and was asked, and when it
+//! was done. No call after `new` takes memory.
+#![tactic(auto)]
+
+mod armings;
+mod directions;
+#[cfg(test)]
+mod tests;
+
+pub use directions::{Direction, Want};
