@@ -1,0 +1,10 @@
+pub mod Failing
+pub mod Named
+pub mod PlaceLemmas
+pub mod Tries
+pub mod Taking
+pub mod Lifting
+pub mod Asked
+pub mod Called
+pub mod Staying
+pub mod Beginning

@@ -1,0 +1,49 @@
+-- A step of each opening of a session, as a step of them all.
+use Rattle.std.proofs.Common.{◌≡◌, ap, ◌⊎◌, inl, inr, ℕ, ◌+◌, ◌<◌, ◌≤◌, List, [], ◌∷◌, arith}
+use Rattle.relay_model.specs.declared.places.Place.{Place}
+use Rattle.relay_model.specs.declared.commands.Config.{Config}
+use Rattle.relay_model.specs.declared.acts.Act.{Act}
+use Rattle.relay_model.specs.Configs.{places}
+use Rattle.place_openings.specs.OpeningState.{OpeningState}
+use Rattle.place_openings.specs.Stands.{IsOpening, Each, AreOpenings}
+use Rattle.place_openings.specs.Steps.{steps_of, steps_in}
+use Rattle.place_openings.specs.Moves.{Follows, Apart, Lower, Weighed, SomeLower, Took, TookEach}
+use Rattle.place_openings.specs.declared.steps.Step.{Step}
+
+moved_each : (step : Step) (os ns : List OpeningState) (c : Config) (past later : List Act) (ps : List Place) → TookEach step os ns → Follows c step past later → Each c past ps os → Each c later ps ns
+moved_each step [] [] c past later [] took f each = tt
+moved_each step [] [] c past later (p ∷ ps) took f each = absurd each
+moved_each step [] (n ∷ ns) c past later ps took f each = absurd took
+moved_each step (o ∷ os) [] c past later ps took f each = absurd took
+moved_each step (o ∷ os) (n ∷ ns) c past later [] took f each = absurd each
+moved_each step (o ∷ os) (n ∷ ns) c past later (p ∷ ps) took f each =
+    (took.0.goes c past later p f each.0, moved_each step os ns c past later ps took.1 f each.1)
+
+pub moved : (step : Step) (os ns : List OpeningState) (c : Config) (past later : List Act) (s : ℕ) → TookEach step os ns → Follows c step past later → AreOpenings c past s os → AreOpenings c later s ns
+moved step os ns c past later s took f are = record { each = moved_each step os ns c past later (places c s) took f are.each }
+
+-- an opening that is apart from a step, or lowered by it, counts no more after it
+at_most : (step : Step) (o n : OpeningState) → Took step o n → Apart step o ⊎ Lower step o → steps_of n ≤ steps_of o
+at_most step o n took (inl apart) = let e = ap steps_of (took.apart apart) in omega (arith, e)
+at_most step o n took (inr lower) = let e = took.fewer lower in omega (arith, e)
+
+no_more : (step : Step) (os ns : List OpeningState) → TookEach step os ns → Weighed step os → steps_in ns ≤ steps_in os
+no_more step [] [] took w = omega arith
+no_more step [] (n ∷ ns) took w = absurd took
+no_more step (o ∷ os) [] took w = absurd took
+no_more step (o ∷ os) (n ∷ ns) took w =
+    let a = at_most step o n took.0 w.0 in
+    let b = no_more step os ns took.1 w.1 in
+    omega (arith, a, b)
+
+pub lowered : (step : Step) (os ns : List OpeningState) → TookEach step os ns → Weighed step os → SomeLower step os → steps_in ns < steps_in os
+lowered step [] ns took w some = absurd some
+lowered step (o ∷ os) [] took w some = absurd took
+lowered step (o ∷ os) (n ∷ ns) took w (inl lower) =
+    let a = took.0.fewer lower in
+    let b = no_more step os ns took.1 w.1 in
+    omega (arith, a, b)
+lowered step (o ∷ os) (n ∷ ns) took w (inr some) =
+    let a = at_most step o n took.0 w.0 in
+    let b = lowered step os ns took.1 w.1 some in
+    omega (arith, a, b)

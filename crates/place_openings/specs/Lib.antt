@@ -1,0 +1,9 @@
+pub mod Answers
+pub mod Moves
+pub mod OpeningState
+pub mod Queries
+pub mod Stands
+pub mod States
+pub mod Steps
+pub mod Touching
+pub mod Tried

@@ -1,0 +1,51 @@
+-- What the openings of a session stand for: each says of its place what the list of acts says.
+use Rattle.std.specs.Prelude.{◌≡◌, ℕ, Bool, true, false, List, [], ◌∷◌, Option, Some, if◌then◌else◌}
+use Rattle.relay_model.specs.declared.places.Place.{Place}
+use Rattle.relay_model.specs.declared.readiness.ReadyAt.{ReadyAt}
+use Rattle.relay_model.specs.declared.commands.Config.{Config}
+use Rattle.relay_model.specs.declared.acts.Act.{Act}
+use Rattle.relay_model.specs.Readiness.{Listed}
+use Rattle.relay_model.specs.Places.{door_of}
+use Rattle.relay_model.specs.Configs.{places, options_of, medium_of, is_program, listens_at, has_own_door}
+use Rattle.relay_model.specs.Permits.{admission_of}
+use Rattle.relay_model.specs.History.{now, stage, woken, failures, was_closed, was_reaped}
+use Rattle.relay_model.specs.Arming.{armed_to_accept, asked_to_accept}
+use Rattle.retry_plan.specs.Plans.{PlanIs, last_of}
+use Rattle.place_openings.specs.OpeningState.{OpeningState}
+
+-- where tries are made: at the place's own door, or at the place itself
+abbrev pub tried_at : Bool → Place → Place
+tried_at has_door p = if has_door then door_of p else p
+
+pub record IsOpening (c : Config) (past : List Act) (p : Place) (o : OpeningState) : Type 0 where
+  pub no_door : p.door ≡ false
+  pub place_is : o.place ≡ p
+  pub listens_is : o.listens ≡ listens_at c p
+  pub has_door_is : o.has_door ≡ has_own_door c p
+  pub is_child_is : o.is_child ≡ is_program (medium_of c p)
+  pub filter_is : o.filter ≡ admission_of (options_of c p)
+  pub stage_is : o.stage ≡ stage past p
+  pub woken_is : o.woken ≡ woken past p
+  pub door_is : o.has_door ≡ true → o.door ≡ stage past (door_of p)
+  pub armed_is : o.has_door ≡ true → o.armed ≡ armed_to_accept past (door_of p)
+  pub asked_is : o.has_door ≡ true → o.asked ≡ asked_to_accept c past (door_of p)
+  pub tries_are : PlanIs (options_of c p).retry (options_of c p).forever (options_of c p).interval (failures past (tried_at o.has_door p)) o.plan
+  pub tried_is : o.tried ≡ true → last_of (failures past (tried_at o.has_door p)) ≡ Some (now past)
+  pub untried : o.listens ≡ true → failures past p ≡ []
+  pub closed_is : o.closed ≡ was_closed past p
+  pub asked_child_is : was_reaped past p ≡ true → o.asked_child ≡ true
+
+-- the openings of these places, in their order
+abbrev pub Each : Config → List Act → List Place → List OpeningState → Type 0
+Each c past [] [] = Unit {0}
+Each c past [] (o ∷ os) = ⊥
+Each c past (p ∷ ps) [] = ⊥
+Each c past (p ∷ ps) (o ∷ os) = IsOpening c past p o × Each c past ps os
+
+-- the openings of the places of a session
+pub record AreOpenings (c : Config) (past : List Act) (s : ℕ) (os : List OpeningState) : Type 0 where
+  pub each : Each c past (places c s) os
+
+-- what a turn names, as a list of acts keeps it
+abbrev pub kept : List ReadyAt → Listed
+kept entries = record { entries = entries; room = 0 }

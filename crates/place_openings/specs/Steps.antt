@@ -1,0 +1,40 @@
+-- How many calls the openings of a session take at most before the next turn.
+use Rattle.std.specs.Prelude.{◌≡◌, ℕ, ◌+◌, Bool, true, false, not, ◌&&◌, List, [], ◌∷◌, if◌then◌else◌}
+use Rattle.relay_model.specs.declared.places.Place.{Place}
+use Rattle.relay_model.specs.Places.{same_place, door_of}
+use Rattle.relay_model.specs.History.{Stage, Untried, Usable, Unsettled, Failed, Met, Waiting, Gone}
+use Rattle.place_openings.specs.OpeningState.{OpeningState}
+
+-- the calls left at a place or door: an opening or a settling, and a closing; none further after a try that failed
+-- since the last turn
+abbrev pub stage_weight : Stage → (woken tried : Bool) → ℕ
+stage_weight Untried woken tried = 2
+stage_weight Usable woken tried = 1
+stage_weight Unsettled woken tried = if woken then 2 else 1
+stage_weight Failed woken tried = if tried then 0 else 2
+stage_weight (Met peer) woken tried = 1
+stage_weight Waiting woken tried = 1
+stage_weight (Gone why) woken tried = 0
+
+abbrev pub left_unless : Bool → ℕ → ℕ
+left_unless true n = 0
+left_unless false n = n
+
+-- a peer that is accepted may have to be refused too, so an accepting counts twice
+abbrev pub steps_of : OpeningState → ℕ
+steps_of o = stage_weight o.stage o.woken o.tried + stage_weight o.door false o.tried + left_unless o.asked 2 + left_unless o.asked_child 1
+
+abbrev pub steps_in : List OpeningState → ℕ
+steps_in [] = 0
+steps_in (o ∷ os) = steps_of o + steps_in os
+
+-- whether a place or door is the one of this opening
+abbrev pub is_place : Place → OpeningState → Bool
+is_place q o = same_place q o.place
+
+abbrev pub is_own_door : Place → OpeningState → Bool
+is_own_door q o = o.has_door && same_place q (door_of o.place)
+
+-- whether it is asked for the first time what became of the child of this opening
+abbrev pub asks_child : Place → OpeningState → Bool
+asks_child q o = is_place q o && not o.asked_child

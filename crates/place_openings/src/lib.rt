@@ -1,0 +1,14 @@
+// The opening of a session: how far each of its places has come, and what is called for next.
+#![tactic(auto)]
+
+mod calls;
+mod one_place;
+mod session_openings;
+mod stages;
+mod steps;
+
+pub use calls::Call;
+pub use session_openings::Openings;
+
+#[cfg(test)]
+mod tests;

@@ -1,0 +1,399 @@
+// The opening of one place: how far it and its own door have come, and what is called for there.
+ghost use Rattle.std.specs.Prelude.{◌≡◌, ◌<◌, ◌||◌, ◌&&◌, ℕ, Bool, List, Option, ◌∷◌, ◌++◌, [], true, false};
+ghost use Rattle.relay_model.specs.declared.places.Place.{Place as At};
+ghost use Rattle.relay_model.specs.declared.readiness.ReadyAt.{ReadyAt as Entry};
+ghost use Rattle.relay_model.specs.declared.commands.Config.{Config as Command};
+ghost use Rattle.relay_model.specs.declared.acts.Act.{Act};
+ghost use Rattle.relay_model.specs.declared.acts.Act.TheVariants as acts;
+ghost use Rattle.relay_model.specs.declared.acts.ChildEnd.{ChildEnd as Ending};
+ghost use Rattle.relay_model.specs.Configs.{listens_at};
+ghost use Rattle.relay_model.specs.Places.{door_of, same_bool, same_half, same_place};
+ghost use Rattle.relay_model.specs.declared.places.Half.TheVariants.{ToRead};
+ghost use Rattle.relay_model.specs.History.{now as moment, stage, holds_at};
+ghost use Rattle.relay_model.specs.Tries.{is_out_of_tries};
+ghost use Rattle.relay_model.specs.Openings.{opening_call, listening_call, peer_call, place_call};
+ghost use Rattle.retry_plan.specs.Plans.{PlanIs};
+ghost use Rattle.place_openings.specs.Answers.{as_stage, as_call};
+ghost use Rattle.place_openings.specs.Queries.{ready_by, held_by, child_by, peer_by, gave_up};
+ghost use Rattle.place_openings.specs.Stands.{IsOpening, kept, tried_at};
+ghost use Rattle.place_openings.specs.States.{state_of};
+ghost use Rattle.place_openings.specs.Steps.{stage_weight, steps_of, is_place, is_own_door, asks_child};
+ghost use Rattle.place_openings.specs.Tried.{try_call, call_by, is_end_of_tries};
+
+use crate::calls::Call;
+use crate::stages::Stage;
+use command_places::{has_own_door, is_program, listens_at, medium_of, options_of};
+use peer_filter::Filter;
+use relay_model::{Config, Half, Peer, Place, ReadyAt, Why};
+use retry_plan::{NextTry, Plan};
+
+/// How far a place and its own door have come, and what was tried and asked there since the last turn. The tries are
+/// the door's, where the place has one.
+#[derive(Clone, Copy, Debug)]
+pub struct Opening {
+    pub place: Place,
+    pub listens: bool,
+    pub has_door: bool,
+    pub is_child: bool,
+    pub stage: Stage,
+    pub door: Stage,
+    pub woken: bool,
+    pub armed: bool,
+    pub asked: bool,
+    pub tried: bool,
+    pub closed: bool,
+    pub asked_child: bool,
+    pub plan: Plan,
+    pub filter: Filter,
+}
+
+impl Opening {
+    /// Nothing happened at the place yet.
+    pub fn new(config: &Config, place: Place) -> Opening
+        ensures { place.door ≡ false → IsOpening config.now [] place (state_of result) }
+    {
+        let options = options_of(config, place);
+        Opening {
+            place,
+            listens: listens_at(config, place),
+            has_door: has_own_door(config, place),
+            is_child: is_program(medium_of(config, place)),
+            stage: Stage::Untried,
+            door: Stage::Untried,
+            woken: false,
+            armed: false,
+            asked: false,
+            tried: false,
+            closed: false,
+            asked_child: false,
+            plan: Plan::new(options.retry, options.forever, options.interval),
+            filter: Filter::new(options),
+        }
+    }
+
+    // ---- what is called for
+
+    fn is_own_door(&self, thing: Place) -> bool
+        ensures { result ≡ (self.now.has_door && same_place thing (door_of self.now.place)) }
+    {
+        self.has_door && thing.is(self.place.own_door())
+    }
+
+    /// Where tries are made: at the own door, or at the place itself.
+    fn tried_place(&self) -> Place
+        ensures { result ≡ tried_at self.now.has_door self.now.place }
+    {
+        if self.has_door {
+            self.place.own_door()
+        } else {
+            self.place
+        }
+    }
+
+    /// A further try, once it is due and while tries are left.
+    fn try_again(&self, wanted: Call, at: u64) -> Call
+        ensures { (retry : ℕ) (forever : Bool) (interval : ℕ) (failures : List ℕ) → PlanIs retry forever interval failures self.now.plan → as_call result ≡ try_call retry forever interval failures at (as_call wanted) }
+    {
+        once_due(self.plan.next(), wanted, at)
+    }
+
+    /// Whether the place has an own door, or has none, as it is asked for, and no try is left there.
+    pub fn gave_up(&self, has_door: bool) -> bool
+        ensures { (c : Command) (past : List Act) (p : At) → IsOpening c past p (state_of self.now) → result ≡ gave_up c past has_door p }
+    {
+        both(is_same(self.has_door, has_door), self.gives_up())
+    }
+
+    /// Whether no try is left.
+    fn gives_up(&self) -> bool
+        ensures { (retry : ℕ) (forever : Bool) (interval : ℕ) (failures : List ℕ) → PlanIs retry forever interval failures self.now.plan → result ≡ is_out_of_tries retry forever failures }
+    {
+        is_end_of_tries(self.plan.next())
+    }
+
+    /// Whether the place is ready: one that doesn't listen where it was opened, another one where it is held by a
+    /// permitted peer and its own door has served.
+    pub fn is_ready(&self) -> bool
+        ensures { result ≡ ready_by (state_of self.now) }
+    {
+        match self.stage {
+            Stage::Usable => !self.listens,
+            Stage::Met(peer) => {
+                self.listens
+                    && self.filter.permits(peer)
+                    && (!self.has_door || self.door.has_served())
+            }
+            _ => false,
+        }
+    }
+
+    /// An opening, a settling once a turn named the place, or a further try.
+    fn opening_call(&self, at: u64) -> Call
+        ensures { (c : Command) (past : List Act) (p : At) → IsOpening c past p (state_of self.now) → self.now.has_door ≡ false → at ≡ moment past → as_call result ≡ opening_call c past p (stage past p) }
+    {
+        match self.stage {
+            Stage::Untried => Call::Open(self.place),
+            Stage::Unsettled if self.woken => Call::Settle(self.place),
+            Stage::Failed => self.try_again(Call::Open(self.place), at),
+            _ => Call::Nothing,
+        }
+    }
+
+    /// A listening, a further try of one, or an accepting where the door is armed.
+    fn listening_call(&self, at: u64) -> Call
+        ensures { (c : Command) (past : List Act) (p : At) → IsOpening c past p (state_of self.now) → self.now.has_door ≡ true → at ≡ moment past → as_call result ≡ listening_call c past (door_of p) p (stage past (door_of p)) }
+    {
+        let door = self.place.own_door();
+        match self.door {
+            Stage::Untried => Call::Listen(door),
+            Stage::Failed => self.try_again(Call::Listen(door), at),
+            Stage::Waiting if self.armed => Call::Accept {
+                door,
+                place: self.place,
+            },
+            _ => Call::Nothing,
+        }
+    }
+
+    /// A peer that isn't permitted is refused; after a permitted one the own door has served.
+    fn peer_call(&self, at: u64) -> Call
+        ensures { (c : Command) (past : List Act) (p : At) → IsOpening c past p (state_of self.now) → self.now.has_door ≡ true → at ≡ moment past → as_call result ≡ peer_call c past p (stage past p) }
+    {
+        match self.stage {
+            Stage::Met(peer) if !self.filter.permits(peer) => Call::Refuse(self.place),
+            Stage::Met(_) if self.door.is_held() => Call::Serve(self.place.own_door()),
+            Stage::Met(_) => Call::Nothing,
+            _ => self.listening_call(at),
+        }
+    }
+
+    /// What the place calls for at this moment. With `fork` a left place calls for nothing, since its peer comes by
+    /// the program door.
+    pub fn call(&self, at: u64) -> Call
+        ensures { (c : Command) (past : List Act) (p : At) → IsOpening c past p (state_of self.now) → at ≡ moment past → as_call result ≡ place_call c past p }
+    {
+        if self.has_door {
+            self.peer_call(at)
+        } else if self.listens {
+            Call::Nothing
+        } else {
+            self.opening_call(at)
+        }
+    }
+
+    /// The place, or else its own door, where it is held.
+    pub fn held(&self) -> Option<Place>
+        ensures { result ≡ held_by (state_of self.now) }
+    {
+        if self.stage.is_held() {
+            return Some(self.place);
+        }
+        if self.has_door && self.door.is_held() {
+            return Some(self.place.own_door());
+        }
+        None
+    }
+
+    /// The place, where it is a child that was closed and wasn't asked for yet.
+    pub fn child(&self) -> Option<Place>
+        ensures { result ≡ child_by (state_of self.now) }
+    {
+        if self.is_child && self.closed && !self.asked_child {
+            Some(self.place)
+        } else {
+            None
+        }
+    }
+
+    /// The permitted peer that holds the place.
+    pub fn peer(&self) -> Option<Peer>
+        ensures { result ≡ peer_by self.now.filter (as_stage self.now.stage) }
+    {
+        match self.stage {
+            Stage::Met(peer) if self.filter.permits(peer) => Some(peer),
+            _ => None,
+        }
+    }
+
+    // ---- steps
+
+    /// The place was opened.
+    pub fn opened(&mut self, place: Place)
+        ensures goes { (c : Command) (past : List Act) (p : At) → IsOpening c past p (state_of self.old) → IsOpening c (acts.Opened place ∷ past) p (state_of self.new) }
+        ensures apart { is_place place (state_of self.old) ≡ false → is_own_door place (state_of self.old) ≡ false → state_of self.new ≡ state_of self.old }
+        ensures fewer { is_place place (state_of self.old) ≡ true → is_own_door place (state_of self.old) ≡ false → stage_weight (as_stage self.old.stage) self.old.woken self.old.tried ≡ 2 → steps_of (state_of self.new) < steps_of (state_of self.old) }
+    {
+        self.stage = self.stage.after(place.is(self.place), Stage::Usable);
+        self.door = self.door.after(self.is_own_door(place), Stage::Usable);
+    }
+
+    /// The place was opened, and isn't settled yet.
+    pub fn opened_later(&mut self, place: Place)
+        ensures goes { (c : Command) (past : List Act) (p : At) → IsOpening c past p (state_of self.old) → IsOpening c (acts.OpenLater place ∷ past) p (state_of self.new) }
+        ensures apart { is_place place (state_of self.old) ≡ false → is_own_door place (state_of self.old) ≡ false → state_of self.new ≡ state_of self.old }
+        ensures fewer { is_place place (state_of self.old) ≡ true → is_own_door place (state_of self.old) ≡ false → stage_weight (as_stage self.old.stage) self.old.woken self.old.tried ≡ 2 → steps_of (state_of self.new) < steps_of (state_of self.old) }
+    {
+        self.stage = self.stage.after(place.is(self.place), Stage::Unsettled);
+        self.door = self.door.after(self.is_own_door(place), Stage::Unsettled);
+        self.woken = self.woken && !place.is(self.place);
+    }
+
+    /// The opening of a place that doesn't listen failed at this moment.
+    pub fn open_failed(&mut self, place: Place, at: u64)
+        ensures goes { (c : Command) (past : List Act) (p : At) → IsOpening c past p (state_of self.old) → listens_at c place ≡ false → at ≡ moment past → IsOpening c (acts.OpenFailed place ∷ past) p (state_of self.new) }
+        ensures apart { is_place place (state_of self.old) ≡ false → is_own_door place (state_of self.old) ≡ false → state_of self.new ≡ state_of self.old }
+        ensures fewer { is_place place (state_of self.old) ≡ true → is_own_door place (state_of self.old) ≡ false → self.old.has_door ≡ false → stage_weight (as_stage self.old.stage) self.old.woken self.old.tried ≡ 2 → steps_of (state_of self.new) < steps_of (state_of self.old) }
+    {
+        self.stage = self.stage.after(place.is(self.place), Stage::Failed);
+        self.door = self.door.after(self.is_own_door(place), Stage::Failed);
+        if place.is(self.tried_place()) {
+            self.plan.failed(at);
+            self.tried = true;
+        }
+    }
+
+    /// A door listens.
+    pub fn listening(&mut self, door: Place)
+        ensures goes { (c : Command) (past : List Act) (p : At) → IsOpening c past p (state_of self.old) → IsOpening c (acts.Listening door ∷ past) p (state_of self.new) }
+        ensures apart { is_place door (state_of self.old) ≡ false → is_own_door door (state_of self.old) ≡ false → state_of self.new ≡ state_of self.old }
+        ensures fewer { is_place door (state_of self.old) ≡ false → is_own_door door (state_of self.old) ≡ true → stage_weight (as_stage self.old.door) false self.old.tried ≡ 2 → steps_of (state_of self.new) < steps_of (state_of self.old) }
+    {
+        self.stage = self.stage.after(door.is(self.place), Stage::Waiting);
+        self.door = self.door.after(self.is_own_door(door), Stage::Waiting);
+        self.armed = either(self.is_own_door(door), self.armed);
+    }
+
+    /// The listening of a door failed at this moment.
+    pub fn listen_failed(&mut self, door: Place, at: u64)
+        ensures goes { (c : Command) (past : List Act) (p : At) → IsOpening c past p (state_of self.old) → door.door ≡ true → at ≡ moment past → IsOpening c (acts.ListenFailed door ∷ past) p (state_of self.new) }
+        ensures apart { is_place door (state_of self.old) ≡ false → is_own_door door (state_of self.old) ≡ false → state_of self.new ≡ state_of self.old }
+        ensures fewer { is_place door (state_of self.old) ≡ false → is_own_door door (state_of self.old) ≡ true → stage_weight (as_stage self.old.door) false self.old.tried ≡ 2 → steps_of (state_of self.new) < steps_of (state_of self.old) }
+    {
+        self.stage = self.stage.after(door.is(self.place), Stage::Failed);
+        self.door = self.door.after(self.is_own_door(door), Stage::Failed);
+        if door.is(self.tried_place()) {
+            self.plan.failed(at);
+            self.tried = true;
+        }
+    }
+
+    /// A peer was accepted for the place.
+    #[tactic(auto, using(crate::proofs::PlaceLemmas::accepts_for))]
+    pub fn accepted(&mut self, place: Place, peer: Peer)
+        ensures goes { (c : Command) (past : List Act) (p : At) → IsOpening c past p (state_of self.old) → place.door ≡ false → IsOpening c (acts.Accepted place peer ∷ past) p (state_of self.new) }
+        ensures apart { is_place place (state_of self.old) ≡ false → is_own_door place (state_of self.old) ≡ false → state_of self.new ≡ state_of self.old }
+        ensures fewer { is_place place (state_of self.old) ≡ true → is_own_door place (state_of self.old) ≡ false → self.old.asked ≡ false → steps_of (state_of self.new) < steps_of (state_of self.old) }
+    {
+        self.stage = self.stage.after(place.is(self.place), Stage::Met(peer));
+        self.door = self.door.after(self.is_own_door(place), Stage::Met(peer));
+        self.asked = either(place.is(self.place), self.asked);
+    }
+
+    /// No peer stood at the door.
+    pub fn no_peer(&mut self, door: Place)
+        ensures goes { (c : Command) (past : List Act) (p : At) → IsOpening c past p (state_of self.old) → IsOpening c (acts.NoPeer door ∷ past) p (state_of self.new) }
+        ensures apart { is_place door (state_of self.old) ≡ false → is_own_door door (state_of self.old) ≡ false → state_of self.new ≡ state_of self.old }
+        ensures fewer { is_place door (state_of self.old) ≡ false → is_own_door door (state_of self.old) ≡ true → self.old.asked ≡ false → steps_of (state_of self.new) < steps_of (state_of self.old) }
+    {
+        let is_here = self.is_own_door(door);
+        self.armed = self.armed && !is_here;
+        self.asked = self.asked || is_here;
+    }
+
+    /// An accepting failed at the door.
+    pub fn accept_failed(&mut self, door: Place)
+        ensures goes { (c : Command) (past : List Act) (p : At) → IsOpening c past p (state_of self.old) → IsOpening c (acts.AcceptFailed door ∷ past) p (state_of self.new) }
+        ensures apart { is_place door (state_of self.old) ≡ false → is_own_door door (state_of self.old) ≡ false → state_of self.new ≡ state_of self.old }
+        ensures fewer { is_place door (state_of self.old) ≡ false → is_own_door door (state_of self.old) ≡ true → self.old.asked ≡ false → steps_of (state_of self.new) < steps_of (state_of self.old) }
+    {
+        self.asked = either(self.is_own_door(door), self.asked);
+    }
+
+    /// The place or door was closed.
+    pub fn closed(&mut self, thing: Place, why: Why)
+        ensures goes { (c : Command) (past : List Act) (p : At) → IsOpening c past p (state_of self.old) → IsOpening c (acts.Closed thing why ∷ past) p (state_of self.new) }
+        ensures apart { is_place thing (state_of self.old) ≡ false → is_own_door thing (state_of self.old) ≡ false → state_of self.new ≡ state_of self.old }
+        ensures fewer_places { is_place thing (state_of self.old) ≡ true → is_own_door thing (state_of self.old) ≡ false → holds_at (as_stage self.old.stage) ≡ true → steps_of (state_of self.new) < steps_of (state_of self.old) }
+        ensures fewer_doors { is_place thing (state_of self.old) ≡ false → is_own_door thing (state_of self.old) ≡ true → holds_at (as_stage self.old.door) ≡ true → steps_of (state_of self.new) < steps_of (state_of self.old) }
+    {
+        self.stage = self.stage.after(thing.is(self.place), Stage::Gone(why));
+        self.door = self.door.after(self.is_own_door(thing), Stage::Gone(why));
+        self.closed = self.closed || thing.is(self.place);
+    }
+
+    /// The child of the place was reaped, or there was none.
+    pub fn reaped(&mut self, place: Place)
+        ensures goes { (c : Command) (past : List Act) (p : At) (end : Ending) → IsOpening c past p (state_of self.old) → IsOpening c (acts.Reaped place end ∷ past) p (state_of self.new) }
+        ensures childless { (c : Command) (past : List Act) (p : At) → IsOpening c past p (state_of self.old) → IsOpening c past p (state_of self.new) }
+        ensures apart { asks_child place (state_of self.old) ≡ false → state_of self.new ≡ state_of self.old }
+        ensures fewer { asks_child place (state_of self.old) ≡ true → steps_of (state_of self.new) < steps_of (state_of self.old) }
+    {
+        self.asked_child = self.asked_child || place.is(self.place);
+    }
+
+    /// A wait has returned that names nothing yet.
+    pub fn woken(&mut self)
+        ensures { (c : Command) (past : List Act) (p : At) (until : Option ℕ) (at : ℕ) → IsOpening c past p (state_of self.old) → IsOpening c (acts.Turn until at (kept []) false ∷ past) p (state_of self.new) }
+    {
+        self.asked = false;
+        self.tried = false;
+    }
+
+    /// The last turn names this half too.
+    pub fn named(&mut self, entry: ReadyAt)
+        ensures { (c : Command) (past : List Act) (p : At) (until : Option ℕ) (at : ℕ) (names : List Entry) → IsOpening c (acts.Turn until at (kept names) false ∷ past) p (state_of self.old) → IsOpening c (acts.Turn until at (kept (names ++ entry ∷ [])) false ∷ past) p (state_of self.new) }
+    {
+        let is_armed = both(self.is_own_door(entry.place), is_to_read(entry.half));
+        self.woken = either(self.woken, entry.place.is(self.place));
+        self.armed = either(self.armed, is_armed);
+    }
+}
+
+/// The call, once it is due.
+fn once_due(next: NextTry, wanted: Call, at: u64) -> Call
+    ensures { as_call result ≡ call_by at (as_call wanted) next }
+{
+    match next {
+        NextTry::Now => wanted,
+        NextTry::At(due) => { if due <= at { wanted } else { Call::TryAt(due) } }
+        NextTry::Never | NextTry::GiveUp { .. } => Call::Nothing,
+    }
+}
+
+fn is_end_of_tries(next: NextTry) -> bool
+    ensures { result ≡ is_end_of_tries next }
+{
+    match next {
+        NextTry::GiveUp { .. } => true,
+        _ => false,
+    }
+}
+
+fn is_same(one: bool, other: bool) -> bool
+    ensures { result ≡ same_bool one other }
+{
+    if one { other } else { !other }
+}
+
+/// Whether one of the two holds.
+fn either(one: bool, other: bool) -> bool
+    ensures { result ≡ (one || other) }
+{
+    one || other
+}
+
+fn is_to_read(half: Half) -> bool
+    ensures { result ≡ same_half half ToRead }
+{
+    match half {
+        Half::ToRead => true,
+        Half::ToWrite => false,
+    }
+}
+
+/// Whether both hold.
+fn both(one: bool, other: bool) -> bool
+    ensures { result ≡ (one && other) }
+{
+    one && other
+}

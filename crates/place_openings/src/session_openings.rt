@@ -1,0 +1,356 @@
+// The openings of a session, place by place in opening order.
+ghost use Rattle.std.specs.Prelude.{◌≡◌, ◌<◌, ◌≤◌, ◌∷◌, ◌++◌, [], ℕ, true, false, List, Option, length, Some, None, option_map, map};
+ghost use Rattle.std.specs.List.{list_any, All};
+ghost use Rattle.relay_model.specs.declared.places.Place.{Place as At};
+ghost use Rattle.relay_model.specs.declared.readiness.ReadyAt.{ReadyAt as Entry};
+ghost use Rattle.relay_model.specs.declared.commands.Config.{Config as Command};
+ghost use Rattle.relay_model.specs.declared.acts.Act.{Act};
+ghost use Rattle.relay_model.specs.declared.acts.Act.TheVariants as acts;
+ghost use Rattle.relay_model.specs.declared.acts.ChildEnd.{ChildEnd as Ending};
+ghost use Rattle.relay_model.specs.declared.acts.Why.TheVariants as whys;
+ghost use Rattle.relay_model.specs.Choices.{only_if, or_else};
+ghost use Rattle.relay_model.specs.Configs.{places, listens_at, is_of, is_place_of, is_program, medium_of};
+ghost use Rattle.relay_model.specs.History.{now as moment, held, was_closed, was_reaped};
+ghost use Rattle.relay_model.specs.Arming.{asked_to_accept};
+ghost use Rattle.relay_model.specs.Sessions.{holds};
+ghost use Rattle.relay_model.specs.Openings.{first_call, ready};
+ghost use Rattle.relay_model.specs.Openings as calls;
+ghost use Rattle.relay_model.specs.Cause.{listening_failed, opening_failed};
+ghost use Rattle.place_openings.specs.Answers.{as_call};
+ghost use Rattle.place_openings.specs.Moves.{TookEach};
+ghost use Rattle.place_openings.specs.Queries.{first_unready, first_of, held_by, child_by, peer_by, peer_at, gave_up};
+ghost use Rattle.place_openings.specs.Stands.{Each, AreOpenings, kept};
+ghost use Rattle.place_openings.specs.States.{state_of};
+ghost use Rattle.place_openings.specs.Steps.{steps_in};
+ghost use Rattle.place_openings.specs.Touching.{touches};
+ghost use Rattle.relay_model.specs.Readiness.{Listed};
+
+use crate::calls::Call;
+use crate::one_place::Opening;
+use crate::steps::Step;
+use command_places::{place_at, places};
+use relay_model::{Config, Part, Peer, Place, ReadyAt, Side, Why};
+use std::marker::Model;
+
+/// The openings of the places of a session, which are at most four, in opening order. Contracts see them as a list of
+/// states.
+#[derive(Debug, Drop)]
+pub struct Openings {
+    items: [Opening; 4],
+    count: usize,
+}
+
+impl Model for Openings {
+    ghost use Rattle.std.specs.Prelude.{List, take, map, ◌≤◌};
+    ghost use Rattle.place_openings.specs.OpeningState.{OpeningState};
+
+    ghost Value = { List OpeningState };
+
+    ghost use Rattle.place_openings.specs.States.{state_of};
+
+    ghost view = { λ openings. map state_of (take openings.count openings.items) };
+
+    ghost invariant = { λ openings. openings.count ≤ 4 };
+}
+
+impl Openings {
+    /// The openings of the places of a session with this number, where nothing happened yet.
+    pub fn new(config: &Config, number: u32) -> Openings
+        ensures { AreOpenings config.now [] number result }
+    {
+        let list = places(config, number);
+        of_places(config, list.as_slice())
+    }
+
+    /// No openings; what fills the room for them is never seen.
+    fn none(config: &Config) -> Openings
+        ensures { result ≡ [] }
+    {
+        let filler = Opening::new(config, place_at(0, Side::Left, Part::Both));
+        Openings {
+            items: [filler; 4],
+            count: 0,
+        }
+    }
+
+    fn push(&mut self, opening: Opening)
+        requires { length self.old < 4 }
+        ensures { self.new ≡ self.old ++ state_of opening ∷ [] }
+    {
+        self.items[self.count] = opening;
+        self.count += 1;
+    }
+
+    /// What the first place that isn't ready calls for at this moment.
+    pub fn call(&self, at: u64) -> Call
+        ensures { (c : Command) (past : List Act) (s : ℕ) → AreOpenings c past s self.now → at ≡ moment past → as_call result ≡ first_call c past (places c s) }
+    {
+        match first_unready(self.as_slice()) {
+            Some(opening) => opening.call(at),
+            None => Call::Nothing,
+        }
+    }
+
+    /// Where an accepting is called for, whether the door was asked since the last turn.
+    pub fn has_asked(&self) -> bool
+        ensures { (c : Command) (past : List Act) (s : ℕ) (door place : At) → AreOpenings c past s self.now → first_call c past (places c s) ≡ calls.Accept door place → result ≡ asked_to_accept c past door }
+    {
+        match first_unready(self.as_slice()) {
+            Some(opening) => opening.asked,
+            None => false,
+        }
+    }
+
+    /// Whether every place is ready.
+    pub fn is_ready(&self) -> bool
+        ensures { (c : Command) (past : List Act) (s : ℕ) → AreOpenings c past s self.now → result ≡ ready c past s }
+    {
+        first_unready(self.as_slice()).is_none()
+    }
+
+    /// Why the session ends, where no try is left at one of its places or doors.
+    pub fn given_up(&self) -> Option<Why>
+        ensures { (c : Command) (past : List Act) (s : ℕ) → AreOpenings c past s self.now → result ≡ or_else (only_if (listening_failed c past s) whys.ListenFailed) (only_if (opening_failed c past s) whys.OpenFailed) }
+    {
+        let listening = some_gave_up(self.as_slice(), true);
+        let opening = some_gave_up(self.as_slice(), false);
+        reason(listening, opening)
+    }
+
+    /// A place or own door of the session that is held.
+    pub fn held(&self) -> Option<Place>
+        ensures some { (c : Command) (past : List Act) (s : ℕ) (q : At) → AreOpenings c past s self.now → result ≡ Some q → (held past q ≡ true) × (is_of c s q ≡ true) }
+        ensures none { (c : Command) (past : List Act) (s : ℕ) → AreOpenings c past s self.now → result ≡ None → holds c past s ≡ false }
+    {
+        first_held(self.as_slice())
+    }
+
+    /// A child that was closed and wasn't asked for yet.
+    pub fn child(&self) -> Option<Place>
+        ensures some { (c : Command) (past : List Act) (s : ℕ) (p : At) → AreOpenings c past s self.now → result ≡ Some p → (is_program (medium_of c p) ≡ true) × (was_closed past p ≡ true) × (was_reaped past p ≡ false) × (is_place_of c s p ≡ true) }
+        ensures none { result ≡ None → first_of child_by self.now ≡ None }
+        ensures state { result ≡ first_of child_by self.now }
+    {
+        first_child(self.as_slice())
+    }
+
+    /// The permitted peer of the first place that is held by one.
+    pub fn peer(&self) -> Option<Peer>
+        ensures { (c : Command) (past : List Act) (s : ℕ) → AreOpenings c past s self.now → result ≡ first_of (peer_at c past) (places c s) }
+    {
+        first_peer(self.as_slice())
+    }
+
+    fn as_slice(&self) -> &[Opening]
+        ensures { map state_of result.now ≡ self.now }
+    {
+        &self.items[..self.count]
+    }
+
+    // ---- steps
+
+    /// The place was opened.
+    pub fn opened(&mut self, place: Place)
+        ensures goes { (c : Command) (past : List Act) (s : ℕ) → AreOpenings c past s self.old → AreOpenings c (acts.Opened place ∷ past) s self.new }
+        ensures fewer_opening { (c : Command) (past : List Act) (s : ℕ) → AreOpenings c past s self.old → first_call c past (places c s) ≡ calls.Open place → steps_in self.new < steps_in self.old }
+        ensures fewer_settling { (c : Command) (past : List Act) (s : ℕ) → AreOpenings c past s self.old → first_call c past (places c s) ≡ calls.Settle place → steps_in self.new < steps_in self.old }
+    {
+        self.take(Step::Opened(place));
+    }
+
+    /// It was opened, and isn't settled yet.
+    pub fn opened_later(&mut self, place: Place)
+        ensures goes { (c : Command) (past : List Act) (s : ℕ) → AreOpenings c past s self.old → AreOpenings c (acts.OpenLater place ∷ past) s self.new }
+        ensures fewer_opening { (c : Command) (past : List Act) (s : ℕ) → AreOpenings c past s self.old → first_call c past (places c s) ≡ calls.Open place → steps_in self.new < steps_in self.old }
+        ensures fewer_settling { (c : Command) (past : List Act) (s : ℕ) → AreOpenings c past s self.old → first_call c past (places c s) ≡ calls.Settle place → steps_in self.new < steps_in self.old }
+    {
+        self.take(Step::OpenedLater(place));
+    }
+
+    /// The opening of a place that doesn't listen failed at this moment.
+    pub fn open_failed(&mut self, place: Place, at: u64)
+        ensures goes { (c : Command) (past : List Act) (s : ℕ) → AreOpenings c past s self.old → listens_at c place ≡ false → at ≡ moment past → AreOpenings c (acts.OpenFailed place ∷ past) s self.new }
+        ensures fewer_opening { (c : Command) (past : List Act) (s : ℕ) → AreOpenings c past s self.old → first_call c past (places c s) ≡ calls.Open place → steps_in self.new < steps_in self.old }
+        ensures fewer_settling { (c : Command) (past : List Act) (s : ℕ) → AreOpenings c past s self.old → first_call c past (places c s) ≡ calls.Settle place → steps_in self.new < steps_in self.old }
+    {
+        self.take(Step::OpenFailed { place, at });
+    }
+
+    /// A door listens.
+    pub fn listening(&mut self, door: Place)
+        ensures goes { (c : Command) (past : List Act) (s : ℕ) → AreOpenings c past s self.old → AreOpenings c (acts.Listening door ∷ past) s self.new }
+        ensures fewer { (c : Command) (past : List Act) (s : ℕ) → AreOpenings c past s self.old → first_call c past (places c s) ≡ calls.Listen door → steps_in self.new < steps_in self.old }
+    {
+        self.take(Step::Listening(door));
+    }
+
+    /// The listening of a door failed at this moment.
+    pub fn listen_failed(&mut self, door: Place, at: u64)
+        ensures goes { (c : Command) (past : List Act) (s : ℕ) → AreOpenings c past s self.old → door.door ≡ true → at ≡ moment past → AreOpenings c (acts.ListenFailed door ∷ past) s self.new }
+        ensures fewer { (c : Command) (past : List Act) (s : ℕ) → AreOpenings c past s self.old → first_call c past (places c s) ≡ calls.Listen door → steps_in self.new < steps_in self.old }
+    {
+        self.take(Step::ListenFailed { door, at });
+    }
+
+    /// A peer was accepted for the place.
+    pub fn accepted(&mut self, place: Place, peer: Peer)
+        ensures goes { (c : Command) (past : List Act) (s : ℕ) → AreOpenings c past s self.old → place.door ≡ false → AreOpenings c (acts.Accepted place peer ∷ past) s self.new }
+        ensures fewer { (c : Command) (past : List Act) (s : ℕ) (door : At) → AreOpenings c past s self.old → first_call c past (places c s) ≡ calls.Accept door place → asked_to_accept c past door ≡ false → steps_in self.new < steps_in self.old }
+    {
+        self.take(Step::Accepted { place, peer });
+    }
+
+    /// No peer stood at the door.
+    pub fn no_peer(&mut self, door: Place)
+        ensures goes { (c : Command) (past : List Act) (s : ℕ) → AreOpenings c past s self.old → AreOpenings c (acts.NoPeer door ∷ past) s self.new }
+        ensures fewer { (c : Command) (past : List Act) (s : ℕ) (place : At) → AreOpenings c past s self.old → first_call c past (places c s) ≡ calls.Accept door place → asked_to_accept c past door ≡ false → steps_in self.new < steps_in self.old }
+    {
+        self.take(Step::NoPeer(door));
+    }
+
+    /// An accepting failed at the door.
+    pub fn accept_failed(&mut self, door: Place)
+        ensures goes { (c : Command) (past : List Act) (s : ℕ) → AreOpenings c past s self.old → AreOpenings c (acts.AcceptFailed door ∷ past) s self.new }
+        ensures fewer { (c : Command) (past : List Act) (s : ℕ) (place : At) → AreOpenings c past s self.old → first_call c past (places c s) ≡ calls.Accept door place → asked_to_accept c past door ≡ false → steps_in self.new < steps_in self.old }
+    {
+        self.take(Step::AcceptFailed(door));
+    }
+
+    /// The place or door was closed.
+    pub fn closed(&mut self, thing: Place, why: Why)
+        ensures goes { (c : Command) (past : List Act) (s : ℕ) → AreOpenings c past s self.old → AreOpenings c (acts.Closed thing why ∷ past) s self.new }
+        ensures fewer { (c : Command) (past : List Act) (s : ℕ) → AreOpenings c past s self.old → held past thing ≡ true → is_of c s thing ≡ true → steps_in self.new < steps_in self.old }
+        ensures fewer_refusing { (c : Command) (past : List Act) (s : ℕ) → AreOpenings c past s self.old → first_call c past (places c s) ≡ calls.Refuse thing → steps_in self.new < steps_in self.old }
+        ensures fewer_serving { (c : Command) (past : List Act) (s : ℕ) → AreOpenings c past s self.old → first_call c past (places c s) ≡ calls.Serve thing → steps_in self.new < steps_in self.old }
+    {
+        self.take(Step::Closed { thing, why });
+    }
+
+    /// The child of the place was reaped, whatever became of it, or there was none. It isn't asked for again.
+    pub fn reaped(&mut self, place: Place)
+        ensures goes { (c : Command) (past : List Act) (s : ℕ) (end : Ending) → AreOpenings c past s self.old → AreOpenings c (acts.Reaped place end ∷ past) s self.new }
+        ensures childless { (c : Command) (past : List Act) (s : ℕ) → AreOpenings c past s self.old → AreOpenings c past s self.new }
+        ensures fewer { first_of child_by self.old ≡ Some place → steps_in self.new < steps_in self.old }
+    {
+        self.take(Step::Reaped(place));
+    }
+
+    /// A wait has returned that names nothing yet.
+    pub fn woken(&mut self)
+        ensures { (c : Command) (past : List Act) (s : ℕ) (until : Option ℕ) (at : ℕ) → AreOpenings c past s self.old → AreOpenings c (acts.Turn until at (kept []) false ∷ past) s self.new }
+    {
+        self.take(Step::Woken);
+    }
+
+    /// The last turn names this half too.
+    pub fn named(&mut self, entry: ReadyAt)
+        ensures { (c : Command) (past : List Act) (s : ℕ) (until : Option ℕ) (at : ℕ) (names : List Entry) → AreOpenings c (acts.Turn until at (kept names) false ∷ past) s self.old → AreOpenings c (acts.Turn until at (kept (names ++ entry ∷ [])) false ∷ past) s self.new }
+    {
+        self.take(Step::Named(entry));
+    }
+
+    /// A stop is told with the last turn, or an act comes that is at none of the session's places and doors.
+    pub fn unmoved(&self)
+        ensures stopped { (c : Command) (past : List Act) (s : ℕ) (until : Option ℕ) (at : ℕ) (ready : Listed) → AreOpenings c (acts.Turn until at ready false ∷ past) s self.now → AreOpenings c (acts.Turn until at ready true ∷ past) s self.now }
+        ensures elsewhere { (c : Command) (past : List Act) (s : ℕ) (act : Act) → AreOpenings c past s self.now → touches c s act ≡ false → AreOpenings c (act ∷ past) s self.now }
+    {}
+
+    /// One step of each.
+    fn take(&mut self, step: Step)
+        ensures { TookEach step self.old self.new }
+    {
+        take_each(&mut self.items[..self.count], step);
+    }
+}
+
+fn of_places(config: &Config, places: &[Place]) -> Openings
+    requires few { length places.now ≤ 4 }
+    requires no_doors { All (λ p. p.door ≡ false) places.now }
+    ensures { Each config.now [] places.now result }
+{
+    let mut openings = Openings::none(config);
+    for place in places {
+        openings.push(Opening::new(config, *place));
+    }
+    openings
+}
+
+fn take_each(openings: &mut [Opening], step: Step)
+    ensures { TookEach step (map state_of openings.old) (map state_of openings.new) }
+{
+    for opening in openings.iter_mut() {
+        opening.take(step);
+    }
+}
+
+fn first_unready(mut openings: &[Opening]) -> Option<&Opening>
+    ensures { option_map (λ o. state_of o.now) result ≡ first_unready (map state_of openings.entry.now) }
+{
+    while let [opening, rest @ ..] = openings {
+        if !opening.is_ready() {
+            return Some(opening);
+        }
+        openings = rest;
+    }
+    None
+}
+
+fn first_held(mut openings: &[Opening]) -> Option<Place>
+    ensures { result ≡ first_of held_by (map state_of openings.entry.now) }
+{
+    while let [opening, rest @ ..] = openings {
+        if let Some(place) = opening.held() {
+            return Some(place);
+        }
+        openings = rest;
+    }
+    None
+}
+
+fn first_child(mut openings: &[Opening]) -> Option<Place>
+    ensures { result ≡ first_of child_by (map state_of openings.entry.now) }
+{
+    while let [opening, rest @ ..] = openings {
+        if let Some(place) = opening.child() {
+            return Some(place);
+        }
+        openings = rest;
+    }
+    None
+}
+
+fn first_peer(mut openings: &[Opening]) -> Option<Peer>
+    ensures { result ≡ first_of (λ o. peer_by o.filter o.stage) (map state_of openings.entry.now) }
+{
+    while let [opening, rest @ ..] = openings {
+        if let Some(peer) = opening.peer() {
+            return Some(peer);
+        }
+        openings = rest;
+    }
+    None
+}
+
+fn some_gave_up(openings: &[Opening], has_door: bool) -> bool
+    ensures { (c : Command) (past : List Act) (ps : List At) → Each c past ps (map state_of openings.now) → result ≡ list_any (gave_up c past has_door) ps }
+{
+    for opening in openings {
+        if opening.gave_up(has_door) {
+            return true;
+        }
+    }
+    false
+}
+
+/// Why a session ends where no try is left: a listening comes before an opening.
+fn reason(listening: bool, opening: bool) -> Option<Why>
+    ensures { result ≡ or_else (only_if listening whys.ListenFailed) (only_if opening whys.OpenFailed) }
+{
+    if listening {
+        Some(Why::ListenFailed)
+    } else if opening {
+        Some(Why::OpenFailed)
+    } else {
+        None
+    }
+}
