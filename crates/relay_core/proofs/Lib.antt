@@ -1,0 +1,15 @@
+pub mod Blames
+pub mod Causes
+pub mod Ended
+pub mod Events
+pub mod Held
+pub mod LaneLemmas
+pub mod Lives
+pub mod Own
+pub mod Plans
+pub mod Quiet
+pub mod Rests
+pub mod Standings
+pub mod StepLemmas
+pub mod TimerLemmas
+pub mod Waiting

@@ -1,0 +1,14 @@
+use Rattle.std.proofs.Common.{◌≡◌, ap, ◌∙◌, sym, subst, is_some}
+use Rattle.relay_core.specs.Steps.{waiting_for}
+use Rattle.relay_core.specs.Wishes.{Fits}
+use Rattle.relay_core.proofs.StepLemmas.{never_ended}
+use Rattle.relay_core.proofs.states.State.hear.Goals as goal
+
+pub returns-in-NoChild-clause-childless : goal.returns-in-NoChild-clause-childless
+returns-in-NoChild-clause-childless c = λ k n past s f a e. c.without_child.ensures.goes k n past s f a (rw c.in-NoChild.is at c.requires)
+
+pub returns-in-NoChild-clause-over : goal.returns-in-NoChild-clause-over
+returns-in-NoChild-clause-over c = λ k n past s a e. ap is_some c.without_child.ensures.same ∙ e
+
+pub returns-in-Woken-clause-woken : goal.returns-in-Woken-clause-woken
+returns-in-Woken-clause-woken c = λ k past s until g q e. c.woken.ensures k past s until g q

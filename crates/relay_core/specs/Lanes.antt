@@ -1,0 +1,95 @@
+-- The two directions of a session, each where the command forms it.
+use Rattle.std.specs.Prelude.{◌≡◌, ℕ, ◌+◌, ◌≤◌, Bool, true, false, ◌&&◌, List, [], Option, Some, None, if◌then◌else◌}
+use Rattle.relay_model.specs.declared.places.Place.{Place}
+use Rattle.relay_model.specs.declared.places.Way.{Way}
+use Rattle.relay_model.specs.declared.places.Way.TheVariants.{LeftToRight, RightToLeft}
+use Rattle.relay_model.specs.declared.commands.Config.{Config}
+use Rattle.relay_model.specs.declared.acts.Act.{Act}
+use Rattle.relay_model.specs.Configs.{formed, way_from, way_to}
+use Rattle.relay_buffer.specs.Flows.{room_in}
+use Rattle.session_direction.specs.States.{steps_in}
+use Rattle.relay_model.specs.declared.acts.Shut.{Shut as Shutting}
+use Rattle.relay_model.specs.Configs.{input, keeps_borders}
+use Rattle.relay_model.specs.Transfers.{room}
+use Rattle.relay_model.specs.Arming.{asked_to_read, asked_to_write}
+use Rattle.relay_model.specs.May.{MayRead, MayTryWrite, MayShut}
+use Rattle.session_direction.specs.Directions.{IsDirection, WantsNothing}
+use Rattle.relay_core.specs.declared.wishes.Wish.{Wish}
+use Rattle.relay_core.specs.declared.wishes.Wish.TheVariants as wishes
+use Rattle.relay_core.specs.declared.lanes.Lane.{Lane}
+use Rattle.relay_core.specs.declared.lanes.Lane.TheVariants.{Unformed, Formed}
+use Rattle.relay_core.specs.declared.lanes.Lanes.{Lanes}
+
+abbrev pub IsLane : Config → List Act → ℕ → Way → Lane → Type 0
+IsLane c past s w Unformed = formed c w ≡ false
+IsLane c past s w (Formed d) = IsDirection c past s w d
+
+pub record AreLanes (c : Config) (past : List Act) (s : ℕ) (lanes : Lanes) : Type 0 where
+  pub to_right_is : IsLane c past s LeftToRight lanes.to_right
+  pub to_left_is : IsLane c past s RightToLeft lanes.to_left
+
+abbrev pub lane_at : Lanes → Way → Lane
+lane_at lanes LeftToRight = lanes.to_right
+lane_at lanes RightToLeft = lanes.to_left
+
+-- the bytes that wait in a lane, and how many more it has room for
+abbrev pub waiting_in : Lane → List ℕ
+waiting_in Unformed = []
+waiting_in (Formed d) = d.flow.backlog
+
+abbrev pub room_of : Lane → ℕ
+room_of Unformed = 0
+room_of (Formed d) = room_in d.flow
+
+-- how many steps they take at most before the next turn
+abbrev pub lane_steps : Lane → ℕ
+lane_steps Unformed = 0
+lane_steps (Formed d) = steps_in d
+
+abbrev pub lanes_steps : Lanes → ℕ
+lanes_steps lanes = lane_steps lanes.to_right + lane_steps lanes.to_left
+
+-- what waits to be written at a place, and how many bytes may be read there
+abbrev pub waiting_at : Lanes → Place → List ℕ
+waiting_at lanes p = waiting_in (lane_at lanes (way_to p.side))
+
+abbrev pub room_at : Lanes → Place → ℕ
+room_at lanes p = room_of (lane_at lanes (way_from p.side))
+
+-- ---- what a lane wishes for
+
+-- so many bytes may be read at a place of the session that wasn't asked yet
+pub record Reads (c : Config) (past : List Act) (s : ℕ) (p : Place) (n : ℕ) : Type 0 where
+  pub own : p.session ≡ s
+  pub may : MayRead c past p n
+  pub size : n ≡ room c past s (way_from p.side)
+  pub not_asked : asked_to_read past p ≡ false
+
+-- what waits may be offered to a place of the session that wasn't asked yet
+pub record Offers (c : Config) (past : List Act) (s : ℕ) (p : Place) (borders : Bool) : Type 0 where
+  pub own : p.session ≡ s
+  pub may : MayTryWrite c past p
+  pub keeps : keeps_borders c (way_to p.side) ≡ borders
+  pub not_asked : asked_to_write past (input c s (way_to p.side)) p ≡ false
+
+-- the end may be passed on at a place of the session
+pub record Shuts (c : Config) (past : List Act) (s : ℕ) (p : Place) (how : Shutting) : Type 0 where
+  pub own : p.session ≡ s
+  pub may : MayShut c past p how
+
+abbrev pub LaneWishes : Config → List Act → ℕ → Way → Option Wish → Type 0
+LaneWishes c past s w None = WantsNothing c past s w
+LaneWishes c past s w (Some (wishes.Read p n)) = Reads c past s p n
+LaneWishes c past s w (Some (wishes.Write p)) = Offers c past s p false
+LaneWishes c past s w (Some (wishes.Send p)) = Offers c past s p true
+LaneWishes c past s w (Some (wishes.Shut p how)) = Shuts c past s p how
+LaneWishes c past s w (Some other) = ⊥
+
+-- what both directions want: nothing, or the call that one of them wishes for
+abbrev pub LanesWish : Config → List Act → ℕ → Option Wish → Type 0
+LanesWish c past s None = (w : Way) → WantsNothing c past s w
+LanesWish c past s (Some (wishes.Read p n)) = Reads c past s p n
+LanesWish c past s (Some (wishes.Write p)) = Offers c past s p false
+LanesWish c past s (Some (wishes.Send p)) = Offers c past s p true
+LanesWish c past s (Some (wishes.Shut p how)) = Shuts c past s p how
+LanesWish c past s (Some other) = ⊥

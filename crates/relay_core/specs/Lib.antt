@@ -1,0 +1,12 @@
+pub mod Blames
+pub mod Endings
+pub mod Lanes
+pub mod Laws
+pub mod Sessions
+pub mod Standings
+pub mod States
+pub mod Steps
+pub mod Timers
+pub mod Told
+pub mod Transfers
+pub mod Wishes

@@ -1,0 +1,47 @@
+-- What an act makes of the state of a session.
+use Rattle.std.specs.Prelude.{◌≡◌, ℕ, ◌<◌, Bool, true, false, List, [], ◌∷◌, Option, Some, None}
+use Rattle.relay_model.specs.declared.places.Place.{Place}
+use Rattle.relay_model.specs.declared.commands.Config.{Config}
+use Rattle.relay_model.specs.declared.acts.Act.{Act}
+use Rattle.relay_model.specs.Configs.{input, output, way_from, way_to}
+use Rattle.relay_model.specs.Arming.{asked_to_read, asked_to_write}
+use Rattle.relay_model.specs.Cause.{cause}
+use Rattle.relay_model.specs.Rest.{owed}
+use Rattle.relay_model.specs.May.{May}
+use Rattle.relay_core.specs.declared.lanes.Lanes.{Lanes}
+use Rattle.relay_core.specs.declared.states.State.{State}
+use Rattle.relay_core.specs.declared.transfers.Transfer.{Transfer}
+use Rattle.relay_core.specs.declared.wishes.Wish.{Wish}
+use Rattle.relay_core.specs.declared.wishes.Wish.TheVariants as wishes
+use Rattle.relay_core.specs.Lanes.{waiting_at}
+use Rattle.relay_core.specs.Transfers.{MayTransfer, IsUnasked}
+use Rattle.relay_core.specs.Endings.{Quiet}
+use Rattle.relay_core.specs.States.{Ground, Fields, steps_of}
+
+-- the act may come where no dump is owed, the state stands for the history with it, and fewer steps are left
+pub record Absorbed (c : Config) (n : ℕ) (past : List Act) (s : ℕ) (act : Act) (old new : State) : Type 0 where
+  pub may : owed c past ≡ None → May c n past act
+  pub fields : Fields c n (act ∷ past) s new
+  pub fewer : steps_of new < steps_of old
+
+abbrev pub AbsorbedBy : Config → ℕ → List Act → ℕ → Option Act → State → State → Type 0
+AbsorbedBy c n past s (Some act) old new = Absorbed c n past s act old new
+AbsorbedBy c n past s None old new = Unit {0}
+
+-- nothing from outside has ended the session, and what ends it by itself is known
+pub record Heeds (c : Config) (past : List Act) (s : ℕ) (st : State) : Type 0 where
+  pub ground : Ground c past s st
+  pub quiet : Quiet c past s
+  pub ending_is : st.ending ≡ cause c past s
+
+-- a transfer at a place of the session, of a kind that wasn't asked there since the last turn
+pub record Transfers (c : Config) (past : List Act) (s : ℕ) (lanes : Lanes) (p : Place) (transfer : Transfer) : Type 0 where
+  pub own : p.session ≡ s
+  pub may : MayTransfer c past p (waiting_at lanes p) transfer
+  pub unasked : IsUnasked c past p transfer
+
+-- the bytes that a wish offers
+abbrev pub waiting_for : State → Wish → List ℕ
+waiting_for st (wishes.Write p) = waiting_at st.lanes p
+waiting_for st (wishes.Send p) = waiting_at st.lanes p
+waiting_for st wish = []

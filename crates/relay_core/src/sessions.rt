@@ -1,0 +1,93 @@
+// The session as the layers above see it: a state, and the one call that it wishes for next.
+ghost use Rattle.std.specs.Prelude.{◌≡◌, ℕ, ◌+◌, ◌<◌, ◌≤◌, ◌∷◌, ◌++◌, [], List, Option, Some, None, true, false, length, take, IfOk};
+ghost use Rattle.relay_model.specs.declared.acts.Act.{Act};
+ghost use Rattle.relay_model.specs.declared.acts.Act.TheVariants as acts;
+ghost use Rattle.relay_model.specs.declared.acts.Why.TheVariants as whys;
+ghost use Rattle.relay_model.specs.declared.commands.Config.{Config as Command};
+ghost use Rattle.relay_model.specs.declared.readiness.ReadyAt.{ReadyAt as Entry};
+ghost use Rattle.relay_model.specs.Configs.{Fit, has_fork};
+ghost use Rattle.relay_model.specs.History.{turns};
+ghost use Rattle.relay_model.specs.Rest.{Rest};
+ghost use Rattle.session_direction.specs.Directions.{listed};
+ghost use Rattle.relay_core.specs.declared.wishes.Wish.TheVariants as wishes;
+ghost use Rattle.relay_core.specs.declared.wishes.Answer.TheVariants as answers;
+ghost use Rattle.relay_core.specs.Wishes.{Fits, act_of};
+ghost use Rattle.relay_core.specs.States.{Wished};
+
+use crate::states::State;
+use crate::wishes::{Answer, Wish};
+use relay_model::{Config, NoMemory, ReadyAt, Why};
+use std::alloc::Global;
+
+/// One relay between two addresses, as a machine without ports. Each wish is answered before the next one.
+#[derive(Drop)]
+pub struct Session {
+    state: State,
+    wish: Wish,
+}
+
+impl Session {
+    ghost use Rattle.relay_core.specs.Sessions.{Stands, Hears, HeardBy, wish_of, waiting_of, left_of, has_ended};
+
+    /// The session of a command without `fork`, at the beginning of its history. It takes all the memory that it
+    /// will use.
+    pub fn new(alloc: Global, config: &Config) -> Result<Session, NoMemory>
+        requires fit { Fit config.now }
+        requires alone { has_fork config.now ≡ false }
+        ensures { IfOk result (λ session. (n : ℕ) → Stands config.now n [] 0 session) }
+    {
+        let state = State::new(alloc, config)?;
+        let wish = state.plan();
+        Ok(Session { state, wish })
+    }
+
+    /// The next call that is wished for.
+    pub fn wish(&self) -> Wish
+        ensures wish { result ≡ wish_of self.now }
+        ensures wished { (c : Command) (n : ℕ) (past : List Act) (s : ℕ) → Stands c n past s self.now → Wished c n past s result }
+        ensures sleep { (c : Command) (n : ℕ) (past : List Act) (s : ℕ) (until : Option ℕ) → Stands c n past s self.now → result ≡ wishes.Sleep until → has_ended self.now ≡ false }
+    {
+        self.wish
+    }
+
+    /// The front of the bytes that the wished write offers, and all of them for one packet; none for another wish.
+    pub fn pending(&self) -> &[u8]
+        ensures front { result.now ≡ take (length result.now) (waiting_of self.now) }
+        ensures some { result.now ≡ [] → waiting_of self.now ≡ [] }
+    {
+        self.state.offered(self.wish)
+    }
+
+    /// The answer to the wish. `now` is the moment of a turn that was slept to, in milliseconds.
+    pub fn heard(&mut self, now: u64, answer: Answer<'_>)
+        requires { Fits (wish_of self.old) (waiting_of self.old) answer }
+        ensures act { (c : Command) (n : ℕ) (past : List Act) (s : ℕ) → Stands c n past s self.old → HeardBy c n past s (act_of (wish_of self.old) (waiting_of self.old) answer.entry) self.old self.new }
+        ensures childless { (c : Command) (n : ℕ) (past : List Act) (s : ℕ) → Stands c n past s self.old → answer.entry ≡ answers.NoChild → Stands c n past s self.new × (left_of self.new < left_of self.old) }
+        ensures woken { (c : Command) (n : ℕ) (past : List Act) (s : ℕ) (until : Option ℕ) → Stands c n past s self.old → wish_of self.old ≡ wishes.Sleep until → answer.entry ≡ answers.Woken → Hears c n (acts.Turn until now (listed []) false ∷ past) s self.new }
+        ensures over { (c : Command) (n : ℕ) (past : List Act) (s : ℕ) → Stands c n past s self.old → has_ended self.old ≡ true → has_ended self.new ≡ true }
+    {
+        self.state.hear(now, self.wish, answer);
+        self.wish = self.state.plan();
+    }
+
+    /// The turn that was just heard names this half too.
+    pub fn ready(&mut self, entry: ReadyAt)
+        ensures { (c : Command) (n : ℕ) (past : List Act) (s : ℕ) (until : Option ℕ) (at : ℕ) (names : List Entry) → Hears c n (acts.Turn until at (listed names) false ∷ past) s self.old → Hears c n (acts.Turn until at (listed (names ++ entry ∷ [])) false ∷ past) s self.new }
+    {
+        self.state.named(entry);
+        self.wish = self.state.plan();
+    }
+
+    /// Ends the session: because the turn that was just heard says stop (`Stopped`), because the turns are
+    /// used up (`Stopped`), or for want of memory (`Memory`). From then on it closes what it holds.
+    pub fn cut(&mut self, why: Why)
+        ensures stop { (c : Command) (n : ℕ) (past : List Act) (s : ℕ) (until : Option ℕ) (at : ℕ) (names : List Entry) → Hears c n (acts.Turn until at (listed names) false ∷ past) s self.old → why ≡ whys.Stopped → Stands c n (acts.Turn until at (listed names) true ∷ past) s self.new }
+        ensures limit { (c : Command) (n : ℕ) (past : List Act) (s : ℕ) → Stands c n past s self.old → has_ended self.old ≡ false → turns past ≡ n → Rest c past → why ≡ whys.Stopped → Stands c n past s self.new }
+        ensures memory { (c : Command) (n : ℕ) (past : List Act) (s : ℕ) → Stands c n past s self.old → has_ended self.old ≡ false → why ≡ whys.Memory → Stands c n past s self.new }
+        ensures over { has_ended self.new ≡ true }
+        ensures left { left_of self.new ≡ left_of self.old }
+    {
+        self.state.cut(why);
+        self.wish = self.state.plan();
+    }
+}
