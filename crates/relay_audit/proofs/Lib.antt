@@ -1,4 +1,5 @@
 pub mod Below
+pub mod Counts
 pub mod Holding
 pub mod Implied
 pub mod Judged

@@ -570,6 +570,7 @@ fn is_dump(
 }
 
 /// Whether this is the text that is owed.
+#[tactic(auto, using(crate::proofs::Counts::count_in_word))]
 fn is_owed(alloc: Global, config: &Config, past: &[&Act], text: &[u8]) -> Result<bool, NoMemory>
     requires { reads_some (acts past.now) ≡ true }
     ensures { IfOk result (λ is. is ≡ same_text (owed config.now (acts past.now)) text.now) }

@@ -1,5 +1,5 @@
 -- An act of another session or of the program door leaves a session as it is.
-use Rattle.std.proofs.Common.{◌≡◌, refl, sym, ap, ◌∙◌, ℕ, suc, ◌+◌, ◌<◌, Bool, true, false, not, cond, ◌&&◌, ◌||◌, ◌==◌, nat_lt, is_some, is_none, List, [], ◌∷◌, ◌++◌, map, filter, Option, Some, None, arith, inl, inr, ◌⊎◌}
+use Rattle.std.proofs.Common.{◌≡◌, refl, sym, ap, ◌∙◌, ℕ, suc, ◌+◌, ◌<◌, Bool, true, false, not, cond, ◌&&◌, ◌||◌, ◌==◌, ◌-◌, nat_lt, length, is_some, is_none, List, [], ◌∷◌, ◌++◌, map, filter, Option, Some, None, arith, inl, inr, ◌⊎◌}
 use Rattle.std.specs.List.{list_all, list_any}
 use Rattle.std.proofs.lemmas.Bool.{false≢true, true≢false, and_parts, and_right, or_parts, or_cases, not-true, lt-ltb, false_from_ne_true}
 use Rattle.relay_model.specs.declared.places.Side.{Side}
@@ -13,17 +13,22 @@ use Rattle.relay_model.specs.declared.commands.Config.{Config}
 use Rattle.relay_model.specs.declared.acts.Why.{Why}
 use Rattle.relay_model.specs.declared.acts.Why.TheVariants as whys
 use Rattle.relay_model.specs.declared.acts.Act.{Act}
-use Rattle.relay_model.specs.declared.acts.Act.TheVariants.{Turn, Opened, Accepted, AcceptFailed, Read, Wrote, Closed}
-use Rattle.relay_model.specs.Places.{same_place, same_side, same_part, door_of}
-use Rattle.relay_model.specs.Choices.{only_if, or_else, first_some, one_more}
-use Rattle.relay_model.specs.Configs.{places, parts, place_at, things, own_doors, has_own_door, options_of, listens_at, has_fork, is_left, program_door, is_program_door, is_of, is_place_of, input, output, formed}
+use Rattle.relay_model.specs.declared.acts.Act.TheVariants.{Turn, Opened, Accepted, NoPeer, AcceptFailed, Read, Wrote, WriteNotYet, WriteFault, Closed}
+use Rattle.relay_model.specs.Places.{same_place, same_side, same_part, same_bool, door_of}
+use Rattle.relay_model.specs.Choices.{only_if, or_else, first_some, one_more, earlier, later}
+use Rattle.relay_model.specs.Configs.{places, parts, place_at, things, own_doors, has_own_door, options_of, listens_at, has_fork, is_left, program_door, is_program_door, is_of, is_place_of, input, output, formed, accepting_door}
+use Rattle.relay_model.specs.Conversions.{is_over}
 use Rattle.relay_model.specs.History.{now, Stage, Unsettled, Failed, Met, Waiting, stage, held, holds_at, is_gone_with, served, stop_said, memory_said, same_why, accept_failed}
 use Rattle.relay_model.specs.Sessions.{permits, holds, admitted, is_admission, numbers}
 use Rattle.relay_model.specs.Tries.{next_due, is_out_of_tries}
 use Rattle.relay_model.specs.Moments.{moved, passed_at, broken_at, done_at, after_one, closing_moment, idle_moment, reached}
 use Rattle.relay_model.specs.Openings.{Call, Nothing, Open, Settle, Listen, Accept, Refuse, Serve, out_of_tries, when_due, try_again, stands_ready, is_ready, ready, opening_call, listening_call, peer_call, place_call, first_call}
-use Rattle.relay_model.specs.Cause.{is_end, closed_why, fault_at, faulted, finished, cause}
-use Rattle.relay_model.specs.Frames.{is_turn, SameAt, IsForeign, is_common, SameSession}
+use Rattle.relay_model.specs.Arming.{is_armed, arming_moment, asked_to_write, asked_to_accept}
+use Rattle.relay_model.specs.Transfers.{due, over, backlog}
+use Rattle.relay_model.specs.Cause.{is_end, closed_why, fault_at, faulted, finished, cause, running}
+use Rattle.relay_model.specs.Calls.{call}
+use Rattle.relay_model.specs.Rest.{moves, may_read, may_write, accepts, session_work, try_moment, input_moment, timer_moment, session_moment}
+use Rattle.relay_model.specs.Frames.{is_at, is_turn, SameAt, IsForeign, is_common, SameSession}
 use Rattle.relay_laws.proofs.PlaceLemmas.{same_place_equal, same_place_self}
 use Rattle.relay_laws.proofs.Elsewhere.{elsewhere}
 
@@ -38,15 +43,15 @@ no_door true true z f = refl
 no_door true false z f = refl
 no_door false y z f = refl
 
-own_door : (l p z f : Bool) → (l && f) ≡ false → (l && p && true && z && f) ≡ false
-own_door true p z f e = and_right (p && true && z) f e
-own_door false p z f e = refl
+own_door : (l p d z f : Bool) → (l && f) ≡ false → (l && p && d && z && f) ≡ false
+own_door true p d z f e = and_right (p && d && z) f e
+own_door false p d z f e = refl
 
 pub place_own : (c : Config) (s : ℕ) (side : Side) (part : Part) → is_program_door c (place_at s side part) ≡ false
 place_own c s side part = no_door (same_side side Left) (same_part part Both) (s == 0) (has_fork c)
 
 pub door_own : (c : Config) (p : Place) → has_own_door c p ≡ true → is_program_door c (door_of p) ≡ false
-door_own c p e = own_door (same_side p.side Left) (same_part p.part Both) (p.session == 0) (has_fork c) (not-true (is_left p && has_fork c) (and_parts (listens_at c p) (not (is_left p && has_fork c)) e).1)
+door_own c p e = own_door (same_side p.side Left) (same_part p.part Both) true (p.session == 0) (has_fork c) (not-true (is_left p && has_fork c) (and_parts (listens_at c p) (not (is_left p && has_fork c)) e).1)
 
 each_append : (c : Config) (s : ℕ) (ps qs : List Place) → EachOwn c s ps → EachOwn c s qs → EachOwn c s (ps ++ qs)
 each_append c s [] qs h k = k
@@ -260,6 +265,70 @@ first_call_same c s a b base (p ∷ ps) own =
     let ih = first_call_same c s a b base ps own.2 in
     λ i. cond (r i) (ih i) (k i)
 
+-- ---- work and moments
+
+over_same : (c : Config) (s : ℕ) (a b : List Act) → Base c s a b → (p : Place) → p.session ≡ s → is_program_door c p ≡ false → over c a p ≡ over c b p
+over_same c s a b base p e d =
+    let x = (base.own p e d).met_end_same in
+    let y = (base.own p e d).met_empty_same in
+    let g = (base.own p e d).got_same in
+    λ i. x i && not (options_of c p).ignoreeof || y i && (options_of c p).null_eof || is_over (options_of c p).readbytes (options_of c p).escape (g i)
+
+backlog_same : (c : Config) (s : ℕ) (a b : List Act) → Base c s a b → (w : Way) → backlog c a s w ≡ backlog c b s w
+backlog_same c s a b base w =
+    let g = (base.own (input c s w) refl (input_own c s w)).got_same in
+    let u = (base.own (output c s w) refl (output_own c s w)).put_same in
+    λ i. length (due c w (g i)) - length (u i)
+
+moves_same : (c : Config) (s : ℕ) (a b : List Act) → Base c s a b → running c a s ≡ running c b s → (w : Way) → moves c a s w ≡ moves c b s w
+moves_same c s a b base run w = let u = breaking_same c s a b base w in λ i. formed c w && not (is_some (u i)) && run i
+
+reads_same : (c : Config) (s : ℕ) (a b : List Act) → Base c s a b → running c a s ≡ running c b s → (w : Way) → may_read c a s w ≡ may_read c b s w
+reads_same c s a b base run w =
+    let m = moves_same c s a b base run w in
+    let r = (base.own (input c s w) refl (input_own c s w)).read_arming_same in
+    let at = base.now_same in
+    let o = over_same c s a b base (input c s w) refl (input_own c s w) in
+    let k = backlog_same c s a b base w in
+    λ i. m i && is_armed (r i) (at i) && not (o i) && k i == 0
+
+writes_same : (c : Config) (s : ℕ) (a b : List Act) → Base c s a b → running c a s ≡ running c b s → (w : Way) → may_write c a s w ≡ may_write c b s w
+writes_same c s a b base run w =
+    let m = moves_same c s a b base run w in
+    let r = (base.own (output c s w) refl (output_own c s w)).armed_to_write_same in
+    let k = backlog_same c s a b base w in
+    λ i. m i && r i && nat_lt 0 (k i)
+
+work_same : (c : Config) (s : ℕ) (a b : List Act) → Base c s a b → running c a s ≡ running c b s → call c a s ≡ call c b s → session_work c a s ≡ session_work c b s
+work_same c s a b base run calling =
+    let r = reads_same c s a b base run LeftToRight in
+    let u = writes_same c s a b base run LeftToRight in
+    let x = reads_same c s a b base run RightToLeft in
+    let y = writes_same c s a b base run RightToLeft in
+    λ i. (r i || u i) || (x i || y i) || accepts (calling i)
+
+input_same : (c : Config) (s : ℕ) (a b : List Act) → Base c s a b → running c a s ≡ running c b s → (w : Way) → input_moment c a s w ≡ input_moment c b s w
+input_same c s a b base run w =
+    let m = moves_same c s a b base run w in
+    let o = over_same c s a b base (input c s w) refl (input_own c s w) in
+    let r = (base.own (input c s w) refl (input_own c s w)).read_arming_same in
+    λ i. cond (m i && not (o i)) (arming_moment (r i)) None
+
+timer_same : (c : Config) (s : ℕ) (a b : List Act) → Base c s a b → running c a s ≡ running c b s → timer_moment c a s ≡ timer_moment c b s
+timer_same c s a b base run =
+    let closing = closing_same c s a b base in
+    let idle = idle_same c s a b base in
+    let at = base.now_same in
+    λ i. cond (run i) (earlier (later (at i) (closing i)) (later (at i) (idle i))) None
+
+moment_same : (c : Config) (s : ℕ) (a b : List Act) → Base c s a b → running c a s ≡ running c b s → call c a s ≡ call c b s → session_moment c a s ≡ session_moment c b s
+moment_same c s a b base run calling =
+    let t = timer_same c s a b base run in
+    let x = input_same c s a b base run LeftToRight in
+    let y = input_same c s a b base run RightToLeft in
+    let at = base.now_same in
+    λ i. earlier (t i) (earlier (earlier (later (at i) (x i)) (later (at i) (y i))) (later (at i) (try_moment (calling i))))
+
 -- ---- one act
 
 foreign_of : (c : Config) (s : ℕ) (q : Place) → ((p : Place) → p.session ≡ s → is_program_door c p ≡ false → same_place q p ≡ false) → is_of c s q ≡ false
@@ -305,6 +374,29 @@ door_step : (c : Config) (act : Act) (past : List Act) → is_common c act ≡ f
 door_step c (AcceptFailed q) past k = unfailed (same_place q program_door) (has_fork c) (accept_failed past program_door) k
 door_step c act past k = refl
 
+write_step : (act : Act) (past : List Act) (i o : Place) → is_turn act ≡ false → is_at act i ≡ false → is_at act o ≡ false → asked_to_write (act ∷ past) i o ≡ asked_to_write past i o
+write_step (Turn until at ready stop) past i o t x y = absurd (true≢false t)
+write_step (Read q bytes) past i o t x y = λ j. not (x j) && asked_to_write past i o
+write_step (Wrote q bytes) past i o t x y = λ j. y j || asked_to_write past i o
+write_step (WriteNotYet q) past i o t x y = λ j. y j || asked_to_write past i o
+write_step (WriteFault q) past i o t x y = λ j. y j || asked_to_write past i o
+write_step act past i o t x y = refl
+
+-- a peer of another session is accepted at another door
+other_door : (c : Config) (s : ℕ) (q d : Place) → ((p : Place) → p.session ≡ s → is_program_door c p ≡ false → same_place q p ≡ false) → d.session ≡ s → is_program_door c d ≡ false → same_place (accepting_door c q) d ≡ false
+other_door c s q d f e o = false_from_ne_true (same_place (accepting_door c q) d) (go (is_left q && has_fork c) refl)
+  where
+    go : (b : Bool) → (is_left q && has_fork c) ≡ b → same_place (cond b program_door (door_of q)) d ≡ true → ⊥
+    go true k h = true≢false (sym (and_parts (is_left q) (has_fork c) k).1 ∙ ap (is_program_door c) (same_place_equal program_door d h) ∙ o)
+    go false k h = true≢false (sym (same_place_self q) ∙ f q (ap (λ x. x.session) (same_place_equal (door_of q) d h) ∙ e) (own_door (same_side q.side Left) (same_part q.part Both) (same_bool q.door true) (q.session == 0) (has_fork c) k))
+
+accept_step : (c : Config) (act : Act) (past : List Act) (s : ℕ) → IsForeign c s act → is_turn act ≡ false → (d : Place) → d.session ≡ s → is_program_door c d ≡ false → asked_to_accept c (act ∷ past) d ≡ asked_to_accept c past d
+accept_step c (Turn until at ready stop) past s f t d e o = absurd (true≢false t)
+accept_step c (Accepted q peer) past s f t d e o = let x = other_door c s q d f e o in λ i. x i || asked_to_accept c past d
+accept_step c (NoPeer q) past s f t d e o = let x = f d e o in λ i. x i || asked_to_accept c past d
+accept_step c (AcceptFailed q) past s f t d e o = let x = f d e o in λ i. x i || asked_to_accept c past d
+accept_step c act past s f t d e o = refl
+
 pub base_step : (c : Config) (act : Act) (past : List Act) (s : ℕ) → IsForeign c s act → is_common c act ≡ false → Base c s (act ∷ past) past
 base_step c act past s f k = record {
   own = λ p e d. elsewhere act past p (turn_step c act k) (f p e d);
@@ -337,12 +429,21 @@ apart c act past s begun f k =
     let r = readiness_same c s (act ∷ past) past base in
     let e = ending_same c s (act ∷ past) past base in
     let o = first_call_same c s (act ∷ past) past base (places c s) (each_place c s) in
+    let calling : call c (act ∷ past) s ≡ call c past s = λ i. cond (l i && is_none (e i)) (o i) Nothing in
+    let run : running c (act ∷ past) s ≡ running c past s = λ i. l i && r i && is_none (e i) in
     record {
       places_same = base.own;
       holds_same = x;
       live_same = l;
       ready_same = r;
       cause_same = e;
-      call_same = λ i. cond (l i && is_none (e i)) (o i) Nothing;
-      running_same = λ i. l i && r i && is_none (e i);
+      call_same = calling;
+      running_same = run;
+      moved_same = base.moved_same;
+      closing_moment_same = closing_same c s (act ∷ past) past base;
+      idle_moment_same = idle_same c s (act ∷ past) past base;
+      session_work_same = work_same c s (act ∷ past) past base run calling;
+      session_moment_same = moment_same c s (act ∷ past) past base run calling;
+      asked_to_write_same = λ w. write_step act past (input c s w) (output c s w) (turn_step c act k) (f (input c s w) refl (input_own c s w)) (f (output c s w) refl (output_own c s w));
+      asked_to_accept_same = accept_step c act past s f (turn_step c act k);
     }

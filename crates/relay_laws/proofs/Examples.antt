@@ -14,7 +14,7 @@ use Rattle.relay_model.specs.declared.acts.Shut.TheVariants as shuts
 use Rattle.relay_model.specs.declared.acts.Why.TheVariants as whys
 use Rattle.relay_model.specs.declared.acts.Peer.TheVariants as peers
 use Rattle.relay_model.specs.declared.acts.Act.{Act}
-use Rattle.relay_model.specs.declared.acts.Act.TheVariants.{Turn, Opened, OpenLater, Listening, Accepted, Read, ReadEmpty, ReadEnd, ReadNotYet, ReadFault, Wrote, WriteNotYet, WriteFault, Shut, Closed}
+use Rattle.relay_model.specs.declared.acts.Act.TheVariants.{Turn, Opened, OpenLater, Listening, Accepted, NoPeer, Read, ReadEmpty, ReadEnd, ReadNotYet, ReadFault, Wrote, WriteNotYet, WriteFault, Shut, Closed}
 use Rattle.relay_model.specs.declared.commands.Config.{Config}
 use Rattle.relay_model.specs.declared.commands.Ways.TheVariants as ways
 use Rattle.relay_model.specs.declared.commands.Dump.TheVariants as dumps
@@ -114,6 +114,8 @@ refusal =
     ∷ Accepted (at 0 Left Reading false) (peers.V4 (10 ∷ 1 ∷ 2 ∷ 3 ∷ []) 40001)
     ∷ Closed (at 0 Left Reading false) whys.Refused
     ∷ Accepted (at 0 Left Reading false) (peers.V4 (11 ∷ 0 ∷ 0 ∷ 1 ∷ []) 40000)
+    ∷ Turn None 5 (listed (named (at 0 Left Reading true) ToRead ∷ [])) false
+    ∷ NoPeer (at 0 Left Reading true)
     ∷ Listening (at 0 Left Reading true)
     ∷ []
 
@@ -122,6 +124,9 @@ refusal_legal = legal_is refusal_command (2 ^ 64 - 1) refusal refl
 
 refusal_outcome : outcome refusal_command refusal ≡ Some (outcomes.Ended whys.Finished)
 refusal_outcome = refl
+
+refusal_until : until_of refusal_command (drop 12 refusal) ≡ None
+refusal_until = refl
 
 -- the door serves a peer that is not permitted
 abbrev refusal_wrong : List Act
@@ -138,11 +143,13 @@ refusal_wrong =
     ∷ Closed (at 0 Left Reading false) whys.Refused
     ∷ Closed (at 0 Left Reading true) whys.Served
     ∷ Accepted (at 0 Left Reading false) (peers.V4 (11 ∷ 0 ∷ 0 ∷ 1 ∷ []) 40000)
+    ∷ Turn None 5 (listed (named (at 0 Left Reading true) ToRead ∷ [])) false
+    ∷ NoPeer (at 0 Left Reading true)
     ∷ Listening (at 0 Left Reading true)
     ∷ []
 
 refusal_not : Legal refusal_command (2 ^ 64 - 1) refusal_wrong → ⊥
-refusal_not legal = let e : 3 ≡ 0 = legal_test refusal_command (2 ^ 64 - 1) refusal_wrong legal in omega (arith, e)
+refusal_not legal = let e : 5 ≡ 0 = legal_test refusal_command (2 ^ 64 - 1) refusal_wrong legal in omega (arith, e)
 
 -- ---- a session of a command with `fork`, and its end
 
@@ -359,7 +366,8 @@ packets_command = record { block = 3; closing = 500; idle = 0; ways = ways.OnlyL
 
 abbrev packets : List Act
 packets =
-    Closed (at 0 Left Writing false) whys.Faulted
+    Closed (at 0 Right Reading false) whys.Faulted
+    ∷ Closed (at 0 Left Writing false) whys.Faulted
     ∷ ReadFault (at 0 Right Reading false)
     ∷ Wrote (at 0 Left Writing false) (97 ∷ 98 ∷ [])
     ∷ Turn None 4 (listed (named (at 0 Left Writing false) ToWrite ∷ [])) false
@@ -378,19 +386,20 @@ packets =
 packets_legal : Legal packets_command (2 ^ 64 - 1) packets
 packets_legal = legal_is packets_command (2 ^ 64 - 1) packets refl
 
-packets_outcome : outcome packets_command packets ≡ None
+packets_outcome : outcome packets_command packets ≡ Some (outcomes.Faulted (at 0 Right Reading false) ToRead)
 packets_outcome = refl
 
 packets_until : until_of packets_command (drop 13 packets) ≡ None
 packets_until = refl
 
-packets_until_then : until_of packets_command (drop 8 packets) ≡ None
+packets_until_then : until_of packets_command (drop 9 packets) ≡ None
 packets_until_then = refl
 
 -- a datagram is cut in two
 abbrev packets_wrong : List Act
 packets_wrong =
-    Closed (at 0 Left Writing false) whys.Faulted
+    Closed (at 0 Right Reading false) whys.Faulted
+    ∷ Closed (at 0 Left Writing false) whys.Faulted
     ∷ ReadFault (at 0 Right Reading false)
     ∷ Wrote (at 0 Left Writing false) (97 ∷ 98 ∷ [])
     ∷ Turn None 4 (listed (named (at 0 Left Writing false) ToWrite ∷ [])) false

@@ -10,5 +10,6 @@ pub mod Growth
 pub mod Holdings
 pub mod Least
 pub mod PlaceLemmas
+pub mod Served
 pub mod Sound
 pub mod Written

@@ -1,5 +1,5 @@
-// The program door of `fork`, and the sessions that it begins.
-ghost use Rattle.relay_model.specs.Laws.{AdmittedIsBounded, CausedBeginsNothing, EndedStaysEnded, LiveIsBounded, ProgramDoorTells};
+// Doors, the program door of `fork` among them, and the sessions that it begins.
+ghost use Rattle.relay_model.specs.Laws.{AdmittedIsBounded, CausedBeginsNothing, EndedStaysEnded, LiveIsBounded, ProgramDoorTells, ServedDoorStaysClosed, ServedDoorStaysServed};
 
 /// An accepting at the program door is for the next session, while fewer live than may and fewer were permitted
 /// than are to be served.
@@ -25,4 +25,14 @@ pub fn live_is_bounded()
 /// A session that has a cause opens, listens and accepts nothing any more.
 pub fn caused_begins_nothing()
     ensures { CausedBeginsNothing }
+{}
+
+/// A door that was closed since it had served is listened at no more.
+pub fn served_door_stays_closed()
+    ensures { ServedDoorStaysClosed }
+{}
+
+/// Whatever comes, it stays a door that has served.
+pub fn served_door_stays_served()
+    ensures { ServedDoorStaysServed }
 {}

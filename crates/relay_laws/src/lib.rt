@@ -8,7 +8,7 @@ mod waits;
 
 pub use doors::{
     admitted_is_bounded, caused_begins_nothing, ended_stays_ended, live_is_bounded,
-    program_door_tells,
+    program_door_tells, served_door_stays_closed, served_door_stays_served,
 };
 pub use frames::{elsewhere_is_untouched, sessions_are_apart, steps_leave_the_rest};
 pub use histories::{

@@ -1,19 +1,22 @@
 -- What acts leave as it is: each list of acts says of a place or door the same after an act elsewhere, and of a session
 -- the same after an act that is none of its own.
 use Rattle.std.specs.Prelude.{◌≡◌, ◌<◌, ℕ, Bool, true, false, ◌||◌, List, ◌∷◌}
+use Rattle.relay_model.specs.declared.places.Way.{Way}
 use Rattle.relay_model.specs.declared.places.Place.{Place}
 use Rattle.relay_model.specs.declared.commands.Config.{Config}
 use Rattle.relay_model.specs.declared.acts.Why.TheVariants as whys
 use Rattle.relay_model.specs.declared.acts.Act.{Act}
 use Rattle.relay_model.specs.declared.acts.Act.TheVariants.{Turn, Opened, OpenLater, OpenFailed, Listening, ListenFailed, Accepted, NoPeer, AcceptFailed, Read, ReadEmpty, ReadEnd, ReadNotYet, ReadFault, Wrote, WriteNotYet, WriteFault, Shut, ShutFault, Closed, Reaped, Note, NoteFault}
 use Rattle.relay_model.specs.Places.{same_place}
-use Rattle.relay_model.specs.Configs.{is_program_door}
-use Rattle.relay_model.specs.History.{now, turns, same_why, stage, failures, woken, accept_failed, was_closed, was_reaped, got, put, sent, met_end, met_empty, shut_at, read_fault_at, write_fault_at}
-use Rattle.relay_model.specs.Arming.{read_arming, armed_to_write, armed_to_accept, asked_to_read}
-use Rattle.relay_model.specs.Sessions.{numbers, live, holds}
+use Rattle.relay_model.specs.Configs.{input, output, is_program_door}
+use Rattle.relay_model.specs.History.{now, turns, same_why, stop_said, memory_said, stage, failures, woken, accept_failed, was_closed, was_reaped, reaped_since, got, put, sent, met_end, met_empty, shut_at, read_fault_at, write_fault_at}
+use Rattle.relay_model.specs.Arming.{read_arming, armed_to_write, armed_to_accept, asked_to_read, asked_to_write, asked_to_accept}
+use Rattle.relay_model.specs.Sessions.{admitted, numbers, live, holds}
+use Rattle.relay_model.specs.Moments.{moved, closing_moment, idle_moment}
 use Rattle.relay_model.specs.Openings.{ready}
 use Rattle.relay_model.specs.Cause.{cause, running}
 use Rattle.relay_model.specs.Calls.{call}
+use Rattle.relay_model.specs.Rest.{session_work, session_moment}
 
 -- the place or door that the act is at
 abbrev pub is_at : Act → Place → Bool
@@ -53,6 +56,7 @@ pub record SameAt (p : Place) (one other : List Act) : Type 0 where
   pub accept_failed_same : accept_failed one p ≡ accept_failed other p
   pub was_closed_same : was_closed one p ≡ was_closed other p
   pub was_reaped_same : was_reaped one p ≡ was_reaped other p
+  pub reaped_since_same : reaped_since one p ≡ reaped_since other p
   pub got_same : got one p ≡ got other p
   pub put_same : put one p ≡ put other p
   pub sent_same : sent one p ≡ sent other p
@@ -128,14 +132,93 @@ abbrev pub fails_to_write : Act → Bool
 fails_to_write (WriteFault q) = true
 fails_to_write act = false
 
+abbrev pub wakes_or_unsettles : Act → Bool
+wakes_or_unsettles (Turn until at ready stop) = true
+wakes_or_unsettles (OpenLater q) = true
+wakes_or_unsettles act = false
+
+abbrev pub turns_or_closes : Act → Bool
+turns_or_closes (Turn until at ready stop) = true
+turns_or_closes (Closed q why) = true
+turns_or_closes act = false
+
+abbrev pub closes_or_reaps : Act → Bool
+closes_or_reaps (Closed q why) = true
+closes_or_reaps (Reaped q end) = true
+closes_or_reaps act = false
+
+-- these arm or disarm; a turn may always arm
+
+abbrev pub arms_to_read : Act → Bool
+arms_to_read (Turn until at ready stop) = true
+arms_to_read (Opened q) = true
+arms_to_read (Accepted q peer) = true
+arms_to_read (ReadEnd q) = true
+arms_to_read (ReadNotYet q) = true
+arms_to_read act = false
+
+abbrev pub arms_to_write : Act → Bool
+arms_to_write (Turn until at ready stop) = true
+arms_to_write (Opened q) = true
+arms_to_write (Accepted q peer) = true
+arms_to_write (WriteNotYet q) = true
+arms_to_write act = false
+
+abbrev pub arms_to_accept : Act → Bool
+arms_to_accept (Turn until at ready stop) = true
+arms_to_accept (Listening q) = true
+arms_to_accept (NoPeer q) = true
+arms_to_accept act = false
+
+-- a turn forgets what was asked, and so does a read of bytes for its output
+
+abbrev pub asks_to_read : Act → Bool
+asks_to_read (Turn until at ready stop) = true
+asks_to_read (Read q bytes) = true
+asks_to_read (ReadEmpty q) = true
+asks_to_read (ReadEnd q) = true
+asks_to_read (ReadNotYet q) = true
+asks_to_read (ReadFault q) = true
+asks_to_read act = false
+
+abbrev pub asks_to_write : Act → Bool
+asks_to_write (Turn until at ready stop) = true
+asks_to_write (Read q bytes) = true
+asks_to_write (Wrote q bytes) = true
+asks_to_write (WriteNotYet q) = true
+asks_to_write (WriteFault q) = true
+asks_to_write act = false
+
+abbrev pub asks_to_accept : Act → Bool
+asks_to_accept (Turn until at ready stop) = true
+asks_to_accept (Accepted q peer) = true
+asks_to_accept (NoPeer q) = true
+asks_to_accept (AcceptFailed q) = true
+asks_to_accept act = false
+
+abbrev pub moves_session : Act → Bool
+moves_session (Opened q) = true
+moves_session (Accepted q peer) = true
+moves_session (Read q bytes) = true
+moves_session (Wrote q bytes) = true
+moves_session act = false
+
+abbrev pub meets_peer : Act → Bool
+meets_peer (Accepted q peer) = true
+meets_peer act = false
+
 pub record Leaves (act : Act) (past : List Act) : Type 0 where
   pub now_same : is_turn act ≡ false → now (act ∷ past) ≡ now past
   pub turns_same : is_turn act ≡ false → turns (act ∷ past) ≡ turns past
+  pub stop_said_same : turns_or_closes act ≡ false → stop_said (act ∷ past) ≡ stop_said past
+  pub memory_said_same : closes act ≡ false → memory_said (act ∷ past) ≡ memory_said past
   pub stage_same : opens_or_closes act ≡ false → (p : Place) → stage (act ∷ past) p ≡ stage past p
   pub failures_same : fails_to_open act ≡ false → (p : Place) → failures (act ∷ past) p ≡ failures past p
+  pub woken_same : wakes_or_unsettles act ≡ false → (p : Place) → woken (act ∷ past) p ≡ woken past p
   pub accept_failed_same : fails_to_accept act ≡ false → (p : Place) → accept_failed (act ∷ past) p ≡ accept_failed past p
   pub was_closed_same : closes act ≡ false → (p : Place) → was_closed (act ∷ past) p ≡ was_closed past p
   pub was_reaped_same : reaps act ≡ false → (p : Place) → was_reaped (act ∷ past) p ≡ was_reaped past p
+  pub reaped_since_same : closes_or_reaps act ≡ false → (p : Place) → reaped_since (act ∷ past) p ≡ reaped_since past p
   pub got_same : reads_bytes act ≡ false → (p : Place) → got (act ∷ past) p ≡ got past p
   pub put_same : writes_bytes act ≡ false → (p : Place) → put (act ∷ past) p ≡ put past p
   pub sent_same : writes_bytes act ≡ false → (p : Place) → sent (act ∷ past) p ≡ sent past p
@@ -144,6 +227,14 @@ pub record Leaves (act : Act) (past : List Act) : Type 0 where
   pub shut_at_same : passes_end act ≡ false → (p : Place) → shut_at (act ∷ past) p ≡ shut_at past p
   pub read_fault_at_same : fails_to_read act ≡ false → (p : Place) → read_fault_at (act ∷ past) p ≡ read_fault_at past p
   pub write_fault_at_same : fails_to_write act ≡ false → (p : Place) → write_fault_at (act ∷ past) p ≡ write_fault_at past p
+  pub read_arming_same : arms_to_read act ≡ false → (p : Place) → read_arming (act ∷ past) p ≡ read_arming past p
+  pub armed_to_write_same : arms_to_write act ≡ false → (p : Place) → armed_to_write (act ∷ past) p ≡ armed_to_write past p
+  pub armed_to_accept_same : arms_to_accept act ≡ false → (d : Place) → armed_to_accept (act ∷ past) d ≡ armed_to_accept past d
+  pub asked_to_read_same : asks_to_read act ≡ false → (p : Place) → asked_to_read (act ∷ past) p ≡ asked_to_read past p
+  pub asked_to_write_same : asks_to_write act ≡ false → (i o : Place) → asked_to_write (act ∷ past) i o ≡ asked_to_write past i o
+  pub asked_to_accept_same : asks_to_accept act ≡ false → (c : Config) (d : Place) → asked_to_accept c (act ∷ past) d ≡ asked_to_accept c past d
+  pub moved_same : moves_session act ≡ false → (c : Config) (s : ℕ) → moved c (act ∷ past) s ≡ moved c past s
+  pub admitted_same : meets_peer act ≡ false → (c : Config) → admitted c (act ∷ past) ≡ admitted c past
 
 -- the step laws: what each kind of act leaves at every place
 abbrev pub StepsLeave : Type 0
@@ -172,6 +263,13 @@ pub record SameSession (c : Config) (s : ℕ) (one other : List Act) : Type 0 wh
   pub cause_same : cause c one s ≡ cause c other s
   pub call_same : call c one s ≡ call c other s
   pub running_same : running c one s ≡ running c other s
+  pub moved_same : moved c one s ≡ moved c other s
+  pub closing_moment_same : closing_moment c one s ≡ closing_moment c other s
+  pub idle_moment_same : idle_moment c one s ≡ idle_moment c other s
+  pub session_work_same : session_work c one s ≡ session_work c other s
+  pub session_moment_same : session_moment c one s ≡ session_moment c other s
+  pub asked_to_write_same : (w : Way) → asked_to_write one (input c s w) (output c s w) ≡ asked_to_write other (input c s w) (output c s w)
+  pub asked_to_accept_same : (d : Place) → d.session ≡ s → is_program_door c d ≡ false → asked_to_accept c one d ≡ asked_to_accept c other d
 
 -- an act of another session or of the program door changes nothing of a session that has begun, but for the acts that
 -- are every session's

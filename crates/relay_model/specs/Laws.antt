@@ -7,11 +7,11 @@ use Rattle.relay_model.specs.declared.commands.Config.{Config}
 use Rattle.relay_model.specs.declared.acts.Why.{Why}
 use Rattle.relay_model.specs.declared.acts.Why.TheVariants as whys
 use Rattle.relay_model.specs.declared.acts.Act.{Act}
-use Rattle.relay_model.specs.declared.acts.Act.TheVariants.{Opened, OpenLater, Listening, Accepted, NoPeer, AcceptFailed, Read, ReadEmpty, ReadEnd, ReadNotYet, ReadFault, Wrote, WriteNotYet, WriteFault, Shut, ShutFault, Closed}
+use Rattle.relay_model.specs.declared.acts.Act.TheVariants.{Opened, OpenLater, Listening, ListenFailed, Accepted, NoPeer, AcceptFailed, Read, ReadEmpty, ReadEnd, ReadNotYet, ReadFault, Wrote, WriteNotYet, WriteFault, Shut, ShutFault, Closed}
 use Rattle.relay_model.specs.Places.{same_place}
 use Rattle.relay_model.specs.Holding.{standing, is_free}
 use Rattle.relay_model.specs.Configs.{input, output, formed, has_fork, program_door, is_program_door}
-use Rattle.relay_model.specs.History.{now, got, put, held, stage, Unsettled, Waiting, woken}
+use Rattle.relay_model.specs.History.{now, got, put, held, stage, Unsettled, Waiting, served, woken}
 use Rattle.relay_model.specs.Arming.{armed_to_accept}
 use Rattle.relay_model.specs.Sessions.{numbers, admitted, holds, live_count, next_place, door_options}
 use Rattle.relay_model.specs.Transfers.{due, backlog}
@@ -155,6 +155,20 @@ abbrev pub CausedBeginsNothing : Type 0
 CausedBeginsNothing =
     (c : Config) (n : ℕ) (act : Act) (past : List Act) (s : ℕ) → Legal c n (act ∷ past) → s < numbers c past → is_some (cause c past s) ≡ true →
     (p : Place) → p.session ≡ s → is_program_door c p ≡ false → begins act p ≡ false
+
+-- the act listens at this door, or fails to
+abbrev pub is_listening : Act → Place → Bool
+is_listening (Listening q) d = same_place q d
+is_listening (ListenFailed q) d = same_place q d
+is_listening act d = false
+
+-- a door that was closed since it had served is listened at no more
+abbrev pub ServedDoorStaysClosed : Type 0
+ServedDoorStaysClosed = (c : Config) (n : ℕ) (act : Act) (past : List Act) (d : Place) → Legal c n (act ∷ past) → served past d ≡ true → is_listening act d ≡ false
+
+-- it stays a door that has served, whatever comes
+abbrev pub ServedDoorStaysServed : Type 0
+ServedDoorStaysServed = (c : Config) (n : ℕ) (act : Act) (past : List Act) (d : Place) → Legal c n (act ∷ past) → d.door ≡ true → served past d ≡ true → served (act ∷ past) d ≡ true
 
 -- no more sessions live than may
 abbrev pub LiveIsBounded : Type 0

@@ -1,5 +1,5 @@
 -- When a wait is in order, and until when.
-use Rattle.std.specs.Prelude.{◌≡◌, ℕ, Bool, true, false, not, ◌&&◌, ◌||◌, ◌==◌, nat_lt, List, [], ◌∷◌, length, Option, Some, None, is_some, if◌then◌else◌}
+use Rattle.std.specs.Prelude.{◌≡◌, ℕ, ◌-◌, ◌^◌, min, Bool, true, false, not, ◌&&◌, ◌||◌, ◌==◌, nat_lt, List, [], ◌∷◌, length, Option, Some, None, is_some, if◌then◌else◌}
 use Rattle.relay_model.specs.declared.places.Way.{Way}
 use Rattle.relay_model.specs.declared.places.Way.TheVariants.{LeftToRight, RightToLeft}
 use Rattle.relay_model.specs.declared.commands.Config.{Config}
@@ -22,10 +22,11 @@ use Rattle.relay_model.specs.Outcome.{outcome}
 
 -- ---- dumps
 
--- the text that has to be noted at once: that of a `Read` which nothing has followed yet
+-- the text that has to be noted at once: that of a `Read` which nothing has followed yet; the count of the bytes
+-- before it stops at the greatest one
 abbrev pub owed : Config → List Act → Option (List ℕ)
 owed c [] = None
-owed c (Read q bytes ∷ past) = owed_text c.dump (dump_of c.dump (way_from q.side) (length (got past q)) bytes)
+owed c (Read q bytes ∷ past) = owed_text c.dump (dump_of c.dump (way_from q.side) (min (length (got past q)) (2 ^ 64 - 1)) bytes)
   where
     owed_text : Dump → List ℕ → Option (List ℕ)
     owed_text dumps.Off text = None

@@ -1,5 +1,5 @@
 // The history of a run: its acts, and what it asked to be opened.
-ghost use Rattle.std.specs.Prelude.{◌≡◌, ◌<◌, ◌≤◌, ◌∷◌, ◌++◌, ◌-◌, [], length, reverse, slice_get, Some, IfOk, OnOk, OnErr};
+ghost use Rattle.std.specs.Prelude.{◌≡◌, ◌<◌, ◌≤◌, ◌∷◌, ◌++◌, ◌-◌, [], length, map, reverse, slice_get, Some, IfOk, OnOk, OnErr};
 ghost use Rattle.relay_model.specs.Journals.{Story, Asking};
 ghost use Rattle.relay_model.specs.Acts.{copied_act};
 
@@ -78,6 +78,25 @@ impl Journal {
         self.items.push(item)?;
         Ok(())
     }
+
+    /// A copy. The copy of a turn has room for its entries alone.
+    #[tactic(auto, using(crate::proofs::Copies::copies_reversed))]
+    pub fn copy(&self) -> Result<Journal, NoMemory>
+        ensures { IfOk result (λ journal. journal.acts ≡ map copied_act self.now.acts) }
+    {
+        let items = copied_acts(*self.items.allocator(), self.items.as_slice())?;
+        Ok(Journal { items })
+    }
+}
+
+fn copied_acts(alloc: Global, acts: &[Act]) -> Result<Vec<Act>, NoMemory>
+    ensures { IfOk result (λ copied. copied.items ≡ map copied_act acts.now) }
+{
+    let mut copied = Vec::with_capacity(alloc, acts.len())?;
+    for act in acts {
+        copied.push(act.copy()?)?;
+    }
+    Ok(copied)
 }
 
 /// What was asked to be opened or listened at, in order.
@@ -136,4 +155,13 @@ impl Askings {
 pub struct Kept {
     pub journal: Journal,
     pub asked: Askings,
+}
+
+impl Kept {
+    /// Its acts.
+    pub fn journal(&self) -> &Journal
+        ensures { result.now ≡ self.now.journal }
+    {
+        &self.journal
+    }
 }

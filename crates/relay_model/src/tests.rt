@@ -2,8 +2,8 @@
 ghost use Rattle.std.specs.Prelude.{◌≤◌};
 
 use crate::{
-    Act, Askings, Bytes, Half, Journal, Options, Part, Place, ReadyAt, ReadyList, Side, Single,
-    Target, Text, Texts, Why,
+    Act, Askings, Bytes, Half, Journal, Kept, Options, Part, Place, ReadyAt, ReadyList, Side,
+    Single, Target, Text, Texts, Why,
 };
 use std::test::Fail;
 
@@ -151,6 +151,31 @@ fn copies_a_read(rt: HostRuntime) -> Result<(), Fail> {
     let read = Act::Read(INPUT, Bytes::of(rt.alloc(), b"abcd")?);
     let copied = read.copy()?;
     assert!(rt; reads_abcd(&copied));
+    Ok(())
+}
+
+#[test]
+fn copies_a_journal(rt: HostRuntime) -> Result<(), Fail> {
+    let mut journal = Journal::new(rt.alloc());
+    journal.push(Act::Opened(INPUT))?;
+    journal.push(Act::Read(INPUT, Bytes::of(rt.alloc(), b"abcd")?))?;
+    journal.push(Act::Closed(INPUT.own_door(), Why::Finished))?;
+    let copied = journal.copy()?;
+    assert_eq!(rt; copied.len(), 3);
+    assert!(rt; opens_input(copied.get(0)));
+    assert!(rt; reads_abcd(copied.get(1)));
+    assert!(rt; closes_the_door_of_input(copied.get(2)));
+    Ok(())
+}
+
+#[test]
+fn lends_its_journal(rt: HostRuntime) -> Result<(), Fail> {
+    let mut journal = Journal::new(rt.alloc());
+    journal.push(Act::Opened(INPUT))?;
+    let asked = Askings::new(rt.alloc());
+    let kept = Kept { journal, asked };
+    assert_eq!(rt; kept.journal().len(), 1);
+    assert!(rt; opens_input(kept.journal().get(0)));
     Ok(())
 }
 

@@ -1,9 +1,9 @@
 // A reader and a writer beside the recording of what they gave and took.
-ghost use Rattle.std.specs.Prelude.{◌≡◌, ◌≤◌, ◌<◌, ◌+◌, [], ℕ, List, Option, None, Some, true, is_some, length, take, OnOk, OnErr, IfSome, IfNone, IsTrue, MatchOption, option_map};
+ghost use Rattle.std.specs.Prelude.{◌≡◌, ◌≤◌, ◌<◌, ◌+◌, [], ℕ, List, Option, None, Some, true, false, is_some, length, take, OnOk, OnErr, IfSome, IfNone, IsTrue, MatchOption, option_map};
 ghost use Rattle.std.specs.Io.KnownBytes.{Keeps, Appends, Consumes};
 ghost use Rattle.relay_model.specs.Readiness.{copied_list};
-ghost use Rattle.world_trait.specs.Recordings.{HasRoom, HasAskingRoom, told_by, with_act, with_asking};
-ghost use Rattle.world_trait.specs.Answers.{OnlyWhereTold, ReadFits, WriteFits, read_act, write_act, note_act, wants_read_memory, wants_write_memory, wants_note_memory};
+ghost use Rattle.world_trait.specs.Recordings.{HasRoom, HasAskingRoom, KeepsNothing, told_by, with_act, with_asking};
+ghost use Rattle.world_trait.specs.Answers.{OnlyWhereTold, ReadFits, WriteFits, read_act, write_act, note_act, wants_read_memory, wants_write_memory};
 ghost use Rattle.thin_desk.specs.Streams.{ReadSince, ReadSince-prop, WrittenSince, WrittenSince-prop, moves_nothing, Tells};
 
 use relay_model::{Act, Bytes, Kept, NoMemory, Place, ReadyList, Single};
@@ -291,7 +291,6 @@ impl<R: Read + Drop, K: Write + Drop, S: Start> Channels<R, K, S> {
         ensures said { result ≡ NoteAnswer.Noted → Appends (E.contents errors.old) (E.contents errors.new) text.now }
         ensures keeps { is_some self.new.recording.told ≡ is_some self.old.recording.told }
         ensures room { self.old.recording.room ≤ self.new.recording.room + 1 }
-        ensures memory { OnlyWhereTold self.old.recording.told (wants_note_memory result) }
     {
         let Ok(copied) = self.recording.copied(self.alloc, text) else {
             return NoteAnswer::Memory;
@@ -312,6 +311,7 @@ impl<R: Read + Drop, K: Write + Drop, S: Start> Channels<R, K, S> {
     pub fn into_parts(self) -> (R, K, Kept)
         ensures reads { ReadSince S.input self.recording.told (R.remaining result.0) }
         ensures writes { WrittenSince S.output self.recording.told (K.contents result.1) }
+        ensures skipped { is_some self.recording.told ≡ false → KeepsNothing result.2 }
         ensures kept { is_some self.recording.told ≡ true → self.recording.told ≡ Some (record { acts = result.2.journal.acts; asked = result.2.asked.pairs }) }
     {
         let Channels {

@@ -1,7 +1,7 @@
 // The world of a relay between two plain streams.
-ghost use Rattle.std.specs.Prelude.{◌≡◌, ◌≤◌, ◌<◌, ◌+◌, [], ℕ, List, Option, None, Some, true, is_some, length, option_map};
+ghost use Rattle.std.specs.Prelude.{◌≡◌, ◌≤◌, ◌<◌, ◌+◌, [], ℕ, List, Option, None, Some, true, false, is_some, length, option_map};
 ghost use Rattle.relay_model.specs.Holding.{Free};
-ghost use Rattle.world_trait.specs.Recordings.{HasRoom, told_by};
+ghost use Rattle.world_trait.specs.Recordings.{HasRoom, KeepsNothing, told_by};
 ghost use Rattle.world_trait.specs.HoldTables.{hold_found, lookup};
 ghost use Rattle.world_trait.specs.Runs.{IsFresh};
 ghost use Rattle.thin_desk.specs.Streams.{ReadSince, WrittenSince};
@@ -112,9 +112,10 @@ impl<R: Read + Drop, K: Write + Drop, E: Write + Drop, S: Start> ThinDesk<R, K, 
         self.held.standing_at(place)
     }
 
-    /// What was kept.
+    /// What was kept; nothing by a desk that skips.
     pub fn kept(&self) -> &Kept
-        ensures { let w = ⟦<ThinDesk<R, K, E, S> as World>⟧ in is_some (w.told self.now) ≡ true → w.told self.now ≡ Some (record { acts = result.now.journal.acts; asked = result.now.asked.pairs }) }
+        ensures skipped { is_some (⟦<ThinDesk<R, K, E, S> as World>⟧.told self.now) ≡ false → KeepsNothing result.now }
+        ensures told { let w = ⟦<ThinDesk<R, K, E, S> as World>⟧ in is_some (w.told self.now) ≡ true → w.told self.now ≡ Some (record { acts = result.now.journal.acts; asked = result.now.asked.pairs }) }
     {
         self.channels.recording.kept()
     }
@@ -132,10 +133,11 @@ impl<R: Read + Drop, K: Write + Drop, E: Write + Drop, S: Start> ThinDesk<R, K, 
 
     /// Hands the streams back, with what was kept and the counts. What the reader had when the desk was made is what
     /// the kept reads gave, and then what it has left; what the writer holds is what it held then, and then what the
-    /// kept writes took.
+    /// kept writes took. A desk that skips kept nothing.
     pub fn finish(self) -> Done<R, K, E>
         ensures reads { ReadSince S.input (⟦<ThinDesk<R, K, E, S> as World>⟧.told self) (R.remaining result.reader) }
         ensures writes { WrittenSince S.output (⟦<ThinDesk<R, K, E, S> as World>⟧.told self) (K.contents result.writer) }
+        ensures skipped { is_some (⟦<ThinDesk<R, K, E, S> as World>⟧.told self) ≡ false → KeepsNothing result.kept }
         ensures kept { let w = ⟦<ThinDesk<R, K, E, S> as World>⟧ in is_some (w.told self) ≡ true → w.told self ≡ Some (record { acts = result.kept.journal.acts; asked = result.kept.asked.pairs }) }
         ensures counts { let w = ⟦<ThinDesk<R, K, E, S> as World>⟧ in result.counts ≡ record { faults = w.faults self; waits = w.waits self; stops = w.stops self } }
     {

@@ -235,10 +235,5 @@ wants_shut_memory shuts.Done = false
 wants_shut_memory shuts.Failed = false
 wants_shut_memory shuts.Memory = true
 
-abbrev pub wants_note_memory : NoteAnswer → Bool
-wants_note_memory notes.Noted = false
-wants_note_memory notes.Failed = false
-wants_note_memory notes.Memory = true
-
 abbrev pub OnlyWhereTold : Option History → Bool → Type 0
 OnlyWhereTold told wants = wants ≡ true → is_some told ≡ true

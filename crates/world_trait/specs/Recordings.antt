@@ -21,6 +21,10 @@ told_by Keep story asked = Some (record { acts = story.acts; asked = asked.pairs
 abbrev pub told_kept : Kept → Option History
 told_kept kept = Some (record { acts = kept.journal.acts; asked = kept.asked.pairs })
 
+-- no act was kept, and nothing that was asked
+abbrev pub KeepsNothing : Kept → Type 0
+KeepsNothing kept = (kept.journal.acts ≡ []) × (kept.asked.pairs ≡ [])
+
 -- a history with one more act
 abbrev pub with_act : Act → History → History
 with_act act history = record { acts = act ∷ history.acts; asked = history.asked }

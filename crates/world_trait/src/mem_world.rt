@@ -1,7 +1,7 @@
 // A scripted world: it answers from lists of items, keeps its history, and its clock is moved by its waits alone.
 ghost use Rattle.std.specs.Prelude.{◌≡◌, ◌≤◌, ◌<◌, ◌+◌, ◌++◌, ◌∷◌, [], Option, Some, true, false, option_map, length, OnOk, OnErr};
 ghost use Rattle.relay_model.specs.Holding.{Free, Open, Settling, is_free, is_open};
-ghost use Rattle.world_trait.specs.Answers.{Answered, AnsweredAsking, Rose, OnlyWhereTold, NotReaped, WaitCounts, ReadFits, WriteFits, wait_act, open_act, listen_act, accept_act, read_act, write_act, send_act, shut_act, close_act, note_act, reap_act, is_open_fault, is_listen_fault, is_accept_fault, is_read_fault, is_write_fault, is_send_fault, is_shut_fault, is_note_fault, wants_turn_memory, wants_read_memory, wants_write_memory, wants_send_memory, wants_shut_memory, wants_note_memory};
+ghost use Rattle.world_trait.specs.Answers.{Answered, AnsweredAsking, Rose, OnlyWhereTold, NotReaped, WaitCounts, ReadFits, WriteFits, wait_act, open_act, listen_act, accept_act, read_act, write_act, send_act, shut_act, close_act, note_act, reap_act, is_open_fault, is_listen_fault, is_accept_fault, is_read_fault, is_write_fault, is_send_fault, is_shut_fault, is_note_fault, wants_turn_memory, wants_read_memory, wants_write_memory, wants_send_memory, wants_shut_memory};
 ghost use Rattle.world_trait.specs.HoldTables.{hold_found, lookup};
 ghost use Rattle.world_trait.specs.Reads.{HasBytes, reading_of};
 ghost use Rattle.world_trait.specs.Recordings.{told_kept};
@@ -555,7 +555,6 @@ impl World for MemWorld {
         ensures waits { self.new.waits ≡ self.old.waits }
         ensures stops { self.old.stops ≤ self.new.stops }
         ensures clock { self.new.clock ≡ self.old.clock }
-        ensures memory { OnlyWhereTold (told_kept self.old.kept) (wants_note_memory result) }
         ensures script { self.new.script ≡ self.old.script }
     {
         let Ok(()) = self.kept.journal.reserve(self.held.len() + 1) else {

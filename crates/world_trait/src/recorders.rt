@@ -1,6 +1,6 @@
 // Whether and how a world keeps its history.
-ghost use Rattle.std.specs.Prelude.{◌≡◌, ◌≤◌, ◌<◌, ◌+◌, ◌-◌, [], true, None, Some, is_some, OnOk, OnErr, IfOk, MatchOption, option_map};
-ghost use Rattle.world_trait.specs.Recordings.{HasRoom, HasAskingRoom, told_by, with_act, with_asking};
+ghost use Rattle.std.specs.Prelude.{◌≡◌, ◌≤◌, ◌<◌, ◌+◌, ◌-◌, [], true, false, None, Some, is_some, OnOk, OnErr, IfOk, MatchOption, option_map};
+ghost use Rattle.world_trait.specs.Recordings.{HasRoom, HasAskingRoom, KeepsNothing, told_by, with_act, with_asking};
 
 use relay_model::{Act, Askings, Bytes, Journal, Kept, NoMemory, Place, Single};
 use std::alloc::Global;
@@ -21,11 +21,14 @@ pub struct Recording {
 }
 
 impl Model for Recording {
-    ghost use Rattle.world_trait.specs.Recordings.{Recorded, told_by};
+    ghost use Rattle.std.specs.Prelude.{◌≡◌, false, is_some};
+    ghost use Rattle.world_trait.specs.Recordings.{Recorded, KeepsNothing, told_by};
 
     ghost Value = { Recorded };
 
     ghost view = { λ r. record { told = told_by r.recorder r.kept.journal r.kept.asked; room = r.kept.journal.spare; asking_room = r.kept.asked.spare } };
+
+    ghost invariant = { λ r. is_some (told_by r.recorder r.kept.journal r.kept.asked) ≡ false → KeepsNothing r.kept };
 }
 
 impl Recording {
@@ -52,16 +55,18 @@ impl Recording {
         }
     }
 
-    /// What was kept.
+    /// What was kept; with `Skip` that is nothing.
     pub fn kept(&self) -> &Kept
-        ensures { is_some self.now.told ≡ true → self.now.told ≡ Some (record { acts = result.now.journal.acts; asked = result.now.asked.pairs }) }
+        ensures skipped { is_some self.now.told ≡ false → KeepsNothing result.now }
+        ensures told { is_some self.now.told ≡ true → self.now.told ≡ Some (record { acts = result.now.journal.acts; asked = result.now.asked.pairs }) }
     {
         &self.kept
     }
 
-    /// What was kept, at the end.
+    /// What was kept, at the end; with `Skip` that is nothing.
     pub fn into_kept(self) -> Kept
-        ensures { is_some self.told ≡ true → self.told ≡ Some (record { acts = result.journal.acts; asked = result.asked.pairs }) }
+        ensures skipped { is_some self.told ≡ false → KeepsNothing result }
+        ensures told { is_some self.told ≡ true → self.told ≡ Some (record { acts = result.journal.acts; asked = result.asked.pairs }) }
     {
         let Recording { recorder: _, kept } = self;
         kept

@@ -3,7 +3,7 @@ ghost use Rattle.std.specs.Prelude.{◌≡◌, ◌≤◌, ◌<◌, ℕ, Option, 
 ghost use Rattle.relay_model.specs.declared.places.Place.{Place};
 ghost use Rattle.relay_model.specs.Journals.{History};
 ghost use Rattle.relay_model.specs.Holding.{Hold, Free, Settling, Open, is_free, is_open};
-ghost use Rattle.world_trait.specs.Answers.{Answered, AnsweredAsking, Rose, OnlyWhereTold, NotReaped, WaitCounts, ReadFits, WriteFits, wait_act, open_act, listen_act, accept_act, read_act, write_act, send_act, shut_act, close_act, note_act, reap_act, is_open_fault, is_listen_fault, is_accept_fault, is_read_fault, is_write_fault, is_send_fault, is_shut_fault, is_note_fault, wants_turn_memory, wants_read_memory, wants_write_memory, wants_send_memory, wants_shut_memory, wants_note_memory};
+ghost use Rattle.world_trait.specs.Answers.{Answered, AnsweredAsking, Rose, OnlyWhereTold, NotReaped, WaitCounts, ReadFits, WriteFits, wait_act, open_act, listen_act, accept_act, read_act, write_act, send_act, shut_act, close_act, note_act, reap_act, is_open_fault, is_listen_fault, is_accept_fault, is_read_fault, is_write_fault, is_send_fault, is_shut_fault, is_note_fault, wants_turn_memory, wants_read_memory, wants_write_memory, wants_send_memory, wants_shut_memory};
 
 use crate::answers::{
     AcceptAnswer, ListenAnswer, NoteAnswer, OpenAnswer, ReadAnswer, ReapAnswer, SendAnswer,
@@ -130,13 +130,13 @@ pub trait World {
         ensures clock { clock self.new ≡ clock self.old };
 
     /// Writes the whole text to standard error, for a person to read; it may wait for room. It stands at no place.
+    /// Any world may want memory for it, as for a copy of the text.
     fn note(&mut self, text: &[u8]) -> NoteAnswer
         ensures act { Answered (told self.old) (told self.new) (held self.old) (held self.new) (note_act text.now result) }
         ensures cause { Rose (faults self.old) (faults self.new) (is_note_fault result) }
         ensures waits { waits self.new ≡ waits self.old }
         ensures stops { stops self.old ≤ stops self.new }
-        ensures clock { clock self.new ≡ clock self.old }
-        ensures memory { OnlyWhereTold (told self.old) (wants_note_memory result) };
+        ensures clock { clock self.new ≡ clock self.old };
 
     /// Asks once what became of the child of a place that was closed.
     fn reap(&mut self, place: Place) -> ReapAnswer

@@ -1,4 +1,4 @@
-use Rattle.std.proofs.Common.{◌≡◌, not, filter, arith, rules, refl}
+use Rattle.std.proofs.Common.{◌≡◌, not, filter, rules, refl}
 use Rattle.std.proofs.lemmas.Fn.{filter_same}
 use Rattle.world_trait.specs.declared.looking.Looked.{Looked}
 use Rattle.relay_model.specs.Places.{same_place}
