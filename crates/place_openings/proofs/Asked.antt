@@ -1,29 +1,26 @@
 -- What is asked of the openings of a session, against the list of acts.
-use Rattle.std.proofs.Common.{◌≡◌, ℕ, suc, ◌<◌, ◌≤◌, length, get_or, drop, drop-cons, Bool, true, false, not, ◌&&◌, ◌||◌, cond, if◌then◌else◌, List, [], ◌∷◌, ◌++◌, map, Option, Some, None, is_none, is_some, option_map, ◌⊎◌, inl, inr, refl, sym, ap, subst, ◌∙◌, arith}
+use Rattle.std.proofs.Common.{◌≡◌, ℕ, suc, ◌<◌, ◌≤◌, length, get_or, drop, drop-cons, Bool, true, false, not, ◌&&◌, ◌||◌, cond, if◌then◌else◌, List, [], ◌∷◌, ◌++◌, map, Option, Some, None, is_none, is_some, option_map, ◌⊎◌, inl, inr, refl, sym, ap, subst, ◌∙◌}
 use Rattle.std.specs.List.{list_any, list_all, filter}
-use Rattle.std.proofs.lemmas.Grind.{common_steps}
-use Rattle.std.proofs.lemmas.Bool.{and_parts, and_from, or_parts, or_from, or_cases}
+use Rattle.std.proofs.lemmas.Bool.{and_parts, and_from, or_from}
 use Rattle.std.proofs.lemmas.List.{drop_all}
 use Rattle.std.proofs.lemmas.List.Folds.{list_any-append}
 use Rattle.relay_model.specs.declared.places.Place.{Place}
 use Rattle.relay_model.specs.declared.commands.Config.{Config}
 use Rattle.relay_model.specs.declared.acts.Act.{Act}
-use Rattle.relay_model.specs.declared.acts.Peer.{Peer}
 use Rattle.relay_model.specs.declared.acts.Why.TheVariants as whys
 use Rattle.relay_model.specs.Choices.{only_if, or_else}
 use Rattle.relay_model.specs.Tries.{is_out_of_tries}
 use Rattle.relay_model.specs.Places.{same_bool, same_place, door_of}
 use Rattle.relay_model.specs.Configs.{places, own_doors, options_of, medium_of, is_program, listens_at, has_own_door, is_of, is_place_of}
-use Rattle.relay_model.specs.Permits.{admission_of, is_permitted}
-use Rattle.relay_model.specs.History.{Stage, Untried, Usable, Unsettled, Failed, Met, Waiting, Gone, holds_at, is_gone_with, stage, held, served, failures, was_closed, was_reaped}
+use Rattle.relay_model.specs.History.{Stage, Usable, Met, holds_at, is_gone_with, held, served, failures, was_closed, was_reaped}
 use Rattle.relay_model.specs.Sessions.{holds}
-use Rattle.relay_model.specs.Openings.{Call, Nothing, stands_ready, is_ready, ready, place_call, first_call, out_of_tries}
+use Rattle.relay_model.specs.Openings.{Nothing, stands_ready, is_ready, ready, place_call, first_call, out_of_tries}
 use Rattle.relay_model.specs.Cause.{listening_failed, opening_failed}
 use Rattle.place_openings.specs.OpeningState.{OpeningState}
 use Rattle.place_openings.specs.States.{state_of}
 use Rattle.place_openings.specs.declared.one_place.Opening.{Opening}
 use Rattle.place_openings.specs.Stands.{IsOpening, Each, AreOpenings, tried_at}
-use Rattle.place_openings.specs.Queries.{met_ready, ready_at, ready_by, first_unready, first_of, held_by, held_at, child_by, peer_by, peer_at, gave_up}
+use Rattle.place_openings.specs.Queries.{ready_at, ready_by, first_unready, first_of, held_by, held_at, child_by, peer_by, peer_at, gave_up}
 use Rattle.place_openings.proofs.PlaceLemmas.{same_place_self}
 use Rattle.place_openings.proofs.Tries.{some_left}
 
@@ -263,7 +260,7 @@ none_after : (c : Config) (past : List Act) (has_door : Bool) (ps left : List Pl
 none_after c past has_door ps [] each same = sym same
 none_after c past has_door ps (p ∷ left) each same = absurd each
 
-next_is : (xs : List Opening) (i : ℕ) (x : Opening) → i < length xs → x ≡ get_or xs i x → map state_of (drop i xs) ≡ (state_of x ∷ map state_of (drop (suc i) xs))
+pub next_is : (xs : List Opening) (i : ℕ) (x : Opening) → i < length xs → x ≡ get_or xs i x → map state_of (drop i xs) ≡ (state_of x ∷ map state_of (drop (suc i) xs))
 next_is xs i x lt e = ap (map state_of) (drop-cons xs i x lt) ∙ ap (λ y. state_of y ∷ map state_of (drop (suc i) xs)) (sym e)
 
 pub found_out : (c : Config) (past : List Act) (has_door : Bool) (ps : List Place) (xs : List Opening) (i : ℕ) (x : Opening) → i < length xs → x ≡ get_or xs i x → NotBefore c past has_door ps (map state_of (drop i xs)) → ((p : Place) → IsOpening c past p (state_of x) → true ≡ gave_up c past has_door p) → true ≡ list_any (gave_up c past has_door) ps
@@ -290,10 +287,10 @@ doors_gave_up c past (p ∷ ps) =
 pub doors_are_out : (c : Config) (past : List Act) (s : ℕ) → list_any (gave_up c past true) (places c s) ≡ listening_failed c past s
 doors_are_out c past s = doors_gave_up c past (places c s)
 
-no_failures : (c : Config) (past : List Act) (p : Place) → failures past p ≡ [] → out_of_tries c past p ≡ false
+pub no_failures : (c : Config) (past : List Act) (p : Place) → failures past p ≡ [] → out_of_tries c past p ≡ false
 no_failures c past p e = rw e (some_left (options_of c p).retry (options_of c p).forever)
 
-place_gave_up : (b : Bool) (c : Config) (past : List Act) (p : Place) → (b ≡ true → out_of_tries c past p ≡ false) → (same_bool b false && out_of_tries c past (tried_at b p)) ≡ out_of_tries c past p
+pub place_gave_up : (b : Bool) (c : Config) (past : List Act) (p : Place) → (b ≡ true → out_of_tries c past p ≡ false) → (same_bool b false && out_of_tries c past (tried_at b p)) ≡ out_of_tries c past p
 place_gave_up true c past p none = sym (none refl)
 place_gave_up false c past p none = refl
 

@@ -1,6 +1,5 @@
 -- What a call says of the opening that it is for, and that an answer to it lowers the number of calls that are left.
-use Rattle.std.proofs.Common.{◌≡◌, ℕ, ◌+◌, ◌^◌, ◌<◌, ◌≤◌, max, Bool, true, false, not, ◌&&◌, ◌||◌, nat_lt, nat_le, if◌then◌else◌, List, [], ◌∷◌, ◌++◌, map, Option, Some, None, ◌⊎◌, inl, inr, refl, sym, ap, subst, ◌∙◌, arith}
-use Rattle.std.specs.List.{list_any}
+use Rattle.std.proofs.Common.{◌≡◌, ℕ, ◌^◌, ◌<◌, Bool, true, false, not, ◌&&◌, ◌||◌, nat_lt, nat_le, if◌then◌else◌, List, [], ◌∷◌, Some, None, ◌⊎◌, inl, inr, refl, sym, ap, subst, ◌∙◌, arith}
 use Rattle.std.proofs.lemmas.Grind.{common_steps}
 use Rattle.std.proofs.lemmas.Bool.{and_parts, and_from, or_cases}
 use Rattle.std.proofs.lemmas.Bool.Decides.{nat_tests}
@@ -11,7 +10,7 @@ use Rattle.relay_model.specs.declared.acts.Why.{Why}
 use Rattle.relay_model.specs.Places.{same_place, door_of}
 use Rattle.relay_model.specs.Tries.{next_due, moment_of_try}
 use Rattle.relay_model.specs.Configs.{places, options_of, listens_at, has_own_door, is_of}
-use Rattle.relay_model.specs.History.{now, Stage, Untried, Usable, Unsettled, Failed, Met, Waiting, Gone, holds_at, stage, held, failures, woken}
+use Rattle.relay_model.specs.History.{now, Stage, Untried, Unsettled, Failed, Met, Waiting, holds_at, stage, held, failures, woken}
 use Rattle.relay_model.specs.Arming.{armed_to_accept, asked_to_accept}
 use Rattle.relay_model.specs.Sessions.{permits}
 use Rattle.relay_model.specs.Openings.{Call, Nothing, TryAt, Open, Settle, Listen, Accept, Refuse, Serve, is_ready, when_due, try_again, out_of_tries, opening_call, listening_call, peer_call, place_call, first_call}

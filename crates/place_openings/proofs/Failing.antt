@@ -1,5 +1,5 @@
 -- The moments of failures, with one more.
-use Rattle.std.proofs.Common.{◌≡◌, ℕ, Bool, true, false, List, [], ◌∷◌, Option, Some, refl, ap, arith}
+use Rattle.std.proofs.Common.{◌≡◌, ℕ, Bool, true, false, List, [], ◌∷◌, Some, refl}
 use Rattle.relay_model.specs.Choices.{noted}
 use Rattle.retry_plan.specs.Plans.{last_of}
 

@@ -8,3 +8,4 @@ pub mod Asked
 pub mod Called
 pub mod Staying
 pub mod Beginning
+pub mod GivingUp

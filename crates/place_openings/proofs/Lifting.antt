@@ -1,11 +1,11 @@
 -- A step of each opening of a session, as a step of them all.
-use Rattle.std.proofs.Common.{◌≡◌, ap, ◌⊎◌, inl, inr, ℕ, ◌+◌, ◌<◌, ◌≤◌, List, [], ◌∷◌, arith}
+use Rattle.std.proofs.Common.{ap, ◌⊎◌, inl, inr, ℕ, ◌<◌, ◌≤◌, List, [], ◌∷◌, arith}
 use Rattle.relay_model.specs.declared.places.Place.{Place}
 use Rattle.relay_model.specs.declared.commands.Config.{Config}
 use Rattle.relay_model.specs.declared.acts.Act.{Act}
 use Rattle.relay_model.specs.Configs.{places}
 use Rattle.place_openings.specs.OpeningState.{OpeningState}
-use Rattle.place_openings.specs.Stands.{IsOpening, Each, AreOpenings}
+use Rattle.place_openings.specs.Stands.{Each, AreOpenings}
 use Rattle.place_openings.specs.Steps.{steps_of, steps_in}
 use Rattle.place_openings.specs.Moves.{Follows, Apart, Lower, Weighed, SomeLower, Took, TookEach}
 use Rattle.place_openings.specs.declared.steps.Step.{Step}

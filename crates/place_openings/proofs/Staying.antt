@@ -12,7 +12,7 @@ use Rattle.relay_model.specs.Choices.{noted}
 use Rattle.relay_model.specs.Readiness.{Listed}
 use Rattle.relay_model.specs.Places.{same_bool, same_side, same_part, same_place, door_of}
 use Rattle.relay_model.specs.Configs.{places, options_of, has_own_door, accepting_door, is_of}
-use Rattle.relay_model.specs.History.{now, Stage, Usable, Unsettled, Failed, Met, Waiting, Gone, stage, woken, failures, was_closed, was_reaped}
+use Rattle.relay_model.specs.History.{now, Usable, Unsettled, Failed, Met, Waiting, Gone, stage, woken, failures, was_closed, was_reaped}
 use Rattle.relay_model.specs.Arming.{armed_to_accept, asked_to_accept}
 use Rattle.retry_plan.specs.Plans.{PlanIs, last_of}
 use Rattle.place_openings.specs.OpeningState.{OpeningState}

@@ -1,5 +1,5 @@
 -- A step of each opening, one after another.
-use Rattle.std.proofs.Common.{◌≡◌, ℕ, zero, suc, ◌+◌, ◌<◌, ◌≤◌, List, [], ◌∷◌, map, length, get_or, refl, subst, arith, add-one}
+use Rattle.std.proofs.Common.{◌≡◌, ℕ, zero, suc, ◌<◌, ◌≤◌, List, [], ◌∷◌, map, length, get_or, refl, subst, arith}
 use Rattle.std.proofs.Math.ListN.{set}
 use Rattle.place_openings.specs.States.{state_of}
 use Rattle.place_openings.specs.Moves.{Took, TookEach}

@@ -1,10 +1,9 @@
 -- What a plan says, against the definitions of a further try.
-use Rattle.std.proofs.Common.{◌≡◌, ℕ, ◌^◌, ◌-◌, Bool, true, false, ◌&&◌, not, ◌==◌, nat_lt, nat_le, List, [], ◌∷◌, Option, Some, None, length, cond, if◌then◌else◌, refl, arith}
+use Rattle.std.proofs.Common.{◌≡◌, ℕ, ◌^◌, ◌-◌, Bool, true, false, ◌&&◌, not, ◌==◌, nat_lt, nat_le, List, [], ◌∷◌, Option, Some, None, if◌then◌else◌, refl, arith}
 use Rattle.std.proofs.lemmas.Bool.Decides.{nat_tests}
-use Rattle.relay_model.specs.Tries.{is_out_of_tries, next_due, moment_of_try}
+use Rattle.relay_model.specs.Tries.{is_out_of_tries, next_due}
 use Rattle.relay_model.specs.Openings.{Call, Nothing, when_due}
-use Rattle.retry_plan.specs.declared.NextTry.{NextTry}
-use Rattle.retry_plan.specs.declared.NextTry.TheVariants.{Now, At, Never, GiveUp}
+use Rattle.retry_plan.specs.declared.NextTry.TheVariants.{GiveUp}
 use Rattle.retry_plan.specs.Plans.{next_try, at_or_never, attempts_of}
 use Rattle.place_openings.specs.Tried.{try_call, call_by, is_end_of_tries}
 

@@ -1,4 +1,5 @@
 pub mod Answers
+pub mod Attempts
 pub mod Moves
 pub mod OpeningState
 pub mod Queries

@@ -1,5 +1,5 @@
 -- What a step makes of the list of acts, and of one opening.
-use Rattle.std.specs.Prelude.{◌≡◌, ◌<◌, ◌⊎◌, ℕ, Bool, true, false, List, [], ◌∷◌, ◌++◌, Option}
+use Rattle.std.specs.Prelude.{◌≡◌, ◌<◌, ◌⊎◌, ℕ, true, false, List, [], ◌∷◌, ◌++◌, Option}
 use Rattle.relay_model.specs.declared.places.Place.{Place}
 use Rattle.relay_model.specs.declared.readiness.ReadyAt.{ReadyAt}
 use Rattle.relay_model.specs.declared.commands.Config.{Config}

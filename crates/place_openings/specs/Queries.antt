@@ -1,13 +1,13 @@
 -- What is asked of the openings of a session, from their states alone.
-use Rattle.std.specs.Prelude.{ℕ, ◌^◌, ◌-◌, Bool, true, false, not, ◌&&◌, ◌||◌, ◌==◌, nat_lt, List, [], ◌∷◌, Option, Some, None, if◌then◌else◌}
+use Rattle.std.specs.Prelude.{Bool, false, not, ◌&&◌, ◌||◌, List, [], ◌∷◌, Option, Some, None, if◌then◌else◌}
 use Rattle.relay_model.specs.declared.places.Place.{Place}
 use Rattle.relay_model.specs.declared.acts.Peer.{Peer}
 use Rattle.relay_model.specs.declared.acts.Why.TheVariants as whys
 use Rattle.relay_model.specs.declared.commands.Config.{Config}
 use Rattle.relay_model.specs.declared.acts.Act.{Act}
 use Rattle.relay_model.specs.Places.{same_bool, door_of}
-use Rattle.relay_model.specs.Configs.{options_of, medium_of, is_program, has_own_door}
-use Rattle.relay_model.specs.History.{Stage, Untried, Usable, Unsettled, Failed, Met, Waiting, Gone, holds_at, is_gone_with, stage, held, was_closed, was_reaped}
+use Rattle.relay_model.specs.Configs.{options_of, has_own_door}
+use Rattle.relay_model.specs.History.{Stage, Usable, Met, holds_at, is_gone_with, stage, held}
 use Rattle.relay_model.specs.Permits.{Admission, admission_of, is_permitted}
 use Rattle.relay_model.specs.Choices.{only_if, or_else}
 use Rattle.relay_model.specs.Openings.{out_of_tries}

@@ -1,5 +1,5 @@
 -- How many calls the openings of a session take at most before the next turn.
-use Rattle.std.specs.Prelude.{◌≡◌, ℕ, ◌+◌, Bool, true, false, not, ◌&&◌, List, [], ◌∷◌, if◌then◌else◌}
+use Rattle.std.specs.Prelude.{ℕ, ◌+◌, Bool, true, false, not, ◌&&◌, List, [], ◌∷◌, if◌then◌else◌}
 use Rattle.relay_model.specs.declared.places.Place.{Place}
 use Rattle.relay_model.specs.Places.{same_place, door_of}
 use Rattle.relay_model.specs.History.{Stage, Untried, Usable, Unsettled, Failed, Met, Waiting, Gone}

@@ -2,12 +2,13 @@
 #![tactic(auto)]
 
 mod calls;
+mod given_up;
 mod one_place;
 mod session_openings;
 mod stages;
 mod steps;
 
-pub use calls::Call;
+pub use calls::{Call, GivenUp};
 pub use session_openings::Openings;
 
 #[cfg(test)]

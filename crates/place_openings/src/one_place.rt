@@ -369,7 +369,7 @@ fn is_end_of_tries(next: NextTry) -> bool
     }
 }
 
-fn is_same(one: bool, other: bool) -> bool
+pub(crate) fn is_same(one: bool, other: bool) -> bool
     ensures { result ≡ same_bool one other }
 {
     if one { other } else { !other }

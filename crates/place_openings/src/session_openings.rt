@@ -141,7 +141,7 @@ impl Openings {
         first_peer(self.as_slice())
     }
 
-    fn as_slice(&self) -> &[Opening]
+    pub(crate) fn as_slice(&self) -> &[Opening]
         ensures { map state_of result.now ≡ self.now }
     {
         &self.items[..self.count]

@@ -1,4 +1,4 @@
-use super::{Call, Openings};
+use super::{Call, GivenUp, Openings};
 use relay_model::{
     Address, Config, Conv, Dump, Family, FileFlags, Half, Options, Part, Peer, Place, Range,
     ReadyAt, Side, Single, Target, Text, Ways, Why,
@@ -239,5 +239,34 @@ fn a_child(rt: HostRuntime) -> Result<(), Fail> {
     assert_eq!(rt; openings.held(), None);
     openings.reaped(RIGHT);
     assert_eq!(rt; openings.child(), None);
+    Ok(())
+}
+
+// The place that was given up is told with the failures there.
+#[test]
+fn an_opening_given_up(rt: HostRuntime) -> Result<(), Fail> {
+    let config = caller(rt.alloc())?;
+    let mut openings = Openings::new(&config, 0);
+    openings.open_failed(LEFT, 0);
+    assert_eq!(rt; openings.failed_opening(), None);
+    openings.open_failed(LEFT, 500);
+    let left = GivenUp {
+        side: Side::Left,
+        attempts: 2,
+    };
+    assert_eq!(rt; openings.failed_opening(), Some(left));
+    assert_eq!(rt; openings.failed_listening(), None);
+    Ok(())
+}
+
+// The door that was given up is told with the failures there, and not its place.
+#[test]
+fn a_listening_given_up(rt: HostRuntime) -> Result<(), Fail> {
+    let config = listener(rt.alloc())?;
+    let mut openings = Openings::new(&config, 0);
+    assert_eq!(rt; openings.failed_listening(), None);
+    openings.listen_failed(DOOR, 0);
+    assert_eq!(rt; openings.failed_listening(), Some(1));
+    assert_eq!(rt; openings.failed_opening(), None);
     Ok(())
 }

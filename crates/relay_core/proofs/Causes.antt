@@ -1,25 +1,23 @@
 -- Why a session ends, from what the state tells; and what licenses its closings.
-use Rattle.std.proofs.Common.{◌≡◌, refl, sym, ap, subst, ◌∙◌, ℕ, ◌+◌, ◌<◌, Bool, true, false, not, cond, ◌&&◌, ◌||◌, ◌==◌, List, [], ◌∷◌, Option, Some, None, is_some, is_none, inl, inr, ◌⊎◌}
-use Rattle.std.proofs.lemmas.Bool.{false≢true, and_parts}
+use Rattle.std.proofs.Common.{◌≡◌, refl, sym, ap, ◌∙◌, ℕ, Bool, true, false, not, cond, ◌&&◌, List, [], ◌∷◌, Option, Some, None, inl, inr}
+use Rattle.std.proofs.lemmas.Bool.{false≢true}
 use Rattle.relay_model.specs.declared.places.Place.{Place}
-use Rattle.relay_model.specs.declared.places.Way.TheVariants.{LeftToRight, RightToLeft}
 use Rattle.relay_model.specs.declared.commands.Config.{Config}
 use Rattle.relay_model.specs.declared.acts.Act.{Act}
 use Rattle.relay_model.specs.declared.acts.Act.TheVariants.{Closed}
 use Rattle.relay_model.specs.declared.acts.Why.{Why}
 use Rattle.relay_model.specs.declared.acts.Why.TheVariants as whys
 use Rattle.relay_model.specs.Choices.{only_if, or_else, first_some}
-use Rattle.relay_model.specs.Configs.{has_fork, is_of, is_left, is_program_door, things, places, formed}
-use Rattle.relay_model.specs.History.{now, turns, memory_said, stop_said}
+use Rattle.relay_model.specs.Configs.{has_fork, is_of, is_left, is_program_door, things, places}
+use Rattle.relay_model.specs.History.{now, memory_said, stop_said}
 use Rattle.relay_model.specs.Moments.{passed, closing_moment, idle_moment, reached}
 use Rattle.relay_model.specs.Sessions.{live}
-use Rattle.relay_model.specs.Openings.{Call, Nothing, ready, first_call}
-use Rattle.relay_model.specs.Cause.{cause, closed_why, accept_failed_for, listening_failed, opening_failed, faulted, finished, each_formed, is_end, running}
+use Rattle.relay_model.specs.Openings.{ready, first_call}
+use Rattle.relay_model.specs.Cause.{cause, closed_why, accept_failed_for, listening_failed, opening_failed, faulted, finished, each_formed, is_end}
 use Rattle.relay_model.specs.Calls.{call, called_at}
-use Rattle.relay_model.specs.Rest.{Rest}
 use Rattle.relay_model.specs.May.{Licensed, by_cause, by_memory, by_turns}
 use Rattle.relay_laws.proofs.Apart.{each_thing, among_own}
-use Rattle.relay_core.specs.Endings.{Quiet, giving_up, cause_when_ready, cause_by_itself, Ends, EndingIs}
+use Rattle.relay_core.specs.Endings.{Quiet, cause_by_itself, Ends, EndingIs}
 
 -- the order of the causes by which a session ends by itself
 ordered : (lf of fa rdy pas clo idl : Bool) (A B C D E F : Why) →
@@ -68,12 +66,12 @@ licensed_by c n past s q why alone own (inr (inr e)) = by_turns e.0 e.1 e.2
 
 -- ---- closings
 
-plain_end : (d : Bool) → not (d && false) ≡ true
+pub plain_end : (d : Bool) → not (d && false) ≡ true
 plain_end true = refl
 plain_end false = refl
 
 -- a cause that isn't an earlier closing's ends the session at its closing too
-ends_at : (q : Place) (lf of fa fi cl id mem sto acc : Bool) (why : Why) →
+pub ends_at : (q : Place) (lf of fa fi cl id mem sto acc : Bool) (why : Why) →
     first_some (None ∷ only_if mem whys.Memory ∷ only_if sto whys.Stopped ∷ only_if acc whys.AcceptFailed ∷ only_if lf whys.ListenFailed ∷ only_if of whys.OpenFailed ∷ only_if fa whys.Faulted ∷ only_if fi whys.Finished ∷ only_if cl whys.ClosingTime ∷ only_if id whys.Idle ∷ []) ≡ Some why →
     is_end q why ≡ true
 ends_at q lf of fa fi cl id mem sto acc whys.Finished e = plain_end q.door

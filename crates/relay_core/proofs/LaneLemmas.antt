@@ -1,5 +1,5 @@
 -- A lane, from what its direction tells.
-use Rattle.std.proofs.Common.{◌≡◌, refl, sym, ap, subst, ◌∙◌, ℕ, ◌+◌, ◌<◌, ◌≤◌, Bool, true, false, not, cond, ◌&&◌, ◌||◌, List, [], ◌∷◌, take, length, Option, Some, None, is_some, arith}
+use Rattle.std.proofs.Common.{◌≡◌, refl, sym, ap, subst, ◌∙◌, ℕ, ◌+◌, ◌<◌, ◌≤◌, Bool, true, false, not, cond, List, ◌∷◌, take, length, Option, Some, None, is_some, arith}
 use Rattle.relay_model.specs.declared.places.Way.{Way}
 use Rattle.relay_model.specs.declared.places.Way.TheVariants.{LeftToRight, RightToLeft}
 use Rattle.relay_model.specs.declared.places.Place.{Place}
@@ -7,19 +7,18 @@ use Rattle.relay_model.specs.declared.commands.Config.{Config}
 use Rattle.relay_model.specs.declared.acts.Act.{Act}
 use Rattle.relay_model.specs.declared.acts.Shut.{Shut as Shutting}
 use Rattle.relay_model.specs.Places.{same_place}
-use Rattle.relay_model.specs.Configs.{input, output, way_from, way_to, source, sink, keeps_borders, formed}
-use Rattle.relay_model.specs.Arming.{asked_to_read, asked_to_write}
-use Rattle.relay_model.specs.Transfers.{over, room, backlog}
+use Rattle.relay_model.specs.Configs.{input, output, way_from, way_to, keeps_borders, formed}
+use Rattle.relay_model.specs.Arming.{asked_to_write}
+use Rattle.relay_model.specs.Transfers.{over, room}
 use Rattle.relay_model.specs.Moments.{passed, broken}
 use Rattle.relay_model.specs.Cause.{running}
 use Rattle.relay_model.specs.Rest.{goes, moves}
-use Rattle.relay_model.specs.May.{MayRead, MayAsk, MayTryWrite, MayOffer, MayShut}
+use Rattle.relay_model.specs.May.{MayRead, MayTryWrite, MayOffer, MayShut}
 use Rattle.relay_laws.proofs.PlaceLemmas.{same_place_equal}
 use Rattle.std.proofs.lemmas.Bool.{and_parts}
 use Rattle.session_direction.specs.Directions.{IsDirection, WantsRead}
 use Rattle.session_direction.specs.States.{DirectionState}
 use Rattle.relay_model.specs.declared.acts.Act.TheVariants as acts
-use Rattle.relay_laws.proofs.PlaceLemmas.{same_place_self}
 use Rattle.relay_laws.proofs.Holdings.{moves_formed}
 use Rattle.std.proofs.lemmas.Bool.{false≢true}
 use Rattle.session_direction.specs.Directions.{WantsNothing}

@@ -1,7 +1,7 @@
 -- What the opening of a session calls for names things of that session.
-use Rattle.std.proofs.Common.{◌≡◌, refl, sym, ap, subst, ◌∙◌, ℕ, Bool, true, false, not, cond, ◌&&◌, ◌||◌, nat_le, List, [], ◌∷◌, ◌++◌, map, filter, Option, Some, None, inl, inr, ◌⊎◌}
+use Rattle.std.proofs.Common.{◌≡◌, refl, ◌∙◌, ℕ, Bool, true, false, cond, ◌&&◌, ◌||◌, nat_le, List, [], ◌∷◌, ◌++◌, map, filter, Option, Some, None}
 use Rattle.std.specs.List.{list_any, list_all}
-use Rattle.std.proofs.lemmas.Bool.{false≢true, and_parts, or_cases}
+use Rattle.std.proofs.lemmas.Bool.{false≢true}
 use Rattle.std.proofs.lemmas.List.Folds.{list_any-append}
 use Rattle.relay_model.specs.declared.places.Side.{Side}
 use Rattle.relay_model.specs.declared.places.Side.TheVariants.{Left, Right}
@@ -10,7 +10,7 @@ use Rattle.relay_model.specs.declared.places.Place.{Place}
 use Rattle.relay_model.specs.declared.commands.Config.{Config}
 use Rattle.relay_model.specs.declared.acts.Act.{Act}
 use Rattle.relay_model.specs.Places.{same_place, door_of}
-use Rattle.relay_model.specs.Configs.{places, parts, place_at, own_doors, things, is_of, is_place_of, options_of, listens_at, has_own_door}
+use Rattle.relay_model.specs.Configs.{places, parts, place_at, own_doors, is_of, is_place_of, options_of, listens_at, has_own_door}
 use Rattle.relay_model.specs.History.{now, Stage, Untried, Unsettled, Failed, Met, Waiting, stage, held, woken, failures}
 use Rattle.relay_model.specs.Arming.{armed_to_accept}
 use Rattle.relay_model.specs.Sessions.{permits}

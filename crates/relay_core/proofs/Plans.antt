@@ -1,24 +1,23 @@
 -- What a state wishes for, from what it tells of the history.
-use Rattle.std.proofs.Common.{◌≡◌, refl, sym, ap, subst, ◌∙◌, ℕ, ◌+◌, ◌<◌, ◌≤◌, Bool, true, false, not, cond, ◌&&◌, ◌||◌, List, [], ◌∷◌, Option, Some, None, is_some, is_none, inl, inr, ◌⊎◌, nat_lt}
+use Rattle.std.proofs.Common.{◌≡◌, refl, sym, ap, subst, ◌∙◌, ℕ, Bool, true, false, cond, List, [], ◌∷◌, Option, Some, None, inl, inr}
 use Rattle.std.proofs.lemmas.Bool.{false≢true}
 use Rattle.relay_model.specs.declared.places.Place.{Place}
 use Rattle.relay_model.specs.declared.places.Way.{Way}
-use Rattle.relay_model.specs.declared.places.Way.TheVariants.{LeftToRight, RightToLeft}
 use Rattle.relay_model.specs.declared.commands.Config.{Config}
 use Rattle.relay_model.specs.declared.acts.Act.{Act}
 use Rattle.relay_model.specs.declared.acts.Why.{Why}
 use Rattle.relay_model.specs.declared.acts.Why.TheVariants as whys
 use Rattle.relay_model.specs.Choices.{only_if, or_else, first_some, earlier, later}
-use Rattle.relay_model.specs.Configs.{places, is_of}
-use Rattle.relay_model.specs.History.{now, held}
+use Rattle.relay_model.specs.Configs.{places}
+use Rattle.relay_model.specs.History.{now}
 use Rattle.relay_model.specs.Arming.{asked_to_accept}
 use Rattle.relay_model.specs.Moments.{closing_moment, idle_moment}
-use Rattle.relay_model.specs.Openings.{Call, Nothing, TryAt, Open, Settle, Listen, Accept, Refuse, Serve, first_call, ready, is_ready}
+use Rattle.relay_model.specs.Openings.{Call, Nothing, TryAt, Accept, Refuse, Serve, first_call, ready}
 use Rattle.relay_model.specs.Cause.{cause, running}
 use Rattle.relay_model.specs.Calls.{call}
-use Rattle.relay_model.specs.Rest.{timer_moment, way_work, input_moment, accepts}
+use Rattle.relay_model.specs.Rest.{timer_moment}
 use Rattle.relay_model.specs.Laws.{Tells}
-use Rattle.relay_model.specs.May.{Licensed, by_refusal, by_service}
+use Rattle.relay_model.specs.May.{by_refusal, by_service}
 use Rattle.relay_laws.proofs.CallLemmas.{call_tells}
 use Rattle.session_direction.specs.Directions.{WantsNothing}
 use Rattle.relay_core.specs.declared.states.State.{State}
@@ -27,10 +26,10 @@ use Rattle.relay_core.specs.declared.wishes.Wish.TheVariants as wishes
 use Rattle.relay_core.specs.Endings.{Quiet, giving_up, cause_when_tried, Ends, EndingIs}
 use Rattle.relay_core.specs.Timers.{session_until}
 use Rattle.relay_core.specs.Lanes.{LanesWish}
-use Rattle.relay_core.specs.States.{Ground, Fields, Closes, ClosesFor, Sleeps, Wished, Allowed}
-use Rattle.relay_core.proofs.Causes.{cause_of_quiet, call_of, called_of, licensed_by, lives, own_session}
+use Rattle.relay_core.specs.States.{Fields, Closes, ClosesFor, Sleeps, Allowed}
+use Rattle.relay_core.proofs.Causes.{cause_of_quiet, call_of, called_of, lives, own_session}
 use Rattle.relay_core.proofs.Own.{NamesOwn, names_own, ready_calls}
-use Rattle.relay_core.proofs.Rests.{running_of, not_running, rests_unready, rests_running, until_unready, until_running}
+use Rattle.relay_core.proofs.Rests.{running_of, not_running, rests_unready, rests_running, until_unready}
 
 -- ---- the cause
 

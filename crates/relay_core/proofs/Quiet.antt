@@ -1,5 +1,5 @@
 -- Acts that end no session from outside, and what a fault leaves.
-use Rattle.std.proofs.Common.{◌≡◌, refl, sym, ap, ◌∙◌, ℕ, Bool, true, false, not, cond, ◌&&◌, ◌||◌, List, [], ◌∷◌, Option, Some, None, is_some, inl, inr, ◌⊎◌}
+use Rattle.std.proofs.Common.{◌≡◌, refl, sym, ℕ, Bool, true, false, not, cond, ◌&&◌, ◌||◌, List, [], ◌∷◌, Option, Some, None, is_some, inl, inr, ◌⊎◌}
 use Rattle.std.specs.List.{list_any}
 use Rattle.std.proofs.lemmas.Bool.{false≢true, or_cases}
 use Rattle.relay_model.specs.declared.places.Place.{Place}
@@ -9,9 +9,9 @@ use Rattle.relay_model.specs.declared.acts.Why.TheVariants as whys
 use Rattle.relay_model.specs.declared.acts.Act.{Act}
 use Rattle.relay_model.specs.declared.acts.Act.TheVariants.{Turn, Opened, OpenLater, OpenFailed, Listening, ListenFailed, Accepted, NoPeer, AcceptFailed, Read, ReadEmpty, ReadEnd, ReadNotYet, ReadFault, Wrote, WriteNotYet, WriteFault, Shut, ShutFault, Closed, Reaped, Note, NoteFault}
 use Rattle.relay_model.specs.Places.{same_place}
-use Rattle.relay_model.specs.Configs.{places, is_of, is_place_of, own_doors, has_fork, program_door}
-use Rattle.relay_model.specs.History.{now, same_why, accept_failed, memory_said, stop_said, read_fault_at, write_fault_at}
-use Rattle.relay_model.specs.Cause.{closed_why, is_end, fault_at, fault_stands, accept_failed_for}
+use Rattle.relay_model.specs.Configs.{places, is_of, is_place_of, own_doors, has_fork}
+use Rattle.relay_model.specs.History.{now, same_why, accept_failed, read_fault_at, write_fault_at}
+use Rattle.relay_model.specs.Cause.{closed_why, is_end, fault_at, fault_stands}
 use Rattle.relay_core.specs.Endings.{Quiet}
 
 abbrev pub keeps_quiet : Act → Bool

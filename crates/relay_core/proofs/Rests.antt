@@ -1,25 +1,22 @@
 -- When a session rests, and until when.
-use Rattle.std.proofs.Common.{◌≡◌, refl, sym, ap, ◌∙◌, ℕ, ◌<◌, Bool, true, false, not, cond, ◌&&◌, ◌||◌, ◌==◌, nat_lt, List, [], ◌∷◌, Option, Some, None, is_some, is_none}
-use Rattle.std.proofs.lemmas.Bool.{false≢true, and_parts}
+use Rattle.std.proofs.Common.{◌≡◌, refl, sym, ap, ◌∙◌, ℕ, Bool, true, false, not, cond, ◌&&◌, ◌||◌, ◌==◌, nat_lt, List, Option, Some, None, is_some, is_none}
+use Rattle.std.proofs.lemmas.Bool.{false≢true}
 use Rattle.relay_model.specs.declared.places.Way.{Way}
 use Rattle.relay_model.specs.declared.places.Way.TheVariants.{LeftToRight, RightToLeft}
-use Rattle.relay_model.specs.declared.places.Place.{Place}
 use Rattle.relay_model.specs.declared.commands.Config.{Config}
 use Rattle.relay_model.specs.declared.acts.Act.{Act}
 use Rattle.relay_model.specs.Choices.{earlier, later}
-use Rattle.relay_model.specs.Configs.{input, output, has_fork}
+use Rattle.relay_model.specs.Configs.{input, output}
 use Rattle.relay_model.specs.History.{now}
-use Rattle.relay_model.specs.Arming.{armed_to_read, armed_to_write, arming_moment, read_arming, asked_to_read, asked_to_write, asked_to_accept}
+use Rattle.relay_model.specs.Arming.{armed_to_read, armed_to_write, asked_to_read, asked_to_write}
 use Rattle.relay_model.specs.Sessions.{live, holds}
 use Rattle.relay_model.specs.Transfers.{over, backlog, is_spent}
-use Rattle.relay_model.specs.Moments.{passed, closing_moment, idle_moment}
-use Rattle.relay_model.specs.Openings.{Call, Nothing, TryAt, Open, Settle, Listen, Accept, Refuse, Serve, ready}
+use Rattle.relay_model.specs.Moments.{passed}
+use Rattle.relay_model.specs.Openings.{Nothing, ready}
 use Rattle.relay_model.specs.Cause.{cause, running}
 use Rattle.relay_model.specs.Calls.{call}
-use Rattle.relay_model.specs.Rest.{goes, moves, may_read, may_write, must_pass, accepts, presses, AcceptTried, SessionRests, way_work, session_work, try_moment, input_moment, timer_moment, session_moment}
-use Rattle.relay_laws.proofs.Holdings.{moves_running, running_ready}
+use Rattle.relay_model.specs.Rest.{goes, moves, may_read, may_write, must_pass, accepts, presses, AcceptTried, SessionRests, way_work, try_moment, input_moment, timer_moment}
 use Rattle.relay_core.specs.Timers.{session_until}
-use Rattle.relay_core.proofs.Causes.{lives}
 use Rattle.relay_core.proofs.TimerLemmas.{earlier_none}
 
 all_three : {T : Type 0} (a b : Bool) (o : Option T) → a ≡ true → b ≡ true → o ≡ None → (a && b && is_none o) ≡ true

@@ -32,7 +32,7 @@ ready_shut c past p Waiting e = absurd (false≢true e)
 ready_shut c past p (Gone why) e = absurd (false≢true e)
 
 -- the output of a direction that moves is ready
-output_ready : (c : Config) (past : List Act) (p : Place) → same_place p (output c p.session (way_to p.side)) ≡ true → moves c past p.session (way_to p.side) ≡ true → is_ready c past p ≡ true
+pub output_ready : (c : Config) (past : List Act) (p : Place) → same_place p (output c p.session (way_to p.side)) ≡ true → moves c past p.session (way_to p.side) ≡ true → is_ready c past p ≡ true
 output_ready c past p same moving =
     let w = way_to p.side in
     let r = output_passes c (is_ready c past) p.session w (moves_formed c past p.session w moving) (running_ready c past p.session (moves_running c past p.session w moving)) in

@@ -1,5 +1,5 @@
 -- What each act makes of a state that heard it.
-use Rattle.std.proofs.Common.{◌≡◌, refl, sym, ap, subst, ◌∙◌, ℕ, ◌+◌, ◌<◌, ◌≤◌, Bool, true, false, not, cond, ◌&&◌, ◌||◌, List, [], ◌∷◌, ◌++◌, length, take, Option, Some, None, is_some, is_none, inl, inr, ◌⊎◌, arith}
+use Rattle.std.proofs.Common.{◌≡◌, refl, sym, ap, subst, ◌∙◌, ℕ, ◌+◌, ◌<◌, ◌≤◌, Bool, true, false, not, cond, ◌&&◌, ◌||◌, List, [], ◌∷◌, length, take, Option, Some, None, is_some, inl, inr, arith}
 use Rattle.std.proofs.lemmas.Bool.{false≢true}
 use Rattle.std.specs.List.{list_any, list_all}
 use Rattle.relay_model.specs.declared.places.Place.{Place}
@@ -8,22 +8,21 @@ use Rattle.relay_model.specs.declared.places.Way.TheVariants.{LeftToRight, Right
 use Rattle.relay_model.specs.declared.commands.Config.{Config}
 use Rattle.relay_model.specs.declared.acts.Act.{Act}
 use Rattle.relay_model.specs.declared.acts.Act.TheVariants as acts
-use Rattle.relay_model.specs.declared.acts.Peer.{Peer}
 use Rattle.relay_model.specs.declared.acts.ChildEnd.{ChildEnd}
 use Rattle.relay_model.specs.declared.acts.Why.{Why}
 use Rattle.relay_model.specs.declared.acts.Why.TheVariants as whys
 use Rattle.relay_model.specs.declared.readiness.ReadyAt.{ReadyAt}
-use Rattle.relay_model.specs.Places.{same_place, door_of}
-use Rattle.relay_model.specs.Configs.{places, is_of, is_place_of, has_fork, input, output, formed, listens_at, way_from, way_to, own_doors, keeps_borders, program_door, Fit}
-use Rattle.relay_model.specs.History.{now, turns, accept_failed, memory_said, stop_said}
-use Rattle.relay_model.specs.Arming.{asked_to_read, asked_to_write, asked_to_accept}
+use Rattle.relay_model.specs.Places.{same_place}
+use Rattle.relay_model.specs.Configs.{places, is_of, is_place_of, has_fork, input, output, formed, way_from, way_to, own_doors, keeps_borders, program_door, Fit}
+use Rattle.relay_model.specs.History.{now, accept_failed, memory_said, stop_said}
+use Rattle.relay_model.specs.Arming.{asked_to_write}
 use Rattle.relay_model.specs.Moments.{moved}
-use Rattle.relay_model.specs.Openings.{Call, Nothing, TryAt, Open, Settle, Listen, Accept, Refuse, Serve, first_call}
+use Rattle.relay_model.specs.Openings.{Call, Accept, Serve, first_call}
 use Rattle.relay_model.specs.Cause.{cause, closed_why, fault_stands, accept_failed_for}
 use Rattle.relay_model.specs.Calls.{call, called_at}
-use Rattle.relay_model.specs.Rest.{owed, moves, Rest}
+use Rattle.relay_model.specs.Rest.{owed, Rest}
 use Rattle.place_openings.specs.Touching.{touches}
-use Rattle.relay_model.specs.May.{May, MayWrite, MayRead, MayTryWrite, MayShut, MayOffer, Licensed}
+use Rattle.relay_model.specs.May.{May, MayWrite, MayRead, MayTryWrite, MayOffer}
 use Rattle.relay_laws.proofs.PlaceLemmas.{same_place_equal}
 use Rattle.relay_laws.proofs.Holdings.{moves_formed, input_passes, output_passes}
 use Rattle.place_openings.specs.Stands.{AreOpenings}
@@ -33,18 +32,16 @@ use Rattle.relay_core.specs.declared.lanes.Lanes.{Lanes}
 use Rattle.relay_core.specs.declared.states.State.{State}
 use Rattle.relay_core.specs.declared.transfers.Transfer.{Transfer}
 use Rattle.relay_core.specs.declared.transfers.Transfer.TheVariants as transfers
-use Rattle.relay_core.specs.declared.wishes.Wish.{Wish}
-use Rattle.relay_core.specs.declared.wishes.Wish.TheVariants as wishes
 use Rattle.relay_core.specs.Endings.{Quiet, Ends, EndingIs}
 use Rattle.relay_core.specs.declared.lanes.Lane.{Lane}
 use Rattle.relay_core.specs.declared.lanes.Lane.TheVariants.{Unformed, Formed}
-use Rattle.relay_core.specs.Lanes.{IsLane, AreLanes, Reads, Offers, Shuts, lanes_steps, lane_at, waiting_in, waiting_at}
+use Rattle.relay_core.specs.Lanes.{IsLane, AreLanes, Reads, Offers, lanes_steps, lane_at, waiting_in, waiting_at}
 use Rattle.session_direction.proofs.Wanted.{packets_are, may_write_some}
-use Rattle.relay_core.specs.Transfers.{transfer_act, MayTransfer, TakesFrom, IsUnasked, moves_bytes, is_fault, way_of}
-use Rattle.relay_core.specs.States.{Ground, Fields, Closes, ClosesFor, Allowed, steps_of}
-use Rattle.relay_core.specs.Steps.{Absorbed, Heeds, Transfers}
+use Rattle.relay_core.specs.Transfers.{transfer_act, MayTransfer, TakesFrom, moves_bytes, is_fault}
+use Rattle.relay_core.specs.States.{Ground, Fields, Closes, ClosesFor, steps_of}
+use Rattle.relay_core.specs.Steps.{Absorbed, Heeds}
 use Rattle.relay_core.proofs.Causes.{ending_of, called_of, own_session, closed_cause}
-use Rattle.relay_core.proofs.Own.{OwnPlace, OwnDoor, AllStand, Stood, NamesOwn, names_own, all_stand}
+use Rattle.relay_core.proofs.Own.{AllStand, NamesOwn, all_stand}
 use Rattle.relay_core.proofs.Plans.{called, named, quiet_while}
 use Rattle.relay_core.proofs.Quiet.{keeps_quiet, quiet_after, quiet_closed, quiet_at_first, read_fault_stands, write_fault_stands, faultless}
 

@@ -1,6 +1,6 @@
 -- Moments, from what the state tells of them.
-use Rattle.std.proofs.Common.{◌≡◌, refl, sym, ap, ◌∙◌, ℕ, ◌+◌, ◌^◌, ◌<◌, Bool, true, false, not, cond, ◌&&◌, ◌||◌, nat_lt, nat_le, List, Option, Some, None, is_some, arith}
-use Rattle.std.proofs.lemmas.Bool.{false≢true, leb-false, le-ltb, ltb-true}
+use Rattle.std.proofs.Common.{◌≡◌, refl, sym, ℕ, ◌^◌, ◌<◌, Bool, true, false, not, cond, ◌&&◌, ◌||◌, nat_lt, nat_le, List, Option, Some, None, arith}
+use Rattle.std.proofs.lemmas.Bool.{false≢true}
 use Rattle.relay_model.specs.declared.places.Way.TheVariants.{LeftToRight, RightToLeft}
 use Rattle.relay_model.specs.declared.commands.Config.{Config}
 use Rattle.relay_model.specs.declared.acts.Act.{Act}

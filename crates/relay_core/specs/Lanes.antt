@@ -1,5 +1,5 @@
 -- The two directions of a session, each where the command forms it.
-use Rattle.std.specs.Prelude.{◌≡◌, ℕ, ◌+◌, ◌≤◌, Bool, true, false, ◌&&◌, List, [], Option, Some, None, if◌then◌else◌}
+use Rattle.std.specs.Prelude.{◌≡◌, ℕ, ◌+◌, Bool, true, false, List, [], Option, Some, None, is_some}
 use Rattle.relay_model.specs.declared.places.Place.{Place}
 use Rattle.relay_model.specs.declared.places.Way.{Way}
 use Rattle.relay_model.specs.declared.places.Way.TheVariants.{LeftToRight, RightToLeft}
@@ -49,12 +49,20 @@ lane_steps (Formed d) = steps_in d
 abbrev pub lanes_steps : Lanes → ℕ
 lanes_steps lanes = lane_steps lanes.to_right + lane_steps lanes.to_left
 
+-- each piece of the lane goes out as one packet
+abbrev pub keeps_pieces : Lane → Bool
+keeps_pieces Unformed = false
+keeps_pieces (Formed d) = is_some d.flow.lane.packets
+
 -- what waits to be written at a place, and how many bytes may be read there
 abbrev pub waiting_at : Lanes → Place → List ℕ
 waiting_at lanes p = waiting_in (lane_at lanes (way_to p.side))
 
 abbrev pub room_at : Lanes → Place → ℕ
 room_at lanes p = room_of (lane_at lanes (way_from p.side))
+
+abbrev pub keeps_at : Lanes → Place → Bool
+keeps_at lanes p = keeps_pieces (lane_at lanes (way_to p.side))
 
 -- ---- what a lane wishes for
 

@@ -1,20 +1,22 @@
 -- The laws of one session's histories that a loop around it needs, as statements.
-use Rattle.std.specs.Prelude.{◌≡◌, ℕ, true, false, List, Some, None}
+use Rattle.std.specs.Prelude.{◌≡◌, ◌⊎◌, ℕ, suc, true, false, List, length, Some, None}
 use Rattle.relay_model.specs.declared.places.Place.{Place}
 use Rattle.relay_model.specs.declared.commands.Config.{Config}
 use Rattle.relay_model.specs.declared.commands.Dump.TheVariants as dumps
 use Rattle.relay_model.specs.declared.acts.Act.{Act}
 use Rattle.relay_model.specs.declared.acts.Why.{Why}
-use Rattle.relay_model.specs.Configs.{has_fork, is_of}
+use Rattle.relay_model.specs.declared.acts.Why.TheVariants as whys
+use Rattle.relay_model.specs.Configs.{has_fork, is_of, options_of}
 use Rattle.relay_model.specs.Holding.{Open, standing, is_open}
-use Rattle.relay_model.specs.History.{stage, held, shut_at}
+use Rattle.relay_model.specs.History.{turns, stage, held, shut_at, failures}
+use Rattle.relay_model.specs.Openings.{out_of_tries}
 use Rattle.relay_model.specs.Cause.{cause}
 use Rattle.relay_model.specs.Rest.{Rest, SessionRests, until_of}
 use Rattle.relay_model.specs.Outcome.{outcome}
 use Rattle.relay_model.specs.May.{Legal}
 use Rattle.relay_core.specs.Standings.{StandsFor}
 use Rattle.relay_core.specs.Timers.{session_until}
-use Rattle.relay_core.specs.Told.{told}
+use Rattle.relay_core.specs.Told.{told, stop_turned}
 use Rattle.relay_core.specs.Blames.{is_failure, is_blamed_for}
 
 -- a thing stands as its stage says
@@ -50,3 +52,14 @@ abbrev pub FailureIsBlamed : Type 0
 FailureIsBlamed =
     (c : Config) (n : ℕ) (past : List Act) (why : Why) → has_fork c ≡ false → Legal c n past → is_failure why ≡ true → cause c past 0 ≡ Some why →
     is_blamed_for why past ≡ true
+
+-- without fork, a session that stops was told so by a turn, or the turns are used up
+abbrev pub StopIsTold : Type 0
+StopIsTold =
+    (c : Config) (n : ℕ) (past : List Act) → has_fork c ≡ false → Legal c n past → cause c past 0 ≡ Some whys.Stopped → (stop_turned past ≡ true) ⊎ (turns past ≡ n)
+
+-- where no try is left, one more failed than may be followed by a try
+abbrev pub TriesAreCounted : Type 0
+TriesAreCounted =
+    (c : Config) (n : ℕ) (past : List Act) (p : Place) → Legal c n past → out_of_tries c past p ≡ true →
+    length (failures past p) ≡ suc (options_of c p).retry

@@ -1,4 +1,5 @@
 pub mod Blames
+pub mod Conditions
 pub mod Endings
 pub mod Lanes
 pub mod Laws

@@ -1,8 +1,7 @@
 -- What a session says of the history that it stands for.
-use Rattle.std.specs.Prelude.{◌≡◌, ℕ, ◌<◌, Bool, true, false, List, [], ◌∷◌, Option, Some, None, is_some}
+use Rattle.std.specs.Prelude.{◌≡◌, ℕ, ◌<◌, Bool, List, ◌∷◌, Option, Some, None, is_some}
 use Rattle.relay_model.specs.declared.commands.Config.{Config}
 use Rattle.relay_model.specs.declared.acts.Act.{Act}
-use Rattle.relay_model.specs.Cause.{cause}
 use Rattle.relay_model.specs.Rest.{owed}
 use Rattle.relay_model.specs.May.{May}
 use Rattle.relay_core.specs.declared.sessions.Session.{Session}

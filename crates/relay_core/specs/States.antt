@@ -1,25 +1,22 @@
 -- What the state of a session says of the history, and which calls the history allows.
-use Rattle.std.specs.Prelude.{◌≡◌, ◌⊎◌, ℕ, ◌+◌, ◌<◌, ◌≤◌, Bool, true, false, ◌||◌, List, [], ◌∷◌, Option, Some, None, is_some, if◌then◌else◌}
+use Rattle.std.specs.Prelude.{◌≡◌, ◌⊎◌, ℕ, ◌+◌, true, false, List, Option, Some, None, is_some}
 use Rattle.relay_model.specs.declared.places.Place.{Place}
 use Rattle.relay_model.specs.declared.places.Way.{Way}
-use Rattle.relay_model.specs.declared.places.Way.TheVariants.{LeftToRight, RightToLeft}
 use Rattle.relay_model.specs.declared.commands.Config.{Config}
 use Rattle.relay_model.specs.declared.acts.Act.{Act}
 use Rattle.relay_model.specs.declared.acts.Why.{Why}
 use Rattle.relay_model.specs.declared.acts.Why.TheVariants as whys
-use Rattle.relay_model.specs.Configs.{has_fork, is_of, way_from, way_to, keeps_borders, Fit}
-use Rattle.relay_model.specs.History.{now, turns, held, memory_said, stop_said}
-use Rattle.relay_model.specs.Arming.{asked_to_read, asked_to_write, asked_to_accept}
+use Rattle.relay_model.specs.Configs.{has_fork, is_of, Fit}
+use Rattle.relay_model.specs.History.{now, held}
+use Rattle.relay_model.specs.Arming.{asked_to_accept}
 use Rattle.relay_model.specs.Sessions.{holds}
-use Rattle.relay_model.specs.Transfers.{room, backlog}
 use Rattle.relay_model.specs.Moments.{moved}
 use Rattle.relay_model.specs.Openings.{Call}
 use Rattle.relay_model.specs.Openings as calls
-use Rattle.relay_model.specs.Cause.{cause, closed_why, accept_failed_for, fault_stands, running}
+use Rattle.relay_model.specs.Cause.{fault_stands, running}
 use Rattle.relay_model.specs.Calls.{call}
-use Rattle.relay_model.specs.Rest.{SessionRests, Rest, session_work, session_moment, moves}
-use Rattle.relay_model.specs.Configs.{input, output}
-use Rattle.relay_model.specs.May.{MayRead, MayTryWrite, MayShut, MayReap, Licensed}
+use Rattle.relay_model.specs.Rest.{SessionRests}
+use Rattle.relay_model.specs.May.{MayReap, Licensed}
 use Rattle.session_direction.specs.Directions.{WantsNothing}
 use Rattle.place_openings.specs.Stands.{AreOpenings}
 use Rattle.place_openings.specs.Steps.{steps_in}
@@ -27,7 +24,7 @@ use Rattle.place_openings.specs.Queries.{first_of, child_by}
 use Rattle.relay_core.specs.declared.states.State.{State}
 use Rattle.relay_core.specs.declared.wishes.Wish.{Wish}
 use Rattle.relay_core.specs.declared.wishes.Wish.TheVariants as wishes
-use Rattle.relay_core.specs.Endings.{Quiet, Ends, EndingIs}
+use Rattle.relay_core.specs.Endings.{Ends, EndingIs}
 use Rattle.relay_core.specs.Timers.{session_until}
 use Rattle.relay_core.specs.Lanes.{AreLanes, Reads, Offers, Shuts, lanes_steps}
 

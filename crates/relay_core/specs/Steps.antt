@@ -1,10 +1,8 @@
 -- What an act makes of the state of a session.
-use Rattle.std.specs.Prelude.{◌≡◌, ℕ, ◌<◌, Bool, true, false, List, [], ◌∷◌, Option, Some, None}
+use Rattle.std.specs.Prelude.{◌≡◌, ℕ, ◌<◌, Bool, false, List, [], ◌∷◌, Option, Some, None}
 use Rattle.relay_model.specs.declared.places.Place.{Place}
 use Rattle.relay_model.specs.declared.commands.Config.{Config}
 use Rattle.relay_model.specs.declared.acts.Act.{Act}
-use Rattle.relay_model.specs.Configs.{input, output, way_from, way_to}
-use Rattle.relay_model.specs.Arming.{asked_to_read, asked_to_write}
 use Rattle.relay_model.specs.Cause.{cause}
 use Rattle.relay_model.specs.Rest.{owed}
 use Rattle.relay_model.specs.May.{May}
@@ -13,7 +11,7 @@ use Rattle.relay_core.specs.declared.states.State.{State}
 use Rattle.relay_core.specs.declared.transfers.Transfer.{Transfer}
 use Rattle.relay_core.specs.declared.wishes.Wish.{Wish}
 use Rattle.relay_core.specs.declared.wishes.Wish.TheVariants as wishes
-use Rattle.relay_core.specs.Lanes.{waiting_at}
+use Rattle.relay_core.specs.Lanes.{waiting_at, keeps_at}
 use Rattle.relay_core.specs.Transfers.{MayTransfer, IsUnasked}
 use Rattle.relay_core.specs.Endings.{Quiet}
 use Rattle.relay_core.specs.States.{Ground, Fields, steps_of}
@@ -45,3 +43,9 @@ abbrev pub waiting_for : State → Wish → List ℕ
 waiting_for st (wishes.Write p) = waiting_at st.lanes p
 waiting_for st (wishes.Send p) = waiting_at st.lanes p
 waiting_for st wish = []
+
+-- the bytes that a wish offers go out as one packet
+abbrev pub keeps_for : State → Wish → Bool
+keeps_for st (wishes.Write p) = keeps_at st.lanes p
+keeps_for st (wishes.Send p) = keeps_at st.lanes p
+keeps_for st wish = false

@@ -1,12 +1,14 @@
 -- What is told of a command of one session at its end, by the cause of that.
-use Rattle.std.specs.Prelude.{List, unwrap_or}
+use Rattle.std.specs.Prelude.{ℕ, Bool, false, ◌||◌, List, [], ◌∷◌, Option, Some, None, unwrap_or}
 use Rattle.relay_model.specs.declared.commands.Config.{Config}
 use Rattle.relay_model.specs.declared.acts.Act.{Act}
+use Rattle.relay_model.specs.declared.acts.Act.TheVariants.{Turn}
 use Rattle.relay_model.specs.declared.acts.Why.{Why}
 use Rattle.relay_model.specs.declared.acts.Why.TheVariants as whys
 use Rattle.relay_model.specs.Configs.{places, own_doors}
 use Rattle.relay_model.specs.History.{turns}
-use Rattle.relay_model.specs.Outcome.{Outcome, Memory, Stopped, AcceptFailed, Ended, first_fault, failed_listening, failed_opening}
+use Rattle.relay_model.specs.Outcome.{Outcome, Memory, Stopped, AcceptFailed, ListenFailed, OpenFailed, Ended, first_fault, failed_listening, failed_opening}
+use Rattle.place_openings.specs.declared.calls.GivenUp.{GivenUp}
 
 abbrev pub told : Config → List Act → Why → Outcome
 told c past whys.Memory = Memory
@@ -18,3 +20,19 @@ told c past whys.Faulted = unwrap_or (first_fault c past 0) (Ended whys.Faulted)
 told c past whys.ClosingTime = unwrap_or (first_fault c past 0) (Ended whys.ClosingTime)
 told c past whys.Idle = unwrap_or (first_fault c past 0) (Ended whys.Idle)
 told c past why = Ended why
+
+-- a turn said stop
+abbrev pub stop_turned : List Act → Bool
+stop_turned [] = false
+stop_turned (Turn until at ready stop ∷ past) = stop || stop_turned past
+stop_turned (act ∷ past) = stop_turned past
+
+-- what is told of a place at which no try is left
+abbrev pub told_opening : Option GivenUp → Option Outcome
+told_opening None = None
+told_opening (Some given_up) = Some (OpenFailed given_up.side given_up.attempts)
+
+-- what is told of a door at which no try is left, after so many failures
+abbrev pub told_listening : Option ℕ → Option Outcome
+told_listening None = None
+told_listening (Some attempts) = Some (ListenFailed attempts)

@@ -41,7 +41,7 @@ pub enum Lane {
 }
 
 impl Lane {
-    ghost use Rattle.relay_core.specs.Lanes.{IsLane, waiting_in, lane_steps, LaneWishes};
+    ghost use Rattle.relay_core.specs.Lanes.{IsLane, waiting_in, keeps_pieces, lane_steps, LaneWishes};
 
     /// A direction at the beginning; only one that is formed takes memory.
     pub fn new(alloc: Global, config: &Config, way: Way) -> Result<Lane, NoMemory>
@@ -147,6 +147,7 @@ impl Lane {
     pub fn pending(&self) -> &[u8]
         ensures front { result.now ≡ take (length result.now) (waiting_in self.now) }
         ensures some { result.now ≡ [] → waiting_in self.now ≡ [] }
+        ensures whole { keeps_pieces self.now ≡ true → result.now ≡ waiting_in self.now }
     {
         match self {
             Lane::Unformed => &[],
@@ -217,7 +218,7 @@ pub struct Lanes {
 }
 
 impl Lanes {
-    ghost use Rattle.relay_core.specs.Lanes.{AreLanes, LanesWish, lanes_steps, waiting_at};
+    ghost use Rattle.relay_core.specs.Lanes.{AreLanes, LanesWish, lanes_steps, waiting_at, keeps_at};
 
     /// Both directions at the beginning.
     pub fn new(alloc: Global, config: &Config) -> Result<Lanes, NoMemory>
@@ -296,6 +297,7 @@ impl Lanes {
     pub fn pending(&self, place: Place) -> &[u8]
         ensures front { result.now ≡ take (length result.now) (waiting_at self.now place) }
         ensures some { result.now ≡ [] → waiting_at self.now place ≡ [] }
+        ensures whole { keeps_at self.now place ≡ true → result.now ≡ waiting_at self.now place }
     {
         match place.side {
             Side::Right => self.to_right.pending(),

@@ -1,5 +1,5 @@
 // What the histories of a command of one session keep, each as the contract of a function that does nothing.
-ghost use Rattle.relay_core.specs.Laws.{StagesTell, UnshutIsOpen, HeldIsOwn, RestIsOfOne, UntilIsOfOne, CauseIsTold, FailureIsBlamed};
+ghost use Rattle.relay_core.specs.Laws.{StagesTell, UnshutIsOpen, HeldIsOwn, RestIsOfOne, UntilIsOfOne, CauseIsTold, FailureIsBlamed, StopIsTold, TriesAreCounted};
 
 /// A thing stands for a world as its last opening, listening or closing says.
 pub fn stages_tell()
@@ -34,4 +34,14 @@ pub fn cause_is_told()
 /// A session that failed has an act that is to blame for it.
 pub fn failure_is_blamed()
     ensures { FailureIsBlamed }
+{}
+
+/// A session that stops was told so by a turn, or the turns are used up.
+pub fn stop_is_told()
+    ensures { StopIsTold }
+{}
+
+/// Where no try is left, one more failed than may be followed by a try.
+pub fn tries_are_counted()
+    ensures { TriesAreCounted }
 {}

@@ -14,8 +14,9 @@ mod transfers;
 mod wishes;
 
 pub use laws::{
-    cause_is_told, failure_is_blamed, held_is_own, rest_is_of_one, stages_tell, unshut_is_open,
-    until_is_of_one,
+    cause_is_told, failure_is_blamed, held_is_own, rest_is_of_one, stages_tell, stop_is_told,
+    tries_are_counted, unshut_is_open, until_is_of_one,
 };
+pub use place_openings::GivenUp;
 pub use sessions::Session;
 pub use wishes::{Answer, Wish};

@@ -4,18 +4,25 @@ ghost use Rattle.relay_model.specs.declared.acts.Act.{Act};
 ghost use Rattle.relay_model.specs.declared.acts.Act.TheVariants as acts;
 ghost use Rattle.relay_model.specs.declared.acts.Why.TheVariants as whys;
 ghost use Rattle.relay_model.specs.declared.commands.Config.{Config as Command};
+ghost use Rattle.relay_model.specs.declared.commands.Dump.TheVariants as dumps;
+ghost use Rattle.relay_model.specs.declared.places.Place.{Place as Location};
 ghost use Rattle.relay_model.specs.declared.readiness.ReadyAt.{ReadyAt as Entry};
-ghost use Rattle.relay_model.specs.Configs.{Fit, has_fork};
+ghost use Rattle.relay_model.specs.Configs.{Fit, has_fork, places, own_doors};
 ghost use Rattle.relay_model.specs.History.{turns};
-ghost use Rattle.relay_model.specs.Rest.{Rest};
+ghost use Rattle.relay_model.specs.May.{Legal};
+ghost use Rattle.relay_model.specs.Outcome.{failed_listening, failed_opening};
+ghost use Rattle.relay_model.specs.Rest.{Rest, until_of};
 ghost use Rattle.session_direction.specs.Directions.{listed};
 ghost use Rattle.relay_core.specs.declared.wishes.Wish.TheVariants as wishes;
 ghost use Rattle.relay_core.specs.declared.wishes.Answer.TheVariants as answers;
 ghost use Rattle.relay_core.specs.Wishes.{Fits, act_of};
 ghost use Rattle.relay_core.specs.States.{Wished};
+ghost use Rattle.relay_core.specs.Conditions.{CanBeMade, is_course, is_writing, IsAtOwn};
+ghost use Rattle.relay_core.specs.Told.{told_listening, told_opening};
 
 use crate::states::State;
 use crate::wishes::{Answer, Wish};
+use place_openings::GivenUp;
 use relay_model::{Config, NoMemory, ReadyAt, Why};
 use std::alloc::Global;
 
@@ -45,7 +52,10 @@ impl Session {
     pub fn wish(&self) -> Wish
         ensures wish { result ≡ wish_of self.now }
         ensures wished { (c : Command) (n : ℕ) (past : List Act) (s : ℕ) → Stands c n past s self.now → Wished c n past s result }
-        ensures sleep { (c : Command) (n : ℕ) (past : List Act) (s : ℕ) (until : Option ℕ) → Stands c n past s self.now → result ≡ wishes.Sleep until → has_ended self.now ≡ false }
+        ensures going { (c : Command) (n : ℕ) (past : List Act) (s : ℕ) → Stands c n past s self.now → is_course result ≡ true → has_ended self.now ≡ false }
+        ensures own { (c : Command) (n : ℕ) (past : List Act) (s : ℕ) → Stands c n past s self.now → IsAtOwn c s result }
+        ensures can { (c : Command) (n : ℕ) (past : List Act) (s : ℕ) → Stands c n past s self.now → Legal c n past → CanBeMade past result }
+        ensures rests { (c : Command) (n : ℕ) (past : List Act) (s : ℕ) (until : Option ℕ) → Stands c n past s self.now → Legal c n past → c.dump ≡ dumps.Off → result ≡ wishes.Sleep until → Rest c past × (until ≡ until_of c past) }
     {
         self.wish
     }
@@ -54,6 +64,8 @@ impl Session {
     pub fn pending(&self) -> &[u8]
         ensures front { result.now ≡ take (length result.now) (waiting_of self.now) }
         ensures some { result.now ≡ [] → waiting_of self.now ≡ [] }
+        ensures offers { (c : Command) (n : ℕ) (past : List Act) (s : ℕ) → Stands c n past s self.now → is_writing (wish_of self.now) ≡ true → 0 < length result.now }
+        ensures packet { (c : Command) (n : ℕ) (past : List Act) (s : ℕ) (p : Location) → Stands c n past s self.now → Legal c n past → wish_of self.now ≡ wishes.Send p → (result.now ≡ waiting_of self.now) × (length result.now ≤ 65507) }
     {
         self.state.offered(self.wish)
     }
@@ -89,5 +101,21 @@ impl Session {
     {
         self.state.cut(why);
         self.wish = self.state.plan();
+    }
+
+    // ---- what it tells at its end
+
+    /// The first place, in opening order, at which no try is left.
+    pub fn failed_opening(&self) -> Option<GivenUp>
+        ensures { (c : Command) (n : ℕ) (past : List Act) (s : ℕ) → Stands c n past s self.now → Legal c n past → told_opening result ≡ failed_opening c past (places c s) }
+    {
+        self.state.openings.failed_opening()
+    }
+
+    /// How many listenings failed at the first door, in opening order, at which no try is left.
+    pub fn failed_listening(&self) -> Option<u64>
+        ensures { (c : Command) (n : ℕ) (past : List Act) (s : ℕ) → Stands c n past s self.now → Legal c n past → told_listening result ≡ failed_listening c past (own_doors c s) }
+    {
+        self.state.openings.failed_listening()
     }
 }

@@ -42,7 +42,7 @@ impl State {
     ghost use Rattle.relay_core.specs.States.{Ground, Fields, Allowed};
     ghost use Rattle.relay_core.specs.Timers.{reachable, session_until};
     ghost use Rattle.place_openings.specs.Answers.{as_call};
-    ghost use Rattle.relay_core.specs.Steps.{waiting_for};
+    ghost use Rattle.relay_core.specs.Steps.{waiting_for, keeps_for};
 
     /// A session at the beginning. It takes all the memory that it will use.
     pub fn new(alloc: Global, config: &Config) -> Result<State, NoMemory>
@@ -237,6 +237,7 @@ impl State {
     pub fn offered(&self, wish: Wish) -> &[u8]
         ensures front { result.now ≡ take (length result.now) (waiting_for self.now wish) }
         ensures some { result.now ≡ [] → waiting_for self.now wish ≡ [] }
+        ensures whole { keeps_for self.now wish ≡ true → result.now ≡ waiting_for self.now wish }
     {
         match wish {
             Wish::Write(place) => self.lanes.pending(place),

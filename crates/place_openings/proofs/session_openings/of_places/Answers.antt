@@ -1,4 +1,4 @@
-use Rattle.std.proofs.Common.{[], length, arith}
+use Rattle.std.proofs.Common.{[], arith}
 use Rattle.std.proofs.lemmas.Grind.{common_steps}
 use Rattle.place_openings.proofs.Beginning.{one_place_more}
 use Rattle.place_openings.proofs.session_openings.of_places.Goals as goal

@@ -1,6 +1,5 @@
-use Rattle.std.proofs.Common.{Bool, true, false, ◌≡◌, ap, ◌&&◌, ◌∙◌}
+use Rattle.std.proofs.Common.{ap, ◌&&◌}
 use Rattle.relay_model.specs.Places.{same_bool}
-use Rattle.relay_model.specs.Configs.{has_own_door}
 use Rattle.relay_model.specs.Openings.{out_of_tries}
 use Rattle.place_openings.specs.Stands.{tried_at}
 use Rattle.place_openings.proofs.Asked.{out_by}

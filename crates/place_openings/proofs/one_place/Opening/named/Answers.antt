@@ -1,4 +1,4 @@
-use Rattle.std.proofs.Common.{◌≡◌, true, sym, ap, ◌∙◌, ◌||◌, arith}
+use Rattle.std.proofs.Common.{arith}
 use Rattle.std.proofs.lemmas.Grind.{common_steps}
 use Rattle.place_openings.proofs.Named.{woken_more, armed_more}
 use Rattle.place_openings.proofs.one_place.Opening.named.Goals as goal

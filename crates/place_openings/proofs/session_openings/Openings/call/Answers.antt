@@ -1,4 +1,4 @@
-use Rattle.std.proofs.Common.{◌≡◌, sym, ap, ◌∙◌}
+use Rattle.std.proofs.Common.{sym, ap, ◌∙◌}
 use Rattle.place_openings.specs.Queries.{first_unready}
 use Rattle.place_openings.proofs.Asked.{all_ready, one_unready}
 use Rattle.place_openings.proofs.session_openings.Openings.call.Goals as goal

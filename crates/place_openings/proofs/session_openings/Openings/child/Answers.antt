@@ -1,4 +1,4 @@
-use Rattle.std.proofs.Common.{◌≡◌, sym, ap, ◌∙◌}
+use Rattle.std.proofs.Common.{sym, ap, ◌∙◌}
 use Rattle.place_openings.specs.Queries.{first_of, child_by}
 use Rattle.place_openings.proofs.Asked.{some_child}
 use Rattle.place_openings.proofs.session_openings.Openings.child.Goals as goal

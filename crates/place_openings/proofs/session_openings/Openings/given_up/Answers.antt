@@ -1,4 +1,4 @@
-use Rattle.std.proofs.Common.{◌≡◌, refl, ◌∙◌, ap, subst, sym}
+use Rattle.std.proofs.Common.{refl, ◌∙◌, subst, sym}
 use Rattle.place_openings.specs.Stands.{Each}
 use Rattle.relay_model.specs.Configs.{places}
 use Rattle.place_openings.proofs.Asked.{doors_are_out, places_are_out}

@@ -1,4 +1,4 @@
-use Rattle.std.proofs.Common.{◌≡◌, sym, ap, ◌∙◌}
+use Rattle.std.proofs.Common.{sym, ap, ◌∙◌}
 use Rattle.place_openings.specs.Queries.{first_of, held_by}
 use Rattle.place_openings.proofs.Asked.{some_held, none_held}
 use Rattle.place_openings.proofs.session_openings.Openings.held.Goals as goal

@@ -1,4 +1,4 @@
-use Rattle.std.proofs.Common.{◌≡◌, option_map, sym, ap, ◌∙◌}
+use Rattle.std.proofs.Common.{sym, ap, ◌∙◌}
 use Rattle.place_openings.specs.Queries.{first_unready}
 use Rattle.place_openings.specs.States.{state_of}
 use Rattle.place_openings.proofs.Asked.{none_by, ready_by_none}

@@ -1,5 +1,5 @@
 use Rattle.std.proofs.Common.{◌∙◌, sym, refl}
-use Rattle.relay_core.proofs.LaneLemmas.{heard_here, heard_elsewhere, concerned, unconcerned, fewer_here, formed_way}
+use Rattle.relay_core.proofs.LaneLemmas.{heard_here, heard_elsewhere, concerned, unconcerned, fewer_here}
 use Rattle.relay_core.proofs.lanes.Lane.hear.Goals as goal
 
 pub returns-then-concerns : goal.returns-then-concerns

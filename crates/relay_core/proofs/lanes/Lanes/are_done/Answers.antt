@@ -1,4 +1,4 @@
-use Rattle.std.proofs.Common.{◌≡◌, ◌∙◌, sym, ap, not, ◌&&◌, ◌||◌, true, false}
+use Rattle.std.proofs.Common.{◌∙◌, ap, not, ◌&&◌}
 use Rattle.relay_model.specs.declared.places.Way.TheVariants.{LeftToRight, RightToLeft}
 use Rattle.relay_core.proofs.TimerLemmas.{unfinished_of}
 use Rattle.relay_core.proofs.lanes.Lanes.are_done.Goals as goal

@@ -1,4 +1,4 @@
-use Rattle.std.proofs.Common.{◌≡◌, ◌∙◌, sym, ap, not, ◌&&◌, ◌||◌, true, false}
+use Rattle.std.proofs.Common.{◌∙◌, ◌&&◌}
 use Rattle.relay_model.specs.declared.places.Way.TheVariants.{LeftToRight, RightToLeft}
 use Rattle.relay_core.proofs.lanes.Lanes.have_passed.Goals as goal
 

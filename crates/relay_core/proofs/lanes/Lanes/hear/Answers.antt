@@ -1,7 +1,6 @@
-use Rattle.std.proofs.Common.{◌≡◌, ◌<◌, ◌+◌, ◌∙◌, sym, ap, refl}
-use Rattle.relay_model.specs.declared.places.Way.{Way}
+use Rattle.std.proofs.Common.{ap}
 use Rattle.relay_model.specs.declared.places.Way.TheVariants.{LeftToRight, RightToLeft}
-use Rattle.relay_core.specs.Lanes.{lane_at, lane_steps, waiting_in, waiting_at}
+use Rattle.relay_core.specs.Lanes.{lane_at, waiting_in, waiting_at}
 use Rattle.relay_core.specs.Transfers.{way_of}
 use Rattle.relay_core.proofs.LaneLemmas.{one_fewer}
 use Rattle.relay_core.proofs.lanes.Lanes.hear.Goals as goal

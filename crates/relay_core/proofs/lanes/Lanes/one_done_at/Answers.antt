@@ -1,4 +1,4 @@
-use Rattle.std.proofs.Common.{◌≡◌, ◌∙◌, sym, ap, not, ◌&&◌, ◌||◌, true, false}
+use Rattle.std.proofs.Common.{◌∙◌, sym, ◌&&◌}
 use Rattle.relay_model.specs.declared.places.Way.TheVariants.{LeftToRight, RightToLeft}
 use Rattle.std.proofs.lemmas.Bool.{and_parts}
 use Rattle.relay_core.proofs.TimerLemmas.{one_done_then, one_done_else}

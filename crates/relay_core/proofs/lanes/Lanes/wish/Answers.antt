@@ -1,4 +1,3 @@
-use Rattle.std.proofs.Common.{◌≡◌, ◌∙◌, sym, ap, not, ◌&&◌, ◌||◌, true, false}
 use Rattle.relay_model.specs.declared.places.Way.TheVariants.{LeftToRight, RightToLeft}
 use Rattle.std.proofs.Common.{subst}
 use Rattle.relay_core.specs.Lanes.{LaneWishes}

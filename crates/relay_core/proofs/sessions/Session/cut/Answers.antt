@@ -1,4 +1,4 @@
-use Rattle.std.proofs.Common.{◌≡◌, ap, ◌∙◌, sym, inl, inr, refl, true, false, ◌∷◌, ◌++◌, []}
+use Rattle.std.proofs.Common.{inl, inr}
 use Rattle.relay_core.proofs.Lives.{stands_by, none_of}
 use Rattle.relay_core.proofs.Plans.{quiet_while}
 use Rattle.relay_core.proofs.sessions.Session.cut.Goals as goal

@@ -1,4 +1,3 @@
-use Rattle.std.proofs.Common.{◌≡◌, ap, ◌∙◌, sym, inl, inr, refl, true, false, ◌∷◌, ◌++◌, []}
 use Rattle.relay_core.proofs.Lives.{asleep, stands_by, hears_by, heard_by}
 use Rattle.relay_core.proofs.Plans.{quiet_while}
 use Rattle.relay_core.proofs.sessions.Session.heard.Goals as goal

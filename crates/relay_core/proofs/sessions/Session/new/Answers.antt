@@ -1,4 +1,4 @@
-use Rattle.std.proofs.Common.{◌≡◌, ap, ◌∙◌, sym, inl, inr, refl, true, false, ◌∷◌, ◌++◌, []}
+use Rattle.std.proofs.Common.{[]}
 use Rattle.relay_core.proofs.Lives.{stands_by}
 use Rattle.relay_core.proofs.sessions.Session.new.Goals as goal
 

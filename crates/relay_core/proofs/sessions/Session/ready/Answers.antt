@@ -1,4 +1,3 @@
-use Rattle.std.proofs.Common.{◌≡◌, ap, ◌∙◌, sym, inl, inr, refl, true, false, ◌∷◌, ◌++◌, []}
 use Rattle.relay_core.proofs.Lives.{hears_by}
 use Rattle.relay_core.proofs.sessions.Session.ready.Goals as goal
 

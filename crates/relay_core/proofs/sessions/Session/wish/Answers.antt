@@ -1,6 +1,15 @@
-use Rattle.std.proofs.Common.{◌≡◌, ap, ◌∙◌, sym, inl, inr, refl, true, false, ◌∷◌, ◌++◌, []}
-use Rattle.relay_core.proofs.Lives.{asleep, some_not}
+use Rattle.relay_core.proofs.Conditions.{goes_while, at_own}
+use Rattle.relay_core.proofs.Possible.{can_be_made, rests_asleep}
 use Rattle.relay_core.proofs.sessions.Session.wish.Goals as goal
 
-pub returns-clause-sleep : goal.returns-clause-sleep
-returns-clause-sleep c = λ k n past s until st e. some_not _ (asleep k n past s c.args.self.now.state c.args.self.now.wish until st.allowed e)
+pub returns-clause-going : goal.returns-clause-going
+returns-clause-going c = λ k n past s st e. goes_while k n past s c.args.self.now.state c.args.self.now.wish st.allowed e
+
+pub returns-clause-own : goal.returns-clause-own
+returns-clause-own c = λ k n past s st. at_own k n past s c.args.self.now.wish st.allowed.0
+
+pub returns-clause-can : goal.returns-clause-can
+returns-clause-can c = λ k n past s st legal. can_be_made k n past s c.args.self.now.wish st.fields.ground.alone st.fields.ground.first legal st.allowed.0
+
+pub returns-clause-rests : goal.returns-clause-rests
+returns-clause-rests c = λ k n past s until st legal silent e. rests_asleep k n past s c.args.self.now.state c.args.self.now.wish until st.fields st.allowed legal silent e

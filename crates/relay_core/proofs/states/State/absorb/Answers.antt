@@ -1,5 +1,4 @@
-use Rattle.std.proofs.Common.{◌≡◌, ap, ◌∙◌, sym, is_some}
-use Rattle.relay_core.specs.Lanes.{waiting_at}
+use Rattle.std.proofs.Common.{ap, ◌∙◌, is_some}
 use Rattle.relay_core.proofs.StepLemmas.{reads_bytes, reads_one, unasked_there, takes_some, takes_all, never_ended}
 use Rattle.relay_core.proofs.states.State.absorb.Goals as goal
 

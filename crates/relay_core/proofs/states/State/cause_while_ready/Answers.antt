@@ -1,4 +1,4 @@
-use Rattle.std.proofs.Common.{◌≡◌, sym, ap, ◌∙◌}
+use Rattle.std.proofs.Common.{sym, ap, ◌∙◌}
 use Rattle.relay_model.specs.Moments.{closing_moment, idle_moment, reached}
 use Rattle.relay_core.proofs.Plans.{by_closing, by_idle, by_none}
 use Rattle.relay_core.proofs.states.State.cause_while_ready.Goals as goal

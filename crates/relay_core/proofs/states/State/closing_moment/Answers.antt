@@ -1,4 +1,4 @@
-use Rattle.std.proofs.Common.{◌≡◌, sym, ap, ◌∙◌}
+use Rattle.std.proofs.Common.{sym, ap, ◌∙◌}
 use Rattle.relay_core.specs.Timers.{reachable, after}
 use Rattle.relay_core.proofs.TimerLemmas.{closing_of}
 use Rattle.relay_core.proofs.states.State.closing_moment.Goals as goal

@@ -1,5 +1,4 @@
-use Rattle.std.proofs.Common.{◌≡◌, refl, sym, ap, ◌∙◌, ◌∷◌, ◌++◌, [], ◌||◌, inl, inr, true, false, Some, None}
-use Rattle.relay_model.specs.declared.acts.Act.TheVariants as acts
+use Rattle.std.proofs.Common.{refl, ap, Some}
 use Rattle.relay_core.proofs.StepLemmas.{stop_step}
 use Rattle.session_direction.specs.Directions.{listed}
 use Rattle.relay_core.proofs.states.State.cut.Goals as goal

@@ -1,7 +1,4 @@
-use Rattle.std.proofs.Common.{◌≡◌, ap, ◌∙◌, sym, subst, is_some}
-use Rattle.relay_core.specs.Steps.{waiting_for}
-use Rattle.relay_core.specs.Wishes.{Fits}
-use Rattle.relay_core.proofs.StepLemmas.{never_ended}
+use Rattle.std.proofs.Common.{ap, ◌∙◌, is_some}
 use Rattle.relay_core.proofs.states.State.hear.Goals as goal
 
 pub returns-in-NoChild-clause-childless : goal.returns-in-NoChild-clause-childless

@@ -1,8 +1,7 @@
-use Rattle.std.proofs.Common.{◌≡◌, refl, sym, ap, ◌∙◌, ◌∷◌, inl, inr, true, false, Some, None}
+use Rattle.std.proofs.Common.{refl}
 use Rattle.relay_model.specs.declared.acts.Act.TheVariants as acts
 use Rattle.relay_model.specs.Openings as calls
-use Rattle.relay_core.proofs.Plans.{called}
-use Rattle.relay_core.proofs.StepLemmas.{opening_step, ending_step, own_of, called_there, first_of_call, noted}
+use Rattle.relay_core.proofs.StepLemmas.{opening_step, own_of, called_there, first_of_call}
 use Rattle.relay_core.proofs.states.State.listening.Goals as goal
 
 pub returns : goal.returns

@@ -1,6 +1,5 @@
-use Rattle.std.proofs.Common.{◌≡◌, refl, sym, ap, ◌∙◌, ◌∷◌, ◌++◌, [], ◌||◌, inl, inr, true, false, Some, None}
+use Rattle.std.proofs.Common.{refl, ◌∷◌, ◌++◌, [], false}
 use Rattle.relay_model.specs.declared.acts.Act.TheVariants as acts
-use Rattle.relay_core.specs.Endings.{Quiet}
 use Rattle.relay_core.proofs.StepLemmas.{heeds_step, quiet_names}
 use Rattle.session_direction.specs.Directions.{listed}
 use Rattle.relay_core.proofs.states.State.named.Goals as goal

@@ -1,4 +1,4 @@
-use Rattle.std.proofs.Common.{◌≡◌, sym, ◌∙◌}
+use Rattle.std.proofs.Common.{sym, ◌∙◌}
 use Rattle.relay_core.proofs.Plans.{called, sleeps_for_peer}
 use Rattle.relay_core.proofs.states.State.plan_accept.Goals as goal
 

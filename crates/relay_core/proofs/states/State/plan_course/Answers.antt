@@ -1,4 +1,4 @@
-use Rattle.std.proofs.Common.{◌≡◌, sym, ap, ◌∙◌}
+use Rattle.std.proofs.Common.{sym, ap, ◌∙◌}
 use Rattle.place_openings.specs.Answers.{as_call}
 use Rattle.relay_core.proofs.Plans.{called, refused, served, sleeps_for_try}
 use Rattle.relay_core.proofs.states.State.plan_course.Goals as goal

@@ -1,4 +1,4 @@
-use Rattle.std.proofs.Common.{◌≡◌, sym, subst, refl}
+use Rattle.std.proofs.Common.{sym, subst, refl}
 use Rattle.relay_core.specs.States.{ClosesFor}
 use Rattle.relay_core.proofs.Causes.{licensed_by}
 use Rattle.relay_core.proofs.Plans.{ends_of}

@@ -1,4 +1,4 @@
-use Rattle.std.proofs.Common.{◌≡◌, sym, subst, refl, ◌∙◌, ap, is_some}
+use Rattle.std.proofs.Common.{sym, ◌∙◌, ap, is_some}
 use Rattle.relay_laws.proofs.Apart.{each_place, among_own}
 use Rattle.relay_model.specs.Configs.{places}
 use Rattle.relay_core.proofs.Plans.{ends_of}

@@ -1,4 +1,4 @@
-use Rattle.std.proofs.Common.{◌≡◌, sym, ap, subst, ◌∙◌}
+use Rattle.std.proofs.Common.{sym, subst, ◌∙◌}
 use Rattle.relay_core.specs.Lanes.{LanesWish}
 use Rattle.relay_core.proofs.Plans.{sleeps_unready, sleeps_running, wish_allowed, runs_of}
 use Rattle.relay_core.proofs.states.State.plan_transfer.Goals as goal

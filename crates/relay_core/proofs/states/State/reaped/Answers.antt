@@ -1,4 +1,4 @@
-use Rattle.std.proofs.Common.{◌≡◌, refl, sym, ap, ◌∙◌, ◌∷◌, ◌++◌, [], ◌||◌, inl, inr, true, false, Some, None}
+use Rattle.std.proofs.Common.{refl}
 use Rattle.relay_model.specs.declared.acts.Act.TheVariants as acts
 use Rattle.relay_core.proofs.StepLemmas.{reaped_step}
 use Rattle.relay_core.proofs.states.State.reaped.Goals as goal

@@ -1,4 +1,4 @@
-use Rattle.std.proofs.Common.{◌≡◌, sym, ap, ◌∙◌}
+use Rattle.std.proofs.Common.{ap, ◌∙◌}
 use Rattle.relay_model.specs.Choices.{earlier, later}
 use Rattle.relay_model.specs.Moments.{closing_moment, idle_moment}
 use Rattle.relay_core.proofs.Plans.{timer_of}

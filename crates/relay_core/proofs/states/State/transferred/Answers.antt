@@ -1,5 +1,4 @@
-use Rattle.std.proofs.Common.{◌≡◌, refl, sym, ap, ◌∙◌, ◌∷◌, ◌++◌, [], ◌||◌, inl, inr, true, false, Some, None}
-use Rattle.relay_model.specs.declared.acts.Act.TheVariants as acts
+use Rattle.std.proofs.Common.{refl, ap, ◌∙◌, ◌||◌}
 use Rattle.relay_core.specs.Lanes.{waiting_at}
 use Rattle.relay_core.proofs.StepLemmas.{transfer_step, transfer_quiet, transfer_now, transfer_may, transfer_untouched, transfer_moved, transfer_faulted, write_at}
 use Rattle.relay_core.proofs.states.State.transferred.Goals as goal
