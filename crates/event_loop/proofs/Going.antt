@@ -1,30 +1,40 @@
 -- How the loop's facts go on from act to act.
-use Rattle.std.proofs.Common.{◌≡◌, ℕ, ◌+◌, ◌-◌, ◌*◌, ◌^◌, ◌<◌, ◌≤◌, Bool, true, false, ◌||◌, slice_get, take, List, [], ◌∷◌, ◌++◌, append_assoc, Option, Some, None, option_map, is_some, min, refl, ap, sym, ◌∙◌, arith}
-use Rattle.std.proofs.lemmas.List.{take_more}
+use Rattle.std.proofs.Common.{◌≡◌, ◌⊎◌, inl, inr, ℕ, suc, subst, ◌+◌, ◌-◌, ◌*◌, ◌^◌, ◌<◌, ◌≤◌, Bool, true, false, not, ◌||◌, slice_get, take, length, List, [], ◌∷◌, ◌++◌, append_assoc, Option, Some, None, option_map, is_some, min, refl, ap, sym, ◌∙◌, arith}
+use Rattle.std.proofs.lemmas.List.{take_more, take-take}
 use Rattle.std.proofs.lemmas.Option.{slice_get_within, get_or_from_slice_get}
 use Rattle.relay_model.specs.declared.acts.Act.{Act}
 use Rattle.relay_model.specs.declared.acts.Act.TheVariants as acts
 use Rattle.relay_model.specs.Readiness.{Listed}
 use Rattle.relay_model.specs.Holding as holds
 use Rattle.relay_model.specs.declared.places.Place.{Place}
-use Rattle.relay_model.specs.declared.places.Side.{Side}
-use Rattle.relay_model.specs.declared.places.Side.TheVariants.{Left, Right}
+use Rattle.relay_model.specs.declared.places.Half.{Half}
 use Rattle.relay_model.specs.declared.commands.Config.{Config}
 use Rattle.relay_model.specs.declared.commands.Single.{Single}
+use Rattle.relay_model.specs.declared.commands.Dump.TheVariants as dumps
 use Rattle.relay_model.specs.Journals.{History, Asking}
 use Rattle.relay_model.specs.Holding.{Hold, hold_after, standing}
-use Rattle.relay_session.specs.Causes.{turns}
-use Rattle.relay_session.specs.Legality.{May}
-use Rattle.relay_model.specs.PlainRelay.{plain_relay}
+use Rattle.relay_model.specs.History.{turns}
+use Rattle.relay_model.specs.Choices.{or_else, only_if}
+use Rattle.relay_model.specs.Outcome as whole
+use Rattle.relay_model.specs.Outcome.{first_fault}
+use Rattle.relay_model.specs.Rest.{Rest, owed, until_of}
 use Rattle.world_trait.specs.Recordings.{with_act, with_asking}
-use Rattle.world_trait.specs.Answers.{Did, DidAsking, DidNothing, Rose, TurnCounts}
-use Rattle.relay_session.specs.Sessions.{Stands}
-use Rattle.relay_session.specs.Heard.{Heard}
-use Rattle.exit_status.specs.declared.outcomes.Outcome.{Outcome}
+use Rattle.world_trait.specs.declared.answers.ReapAnswer.{ReapAnswer}
+use Rattle.world_trait.specs.declared.answers.ReapAnswer.TheVariants as reaps
+use Rattle.world_trait.specs.Answers.{Answered, reap_act, Did, DidAsking, DidNothing, Rose, TurnCounts}
+use Rattle.relay_core.specs.declared.sessions.Session.{Session}
+use Rattle.relay_core.specs.declared.wishes.Wish.{Wish}
+use Rattle.relay_core.specs.declared.wishes.Answer.{Answer}
+use Rattle.relay_core.specs.Wishes.{Fits, act_of}
+use Rattle.relay_core.specs.Sessions.{Stands, Heard, HeardBy, wish_of, waiting_of}
+use Rattle.relay_core.specs.Blames.{is_blamed}
+use Rattle.relay_core.specs.Told.{stop_turned}
 use Rattle.event_loop.specs.Seen.{Seen}
 use Rattle.event_loop.specs.Singles.{single_of}
+use Rattle.event_loop.specs.Commands.{Runnable}
+use Rattle.event_loop.specs.Answers.{told_fault}
 use Rattle.event_loop.specs.declared.drivers.Driver.{Driver}
-use Rattle.event_loop.specs.Courses.{Course, Somewhere, SomewhereAt, Onward, Keeps, Turns, OnlyOwn, extend, Risen, blame_of, stop_turned, unit_of}
+use Rattle.event_loop.specs.Courses.{Course, Somewhere, SomewhereFor, Onward, KeepsFor, TurnsFor, OnlyOwn, extend, Risen, unit_of}
 
 -- what a world tells goes on by the act
 told_act : (act : Act) (past : List Act) (pairs : List Asking) (start : Option History) → option_map (with_act act) (option_map (extend past pairs) start) ≡ option_map (extend (act ∷ past) pairs) start
@@ -40,13 +50,32 @@ own_more : (c : Config) (pairs : List Asking) (asking : Asking) → OnlyOwn c pa
 own_more c [] asking own e = (e, tt)
 own_more c (pair ∷ pairs) asking own e = (own.0, own_more c pairs asking own.1 e)
 
-single_at_side : (b b' : ℕ) (p : Place) (side : Side) → p.side ≡ side → single_of (plain_relay b) p ≡ single_of (plain_relay b') p
-single_at_side b b' p Left e = rw e refl
-single_at_side b b' p Right e = rw e refl
-
--- the addresses don't depend on the block size
-pub single_any : (b b' : ℕ) (p : Place) → single_of (plain_relay b) p ≡ single_of (plain_relay b') p
-single_any b b' p = single_at_side b b' p p.side refl
+-- without dumps none is owed
+undumped_owes : (c : Config) (past : List Act) → c.dump ≡ dumps.Off → owed c past ≡ None
+undumped_owes c [] e = refl
+undumped_owes c (acts.Turn until at ready stop ∷ past) e = refl
+undumped_owes c (acts.Opened p ∷ past) e = refl
+undumped_owes c (acts.OpenLater p ∷ past) e = refl
+undumped_owes c (acts.OpenFailed p ∷ past) e = refl
+undumped_owes c (acts.Listening p ∷ past) e = refl
+undumped_owes c (acts.ListenFailed p ∷ past) e = refl
+undumped_owes c (acts.Accepted p peer ∷ past) e = refl
+undumped_owes c (acts.NoPeer p ∷ past) e = refl
+undumped_owes c (acts.AcceptFailed p ∷ past) e = refl
+undumped_owes c (acts.Read p bytes ∷ past) e = rw e refl
+undumped_owes c (acts.ReadEmpty p ∷ past) e = refl
+undumped_owes c (acts.ReadEnd p ∷ past) e = refl
+undumped_owes c (acts.ReadNotYet p ∷ past) e = refl
+undumped_owes c (acts.ReadFault p ∷ past) e = refl
+undumped_owes c (acts.Wrote p bytes ∷ past) e = refl
+undumped_owes c (acts.WriteNotYet p ∷ past) e = refl
+undumped_owes c (acts.WriteFault p ∷ past) e = refl
+undumped_owes c (acts.Shut p how ∷ past) e = refl
+undumped_owes c (acts.ShutFault p how ∷ past) e = refl
+undumped_owes c (acts.Closed q why ∷ past) e = refl
+undumped_owes c (acts.Reaped p end ∷ past) e = refl
+undumped_owes c (acts.Note text ∷ past) e = refl
+undumped_owes c (acts.NoteFault text ∷ past) e = refl
 
 pub risen_later : (start before now : ℕ) → start ≤ before → min (before + 1) (2 ^ 64 - 1) ≤ now → Risen start now
 risen_later start before now h e = omega arith
@@ -58,72 +87,51 @@ unit_small : (t : Bool) → unit_of t ≤ 1
 unit_small true = omega arith
 unit_small false = omega arith
 
--- an answer that was heard leaves fewer steps, and so does a cut of what was live
+-- an answer that was heard leaves fewer steps, and so does a cut of what went on
 pub rank_heard : (left left' : ℕ) (t t' : Bool) → left' < left → 2 * left' + unit_of t' < 2 * left + unit_of t
 rank_heard left left' t t' h = omega (arith, unit_small t')
 
-pub rank_cut : (left left' : ℕ) (t t' : Bool) → left' ≡ left → t ≡ true → t' ≡ false → 2 * left' + unit_of t' < 2 * left + unit_of t
+pub rank_cut : (left left' : ℕ) (t t' : Bool) → left' ≡ left → t ≡ false → t' ≡ true → 2 * left' + unit_of (not t') < 2 * left + unit_of (not t)
 rank_cut left left' t t' e f g = rw (e, f, g) (omega arith)
 
--- an act that is no turn and no failure
-pub went : (b n : ℕ) (start old new : Seen) (r r' : Driver) (past : List Act) (act : Act) → Course b n start old r past → Did old.told new.told old.held new.held act → Heard b n past act r.session r'.session → turns (act ∷ past) ≡ turns past → blame_of (act ∷ past) ≡ blame_of past → stop_turned (act ∷ past) ≡ stop_turned past → r'.made ≡ r.made → r'.blame ≡ r.blame → old.faults ≤ new.faults → new.waits ≡ old.waits → old.stops ≤ new.stops → Onward b n start new r'
-went b n start old new r r' past act on did heard et eb es em er faults waits stops =
-    record {
-      past = act ∷ past;
-      course = record {
-        legal = (heard.may, on.legal);
-        stands = heard.stands;
-        turned = et ∙ (on.turned ∙ sym em);
-        pairs = on.pairs;
-        own = on.own;
-        told = did.told ∙ (ap (option_map (with_act act)) on.told ∙ told_act act past on.pairs start.told);
-        holds = λ p. did.held p ∙ ap (hold_after act p) (on.holds p);
-        later = omega (arith, on.later, faults);
-        blame = er ∙ (on.blame ∙ sym eb);
-        blamed = rw eb (λ h. risen_kept start.faults old.faults new.faults faults (on.blamed h));
-        waited = rw (em, waits) on.waited;
-        later_stops = omega (arith, on.later_stops, stops);
-        stopped = rw es (λ h. risen_kept start.stops old.stops new.stops stops (on.stopped h));
-      };
-    }
+-- an answer, heard as one to the wish that there was
+pub heard_as : (c : Config) (n : ℕ) (past : List Act) (wish : Wish) (answer : Answer) (old new : Session) → wish_of old ≡ wish → HeardBy c n past 0 (act_of (wish_of old) (waiting_of old) answer) old new → HeardBy c n past 0 (act_of wish (waiting_of old) answer) old new
+heard_as c n past wish answer old new e heard = let P : Wish → Type 0 = λ x. HeardBy c n past 0 (act_of x (waiting_of old) answer) old new in subst P e heard
 
--- an act that is a failure
-pub went_wrong : (b n : ℕ) (start old new : Seen) (r r' : Driver) (past : List Act) (act : Act) (o : Outcome) → Course b n start old r past → Did old.told new.told old.held new.held act → Heard b n past act r.session r'.session → turns (act ∷ past) ≡ turns past → blame_of (act ∷ past) ≡ Some o → stop_turned (act ∷ past) ≡ stop_turned past → r'.made ≡ r.made → r'.blame ≡ Some o → Rose old.faults new.faults true → new.waits ≡ old.waits → old.stops ≤ new.stops → Onward b n start new r'
-went_wrong b n start old new r r' past act o on did heard et eb es em er rose waits stops =
-    record {
-      past = act ∷ past;
-      course = record {
-        legal = (heard.may, on.legal);
-        stands = heard.stands;
-        turned = et ∙ (on.turned ∙ sym em);
-        pairs = on.pairs;
-        own = on.own;
-        told = did.told ∙ (ap (option_map (with_act act)) on.told ∙ told_act act past on.pairs start.told);
-        holds = λ p. did.held p ∙ ap (hold_after act p) (on.holds p);
-        later = omega (arith, on.later, rose.later);
-        blame = er ∙ sym eb;
-        blamed = λ h. risen_later start.faults old.faults new.faults on.later (rose.rose refl);
-        waited = rw (em, waits) on.waited;
-        later_stops = omega (arith, on.later_stops, stops);
-        stopped = rw es (λ h. risen_kept start.stops old.stops new.stops stops (on.stopped h));
-      };
-    }
+pub fits_as : (wish : Wish) (answer : Answer) (old : Session) → wish_of old ≡ wish → Fits wish (waiting_of old) answer → Fits (wish_of old) (waiting_of old) answer
+fits_as wish answer old e fits = let P : Wish → Type 0 = λ x. Fits x (waiting_of old) answer in subst P (sym e) fits
 
--- an opening asks for its place's own address
-pub asked_for : (b n : ℕ) (start old new : Seen) (r r' : Driver) (past : List Act) (act : Act) (p : Place) (single : Single) → single ≡ single_of (plain_relay b) p → Course b n start old r past → DidAsking (p, single) old.told new.told old.held new.held act → Heard b n past act r.session r'.session → turns (act ∷ past) ≡ turns past → stop_turned (act ∷ past) ≡ stop_turned past → r'.made ≡ r.made → r'.blame ≡ blame_of (act ∷ past) → (is_some (blame_of (act ∷ past)) ≡ true → Risen start.faults new.faults) → old.faults ≤ new.faults → new.waits ≡ old.waits → old.stops ≤ new.stops → Onward b n start new r'
-asked_for b n start old new r r' past act p single own on did heard et es em er blamed faults waits stops =
+-- the bytes that were taken from the front of what waits
+pub front_taken : (offered waiting : List ℕ) (count : ℕ) → offered ≡ take (length offered) waiting → count ≤ length offered → take count offered ≡ take count waiting
+front_taken offered waiting count e h = ap (take count) e ∙ take-take count (length offered) waiting h
+
+pub heard_bytes : (c : Config) (n : ℕ) (past : List Act) (p : Place) (bytes others : List ℕ) (old new : Session) → bytes ≡ others → Heard c n past 0 (acts.Wrote p others) old new → Heard c n past 0 (acts.Wrote p bytes) old new
+heard_bytes c n past p bytes others old new e heard = let P : List ℕ → Type 0 = λ x. Heard c n past 0 (acts.Wrote p x) old new in subst P (sym e) heard
+
+-- where no child is known of, nothing was done
+pub unreaped : (place : Place) (answer : ReapAnswer) (told told' : Option History) (held held' : Place → Hold) → (answer ≡ reaps.NoChild) ⊎ (answer ≡ reaps.Memory) → Answered told told' held held' (reap_act place answer) → DidNothing told told' held held'
+unreaped place answer told told' held held' (inl e) did = let P : ReapAnswer → Type 0 = λ x. Answered told told' held held' (reap_act place x) in subst P e did
+unreaped place answer told told' held held' (inr e) did = let P : ReapAnswer → Type 0 = λ x. Answered told told' held held' (reap_act place x) in subst P e did
+
+next_turn : (a b k : ℕ) → a ≡ b → k ≡ b + 1 → suc a ≡ k
+next_turn a b k e f = omega (arith, e, f)
+
+-- an act that is no turn, with what it makes of the blame and of the first fault
+went_on : (c : Config) (n : ℕ) (start old new : Seen) (r r' : Driver) (past : List Act) (act : Act) (pairs : List Asking) → Course c n start old r past → new.told ≡ option_map (extend (act ∷ past) pairs) start.told → OnlyOwn c pairs → ((p : Place) → new.held p ≡ hold_after act p (old.held p)) → Heard c n past 0 act r.session r'.session → turns (act ∷ past) ≡ turns past → stop_turned (act ∷ past) ≡ stop_turned past → r'.made ≡ r.made → told_fault r'.fault ≡ first_fault c (act ∷ past) 0 → (is_blamed (act ∷ past) ≡ true → Risen start.faults new.faults) → old.faults ≤ new.faults → new.waits ≡ old.waits → old.stops ≤ new.stops → Onward c n start new r'
+went_on c n start old new r r' past act pairs on told own held heard et es em fault blamed faults waits stops =
     record {
       past = act ∷ past;
       course = record {
-        legal = (heard.may, on.legal);
+        runnable = on.runnable;
+        legal = (heard.may (undumped_owes c past on.runnable.undumped), on.legal);
         stands = heard.stands;
         turned = et ∙ (on.turned ∙ sym em);
-        pairs = on.pairs ++ (p, single) ∷ [];
-        own = own_more (plain_relay b) on.pairs (p, single) on.own own;
-        told = did.told ∙ (ap (option_map (with_asking act (p, single))) on.told ∙ told_asking act (p, single) past on.pairs start.told);
-        holds = λ q. did.held q ∙ ap (hold_after act q) (on.holds q);
+        pairs = pairs;
+        own = own;
+        told = told;
+        holds = λ p. held p ∙ ap (hold_after act p) (on.holds p);
         later = omega (arith, on.later, faults);
-        blame = er;
+        fault = fault;
         blamed = blamed;
         waited = rw (em, waits) on.waited;
         later_stops = omega (arith, on.later_stops, stops);
@@ -131,12 +139,36 @@ asked_for b n start old new r r' past act p single own on did heard et es em er 
       };
     }
 
--- nothing was done for want of memory, and the session was cut
-pub cut_off : (b n : ℕ) (start old new : Seen) (r r' : Driver) (past : List Act) → Course b n start old r past → DidNothing old.told new.told old.held new.held → Stands b n past r'.session → r'.made ≡ r.made → r'.blame ≡ r.blame → old.faults ≤ new.faults → new.waits ≡ old.waits → old.stops ≤ new.stops → Onward b n start new r'
-cut_off b n start old new r r' past on did stands em er faults waits stops =
+-- an act that is no turn and no failure
+pub went : (c : Config) (n : ℕ) (start old new : Seen) (r r' : Driver) (past : List Act) (act : Act) → Course c n start old r past → Did old.told new.told old.held new.held act → Heard c n past 0 act r.session r'.session → turns (act ∷ past) ≡ turns past → stop_turned (act ∷ past) ≡ stop_turned past → first_fault c (act ∷ past) 0 ≡ first_fault c past 0 → is_blamed (act ∷ past) ≡ is_blamed past → r'.made ≡ r.made → r'.fault ≡ r.fault → old.faults ≤ new.faults → new.waits ≡ old.waits → old.stops ≤ new.stops → Onward c n start new r'
+went c n start old new r r' past act on did heard et es ef eb em er faults waits stops =
+    went_on c n start old new r r' past act on.pairs on (did.told ∙ (ap (option_map (with_act act)) on.told ∙ told_act act past on.pairs start.told)) on.own did.held heard et es em
+    (ap told_fault er ∙ (on.fault ∙ sym ef)) (rw eb (λ h. risen_kept start.faults old.faults new.faults faults (on.blamed h))) faults waits stops
+
+-- an act that is a failure
+pub went_wrong : (c : Config) (n : ℕ) (start old new : Seen) (r r' : Driver) (past : List Act) (act : Act) → Course c n start old r past → Did old.told new.told old.held new.held act → Heard c n past 0 act r.session r'.session → turns (act ∷ past) ≡ turns past → stop_turned (act ∷ past) ≡ stop_turned past → told_fault r'.fault ≡ first_fault c (act ∷ past) 0 → r'.made ≡ r.made → Rose old.faults new.faults true → new.waits ≡ old.waits → old.stops ≤ new.stops → Onward c n start new r'
+went_wrong c n start old new r r' past act on did heard et es ef em rose waits stops =
+    went_on c n start old new r r' past act on.pairs on (did.told ∙ (ap (option_map (with_act act)) on.told ∙ told_act act past on.pairs start.told)) on.own did.held heard et es em
+    ef (λ h. risen_later start.faults old.faults new.faults on.later (rose.rose refl)) rose.later waits stops
+
+-- an opening or a listening asks for its own address
+pub asked : (c : Config) (n : ℕ) (start old new : Seen) (r r' : Driver) (past : List Act) (act : Act) (p : Place) (single : Single) → single ≡ single_of c p → Course c n start old r past → DidAsking (p, single) old.told new.told old.held new.held act → Heard c n past 0 act r.session r'.session → turns (act ∷ past) ≡ turns past → stop_turned (act ∷ past) ≡ stop_turned past → first_fault c (act ∷ past) 0 ≡ first_fault c past 0 → is_blamed (act ∷ past) ≡ is_blamed past → r'.made ≡ r.made → r'.fault ≡ r.fault → old.faults ≤ new.faults → new.waits ≡ old.waits → old.stops ≤ new.stops → Onward c n start new r'
+asked c n start old new r r' past act p single own on did heard et es ef eb em er faults waits stops =
+    went_on c n start old new r r' past act (on.pairs ++ (p, single) ∷ []) on (did.told ∙ (ap (option_map (with_asking act (p, single))) on.told ∙ told_asking act (p, single) past on.pairs start.told)) (own_more c on.pairs (p, single) on.own own) did.held heard et es em
+    (ap told_fault er ∙ (on.fault ∙ sym ef)) (rw eb (λ h. risen_kept start.faults old.faults new.faults faults (on.blamed h))) faults waits stops
+
+pub asked_in_vain : (c : Config) (n : ℕ) (start old new : Seen) (r r' : Driver) (past : List Act) (act : Act) (p : Place) (single : Single) → single ≡ single_of c p → Course c n start old r past → DidAsking (p, single) old.told new.told old.held new.held act → Heard c n past 0 act r.session r'.session → turns (act ∷ past) ≡ turns past → stop_turned (act ∷ past) ≡ stop_turned past → first_fault c (act ∷ past) 0 ≡ first_fault c past 0 → r'.made ≡ r.made → r'.fault ≡ r.fault → Rose old.faults new.faults true → new.waits ≡ old.waits → old.stops ≤ new.stops → Onward c n start new r'
+asked_in_vain c n start old new r r' past act p single own on did heard et es ef em er rose waits stops =
+    went_on c n start old new r r' past act (on.pairs ++ (p, single) ∷ []) on (did.told ∙ (ap (option_map (with_asking act (p, single))) on.told ∙ told_asking act (p, single) past on.pairs start.told)) (own_more c on.pairs (p, single) on.own own) did.held heard et es em
+    (ap told_fault er ∙ (on.fault ∙ sym ef)) (λ h. risen_later start.faults old.faults new.faults on.later (rose.rose refl)) rose.later waits stops
+
+-- nothing was done, and the session stands for the same acts
+pub idled : (c : Config) (n : ℕ) (start old new : Seen) (r r' : Driver) (past : List Act) → Course c n start old r past → DidNothing old.told new.told old.held new.held → Stands c n past 0 r'.session → r'.made ≡ r.made → r'.fault ≡ r.fault → old.faults ≤ new.faults → new.waits ≡ old.waits → old.stops ≤ new.stops → Onward c n start new r'
+idled c n start old new r r' past on did stands em er faults waits stops =
     record {
       past = past;
       course = record {
+        runnable = on.runnable;
         legal = on.legal;
         stands = stands;
         turned = on.turned ∙ sym em;
@@ -145,7 +177,7 @@ cut_off b n start old new r r' past on did stands em er faults waits stops =
         told = did.told ∙ on.told;
         holds = λ p. did.held p ∙ on.holds p;
         later = omega (arith, on.later, faults);
-        blame = er ∙ on.blame;
+        fault = ap told_fault er ∙ on.fault;
         blamed = λ h. risen_kept start.faults old.faults new.faults faults (on.blamed h);
         waited = rw (em, waits) on.waited;
         later_stops = omega (arith, on.later_stops, stops);
@@ -158,20 +190,21 @@ or_stop true b f g e = f refl
 or_stop false b f g e = g e
 
 -- a turn
-pub turned_on : (b n : ℕ) (start old new : Seen) (r r' : Driver) (past : List Act) (until : Option ℕ) (at : ℕ) (list : Listed) (stop : Bool) → Course b n start old r past → Did old.told new.told old.held new.held (acts.Turn until at list stop) → May (plain_relay b) n past (acts.Turn until at list stop) → Stands b n (acts.Turn until at list stop ∷ past) r'.session → r'.made ≡ r.made + 1 → r'.blame ≡ r.blame → old.faults ≤ new.faults → TurnCounts old.waits new.waits old.stops new.stops old.clock new.clock at stop → Onward b n start new r'
-turned_on b n start old new r r' past until at list stop on did may stands em er faults counts =
+pub turned_on : (c : Config) (n : ℕ) (start old new : Seen) (r r' : Driver) (past : List Act) (until : Option ℕ) (at : ℕ) (list : Listed) (stop : Bool) → Course c n start old r past → Did old.told new.told old.held new.held (acts.Turn until at list stop) → turns past < n → Rest c past → until ≡ until_of c past → Stands c n (acts.Turn until at list stop ∷ past) 0 r'.session → r'.made ≡ r.made + 1 → r'.fault ≡ r.fault → old.faults ≤ new.faults → TurnCounts old.waits new.waits old.stops new.stops old.clock new.clock at stop → Onward c n start new r'
+turned_on c n start old new r r' past until at list stop on did left rests is_until stands em er faults counts =
     record {
       past = acts.Turn until at list stop ∷ past;
       course = record {
-        legal = (may, on.legal);
+        runnable = on.runnable;
+        legal = ((undumped_owes c past on.runnable.undumped, record { turns_left = left; rests = rests; is_until = is_until }), on.legal);
         stands = stands;
-        turned = ap (λ k. k + 1) on.turned ∙ sym em;
+        turned = next_turn (turns past) r.made r'.made on.turned em;
         pairs = on.pairs;
         own = on.own;
         told = did.told ∙ (ap (option_map (with_act (acts.Turn until at list stop))) on.told ∙ told_act (acts.Turn until at list stop) past on.pairs start.told);
         holds = λ p. did.held p ∙ on.holds p;
         later = omega (arith, on.later, faults);
-        blame = er ∙ on.blame;
+        fault = ap told_fault er ∙ on.fault;
         blamed = λ h. risen_kept start.faults old.faults new.faults faults (on.blamed h);
         waited = rw (em, counts.waits_is) (omega (arith, on.waited));
         later_stops = omega (arith, on.later_stops, counts.stops_is.later);
@@ -188,9 +221,10 @@ told_nothing None = refl
 told_nothing (Some h) = ap (λ xs. Some (record { acts = h.acts; asked = xs })) (sym (nil_right h.asked))
 
 -- a run that has just begun
-pub begun : (b n : ℕ) (start : Seen) (r : Driver) → Stands b n [] r.session → r.made ≡ 0 → r.blame ≡ None → ((p : Place) → start.held p ≡ holds.Free) → Course b n start start r []
-begun b n start r stands em er free =
+pub begun : (c : Config) (n : ℕ) (start : Seen) (r : Driver) → Runnable c → Stands c n [] 0 r.session → r.made ≡ 0 → r.fault ≡ None → ((p : Place) → start.held p ≡ holds.Free) → Course c n start start r []
+begun c n start r runnable stands em er free =
     record {
+      runnable = runnable;
       legal = tt;
       stands = stands;
       turned = sym em;
@@ -199,26 +233,18 @@ begun b n start r stands em er free =
       told = told_nothing start.told;
       holds = free;
       later = omega arith;
-      blame = er;
+      fault = ap told_fault er;
       blamed = λ h. cc;
       waited = rw em (omega arith);
       later_stops = omega arith;
       stopped = λ h. cc;
     }
 
-pub moved : (now now' : Seen) (r r' : Driver) → Somewhere now r → Keeps now now' r r' → Somewhere now' r'
-moved now now' r r' at k = let o = k at.b at.n at.start at.past at.course in record { b = at.b; n = at.n; start = at.start; past = o.past; course = o.course }
-
-pub moved_at : (n : ℕ) (now now' : Seen) (r r' : Driver) → SomewhereAt n now r → Turns n now now' r r' → SomewhereAt n now' r'
-moved_at n now now' r r' at k = let o = k at.b at.start at.past at.course in record { b = at.b; start = at.start; past = o.past; course = o.course }
-
-pub somewhere : (n : ℕ) (now : Seen) (r : Driver) → SomewhereAt n now r → Somewhere now r
-somewhere n now r at = record { b = at.b; n = n; start = at.start; past = at.past; course = at.course }
-
 -- the session was cut, and nothing else happened
-pub recut : (b n : ℕ) (start now : Seen) (r r' : Driver) (past : List Act) → Course b n start now r past → Stands b n past r'.session → r'.made ≡ r.made → r'.blame ≡ r.blame → Course b n start now r' past
-recut b n start now r r' past on stands em er =
+pub recut : (c : Config) (n : ℕ) (start now : Seen) (r r' : Driver) (past : List Act) → Course c n start now r past → Stands c n past 0 r'.session → r'.made ≡ r.made → r'.fault ≡ r.fault → Course c n start now r' past
+recut c n start now r r' past on stands em er =
     record {
+      runnable = on.runnable;
       legal = on.legal;
       stands = stands;
       turned = on.turned ∙ sym em;
@@ -227,16 +253,25 @@ recut b n start now r r' past on stands em er =
       told = on.told;
       holds = on.holds;
       later = on.later;
-      blame = er ∙ on.blame;
+      fault = ap told_fault er ∙ on.fault;
       blamed = on.blamed;
       waited = rw em on.waited;
       later_stops = on.later_stops;
       stopped = on.stopped;
     }
 
-pub was_live : (x y : Bool) → (x ≡ false → y ≡ false) → y ≡ true → x ≡ true
-was_live true y f e = refl
-was_live false y f e = let k : y ≡ false = f refl in cc
+pub anywhere : (c : Config) (n : ℕ) (now : Seen) (r : Driver) → SomewhereFor c n now r → Somewhere now r
+anywhere c n now r at = record { c = c; n = n; start = at.start; past = at.past; course = at.course }
+
+pub kept_for : (c : Config) (n : ℕ) (now now' : Seen) (r r' : Driver) → SomewhereFor c n now r → KeepsFor c now now' r r' → SomewhereFor c n now' r'
+kept_for c n now now' r r' at k = let o = k n at.start at.past at.course in record { start = at.start; past = o.past; course = o.course }
+
+pub turned_for : (c : Config) (n : ℕ) (now now' : Seen) (r r' : Driver) → SomewhereFor c n now r → TurnsFor c n now now' r r' → SomewhereFor c n now' r'
+turned_for c n now now' r r' at k = let o = k at.start at.past at.course in record { start = at.start; past = o.past; course = o.course }
+
+pub was_going : (x y : Bool) → (x ≡ true → y ≡ true) → y ≡ false → x ≡ false
+was_going true y f e = let k : y ≡ true = f refl in cc
+was_going false y f e = refl
 
 pub take_next : {A : Type 0} (xs : List A) (i : ℕ) (x : A) → slice_get xs i ≡ Some x → take (i + 1) xs ≡ take i xs ++ x ∷ []
 take_next xs i x e = take_more xs i x (slice_get_within xs i x e) ∙ ap (λ y. take i xs ++ y ∷ []) (get_or_from_slice_get xs i x x e)
@@ -245,3 +280,7 @@ take_next xs i x e = take_more xs i x (slice_get_within xs i x e) ∙ ap (λ y. 
 pub tells_on : {A B : Type 0} (f : A → B) (o : Option A) (n : Option B) → n ≡ option_map f o → is_some n ≡ is_some o
 tells_on f None n e = rw e refl
 tells_on f (Some h) n e = rw e refl
+
+-- the first fault, after a fault at a place of the session
+pub faulted_on : (c : Config) (past : List Act) (o o' : Option whole.Outcome) (q : Place) (half : Half) (t : Bool) → o ≡ first_fault c past 0 → o' ≡ or_else o (Some (whole.Faulted q half)) → t ≡ true → o' ≡ or_else (first_fault c past 0) (only_if t (whole.Faulted q half))
+faulted_on c past o o' q half t e f g = rw g (rw (sym e) f)

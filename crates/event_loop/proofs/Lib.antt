@@ -1,3 +1,2 @@
 pub mod Ends
 pub mod Going
-pub mod Wholly

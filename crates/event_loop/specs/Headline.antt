@@ -34,6 +34,8 @@ is_failure outcome = false
 abbrev pub is_relayed : Outcome → Bool
 is_relayed (outcomes.Ended why) = true
 is_relayed (outcomes.OpenFailed side attempts) = true
+is_relayed (outcomes.ListenFailed attempts) = true
+is_relayed outcomes.AcceptFailed = true
 is_relayed (outcomes.Faulted place op) = true
 is_relayed (outcomes.Stopped turns) = true
 is_relayed outcomes.Memory = true

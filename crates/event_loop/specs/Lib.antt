@@ -1,5 +1,6 @@
+pub mod Answers
+pub mod Commands
 pub mod Courses
 pub mod Headline
-pub mod Plain
 pub mod Seen
 pub mod Singles

@@ -2,7 +2,11 @@
 // the answer back, until the session is done.
 #![tactic(auto)]
 
+mod addresses;
 mod drivers;
+mod faults;
+mod outcomes;
 mod relays;
+mod turns;
 
 pub use relays::relay;

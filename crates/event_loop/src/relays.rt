@@ -1,17 +1,16 @@
 // The relay of a whole command over a world.
-ghost use Rattle.std.specs.Prelude.{◌≡◌, ℕ, ◌<◌, ◌≤◌, ◌^◌, [], Some, true, is_some, vec_len, IfOk};
+ghost use Rattle.std.specs.Prelude.{◌≡◌, ℕ, ◌<◌, [], Some, true, is_some, vec_len, IfOk};
 ghost use Rattle.relay_model.specs.declared.places.Place.{Place as Spot};
 ghost use Rattle.relay_model.specs.Holding.{Free};
 ghost use Rattle.relay_model.specs.Journals.{History};
-ghost use Rattle.relay_model.specs.PlainRelay.{plain_relay};
 ghost use Rattle.event_loop.specs.Seen.{Seen};
+ghost use Rattle.event_loop.specs.Commands.{Runnable};
 ghost use Rattle.event_loop.specs.Courses.{Risen, Course};
 ghost use Rattle.event_loop.specs.Headline.{Headline, StopCause, is_failure, is_relayed};
-ghost use Rattle.event_loop.specs.Plain.{PlainHeadline};
 
 use crate::drivers::Driver;
 use exit_status::Outcome;
-use plain_laws::{bytes_agree, holdings_agree, outcomes_agree, plain_is_legal, plain_rests};
+use relay_core::{cause_is_told, failure_is_blamed, held_is_own, stop_is_told};
 use relay_model::{Config, NoMemory};
 use std::alloc::Global;
 use world_trait::World;
@@ -19,8 +18,7 @@ use world_trait::World;
 /// Relays as the command asks, over any world, with at most `turns` waits, and closes whatever it opened.
 /// `Memory` is answered where memory was wanting, and may be answered at any time.
 pub fn relay<W: World>(alloc: Global, world: &mut W, config: &Config, turns: u64) -> Outcome
-    requires plain { config.now ≡ plain_relay config.now.block }
-    requires block { 1 ≤ config.now.block }
+    requires runnable { Runnable config.now }
     requires free { (p : Spot) → W.held world.old p ≡ Free }
     ensures free { (p : Spot) → W.held world.new p ≡ Free }
     ensures headline { (before : History) → W.told world.old ≡ Some before → Headline config.now turns before (W.told world.new) result }
@@ -29,30 +27,13 @@ pub fn relay<W: World>(alloc: Global, world: &mut W, config: &Config, turns: u64
     ensures failed { is_failure result ≡ true → Risen (W.faults world.old) (W.faults world.new) }
     ensures stopped { StopCause turns (W.waits world.old) (W.waits world.new) (W.stops world.old) (W.stops world.new) result }
 {
-    let outcome = relay_plainly(alloc, world, config, turns);
-    plain_is_legal();
-    bytes_agree();
-    holdings_agree();
-    plain_rests();
-    outcomes_agree();
-    outcome
-}
-
-/// The same, by the narrow definitions.
-fn relay_plainly<W: World>(alloc: Global, world: &mut W, config: &Config, turns: u64) -> Outcome
-    requires plain { config.now ≡ plain_relay config.now.block }
-    requires block { 1 ≤ config.now.block }
-    requires free { (p : Spot) → W.held world.old p ≡ Free }
-    ensures free { (p : Spot) → W.held world.new p ≡ Free }
-    ensures headline { (before : History) → W.told world.old ≡ Some before → PlainHeadline config.now turns before (W.told world.new) result }
-    ensures tells { is_some (W.told world.new) ≡ is_some (W.told world.old) }
-    ensures answers { is_relayed result ≡ true }
-    ensures failed { is_failure result ≡ true → Risen (W.faults world.old) (W.faults world.new) }
-    ensures stopped { StopCause turns (W.waits world.old) (W.waits world.new) (W.stops world.old) (W.stops world.new) result }
-{
     match begin(alloc, config) {
         Ok((mut driver, mut scratch)) => {
             let why = driver.run(world, config, &mut scratch, turns);
+            cause_is_told();
+            failure_is_blamed();
+            held_is_own();
+            stop_is_told();
             driver.outcome(why)
         }
         Err(NoMemory) => Outcome::Memory,
@@ -61,9 +42,8 @@ fn relay_plainly<W: World>(alloc: Global, world: &mut W, config: &Config, turns:
 
 /// Takes all the memory of a run.
 fn begin(alloc: Global, config: &Config) -> Result<(Driver, Vec<u8>), NoMemory>
-    requires plain { config.now ≡ plain_relay config.now.block }
-    requires block { 1 ≤ config.now.block }
-    ensures { IfOk result (λ pair. (0 < vec_len pair.1) × (pair.0.made ≡ 0) × ((n : ℕ) (start : Seen) → ((p : Spot) → start.held p ≡ Free) → Course config.now.block n start start pair.0 [])) }
+    requires { Runnable config.now }
+    ensures { IfOk result (λ pair. (0 < vec_len pair.1) × (pair.0.made ≡ 0) × ((n : ℕ) (start : Seen) → ((p : Spot) → start.held p ≡ Free) → Course config.now n start start pair.0 [])) }
 {
     let scratch = vec![in alloc; 0; config.block as usize]?;
     let driver = Driver::new(alloc, config)?;

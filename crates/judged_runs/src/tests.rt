@@ -1,9 +1,9 @@
 // What the plain relay leaves in a scripted world is legal as the auditor reads the definitions, and no longer is
 // where an act is changed.
-ghost use Rattle.std.specs.Prelude.{◌≡◌, ◌≤◌, IfOk};
+ghost use Rattle.std.specs.Prelude.{◌≡◌, IfOk};
 ghost use Rattle.relay_model.specs.declared.places.Place.{Place as Spot};
 ghost use Rattle.relay_model.specs.Holding.{Free};
-ghost use Rattle.relay_model.specs.PlainRelay.{plain_relay};
+ghost use Rattle.event_loop.specs.Commands.{Runnable};
 ghost use Rattle.world_trait.specs.Reads.{HasBytes};
 ghost use Rattle.world_trait.specs.Writes.{HasCount};
 
@@ -32,10 +32,12 @@ const RIGHT: Place = Place {
 };
 
 /// A command that relays standard input to standard output in blocks of 4 bytes.
+#[tactic(auto, using(crate::proofs::Plainly::small_blocks_run))]
 fn small_blocks(alloc: Global) -> Result<Config, NoMemory>
-    ensures { IfOk result (λ config. (config ≡ plain_relay config.block) × (1 ≤ config.block)) }
+    ensures { IfOk result (λ config. Runnable config) }
 {
-    Config::plain(alloc, 4)
+    let config = Config::plain(alloc, 4)?;
+    Ok(config)
 }
 
 /// A world in which nothing is held.

@@ -1,5 +1,5 @@
 -- A command that can be run is the plain relay with its block size.
-use Rattle.std.proofs.Common.{◌≡◌, ℕ, ◌==◌, Bool, true, false, not, ◌&&◌, List, [], ◌∷◌, Option, Some, None, is_none, refl, arith}
+use Rattle.std.proofs.Common.{◌≡◌, ℕ, ◌==◌, Bool, true, false, not, ◌&&◌, List, [], ◌∷◌, Option, Some, None, is_none, refl, sym, subst, arith}
 use Rattle.std.proofs.lemmas.Grind.{common_steps}
 use Rattle.relay_model.specs.declared.commands.Config.{Config}
 use Rattle.relay_model.specs.declared.commands.Options.{Options}
@@ -15,6 +15,8 @@ use Rattle.relay_model.specs.declared.commands.Dump.{Dump}
 use Rattle.relay_model.specs.declared.commands.Dump.TheVariants as dumps
 use Rattle.relay_model.specs.declared.commands.Ways.{Ways}
 use Rattle.relay_model.specs.declared.commands.Ways.TheVariants as ways
+use Rattle.relay_model.specs.Configs.{Fit, has_fork}
+use Rattle.event_loop.specs.Commands.{Runnable}
 use Rattle.relay_model.specs.PlainRelay.{plain_relay, default_options, no_flags, standard}
 use Rattle.socat_top.specs.Built.{changes_nothing, is_empty, no_flag, relays_as_is, opens_once, serves_anyone, connects_usually, has_defaults, is_input, is_output, reads_input, writes_output, goes_right, dumps_nothing, has_usual_times, is_built}
 
@@ -231,3 +233,10 @@ built_is_plain c h =
       left = from_input c.left (second (goes_right c.ways && dumps_nothing c.dump && not c.sloppy && has_usual_times c) (reads_input c.left) a) i;
       right = to_output c.right (second (goes_right c.ways && dumps_nothing c.dump && not c.sloppy && has_usual_times c && reads_input c.left) (writes_output c.right) h) i;
     }
+
+-- and one that the loop can run
+pub plain_runs : (c : Config) → Fit c → c ≡ plain_relay c.block → Runnable c
+plain_runs c fit e =
+    let Alone : Config → Type 0 = λ x. has_fork x ≡ false in
+    let Undumped : Config → Type 0 = λ x. x.dump ≡ dumps.Off in
+    record { fit = fit; alone = subst Alone (sym e) refl; undumped = subst Undumped (sym e) refl }

@@ -1,0 +1,149 @@
+// The turns of a session that is driven: up to a sleep, the sleep, and so on until it is done.
+ghost use Rattle.std.specs.Prelude.{◌≡◌, ℕ, ◌+◌, ◌<◌, ◌≤◌, ◌∷◌, [], List, Option, length, true, false};
+ghost use Rattle.relay_model.specs.declared.acts.Act.{Act};
+ghost use Rattle.relay_model.specs.declared.acts.Act.TheVariants as acts;
+ghost use Rattle.relay_model.specs.declared.commands.Config.{Config as Command};
+ghost use Rattle.relay_model.specs.Readiness.{copied_list};
+ghost use Rattle.relay_model.specs.May.{Legal};
+ghost use Rattle.relay_core.specs.declared.wishes.Wish.TheVariants as wishes;
+ghost use Rattle.relay_core.specs.Sessions.{Stands, Hears, wish_of, has_ended};
+ghost use Rattle.session_direction.specs.Directions.{listed};
+ghost use Rattle.event_loop.specs.Seen.{Seen, seen};
+ghost use Rattle.event_loop.specs.Answers.{AnswerTells};
+ghost use Rattle.event_loop.specs.declared.drivers.Pause.TheVariants as pauses;
+
+use crate::drivers::{Driver, Pause};
+use crate::outcomes::outcome_for;
+use exit_status::Outcome;
+use relay_core::{Answer, Session};
+use relay_model::{Config, ReadyList, Why};
+use world_trait::{Turned, World};
+
+impl Driver {
+    ghost use Rattle.event_loop.specs.Courses.{Course, SomewhereFor, KeepsFor, TurnsFor, PauseIs, IsPause, rank};
+
+    /// Makes the calls that are wished for, up to a sleep or the end.
+    fn drain<W: World>(&mut self, world: &mut W, config: &Config, scratch: &mut [u8]) -> Pause
+        requires scratch { 0 < length scratch.old }
+        requires course { (n : ℕ) × SomewhereFor config.now n (seen W.told W.held W.faults W.waits W.stops W.clock world.old) self.old }
+        ensures course { KeepsFor config.now (seen W.told W.held W.faults W.waits W.stops W.clock world.old) (seen W.told W.held W.faults W.waits W.stops W.clock world.new) self.old self.new }
+        ensures pause { PauseIs self.new result }
+        ensures paused { IsPause self.new result }
+        ensures over { has_ended self.old.session ≡ true → has_ended self.new.session ≡ true }
+        ensures made { self.new.made ≡ self.old.made }
+    {
+        loop {
+            if let Some(pause) = self.step(world, config, scratch) {
+                return pause;
+            }
+        }
+    }
+
+    /// Sleeps as it is wished for, and hears what the turn names.
+    fn wait<W: World>(&mut self, world: &mut W, until: Option<u64>, turns: u64)
+        requires few { self.old.made < turns }
+        requires pause { PauseIs self.old (pauses.Sleep until) }
+        requires paused { IsPause self.old (pauses.Sleep until) }
+        ensures course { (c : Command) → TurnsFor c turns (seen W.told W.held W.faults W.waits W.stops W.clock world.old) (seen W.told W.held W.faults W.waits W.stops W.clock world.new) self.old self.new }
+        ensures made { self.new.made ≤ self.old.made + 1 }
+        ensures goes { has_ended self.new.session ≡ false → self.new.made ≡ self.old.made + 1 }
+    {
+        match world.wait(until, &mut self.ready) {
+            Turned::Turned { at, stop } => {
+                self.made += 1;
+                hear_turn(&mut self.session, at, &self.ready, stop);
+            }
+            Turned::Memory => self.session.cut(Why::Memory),
+        }
+    }
+
+    /// Relays until the session is done, with at most so many turns.
+    pub fn run<W: World>(
+        &mut self,
+        world: &mut W,
+        config: &Config,
+        scratch: &mut [u8],
+        turns: u64,
+    ) -> Why
+        requires scratch { 0 < length scratch.old }
+        requires course { SomewhereFor config.now turns (seen W.told W.held W.faults W.waits W.stops W.clock world.old) self.old }
+        requires first { self.old.made ≡ 0 }
+        ensures course { TurnsFor config.now turns (seen W.told W.held W.faults W.waits W.stops W.clock world.old) (seen W.told W.held W.faults W.waits W.stops W.clock world.new) self.old self.new }
+        ensures done { IsPause self.new (pauses.Done result) }
+    {
+        for _turn in 0..turns {
+            match self.drain(world, config, scratch) {
+                Pause::Done(why) => return why,
+                Pause::Sleep(until) => self.wait(world, until, turns),
+            }
+        }
+        self.wind_up(world, config, scratch, turns)
+    }
+
+    /// Ends the relay where no turn is left.
+    fn wind_up<W: World>(
+        &mut self,
+        world: &mut W,
+        config: &Config,
+        scratch: &mut [u8],
+        turns: u64,
+    ) -> Why
+        requires scratch { 0 < length scratch.old }
+        requires course { SomewhereFor config.now turns (seen W.told W.held W.faults W.waits W.stops W.clock world.old) self.old }
+        requires used_up { has_ended self.old.session ≡ false → self.old.made ≡ turns }
+        ensures course { TurnsFor config.now turns (seen W.told W.held W.faults W.waits W.stops W.clock world.old) (seen W.told W.held W.faults W.waits W.stops W.clock world.new) self.old self.new }
+        ensures done { IsPause self.new (pauses.Done result) }
+    {
+        match self.drain(world, config, scratch) {
+            Pause::Done(why) => why,
+            Pause::Sleep(_) => {
+                self.session.cut(Why::Stopped);
+                self.close_all(world, config, scratch)
+            }
+        }
+    }
+
+    /// Closes what is held after the session has ended.
+    fn close_all<W: World>(&mut self, world: &mut W, config: &Config, scratch: &mut [u8]) -> Why
+        requires scratch { 0 < length scratch.old }
+        requires course { (n : ℕ) × SomewhereFor config.now n (seen W.told W.held W.faults W.waits W.stops W.clock world.old) self.old }
+        requires over { has_ended self.old.session ≡ true }
+        ensures course { KeepsFor config.now (seen W.told W.held W.faults W.waits W.stops W.clock world.old) (seen W.told W.held W.faults W.waits W.stops W.clock world.new) self.old self.new }
+        ensures done { IsPause self.new (pauses.Done result) }
+    {
+        match self.drain(world, config, scratch) {
+            Pause::Done(why) => why,
+            Pause::Sleep(_) => unreachable!(),
+        }
+    }
+
+    /// How the run ended, once the session is done.
+    pub fn outcome(&self, why: Why) -> Outcome
+        ensures { (c : Command) (n : ℕ) (past : List Act) → Stands c n past 0 self.now.session → Legal c n past → AnswerTells c past why self.now.fault self.now.made result }
+    {
+        let listening = self.session.failed_listening();
+        let opening = self.session.failed_opening();
+        outcome_for(why, listening, opening, self.fault, self.made)
+    }
+}
+
+/// Hears a turn: its moment, the halves that it names, and whether it says stop.
+fn hear_turn(session: &mut Session, at: u64, ready: &ReadyList, stop: bool)
+    requires { (until : Option ℕ) × (wish_of session.old ≡ wishes.Sleep until) }
+    ensures { (c : Command) (n : ℕ) (past : List Act) (until : Option ℕ) → wish_of session.old ≡ wishes.Sleep until → Stands c n past 0 session.old → Stands c n (acts.Turn until at (copied_list ready.now) stop ∷ past) 0 session.new }
+{
+    session.heard(at, Answer::Woken);
+    name_all(session, ready);
+    if stop {
+        session.cut(Why::Stopped);
+    }
+}
+
+/// Tells the session each half that the turn names.
+fn name_all(session: &mut Session, ready: &ReadyList)
+    ensures { (c : Command) (n : ℕ) (past : List Act) (until : Option ℕ) (at : ℕ) → Hears c n (acts.Turn until at (listed []) false ∷ past) 0 session.old → Hears c n (acts.Turn until at (listed ready.now.entries) false ∷ past) 0 session.new }
+{
+    for i in 0..ready.len() {
+        session.ready(ready.get(i));
+    }
+}

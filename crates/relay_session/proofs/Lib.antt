@@ -1,4 +1,0 @@
-pub mod Courses
-pub mod Lives
-pub mod Named
-pub mod Steps

@@ -1,7 +1,0 @@
-use Rattle.std.proofs.Common.{◌∙◌, arith}
-use Rattle.relay_model.specs.declared.places.Way.TheVariants.{LeftToRight}
-use Rattle.relay_session.proofs.Steps.{step-read_fault}
-use Rattle.relay_session.proofs.states.State.read_failed.Goals as goal
-
-pub returns-in-LeftToRight : goal.returns-in-LeftToRight
-returns-in-LeftToRight c = rw c.in-LeftToRight.is (λ b n past f a. step-read_fault b n past c.args.self.now c.read_failed.new.self f a.5 (c.read_failed.ensures.goes b past LeftToRight f.ground.to_right) (c.read_failed.ensures.fewer (f.ground.to_right.asked_in_is ∙ a.4)) (a.0, omega (arith, a.2, a.3)))
