@@ -231,6 +231,7 @@ fn relays_nothing(rt: HostRuntime) -> Result<(), Fail> {
     Ok(())
 }
 
+// The input may be read to its end while bytes still wait; the end is passed on right after the last of them.
 #[test]
 fn writes_byte_by_byte(rt: HostRuntime) -> Result<(), Fail> {
     let alloc = rt.alloc();
@@ -238,9 +239,9 @@ fn writes_byte_by_byte(rt: HostRuntime) -> Result<(), Fail> {
     assert_eq!(rt; ran.outcome, Outcome::Ended(EndWhy::Finished));
     assert_eq!(rt; ran.taken.as_slice(), b"abcdefgh".as_slice());
     assert!(rt;
-        ran.acts
-            .as_slice()
-            .ends_with(b"\nend left\nshut right\nfinished left\nfinished right\n")
+        ran.acts.as_slice().ends_with(
+            b"\nwrote right\nh\nshut right\nfinished left\nfinished right\n"
+        )
     );
     Ok(())
 }
