@@ -16,7 +16,7 @@ use std::alloc::Global;
 use world_trait::World;
 
 /// Relays as the command asks, over any world, with at most `turns` waits, and closes whatever it opened.
-/// `Memory` is answered where memory was wanting, and may be answered at any time.
+/// `Memory` may be answered at any time; no clause says that memory was wanting then.
 pub fn relay<W: World>(alloc: Global, world: &mut W, config: &Config, turns: u64) -> Outcome
     requires runnable { Runnable config.now }
     requires free { (p : Spot) → W.held world.old p ≡ Free }
@@ -40,7 +40,7 @@ pub fn relay<W: World>(alloc: Global, world: &mut W, config: &Config, turns: u64
     }
 }
 
-/// Takes all the memory of a run.
+/// Takes all the memory of the loop and its session; the world takes its own.
 fn begin(alloc: Global, config: &Config) -> Result<(Driver, Vec<u8>), NoMemory>
     requires { Runnable config.now }
     ensures { IfOk result (λ pair. (0 < vec_len pair.1) × (pair.0.made ≡ 0) × ((n : ℕ) (start : Seen) → ((p : Spot) → start.held p ≡ Free) → Course config.now n start start pair.0 [])) }
