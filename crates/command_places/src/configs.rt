@@ -211,7 +211,7 @@ pub fn places(config: &Config, session: u32) -> PlaceList
     list
 }
 
-/// The single address that a place stands for; a door has that of its place.
+/// The half of an address for a part of its side: one single address is for each part, and of two the first is read.
 fn single_for(address: &Address, part: Part) -> &Single
     ensures { result.now ≡ single_for address.now part }
 {
@@ -224,7 +224,8 @@ fn single_for(address: &Address, part: Part) -> &Single
     }
 }
 
-fn single(config: &Config, place: Place) -> &Single
+/// The single address that a place stands for; a door has that of its place.
+pub fn single(config: &Config, place: Place) -> &Single
     ensures { result.now ≡ single config.now place }
 {
     single_for(address(config, place.side), place.part)

@@ -30,7 +30,7 @@ use Rattle.relay_core.specs.Sessions.{Stands, Heard, HeardBy, wish_of, waiting_o
 use Rattle.relay_core.specs.Blames.{is_blamed}
 use Rattle.relay_core.specs.Told.{stop_turned}
 use Rattle.event_loop.specs.Seen.{Seen}
-use Rattle.event_loop.specs.Singles.{single_of}
+use Rattle.relay_model.specs.Configs.{is_of, single}
 use Rattle.event_loop.specs.Commands.{Runnable}
 use Rattle.event_loop.specs.Answers.{told_fault}
 use Rattle.event_loop.specs.declared.drivers.Driver.{Driver}
@@ -46,9 +46,9 @@ told_asking act asking past pairs None = refl
 told_asking act asking past pairs (Some h) =
     ap (λ xs. Some (record { acts = act ∷ (past ++ h.acts); asked = xs })) (append_assoc h.asked pairs (asking ∷ []))
 
-own_more : (c : Config) (pairs : List Asking) (asking : Asking) → OnlyOwn c pairs → asking.1 ≡ single_of c asking.0 → OnlyOwn c (pairs ++ asking ∷ [])
-own_more c [] asking own e = (e, tt)
-own_more c (pair ∷ pairs) asking own e = (own.0, own_more c pairs asking own.1 e)
+own_more : (c : Config) (pairs : List Asking) (asking : Asking) → OnlyOwn c pairs → is_of c 0 asking.0 ≡ true → asking.1 ≡ single c asking.0 → OnlyOwn c (pairs ++ asking ∷ [])
+own_more c [] asking own of e = (of, e, tt)
+own_more c (pair ∷ pairs) asking own of e = (own.0, own.1, own_more c pairs asking own.2 of e)
 
 -- without dumps none is owed
 undumped_owes : (c : Config) (past : List Act) → c.dump ≡ dumps.Off → owed c past ≡ None
@@ -152,14 +152,14 @@ went_wrong c n start old new r r' past act on did heard et es ef em rose waits s
     ef (λ h. risen_later start.faults old.faults new.faults on.later (rose.rose refl)) rose.later waits stops
 
 -- an opening or a listening asks for its own address
-pub asked : (c : Config) (n : ℕ) (start old new : Seen) (r r' : Driver) (past : List Act) (act : Act) (p : Place) (single : Single) → single ≡ single_of c p → Course c n start old r past → DidAsking (p, single) old.told new.told old.held new.held act → Heard c n past 0 act r.session r'.session → turns (act ∷ past) ≡ turns past → stop_turned (act ∷ past) ≡ stop_turned past → first_fault c (act ∷ past) 0 ≡ first_fault c past 0 → is_blamed (act ∷ past) ≡ is_blamed past → r'.made ≡ r.made → r'.fault ≡ r.fault → old.faults ≤ new.faults → new.waits ≡ old.waits → old.stops ≤ new.stops → Onward c n start new r'
-asked c n start old new r r' past act p single own on did heard et es ef eb em er faults waits stops =
-    went_on c n start old new r r' past act (on.pairs ++ (p, single) ∷ []) on (did.told ∙ (ap (option_map (with_asking act (p, single))) on.told ∙ told_asking act (p, single) past on.pairs start.told)) (own_more c on.pairs (p, single) on.own own) did.held heard et es em
+pub asked : (c : Config) (n : ℕ) (start old new : Seen) (r r' : Driver) (past : List Act) (act : Act) (p : Place) (found : Single) → is_of c 0 p ≡ true → found ≡ single c p → Course c n start old r past → DidAsking (p, found) old.told new.told old.held new.held act → Heard c n past 0 act r.session r'.session → turns (act ∷ past) ≡ turns past → stop_turned (act ∷ past) ≡ stop_turned past → first_fault c (act ∷ past) 0 ≡ first_fault c past 0 → is_blamed (act ∷ past) ≡ is_blamed past → r'.made ≡ r.made → r'.fault ≡ r.fault → old.faults ≤ new.faults → new.waits ≡ old.waits → old.stops ≤ new.stops → Onward c n start new r'
+asked c n start old new r r' past act p found of own on did heard et es ef eb em er faults waits stops =
+    went_on c n start old new r r' past act (on.pairs ++ (p, found) ∷ []) on (did.told ∙ (ap (option_map (with_asking act (p, found))) on.told ∙ told_asking act (p, found) past on.pairs start.told)) (own_more c on.pairs (p, found) on.own of own) did.held heard et es em
     (ap told_fault er ∙ (on.fault ∙ sym ef)) (rw eb (λ h. risen_kept start.faults old.faults new.faults faults (on.blamed h))) faults waits stops
 
-pub asked_in_vain : (c : Config) (n : ℕ) (start old new : Seen) (r r' : Driver) (past : List Act) (act : Act) (p : Place) (single : Single) → single ≡ single_of c p → Course c n start old r past → DidAsking (p, single) old.told new.told old.held new.held act → Heard c n past 0 act r.session r'.session → turns (act ∷ past) ≡ turns past → stop_turned (act ∷ past) ≡ stop_turned past → first_fault c (act ∷ past) 0 ≡ first_fault c past 0 → r'.made ≡ r.made → r'.fault ≡ r.fault → Rose old.faults new.faults true → new.waits ≡ old.waits → old.stops ≤ new.stops → Onward c n start new r'
-asked_in_vain c n start old new r r' past act p single own on did heard et es ef em er rose waits stops =
-    went_on c n start old new r r' past act (on.pairs ++ (p, single) ∷ []) on (did.told ∙ (ap (option_map (with_asking act (p, single))) on.told ∙ told_asking act (p, single) past on.pairs start.told)) (own_more c on.pairs (p, single) on.own own) did.held heard et es em
+pub asked_in_vain : (c : Config) (n : ℕ) (start old new : Seen) (r r' : Driver) (past : List Act) (act : Act) (p : Place) (found : Single) → is_of c 0 p ≡ true → found ≡ single c p → Course c n start old r past → DidAsking (p, found) old.told new.told old.held new.held act → Heard c n past 0 act r.session r'.session → turns (act ∷ past) ≡ turns past → stop_turned (act ∷ past) ≡ stop_turned past → first_fault c (act ∷ past) 0 ≡ first_fault c past 0 → r'.made ≡ r.made → r'.fault ≡ r.fault → Rose old.faults new.faults true → new.waits ≡ old.waits → old.stops ≤ new.stops → Onward c n start new r'
+asked_in_vain c n start old new r r' past act p found of own on did heard et es ef em er rose waits stops =
+    went_on c n start old new r r' past act (on.pairs ++ (p, found) ∷ []) on (did.told ∙ (ap (option_map (with_asking act (p, found))) on.told ∙ told_asking act (p, found) past on.pairs start.told)) (own_more c on.pairs (p, found) on.own of own) did.held heard et es em
     (ap told_fault er ∙ (on.fault ∙ sym ef)) (λ h. risen_later start.faults old.faults new.faults on.later (rose.rose refl)) rose.later waits stops
 
 -- nothing was done, and the session stands for the same acts

@@ -16,7 +16,7 @@ use Rattle.relay_core.specs.Blames.{is_blamed}
 use Rattle.relay_core.specs.Told.{stop_turned}
 use Rattle.relay_core.specs.declared.wishes.Wish.TheVariants as wishes
 use Rattle.event_loop.specs.Seen.{Seen}
-use Rattle.event_loop.specs.Singles.{single_of}
+use Rattle.relay_model.specs.Configs.{is_of, single}
 use Rattle.event_loop.specs.Commands.{Runnable}
 use Rattle.event_loop.specs.Answers.{told_fault}
 use Rattle.event_loop.specs.declared.drivers.Driver.{Driver}
@@ -27,10 +27,10 @@ use Rattle.event_loop.specs.declared.drivers.Pause.TheVariants.{Sleep, Done}
 abbrev pub extend : List Act → List Asking → History → History
 extend past pairs h = record { acts = past ++ h.acts; asked = h.asked ++ pairs }
 
--- each place that was asked for is asked for with its own address
+-- each pair is a place or door of the command with its address
 abbrev pub OnlyOwn : Config → List Asking → Type 0
 OnlyOwn c [] = Unit {0}
-OnlyOwn c (asking ∷ more) = (asking.1 ≡ single_of c asking.0) × OnlyOwn c more
+OnlyOwn c (asking ∷ more) = (is_of c 0 asking.0 ≡ true) × (asking.1 ≡ single c asking.0) × OnlyOwn c more
 
 -- a count rose, or stands at its last value
 abbrev pub Risen : ℕ → ℕ → Type 0

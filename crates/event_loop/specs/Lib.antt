@@ -3,4 +3,3 @@ pub mod Commands
 pub mod Courses
 pub mod Headline
 pub mod Seen
-pub mod Singles

@@ -6,7 +6,7 @@ ghost use Rattle.relay_model.specs.declared.acts.Act.TheVariants as acts;
 ghost use Rattle.relay_model.specs.declared.commands.Config.{Config as Command};
 ghost use Rattle.relay_model.specs.declared.commands.Dump.TheVariants as dumps;
 ghost use Rattle.relay_model.specs.declared.places.Place.{Place as Spot};
-ghost use Rattle.relay_model.specs.Configs.{is_place_of};
+ghost use Rattle.relay_model.specs.Configs.{is_of, is_place_of};
 ghost use Rattle.relay_model.specs.Holding.{Free, Settling, Open, is_free, is_open};
 ghost use Rattle.relay_model.specs.Readiness.{copied_list};
 ghost use Rattle.relay_model.specs.Rest.{Rest, until_of};
@@ -15,11 +15,10 @@ ghost use Rattle.world_trait.specs.Answers.{NotReaped};
 ghost use Rattle.relay_core.specs.declared.wishes.Wish.TheVariants as wishes;
 ghost use Rattle.relay_core.specs.Sessions.{Stands, wish_of, left_of, has_ended};
 ghost use Rattle.event_loop.specs.Seen.{Seen, seen};
-ghost use Rattle.event_loop.specs.Singles.{single_of};
 ghost use Rattle.event_loop.specs.Commands.{Runnable};
 
-use crate::addresses::single_at;
 use crate::faults::{Fault, first_of};
+use command_places::single;
 use exit_status::{Op, Outcome};
 use relay_core::{Answer, Session, Wish};
 use relay_model::{Config, NoMemory, Place, ReadyList, Shut, Why};
@@ -69,13 +68,14 @@ impl Driver {
     fn open<W: World>(&mut self, world: &mut W, config: &Config, place: Place)
         requires wish { wish_of self.old.session ≡ wishes.Open place }
         requires free { W.held world.old place ≡ Free }
+        requires own { (n : ℕ) (past : List Act) → Stands config.now n past 0 self.old.session → is_of config.now 0 place ≡ true }
         requires going { has_ended self.old.session ≡ false }
         requires course { Somewhere (seen W.told W.held W.faults W.waits W.stops W.clock world.old) self.old }
         ensures course { KeepsFor config.now (seen W.told W.held W.faults W.waits W.stops W.clock world.old) (seen W.told W.held W.faults W.waits W.stops W.clock world.new) self.old self.new }
         ensures fewer { rank self.new < rank self.old }
         ensures made { self.new.made ≡ self.old.made }
     {
-        match world.open_place(place, single_at(config, place), None) {
+        match world.open_place(place, single(config, place), None) {
             OpenAnswer::Opened => self.session.heard(0, Answer::Opened),
             OpenAnswer::Later => self.session.heard(0, Answer::Later),
             OpenAnswer::Failed => self.session.heard(0, Answer::Failed),
@@ -105,13 +105,14 @@ impl Driver {
     fn listen<W: World>(&mut self, world: &mut W, config: &Config, door: Place)
         requires wish { wish_of self.old.session ≡ wishes.Listen door }
         requires free { W.held world.old door ≡ Free }
+        requires own { (n : ℕ) (past : List Act) → Stands config.now n past 0 self.old.session → is_of config.now 0 door ≡ true }
         requires going { has_ended self.old.session ≡ false }
         requires course { Somewhere (seen W.told W.held W.faults W.waits W.stops W.clock world.old) self.old }
         ensures course { KeepsFor config.now (seen W.told W.held W.faults W.waits W.stops W.clock world.old) (seen W.told W.held W.faults W.waits W.stops W.clock world.new) self.old self.new }
         ensures fewer { rank self.new < rank self.old }
         ensures made { self.new.made ≡ self.old.made }
     {
-        match world.listen(door, single_at(config, door)) {
+        match world.listen(door, single(config, door)) {
             ListenAnswer::Listening => self.session.heard(0, Answer::Listening),
             ListenAnswer::Failed => self.session.heard(0, Answer::Failed),
             ListenAnswer::Memory => self.session.cut(Why::Memory),

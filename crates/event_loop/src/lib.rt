@@ -2,7 +2,6 @@
 // the answer back, until the session is done.
 #![tactic(auto)]
 
-mod addresses;
 mod drivers;
 mod faults;
 mod outcomes;

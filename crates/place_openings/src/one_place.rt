@@ -227,7 +227,7 @@ impl Opening {
         self.door = self.door.after(self.is_own_door(place), Stage::Usable);
     }
 
-    /// The place was opened, and isn't settled yet.
+    /// The opening of the place is under way.
     pub fn opened_later(&mut self, place: Place)
         ensures goes { (c : Command) (past : List Act) (p : At) → IsOpening c past p (state_of self.old) → IsOpening c (acts.OpenLater place ∷ past) p (state_of self.new) }
         ensures apart { is_place place (state_of self.old) ≡ false → is_own_door place (state_of self.old) ≡ false → state_of self.new ≡ state_of self.old }

@@ -158,7 +158,7 @@ impl Openings {
         self.take(Step::Opened(place));
     }
 
-    /// It was opened, and isn't settled yet.
+    /// The opening of the place is under way.
     pub fn opened_later(&mut self, place: Place)
         ensures goes { (c : Command) (past : List Act) (s : ℕ) → AreOpenings c past s self.old → AreOpenings c (acts.OpenLater place ∷ past) s self.new }
         ensures fewer_opening { (c : Command) (past : List Act) (s : ℕ) → AreOpenings c past s self.old → first_call c past (places c s) ≡ calls.Open place → steps_in self.new < steps_in self.old }
@@ -249,7 +249,7 @@ impl Openings {
         self.take(Step::Named(entry));
     }
 
-    /// A stop is told with the last turn, or an act comes that is at none of the session's places and doors.
+    /// A law: an act that doesn't touch the openings leaves them, and so does a stop that a turn tells of.
     pub fn unmoved(&self)
         ensures stopped { (c : Command) (past : List Act) (s : ℕ) (until : Option ℕ) (at : ℕ) (ready : Listed) → AreOpenings c (acts.Turn until at ready false ∷ past) s self.now → AreOpenings c (acts.Turn until at ready true ∷ past) s self.now }
         ensures elsewhere { (c : Command) (past : List Act) (s : ℕ) (act : Act) → AreOpenings c past s self.now → touches c s act ≡ false → AreOpenings c (act ∷ past) s self.now }

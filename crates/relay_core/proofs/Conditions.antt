@@ -8,7 +8,7 @@ use Rattle.relay_model.specs.declared.places.Way.TheVariants.{LeftToRight, Right
 use Rattle.relay_model.specs.declared.commands.Config.{Config}
 use Rattle.relay_model.specs.declared.acts.Act.{Act}
 use Rattle.relay_model.specs.Places.{same_place}
-use Rattle.relay_model.specs.Configs.{places, input, output, formed, way_from, way_to, is_place_of}
+use Rattle.relay_model.specs.Configs.{has_fork, places, input, output, formed, way_from, way_to, is_place_of, is_of}
 use Rattle.relay_model.specs.Transfers.{backlog}
 use Rattle.relay_model.specs.Rest.{moves}
 use Rattle.relay_laws.proofs.PlaceLemmas.{same_place_equal}
@@ -24,7 +24,8 @@ use Rattle.relay_core.specs.Lanes.{IsLane, AreLanes, waiting_in, waiting_at, lan
 use Rattle.relay_core.specs.States.{Fields, Wished, Allowed, Stage}
 use Rattle.relay_core.specs.Steps.{waiting_for}
 use Rattle.relay_core.specs.Conditions.{is_course, is_writing, IsAtOwn}
-use Rattle.relay_core.proofs.Own.{AllStand, all_stand}
+use Rattle.relay_core.proofs.Own.{NamesOwn, AllStand, all_stand}
+use Rattle.relay_core.proofs.Held.{call_own}
 
 -- ---- the course
 
@@ -71,11 +72,13 @@ output_own c past p same moving =
     subst (λ q. is_place_of c s q ≡ true) (sym (same_place_equal p (output c s w) same)) h
 
 -- bytes are wished for at places of the session
-pub at_own : (c : Config) (n : ℕ) (past : List Act) (s : ℕ) (wish : Wish) → Wished c n past s wish → IsAtOwn c s wish
-at_own c n past s (wishes.Read p at_most) h = subst (λ x. is_place_of c x p ≡ true) h.own (input_own c past p h.may.asks.is_input h.may.asks.moving)
-at_own c n past s (wishes.Write p) h = subst (λ x. is_place_of c x p ≡ true) h.own (output_own c past p h.may.offers.is_output h.may.offers.moving)
-at_own c n past s (wishes.Send p) h = subst (λ x. is_place_of c x p ≡ true) h.own (output_own c past p h.may.offers.is_output h.may.offers.moving)
-at_own c n past s wish h = tt
+pub at_own : (c : Config) (n : ℕ) (past : List Act) (s : ℕ) (wish : Wish) → has_fork c ≡ false → s ≡ 0 → Wished c n past s wish → IsAtOwn c s wish
+at_own c n past s (wishes.Open p) alone first h = subst (λ k. is_of c k p ≡ true) (sym first) (subst (NamesOwn c 0) h (call_own c past s alone)).0.of
+at_own c n past s (wishes.Listen d) alone first h = subst (λ k. is_of c k d ≡ true) (sym first) (subst (NamesOwn c 0) h (call_own c past s alone)).of
+at_own c n past s (wishes.Read p at_most) alone first h = subst (λ x. is_place_of c x p ≡ true) h.own (input_own c past p h.may.asks.is_input h.may.asks.moving)
+at_own c n past s (wishes.Write p) alone first h = subst (λ x. is_place_of c x p ≡ true) h.own (output_own c past p h.may.offers.is_output h.may.offers.moving)
+at_own c n past s (wishes.Send p) alone first h = subst (λ x. is_place_of c x p ≡ true) h.own (output_own c past p h.may.offers.is_output h.may.offers.moving)
+at_own c n past s wish alone first h = tt
 
 -- ---- what is offered
 

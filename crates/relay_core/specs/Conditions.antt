@@ -3,7 +3,7 @@ use Rattle.std.specs.Prelude.{◌≡◌, ℕ, ◌<◌, Bool, true, false, List, 
 use Rattle.relay_model.specs.declared.places.Place.{Place}
 use Rattle.relay_model.specs.declared.commands.Config.{Config}
 use Rattle.relay_model.specs.declared.acts.Act.{Act}
-use Rattle.relay_model.specs.Configs.{is_place_of}
+use Rattle.relay_model.specs.Configs.{is_place_of, is_of}
 use Rattle.relay_model.specs.Holding.{Free, Settling, Open, standing, is_free, is_open}
 use Rattle.relay_model.specs.History.{reaped_since}
 use Rattle.relay_core.specs.declared.wishes.Wish.{Wish}
@@ -43,6 +43,8 @@ is_writing wish = false
 
 -- bytes are read and written at places of the session alone
 abbrev pub IsAtOwn : Config → ℕ → Wish → Type 0
+IsAtOwn c s (wishes.Open p) = is_of c s p ≡ true
+IsAtOwn c s (wishes.Listen d) = is_of c s d ≡ true
 IsAtOwn c s (wishes.Read p at_most) = is_place_of c s p ≡ true
 IsAtOwn c s (wishes.Write p) = is_place_of c s p ≡ true
 IsAtOwn c s (wishes.Send p) = is_place_of c s p ≡ true

@@ -1,4 +1,4 @@
--- The laws of one session's histories that a loop around it needs, as statements.
+-- The laws of one session's histories, as statements.
 use Rattle.std.specs.Prelude.{◌≡◌, ◌⊎◌, ℕ, suc, true, false, List, length, Some, None}
 use Rattle.relay_model.specs.declared.places.Place.{Place}
 use Rattle.relay_model.specs.declared.commands.Config.{Config}

@@ -91,7 +91,7 @@ impl Session {
     }
 
     /// Ends the session: because the turn that was just heard says stop (`Stopped`), because the turns are
-    /// used up (`Stopped`), or for want of memory (`Memory`). From then on it closes what it holds.
+    /// used up (`Stopped`), or for want of memory (`Memory`). From then on it closes what it holds and asks for its children.
     pub fn cut(&mut self, why: Why)
         ensures stop { (c : Command) (n : ℕ) (past : List Act) (s : ℕ) (until : Option ℕ) (at : ℕ) (names : List Entry) → Hears c n (acts.Turn until at (listed names) false ∷ past) s self.old → why ≡ whys.Stopped → Stands c n (acts.Turn until at (listed names) true ∷ past) s self.new }
         ensures limit { (c : Command) (n : ℕ) (past : List Act) (s : ℕ) → Stands c n past s self.old → has_ended self.old ≡ false → turns past ≡ n → Rest c past → why ≡ whys.Stopped → Stands c n past s self.new }

@@ -90,7 +90,7 @@ impl State {
         }
     }
 
-    /// Whether a fault ends it: any does, or, where each breaks its own direction alone, one once all are done.
+    /// Whether a fault ends it: any does; with `-s`, where each breaks its own direction alone, one does once all are done.
     fn is_faulted(&self) -> bool
         ensures { (c : Command) (past : List Act) (s : ℕ) → Ground c past s self.now → result ≡ faulted c past s }
     {

@@ -19,7 +19,7 @@ use Rattle.relay_model.specs.Choices.{only_if, or_else, first_some, one_more, ea
 use Rattle.relay_model.specs.Configs.{places, parts, place_at, things, own_doors, has_own_door, options_of, listens_at, has_fork, is_left, program_door, is_program_door, is_of, is_place_of, input, output, formed, accepting_door}
 use Rattle.relay_model.specs.Conversions.{is_over}
 use Rattle.relay_model.specs.History.{now, Stage, Unsettled, Failed, Met, Waiting, stage, held, holds_at, is_gone_with, served, stop_said, memory_said, same_why, accept_failed}
-use Rattle.relay_model.specs.Sessions.{permits, holds, admitted, is_admission, numbers}
+use Rattle.relay_model.specs.Sessions.{permits, holds, live, admitted, is_admission, numbers}
 use Rattle.relay_model.specs.Tries.{next_due, is_out_of_tries}
 use Rattle.relay_model.specs.Moments.{moved, passed_at, broken_at, done_at, after_one, closing_moment, idle_moment, reached}
 use Rattle.relay_model.specs.Openings.{Call, Nothing, Open, Settle, Listen, Accept, Refuse, Serve, out_of_tries, when_due, try_again, stands_ready, is_ready, ready, opening_call, listening_call, peer_call, place_call, first_call}
@@ -140,15 +140,15 @@ fault_same c s a b base p e d = let x = (base.own p e d).read_fault_at_same in l
 
 -- ---- timers
 
-input_own : (c : Config) (s : ℕ) (w : Way) → is_program_door c (input c s w) ≡ false
+pub input_own : (c : Config) (s : ℕ) (w : Way) → is_program_door c (input c s w) ≡ false
 input_own c s LeftToRight = place_own c s Left (input c s LeftToRight).part
 input_own c s RightToLeft = place_own c s Right (input c s RightToLeft).part
 
-output_own : (c : Config) (s : ℕ) (w : Way) → is_program_door c (output c s w) ≡ false
+pub output_own : (c : Config) (s : ℕ) (w : Way) → is_program_door c (output c s w) ≡ false
 output_own c s LeftToRight = place_own c s Right (output c s LeftToRight).part
 output_own c s RightToLeft = place_own c s Left (output c s RightToLeft).part
 
-passing_same : (c : Config) (s : ℕ) (a b : List Act) → Base c s a b → (w : Way) → passed_at c a s w ≡ passed_at c b s w
+pub passing_same : (c : Config) (s : ℕ) (a b : List Act) → Base c s a b → (w : Way) → passed_at c a s w ≡ passed_at c b s w
 passing_same c s a b base w = (base.own (output c s w) refl (output_own c s w)).shut_at_same
 
 breaking_same : (c : Config) (s : ℕ) (a b : List Act) → Base c s a b → (w : Way) → broken_at c a s w ≡ broken_at c b s w
@@ -267,20 +267,20 @@ first_call_same c s a b base (p ∷ ps) own =
 
 -- ---- work and moments
 
-over_same : (c : Config) (s : ℕ) (a b : List Act) → Base c s a b → (p : Place) → p.session ≡ s → is_program_door c p ≡ false → over c a p ≡ over c b p
+pub over_same : (c : Config) (s : ℕ) (a b : List Act) → Base c s a b → (p : Place) → p.session ≡ s → is_program_door c p ≡ false → over c a p ≡ over c b p
 over_same c s a b base p e d =
     let x = (base.own p e d).met_end_same in
     let y = (base.own p e d).met_empty_same in
     let g = (base.own p e d).got_same in
     λ i. x i && not (options_of c p).ignoreeof || y i && (options_of c p).null_eof || is_over (options_of c p).readbytes (options_of c p).escape (g i)
 
-backlog_same : (c : Config) (s : ℕ) (a b : List Act) → Base c s a b → (w : Way) → backlog c a s w ≡ backlog c b s w
+pub backlog_same : (c : Config) (s : ℕ) (a b : List Act) → Base c s a b → (w : Way) → backlog c a s w ≡ backlog c b s w
 backlog_same c s a b base w =
     let g = (base.own (input c s w) refl (input_own c s w)).got_same in
     let u = (base.own (output c s w) refl (output_own c s w)).put_same in
     λ i. length (due c w (g i)) - length (u i)
 
-moves_same : (c : Config) (s : ℕ) (a b : List Act) → Base c s a b → running c a s ≡ running c b s → (w : Way) → moves c a s w ≡ moves c b s w
+pub moves_same : (c : Config) (s : ℕ) (a b : List Act) → Base c s a b → running c a s ≡ running c b s → (w : Way) → moves c a s w ≡ moves c b s w
 moves_same c s a b base run w = let u = breaking_same c s a b base w in λ i. formed c w && not (is_some (u i)) && run i
 
 reads_same : (c : Config) (s : ℕ) (a b : List Act) → Base c s a b → running c a s ≡ running c b s → (w : Way) → may_read c a s w ≡ may_read c b s w
@@ -337,7 +337,7 @@ foreign_of c s q f = none_among c s q (things c s) (each_thing c s) f
 foreign_place : (c : Config) (s : ℕ) (q : Place) → ((p : Place) → p.session ≡ s → is_program_door c p ≡ false → same_place q p ≡ false) → is_place_of c s q ≡ false
 foreign_place c s q f = none_among c s q (places c s) (each_place c s) f
 
-closed_step : (c : Config) (act : Act) (past : List Act) (s : ℕ) → IsForeign c s act → closed_why c (act ∷ past) s ≡ closed_why c past s
+pub closed_step : (c : Config) (act : Act) (past : List Act) (s : ℕ) → IsForeign c s act → closed_why c (act ∷ past) s ≡ closed_why c past s
 closed_step c (Closed q why) past s f = let e = foreign_of c s q f in λ i. cond (e i && is_end q why) (Some why) (closed_why c past s)
 closed_step c act past s f = refl
 
@@ -374,7 +374,7 @@ door_step : (c : Config) (act : Act) (past : List Act) → is_common c act ≡ f
 door_step c (AcceptFailed q) past k = unfailed (same_place q program_door) (has_fork c) (accept_failed past program_door) k
 door_step c act past k = refl
 
-write_step : (act : Act) (past : List Act) (i o : Place) → is_turn act ≡ false → is_at act i ≡ false → is_at act o ≡ false → asked_to_write (act ∷ past) i o ≡ asked_to_write past i o
+pub write_step : (act : Act) (past : List Act) (i o : Place) → is_turn act ≡ false → is_at act i ≡ false → is_at act o ≡ false → asked_to_write (act ∷ past) i o ≡ asked_to_write past i o
 write_step (Turn until at ready stop) past i o t x y = absurd (true≢false t)
 write_step (Read q bytes) past i o t x y = λ j. not (x j) && asked_to_write past i o
 write_step (Wrote q bytes) past i o t x y = λ j. y j || asked_to_write past i o
@@ -390,7 +390,7 @@ other_door c s q d f e o = false_from_ne_true (same_place (accepting_door c q) d
     go true k h = true≢false (sym (and_parts (is_left q) (has_fork c) k).1 ∙ ap (is_program_door c) (same_place_equal program_door d h) ∙ o)
     go false k h = true≢false (sym (same_place_self q) ∙ f q (ap (λ x. x.session) (same_place_equal (door_of q) d h) ∙ e) (own_door (same_side q.side Left) (same_part q.part Both) (same_bool q.door true) (q.session == 0) (has_fork c) k))
 
-accept_step : (c : Config) (act : Act) (past : List Act) (s : ℕ) → IsForeign c s act → is_turn act ≡ false → (d : Place) → d.session ≡ s → is_program_door c d ≡ false → asked_to_accept c (act ∷ past) d ≡ asked_to_accept c past d
+pub accept_step : (c : Config) (act : Act) (past : List Act) (s : ℕ) → IsForeign c s act → is_turn act ≡ false → (d : Place) → d.session ≡ s → is_program_door c d ≡ false → asked_to_accept c (act ∷ past) d ≡ asked_to_accept c past d
 accept_step c (Turn until at ready stop) past s f t d e o = absurd (true≢false t)
 accept_step c (Accepted q peer) past s f t d e o = let x = other_door c s q d f e o in λ i. x i || asked_to_accept c past d
 accept_step c (NoPeer q) past s f t d e o = let x = f d e o in λ i. x i || asked_to_accept c past d
@@ -421,29 +421,51 @@ life_same : (fork : Bool) (s m n : ℕ) (x y : Bool) → (s < n → nat_lt s m �
 life_same true s m n x y f e h = let g = f h in λ i. g i && e i
 life_same false s m n x y f e h = refl
 
-pub apart : (c : Config) (act : Act) (past : List Act) (s : ℕ) → s < numbers c past → IsForeign c s act → is_common c act ≡ false → SameSession c s (act ∷ past) past
-apart c act past s begun f k =
-    let base = base_step c act past s f k in
-    let x = holding_same c s (act ∷ past) past base in
-    let l = life_same (has_fork c) s (admitted c (act ∷ past)) (admitted c past) (holds c (act ∷ past) s) (holds c past s) (admitted_step c act past s) x begun in
-    let r = readiness_same c s (act ∷ past) past base in
-    let e = ending_same c s (act ∷ past) past base in
-    let o = first_call_same c s (act ∷ past) past base (places c s) (each_place c s) in
-    let calling : call c (act ∷ past) s ≡ call c past s = λ i. cond (l i && is_none (e i)) (o i) Nothing in
-    let run : running c (act ∷ past) s ≡ running c past s = λ i. l i && r i && is_none (e i) in
+-- what is said of a session is made of what is said of its own
+pub session_same :
+    (c : Config) (s : ℕ) (a b : List Act) → Base c s a b → live c a s ≡ live c b s →
+    ((w : Way) → asked_to_write a (input c s w) (output c s w) ≡ asked_to_write b (input c s w) (output c s w)) →
+    ((d : Place) → d.session ≡ s → is_program_door c d ≡ false → asked_to_accept c a d ≡ asked_to_accept c b d) →
+    SameSession c s a b
+session_same c s a b base l written accepted =
+    let r = readiness_same c s a b base in
+    let e = ending_same c s a b base in
+    let o = first_call_same c s a b base (places c s) (each_place c s) in
+    let calling : call c a s ≡ call c b s = λ i. cond (l i && is_none (e i)) (o i) Nothing in
+    let run : running c a s ≡ running c b s = λ i. l i && r i && is_none (e i) in
     record {
       places_same = base.own;
-      holds_same = x;
+      holds_same = holding_same c s a b base;
       live_same = l;
       ready_same = r;
       cause_same = e;
       call_same = calling;
       running_same = run;
       moved_same = base.moved_same;
-      closing_moment_same = closing_same c s (act ∷ past) past base;
-      idle_moment_same = idle_same c s (act ∷ past) past base;
-      session_work_same = work_same c s (act ∷ past) past base run calling;
-      session_moment_same = moment_same c s (act ∷ past) past base run calling;
-      asked_to_write_same = λ w. write_step act past (input c s w) (output c s w) (turn_step c act k) (f (input c s w) refl (input_own c s w)) (f (output c s w) refl (output_own c s w));
-      asked_to_accept_same = accept_step c act past s f (turn_step c act k);
+      closing_moment_same = closing_same c s a b base;
+      idle_moment_same = idle_same c s a b base;
+      session_work_same = work_same c s a b base run calling;
+      session_moment_same = moment_same c s a b base run calling;
+      asked_to_write_same = written;
+      asked_to_accept_same = accepted;
     }
+
+pub apart : (c : Config) (act : Act) (past : List Act) (s : ℕ) → s < numbers c past → IsForeign c s act → is_common c act ≡ false → SameSession c s (act ∷ past) past
+apart c act past s begun f k =
+    let base = base_step c act past s f k in
+    let l = life_same (has_fork c) s (admitted c (act ∷ past)) (admitted c past) (holds c (act ∷ past) s) (holds c past s) (admitted_step c act past s) (holding_same c s (act ∷ past) past base) begun in
+    session_same c s (act ∷ past) past base l
+    (λ w. write_step act past (input c s w) (output c s w) (turn_step c act k) (f (input c s w) refl (input_own c s w)) (f (output c s w) refl (output_own c s w)))
+    (accept_step c act past s f (turn_step c act k))
+
+-- a session that has begun lives where it holds something
+life_begun : (fork : Bool) (s m n : ℕ) (x y : Bool) → x ≡ y → s < cond fork m 1 → s < cond fork n 1 → cond fork (nat_lt s m && x) (s == 0) ≡ cond fork (nat_lt s n && y) (s == 0)
+life_begun true s m n x y e h k = let g = lt-ltb s m h ∙ sym (lt-ltb s n k) in λ i. g i && e i
+life_begun false s m n x y e h k = refl
+
+pub session_begun :
+    (c : Config) (s : ℕ) (a b : List Act) → s < numbers c a → s < numbers c b → Base c s a b →
+    ((w : Way) → asked_to_write a (input c s w) (output c s w) ≡ asked_to_write b (input c s w) (output c s w)) →
+    ((d : Place) → d.session ≡ s → is_program_door c d ≡ false → asked_to_accept c a d ≡ asked_to_accept c b d) →
+    SameSession c s a b
+session_begun c s a b h k base = session_same c s a b base (life_begun (has_fork c) s (admitted c a) (admitted c b) (holds c a s) (holds c b s) (holding_same c s a b base) h k)

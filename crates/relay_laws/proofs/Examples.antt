@@ -1,5 +1,5 @@
 -- Whole journals, oldest act last: each is shown legal by computing, with its outcome and some of its waits, and a
--- changed one is shown not to be.
+-- changed one is shown not to be; and two in which the same reaches one session.
 use Rattle.std.proofs.Common.{◌≡◌, refl, drop, arith, ℕ, ◌-◌, ◌^◌, Bool, true, false, List, [], ◌∷◌, Some, None}
 use Rattle.relay_model.specs.declared.places.Side.{Side}
 use Rattle.relay_model.specs.declared.places.Side.TheVariants.{Left, Right}
@@ -31,6 +31,7 @@ use Rattle.relay_model.specs.Outcome.{outcome}
 use Rattle.relay_model.specs.Outcome as outcomes
 use Rattle.relay_model.specs.Rest.{until_of}
 use Rattle.relay_model.specs.May.{Legal}
+use Rattle.relay_laws.specs.Stories.{Own, Turned, Ending, story}
 use Rattle.relay_laws.proofs.Sound.{legal_is}
 use Rattle.relay_laws.proofs.Complete.{legal_test}
 
@@ -417,3 +418,75 @@ packets_wrong =
 
 packets_not : Legal packets_command (2 ^ 64 - 1) packets_wrong → ⊥
 packets_not legal = let e : 8 ≡ 0 = legal_test packets_command (2 ^ 64 - 1) packets_wrong legal in omega (arith, e)
+
+-- ---- two programs in which the same reaches one session
+
+-- -u TCP4-LISTEN:9,fork STDOUT
+abbrev pair_command : Config
+pair_command = record { block = 8192; closing = 500; idle = 0; ways = ways.OnlyRight; dump = dumps.Off; sloppy = false; left = addresses.One (one (targets.TcpListen families.V4 9) (record plain { fork = true })); right = addresses.One (one targets.Stdout (plain)) }
+
+abbrev pair_begun : List Act
+pair_begun =
+    Opened (at 1 Right Writing false)
+    ∷ Accepted (at 1 Left Reading false) (peers.V4 (10 ∷ 1 ∷ 2 ∷ 4 ∷ []) 81)
+    ∷ Opened (at 0 Right Writing false)
+    ∷ Accepted (at 0 Left Reading false) (peers.V4 (10 ∷ 1 ∷ 2 ∷ 3 ∷ []) 80)
+    ∷ Listening (at 0 Left Both true)
+    ∷ []
+
+-- the other session is named by the turn
+abbrev pair_quiet : List Act
+pair_quiet =
+    Wrote (at 1 Right Writing false) (97 ∷ [])
+    ∷ Read (at 1 Left Reading false) (97 ∷ [])
+    ∷ Turn None 5 (listed (named (at 0 Left Reading false) ToRead ∷ named (at 1 Left Reading false) ToRead ∷ [])) false
+    ∷ NoPeer (at 0 Left Both true)
+    ∷ ReadNotYet (at 0 Left Reading false)
+    ∷ ReadNotYet (at 1 Left Reading false)
+    ∷ pair_begun
+
+-- the other session reads and writes, so the turn doesn't wait
+abbrev pair_busy : List Act
+pair_busy =
+    Wrote (at 1 Right Writing false) (97 ∷ [])
+    ∷ Wrote (at 0 Right Writing false) (98 ∷ [])
+    ∷ Read (at 0 Left Reading false) (98 ∷ [])
+    ∷ Read (at 1 Left Reading false) (97 ∷ [])
+    ∷ Turn (Some 0) 5 (listed (named (at 1 Left Reading false) ToRead ∷ [])) false
+    ∷ NoPeer (at 0 Left Both true)
+    ∷ ReadNotYet (at 1 Left Reading false)
+    ∷ Wrote (at 0 Right Writing false) (99 ∷ [])
+    ∷ Read (at 0 Left Reading false) (99 ∷ [])
+    ∷ pair_begun
+
+pair_quiet_legal : Legal pair_command (2 ^ 64 - 1) pair_quiet
+pair_quiet_legal = legal_is pair_command (2 ^ 64 - 1) pair_quiet refl
+
+pair_busy_legal : Legal pair_command (2 ^ 64 - 1) pair_busy
+pair_busy_legal = legal_is pair_command (2 ^ 64 - 1) pair_busy refl
+
+pair_same : story pair_command 1 pair_quiet ≡ story pair_command 1 pair_busy
+pair_same = refl
+
+pair_told :
+    story pair_command 1 pair_busy
+    ≡ Own (Wrote (at 1 Right Writing false) (97 ∷ []))
+    ∷ Own (Read (at 1 Left Reading false) (97 ∷ []))
+    ∷ Turned 5 (named (at 1 Left Reading false) ToRead ∷ []) false
+    ∷ Own (ReadNotYet (at 1 Left Reading false))
+    ∷ Own (Opened (at 1 Right Writing false))
+    ∷ Own (Accepted (at 1 Left Reading false) (peers.V4 (10 ∷ 1 ∷ 2 ∷ 4 ∷ []) 81))
+    ∷ []
+pair_told = refl
+
+-- of a stop that a turn said, and the closings for it elsewhere, the session hears once
+pair_stopped :
+    story pair_command 1 (Closed (at 0 Left Both true) whys.Stopped ∷ Closed (at 0 Left Reading false) whys.Stopped ∷ Turn None 9 (listed []) true ∷ pair_begun)
+    ≡ Turned 9 [] true ∷ story pair_command 1 pair_begun
+pair_stopped = refl
+
+-- where no turn said it, the first such closing tells of it
+pair_out_of_turns :
+    story pair_command 1 (Closed (at 0 Left Both true) whys.Stopped ∷ Closed (at 0 Left Reading false) whys.Stopped ∷ pair_begun)
+    ≡ Ending whys.Stopped ∷ story pair_command 1 pair_begun
+pair_out_of_turns = refl

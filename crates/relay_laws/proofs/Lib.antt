@@ -1,4 +1,5 @@
 pub mod Admissions
+pub mod Alike
 pub mod Apart
 pub mod Begun
 pub mod CallLemmas
@@ -12,4 +13,5 @@ pub mod Least
 pub mod PlaceLemmas
 pub mod Served
 pub mod Sound
+pub mod Stories
 pub mod Written

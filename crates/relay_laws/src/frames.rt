@@ -1,5 +1,6 @@
 // What an act leaves as it is.
 ghost use Rattle.relay_model.specs.Frames.{ElsewhereIsUntouched, StepsLeave, SessionsAreApart};
+ghost use Rattle.relay_laws.specs.Stories.{SessionIsItsOwn, OutputIsOwn, MovesAlike};
 
 /// An act elsewhere changes nothing that is said of a place or door.
 pub fn elsewhere_is_untouched()
@@ -15,4 +16,20 @@ pub fn steps_leave_the_rest()
 /// turns, closings for a stop or want of memory, and a failed accepting at the program door.
 pub fn sessions_are_apart()
     ensures { SessionsAreApart }
+{}
+
+/// Two histories of which the same reaches a session say the same of it, whatever else they hold: its own acts, the
+/// turns, a stop, want of memory and a failed accepting at the program door decide it alone.
+pub fn session_is_its_own()
+    ensures { SessionIsItsOwn }
+{}
+
+/// In both the session has written the same bytes.
+pub fn output_is_own()
+    ensures { OutputIsOwn }
+{}
+
+/// While no dump is owed, it may read, write and pass ends on after one as after the other.
+pub fn moves_alike()
+    ensures { MovesAlike }
 {}

@@ -10,7 +10,10 @@ pub use doors::{
     admitted_is_bounded, caused_begins_nothing, ended_stays_ended, live_is_bounded,
     program_door_tells, served_door_stays_closed, served_door_stays_served,
 };
-pub use frames::{elsewhere_is_untouched, sessions_are_apart, steps_leave_the_rest};
+pub use frames::{
+    elsewhere_is_untouched, moves_alike, output_is_own, session_is_its_own, sessions_are_apart,
+    steps_leave_the_rest,
+};
 pub use histories::{
     backlog_is_bounded, calls_tell, closed_is_over, end_is_last, finished_is_whole, held_has_begun,
     one_test_is_right, outputs_agree, passed_is_whole, prefixes_are_legal, standing_is_held,

@@ -1,4 +1,4 @@
--- Which commands the relay can run so far.
+-- Which commands the program offers so far.
 use Rattle.std.specs.Prelude.{ℕ, Bool, true, false, not, ◌&&◌, ◌==◌, List, [], ◌∷◌, is_none}
 use Rattle.relay_model.specs.declared.commands.Config.{Config}
 use Rattle.relay_model.specs.declared.commands.Options.{Options}

@@ -1,4 +1,4 @@
-// Which commands the relay can run so far.
+// Which commands the program offers so far.
 ghost use Rattle.std.specs.Prelude.{◌≡◌};
 ghost use Rattle.socat_top.specs.Built.{relays_as_is, opens_once, serves_anyone, connects_usually, has_defaults, reads_input, writes_output, has_usual_times, no_flag, is_built};
 
@@ -90,7 +90,7 @@ fn is_usually_timed(config: &Config) -> bool
     config.closing == 500 && config.idle == 0
 }
 
-/// Whether the command is one that the relay can run: standard input to standard output in one direction, in blocks
+/// Whether the command is one that the program offers so far: standard input to standard output in one direction, in blocks
 /// of any size, with all else at its default.
 pub fn can_run(config: &Config) -> bool
     ensures { result ≡ is_built config.now }

@@ -1,12 +1,13 @@
 -- What the answers of a world mean: the act that each stands for, what that act does to what the world tells and
 -- holds, and how its counts rise. `Memory` stands for no act: then nothing was done.
-use Rattle.std.specs.Prelude.{◌≡◌, ◌≤◌, ◌<◌, ◌+◌, ◌^◌, ◌-◌, ℕ, Bool, true, false, List, Option, Some, None, take, min, option_map, is_some, ⊤}
+use Rattle.std.specs.Prelude.{◌≡◌, ◌≤◌, ◌<◌, ◌+◌, ◌^◌, ◌-◌, ℕ, Bool, true, false, List, [], ◌∷◌, Option, Some, None, take, min, option_map, is_some, ⊤}
 use Rattle.relay_model.specs.declared.acts.Act.{Act}
 use Rattle.relay_model.specs.declared.acts.Act.TheVariants.{Turn, Opened, OpenLater, OpenFailed, Listening, ListenFailed, Accepted, NoPeer, AcceptFailed, Read, ReadEmpty, ReadEnd, ReadNotYet, ReadFault, Wrote, WriteNotYet, WriteFault, Shut, ShutFault, Closed, Reaped, Note, NoteFault}
 use Rattle.relay_model.specs.declared.acts.Shut.{Shut as Shutting}
 use Rattle.relay_model.specs.declared.acts.Why.{Why}
 use Rattle.relay_model.specs.declared.places.Place.{Place}
-use Rattle.relay_model.specs.Holding.{Hold, hold_after}
+use Rattle.relay_model.specs.declared.readiness.ReadyAt.{ReadyAt}
+use Rattle.relay_model.specs.Holding.{Hold, hold_after, is_free}
 use Rattle.relay_model.specs.History.{reaped_since}
 use Rattle.relay_model.specs.Readiness.{Listed, copied_list}
 use Rattle.relay_model.specs.Journals.{History, Asking}
@@ -204,6 +205,16 @@ pub record NoTurnCounts (waits waits' stops stops' clock clock' : ℕ) : Type 0 
 abbrev pub WaitCounts : ℕ → ℕ → ℕ → ℕ → ℕ → ℕ → Turned → Type 0
 WaitCounts waits waits' stops stops' clock clock' (turns.Turned at stop) = TurnCounts waits waits' stops stops' clock clock' at stop
 WaitCounts waits waits' stops stops' clock clock' turns.Memory = NoTurnCounts waits waits' stops stops' clock clock'
+
+-- each of these entries names a place or door that is held
+abbrev pub NamesHeld : (Place → Hold) → List ReadyAt → Type 0
+NamesHeld held [] = ⊤
+NamesHeld held (e ∷ entries) = (is_free (held e.place) ≡ false) × NamesHeld held entries
+
+-- a turn names only what is held; after `Memory` nothing is said of the list
+abbrev pub OnlyHeldNamed : (Place → Hold) → List ReadyAt → Turned → Type 0
+OnlyHeldNamed held entries (turns.Turned at stop) = NamesHeld held entries
+OnlyHeldNamed held entries turns.Memory = ⊤
 
 -- memory is wanted only where a history is told
 abbrev pub wants_turn_memory : Turned → Bool

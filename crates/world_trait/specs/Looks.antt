@@ -1,5 +1,5 @@
 -- What a wait looks at, in the order in which it was asked.
-use Rattle.std.specs.Prelude.{Bool, true, false, not, ◌&&◌, ◌++◌, List, [], ◌∷◌, filter}
+use Rattle.std.specs.Prelude.{◌≡◌, All, Bool, true, false, not, ◌&&◌, ◌++◌, List, [], ◌∷◌, filter}
 use Rattle.relay_model.specs.declared.places.Place.{Place}
 use Rattle.relay_model.specs.declared.places.Part.{Part}
 use Rattle.relay_model.specs.declared.places.Part.TheVariants.{Both, Reading, Writing}
@@ -7,6 +7,7 @@ use Rattle.relay_model.specs.declared.places.Half.{Half}
 use Rattle.relay_model.specs.declared.places.Half.TheVariants.{ToRead, ToWrite}
 use Rattle.relay_model.specs.declared.readiness.ReadyAt.{ReadyAt}
 use Rattle.relay_model.specs.Places.{same_place, same_half}
+use Rattle.relay_model.specs.Holding.{Hold, is_free}
 use Rattle.relay_model.specs.Readiness.{names}
 use Rattle.world_trait.specs.declared.looking.Watch.{Watch}
 use Rattle.world_trait.specs.declared.looking.Watch.TheVariants as watches
@@ -66,3 +67,7 @@ openings_by Writing p = record { place = p; watch = watches.Opening ToWrite } �
 
 abbrev pub openings_at : Place → List Looked
 openings_at p = openings_by p.part p
+
+-- each thing that is looked at stands at a place or door that is held
+abbrev pub LooksAtHeld : (Place → Hold) → List Looked → Type 0
+LooksAtHeld held looked = All (λ entry. is_free (held entry.place) ≡ false) looked

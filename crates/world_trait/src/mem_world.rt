@@ -1,8 +1,9 @@
 // A scripted world: it answers from lists of items, keeps its history, and its clock is moved by its waits alone.
 ghost use Rattle.std.specs.Prelude.{◌≡◌, ◌≤◌, ◌<◌, ◌+◌, ◌++◌, ◌∷◌, [], Option, Some, true, false, option_map, length, OnOk, OnErr};
 ghost use Rattle.relay_model.specs.Holding.{Free, Open, Settling, is_free, is_open};
-ghost use Rattle.world_trait.specs.Answers.{Answered, AnsweredAsking, Rose, OnlyWhereTold, NotReaped, WaitCounts, ReadFits, WriteFits, wait_act, open_act, listen_act, accept_act, read_act, write_act, send_act, shut_act, close_act, note_act, reap_act, is_open_fault, is_listen_fault, is_accept_fault, is_read_fault, is_write_fault, is_send_fault, is_shut_fault, is_note_fault, wants_turn_memory, wants_read_memory, wants_write_memory, wants_send_memory, wants_shut_memory};
+ghost use Rattle.world_trait.specs.Answers.{Answered, AnsweredAsking, Rose, OnlyHeldNamed, OnlyWhereTold, NotReaped, WaitCounts, ReadFits, WriteFits, wait_act, open_act, listen_act, accept_act, read_act, write_act, send_act, shut_act, close_act, note_act, reap_act, is_open_fault, is_listen_fault, is_accept_fault, is_read_fault, is_write_fault, is_send_fault, is_shut_fault, is_note_fault, wants_turn_memory, wants_read_memory, wants_write_memory, wants_send_memory, wants_shut_memory};
 ghost use Rattle.world_trait.specs.HoldTables.{hold_found, lookup};
+ghost use Rattle.world_trait.specs.Looks.{LooksAtHeld};
 ghost use Rattle.world_trait.specs.Reads.{HasBytes, reading_of};
 ghost use Rattle.world_trait.specs.Recordings.{told_kept};
 ghost use Rattle.world_trait.specs.Runs.{IsFresh, SameRun};
@@ -39,6 +40,7 @@ pub struct MemWorld {
     stops: u64,
     clock: u64,
     ghost room: { length held.entries ≤ kept.journal.spare },
+    ghost looks: { LooksAtHeld (lookup held.entries) script.looked },
 }
 
 impl MemWorld {
@@ -170,6 +172,7 @@ impl World for MemWorld {
         ensures act { Answered (told_kept self.old.kept) (told_kept self.new.kept) (lookup self.old.held.entries) (lookup self.new.held.entries) (wait_act until ready.new result) }
         ensures counts { WaitCounts self.old.waits self.new.waits self.old.stops self.new.stops self.old.clock self.new.clock result }
         ensures faults { self.old.faults ≤ self.new.faults }
+        ensures named { OnlyHeldNamed (lookup self.new.held.entries) ready.new.entries result }
         ensures memory { OnlyWhereTold (told_kept self.old.kept) (wants_turn_memory result) }
         ensures script { TurnScripted self.old.script self.new.script until self.old.clock ready.new.entries result }
     {

@@ -3,7 +3,7 @@ ghost use Rattle.std.specs.Prelude.{◌≡◌, ◌≤◌, ◌<◌, ℕ, Option, 
 ghost use Rattle.relay_model.specs.declared.places.Place.{Place};
 ghost use Rattle.relay_model.specs.Journals.{History};
 ghost use Rattle.relay_model.specs.Holding.{Hold, Free, Settling, Open, is_free, is_open};
-ghost use Rattle.world_trait.specs.Answers.{Answered, AnsweredAsking, Rose, OnlyWhereTold, NotReaped, WaitCounts, ReadFits, WriteFits, wait_act, open_act, listen_act, accept_act, read_act, write_act, send_act, shut_act, close_act, note_act, reap_act, is_open_fault, is_listen_fault, is_accept_fault, is_read_fault, is_write_fault, is_send_fault, is_shut_fault, is_note_fault, wants_turn_memory, wants_read_memory, wants_write_memory, wants_send_memory, wants_shut_memory};
+ghost use Rattle.world_trait.specs.Answers.{Answered, AnsweredAsking, Rose, OnlyHeldNamed, OnlyWhereTold, NotReaped, WaitCounts, ReadFits, WriteFits, wait_act, open_act, listen_act, accept_act, read_act, write_act, send_act, shut_act, close_act, note_act, reap_act, is_open_fault, is_listen_fault, is_accept_fault, is_read_fault, is_write_fault, is_send_fault, is_shut_fault, is_note_fault, wants_turn_memory, wants_read_memory, wants_write_memory, wants_send_memory, wants_shut_memory};
 
 use crate::answers::{
     AcceptAnswer, ListenAnswer, NoteAnswer, OpenAnswer, ReadAnswer, ReapAnswer, SendAnswer,
@@ -28,13 +28,14 @@ pub trait World {
     ghost clock: { Self → ℕ };
 
     /// Waits until some half that wasn't ready is, at the latest until the moment `until`. The list is emptied
-    /// first, and then names the ready halves.
+    /// first, and then names the ready halves, each of something that is held.
     fn wait(&mut self, until: Option<u64>, ready: &mut ReadyList) -> Turned
         requires { 256 ≤ ready.old.room }
         ensures room { 256 ≤ ready.new.room }
         ensures act { Answered (told self.old) (told self.new) (held self.old) (held self.new) (wait_act until ready.new result) }
         ensures counts { WaitCounts (waits self.old) (waits self.new) (stops self.old) (stops self.new) (clock self.old) (clock self.new) result }
         ensures faults { faults self.old ≤ faults self.new }
+        ensures named { OnlyHeldNamed (held self.new) ready.new.entries result }
         ensures memory { OnlyWhereTold (told self.old) (wants_turn_memory result) };
 
     /// Opens what the address names. `behind` is the peer on whose behalf it is opened.

@@ -1,6 +1,12 @@
 use Rattle.std.proofs.Common.{refl}
 use Rattle.event_loop.proofs.drivers.Driver.step.Goals as goal
 
+pub open-requires-clause-own : goal.open-requires-clause-own
+open-requires-clause-own g c = λ n past stands. c.in-Open.ensures.own c.args.config.now n past 0 stands
+
+pub listen-requires-clause-own : goal.listen-requires-clause-own
+listen-requires-clause-own g c = λ n past stands. c.in-Listen.ensures.own c.args.config.now n past 0 stands
+
 pub read-requires-clause-own : goal.read-requires-clause-own
 read-requires-clause-own g c = λ k n past stands. c.in-Read.ensures.own k n past 0 stands
 

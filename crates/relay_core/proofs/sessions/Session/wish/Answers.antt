@@ -6,7 +6,7 @@ pub returns-clause-going : goal.returns-clause-going
 returns-clause-going c = λ k n past s st e. goes_while k n past s c.args.self.now.state c.args.self.now.wish st.allowed e
 
 pub returns-clause-own : goal.returns-clause-own
-returns-clause-own c = λ k n past s st. at_own k n past s c.args.self.now.wish st.allowed.0
+returns-clause-own c = λ k n past s st. at_own k n past s c.args.self.now.wish st.fields.ground.alone st.fields.ground.first st.allowed.0
 
 pub returns-clause-can : goal.returns-clause-can
 returns-clause-can c = λ k n past s st legal. can_be_made k n past s c.args.self.now.wish st.fields.ground.alone st.fields.ground.first legal st.allowed.0
