@@ -10,7 +10,7 @@ mod tests;
 pub use configs::{
     Medium, accepting_door, formed, has_fork, has_own_door, how, input, is_among, is_left, is_of,
     is_place_of, is_program, is_program_door, keeps_borders, listens_at, medium_of, options_of,
-    output, own_doors, parts, place_at, places, program_door, single, sink, source, things, way_from,
-    way_to,
+    output, own_doors, parts, place_at, places, program_door, single, sink, source, things,
+    way_from, way_to,
 };
 pub use place_lists::PlaceList;
