@@ -24,13 +24,13 @@ use Rattle.relay_model.specs.Tries.{next_due, is_out_of_tries}
 use Rattle.relay_model.specs.Moments.{moved, passed_at, broken_at, done_at, after_one, closing_moment, idle_moment, reached}
 use Rattle.relay_model.specs.Openings.{Call, Nothing, Open, Settle, Listen, Accept, Refuse, Serve, out_of_tries, when_due, try_again, stands_ready, is_ready, ready, opening_call, listening_call, peer_call, place_call, first_call}
 use Rattle.relay_model.specs.Arming.{is_armed, arming_moment, asked_to_write, asked_to_accept}
-use Rattle.relay_model.specs.Transfers.{due, over, backlog}
+use Rattle.relay_model.specs.Transfers.{due, due_pieces, over, backlog}
 use Rattle.relay_model.specs.Cause.{is_end, closed_why, fault_at, faulted, finished, cause, running}
 use Rattle.relay_model.specs.Calls.{call}
 use Rattle.relay_model.specs.Rest.{moves, may_read, may_write, accepts, session_work, try_moment, input_moment, timer_moment, session_moment}
-use Rattle.relay_model.specs.Frames.{is_at, is_turn, SameAt, IsForeign, is_common, SameSession}
+use Rattle.relay_model.specs.Frames.{is_at, is_turn, reads_bytes, SameAt, IsForeign, is_common, SameSession}
 use Rattle.relay_laws.proofs.PlaceLemmas.{same_place_equal, same_place_self}
-use Rattle.relay_laws.proofs.Elsewhere.{elsewhere}
+use Rattle.relay_laws.proofs.Elsewhere.{elsewhere, due_pieces_left}
 
 -- ---- lists of a session's own places and doors
 
@@ -397,6 +397,9 @@ accept_step c (NoPeer q) past s f t d e o = let x = f d e o in λ i. x i || aske
 accept_step c (AcceptFailed q) past s f t d e o = let x = f d e o in λ i. x i || asked_to_accept c past d
 accept_step c act past s f t d e o = refl
 
+pub pieces_step : (c : Config) (act : Act) (past : List Act) (s : ℕ) → IsForeign c s act → (w : Way) → due_pieces c (act ∷ past) s w ≡ due_pieces c past s w
+pieces_step c act past s f w = due_pieces_left act past c s w (and_right (reads_bytes act) (is_at act (input c s w)) (f (input c s w) refl (input_own c s w)))
+
 pub base_step : (c : Config) (act : Act) (past : List Act) (s : ℕ) → IsForeign c s act → is_common c act ≡ false → Base c s (act ∷ past) past
 base_step c act past s f k = record {
   own = λ p e d. elsewhere act past p (turn_step c act k) (f p e d);
@@ -426,8 +429,9 @@ pub session_same :
     (c : Config) (s : ℕ) (a b : List Act) → Base c s a b → live c a s ≡ live c b s →
     ((w : Way) → asked_to_write a (input c s w) (output c s w) ≡ asked_to_write b (input c s w) (output c s w)) →
     ((d : Place) → d.session ≡ s → is_program_door c d ≡ false → asked_to_accept c a d ≡ asked_to_accept c b d) →
+    ((w : Way) → due_pieces c a s w ≡ due_pieces c b s w) →
     SameSession c s a b
-session_same c s a b base l written accepted =
+session_same c s a b base l written accepted pieces =
     let r = readiness_same c s a b base in
     let e = ending_same c s a b base in
     let o = first_call_same c s a b base (places c s) (each_place c s) in
@@ -448,6 +452,7 @@ session_same c s a b base l written accepted =
       session_moment_same = moment_same c s a b base run calling;
       asked_to_write_same = written;
       asked_to_accept_same = accepted;
+      pieces_same = pieces;
     }
 
 pub apart : (c : Config) (act : Act) (past : List Act) (s : ℕ) → s < numbers c past → IsForeign c s act → is_common c act ≡ false → SameSession c s (act ∷ past) past
@@ -457,6 +462,7 @@ apart c act past s begun f k =
     session_same c s (act ∷ past) past base l
     (λ w. write_step act past (input c s w) (output c s w) (turn_step c act k) (f (input c s w) refl (input_own c s w)) (f (output c s w) refl (output_own c s w)))
     (accept_step c act past s f (turn_step c act k))
+    (pieces_step c act past s f)
 
 -- a session that has begun lives where it holds something
 life_begun : (fork : Bool) (s m n : ℕ) (x y : Bool) → x ≡ y → s < cond fork m 1 → s < cond fork n 1 → cond fork (nat_lt s m && x) (s == 0) ≡ cond fork (nat_lt s n && y) (s == 0)
@@ -467,5 +473,6 @@ pub session_begun :
     (c : Config) (s : ℕ) (a b : List Act) → s < numbers c a → s < numbers c b → Base c s a b →
     ((w : Way) → asked_to_write a (input c s w) (output c s w) ≡ asked_to_write b (input c s w) (output c s w)) →
     ((d : Place) → d.session ≡ s → is_program_door c d ≡ false → asked_to_accept c a d ≡ asked_to_accept c b d) →
+    ((w : Way) → due_pieces c a s w ≡ due_pieces c b s w) →
     SameSession c s a b
 session_begun c s a b h k base = session_same c s a b base (life_begun (has_fork c) s (admitted c a) (admitted c b) (holds c a s) (holds c b s) (holding_same c s a b base) h k)

@@ -3,6 +3,7 @@ pub mod Alike
 pub mod Apart
 pub mod Begun
 pub mod CallLemmas
+pub mod Changing
 pub mod Complete
 pub mod Elsewhere
 mod Examples

@@ -12,10 +12,10 @@ use Rattle.relay_model.specs.declared.acts.Act.{Act}
 use Rattle.relay_model.specs.declared.acts.Act.TheVariants.{Turn, Opened, OpenLater, OpenFailed, Listening, ListenFailed, Accepted, NoPeer, AcceptFailed, Read, ReadEmpty, ReadEnd, ReadNotYet, ReadFault, Wrote, WriteNotYet, WriteFault, Shut, ShutFault, Closed, Reaped, Note, NoteFault}
 use Rattle.relay_model.specs.Places.{same_place}
 use Rattle.relay_model.specs.Configs.{place_at, input, output, options_of, keeps_borders, way_from, way_to, has_fork, program_door, is_program_door}
-use Rattle.relay_model.specs.Choices.{only_if, joined}
+use Rattle.relay_model.specs.Choices.{only_if}
 use Rattle.relay_model.specs.History.{put, got, sent, stop_said, memory_said, same_why}
 use Rattle.relay_model.specs.Sessions.{numbers}
-use Rattle.relay_model.specs.Transfers.{due, due_part, due_pieces, is_empty, room, is_spent}
+use Rattle.relay_model.specs.Transfers.{due, due_pieces, room, is_spent}
 use Rattle.relay_model.specs.Conversions.{read_size, packet_size, packet_cap}
 use Rattle.relay_model.specs.Arming.{armed_to_read, is_armed}
 use Rattle.relay_model.specs.Moments.{passed}
@@ -23,11 +23,11 @@ use Rattle.relay_model.specs.Cause.{running}
 use Rattle.relay_model.specs.Rest.{owed, moves}
 use Rattle.relay_model.specs.May.{MayAsk, MayRead, MayOffer, MayWrite, MayTryWrite, MayShut, BeginsWith, KeepsBorders, May}
 use Rattle.relay_model.specs.declared.acts.Shut.{Shut as Shutting}
-use Rattle.relay_model.specs.Frames.{IsForeign, is_common, is_at, is_turn, SameSession}
+use Rattle.relay_model.specs.Frames.{IsForeign, is_common, is_turn, SameSession}
 use Rattle.relay_laws.specs.Stories.{is_own_place, is_own, Event, Own, Turned, AcceptingFailed, Ending, is_news, reaches, and_event, story, transfers}
 use Rattle.relay_laws.proofs.PlaceLemmas.{same_place_equal}
 use Rattle.relay_laws.proofs.Elsewhere.{elsewhere}
-use Rattle.relay_laws.proofs.Apart.{Base, base_step, closed_step, write_step, accept_step, input_own, output_own, passing_same, over_same, backlog_same, moves_same, session_begun}
+use Rattle.relay_laws.proofs.Apart.{Base, base_step, closed_step, write_step, accept_step, pieces_step, input_own, output_own, passing_same, over_same, backlog_same, moves_same, session_begun}
 use Rattle.relay_laws.proofs.Alike.{own_from, own_is, apart_from, seen, at_turned, at_joined, Alike, alike_kept, alike_itself, alike_turned, alike_joined}
 
 -- ---- acts that are none of the session's own
@@ -61,16 +61,12 @@ common_is_no_turn : (c : Config) (act : Act) → is_common c act ≡ false → i
 common_is_no_turn c (Turn until at ready stop) k = absurd (false≢true (sym k))
 common_is_no_turn c act k = refl
 
-pieces_step : (c : Config) (act : Act) (past : List Act) (s : ℕ) (w : Way) → is_at act (input c s w) ≡ false → due_pieces c (act ∷ past) s w ≡ due_pieces c past s w
-pieces_step c (Read q bytes) past s w x = λ i. joined (x i && not (is_empty (due_part c w (got past (input c s w)) bytes))) (due_pieces c past s w) (due_part c w (got past (input c s w)) bytes ∷ [])
-pieces_step c act past s w x = refl
-
 passes : (c : Config) (s : ℕ) (act : Act) (past : List Act) → IsForeign c s act → is_common c act ≡ false → Alike c s (act ∷ past) past
 passes c s act past f k = record {
   base = base_step c act past s f k;
   written = λ w. write_step act past (input c s w) (output c s w) (common_is_no_turn c act k) (f (input c s w) refl (input_own c s w)) (f (output c s w) refl (output_own c s w));
   accepted = accept_step c act past s f (common_is_no_turn c act k);
-  pieces = λ w. pieces_step c act past s w (f (input c s w) refl (input_own c s w));
+  pieces = pieces_step c act past s f;
 }
 
 -- a closing elsewhere that tells of nothing new
@@ -168,7 +164,7 @@ alike c s one other e =
     (alike_turned c s other (retell c s (story c s other)) (retelling c s other))
 
 pub own_session : (c : Config) (one other : List Act) (s : ℕ) → s < numbers c one → s < numbers c other → story c s one ≡ story c s other → SameSession c s one other
-own_session c one other s h k e = let a = alike c s one other e in session_begun c s one other h k a.base a.written a.accepted
+own_session c one other s h k e = let a = alike c s one other e in session_begun c s one other h k a.base a.written a.accepted a.pieces
 
 pub own_output : (c : Config) (one other : List Act) (s : ℕ) (p : Place) → story c s one ≡ story c s other → p.session ≡ s → is_program_door c p ≡ false → put one p ≡ put other p
 own_output c one other s p e o d = ((alike c s one other e).base.own p o d).put_same

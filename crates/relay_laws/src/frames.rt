@@ -1,4 +1,5 @@
-// What an act leaves as it is.
+// What an act leaves as it is, and what it changes.
+ghost use Rattle.relay_model.specs.Changes.{StepsChange};
 ghost use Rattle.relay_model.specs.Frames.{ElsewhereIsUntouched, StepsLeave, SessionsAreApart};
 ghost use Rattle.relay_laws.specs.Stories.{SessionIsItsOwn, OutputIsOwn, MovesAlike};
 
@@ -7,9 +8,14 @@ pub fn elsewhere_is_untouched()
     ensures { ElsewhereIsUntouched }
 {}
 
-/// Each kind of act changes what it is about alone.
+/// Each kind of act changes what it is about alone, and that at its own place alone.
 pub fn steps_leave_the_rest()
     ensures { StepsLeave }
+{}
+
+/// What an act of each kind makes of what is said of its place, its session and the whole.
+pub fn steps_change_their_own()
+    ensures { StepsChange }
 {}
 
 /// An act of another session or of the program door changes nothing of a session that has begun, but for

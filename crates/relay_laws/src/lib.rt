@@ -12,7 +12,7 @@ pub use doors::{
 };
 pub use frames::{
     elsewhere_is_untouched, moves_alike, output_is_own, session_is_its_own, sessions_are_apart,
-    steps_leave_the_rest,
+    steps_change_their_own, steps_leave_the_rest,
 };
 pub use histories::{
     backlog_is_bounded, calls_tell, closed_is_over, end_is_last, finished_is_whole, held_has_begun,

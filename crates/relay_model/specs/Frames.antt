@@ -1,6 +1,7 @@
 -- What acts leave as it is: each list of acts says of a place or door the same after an act elsewhere, and of a session
 -- the same after an act that is none of its own.
-use Rattle.std.specs.Prelude.{◌≡◌, ◌<◌, ℕ, Bool, true, false, ◌||◌, List, ◌∷◌}
+use Rattle.std.specs.Prelude.{◌≡◌, ◌<◌, ℕ, Bool, true, false, ◌&&◌, ◌||◌, List, ◌∷◌}
+use Rattle.std.specs.List.{list_any}
 use Rattle.relay_model.specs.declared.places.Way.{Way}
 use Rattle.relay_model.specs.declared.places.Place.{Place}
 use Rattle.relay_model.specs.declared.commands.Config.{Config}
@@ -8,13 +9,16 @@ use Rattle.relay_model.specs.declared.acts.Why.TheVariants as whys
 use Rattle.relay_model.specs.declared.acts.Act.{Act}
 use Rattle.relay_model.specs.declared.acts.Act.TheVariants.{Turn, Opened, OpenLater, OpenFailed, Listening, ListenFailed, Accepted, NoPeer, AcceptFailed, Read, ReadEmpty, ReadEnd, ReadNotYet, ReadFault, Wrote, WriteNotYet, WriteFault, Shut, ShutFault, Closed, Reaped, Note, NoteFault}
 use Rattle.relay_model.specs.Places.{same_place}
-use Rattle.relay_model.specs.Configs.{input, output, is_program_door}
+use Rattle.relay_model.specs.Holding.{standing}
+use Rattle.relay_model.specs.Configs.{input, output, places, things, is_program_door}
 use Rattle.relay_model.specs.History.{now, turns, same_why, stop_said, memory_said, stage, failures, woken, accept_failed, was_closed, was_reaped, reaped_since, got, put, sent, met_end, met_empty, shut_at, read_fault_at, write_fault_at}
 use Rattle.relay_model.specs.Arming.{read_arming, armed_to_write, armed_to_accept, asked_to_read, asked_to_write, asked_to_accept}
 use Rattle.relay_model.specs.Sessions.{admitted, numbers, live, holds}
+use Rattle.relay_model.specs.Transfers.{due_pieces}
 use Rattle.relay_model.specs.Moments.{moved, closing_moment, idle_moment}
 use Rattle.relay_model.specs.Openings.{ready}
-use Rattle.relay_model.specs.Cause.{cause, running}
+use Rattle.relay_model.specs.Cause.{closed_why, cause, running}
+use Rattle.relay_model.specs.Outcome.{first_fault}
 use Rattle.relay_model.specs.Calls.{call}
 use Rattle.relay_model.specs.Rest.{session_work, session_moment}
 
@@ -74,7 +78,7 @@ pub record SameAt (p : Place) (one other : List Act) : Type 0 where
 abbrev pub ElsewhereIsUntouched : Type 0
 ElsewhereIsUntouched = (act : Act) (past : List Act) (p : Place) → is_turn act ≡ false → is_at act p ≡ false → SameAt p (act ∷ past) past
 
--- what acts of a kind may change of a place: nothing is said to change but what these tests name
+-- ---- kinds of acts, by what they change
 
 abbrev pub opens_or_closes : Act → Bool
 opens_or_closes (Opened q) = true
@@ -86,6 +90,11 @@ opens_or_closes (Accepted q peer) = true
 opens_or_closes (Closed q why) = true
 opens_or_closes act = false
 
+abbrev pub opens_shuts_or_closes : Act → Bool
+opens_shuts_or_closes (Shut q way) = true
+opens_shuts_or_closes (ShutFault q way) = true
+opens_shuts_or_closes act = opens_or_closes act
+
 abbrev pub fails_to_open : Act → Bool
 fails_to_open (OpenFailed q) = true
 fails_to_open (ListenFailed q) = true
@@ -95,9 +104,9 @@ abbrev pub fails_to_accept : Act → Bool
 fails_to_accept (AcceptFailed q) = true
 fails_to_accept act = false
 
-abbrev pub closes : Act → Bool
-closes (Closed q why) = true
-closes act = false
+abbrev pub is_closing : Act → Bool
+is_closing (Closed q why) = true
+is_closing act = false
 
 abbrev pub reaps : Act → Bool
 reaps (Reaped q end) = true
@@ -132,6 +141,11 @@ abbrev pub fails_to_write : Act → Bool
 fails_to_write (WriteFault q) = true
 fails_to_write act = false
 
+abbrev pub fails_to_transfer : Act → Bool
+fails_to_transfer (ReadFault q) = true
+fails_to_transfer (WriteFault q) = true
+fails_to_transfer act = false
+
 abbrev pub wakes_or_unsettles : Act → Bool
 wakes_or_unsettles (Turn until at ready stop) = true
 wakes_or_unsettles (OpenLater q) = true
@@ -147,7 +161,7 @@ closes_or_reaps (Closed q why) = true
 closes_or_reaps (Reaped q end) = true
 closes_or_reaps act = false
 
--- these arm or disarm; a turn may always arm
+-- these arm or disarm
 
 abbrev pub arms_to_read : Act → Bool
 arms_to_read (Turn until at ready stop) = true
@@ -207,36 +221,51 @@ abbrev pub meets_peer : Act → Bool
 meets_peer (Accepted q peer) = true
 meets_peer act = false
 
+-- the act is a turn, which may name any place and any door, or it is at this one
+abbrev pub names_or_is_at : Act → Place → Bool
+names_or_is_at act p = is_turn act || is_at act p
+
+-- the act is at one of these
+abbrev pub is_among : Act → List Place → Bool
+is_among act ps = list_any (λ p. is_at act p) ps
+
+-- what an act leaves: all but what an act of its kind changes, and that everywhere else
 pub record Leaves (act : Act) (past : List Act) : Type 0 where
   pub now_same : is_turn act ≡ false → now (act ∷ past) ≡ now past
   pub turns_same : is_turn act ≡ false → turns (act ∷ past) ≡ turns past
   pub stop_said_same : turns_or_closes act ≡ false → stop_said (act ∷ past) ≡ stop_said past
-  pub memory_said_same : closes act ≡ false → memory_said (act ∷ past) ≡ memory_said past
-  pub stage_same : opens_or_closes act ≡ false → (p : Place) → stage (act ∷ past) p ≡ stage past p
-  pub failures_same : fails_to_open act ≡ false → (p : Place) → failures (act ∷ past) p ≡ failures past p
-  pub woken_same : wakes_or_unsettles act ≡ false → (p : Place) → woken (act ∷ past) p ≡ woken past p
-  pub accept_failed_same : fails_to_accept act ≡ false → (p : Place) → accept_failed (act ∷ past) p ≡ accept_failed past p
-  pub was_closed_same : closes act ≡ false → (p : Place) → was_closed (act ∷ past) p ≡ was_closed past p
-  pub was_reaped_same : reaps act ≡ false → (p : Place) → was_reaped (act ∷ past) p ≡ was_reaped past p
-  pub reaped_since_same : closes_or_reaps act ≡ false → (p : Place) → reaped_since (act ∷ past) p ≡ reaped_since past p
-  pub got_same : reads_bytes act ≡ false → (p : Place) → got (act ∷ past) p ≡ got past p
-  pub put_same : writes_bytes act ≡ false → (p : Place) → put (act ∷ past) p ≡ put past p
-  pub sent_same : writes_bytes act ≡ false → (p : Place) → sent (act ∷ past) p ≡ sent past p
-  pub met_end_same : meets_end act ≡ false → (p : Place) → met_end (act ∷ past) p ≡ met_end past p
-  pub met_empty_same : meets_empty act ≡ false → (p : Place) → met_empty (act ∷ past) p ≡ met_empty past p
-  pub shut_at_same : passes_end act ≡ false → (p : Place) → shut_at (act ∷ past) p ≡ shut_at past p
-  pub read_fault_at_same : fails_to_read act ≡ false → (p : Place) → read_fault_at (act ∷ past) p ≡ read_fault_at past p
-  pub write_fault_at_same : fails_to_write act ≡ false → (p : Place) → write_fault_at (act ∷ past) p ≡ write_fault_at past p
-  pub read_arming_same : arms_to_read act ≡ false → (p : Place) → read_arming (act ∷ past) p ≡ read_arming past p
-  pub armed_to_write_same : arms_to_write act ≡ false → (p : Place) → armed_to_write (act ∷ past) p ≡ armed_to_write past p
-  pub armed_to_accept_same : arms_to_accept act ≡ false → (d : Place) → armed_to_accept (act ∷ past) d ≡ armed_to_accept past d
-  pub asked_to_read_same : asks_to_read act ≡ false → (p : Place) → asked_to_read (act ∷ past) p ≡ asked_to_read past p
-  pub asked_to_write_same : asks_to_write act ≡ false → (i o : Place) → asked_to_write (act ∷ past) i o ≡ asked_to_write past i o
-  pub asked_to_accept_same : asks_to_accept act ≡ false → (c : Config) (d : Place) → asked_to_accept c (act ∷ past) d ≡ asked_to_accept c past d
-  pub moved_same : moves_session act ≡ false → (c : Config) (s : ℕ) → moved c (act ∷ past) s ≡ moved c past s
-  pub admitted_same : meets_peer act ≡ false → (c : Config) → admitted c (act ∷ past) ≡ admitted c past
+  pub memory_said_same : is_closing act ≡ false → memory_said (act ∷ past) ≡ memory_said past
+  pub stage_same : (p : Place) → (opens_or_closes act && is_at act p) ≡ false → stage (act ∷ past) p ≡ stage past p
+  pub standing_same : (p : Place) → (opens_shuts_or_closes act && is_at act p) ≡ false → standing (act ∷ past) p ≡ standing past p
+  pub failures_same : (p : Place) → (fails_to_open act && is_at act p) ≡ false → failures (act ∷ past) p ≡ failures past p
+  pub woken_same : (p : Place) → (wakes_or_unsettles act && names_or_is_at act p) ≡ false → woken (act ∷ past) p ≡ woken past p
+  pub accept_failed_same : (d : Place) → (fails_to_accept act && is_at act d) ≡ false → accept_failed (act ∷ past) d ≡ accept_failed past d
+  pub was_closed_same : (p : Place) → (is_closing act && is_at act p) ≡ false → was_closed (act ∷ past) p ≡ was_closed past p
+  pub was_reaped_same : (p : Place) → (reaps act && is_at act p) ≡ false → was_reaped (act ∷ past) p ≡ was_reaped past p
+  pub reaped_since_same : (p : Place) → (closes_or_reaps act && is_at act p) ≡ false → reaped_since (act ∷ past) p ≡ reaped_since past p
+  pub got_same : (p : Place) → (reads_bytes act && is_at act p) ≡ false → got (act ∷ past) p ≡ got past p
+  pub put_same : (p : Place) → (writes_bytes act && is_at act p) ≡ false → put (act ∷ past) p ≡ put past p
+  pub sent_same : (p : Place) → (writes_bytes act && is_at act p) ≡ false → sent (act ∷ past) p ≡ sent past p
+  pub met_end_same : (p : Place) → (meets_end act && is_at act p) ≡ false → met_end (act ∷ past) p ≡ met_end past p
+  pub met_empty_same : (p : Place) → (meets_empty act && is_at act p) ≡ false → met_empty (act ∷ past) p ≡ met_empty past p
+  pub shut_at_same : (p : Place) → (passes_end act && is_at act p) ≡ false → shut_at (act ∷ past) p ≡ shut_at past p
+  pub read_fault_at_same : (p : Place) → (fails_to_read act && is_at act p) ≡ false → read_fault_at (act ∷ past) p ≡ read_fault_at past p
+  pub write_fault_at_same : (p : Place) → (fails_to_write act && is_at act p) ≡ false → write_fault_at (act ∷ past) p ≡ write_fault_at past p
+  pub read_arming_same : (p : Place) → (arms_to_read act && names_or_is_at act p) ≡ false → read_arming (act ∷ past) p ≡ read_arming past p
+  pub armed_to_write_same : (p : Place) → (arms_to_write act && names_or_is_at act p) ≡ false → armed_to_write (act ∷ past) p ≡ armed_to_write past p
+  pub armed_to_accept_same : (d : Place) → (arms_to_accept act && names_or_is_at act d) ≡ false → armed_to_accept (act ∷ past) d ≡ armed_to_accept past d
+  pub asked_to_read_same : (p : Place) → (asks_to_read act && names_or_is_at act p) ≡ false → asked_to_read (act ∷ past) p ≡ asked_to_read past p
+  pub asked_to_write_same : (i o : Place) → (asks_to_write act && (is_turn act || is_at act i || is_at act o)) ≡ false → asked_to_write (act ∷ past) i o ≡ asked_to_write past i o
+  -- an accepting is at the place of its peer, and not at the door that it asks
+  pub asked_to_accept_same : (c : Config) (d : Place) → asks_to_accept act ≡ false → asked_to_accept c (act ∷ past) d ≡ asked_to_accept c past d
+  pub due_pieces_same : (c : Config) (s : ℕ) (w : Way) → (reads_bytes act && is_at act (input c s w)) ≡ false → due_pieces c (act ∷ past) s w ≡ due_pieces c past s w
+  pub moved_same : (c : Config) (s : ℕ) → (moves_session act && is_among act (places c s)) ≡ false → moved c (act ∷ past) s ≡ moved c past s
+  pub closed_why_same : (c : Config) (s : ℕ) → (is_closing act && is_among act (things c s)) ≡ false → closed_why c (act ∷ past) s ≡ closed_why c past s
+  pub first_fault_same : (c : Config) (s : ℕ) → (fails_to_transfer act && is_among act (places c s)) ≡ false → first_fault c (act ∷ past) s ≡ first_fault c past s
+  -- with `fork` a peer at any left place is counted
+  pub admitted_same : (c : Config) → meets_peer act ≡ false → admitted c (act ∷ past) ≡ admitted c past
 
--- the step laws: what each kind of act leaves at every place
+-- the step laws: what each kind of act leaves, and where
 abbrev pub StepsLeave : Type 0
 StepsLeave = (act : Act) (past : List Act) → Leaves act past
 
@@ -270,6 +299,7 @@ pub record SameSession (c : Config) (s : ℕ) (one other : List Act) : Type 0 wh
   pub session_moment_same : session_moment c one s ≡ session_moment c other s
   pub asked_to_write_same : (w : Way) → asked_to_write one (input c s w) (output c s w) ≡ asked_to_write other (input c s w) (output c s w)
   pub asked_to_accept_same : (d : Place) → d.session ≡ s → is_program_door c d ≡ false → asked_to_accept c one d ≡ asked_to_accept c other d
+  pub pieces_same : (w : Way) → due_pieces c one s w ≡ due_pieces c other s w
 
 -- an act of another session or of the program door changes nothing of a session that has begun, but for the acts that
 -- are every session's

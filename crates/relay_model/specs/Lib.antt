@@ -3,6 +3,7 @@ pub mod Arming
 pub mod Audit
 pub mod Calls
 pub mod Cause
+pub mod Changes
 pub mod Choices
 pub mod Configs
 pub mod Conversions
