@@ -18,7 +18,7 @@ use Rattle.relay_model.specs.Openings.{Call, Nothing, TryAt, Open, Settle, Liste
 use Rattle.relay_model.specs.Cause.{cause}
 use Rattle.relay_model.specs.Calls.{call, door_cut, enough, full, program_door_call, door_call, called_at}
 use Rattle.relay_model.specs.May.{Legal}
-use Rattle.relay_model.specs.Laws.{DoorTells, begins}
+use Rattle.relay_model.specs.Laws.{DoorTells, begins_holding}
 use Rattle.relay_laws.proofs.PlaceLemmas.{same_place_equal}
 use Rattle.relay_laws.proofs.Holdings.{stays_over}
 use Rattle.relay_laws.proofs.Apart.{EachOwn, each_thing}
@@ -77,7 +77,7 @@ admitted_bound c n (act ∷ past) legal = admitted_bound c n past legal.1
 -- ---- a session that has ended
 
 -- the session of a call that isn't nothing lives
-call_of_dead : (c : Config) (past : List Act) (s : ℕ) → live c past s ≡ false → call c past s ≡ Nothing
+pub call_of_dead : (c : Config) (past : List Act) (s : ℕ) → live c past s ≡ false → call c past s ≡ Nothing
 call_of_dead c past s dead = ap (λ l. cond (l && is_none (cause c past s)) (first_call c past (places c s)) Nothing) dead
 
 dead_of : (fork : Bool) (c : Config) (past : List Act) (s : ℕ) → fork ≡ true → holds c past s ≡ false → cond fork (nat_lt s (admitted c past) && holds c past s) (s == 0) ≡ false
@@ -89,7 +89,7 @@ dead_of true c past s f h = go (nat_lt s (admitted c past))
 dead_of false c past s f h = absurd (false≢true f)
 
 -- where the session calls for nothing, nothing is opened at a place of its own
-no_open : (c : Config) (past : List Act) (q : Place) → call c past q.session ≡ Nothing → (called_at c past q ≡ Open q) ⊎ (called_at c past q ≡ Settle q) → ⊥
+pub no_open : (c : Config) (past : List Act) (q : Place) → call c past q.session ≡ Nothing → (called_at c past q ≡ Open q) ⊎ (called_at c past q ≡ Settle q) → ⊥
 no_open c past q nothing e = go (is_left q && has_fork c) e
   where
     go : (b : Bool) → (cond b (door_call c past) (call c past q.session) ≡ Open q) ⊎ (cond b (door_call c past) (call c past q.session) ≡ Settle q) → ⊥
@@ -98,7 +98,7 @@ no_open c past q nothing e = go (is_left q && has_fork c) e
     go false (inl k) = let x : Nothing ≡ Open q = sym nothing ∙ k in cc
     go false (inr k) = let x : Nothing ≡ Settle q = sym nothing ∙ k in cc
 
-no_listen : (c : Config) (past : List Act) (q : Place) → call c past q.session ≡ Nothing → is_program_door c q ≡ false → called_at c past q ≡ Listen q → ⊥
+pub no_listen : (c : Config) (past : List Act) (q : Place) → call c past q.session ≡ Nothing → is_program_door c q ≡ false → called_at c past q ≡ Listen q → ⊥
 no_listen c past q nothing own e = go (is_left q && has_fork c) refl e
   where
     go : (b : Bool) → (is_left q && has_fork c) ≡ b → cond b (door_call c past) (call c past q.session) ≡ Listen q → ⊥
@@ -124,8 +124,8 @@ no_accept c past q nothing begun (d, e) = go (is_left q && has_fork c) refl e
     go false left k = let x : Nothing ≡ Accept d q = sym nothing ∙ k in cc
 
 -- an act begins no holding of a place of a session that calls for nothing
-pub no_beginning : (c : Config) (n : ℕ) (act : Act) (past : List Act) (s : ℕ) → Legal c n (act ∷ past) → s < numbers c past → call c past s ≡ Nothing → (p : Place) → p.session ≡ s → is_program_door c p ≡ false → begins act p ≡ false
-no_beginning c n act past s legal begun nothing p same own = false_from_ne_true (begins act p) (λ b. refute act legal b)
+pub no_beginning : (c : Config) (n : ℕ) (act : Act) (past : List Act) (s : ℕ) → Legal c n (act ∷ past) → s < numbers c past → call c past s ≡ Nothing → (p : Place) → p.session ≡ s → is_program_door c p ≡ false → begins_holding act p ≡ false
+no_beginning c n act past s legal begun nothing p same own = false_from_ne_true (begins_holding act p) (λ b. refute act legal b)
   where
     none : call c past p.session ≡ Nothing
     none = ap (call c past) same ∙ nothing
@@ -133,7 +133,7 @@ no_beginning c n act past s legal begun nothing p same own = false_from_ne_true 
     early : p.session < numbers c past
     early = subst (λ m. m < numbers c past) (sym same) begun
 
-    refute : (a : Act) → Legal c n (a ∷ past) → begins a p ≡ true → ⊥
+    refute : (a : Act) → Legal c n (a ∷ past) → begins_holding a p ≡ true → ⊥
     refute (Opened q) l b = no_open c past p none (subst (λ x. (called_at c past x ≡ Open x) ⊎ (called_at c past x ≡ Settle x)) (same_place_equal q p b) l.0.1)
     refute (OpenLater q) l b = no_open c past p none (subst (λ x. (called_at c past x ≡ Open x) ⊎ (called_at c past x ≡ Settle x)) (same_place_equal q p b) l.0.1)
     refute (Listening q) l b = no_listen c past p none own (subst (λ x. called_at c past x ≡ Listen x) (same_place_equal q p b) l.0.1)
@@ -141,17 +141,17 @@ no_beginning c n act past s legal begun nothing p same own = false_from_ne_true 
     refute a l b = false≢true b
 
 -- a session that has a cause calls for nothing
-call_of_ended : (c : Config) (past : List Act) (s : ℕ) → is_some (cause c past s) ≡ true → call c past s ≡ Nothing
+pub call_of_ended : (c : Config) (past : List Act) (s : ℕ) → is_some (cause c past s) ≡ true → call c past s ≡ Nothing
 call_of_ended c past s e = ap (λ b. cond b (first_call c past (places c s)) Nothing) (and_right (live c past s) (is_none (cause c past s)) (ap not e))
 
-pub ended_begins : (c : Config) (n : ℕ) (act : Act) (past : List Act) (s : ℕ) → Legal c n (act ∷ past) → s < numbers c past → is_some (cause c past s) ≡ true → (p : Place) → p.session ≡ s → is_program_door c p ≡ false → begins act p ≡ false
+pub ended_begins : (c : Config) (n : ℕ) (act : Act) (past : List Act) (s : ℕ) → Legal c n (act ∷ past) → s < numbers c past → is_some (cause c past s) ≡ true → (p : Place) → p.session ≡ s → is_program_door c p ≡ false → begins_holding act p ≡ false
 ended_begins c n act past s legal begun e p same own = no_beginning c n act past s legal begun (call_of_ended c past s e) p same own
 
 begun_in : (fork : Bool) (s m : ℕ) → fork ≡ true → s < m → s < cond fork m 1
 begun_in true s m f h = h
 begun_in false s m f h = absurd (false≢true f)
 
-still_empty : (c : Config) (s : ℕ) (act : Act) (past : List Act) → ((p : Place) → p.session ≡ s → is_program_door c p ≡ false → begins act p ≡ false) → (ps : List Place) → EachOwn c s ps → list_any (held past) ps ≡ false → list_any (held (act ∷ past)) ps ≡ false
+still_empty : (c : Config) (s : ℕ) (act : Act) (past : List Act) → ((p : Place) → p.session ≡ s → is_program_door c p ≡ false → begins_holding act p ≡ false) → (ps : List Place) → EachOwn c s ps → list_any (held past) ps ≡ false → list_any (held (act ∷ past)) ps ≡ false
 still_empty c s act past none [] own e = refl
 still_empty c s act past none (p ∷ ps) own e =
     let a = or_parts (held past p) (list_any (held past) ps) e in

@@ -28,7 +28,7 @@ use Rattle.relay_model.specs.Moments.{broken}
 use Rattle.relay_model.specs.Rest.{moves, goes}
 use Rattle.relay_model.specs.Calls.{called_at}
 use Rattle.relay_model.specs.May.{Legal, MayAsk}
-use Rattle.relay_model.specs.Laws.{uses, begins, Tells}
+use Rattle.relay_model.specs.Laws.{uses, begins_holding, Tells}
 use Rattle.relay_laws.proofs.PlaceLemmas.{same_place_equal, same_place_self}
 use Rattle.relay_laws.proofs.CallLemmas.{called_tells}
 
@@ -121,7 +121,7 @@ skipped true st later h k = absurd (false≢true (sym k))
 skipped false st later h k = h
 
 -- an act that begins no holding leaves what isn't held
-pub stays_over : (act : Act) (past : List Act) (p : Place) → begins act p ≡ false → held past p ≡ false → held (act ∷ past) p ≡ false
+pub stays_over : (act : Act) (past : List Act) (p : Place) → begins_holding act p ≡ false → held past p ≡ false → held (act ∷ past) p ≡ false
 stays_over (Opened q) past p b h = skipped (same_place q p) Usable (stage past p) h b
 stays_over (OpenLater q) past p b h = skipped (same_place q p) Unsettled (stage past p) h b
 stays_over (OpenFailed q) past p b h = not_held (same_place q p) Failed (stage past p) h refl
@@ -134,13 +134,13 @@ stays_over act past p b h = h
 closed_at : (past : List Act) (p : Place) (why : Why) → held (Closed p why ∷ past) p ≡ false
 closed_at past p why = subst (λ b. holds_at (cond b (Gone why) (stage past p)) ≡ false) (sym (same_place_self p)) refl
 
-over_after : (later past : List Act) (p : Place) (why : Why) → list_any (λ a. begins a p) later ≡ false → held (later ++ Closed p why ∷ past) p ≡ false
+over_after : (later past : List Act) (p : Place) (why : Why) → list_any (λ a. begins_holding a p) later ≡ false → held (later ++ Closed p why ∷ past) p ≡ false
 over_after [] past p why none = closed_at past p why
 over_after (act ∷ later) past p why none =
-    let parts = or_parts (begins act p) (list_any (λ a. begins a p) later) none in
+    let parts = or_parts (begins_holding act p) (list_any (λ a. begins_holding a p) later) none in
     stays_over act (later ++ Closed p why ∷ past) p parts.0 (over_after later past p why parts.1)
 
-pub closed_over : (c : Config) (n : ℕ) (act : Act) (later past : List Act) (p : Place) (why : Why) → Legal c n (act ∷ later ++ Closed p why ∷ past) → list_any (λ a. begins a p) later ≡ false → uses act p ≡ false
+pub closed_over : (c : Config) (n : ℕ) (act : Act) (later past : List Act) (p : Place) (why : Why) → Legal c n (act ∷ later ++ Closed p why ∷ past) → list_any (λ a. begins_holding a p) later ≡ false → uses act p ≡ false
 closed_over c n act later past p why legal none = false_from_ne_true (uses act p) (λ u. false≢true (sym (over_after later past p why none) ∙ used_held c n act (later ++ Closed p why ∷ past) p legal u))
 
 -- ---- what a world tells

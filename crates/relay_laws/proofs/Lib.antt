@@ -7,6 +7,7 @@ pub mod Changing
 pub mod Complete
 pub mod Elsewhere
 mod Examples
+pub mod Finality
 pub mod Finishes
 pub mod Growth
 pub mod Holdings

@@ -22,11 +22,19 @@ use Rattle.relay_model.specs.May.{Legal}
 use Rattle.relay_model.specs.Laws.{is_listening}
 use Rattle.relay_laws.proofs.PlaceLemmas.{same_place_equal}
 
--- what is opened or listened at has not served, and a peer is accepted at a place that is no door
+abbrev pub is_gone : Stage → Bool
+is_gone (Gone why) = true
+is_gone st = false
+
+served_gone : (st : Stage) → is_gone_with whys.Served st ≡ true → is_gone st ≡ true
+served_gone (Gone why) e = refl
+served_gone st e = absurd (false≢true e)
+
+-- what is opened or listened at wasn't closed, and a peer is accepted at a place that is no door
 abbrev pub Unserved : List Act → Call → Type 0
-Unserved past (Open p) = served past p ≡ false
-Unserved past (Settle p) = served past p ≡ false
-Unserved past (Listen d) = served past d ≡ false
+Unserved past (Open p) = is_gone (stage past p) ≡ false
+Unserved past (Settle p) = is_gone (stage past p) ≡ false
+Unserved past (Listen d) = is_gone (stage past d) ≡ false
 Unserved past (Accept d p) = p.door ≡ false
 Unserved past other = Unit {0}
 
@@ -42,14 +50,14 @@ again_unserved : (c : Config) (past : List Act) (p : Place) (wanted : Call) → 
 again_unserved c past p wanted t = choice past (out_of_tries c past p) Nothing (when_due (now past) (next_due (options_of c p).interval (failures past p)) wanted) (λ _. tt) (λ _. due_unserved past (next_due (options_of c p).interval (failures past p)) wanted t)
 
 opening_unserved : (c : Config) (past : List Act) (p : Place) (st : Stage) → stage past p ≡ st → Unserved past (opening_call c past p st)
-opening_unserved c past p Untried e = ap (is_gone_with whys.Served) e
-opening_unserved c past p Unsettled e = choice past (woken past p) (Settle p) Nothing (λ _. ap (is_gone_with whys.Served) e) (λ _. tt)
-opening_unserved c past p Failed e = again_unserved c past p (Open p) (ap (is_gone_with whys.Served) e)
+opening_unserved c past p Untried e = ap is_gone e
+opening_unserved c past p Unsettled e = choice past (woken past p) (Settle p) Nothing (λ _. ap is_gone e) (λ _. tt)
+opening_unserved c past p Failed e = again_unserved c past p (Open p) (ap is_gone e)
 opening_unserved c past p st e = tt
 
 listening_unserved : (c : Config) (past : List Act) (d p : Place) (st : Stage) → p.door ≡ false → stage past d ≡ st → Unserved past (listening_call c past d p st)
-listening_unserved c past d p Untried n e = ap (is_gone_with whys.Served) e
-listening_unserved c past d p Failed n e = again_unserved c past d (Listen d) (ap (is_gone_with whys.Served) e)
+listening_unserved c past d p Untried n e = ap is_gone e
+listening_unserved c past d p Failed n e = again_unserved c past d (Listen d) (ap is_gone e)
 listening_unserved c past d p Waiting n e = choice past (armed_to_accept past d) (Accept d p) Nothing (λ _. n) (λ _. tt)
 listening_unserved c past d p st n e = tt
 
@@ -102,38 +110,33 @@ door_unserved c past =
     (λ _. tt)
     (λ _. choice past (held past (next_place c past)) (Refuse (next_place c past)) (program_door_call c past (stage past program_door)) (λ _. tt) (λ _. program_door_unserved c past (stage past program_door) refl))
 
-called_unserved : (c : Config) (past : List Act) (p : Place) → Unserved past (called_at c past p)
+pub called_unserved : (c : Config) (past : List Act) (p : Place) → Unserved past (called_at c past p)
 called_unserved c past p = choice past (is_left p && has_fork c) (door_call c past) (call c past p.session) (λ _. door_unserved c past) (λ _. call_unserved c past p.session)
 
--- where a listening is called for, the door hasn't served
-refused : (c : Config) (past : List Act) (q d : Place) → called_at c past q ≡ Listen q → served past d ≡ true → same_place q d ≡ true → ⊥
-refused c past q d e s same = false≢true (sym (subst (Unserved past) e (called_unserved c past q)) ∙ ap (served past) (same_place_equal q d same) ∙ s)
+-- where a listening is called for, the door wasn't closed
+pub refused : (c : Config) (past : List Act) (q d : Place) → called_at c past q ≡ Listen q → is_gone (stage past d) ≡ true → same_place q d ≡ true → ⊥
+refused c past q d e s same = false≢true (sym (subst (Unserved past) e (called_unserved c past q)) ∙ ap (λ x. is_gone (stage past x)) (same_place_equal q d same) ∙ s)
 
 pub stays_closed : (c : Config) (n : ℕ) (act : Act) (past : List Act) (d : Place) → Legal c n (act ∷ past) → served past d ≡ true → is_listening act d ≡ false
-stays_closed c n (Listening q) past d legal s = false_from_ne_true (same_place q d) (refused c past q d legal.0.1 s)
-stays_closed c n (ListenFailed q) past d legal s = false_from_ne_true (same_place q d) (refused c past q d legal.0.1 s)
+stays_closed c n (Listening q) past d legal s = false_from_ne_true (same_place q d) (refused c past q d legal.0.1 (served_gone (stage past d) s))
+stays_closed c n (ListenFailed q) past d legal s = false_from_ne_true (same_place q d) (refused c past q d legal.0.1 (served_gone (stage past d) s))
 stays_closed c n act past d legal s = refl
 
 -- ---- it stays as one that has served
 
--- where an opening or a settling is called for, the place hasn't served
-not_opened : (c : Config) (past : List Act) (q d : Place) → (called_at c past q ≡ Open q) ⊎ (called_at c past q ≡ Settle q) → served past d ≡ true → same_place q d ≡ true → ⊥
-not_opened c past q d (inl e) s same = false≢true (sym (subst (Unserved past) e (called_unserved c past q)) ∙ ap (served past) (same_place_equal q d same) ∙ s)
-not_opened c past q d (inr e) s same = false≢true (sym (subst (Unserved past) e (called_unserved c past q)) ∙ ap (served past) (same_place_equal q d same) ∙ s)
+-- where an opening or a settling is called for, the place wasn't closed
+pub not_opened : (c : Config) (past : List Act) (q d : Place) → (called_at c past q ≡ Open q) ⊎ (called_at c past q ≡ Settle q) → is_gone (stage past d) ≡ true → same_place q d ≡ true → ⊥
+not_opened c past q d (inl e) s same = false≢true (sym (subst (Unserved past) e (called_unserved c past q)) ∙ ap (λ x. is_gone (stage past x)) (same_place_equal q d same) ∙ s)
+not_opened c past q d (inr e) s same = false≢true (sym (subst (Unserved past) e (called_unserved c past q)) ∙ ap (λ x. is_gone (stage past x)) (same_place_equal q d same) ∙ s)
 
 not_accepted : (c : Config) (past : List Act) (q d : Place) → ((a : Place) × (called_at c past q ≡ Accept a q)) → d.door ≡ true → same_place q d ≡ true → ⊥
 not_accepted c past q d (a, e) door same = false≢true (sym (subst (Unserved past) e (called_unserved c past q)) ∙ ap (λ x. x.door) (same_place_equal q d same) ∙ door)
 
-gone_free : (st : Stage) → is_gone_with whys.Served st ≡ true → holds_at st ≡ false
-gone_free Untried e = refl
-gone_free Usable e = absurd (false≢true e)
-gone_free Unsettled e = absurd (false≢true e)
-gone_free Failed e = refl
-gone_free (Met peer) e = absurd (false≢true e)
-gone_free Waiting e = absurd (false≢true e)
+pub gone_free : (st : Stage) → is_gone st ≡ true → holds_at st ≡ false
 gone_free (Gone why) e = refl
+gone_free st e = absurd (false≢true e)
 
-not_closed : (past : List Act) (q d : Place) → held past q ≡ true → served past d ≡ true → same_place q d ≡ true → ⊥
+not_closed : (past : List Act) (q d : Place) → held past q ≡ true → is_gone (stage past d) ≡ true → same_place q d ≡ true → ⊥
 not_closed past q d h s same = false≢true (sym (gone_free (stage past d) s) ∙ sym (ap (held past) (same_place_equal q d same)) ∙ h)
 
 kept : (b : Bool) (st old : Stage) → (b ≡ true → ⊥) → is_gone_with whys.Served old ≡ true → is_gone_with whys.Served (cond b st old) ≡ true
@@ -141,11 +144,11 @@ kept true st old none s = absurd (none refl)
 kept false st old none s = s
 
 pub stays_served : (c : Config) (n : ℕ) (act : Act) (past : List Act) (d : Place) → Legal c n (act ∷ past) → d.door ≡ true → served past d ≡ true → served (act ∷ past) d ≡ true
-stays_served c n (Opened q) past d legal door s = kept (same_place q d) Usable (stage past d) (not_opened c past q d legal.0.1 s) s
-stays_served c n (OpenLater q) past d legal door s = kept (same_place q d) Unsettled (stage past d) (not_opened c past q d legal.0.1 s) s
-stays_served c n (OpenFailed q) past d legal door s = kept (same_place q d) Failed (stage past d) (not_opened c past q d legal.0.1 s) s
-stays_served c n (Listening q) past d legal door s = kept (same_place q d) Waiting (stage past d) (refused c past q d legal.0.1 s) s
-stays_served c n (ListenFailed q) past d legal door s = kept (same_place q d) Failed (stage past d) (refused c past q d legal.0.1 s) s
+stays_served c n (Opened q) past d legal door s = kept (same_place q d) Usable (stage past d) (not_opened c past q d legal.0.1 (served_gone (stage past d) s)) s
+stays_served c n (OpenLater q) past d legal door s = kept (same_place q d) Unsettled (stage past d) (not_opened c past q d legal.0.1 (served_gone (stage past d) s)) s
+stays_served c n (OpenFailed q) past d legal door s = kept (same_place q d) Failed (stage past d) (not_opened c past q d legal.0.1 (served_gone (stage past d) s)) s
+stays_served c n (Listening q) past d legal door s = kept (same_place q d) Waiting (stage past d) (refused c past q d legal.0.1 (served_gone (stage past d) s)) s
+stays_served c n (ListenFailed q) past d legal door s = kept (same_place q d) Failed (stage past d) (refused c past q d legal.0.1 (served_gone (stage past d) s)) s
 stays_served c n (Accepted q peer) past d legal door s = kept (same_place q d) (Met peer) (stage past d) (not_accepted c past q d legal.0.1 door) s
-stays_served c n (Closed q why) past d legal door s = kept (same_place q d) (Gone why) (stage past d) (not_closed past q d legal.0.is_held s) s
+stays_served c n (Closed q why) past d legal door s = kept (same_place q d) (Gone why) (stage past d) (not_closed past q d legal.0.is_held (served_gone (stage past d) s)) s
 stays_served c n act past d legal door s = s

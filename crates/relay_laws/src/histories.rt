@@ -1,5 +1,5 @@
 // What holds of every legal list of acts.
-ghost use Rattle.relay_model.specs.Laws.{FinishedIsWhole, PrefixesAreLegal, WrittenIsDue, BacklogIsBounded, EndIsLast, PassedIsWhole, OutputsAgree, UsedIsHeld, ClosedIsOver, StandingIsHeld, CallsTell, HeldHasBegun, TestsAreRight, OneTestIsRight};
+ghost use Rattle.relay_model.specs.Laws.{FinishedIsWhole, PrefixesAreLegal, WrittenIsDue, BacklogIsBounded, EndIsLast, PassedIsWhole, OutputsAgree, UsedIsHeld, ClosedForGood, ClosedIsOver, StandingIsHeld, CallsTell, HeldHasBegun, TestsAreRight, OneTestIsRight};
 
 /// What stood before some of the last acts of a legal list is legal.
 pub fn prefixes_are_legal()
@@ -40,6 +40,12 @@ pub fn used_is_held()
 /// at most once.
 pub fn closed_is_over()
     ensures { ClosedIsOver }
+{}
+
+/// What was closed for another reason than a refusal is closed for good: nothing happens there any more but that its
+/// child ends.
+pub fn closed_is_for_good()
+    ensures { ClosedForGood }
 {}
 
 /// What a world tells of a thing says whether it is held.

@@ -15,8 +15,8 @@ pub use frames::{
     steps_change_their_own, steps_leave_the_rest,
 };
 pub use histories::{
-    backlog_is_bounded, calls_tell, closed_is_over, end_is_last, finished_is_whole, held_has_begun,
-    one_test_is_right, outputs_agree, passed_is_whole, prefixes_are_legal, standing_is_held,
-    tests_are_right, used_is_held, written_is_due,
+    backlog_is_bounded, calls_tell, closed_is_for_good, closed_is_over, end_is_last,
+    finished_is_whole, held_has_begun, one_test_is_right, outputs_agree, passed_is_whole,
+    prefixes_are_legal, standing_is_held, tests_are_right, used_is_held, written_is_due,
 };
 pub use waits::{rest_is_of_parts, until_is_least};

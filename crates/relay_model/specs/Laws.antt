@@ -11,7 +11,7 @@ use Rattle.relay_model.specs.declared.acts.Act.TheVariants.{Opened, OpenLater, L
 use Rattle.relay_model.specs.Places.{same_place}
 use Rattle.relay_model.specs.Holding.{standing, is_free}
 use Rattle.relay_model.specs.Configs.{input, output, formed, has_fork, program_door, is_program_door}
-use Rattle.relay_model.specs.History.{now, got, put, held, stage, Unsettled, Waiting, served, woken}
+use Rattle.relay_model.specs.History.{now, same_why, got, put, held, stage, Unsettled, Waiting, served, woken}
 use Rattle.relay_model.specs.Arming.{armed_to_accept}
 use Rattle.relay_model.specs.Sessions.{numbers, admitted, holds, live_count, next_place, door_options}
 use Rattle.relay_model.specs.Transfers.{due, backlog}
@@ -21,6 +21,7 @@ use Rattle.relay_model.specs.Cause.{cause}
 use Rattle.relay_model.specs.Calls.{called_at, door_call, enough, full}
 use Rattle.relay_model.specs.May.{May, Legal, BeginsWith}
 use Rattle.relay_model.specs.Audit.{may_come, first_illegal}
+use Rattle.relay_model.specs.Frames.{is_at, reaps}
 
 -- what stood before some of the last acts of a legal list is legal
 abbrev pub PrefixesAreLegal : Type 0
@@ -77,12 +78,12 @@ uses (Closed q why) p = same_place q p
 uses act p = false
 
 -- the act begins or settles a holding of this thing
-abbrev pub begins : Act → Place → Bool
-begins (Opened q) p = same_place q p
-begins (OpenLater q) p = same_place q p
-begins (Listening q) p = same_place q p
-begins (Accepted q peer) p = same_place q p
-begins act p = false
+abbrev pub begins_holding : Act → Place → Bool
+begins_holding (Opened q) p = same_place q p
+begins_holding (OpenLater q) p = same_place q p
+begins_holding (Listening q) p = same_place q p
+begins_holding (Accepted q peer) p = same_place q p
+begins_holding act p = false
 
 -- what is used is held
 abbrev pub UsedIsHeld : Type 0
@@ -92,7 +93,13 @@ UsedIsHeld = (c : Config) (n : ℕ) (act : Act) (past : List Act) (p : Place) �
 abbrev pub ClosedIsOver : Type 0
 ClosedIsOver =
     (c : Config) (n : ℕ) (act : Act) (later past : List Act) (p : Place) (why : Why) → Legal c n (act ∷ later ++ Closed p why ∷ past) →
-    list_any (λ a. begins a p) later ≡ false → uses act p ≡ false
+    list_any (λ a. begins_holding a p) later ≡ false → uses act p ≡ false
+
+-- what was closed for another reason than a refusal is closed for good: nothing but the end of its child follows there
+abbrev pub ClosedForGood : Type 0
+ClosedForGood =
+    (c : Config) (n : ℕ) (act : Act) (later past : List Act) (p : Place) (why : Why) → Legal c n (act ∷ later ++ Closed p why ∷ past) →
+    same_why why whys.Refused ≡ false → is_at act p ≡ true → reaps act ≡ true
 
 -- how a thing stands for a world is whether it is held
 abbrev pub StandingIsHeld : Type 0
@@ -154,7 +161,7 @@ EndedStaysEnded = (c : Config) (n : ℕ) (act : Act) (past : List Act) (s : ℕ)
 abbrev pub CausedBeginsNothing : Type 0
 CausedBeginsNothing =
     (c : Config) (n : ℕ) (act : Act) (past : List Act) (s : ℕ) → Legal c n (act ∷ past) → s < numbers c past → is_some (cause c past s) ≡ true →
-    (p : Place) → p.session ≡ s → is_program_door c p ≡ false → begins act p ≡ false
+    (p : Place) → p.session ≡ s → is_program_door c p ≡ false → begins_holding act p ≡ false
 
 -- the act listens at this door, or fails to
 abbrev pub is_listening : Act → Place → Bool
