@@ -6,7 +6,7 @@ pub mod CallLemmas
 pub mod Changing
 pub mod Complete
 pub mod Elsewhere
-mod Examples
+pub mod Examples
 pub mod Finality
 pub mod Finishes
 pub mod Growth

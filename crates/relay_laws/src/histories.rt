@@ -1,5 +1,6 @@
 // What holds of every legal list of acts.
 ghost use Rattle.relay_model.specs.Laws.{FinishedIsWhole, PrefixesAreLegal, WrittenIsDue, BacklogIsBounded, EndIsLast, PassedIsWhole, OutputsAgree, UsedIsHeld, ClosedForGood, ClosedIsOver, StandingIsHeld, CallsTell, HeldHasBegun, TestsAreRight, OneTestIsRight};
+ghost use Rattle.relay_laws.specs.Examples.{ExamplesAreJudged};
 
 /// What stood before some of the last acts of a legal list is legal.
 pub fn prefixes_are_legal()
@@ -76,4 +77,9 @@ pub fn one_test_is_right()
 /// A session that ends since it has finished has written all that is due.
 pub fn finished_is_whole()
     ensures { FinishedIsWhole }
+{}
+
+/// Whole journals are legal, end and wait as is written beside them, and changed ones aren't legal.
+pub fn examples_are_judged()
+    ensures { ExamplesAreJudged }
 {}
