@@ -1,3 +1,4 @@
 pub mod Openings
 pub mod Steps
 pub mod RoundTrip
+pub mod Told

@@ -36,7 +36,7 @@ pub dual_read : (around : List Opening) (at b c : ℕ) (bs : List ℕ) → escap
 unfolding tokens_from
 dual_read around at b c bs e d = rw (e, d) refl
 
-lone_read : (around : List Opening) (at b : ℕ) → escapes (innermost around) b ≡ true → tokens_from around at (b ∷ []) ≡ Err (faults.LoneBackslash at)
+pub lone_read : (around : List Opening) (at b : ℕ) → escapes (innermost around) b ≡ true → tokens_from around at (b ∷ []) ≡ Err (faults.LoneBackslash at)
 unfolding tokens_from
 lone_read around at b e = rw e refl
 

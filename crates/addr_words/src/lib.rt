@@ -3,12 +3,14 @@
 #![tactic(auto)]
 
 mod faults;
+mod laws;
 mod nesting;
 mod scanning;
 mod token_list;
 mod writing;
 
 pub use faults::WordFault;
+pub use laws::tokens_are_told;
 pub use scanning::words_of;
 pub use token_list::{Token, TokenKind, Words};
 pub use writing::write_word;
