@@ -1,5 +1,5 @@
 -- What is printed is read as the address again.
-use Rattle.std.proofs.Common.{◌≡◌, ℕ, ◌+◌, ◌≤◌, Bool, true, false, cond, List, [], ◌∷◌, ◌++◌, length, Option, Some, None, Result, Ok, Err, refl, sym, ap, subst, ◌∙◌, append_assoc, arith, length-append}
+use Rattle.std.proofs.Common.{◌≡◌, ℕ, ◌+◌, ◌≤◌, Bool, false, cond, List, [], ◌∷◌, ◌++◌, length, Option, Some, None, Result, Ok, Err, refl, sym, ap, subst, ◌∙◌, append_assoc, arith, length-append}
 use Rattle.std.specs.Prelude.{IfOk}
 use Rattle.std.specs.List.{AllByRecursion}
 use Rattle.std.proofs.lemmas.List.{append-nil}
@@ -16,8 +16,8 @@ use Rattle.addr_grammar.specs.declared.faults.GrammarFault.{GrammarFault}
 use Rattle.addr_grammar.specs.declared.faults.GrammarFault.TheVariants.{EmptyOption, Empty}
 use Rattle.addr_grammar.specs.declared.addresses.RawAddress.{RawAddress}
 use Rattle.addr_grammar.specs.declared.addresses.RawAddress.TheVariants.{One, Two}
-use Rattle.addr_grammar.specs.Addresses.{Named, Parts, is_empty, is_dash, has_slash, FitsKeyword, HaveNames, IsSingle}
-use Rattle.addr_grammar.specs.Grammar.{◌>>=◌, is_mark, before, after, Piece, pieces, later, byte_of, decoded, Header, gopen, stdio, header, texts, head_of, value_of, option_of, options_of, single_of, one_of, two_of, second_half, halves, address_of, widen, reading}
+use Rattle.addr_grammar.specs.Addresses.{Named, Parts, is_empty, is_dash, FitsKeyword, HaveNames, IsSingle}
+use Rattle.addr_grammar.specs.Grammar.{◌>>=◌, is_mark, before, after, later, decoded, Header, gopen, stdio, header, texts, head_of, value_of, option_of, options_of, single_of, second_half, halves, address_of, widen, reading}
 use Rattle.addr_grammar.specs.Printing.{printed_params, printed_value, printed_option, printed_options, printed_single, printed, IsAddress}
 use Rattle.addr_grammar.proofs.Pieces.{pieces_cut}
 

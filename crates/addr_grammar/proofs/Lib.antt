@@ -3,3 +3,4 @@ pub mod OptionRuns
 pub mod Keywords
 pub mod Again
 pub mod Spelled
+pub mod Told

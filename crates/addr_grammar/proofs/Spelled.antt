@@ -11,8 +11,8 @@ use Rattle.addr_grammar.specs.declared.faults.GrammarFault.{GrammarFault}
 use Rattle.addr_grammar.specs.declared.faults.GrammarFault.TheVariants.{EmptyOption, Empty}
 use Rattle.addr_grammar.specs.declared.addresses.RawAddress.{RawAddress}
 use Rattle.addr_grammar.specs.declared.addresses.RawAddress.TheVariants.{One, Two}
-use Rattle.addr_grammar.specs.Addresses.{Named, Parts, is_empty, is_dash, has_slash, FitsKeyword}
-use Rattle.addr_grammar.specs.Grammar.{◌>>=◌, is_mark, before, after, Piece, pieces, later, decoded, Header, gopen, stdio, header, texts, head_of, value_of, option_of, options_of, single_of, second_half, halves, address_of, widen, reading, Reads}
+use Rattle.addr_grammar.specs.Addresses.{Named, Parts, is_empty, is_dash, has_slash}
+use Rattle.addr_grammar.specs.Grammar.{◌>>=◌, is_mark, before, after, Piece, later, decoded, Header, gopen, stdio, header, texts, head_of, value_of, option_of, options_of, single_of, second_half, halves, address_of, widen, reading, Reads}
 use Rattle.addr_grammar.specs.Spelling.{Free, PartAt, SpellsTexts, SpellsKeyword, SpellsHead, SpellsOption, SpellsOptions, SpellsSingle, SpellsTokens, Spells, ReadsSpelled, SpellsAtMostOne}
 use Rattle.addr_grammar.proofs.Pieces.{pieces_cut}
 use Rattle.addr_grammar.proofs.Keywords.{bind_ok, ok_is}

@@ -1,5 +1,5 @@
 -- Which texts spell which addresses, as a relation. Where the tokens lie in the text doesn't matter.
-use Rattle.std.specs.Prelude.{◌≡◌, ℕ, Bool, true, false, ◌⊎◌, List, [], ◌∷◌, ◌++◌, Option, Some, None, option_map, Result, Ok}
+use Rattle.std.specs.Prelude.{◌≡◌, ℕ, true, false, ◌⊎◌, List, [], ◌∷◌, ◌++◌, Option, Some, None, option_map, Result, Ok}
 use Rattle.std.specs.List.{AllByRecursion}
 use Rattle.addr_words.specs.declared.token_list.Token.{Token}
 use Rattle.addr_words.specs.Reading.{tokens_of}

@@ -5,12 +5,14 @@
 mod addresses;
 mod cutting;
 mod faults;
+mod laws;
 mod options;
 mod parsing;
 mod printing;
 
 pub use addresses::{RawAddress, RawSingle};
 pub use faults::GrammarFault;
+pub use laws::addresses_are_told;
 pub use options::RawOption;
 pub use parsing::{one_address, parse_address};
 pub use printing::print_address;

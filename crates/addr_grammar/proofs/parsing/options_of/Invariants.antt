@@ -1,4 +1,4 @@
-use Rattle.std.proofs.Common.{◌≡◌, ◌++◌, length}
+use Rattle.std.proofs.Common.{◌≡◌, length}
 use Rattle.std.specs.Prelude.{map}
 use Rattle.addr_grammar.specs.declared.cutting.Mark.TheVariants.{Comma}
 use Rattle.addr_grammar.specs.Addresses.{named}
