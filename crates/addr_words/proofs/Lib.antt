@@ -2,3 +2,4 @@ pub mod Openings
 pub mod Steps
 pub mod RoundTrip
 pub mod Told
+pub mod Lies
