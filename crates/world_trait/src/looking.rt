@@ -125,7 +125,7 @@ impl Lookout {
     pub fn forget_place(&mut self, place: Place)
         ensures { self.new ≡ elsewhere self.old place }
     {
-        self.entries.retain(|entry| !entry.place.is(place));
+        self.entries.retain(|looked| !looked.place.is(place));
     }
 
     /// From now on looks at nothing that the list names.

@@ -555,6 +555,7 @@ impl World for MemWorld {
     fn note(&mut self, text: &[u8]) -> NoteAnswer
         ensures act { Answered (told_kept self.old.kept) (told_kept self.new.kept) (lookup self.old.held.entries) (lookup self.new.held.entries) (note_act text.now result) }
         ensures cause { Rose self.old.faults self.new.faults (is_note_fault result) }
+        ensures noted { is_note_fault result ≡ false }
         ensures waits { self.new.waits ≡ self.old.waits }
         ensures stops { self.old.stops ≤ self.new.stops }
         ensures clock { self.new.clock ≡ self.old.clock }

@@ -472,3 +472,46 @@ fn reaps_as_scripted(rt: HostRuntime) {
     assert!(rt; close_and_reap(&mut world, IN) == Some(ReapAnswer::NoChild));
     assert!(rt; world.journal().len() == 5);
 }
+
+#[test]
+fn closes_what_is_still_settling(rt: HostRuntime) {
+    let alloc = rt.alloc();
+    let stdin = single(alloc, Target::Stdin).expect(&rt, "memory");
+    let mut ready = ReadyList::new(alloc).expect(&rt, "memory");
+    let mut world = MemWorld::new(alloc);
+    world.add_open(IN, 0, OpenItem::Later).expect(&rt, "memory");
+    assert!(rt; open(&mut world, IN, &stdin) == Some(OpenAnswer::Later));
+    assert!(rt; world.standing(IN) == Some(Standing::Settling));
+    assert!(rt; close(&mut world, IN, Why::Stopped));
+    assert!(rt; world.standing(IN) == None);
+    assert!(rt; settle(&mut world, IN) == None);
+    assert!(rt; world.wait(Some(2), &mut ready) == Turned::Turned { at: 2, stop: false });
+    assert!(rt; ready.len() == 0);
+    assert!(rt; world.journal().len() == 3);
+    let closed =
+        matches!(world.journal().get(1), Act::Closed(place, why) if place.is(IN) && *why == Why::Stopped);
+    assert!(rt; closed);
+}
+
+#[test]
+fn closes_a_door(rt: HostRuntime) {
+    let alloc = rt.alloc();
+    let target = single(alloc, Target::Echo).expect(&rt, "memory");
+    let mut ready = ReadyList::new(alloc).expect(&rt, "memory");
+    let mut world = MemWorld::new(alloc);
+    world
+        .add_peer(DOOR, 1, PeerItem::Comes(PEER))
+        .expect(&rt, "memory");
+    assert!(rt; listen(&mut world, DOOR, &target) == Some(ListenAnswer::Listening));
+    assert!(rt; world.standing(DOOR) == Some(Standing::Open));
+    assert!(rt; accept(&mut world, DOOR, IN) == Some(AcceptAnswer::NoPeer));
+    assert!(rt; close(&mut world, DOOR, Why::Finished));
+    assert!(rt; world.standing(DOOR) == None);
+    assert!(rt; accept(&mut world, DOOR, IN) == None);
+    assert!(rt; world.wait(Some(2), &mut ready) == Turned::Turned { at: 2, stop: false });
+    assert!(rt; ready.len() == 0);
+    assert!(rt; world.journal().len() == 4);
+    let closed =
+        matches!(world.journal().get(2), Act::Closed(place, why) if place.is(DOOR) && *why == Why::Finished);
+    assert!(rt; closed);
+}
