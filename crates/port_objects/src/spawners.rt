@@ -1,5 +1,5 @@
 // Spawners for tests: one that never fails, and one that fails where it is told to.
-ghost use Rattle.std.specs.Prelude.{◌≡◌, ◌+◌, ◌-◌, ◌^◌, ◌==◌, min, true, false, not};
+ghost use Rattle.std.specs.Prelude.{◌≡◌, ◌+◌, ◌-◌, ◌^◌, ◌==◌, min, true, false, not, Some};
 ghost use Rattle.std.specs.List.{list_any};
 ghost use Rattle.port_trait.specs.Counting.{Counted};
 
@@ -25,6 +25,8 @@ impl<R: Threads> Spawner for SureSpawner<R> {
     type Runtime = R;
 
     ghost faults = { λ _. 0 };
+
+    ghost sure = { λ _. true };
 
     fn refuses(&mut self) -> bool
         ensures { result ≡ false }
@@ -78,6 +80,10 @@ impl<R: Threads> Spawner for ListSpawner<R> {
     type Runtime = R;
 
     ghost faults = { λ spawner. spawner.faults };
+
+    ghost script = { λ spawner. Some (record { fails = spawner.fails; started = spawner.started }) };
+
+    ghost sure = { λ _. true };
 
     /// Counts the start, and refuses it where its number stands in the list.
     fn refuses(&mut self) -> bool

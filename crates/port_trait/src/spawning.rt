@@ -1,7 +1,7 @@
 // Works are started in threads of their own; who waits for them is woken.
-ghost use Rattle.std.specs.Prelude.{◌≡◌, ◌≤◌, ℕ, Bool, not, IfOk, IfErr, OnErr};
+ghost use Rattle.std.specs.Prelude.{◌≡◌, ◌≤◌, ℕ, Bool, true, false, not, Option, None, IfOk, IfErr, OnErr, IsOk, IsErr};
 ghost use Rattle.port_trait.specs.Counting.{Rose, Counted};
-ghost use Rattle.port_trait.specs.Tasks.{TaskKeeps, TaskGives};
+ghost use Rattle.port_trait.specs.Tasks.{TaskKeeps, TaskGives, StartScript, refuses_next, after_start};
 
 use std::thread;
 use std::thread::{Promise, PromisedHandle, Threads};
@@ -30,17 +30,26 @@ pub trait Spawner {
     type Runtime: Threads;
 
     ghost faults: { Self → ℕ };
+    // which starts it refuses from the outset, and how many came; None where it refuses none
+    ghost script: { Self → Option StartScript } = { λ _. None };
+    // whether a work for which no thread can be made is always done in the call
+    ghost sure: { Self → Bool } = { λ _. false };
 
     /// Whether the next start is refused from the outset.
     fn refuses(&mut self) -> bool
-        ensures { Counted result (faults self.old) (faults self.new) };
+        ensures refused { result ≡ refuses_next (script self.old) }
+        ensures script { script self.new ≡ after_start (script self.old) }
+        ensures sure { sure self.new ≡ sure self.old }
+        ensures counted { Counted result (faults self.old) (faults self.new) };
 
     /// What threads are started with.
     fn threads(&self) -> &Self::Runtime;
 
     /// No thread could be made: whether the work is to be done in the call instead.
     fn works_here(&mut self) -> bool
-        ensures { Counted (not result) (faults self.old) (faults self.new) };
+        ensures here { sure self.old ≡ true → result ≡ true }
+        ensures kept { (script self.new ≡ script self.old) × (sure self.new ≡ sure self.old) }
+        ensures counted { Counted (not result) (faults self.old) (faults self.new) };
 
     /// Starts the work. Where it can't be started, the work is handed back.
     final fn start<T, Q, F>(&mut self, promise: Q, work: F) -> Result<Task<T, Q>, F>
@@ -51,6 +60,9 @@ pub trait Spawner {
         F: FnOnce() -> T + Send + 'static,
         requires runs { F.pre work }
         requires keeps { (given : T) → F.post work given → Q.kept_by promise given }
+        ensures refuses { refuses_next (script self.old) ≡ true → IsErr result }
+        ensures starts { refuses_next (script self.old) ≡ false → sure self.old ≡ true → IsOk result }
+        ensures script { (script self.new ≡ after_start (script self.old)) × (sure self.new ≡ sure self.old) }
         ensures grows { faults self.old ≤ faults self.new }
         ensures started { IfOk result (TaskKeeps Q.kept_by promise) }
         ensures refused { OnErr result (Rose (faults self.old) (faults self.new)) }
