@@ -1,11 +1,16 @@
 // Ports that call their source or sink in the call itself, which may block.
 ghost use Rattle.std.specs.Prelude.{◌≡◌, ◌≢◌, ◌<◌, ◌≤◌, ◌++◌, Bool, true, false, length, take, option_map};
 ghost use Rattle.port_trait.specs.Counting.{Tallied, Counted};
-ghost use Rattle.port_trait.specs.Direct.{fresh_reading, fresh_writing};
+ghost use Rattle.port_trait.specs.Direct.{fresh_reading, fresh_writing, with_fault, no_hint};
 ghost use Rattle.port_trait.specs.Meanings.{AcceptsAll, is_end, read_event, write_event, shut_event, is_write_fault, is_shut_fault, IsOfStream};
 ghost use Rattle.port_trait.specs.Streams.{SourceGives, SinkTakes, source_failed, source_ended, sink_failed, as_source_answer, as_sink_answer, finishes};
+ghost use Rattle.port_trait.specs.declared.answers.Begun.TheVariants as begins;
+ghost use Rattle.port_trait.specs.declared.answers.Settled.TheVariants as settles;
+ghost use Rattle.port_trait.specs.declared.answers.Got.TheVariants as reads;
 ghost use Rattle.port_trait.specs.declared.answers.Took.TheVariants as writes;
 ghost use Rattle.port_trait.specs.declared.answers.Shutting.TheVariants as shuts;
+ghost use Rattle.port_trait.specs.declared.answers.PortReap.TheVariants as reaps;
+ghost use Rattle.port_trait.specs.declared.answers.Joining.TheVariants as joining;
 
 use crate::answers::{
     Begun, Got, Hint, Joining, PortReap, Settled, Shutting, SinkTook, SourceGot, Took,
@@ -58,14 +63,18 @@ impl<S: Source + Drop> Port for DirectReader<S> {
 
     ghost child = { λ _. false };
 
-    fn begin(&mut self) -> Begun {
-        if !self.begun {
-            self.begun = true;
-        }
+    fn begin(&mut self) -> Begun
+        ensures begun { result ≡ begins.Begun }
+        ensures kept { self.new ≡ record self.old { begun = true } }
+    {
+        self.begun = true;
         Begun::Begun
     }
 
-    fn settle(&mut self) -> Settled {
+    fn settle(&mut self) -> Settled
+        ensures ready { result ≡ settles.Ready }
+        ensures kept { self.new ≡ self.old }
+    {
         Settled::Ready
     }
 
@@ -98,41 +107,67 @@ impl<S: Source + Drop> Port for DirectReader<S> {
         }
     }
 
-    fn write(&mut self, _bytes: &[u8]) -> Took {
+    fn write(&mut self, _bytes: &[u8]) -> Took
+        ensures failed { result ≡ writes.Failed }
+        ensures counted { self.new ≡ record self.old { counts = with_fault self.old.counts } }
+        ensures counts { Tallied (write_event result) self.old.counts self.new.counts }
+    {
         self.counts.count_fault();
         Took::Failed
     }
 
-    fn send(&mut self, _bytes: &[u8]) -> Took {
+    fn send(&mut self, _bytes: &[u8]) -> Took
+        ensures failed { result ≡ writes.Failed }
+        ensures counted { self.new ≡ record self.old { counts = with_fault self.old.counts } }
+        ensures counts { Tallied (write_event result) self.old.counts self.new.counts }
+    {
         self.counts.count_fault();
         Took::Failed
     }
 
-    fn put_all(&mut self, _bytes: &[u8]) -> Took {
+    fn put_all(&mut self, _bytes: &[u8]) -> Took
+        ensures failed { result ≡ writes.Failed }
+        ensures counted { self.new ≡ record self.old { counts = with_fault self.old.counts } }
+        ensures counts { Tallied (write_event result) self.old.counts self.new.counts }
+    {
         self.counts.count_fault();
         Took::Failed
     }
 
-    fn shut(&mut self, _how: Shut) -> Shutting {
+    fn shut(&mut self, _how: Shut) -> Shutting
+        ensures done { result ≡ shuts.Done }
+        ensures kept { self.new ≡ self.old }
+    {
         Shutting::Done
     }
 
-    fn hint(&mut self) -> Hint {
+    fn hint(&mut self) -> Hint
+        ensures hinted { result ≡ no_hint }
+        ensures kept { self.new ≡ self.old }
+    {
         Hint {
             readable: false,
             writable: false,
         }
     }
 
-    fn may_hint(&self) -> bool {
+    fn may_hint(&self) -> bool
+        ensures { result ≡ false }
+    {
         false
     }
 
-    fn reap(&mut self) -> PortReap {
+    fn reap(&mut self) -> PortReap
+        ensures none { result ≡ reaps.NoChild }
+        ensures kept { self.new ≡ self.old }
+    {
         PortReap::NoChild
     }
 
-    fn join(&mut self) -> Joining {
+    fn join(&mut self) -> Joining
+        ensures joined { result ≡ joining.Joined }
+        ensures kept { self.new ≡ self.old }
+    {
         Joining::Joined
     }
 }
@@ -179,18 +214,27 @@ impl<K: Sink + Drop> Port for DirectWriter<K> {
 
     ghost child = { λ _. false };
 
-    fn begin(&mut self) -> Begun {
-        if !self.begun {
-            self.begun = true;
-        }
+    fn begin(&mut self) -> Begun
+        ensures begun { result ≡ begins.Begun }
+        ensures kept { self.new ≡ record self.old { begun = true } }
+    {
+        self.begun = true;
         Begun::Begun
     }
 
-    fn settle(&mut self) -> Settled {
+    fn settle(&mut self) -> Settled
+        ensures ready { result ≡ settles.Ready }
+        ensures kept { self.new ≡ self.old }
+    {
         Settled::Ready
     }
 
-    fn read(&mut self, _into: &mut [u8]) -> Got {
+    fn read(&mut self, _into: &mut [u8]) -> Got
+        ensures failed { result ≡ reads.Failed }
+        ensures untouched { _into.new ≡ _into.old }
+        ensures counted { self.new ≡ record self.old { counts = with_fault self.old.counts; ended = false } }
+        ensures counts { Tallied (read_event result) self.old.counts self.new.counts }
+    {
         self.ended = false;
         self.counts.count_fault();
         Got::Failed
@@ -214,7 +258,11 @@ impl<K: Sink + Drop> Port for DirectWriter<K> {
         }
     }
 
-    fn send(&mut self, _bytes: &[u8]) -> Took {
+    fn send(&mut self, _bytes: &[u8]) -> Took
+        ensures failed { result ≡ writes.Failed }
+        ensures counted { self.new ≡ record self.old { counts = with_fault self.old.counts } }
+        ensures counts { Tallied (write_event result) self.old.counts self.new.counts }
+    {
         self.counts.count_fault();
         Took::Failed
     }
@@ -254,22 +302,33 @@ impl<K: Sink + Drop> Port for DirectWriter<K> {
         }
     }
 
-    fn hint(&mut self) -> Hint {
+    fn hint(&mut self) -> Hint
+        ensures hinted { result ≡ no_hint }
+        ensures kept { self.new ≡ self.old }
+    {
         Hint {
             readable: false,
             writable: false,
         }
     }
 
-    fn may_hint(&self) -> bool {
+    fn may_hint(&self) -> bool
+        ensures { result ≡ false }
+    {
         false
     }
 
-    fn reap(&mut self) -> PortReap {
+    fn reap(&mut self) -> PortReap
+        ensures none { result ≡ reaps.NoChild }
+        ensures kept { self.new ≡ self.old }
+    {
         PortReap::NoChild
     }
 
-    fn join(&mut self) -> Joining {
+    fn join(&mut self) -> Joining
+        ensures joined { result ≡ joining.Joined }
+        ensures kept { self.new ≡ self.old }
+    {
         Joining::Joined
     }
 }
