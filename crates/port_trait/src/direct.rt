@@ -349,3 +349,56 @@ fn write_front<K: Sink>(sink: &mut K, bytes: &[u8]) -> (usize, bool)
     }
     (count, false)
 }
+
+#[cfg(test)]
+mod tests {
+    use super::*;
+    use crate::streams::{StdSink, StdSource};
+
+    const NO_HINT: Hint = Hint {
+        readable: false,
+        writable: false,
+    };
+
+    #[test]
+    fn a_reader_fails_what_is_written(rt: HostRuntime) {
+        let mut port = DirectReader::new(StdSource::new(b"abc".as_slice()));
+        assert_eq!(rt; port.begin(), Begun::Begun);
+        assert_eq!(rt; port.settle(), Settled::Ready);
+        assert_eq!(rt; port.write(b"d"), Took::Failed);
+        assert_eq!(rt; port.send(b"d"), Took::Failed);
+        assert_eq!(rt; port.put_all(b"d"), Took::Failed);
+        assert_eq!(rt; port.counts.faults, 3);
+    }
+
+    #[test]
+    fn a_reader_knows_nothing_by_itself(rt: HostRuntime) {
+        let mut port = DirectReader::new(StdSource::new(b"abc".as_slice()));
+        assert_eq!(rt; port.shut(Shut::Down), Shutting::Done);
+        assert_eq!(rt; port.hint(), NO_HINT);
+        assert!(rt; !port.may_hint());
+        assert_eq!(rt; port.reap(), PortReap::NoChild);
+        assert_eq!(rt; port.join(), Joining::Joined);
+    }
+
+    #[test]
+    fn a_writer_fails_what_is_read(rt: HostRuntime) {
+        let mut port = DirectWriter::new(StdSink::new(Vec::<u8>::new(rt.alloc())));
+        let mut into = [7u8; 2];
+        assert_eq!(rt; port.begin(), Begun::Begun);
+        assert_eq!(rt; port.settle(), Settled::Ready);
+        assert_eq!(rt; port.read(&mut into), Got::Failed);
+        assert_eq!(rt; into.as_slice(), [7, 7].as_slice());
+        assert_eq!(rt; port.send(b"d"), Took::Failed);
+        assert_eq!(rt; port.counts.faults, 2);
+    }
+
+    #[test]
+    fn a_writer_knows_nothing_by_itself(rt: HostRuntime) {
+        let mut port = DirectWriter::new(StdSink::new(Vec::<u8>::new(rt.alloc())));
+        assert_eq!(rt; port.hint(), NO_HINT);
+        assert!(rt; !port.may_hint());
+        assert_eq!(rt; port.reap(), PortReap::NoChild);
+        assert_eq!(rt; port.join(), Joining::Joined);
+    }
+}
