@@ -35,7 +35,7 @@ where
     R: Threads + Wait + Copy + Send + 'static,
     G: Drop,
     ensures grows { P.faults spawner.old ≤ P.faults spawner.new }
-    ensures fresh { IfOk result (IsFreshFile ends (P.faults spawner.old) (P.faults spawner.new)) }
+    ensures fresh { IfOk result (IsFreshFile S.left K.took ends (P.faults spawner.old) (P.faults spawner.new)) }
 {
     match ends {
         FileEnds::Reading(source) => {

@@ -14,7 +14,7 @@ use Rattle.thread_rings.specs.Writer.{Delivered, Delivers}
 use Rattle.thread_rings.specs.WriterThread.{IsTrueToSink}
 use Rattle.crossbeam_queue.specs.Passes.{view}
 use Rattle.thread_rings.specs.declared.writer_stages.WriterBack.{WriterBack}
-use Rattle.thread_rings.specs.WriterRing.{gained, unless_failed, behind_of, IsBack, IsBehind}
+use Rattle.thread_rings.specs.WriterRing.{gained, unless_failed, behind_of, GrewBy, IsBack, IsBehind}
 use Rattle.thread_rings.proofs.ItemLists.{last_counted, drained}
 
 -- a last end mark is a last mark
@@ -67,6 +67,18 @@ pub whole_if_sound : (faults sound : ℕ) (before now : Option (List ℕ)) (byte
 whole_if_sound zero sound before now bytes none is = gains_all sound before now bytes is
 whole_if_sound (suc faults) sound before now bytes none is = absurd (omega arith)
 
+-- it has what it had, then that front, and more only after a fault
+pub grows_by : (faults sound : ℕ) (before now : Option (List ℕ)) (bytes : List ℕ) (known : ℕ) → (known ≡ 0 → faults ≡ 0) → Delivered faults sound before now bytes → IfSome (unless_failed faults sound (gained before now)) (GrewBy before now known)
+grows_by zero sound None now bytes known few is = tt
+grows_by zero sound (Some before) None bytes known few is = tt
+grows_by zero sound (Some before) (Some now) bytes known few is = ([], λ _. refl, is.1 ∙ ap (λ (more : List ℕ). Some (before ++ more)) (sym (append-nil (drop (length before) now) ∙ gains_now before now bytes is.1)))
+grows_by (suc faults) sound None now bytes known few is = tt
+grows_by (suc faults) sound (Some before) None bytes known few is = tt
+grows_by (suc faults) sound (Some before) (Some now) bytes known few is =
+    let more = drop (length before) now in
+    let gains = gains_now before now (take is.0 bytes ++ is.1) is.4 in
+    (drop sound more, λ none. absurd (omega (arith, few none)), is.4 ∙ ap (λ (added : List ℕ). Some (before ++ added)) (sym (take-append-drop sound more ∙ gains)))
+
 -- what was heard of the marks is no more than was told
 pub hears_less : {K : Type 0} (took : K → Option (List ℕ)) (faults : K → ℕ) (before : Option (List ℕ)) (faults_before : ℕ) (outlet : Outlet K) (taken taken' : List RingItem) (told heard heard' rest : List SinkFault) → taken' ≡ taken → told ≡ heard ++ rest → heard' ≡ heard → IsTrueToSink took faults before faults_before outlet taken told → IsTrueToSink took faults before faults_before outlet taken' heard'
 hears_less took faults before faults_before outlet taken taken' told heard heard' rest same all is was = record {
@@ -76,7 +88,7 @@ hears_less took faults before faults_before outlet taken taken' told heard heard
 }
 
 -- what a joined writer shows of its line
-pub is_behind : {K : Type 0} (took : K → Option (List ℕ)) (faults : K → ℕ) (back : WriterBack K) → IsBack took faults back → IsBehind (record { sent = (view back.items).sent; marks = length (view back.marks).taken; begun = true; refused = false; behind = Some (behind_of took faults back) }) (behind_of took faults back)
+pub is_behind : {K : Type 0} (took : K → Option (List ℕ)) (faults : K → ℕ) (back : WriterBack K) → IsBack took faults back → IsBehind (record { had = took back.begun.value; sent = (view back.items).sent; marks = length (view back.marks).taken; begun = true; refused = false; behind = Some (behind_of took faults back) }) (behind_of took faults back)
 is_behind took faults back is =
     let all = is.all in
     let given = subst (λ (xs : List RingItem). Delivers took (took back.begun.value) back.outlet (bytes_of xs)) (sym all) is.true_to_sink.delivered in record {
@@ -84,5 +96,6 @@ is_behind took faults back is =
       ended = is.ended;
       front = gains_front back.outlet.faults back.outlet.sound (took back.begun.value) (took back.outlet.sink) (bytes_of (view back.items).sent) given;
       whole = λ none. whole_if_sound back.outlet.faults back.outlet.sound (took back.begun.value) (took back.outlet.sink) (bytes_of (view back.items).sent) (omega (arith, none)) given;
+      grew = grows_by back.outlet.faults back.outlet.sound (took back.begun.value) (took back.outlet.sink) (bytes_of (view back.items).sent) (behind_of took faults back).faults (λ none. omega (arith, none)) given;
       told = omega (arith, is.true_to_sink.told_less);
     }

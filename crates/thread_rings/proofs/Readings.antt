@@ -201,8 +201,15 @@ behind_joined taken held l0 l f0 f e0 e ended faults nothing so spent =
     let all : given taken held ≡ bytes_of taken = given_front (bytes_of taken) (bytes_of taken) held (sym (ap (λ r. bytes_of taken ++ r) nothing ∙ append-nil (bytes_of taken))) in
     record { given = subst (λ bytes. IfSome (gone l0 l) (λ gave. gave ≡ bytes)) (sym all) (gone_is l0 l (bytes_of taken) so.gave); taken = tt; whole = λ _. tt; spent = spent }
 
-pub tells_over : {S : Type 0} (left : S → Option (List ℕ)) (faults ends : S → ℕ) (start : S) (stage : Stage S) → is_running stage ≡ false → is_begun stage ≡ true → (source : SourceBehind) × (behind_of left faults ends start stage ≡ Some source)
-tells_over left faults ends start (stages.Waiting task) idle begun = absurd (false≢true begun)
-tells_over left faults ends start stages.Refused idle begun = absurd (false≢true begun)
-tells_over left faults ends start (stages.Running task) idle begun = absurd (false≢true (sym idle))
-tells_over left faults ends start (stages.Over source) idle begun = (source_behind left faults ends start source, refl)
+-- where nothing is held, what was given is what was taken
+pub loses_given : (taken : List RingItem) (held : List ℕ) (l0 l : Option (List ℕ)) → held ≡ [] → Loses l0 l (bytes_of taken) → Loses l0 l (given taken held)
+loses_given taken held l0 l nothing loses =
+    let all : given taken held ≡ bytes_of taken = given_front (bytes_of taken) (bytes_of taken) held (sym (ap (λ r. bytes_of taken ++ r) nothing ∙ append-nil (bytes_of taken))) in
+    subst (λ bytes. Loses l0 l bytes) (sym all) loses
+
+pub tells_over : {S : Type 0} (left : S → Option (List ℕ)) (faults ends : S → ℕ) (lines : Lines Word) (start : S) (items : View RingItem) (words : View Word) (held : List ℕ) (marked : Bool) (stage : Stage S) → is_running stage ≡ false → held ≡ [] → AtStage left faults ends lines start items words marked stage → is_begun stage ≡ true
+    → (source : SourceBehind) × (behind_of left faults ends start stage ≡ Some source) × Loses (left start) source.left (given items.taken held)
+tells_over left faults ends lines start items words held marked (stages.Waiting task) idle nothing at begun = absurd (false≢true begun)
+tells_over left faults ends lines start items words held marked stages.Refused idle nothing at begun = absurd (false≢true begun)
+tells_over left faults ends lines start items words held marked (stages.Running task) idle nothing at begun = absurd (false≢true (sym idle))
+tells_over left faults ends lines start items words held marked (stages.Over source) idle nothing at begun = (source_behind left faults ends start source, refl, loses_given items.taken held (left start) (left source) nothing at.0.gave)

@@ -5,6 +5,7 @@ use Rattle.port_trait.specs.declared.answers.Got.TheVariants as reads
 use Rattle.port_trait.specs.declared.answers.Begun.{Begun as BeginAnswer}
 use Rattle.port_trait.specs.declared.answers.Begun.TheVariants as begins
 use Rattle.port_trait.specs.declared.counts.Counts.{Counts}
+use Rattle.port_trait.specs.Streams.{Loses}
 use Rattle.crossbeam_queue.specs.Fifo.{Held}
 use Rattle.ordered_queue.specs.declared.roles.View.{View}
 use Rattle.ordered_queue.specs.Order.{IsSound}
@@ -31,8 +32,10 @@ pub record SourceBehind : Type 0 where
   pub ends_before : ℕ
   pub ends : ℕ
 
--- a reader: the items that it took, and the rest of the last chunk, which is still to be given
+-- a reader: what its source had left when it was made, the items that it took, and the rest of the last chunk, which is
+-- still to be given
 pub record ReaderState : Type 0 where
+  pub had : Option (List ℕ)
   pub taken : List RingItem
   pub held : List ℕ
   -- whether the last item was a mark and no read has asked for more since
@@ -126,9 +129,10 @@ CountsMarks strayed since now taken = strayed ≡ false → (now.faults ≤ sinc
 abbrev pub no_counts : Counts
 no_counts = record { faults = 0; ends = 0; empties = 0; stalls = 0 }
 
--- a reader that was just made, whose thread waits or couldn't be started
-abbrev pub fresh_reader : Bool → ReaderState
-fresh_reader refused = record {
+-- a reader that was just made over a source with so much left, whose thread waits or couldn't be started
+abbrev pub fresh_reader : Option (List ℕ) → Bool → ReaderState
+fresh_reader had refused = record {
+  had = had;
   taken = [];
   held = [];
   marked = false;
@@ -178,6 +182,7 @@ is_of_mark reads.Failed = true
 
 -- what no read changes
 pub record KeptByRead (old new : ReaderState) : Type 0 where
+  pub had : new.had ≡ old.had
   pub begun : new.begun ≡ old.begun
   pub refused : new.refused ≡ old.refused
   pub since : new.since ≡ old.since
@@ -206,6 +211,6 @@ CountsWithin reader None = Unit {0}
 CountsWithin reader (Some source) = reader.begun ≡ true → reader.strayed ≡ false
     → RoseTimes source.faults_before (reader.counts.faults - reader.since.faults) source.faults × RoseTimes source.ends_before (reader.counts.ends - reader.since.ends) source.ends
 
--- a begun reader that has joined tells its source
+-- a begun reader that has joined tells its source, which had what was given and then what it has left
 abbrev pub TellsSource : ReaderState → Type 0
-TellsSource reader = reader.begun ≡ true → (source : SourceBehind) × (reader.behind ≡ Some source)
+TellsSource reader = reader.begun ≡ true → (source : SourceBehind) × (reader.behind ≡ Some source) × Loses reader.had source.left (given_of reader)

@@ -1,7 +1,7 @@
 -- How a writer stands: what its port put, what its thread came to, and what the calls of the port do to that.
-use Rattle.std.specs.Prelude.{◌≡◌, ℕ, zero, suc, ◌+◌, ◌-◌, ◌^◌, ◌≤◌, min, max, Bool, true, false, not, ◌&&◌, List, [], length, take, drop, Option, None, Some, option_map, IfSome, if◌then◌else◌}
+use Rattle.std.specs.Prelude.{◌≡◌, ℕ, zero, suc, ◌+◌, ◌-◌, ◌^◌, ◌≤◌, min, max, Bool, true, false, not, ◌&&◌, List, [], ◌++◌, length, take, drop, Option, None, Some, option_map, IfSome, if◌then◌else◌}
 use Rattle.crossbeam_queue.specs.Passes.{view}
-use Rattle.port_trait.specs.Meanings.{IsFront}
+use Rattle.port_trait.specs.Meanings.{Adds, IsFront}
 use Rattle.port_trait.specs.declared.answers.Begun.{Begun as BeginAnswer}
 use Rattle.port_trait.specs.declared.answers.Begun.TheVariants as begins
 use Rattle.port_trait.specs.declared.answers.Took.{Took as WriteAnswer}
@@ -36,17 +36,19 @@ unless_failed (suc faults) sound all = option_map (take sound) all
 abbrev pub took_soundly : {K : Type 0} → (K → Option (List ℕ)) → K → Outlet K → Option (List ℕ)
 took_soundly took begun outlet = unless_failed outlet.faults outlet.sound (gained (took begun) (took outlet.sink))
 
--- what a joined writer knows: the items that its thread took, what its sink took before its first fault, and how far
--- the sink's count of faults rose. Where that count stands at its last value, it rose at least as often as the thread
--- saw the sink fail
+-- what a joined writer knows: the items that its thread took, what its sink took before its first fault, what the sink
+-- has taken in all, and how far its count of faults rose. Where that count stands at its last value, it rose at least
+-- as often as the thread saw the sink fail
 pub record WriterBehind : Type 0 where
   pub taken : List RingItem
   pub took : Option (List ℕ)
+  pub total : Option (List ℕ)
   pub faults : ℕ
 
--- what was put, how many fault marks were taken, whether the writer has begun, whether its thread was refused, and what
--- is known since the thread's end
+-- what the sink had taken when the writer was made, unless its thread was refused; what was put, how many fault marks
+-- were taken, whether the writer has begun, whether its thread was refused, and what is known since the thread's end
 pub record WriterLine : Type 0 where
+  pub had : Option (List ℕ)
   pub sent : List RingItem
   pub marks : ℕ
   pub begun : Bool
@@ -57,18 +59,19 @@ abbrev pub behind_of : {K : Type 0} → (K → Option (List ℕ)) → (K → ℕ
 behind_of took faults back = record {
   taken = (view back.items).taken;
   took = took_soundly took back.begun.value back.outlet;
+  total = took back.outlet.sink;
   faults = max (faults back.outlet.sink - faults back.begun.value) back.outlet.faults;
 }
 
--- the line of a writer that was just made
-abbrev pub fresh_line : Bool → WriterLine
-fresh_line refused = record { sent = []; marks = 0; begun = false; refused = refused; behind = None }
+-- the line of a writer that was just made, of a sink that had taken so much
+abbrev pub fresh_line : Option (List ℕ) → Bool → WriterLine
+fresh_line had refused = record { had = if refused then None else had; sent = []; marks = 0; begun = false; refused = refused; behind = None }
 
 abbrev pub line_of : {K : Type 0} → (K → Option (List ℕ)) → (K → ℕ) → Stage K → WriterLine
-line_of took faults (stages.Ready putter begun task) = fresh_line false
-line_of took faults stages.Refused = fresh_line true
-line_of took faults (stages.Working putter begun task) = record { sent = (view putter.sender).sent; marks = length (view putter.taker).taken; begun = true; refused = false; behind = None }
-line_of took faults (stages.Back back) = record { sent = (view back.items).sent; marks = length (view back.marks).taken; begun = true; refused = false; behind = Some (behind_of took faults back) }
+line_of took faults (stages.Ready putter begun task) = fresh_line (took begun.value) false
+line_of took faults stages.Refused = fresh_line None true
+line_of took faults (stages.Working putter begun task) = record { had = took begun.value; sent = (view putter.sender).sent; marks = length (view putter.taker).taken; begun = true; refused = false; behind = None }
+line_of took faults (stages.Back back) = record { had = took back.begun.value; sent = (view back.items).sent; marks = length (view back.marks).taken; begun = true; refused = false; behind = Some (behind_of took faults back) }
 
 -- whether the end mark was put
 abbrev pub is_shut : WriterLine → Bool
@@ -105,13 +108,19 @@ LineBegins before now begins.Begun = (before.refused ≡ false) × (now ≡ reco
 LineBegins before now begins.Failed = (before.refused ≡ true) × (now ≡ before)
 LineBegins before now begins.Memory = ⊥
 
+-- what a sink took since it had so much: a front before its first fault, and more only after that
+abbrev pub GrewBy : Option (List ℕ) → Option (List ℕ) → ℕ → List ℕ → Type 0
+GrewBy had total faults front = (later : List ℕ) × (faults ≡ 0 → later ≡ []) × Adds had total (front ++ later)
+
 -- what the thread took is what was put, the sink took a front of its bytes before its first fault, and all of them
--- where it never failed; it failed as often as the port was told
+-- where it never failed; it took that after what it had when the writer was made, and failed as often as the port was
+-- told
 pub record IsBehind (line : WriterLine) (behind : WriterBehind) : Type 0 where
   pub all : behind.taken ≡ line.sent
   pub ended : is_shut line ≡ true
   pub front : IfSome behind.took (λ took. IsFront took (bytes_of line.sent))
   pub whole : behind.faults ≡ 0 → IfSome behind.took (λ took. took ≡ bytes_of line.sent)
+  pub grew : IfSome behind.took (GrewBy line.had behind.total behind.faults)
   pub told : min line.marks (2 ^ 64 - 1) ≤ behind.faults
 
 -- a write of an open writer puts one chunk of the front of the bytes; or the queue was full, and nothing is put; or a

@@ -16,10 +16,10 @@ pub record WriterState : Type 0 where
   pub counts : Counts
   pub misuses : ℕ
 
--- a writer that was just made, whose thread waits or couldn't be started
-abbrev pub fresh_writer : Bool → WriterState
-fresh_writer refused = record {
-  line = fresh_line refused;
+-- a writer that was just made over a sink that had taken so much, whose thread waits or couldn't be started
+abbrev pub fresh_writer : Option (List ℕ) → Bool → WriterState
+fresh_writer had refused = record {
+  line = fresh_line had refused;
   counts = record { faults = 0; ends = 0; empties = 0; stalls = 0 };
   misuses = 0;
 }
@@ -35,18 +35,20 @@ abbrev pub faults_behind : Option WriterBehind → Option ℕ
 faults_behind None = None
 faults_behind (Some behind) = Some behind.faults
 
--- it fails only at the fault marks that were taken and at calls that it can't serve, and never ends
+-- it fails only at the fault marks that were taken and at calls that it can't serve, at each of those, and never ends
 pub record IsTallied (line : WriterLine) (counts : Counts) (misuses : ℕ) : Type 0 where
   pub faults : counts.faults ≤ misuses + line.marks
+  pub misused : misuses ≤ counts.faults
   pub ends : counts.ends ≡ 0
 
 -- a call that the writer can't serve is one fault and one misuse, and changes nothing else
 abbrev pub misused_writer : WriterState → WriterState
 misused_writer writer = record writer { counts = record writer.counts { faults = min (writer.counts.faults + 1) (2 ^ 64 - 1) }; misuses = min (writer.misuses + 1) (2 ^ 64 - 1) }
 
--- a begin by its answer: it fails exactly where no thread could be started, which is a misuse
+-- a begin by its answer: it fails exactly where no thread could be started, which is a misuse. Before the first begin
+-- all faults are misuses
 abbrev pub WriterBeginStep : WriterState → WriterState → BeginAnswer → Type 0
-WriterBeginStep before now begins.Begun = (before.line.refused ≡ false) × (now ≡ record before { line = record before.line { begun = true } })
+WriterBeginStep before now begins.Begun = (before.line.refused ≡ false) × (before.line.begun ≡ false → before.misuses ≡ before.counts.faults) × (now ≡ record before { line = record before.line { begun = true } })
 WriterBeginStep before now begins.Failed = (before.line.refused ≡ true) × (now ≡ misused_writer before)
 WriterBeginStep before now begins.Memory = ⊥
 

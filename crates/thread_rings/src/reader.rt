@@ -55,7 +55,7 @@ where
 
     ghost use Rattle.thread_rings.specs.Readers.{IsReading, is_begun, is_refused, behind_of};
 
-    ghost view = { λ r. record { taken = (known r.items).taken; held = r.held; marked = r.marked; ended = r.ended; begun = is_begun r.stage; refused = is_refused r.stage; counts = r.counts; since = r.since; strayed = r.strayed; behind = behind_of S.left S.faults S.ends r.start.value r.stage } };
+    ghost view = { λ r. record { had = S.left r.start.value; taken = (known r.items).taken; held = r.held; marked = r.marked; ended = r.ended; begun = is_begun r.stage; refused = is_refused r.stage; counts = r.counts; since = r.since; strayed = r.strayed; behind = behind_of S.left S.faults S.ends r.start.value r.stage } };
 
     ghost invariant = { λ r. IsPassOf r.lines.value.items r.items × IsPassOf r.lines.value.back r.words × IsReading S.left S.faults S.ends r.lines.value r.start.value (known r.items) (known r.words) r.held r.marked r.ended r.strayed r.since r.counts r.stage };
 }
@@ -77,7 +77,7 @@ where
         P: Spawner<Runtime = R>,
         W: Wake + Send + Drop + 'static,
         ensures grows { P.faults spawner.old ≤ P.faults spawner.new }
-        ensures fresh { IfOk result (λ ring. ring ≡ fresh_reader ring.refused) }
+        ensures fresh { IfOk result (λ ring. ring ≡ fresh_reader (S.left source) ring.refused) }
         ensures refused { IfOk result (λ ring. ring.refused ≡ true → Rose (P.faults spawner.old) (P.faults spawner.new)) }
     {
         let ends = make_lines::<Word>(alloc, WORDS)?;

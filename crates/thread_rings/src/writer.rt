@@ -79,7 +79,7 @@ where
         P: Spawner<Runtime = R>,
         W: Wake + Send + Drop + 'static,
         ensures grows { P.faults spawner.old ≤ P.faults spawner.new }
-        ensures fresh { IfOk result (λ ring. ring ≡ fresh_writer ring.line.refused) }
+        ensures fresh { IfOk result (λ ring. ring ≡ fresh_writer (K.took sink) ring.line.refused) }
         ensures refused { IfOk result (λ ring. ring.line.refused ≡ true → Rose (P.faults spawner.old) (P.faults spawner.new)) }
     {
         let ends = make_lines::<SinkFault>(alloc, MARKS)?;

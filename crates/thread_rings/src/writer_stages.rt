@@ -53,7 +53,7 @@ impl<K: Sink + Drop> Stage<K> {
         requires none { ((view putter.sender).sent ≡ []) × ((view putter.taker).taken ≡ []) }
         requires task { IfSome task (TaskStands K.took K.faults putter.lines.value begun.value) }
         ensures stands { Stands K.took K.faults result }
-        ensures line { line_of K.took K.faults result ≡ fresh_line (line_of K.took K.faults result).refused }
+        ensures line { line_of K.took K.faults result ≡ fresh_line (K.took begun.value) (line_of K.took K.faults result).refused }
         ensures refused { (line_of K.took K.faults result).refused ≡ true → task ≡ None }
     {
         match task {
@@ -90,6 +90,7 @@ impl<K: Sink + Drop> Stage<K> {
         ensures stands { Stands K.took K.faults self.new }
         ensures again { (line_of K.took K.faults self.old).begun ≡ true → (result ≡ begins.Begun) × (line_of K.took K.faults self.new ≡ line_of K.took K.faults self.old) }
         ensures line { LineBegins (line_of K.took K.faults self.old) (line_of K.took K.faults self.new) result }
+        ensures untold { (line_of K.took K.faults self.old).begun ≡ false → (line_of K.took K.faults self.old).marks ≡ 0 }
     {
         match mem::replace(self, Stage::Refused) {
             Stage::Ready(putter, begun, task) => {
@@ -221,6 +222,7 @@ fn joined<K: Sink + Drop>(putter: Putter, begun: Snapshot<K>, done: WriterDone<K
     requires over { putter.ended ≡ true }
     requires done { ThreadEnded K.took K.faults putter.lines.value begun.value done }
     ensures back { IsBack K.took K.faults result }
+    ensures begun { result.begun ≡ begun }
     ensures sent { (view result.items).sent ≡ (view putter.sender).sent }
     ensures marks { (view result.marks).taken ≡ (view putter.taker).taken }
 {
