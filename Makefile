@@ -45,6 +45,8 @@ bench: bin/socat
 	bench/throughput.sh bin/socat
 	bench/words.sh bin/socat
 	bench/parts.sh
+	cd crates/bench_pump && rt run </dev/null >/dev/null
+	bench/pump.sh
 
 clean:
 	rm -rf bin crates/*/out
