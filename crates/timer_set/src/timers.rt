@@ -37,7 +37,8 @@ impl Model for TimerSet {
 impl TimerSet {
     /// No key is set; takes no memory.
     pub fn new(alloc: Global) -> TimerSet
-        ensures { result.moments ≡ map.empty }
+        ensures moments { result.moments ≡ map.empty }
+        ensures room { result.room ≡ 0 }
     {
         TimerSet {
             slots: KeyMap::new(alloc),

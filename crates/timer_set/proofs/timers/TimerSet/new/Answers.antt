@@ -11,7 +11,7 @@ invariant_of-result c = record {
   room = omega (arith, c.new-2.ensures.len);
 }
 
-pub returns : goal.returns
-returns c =
+pub returns-clause-moments : goal.returns-clause-moments
+returns-clause-moments c =
     let none : c.new-2.result.live ≡ 0 = c.new-2.ensures.live in
     told_alike at_of _ _ _ _ (tells_moments _ _ _ _ c.new-2.result.placed (omega arith) (tells_empty slot_of _ _ _ none c.new.ensures)) (tells_empty at_of _ _ _ none refl)
