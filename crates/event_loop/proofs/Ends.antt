@@ -16,7 +16,7 @@ use Rattle.relay_model.specs.Sessions.{holds}
 use Rattle.relay_model.specs.Cause.{cause}
 use Rattle.relay_model.specs.Rest.{Rest}
 use Rattle.relay_model.specs.Outcome as whole
-use Rattle.relay_model.specs.Outcome.{first_fault, failed_listening, failed_opening}
+use Rattle.relay_model.specs.Outcome.{holds_something, first_fault, failed_listening, failed_opening}
 use Rattle.relay_model.specs.May.{Legal}
 use Rattle.exit_status.specs.declared.outcomes.Outcome.{Outcome}
 use Rattle.exit_status.specs.declared.outcomes.Outcome.TheVariants as outcomes
@@ -28,6 +28,7 @@ use Rattle.relay_core.specs.Endings.{Ends}
 use Rattle.relay_core.specs.States.{IsDone}
 use Rattle.relay_core.specs.Told.{told}
 use Rattle.relay_core.specs.Laws.{CauseIsTold, FailureIsBlamed, HeldIsOwn}
+use Rattle.relay_core.proofs.Held.{nothing_left}
 use Rattle.place_openings.specs.declared.calls.GivenUp.{GivenUp}
 use Rattle.event_loop.specs.declared.faults.Fault.{Fault}
 use Rattle.relay_core.specs.Told.{told_listening, told_opening}
@@ -201,10 +202,10 @@ some_fault_blamed c past (Some fault) e h = fault_blamed c past 0 _ e
 for_memory : (c : Config) (n : ℕ) (past : List Act) → EndsWith c n past outcomes.Memory
 for_memory c n past = record { outcome_is = inr refl; relayed = refl; failed = λ e. absurd (false≢true e); stopped = λ t e. cc }
 
-for_turns : (c : Config) (n : ℕ) (past : List Act) (made : ℕ) → turns past ≡ made → turns past ≡ n → Rest c past → EndsWith c n past (outcomes.Stopped made)
-for_turns c n past made turned limit rest =
+for_turns : (c : Config) (n : ℕ) (past : List Act) (made : ℕ) → holds_something c past ≡ false → turns past ≡ made → turns past ≡ n → Rest c past → EndsWith c n past (outcomes.Stopped made)
+for_turns c n past made nothing turned limit rest =
     record {
-      outcome_is = inl (inr (limit, rest, ap outcomes.Stopped (sym turned ∙ limit)));
+      outcome_is = inl (inr (nothing, limit, rest, ap outcomes.Stopped (sym turned ∙ limit)));
       relayed = refl;
       failed = λ e. absurd (false≢true e);
       stopped = λ t e. let k : t ≡ made = cc in (k ∙ sym turned, inr limit);
@@ -237,7 +238,7 @@ ends_with c n past why listening opening fault made alone cause_told failure_bla
     go : Ends c n past 0 why → EndsWith c n past (outcome_for why listening opening fault made)
     go (inl e) = for_cause c n past why listening opening fault made alone cause_told failure_blamed stop_told legal (all_free c n past alone own legal done.nothing_held) e (record { listened = listened; opened = opened; faulted = faulted; turned = turned })
     go (inr (inl e)) = subst (λ x. EndsWith c n past (outcome_for x listening opening fault made)) (sym e.0) (for_memory c n past)
-    go (inr (inr e)) = subst (λ x. EndsWith c n past (outcome_for x listening opening fault made)) (sym e.0) (for_turns c n past made turned e.1 e.2)
+    go (inr (inr e)) = subst (λ x. EndsWith c n past (outcome_for x listening opening fault made)) (sym e.0) (for_turns c n past made (nothing_left c n past alone legal done.nothing_held) turned e.1 e.2)
 
 -- ---- stops
 

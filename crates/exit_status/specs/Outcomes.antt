@@ -1,5 +1,5 @@
 -- How the outcome that is told stands to the one that a list of acts gives.
-use Rattle.std.specs.Prelude.{◌≡◌, ℕ, ◌⊎◌, List, Option, Some, None}
+use Rattle.std.specs.Prelude.{◌≡◌, ℕ, ◌⊎◌, false, List, Option, Some, None}
 use Rattle.relay_model.specs.declared.commands.Config.{Config}
 use Rattle.relay_model.specs.declared.acts.Act.{Act}
 use Rattle.relay_model.specs.declared.acts.Why.{Why}
@@ -8,7 +8,7 @@ use Rattle.relay_model.specs.declared.places.Half.{Half}
 use Rattle.relay_model.specs.declared.places.Half.TheVariants.{ToRead, ToWrite}
 use Rattle.relay_model.specs.History.{turns}
 use Rattle.relay_model.specs.Rest.{Rest}
-use Rattle.relay_model.specs.Outcome.{Outcome}
+use Rattle.relay_model.specs.Outcome.{Outcome, holds_something}
 use Rattle.relay_model.specs.Outcome as endings
 use Rattle.exit_status.specs.declared.outcomes.EndWhy.{EndWhy}
 use Rattle.exit_status.specs.declared.outcomes.EndWhy.TheVariants as ends
@@ -40,12 +40,12 @@ outcome_of (told.Faulted place op) = Some (endings.Faulted place (half_of op))
 outcome_of (told.Stopped turns) = Some (endings.Stopped turns)
 outcome_of told.Memory = Some endings.Memory
 
-abbrev pub known_outcome : Option Told → Option Outcome
-known_outcome None = None
-known_outcome (Some answer) = outcome_of answer
-
--- the answer is the outcome of the acts, once nothing is held; or the turns were used up while a wait was in order
+-- once nothing is held, the answer is the outcome of the acts; or the turns were used up while a wait was in order
 abbrev pub IsOutcome : Config → ℕ → List Act → Told → Type 0
 IsOutcome c n past answer =
     ((ending : Outcome) × (endings.outcome c past ≡ Some ending) × (outcome_of answer ≡ Some ending))
-    ⊎ ((turns past ≡ n) × Rest c past × (answer ≡ told.Stopped n))
+    ⊎ ((holds_something c past ≡ false) × (turns past ≡ n) × Rest c past × (answer ≡ told.Stopped n))
+
+-- at most one answer fits a list of acts
+abbrev pub OneAnswer : Type 0
+OneAnswer = (c : Config) (n : ℕ) (past : List Act) (one other : Told) → IsOutcome c n past one → IsOutcome c n past other → one ≡ other

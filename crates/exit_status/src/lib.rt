@@ -7,4 +7,4 @@ mod outcomes;
 mod tests;
 
 pub use lines::{line_of, usage_text, version_text};
-pub use outcomes::{EndWhy, Op, Outcome, status};
+pub use outcomes::{EndWhy, Op, Outcome, one_answer_fits, status};

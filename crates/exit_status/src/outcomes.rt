@@ -1,5 +1,6 @@
 // The outcomes of a run and their exit statuses.
 ghost use Rattle.std.specs.Prelude.{◌≡◌};
+ghost use Rattle.exit_status.specs.Outcomes.{OneAnswer};
 ghost use Rattle.exit_status.specs.Statuses.{exit_code};
 
 use relay_model::{Place, Refused, Side};
@@ -55,3 +56,8 @@ pub fn status(outcome: &Outcome) -> u8
         Outcome::Stopped { .. } => 3,
     }
 }
+
+/// A law of outcomes: at most one answer fits the acts of a run.
+pub fn one_answer_fits()
+    ensures { OneAnswer }
+{}
