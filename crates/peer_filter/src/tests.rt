@@ -1,5 +1,5 @@
 use super::Filter;
-use relay_model::{Conv, FileFlags, Options, Peer, Range, Text};
+use relay_model::{Options, Peer, Range};
 use std::alloc::Global;
 use std::test::Fail;
 
@@ -10,41 +10,19 @@ fn options(
     lowport: bool,
 ) -> Result<Options, Fail> {
     Ok(Options {
-        conv: Conv::Plain,
-        ignoreeof: false,
-        readbytes: None,
-        escape: None,
-        null_eof: false,
-        shut: None,
-        retry: 0,
-        forever: false,
-        interval: 1000,
-        fork: false,
-        max_children: u32::MAX,
-        stop_after: u32::MAX,
         range,
         sourceport,
         lowport,
-        unlink_early: false,
-        unlink_close: false,
-        nodelay: false,
-        bind: None,
-        file: FileFlags {
-            creat: false,
-            excl: false,
-            append: false,
-            trunc: false,
-            rdonly: false,
-            wronly: false,
-        },
-        socksport: 1080,
-        socksuser: Text::of(alloc, b"nobody")?,
-        proxyport: 8080,
+        ..Options::defaults(alloc)?
     })
 }
 
 fn v4(addr: [u8; 4], port: u16) -> Peer {
     Peer::V4 { addr, port }
+}
+
+fn v6(addr: [u8; 16], port: u16) -> Peer {
+    Peer::V6 { addr, port }
 }
 
 const LOOPBACK_V6: [u8; 16] = [0, 0, 0, 0, 0, 0, 0, 0, 0, 0, 0, 0, 0, 0, 0, 1];
@@ -63,11 +41,7 @@ fn a_range_of_eight_bits(rt: HostRuntime) -> Result<(), Fail> {
     assert_eq!(rt; filter.permits(v4([10, 255, 255, 255], 1)), true);
     assert_eq!(rt; filter.permits(v4([11, 1, 2, 3], 40000)), false);
     assert_eq!(rt; filter.permits(v4([192, 168, 0, 10], 40000)), false);
-    let six = Peer::V6 {
-        addr: LOOPBACK_V6,
-        port: 40000,
-    };
-    assert_eq!(rt; filter.permits(six), false);
+    assert_eq!(rt; filter.permits(v6(LOOPBACK_V6, 40000)), false);
     assert_eq!(rt; filter.permits(Peer::Local), true);
     Ok(())
 }
@@ -93,22 +67,42 @@ fn a_range_of_the_sixth_version(rt: HostRuntime) -> Result<(), Fail> {
         mask: [0xfe, 0, 0, 0, 0, 0, 0, 0, 0, 0, 0, 0, 0, 0, 0, 0],
     };
     let filter = Filter::new(&options(rt.alloc(), Some(range), None, false)?);
-    let near = Peer::V6 {
-        addr: UNIQUE_LOCAL,
-        port: 9,
-    };
-    let far = Peer::V6 {
-        addr: LOOPBACK_V6,
-        port: 9,
-    };
-    assert_eq!(rt; filter.permits(near), true);
-    assert_eq!(rt; filter.permits(far), false);
+    assert_eq!(rt; filter.permits(v6(UNIQUE_LOCAL, 9)), true);
+    assert_eq!(rt; filter.permits(v6(LOOPBACK_V6, 9)), false);
     assert_eq!(rt; filter.permits(v4([252, 0, 0, 0], 9)), false);
     Ok(())
 }
 
+// range=10.0.2.0:255.0.255.0 leaves the second and the fourth number free.
 #[test]
-fn ports(rt: HostRuntime) -> Result<(), Fail> {
+fn a_mask_with_holes(rt: HostRuntime) -> Result<(), Fail> {
+    let range = Range::V4 {
+        net: [10, 0, 2, 0],
+        mask: [255, 0, 255, 0],
+    };
+    let filter = Filter::new(&options(rt.alloc(), Some(range), None, false)?);
+    assert_eq!(rt; filter.permits(v4([10, 77, 2, 99], 5)), true);
+    assert_eq!(rt; filter.permits(v4([10, 77, 3, 99], 5)), false);
+    assert_eq!(rt; filter.permits(v4([9, 77, 2, 99], 5)), false);
+    Ok(())
+}
+
+// range=192.168.0.0/16,lowport: the peer has to be of the network and to come from a low port.
+#[test]
+fn a_range_and_a_port(rt: HostRuntime) -> Result<(), Fail> {
+    let range = Range::V4 {
+        net: [192, 168, 0, 0],
+        mask: [255, 255, 0, 0],
+    };
+    let filter = Filter::new(&options(rt.alloc(), Some(range), None, true)?);
+    assert_eq!(rt; filter.permits(v4([192, 168, 7, 1], 1023)), true);
+    assert_eq!(rt; filter.permits(v4([192, 168, 7, 1], 1024)), false);
+    assert_eq!(rt; filter.permits(v4([192, 169, 7, 1], 1023)), false);
+    Ok(())
+}
+
+#[test]
+fn low_ports(rt: HostRuntime) -> Result<(), Fail> {
     let low = Filter::new(&options(rt.alloc(), None, None, true)?);
     for (port, want) in [
         (0, true),
@@ -118,15 +112,24 @@ fn ports(rt: HostRuntime) -> Result<(), Fail> {
         (65535, false),
     ] {
         assert_eq!(rt; low.permits(v4([127, 0, 0, 1], port)), want, "at {port}");
+        assert_eq!(rt; low.permits(v6(LOOPBACK_V6, port)), want, "at {port}");
     }
+    Ok(())
+}
+
+#[test]
+fn source_ports(rt: HostRuntime) -> Result<(), Fail> {
     let one = Filter::new(&options(rt.alloc(), None, Some(2000), false)?);
     for (port, want) in [(1999, false), (2000, true), (2001, false)] {
         assert_eq!(rt; one.permits(v4([127, 0, 0, 1], port)), want, "at {port}");
+        assert_eq!(rt; one.permits(v6(LOOPBACK_V6, port)), want, "at {port}");
     }
     let never = Filter::new(&options(rt.alloc(), None, Some(2000), true)?);
     assert_eq!(rt; never.permits(v4([127, 0, 0, 1], 2000)), false);
+    assert_eq!(rt; never.permits(v6(LOOPBACK_V6, 2000)), false);
     assert_eq!(rt; never.permits(Peer::Local), true);
     let any = Filter::new(&options(rt.alloc(), None, None, false)?);
     assert_eq!(rt; any.permits(v4([8, 8, 8, 8], 65535)), true);
+    assert_eq!(rt; any.permits(v6(UNIQUE_LOCAL, 65535)), true);
     Ok(())
 }
