@@ -39,7 +39,7 @@ pub fn convert(how: Convs, block: &[u8], out: &mut [u8]) -> usize
 }
 
 /// A law of conversions: however a stream is cut into pieces, its conversion is the pieces' conversions joined.
-pub fn keep_nothing_between_pieces(how: Convs)
+pub fn cuts_change_nothing(how: Convs)
     ensures { (pieces : List (List ℕ)) → converted how (flat_map (λ piece. piece) pieces) ≡ flat_map (converted how) pieces }
 {
     let _ = how;
@@ -117,11 +117,38 @@ mod tests {
     }
 
     #[test]
+    fn nothing_is_converted_to_nothing(rt: HostRuntime) {
+        expect_conversion(&rt, Conv::Plain, Conv::Plain, b"", b"");
+        expect_conversion(&rt, Conv::Crnl, Conv::Crnl, b"", b"");
+    }
+
+    // 120 bytes: 40 times `x`, a newline and a carriage return. The carriage return is read as no line end.
+    #[test]
+    fn a_long_block(rt: HostRuntime) {
+        let mut block = [b'x'; 120];
+        let mut want = [b'x'; 160];
+        for i in 0..40 {
+            block[3 * i + 1] = b'\n';
+            block[3 * i + 2] = b'\r';
+            want[4 * i + 1] = b'\r';
+            want[4 * i + 2] = b'\n';
+            want[4 * i + 3] = b'\r';
+        }
+        let how = Convs {
+            read: Conv::Plain,
+            write: Conv::Crnl,
+        };
+        let mut out = [0u8; 240];
+        let len = convert(how, &block, &mut out);
+        assert_eq!(rt; &out[..len], want.as_slice());
+    }
+
+    #[test]
     fn a_return_and_a_newline_in_two_blocks(rt: HostRuntime) {
         expect_conversion(&rt, Conv::Crnl, Conv::Plain, b"a\r", b"a");
         expect_conversion(&rt, Conv::Crnl, Conv::Plain, b"\nb", b"\nb");
         expect_conversion(&rt, Conv::Cr, Conv::Cr, b"\n\r", b"\r\r");
-        keep_nothing_between_pieces(Convs {
+        cuts_change_nothing(Convs {
             read: Conv::Crnl,
             write: Conv::Plain,
         });
