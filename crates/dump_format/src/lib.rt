@@ -22,7 +22,7 @@ pub fn dump_text(
 {
     let mut text = Vec::new(alloc);
     match style {
-        Dump::Off => {}
+        Dump::Off => unreachable!(),
         Dump::Text => push_text_dump(&mut text, way, from, bytes)?,
         Dump::Hex => push_hex_dump(&mut text, way, from, bytes)?,
         Dump::Mixed => {

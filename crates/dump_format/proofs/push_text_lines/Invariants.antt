@@ -1,4 +1,4 @@
-use Rattle.std.proofs.Common.{◌≡◌, ◌++◌, length, drop}
+use Rattle.std.proofs.Common.{◌≡◌, ◌++◌, drop}
 use Rattle.relay_model.specs.Dumps.{text_lines}
 use Rattle.dump_format.proofs.push_text_lines.Given as goal
 
