@@ -12,6 +12,7 @@ pub mod Finishes
 pub mod Growth
 pub mod Holdings
 pub mod Least
+pub mod Pieces
 pub mod PlaceLemmas
 pub mod Served
 pub mod Sound

@@ -4,6 +4,7 @@
 mod doors;
 mod frames;
 mod histories;
+mod packets;
 mod waits;
 
 pub use doors::{
@@ -20,4 +21,5 @@ pub use histories::{
     passed_is_whole, prefixes_are_legal, standing_is_held, tests_are_right, used_is_held,
     written_is_due,
 };
+pub use packets::packets_are_due;
 pub use waits::{rest_is_of_parts, until_is_least};

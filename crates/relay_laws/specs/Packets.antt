@@ -1,0 +1,20 @@
+-- Where borders are kept, at most one piece waits to be written.
+use Rattle.std.specs.Prelude.{◌≡◌, ℕ, true, List, [], ◌∷◌, ◌++◌, length, drop}
+use Rattle.relay_model.specs.declared.places.Way.{Way}
+use Rattle.relay_model.specs.declared.commands.Config.{Config}
+use Rattle.relay_model.specs.declared.acts.Act.{Act}
+use Rattle.relay_model.specs.Configs.{input, output, keeps_borders}
+use Rattle.relay_model.specs.History.{got, put, sent}
+use Rattle.relay_model.specs.Transfers.{due, due_pieces}
+use Rattle.relay_model.specs.May.{Legal}
+
+-- the bytes as one piece, where there are some
+abbrev pub at_most_one : List ℕ → List (List ℕ)
+at_most_one [] = []
+at_most_one (b ∷ bs) = (b ∷ bs) ∷ []
+
+-- the pieces due are those that were written, and after them all that is due and not yet written, as one piece
+abbrev pub PacketsAreDue : Type 0
+PacketsAreDue =
+    (c : Config) (n : ℕ) (past : List Act) (s : ℕ) (w : Way) → Legal c n past → keeps_borders c w ≡ true →
+    due_pieces c past s w ≡ sent past (output c s w) ++ at_most_one (drop (length (put past (output c s w))) (due c w (got past (input c s w))))

@@ -1,0 +1,8 @@
+// Directions that keep the borders of what they read.
+ghost use Rattle.relay_laws.specs.Packets.{PacketsAreDue};
+
+/// Where borders are kept, the pieces due are those that were written, and after them all that is due and not yet
+/// written, as one piece.
+pub fn packets_are_due()
+    ensures { PacketsAreDue }
+{}
