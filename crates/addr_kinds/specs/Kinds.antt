@@ -1,13 +1,14 @@
 -- The kinds of addresses that the relay offers, and those of the manual page that it leaves out.
 use Rattle.std.specs.Prelude.{ℕ, Bool, true, false, ◌||◌, nat_le, ◌&&◌, List, [], ◌∷◌, map, Option, Some, None, codes, if◌then◌else◌}
 use Rattle.std.specs.Borrow.{Bor}
+use Rattle.std.specs.List.{list_any}
 use Rattle.std.specs.Str.{byte}
 use Prim.Native.String.{String}
 use Rattle.relay_model.specs.declared.commands.Family.TheVariants.{Any, V4, V6}
 use Rattle.relay_model.specs.declared.commands.Target.{Target}
 use Rattle.relay_model.specs.declared.commands.Target.TheVariants as target
 use Rattle.option_table.specs.declared.rows.Group.{Group}
-use Rattle.option_table.specs.declared.rows.Group.TheVariants as group
+use Rattle.option_table.specs.declared.rows.Group.TheVariants.{Relay, File, Named, Socket, Tcp, Bind, Retry, Listen, Range, Child, Socks, Proxy}
 use Rattle.option_table.specs.Table.{is_listed}
 use Rattle.addr_kinds.specs.declared.uses.Asked.{Asked}
 use Rattle.addr_kinds.specs.declared.uses.Asked.TheVariants.{Reading, Writing}
@@ -15,65 +16,73 @@ use Rattle.addr_kinds.specs.declared.uses.Uses.{Uses}
 use Rattle.addr_kinds.specs.declared.uses.Uses.TheVariants as uses
 use Rattle.addr_kinds.specs.declared.kinds.StreamKind.TheVariants.{Stdio, Stdin, Stdout, Stderr}
 use Rattle.addr_kinds.specs.declared.kinds.FileKind.TheVariants.{Create, Open, Gopen, UnixConnect, UnixListen}
-use Rattle.addr_kinds.specs.declared.kinds.HostKind.TheVariants.{Tcp, Udp, UdpSendto}
+use Rattle.addr_kinds.specs.declared.kinds.HostKind.TheVariants as host
 use Rattle.addr_kinds.specs.declared.kinds.PortKind.TheVariants.{TcpListen, UdpListen, UdpRecvfrom, UdpRecv}
 use Rattle.addr_kinds.specs.declared.kinds.Kind.{Kind}
 use Rattle.addr_kinds.specs.declared.kinds.Kind.TheVariants as kind
-use Rattle.addr_kinds.specs.declared.kinds.Groups.{Groups}
-use Rattle.addr_kinds.specs.declared.kinds.Groups.TheVariants as groups
 use Rattle.addr_kinds.specs.declared.kinds.KindRow.{KindRow}
+
+-- what is known of a kind: the rule of its parameters, its uses, and the groups of its options
+pub record KnownKind : Type 0 where
+  pub kind : Kind
+  pub uses : Uses
+  pub groups : List Group
 
 -- the keywords of a kind, and what is known of it
 pub record NamedKind : Type 0 where
   pub keywords : List (List ℕ)
-  pub row : KindRow
+  pub known : KnownKind
+
+-- what is known of a kind, as the program keeps it
+abbrev pub known_of : KindRow → KnownKind
+known_of row = record { kind = row.kind; uses = row.uses; groups = row.groups.now }
 
 -- a row of the program's own table
-abbrev pub as_named : Bor (List (Bor (List ℕ))) × Kind × Uses × Groups → NamedKind
-as_named r = record { keywords = map (λ one. one.now) r.0.now; row = record { kind = r.1; uses = r.2; groups = r.3 } }
+abbrev pub as_named : Bor (List (Bor (List ℕ))) × KindRow → NamedKind
+as_named r = record { keywords = map (λ one. one.now) r.0.now; known = known_of r.1 }
 
-abbrev pub offer : List String → Kind → Uses → Groups → NamedKind
+abbrev pub offer : List String → Kind → Uses → List Group → NamedKind
 offer keywords kind uses groups =
-    record { keywords = map codes keywords; row = record { kind = kind; uses = uses; groups = groups } }
+    record { keywords = map codes keywords; known = record { kind = kind; uses = uses; groups = groups } }
 
 unfoldable pub known_kinds : List NamedKind
 known_kinds =
-    offer ("STDIO" ∷ []) (kind.Stream Stdio) uses.Any groups.Stream
-    ∷ offer ("STDIN" ∷ []) (kind.Stream Stdin) uses.AllButWriting groups.Stream
-    ∷ offer ("STDOUT" ∷ []) (kind.Stream Stdout) uses.AllButReading groups.Stream
-    ∷ offer ("STDERR" ∷ []) (kind.Stream Stderr) uses.AllButReading groups.Stream
-    ∷ offer ("CREATE" ∷ []) (kind.File Create) uses.OnlyWriting groups.Entry
-    ∷ offer ("OPEN" ∷ []) (kind.File Open) uses.Any groups.File
-    ∷ offer ("GOPEN" ∷ []) (kind.File Gopen) uses.Any groups.File
-    ∷ offer ("PIPE" ∷ []) kind.Pipe uses.Any groups.Entry
-    ∷ offer ("TCP" ∷ "TCP-CONNECT" ∷ []) (kind.Host Tcp Any) uses.Any groups.TcpClient
-    ∷ offer ("TCP4" ∷ "TCP4-CONNECT" ∷ []) (kind.Host Tcp V4) uses.Any groups.TcpClient
-    ∷ offer ("TCP6" ∷ "TCP6-CONNECT" ∷ []) (kind.Host Tcp V6) uses.Any groups.TcpClient
-    ∷ offer ("TCP-LISTEN" ∷ "TCP-L" ∷ []) (kind.Port TcpListen Any) uses.Any groups.TcpServer
-    ∷ offer ("TCP4-LISTEN" ∷ "TCP4-L" ∷ []) (kind.Port TcpListen V4) uses.Any groups.TcpServer
-    ∷ offer ("TCP6-LISTEN" ∷ "TCP6-L" ∷ []) (kind.Port TcpListen V6) uses.Any groups.TcpServer
-    ∷ offer ("UDP" ∷ []) (kind.Host Udp Any) uses.Any groups.UdpClient
-    ∷ offer ("UDP4" ∷ []) (kind.Host Udp V4) uses.Any groups.UdpClient
-    ∷ offer ("UDP6" ∷ []) (kind.Host Udp V6) uses.Any groups.UdpClient
-    ∷ offer ("UDP-LISTEN" ∷ "UDP-L" ∷ []) (kind.Port UdpListen Any) uses.Any groups.UdpServer
-    ∷ offer ("UDP4-LISTEN" ∷ "UDP4-L" ∷ []) (kind.Port UdpListen V4) uses.Any groups.UdpServer
-    ∷ offer ("UDP6-LISTEN" ∷ "UDP6-L" ∷ []) (kind.Port UdpListen V6) uses.Any groups.UdpServer
-    ∷ offer ("UDP-RECVFROM" ∷ []) (kind.Port UdpRecvfrom Any) uses.Any groups.UdpServer
-    ∷ offer ("UDP4-RECVFROM" ∷ []) (kind.Port UdpRecvfrom V4) uses.Any groups.UdpServer
-    ∷ offer ("UDP6-RECVFROM" ∷ []) (kind.Port UdpRecvfrom V6) uses.Any groups.UdpServer
-    ∷ offer ("UDP-RECV" ∷ []) (kind.Port UdpRecv Any) uses.OnlyReading groups.UdpClient
-    ∷ offer ("UDP4-RECV" ∷ []) (kind.Port UdpRecv V4) uses.OnlyReading groups.UdpClient
-    ∷ offer ("UDP6-RECV" ∷ []) (kind.Port UdpRecv V6) uses.OnlyReading groups.UdpClient
-    ∷ offer ("UDP-SENDTO" ∷ []) (kind.Host UdpSendto Any) uses.Any groups.UdpClient
-    ∷ offer ("UDP4-SENDTO" ∷ []) (kind.Host UdpSendto V4) uses.Any groups.UdpClient
-    ∷ offer ("UDP6-SENDTO" ∷ []) (kind.Host UdpSendto V6) uses.Any groups.UdpClient
-    ∷ offer ("UNIX-CONNECT" ∷ []) (kind.File UnixConnect) uses.Any groups.UnixClient
-    ∷ offer ("UNIX-LISTEN" ∷ "UNIX-L" ∷ []) (kind.File UnixListen) uses.Any groups.UnixServer
-    ∷ offer ("EXEC" ∷ []) kind.Exec uses.Any groups.Program
-    ∷ offer ("SYSTEM" ∷ []) kind.System uses.Any groups.Program
-    ∷ offer ("SOCKS4" ∷ []) (kind.Socks false) uses.Any groups.Socks
-    ∷ offer ("SOCKS4A" ∷ []) (kind.Socks true) uses.Any groups.Socks
-    ∷ offer ("PROXY" ∷ []) kind.Proxy uses.Any groups.Proxy
+    offer ("STDIO" ∷ []) (kind.Stream Stdio) uses.Any (Relay ∷ [])
+    ∷ offer ("STDIN" ∷ []) (kind.Stream Stdin) uses.AllButWriting (Relay ∷ [])
+    ∷ offer ("STDOUT" ∷ []) (kind.Stream Stdout) uses.AllButReading (Relay ∷ [])
+    ∷ offer ("STDERR" ∷ []) (kind.Stream Stderr) uses.AllButReading (Relay ∷ [])
+    ∷ offer ("CREATE" ∷ []) (kind.File Create) uses.OnlyWriting (Relay ∷ Named ∷ [])
+    ∷ offer ("OPEN" ∷ []) (kind.File Open) uses.Any (Relay ∷ Named ∷ File ∷ [])
+    ∷ offer ("GOPEN" ∷ []) (kind.File Gopen) uses.Any (Relay ∷ Named ∷ File ∷ [])
+    ∷ offer ("PIPE" ∷ []) kind.Pipe uses.Any (Relay ∷ Named ∷ [])
+    ∷ offer ("TCP" ∷ "TCP-CONNECT" ∷ []) (kind.Host host.Tcp Any) uses.Any (Relay ∷ Socket ∷ Tcp ∷ Retry ∷ [])
+    ∷ offer ("TCP4" ∷ "TCP4-CONNECT" ∷ []) (kind.Host host.Tcp V4) uses.Any (Relay ∷ Socket ∷ Tcp ∷ Retry ∷ [])
+    ∷ offer ("TCP6" ∷ "TCP6-CONNECT" ∷ []) (kind.Host host.Tcp V6) uses.Any (Relay ∷ Socket ∷ Tcp ∷ Retry ∷ [])
+    ∷ offer ("TCP-LISTEN" ∷ "TCP-L" ∷ []) (kind.Port TcpListen Any) uses.Any (Relay ∷ Socket ∷ Tcp ∷ Retry ∷ Bind ∷ Listen ∷ Range ∷ [])
+    ∷ offer ("TCP4-LISTEN" ∷ "TCP4-L" ∷ []) (kind.Port TcpListen V4) uses.Any (Relay ∷ Socket ∷ Tcp ∷ Retry ∷ Bind ∷ Listen ∷ Range ∷ [])
+    ∷ offer ("TCP6-LISTEN" ∷ "TCP6-L" ∷ []) (kind.Port TcpListen V6) uses.Any (Relay ∷ Socket ∷ Tcp ∷ Retry ∷ Bind ∷ Listen ∷ Range ∷ [])
+    ∷ offer ("UDP" ∷ []) (kind.Host host.Udp Any) uses.Any (Relay ∷ Socket ∷ Bind ∷ [])
+    ∷ offer ("UDP4" ∷ []) (kind.Host host.Udp V4) uses.Any (Relay ∷ Socket ∷ Bind ∷ [])
+    ∷ offer ("UDP6" ∷ []) (kind.Host host.Udp V6) uses.Any (Relay ∷ Socket ∷ Bind ∷ [])
+    ∷ offer ("UDP-LISTEN" ∷ "UDP-L" ∷ []) (kind.Port UdpListen Any) uses.Any (Relay ∷ Socket ∷ Retry ∷ Bind ∷ Listen ∷ Range ∷ [])
+    ∷ offer ("UDP4-LISTEN" ∷ "UDP4-L" ∷ []) (kind.Port UdpListen V4) uses.Any (Relay ∷ Socket ∷ Retry ∷ Bind ∷ Listen ∷ Range ∷ [])
+    ∷ offer ("UDP6-LISTEN" ∷ "UDP6-L" ∷ []) (kind.Port UdpListen V6) uses.Any (Relay ∷ Socket ∷ Retry ∷ Bind ∷ Listen ∷ Range ∷ [])
+    ∷ offer ("UDP-RECVFROM" ∷ []) (kind.Port UdpRecvfrom Any) uses.Any (Relay ∷ Socket ∷ Retry ∷ Bind ∷ Listen ∷ Range ∷ [])
+    ∷ offer ("UDP4-RECVFROM" ∷ []) (kind.Port UdpRecvfrom V4) uses.Any (Relay ∷ Socket ∷ Retry ∷ Bind ∷ Listen ∷ Range ∷ [])
+    ∷ offer ("UDP6-RECVFROM" ∷ []) (kind.Port UdpRecvfrom V6) uses.Any (Relay ∷ Socket ∷ Retry ∷ Bind ∷ Listen ∷ Range ∷ [])
+    ∷ offer ("UDP-RECV" ∷ []) (kind.Port UdpRecv Any) uses.OnlyReading (Relay ∷ Socket ∷ Bind ∷ [])
+    ∷ offer ("UDP4-RECV" ∷ []) (kind.Port UdpRecv V4) uses.OnlyReading (Relay ∷ Socket ∷ Bind ∷ [])
+    ∷ offer ("UDP6-RECV" ∷ []) (kind.Port UdpRecv V6) uses.OnlyReading (Relay ∷ Socket ∷ Bind ∷ [])
+    ∷ offer ("UDP-SENDTO" ∷ []) (kind.Host host.UdpSendto Any) uses.Any (Relay ∷ Socket ∷ Bind ∷ [])
+    ∷ offer ("UDP4-SENDTO" ∷ []) (kind.Host host.UdpSendto V4) uses.Any (Relay ∷ Socket ∷ Bind ∷ [])
+    ∷ offer ("UDP6-SENDTO" ∷ []) (kind.Host host.UdpSendto V6) uses.Any (Relay ∷ Socket ∷ Bind ∷ [])
+    ∷ offer ("UNIX-CONNECT" ∷ []) (kind.File UnixConnect) uses.Any (Relay ∷ Socket ∷ Named ∷ Retry ∷ [])
+    ∷ offer ("UNIX-LISTEN" ∷ "UNIX-L" ∷ []) (kind.File UnixListen) uses.Any (Relay ∷ Socket ∷ Named ∷ Retry ∷ Listen ∷ [])
+    ∷ offer ("EXEC" ∷ []) kind.Exec uses.Any (Relay ∷ Child ∷ [])
+    ∷ offer ("SYSTEM" ∷ []) kind.System uses.Any (Relay ∷ Child ∷ [])
+    ∷ offer ("SOCKS4" ∷ []) (kind.Socks false) uses.Any (Relay ∷ Socket ∷ Tcp ∷ Retry ∷ Socks ∷ [])
+    ∷ offer ("SOCKS4A" ∷ []) (kind.Socks true) uses.Any (Relay ∷ Socket ∷ Tcp ∷ Retry ∷ Socks ∷ [])
+    ∷ offer ("PROXY" ∷ []) kind.Proxy uses.Any (Relay ∷ Socket ∷ Tcp ∷ Retry ∷ Proxy ∷ [])
     ∷ []
 
 unfoldable pub left_out_kinds : List (List ℕ)
@@ -88,10 +97,10 @@ left_out_kinds =
     ∷ codes "SOCKET-DATAGRAM" ∷ codes "SOCKET-RECVFROM" ∷ codes "SOCKET-RECV" ∷ []
 
 -- what is known of the first kind with this keyword
-unfoldable pub row_of : List NamedKind → List ℕ → Option KindRow
+unfoldable pub row_of : List NamedKind → List ℕ → Option KnownKind
 row_of [] keyword = None
-row_of (known ∷ rest) keyword =
-    if is_listed known.keywords keyword then Some known.row else row_of rest keyword
+row_of (named ∷ rest) keyword =
+    if is_listed named.keywords keyword then Some named.known else row_of rest keyword
 
 abbrev pub begins_with_digit : List ℕ → Bool
 begins_with_digit [] = false
@@ -113,45 +122,25 @@ offers uses.OnlyReading asked = false
 offers uses.OnlyWriting Writing = true
 offers uses.OnlyWriting asked = false
 
--- the groups of each set
-unfoldable pub includes : Groups → Group → Bool
-includes some group.Relay = true
-includes groups.Entry group.Named = true
-includes groups.File group.Named = true
-includes groups.File group.File = true
-includes groups.TcpClient group.Socket = true
-includes groups.TcpClient group.Tcp = true
-includes groups.TcpClient group.Retry = true
-includes groups.TcpServer group.Socket = true
-includes groups.TcpServer group.Tcp = true
-includes groups.TcpServer group.Retry = true
-includes groups.TcpServer group.Bind = true
-includes groups.TcpServer group.Listen = true
-includes groups.TcpServer group.Range = true
-includes groups.UdpClient group.Socket = true
-includes groups.UdpClient group.Bind = true
-includes groups.UdpServer group.Socket = true
-includes groups.UdpServer group.Retry = true
-includes groups.UdpServer group.Bind = true
-includes groups.UdpServer group.Listen = true
-includes groups.UdpServer group.Range = true
-includes groups.UnixClient group.Socket = true
-includes groups.UnixClient group.Named = true
-includes groups.UnixClient group.Retry = true
-includes groups.UnixServer group.Socket = true
-includes groups.UnixServer group.Named = true
-includes groups.UnixServer group.Retry = true
-includes groups.UnixServer group.Listen = true
-includes groups.Program group.Child = true
-includes groups.Socks group.Socket = true
-includes groups.Socks group.Tcp = true
-includes groups.Socks group.Retry = true
-includes groups.Socks group.Socks = true
-includes groups.Proxy group.Socket = true
-includes groups.Proxy group.Tcp = true
-includes groups.Proxy group.Retry = true
-includes groups.Proxy group.Proxy = true
-includes some other = false
+-- whether two groups are the same
+abbrev pub same_group : Group → Group → Bool
+same_group Relay Relay = true
+same_group File File = true
+same_group Named Named = true
+same_group Socket Socket = true
+same_group Tcp Tcp = true
+same_group Bind Bind = true
+same_group Retry Retry = true
+same_group Listen Listen = true
+same_group Range Range = true
+same_group Child Child = true
+same_group Socks Socks = true
+same_group Proxy Proxy = true
+same_group one other = false
+
+-- whether the group is among these
+abbrev pub includes : List Group → Group → Bool
+includes groups group = list_any (λ one. same_group one group) groups
 
 -- the kinds that peers connect to
 abbrev pub is_listener : Target → Bool

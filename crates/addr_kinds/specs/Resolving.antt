@@ -23,17 +23,16 @@ use Rattle.addr_kinds.specs.declared.kinds.FileKind.TheVariants.{Open, Gopen}
 use Rattle.addr_kinds.specs.declared.kinds.HostKind.TheVariants.{Udp, UdpSendto}
 use Rattle.addr_kinds.specs.declared.kinds.Kind.{Kind}
 use Rattle.addr_kinds.specs.declared.kinds.Kind.TheVariants as kind
-use Rattle.addr_kinds.specs.declared.kinds.KindRow.{KindRow}
-use Rattle.addr_kinds.specs.Kinds.{known_kinds, row_of, is_left_out, offers, includes}
+use Rattle.addr_kinds.specs.Kinds.{KnownKind, known_kinds, row_of, is_left_out, offers, includes}
 use Rattle.addr_kinds.specs.Targets.{counted, target_of}
 use Rattle.addr_kinds.specs.Effects.{first_options, effect}
 
 -- a kind that isn't offered is left out or unknown
-abbrev pub known_or_not : Option KindRow → Bool → Result KindRow KindFault
+abbrev pub known_or_not : Option KnownKind → Bool → Result KnownKind KindFault
 known_or_not (Some row) left_out = Ok row
 known_or_not None left_out = if left_out then Err LeftOutKind else Err UnknownKind
 
-unfoldable pub kind_of : List ℕ → Result KindRow KindFault
+unfoldable pub kind_of : List ℕ → Result KnownKind KindFault
 kind_of keyword = known_or_not (row_of known_kinds keyword) (is_left_out keyword)
 
 -- what is known of the option at this place
@@ -68,7 +67,7 @@ abbrev pub text_of : Option (List ℕ) → List ℕ
 text_of value = unwrap_or value []
 
 -- the options after one more, which stands at this place; with the flag `-g` a kind takes every group
-unfoldable pub with_option : KindRow → Bool → ℕ → Named → Options → Result Options KindFault
+unfoldable pub with_option : KnownKind → Bool → ℕ → Named → Options → Result Options KindFault
 with_option known general place option options = do
   row ← option_at place (lookup_of option.name)
   taken ← group_at place (general || includes known.groups row.group)
@@ -76,7 +75,7 @@ with_option known general place option options = do
   Ok (effect row.id value (text_of option.value) options)
 
 -- the options after some more, the first of which stands at this place
-unfoldable pub with_options : KindRow → Bool → ℕ → List Named → Options → Result Options KindFault
+unfoldable pub with_options : KnownKind → Bool → ℕ → List Named → Options → Result Options KindFault
 with_options known general place [] options = Ok options
 with_options known general place (option ∷ more) options = do
   changed ← with_option known general place option options
@@ -95,7 +94,7 @@ opens_by_name (kind.File Gopen) = true
 opens_by_name kind = false
 
 -- the kind is offered for the use, and where it opens a file, the flags allow it
-abbrev pub may_be_used : KindRow → FileFlags → Asked → Bool
+abbrev pub may_be_used : KnownKind → FileFlags → Asked → Bool
 may_be_used known flags asked = offers known.uses asked && (not (opens_by_name known.kind) || allows flags asked)
 
 -- whether the address may be used so

@@ -1,10 +1,10 @@
 // The kinds of addresses.
 ghost use Rattle.std.specs.Prelude.{◌≡◌};
-ghost use Rattle.addr_kinds.specs.Kinds.{offers, includes};
+ghost use Rattle.addr_kinds.specs.Kinds.{includes};
 ghost use Rattle.addr_kinds.specs.Targets.{wanted, least_port};
 ghost use Rattle.addr_kinds.specs.Resolving.{binds_port, opens_by_name};
 
-use crate::uses::{Asked, Uses};
+use crate::uses::Uses;
 use option_table::Group;
 use relay_model::Family;
 
@@ -59,29 +59,21 @@ pub(crate) enum Kind {
     Proxy,
 }
 
-/// A set of groups of options.
-#[derive(Clone, Copy, Debug, PartialEq, Eq)]
-pub(crate) enum Groups {
-    Stream,
-    Entry,
-    File,
-    TcpClient,
-    TcpServer,
-    UdpClient,
-    UdpServer,
-    UnixClient,
-    UnixServer,
-    Program,
-    Socks,
-    Proxy,
-}
-
 /// What is known of a kind besides its keywords.
-#[derive(Clone, Copy, Debug, PartialEq, Eq)]
+#[derive(Clone, Copy)]
 pub(crate) struct KindRow {
     pub kind: Kind,
     pub uses: Uses,
-    pub groups: Groups,
+    pub groups: &'static [Group],
+}
+
+impl KindRow {
+    /// Whether the kind takes the options of the group.
+    pub(crate) fn takes(self, group: Group) -> bool
+        ensures { result ≡ includes self.groups.now group }
+    {
+        self.groups.iter().any(|one| *one == group)
+    }
 }
 
 impl Kind {
@@ -108,61 +100,6 @@ impl PortKind {
         match self {
             PortKind::TcpListen | PortKind::UdpListen | PortKind::UdpRecvfrom => 0,
             PortKind::UdpRecv => 1,
-        }
-    }
-}
-
-impl Groups {
-    /// Whether the group is in the set.
-    #[tactic(auto, unfolding(crate::specs::Kinds::includes))]
-    pub(crate) fn include(self, group: Group) -> bool
-        ensures { result ≡ includes self group }
-    {
-        match self {
-            Groups::Stream => matches!(group, Group::Relay),
-            Groups::Entry => matches!(group, Group::Relay | Group::Named),
-            Groups::File => matches!(group, Group::Relay | Group::Named | Group::File),
-            Groups::TcpClient => matches!(
-                group,
-                Group::Relay | Group::Socket | Group::Tcp | Group::Retry
-            ),
-            Groups::TcpServer => matches!(
-                group,
-                Group::Relay
-                    | Group::Socket
-                    | Group::Tcp
-                    | Group::Retry
-                    | Group::Bind
-                    | Group::Listen
-                    | Group::Range
-            ),
-            Groups::UdpClient => matches!(group, Group::Relay | Group::Socket | Group::Bind),
-            Groups::UdpServer => matches!(
-                group,
-                Group::Relay
-                    | Group::Socket
-                    | Group::Retry
-                    | Group::Bind
-                    | Group::Listen
-                    | Group::Range
-            ),
-            Groups::UnixClient => matches!(
-                group,
-                Group::Relay | Group::Socket | Group::Named | Group::Retry
-            ),
-            Groups::UnixServer => matches!(
-                group,
-                Group::Relay | Group::Socket | Group::Named | Group::Retry | Group::Listen
-            ),
-            Groups::Program => matches!(group, Group::Relay | Group::Child),
-            Groups::Socks => matches!(
-                group,
-                Group::Relay | Group::Socket | Group::Tcp | Group::Retry | Group::Socks
-            ),
-            Groups::Proxy => matches!(
-                group,
-                Group::Relay | Group::Socket | Group::Tcp | Group::Retry | Group::Proxy
-            ),
         }
     }
 }

@@ -3,6 +3,7 @@ ghost use Rattle.std.specs.Prelude.{◌≡◌, map, option_copied};
 ghost use Rattle.option_table.specs.Rows.{lookup_of};
 ghost use Rattle.option_table.specs.Values.{value_of};
 ghost use Rattle.addr_grammar.specs.Addresses.{named};
+ghost use Rattle.addr_kinds.specs.Kinds.{known_of};
 ghost use Rattle.addr_kinds.specs.Resolving.{option_at, is_port_too_many, value_at, text_of, with_option, with_options, Resolves};
 
 use crate::effects::set_option;
@@ -74,10 +75,10 @@ fn apply_option(
     option: &RawOption,
     options: &mut Options,
 ) -> Result<(), KindFault>
-    ensures { Resolves (λ _. options.new) result (with_option known general place (named option.now) options.old) }
+    ensures { Resolves (λ _. options.new) result (with_option (known_of known) general place (named option.now) options.old) }
 {
     let row = option_at(place, option.name.as_slice())?;
-    if !general && !known.groups.include(row.group) {
+    if !general && !known.takes(row.group) {
         return Err(KindFault::WrongGroup { place });
     }
     let written = written_value(option);
@@ -96,7 +97,7 @@ pub(crate) fn apply_options(
     written: &[RawOption],
     options: &mut Options,
 ) -> Result<(), KindFault>
-    ensures { Resolves (λ _. options.new) result (with_options known general 1 (map named written.now) options.old) }
+    ensures { Resolves (λ _. options.new) result (with_options (known_of known) general 1 (map named written.now) options.old) }
 {
     let mut place = 1u32;
     for option in written {

@@ -1,6 +1,6 @@
 // What an address asks for.
 ghost use Rattle.std.specs.Prelude.{◌≡◌};
-ghost use Rattle.addr_kinds.specs.Kinds.{is_listener};
+ghost use Rattle.addr_kinds.specs.Kinds.{is_listener, known_of};
 ghost use Rattle.addr_kinds.specs.Resolving.{allows, may_be_used, resolution, Resolves};
 
 use crate::effects::first_options;
@@ -39,7 +39,7 @@ fn allows(flags: FileFlags, asked: Asked) -> bool
 }
 
 fn may_be_used(known: KindRow, flags: FileFlags, asked: Asked) -> bool
-    ensures { result ≡ may_be_used known flags asked }
+    ensures { result ≡ may_be_used (known_of known) flags asked }
 {
     known.uses.offer(asked) && (!known.kind.opens_by_name() || allows(flags, asked))
 }

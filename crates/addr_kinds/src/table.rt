@@ -1,61 +1,65 @@
 // The kinds that the relay offers, one row a kind, and those of socat(1) that it leaves out.
-ghost use Rattle.std.specs.Prelude.{◌≡◌, map};
+ghost use Rattle.std.specs.Prelude.{◌≡◌, map, option_map};
+ghost use Rattle.std.specs.Result.{result_map_both};
 ghost use Rattle.option_table.specs.Table.{is_listed};
-ghost use Rattle.addr_kinds.specs.Kinds.{row_of, as_named, is_left_out};
+ghost use Rattle.addr_kinds.specs.Kinds.{row_of, as_named, known_of, is_left_out};
 ghost use Rattle.addr_kinds.specs.Resolving.{kind_of};
 
 use crate::faults::KindFault;
-use crate::kinds::{FileKind, Groups, HostKind, Kind, KindRow, PortKind, StreamKind};
+use crate::kinds::{FileKind, HostKind, Kind, KindRow, PortKind, StreamKind};
 use crate::uses::Uses;
-use option_table::same_name;
+use option_table::{Group, same_name};
 use relay_model::Family;
 
-/// One kind a line: its keywords, what follows them, its uses and its groups of options.
+/// One kind a line: its keywords, the rule of what follows them, its uses and its groups of options.
 macro_rules! kinds {
-    ($([$($keyword:literal)+] $kind:expr, $uses:ident, $groups:ident;)*) => {
-        [$((&[$($keyword),+], $kind, Uses::$uses, Groups::$groups)),*]
+    ($([$($keyword:literal)+] $kind:expr, $uses:ident, [$($group:ident)+];)*) => {
+        [$((
+            &[$($keyword),+],
+            KindRow { kind: $kind, uses: Uses::$uses, groups: &[$(Group::$group),+] },
+        )),*]
     };
 }
 
-type Row = (&'static [&'static [u8]], Kind, Uses, Groups);
+type Row = (&'static [&'static [u8]], KindRow);
 
 const KINDS: [Row; 36] = kinds! {
-    [b"STDIO"] Kind::Stream(StreamKind::Stdio), Any, Stream;
-    [b"STDIN"] Kind::Stream(StreamKind::Stdin), AllButWriting, Stream;
-    [b"STDOUT"] Kind::Stream(StreamKind::Stdout), AllButReading, Stream;
-    [b"STDERR"] Kind::Stream(StreamKind::Stderr), AllButReading, Stream;
-    [b"CREATE"] Kind::File(FileKind::Create), OnlyWriting, Entry;
-    [b"OPEN"] Kind::File(FileKind::Open), Any, File;
-    [b"GOPEN"] Kind::File(FileKind::Gopen), Any, File;
-    [b"PIPE"] Kind::Pipe, Any, Entry;
-    [b"TCP" b"TCP-CONNECT"] Kind::Host(HostKind::Tcp, Family::Any), Any, TcpClient;
-    [b"TCP4" b"TCP4-CONNECT"] Kind::Host(HostKind::Tcp, Family::V4), Any, TcpClient;
-    [b"TCP6" b"TCP6-CONNECT"] Kind::Host(HostKind::Tcp, Family::V6), Any, TcpClient;
-    [b"TCP-LISTEN" b"TCP-L"] Kind::Port(PortKind::TcpListen, Family::Any), Any, TcpServer;
-    [b"TCP4-LISTEN" b"TCP4-L"] Kind::Port(PortKind::TcpListen, Family::V4), Any, TcpServer;
-    [b"TCP6-LISTEN" b"TCP6-L"] Kind::Port(PortKind::TcpListen, Family::V6), Any, TcpServer;
-    [b"UDP"] Kind::Host(HostKind::Udp, Family::Any), Any, UdpClient;
-    [b"UDP4"] Kind::Host(HostKind::Udp, Family::V4), Any, UdpClient;
-    [b"UDP6"] Kind::Host(HostKind::Udp, Family::V6), Any, UdpClient;
-    [b"UDP-LISTEN" b"UDP-L"] Kind::Port(PortKind::UdpListen, Family::Any), Any, UdpServer;
-    [b"UDP4-LISTEN" b"UDP4-L"] Kind::Port(PortKind::UdpListen, Family::V4), Any, UdpServer;
-    [b"UDP6-LISTEN" b"UDP6-L"] Kind::Port(PortKind::UdpListen, Family::V6), Any, UdpServer;
-    [b"UDP-RECVFROM"] Kind::Port(PortKind::UdpRecvfrom, Family::Any), Any, UdpServer;
-    [b"UDP4-RECVFROM"] Kind::Port(PortKind::UdpRecvfrom, Family::V4), Any, UdpServer;
-    [b"UDP6-RECVFROM"] Kind::Port(PortKind::UdpRecvfrom, Family::V6), Any, UdpServer;
-    [b"UDP-RECV"] Kind::Port(PortKind::UdpRecv, Family::Any), OnlyReading, UdpClient;
-    [b"UDP4-RECV"] Kind::Port(PortKind::UdpRecv, Family::V4), OnlyReading, UdpClient;
-    [b"UDP6-RECV"] Kind::Port(PortKind::UdpRecv, Family::V6), OnlyReading, UdpClient;
-    [b"UDP-SENDTO"] Kind::Host(HostKind::UdpSendto, Family::Any), Any, UdpClient;
-    [b"UDP4-SENDTO"] Kind::Host(HostKind::UdpSendto, Family::V4), Any, UdpClient;
-    [b"UDP6-SENDTO"] Kind::Host(HostKind::UdpSendto, Family::V6), Any, UdpClient;
-    [b"UNIX-CONNECT"] Kind::File(FileKind::UnixConnect), Any, UnixClient;
-    [b"UNIX-LISTEN" b"UNIX-L"] Kind::File(FileKind::UnixListen), Any, UnixServer;
-    [b"EXEC"] Kind::Exec, Any, Program;
-    [b"SYSTEM"] Kind::System, Any, Program;
-    [b"SOCKS4"] Kind::Socks { named: false }, Any, Socks;
-    [b"SOCKS4A"] Kind::Socks { named: true }, Any, Socks;
-    [b"PROXY"] Kind::Proxy, Any, Proxy;
+    [b"STDIO"] Kind::Stream(StreamKind::Stdio), Any, [Relay];
+    [b"STDIN"] Kind::Stream(StreamKind::Stdin), AllButWriting, [Relay];
+    [b"STDOUT"] Kind::Stream(StreamKind::Stdout), AllButReading, [Relay];
+    [b"STDERR"] Kind::Stream(StreamKind::Stderr), AllButReading, [Relay];
+    [b"CREATE"] Kind::File(FileKind::Create), OnlyWriting, [Relay Named];
+    [b"OPEN"] Kind::File(FileKind::Open), Any, [Relay Named File];
+    [b"GOPEN"] Kind::File(FileKind::Gopen), Any, [Relay Named File];
+    [b"PIPE"] Kind::Pipe, Any, [Relay Named];
+    [b"TCP" b"TCP-CONNECT"] Kind::Host(HostKind::Tcp, Family::Any), Any, [Relay Socket Tcp Retry];
+    [b"TCP4" b"TCP4-CONNECT"] Kind::Host(HostKind::Tcp, Family::V4), Any, [Relay Socket Tcp Retry];
+    [b"TCP6" b"TCP6-CONNECT"] Kind::Host(HostKind::Tcp, Family::V6), Any, [Relay Socket Tcp Retry];
+    [b"TCP-LISTEN" b"TCP-L"] Kind::Port(PortKind::TcpListen, Family::Any), Any, [Relay Socket Tcp Retry Bind Listen Range];
+    [b"TCP4-LISTEN" b"TCP4-L"] Kind::Port(PortKind::TcpListen, Family::V4), Any, [Relay Socket Tcp Retry Bind Listen Range];
+    [b"TCP6-LISTEN" b"TCP6-L"] Kind::Port(PortKind::TcpListen, Family::V6), Any, [Relay Socket Tcp Retry Bind Listen Range];
+    [b"UDP"] Kind::Host(HostKind::Udp, Family::Any), Any, [Relay Socket Bind];
+    [b"UDP4"] Kind::Host(HostKind::Udp, Family::V4), Any, [Relay Socket Bind];
+    [b"UDP6"] Kind::Host(HostKind::Udp, Family::V6), Any, [Relay Socket Bind];
+    [b"UDP-LISTEN" b"UDP-L"] Kind::Port(PortKind::UdpListen, Family::Any), Any, [Relay Socket Retry Bind Listen Range];
+    [b"UDP4-LISTEN" b"UDP4-L"] Kind::Port(PortKind::UdpListen, Family::V4), Any, [Relay Socket Retry Bind Listen Range];
+    [b"UDP6-LISTEN" b"UDP6-L"] Kind::Port(PortKind::UdpListen, Family::V6), Any, [Relay Socket Retry Bind Listen Range];
+    [b"UDP-RECVFROM"] Kind::Port(PortKind::UdpRecvfrom, Family::Any), Any, [Relay Socket Retry Bind Listen Range];
+    [b"UDP4-RECVFROM"] Kind::Port(PortKind::UdpRecvfrom, Family::V4), Any, [Relay Socket Retry Bind Listen Range];
+    [b"UDP6-RECVFROM"] Kind::Port(PortKind::UdpRecvfrom, Family::V6), Any, [Relay Socket Retry Bind Listen Range];
+    [b"UDP-RECV"] Kind::Port(PortKind::UdpRecv, Family::Any), OnlyReading, [Relay Socket Bind];
+    [b"UDP4-RECV"] Kind::Port(PortKind::UdpRecv, Family::V4), OnlyReading, [Relay Socket Bind];
+    [b"UDP6-RECV"] Kind::Port(PortKind::UdpRecv, Family::V6), OnlyReading, [Relay Socket Bind];
+    [b"UDP-SENDTO"] Kind::Host(HostKind::UdpSendto, Family::Any), Any, [Relay Socket Bind];
+    [b"UDP4-SENDTO"] Kind::Host(HostKind::UdpSendto, Family::V4), Any, [Relay Socket Bind];
+    [b"UDP6-SENDTO"] Kind::Host(HostKind::UdpSendto, Family::V6), Any, [Relay Socket Bind];
+    [b"UNIX-CONNECT"] Kind::File(FileKind::UnixConnect), Any, [Relay Socket Named Retry];
+    [b"UNIX-LISTEN" b"UNIX-L"] Kind::File(FileKind::UnixListen), Any, [Relay Socket Named Retry Listen];
+    [b"EXEC"] Kind::Exec, Any, [Relay Child];
+    [b"SYSTEM"] Kind::System, Any, [Relay Child];
+    [b"SOCKS4"] Kind::Socks { named: false }, Any, [Relay Socket Tcp Retry Socks];
+    [b"SOCKS4A"] Kind::Socks { named: true }, Any, [Relay Socket Tcp Retry Socks];
+    [b"PROXY"] Kind::Proxy, Any, [Relay Socket Tcp Retry Proxy];
 };
 
 const LEFT_OUT: [&[u8]; 35] = [
@@ -110,15 +114,11 @@ fn is_among(mut known: &[&[u8]], keyword: &[u8]) -> bool
 
 #[tactic(auto, unfolding(crate::specs::Kinds::row_of))]
 fn find_kind(mut table: &[Row], keyword: &[u8]) -> Option<KindRow>
-    ensures { result ≡ row_of (map as_named table.entry.now) keyword.now }
+    ensures { option_map known_of result ≡ row_of (map as_named table.entry.now) keyword.now }
 {
     while let [row, rest @ ..] = table {
         if is_among(row.0, keyword) {
-            return Some(KindRow {
-                kind: row.1,
-                uses: row.2,
-                groups: row.3,
-            });
+            return Some(row.1);
         }
         table = rest;
     }
@@ -139,7 +139,7 @@ fn is_left_out(keyword: &[u8]) -> bool
 /// socat(1), and is left out.
 #[tactic(auto, unfolding(crate::specs::Resolving::kind_of, crate::specs::Kinds::known_kinds))]
 pub(crate) fn kind_of(keyword: &[u8]) -> Result<KindRow, KindFault>
-    ensures { result ≡ kind_of keyword.now }
+    ensures { result_map_both known_of (λ fault. fault) result ≡ kind_of keyword.now }
 {
     match find_kind(&KINDS, keyword) {
         Some(row) => Ok(row),

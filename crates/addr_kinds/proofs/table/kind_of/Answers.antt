@@ -1,14 +1,13 @@
 use Rattle.std.proofs.Common.{◌≡◌, Bool, true, false, Option, None, Err, ap, ◌∙◌, sym, refl}
-use Rattle.addr_kinds.specs.declared.kinds.KindRow.{KindRow}
 use Rattle.addr_kinds.specs.declared.faults.KindFault.TheVariants.{LeftOutKind, UnknownKind}
-use Rattle.addr_kinds.specs.Kinds.{known_kinds, row_of, is_left_out}
+use Rattle.addr_kinds.specs.Kinds.{KnownKind, known_kinds, row_of, is_left_out}
 use Rattle.addr_kinds.specs.Resolving.{known_or_not, kind_of}
 use Rattle.addr_kinds.proofs.table.kind_of.Goals as goal
 
-left_out : (o : Option KindRow) (b : Bool) → None ≡ o → true ≡ b → Err LeftOutKind ≡ known_or_not o b
+left_out : (o : Option KnownKind) (b : Bool) → None ≡ o → true ≡ b → Err LeftOutKind ≡ known_or_not o b
 left_out o b e f = rw (← e, ← f) refl
 
-unknown : (o : Option KindRow) (b : Bool) → None ≡ o → false ≡ b → Err UnknownKind ≡ known_or_not o b
+unknown : (o : Option KnownKind) (b : Bool) → None ≡ o → false ≡ b → Err UnknownKind ≡ known_or_not o b
 unknown o b e f = rw (← e, ← f) refl
 
 pub returns-in-Some : goal.returns-in-Some
