@@ -62,8 +62,7 @@ cases() {
         esac
         count="${line#case }"
         words=()
-        while [ "${#words[@]}" -lt "$count" ]; do
-            IFS= read -r line
+        while [ "${#words[@]}" -lt "$count" ] && IFS= read -r line; do
             words+=("$line")
         done
         IFS= read -r line
@@ -72,7 +71,14 @@ cases() {
         says "$status" "$text"$'\n' "${words[@]+"${words[@]}"}"
     done
 }
-cases <"$here/tests/data/refusals.txt"
+table="$here/tests/data/refusals.txt"
+cases <"$table"
+# Each case was tried, and none is missing.
+wanted=336
+if [ "$(grep -c '^case ' "$table")" -ne "$wanted" ] || [ "$((passed + failed))" -ne "$wanted" ]; then
+    echo "FAILED  the table: $((passed + failed)) cases tried, want $wanted"
+    failed=$((failed + 1))
+fi
 echo "the table: $passed passed, $failed failed"
 
 # --- rows of one kind each
@@ -103,6 +109,11 @@ refused 'socat: E16 word 2 half 1: wrong use' -U STDIN STDOUT
 refused 'socat: E21: addresses want 2 have 3' - - -
 refused 'socat: E21: addresses want 2 have 0'
 
+# A written journal is asked for by the first word alone; the others are numbered from behind it.
+refused 'socat: E18 word 2: unknown flag' -u --journal=j STDIN STDOUT
+refused 'socat: E18 word 1: unknown flag' --journal=j --journal=j - -
+refused 'socat: E05 word 2: empty address' --journal=j - ''
+
 long() {
     printf "%0$1d" 0 | tr 0 "$2"
 }
@@ -112,11 +123,15 @@ refused 'socat: E01 word 1: unclosed at 0' "$(long 65536 '(')" -
 # Arguments are bytes, whatever they spell.
 refused 'socat: E12 word 1 half 1: unknown address kind' $'\xff\xfe' -
 refused 'socat: E18 word 1: unknown flag' $'-\xff' - -
+# Offsets count them as they came. A replacement character in place of a byte would count for three.
+refused 'socat: E07 word 1: empty option at 3' $'\xff\xfe,,cr' -
+refused 'socat: E06 word 2: too many !! at 4' - $'a!!\xc3!!\xff'
+refused 'socat: E01 word 1: unclosed at 2' $'\xe2\x82"' -
 
 # --- what is in order and can't be run yet
 
 for words in '- -' '-U STDOUT STDIN' '-u STDIN,cr STDOUT' '-u OPEN:no-such-file STDOUT' \
-    'TCP-LISTEN:1,fork TCP:localhost:2' '-v -u STDIN STDOUT' '--load 7'; do
+    'TCP-LISTEN:1,fork TCP:localhost:2' '-v -u STDIN STDOUT' '--load 7' '--journal=j -u STDIN STDOUT'; do
     # The words are split at spaces.
     # shellcheck disable=SC2086
     refused 'socat: E23: not built' $words
@@ -131,6 +146,7 @@ options: -b<size> -t<time> -T<time> -u -U -s -v -x -g -d -h -V
 says 0 "$usage" -h
 says 0 "$usage" '-?' and more words
 says 0 "$usage" -u -b4 -h
+says 0 "$usage" --journal=j -h
 says 0 'socat relay, profile of 1.7
 ' -V
 
