@@ -5,6 +5,7 @@
 mod effects;
 mod faults;
 mod kinds;
+mod laws;
 mod options;
 mod resolving;
 mod rules;
@@ -15,5 +16,6 @@ mod tests;
 mod uses;
 
 pub use faults::KindFault;
+pub use laws::resolutions_are_told;
 pub use resolving::{listens, resolve};
 pub use uses::Asked;
