@@ -55,6 +55,34 @@ fn halves(rt: HostRuntime) -> Result<(), Fail> {
 }
 
 #[test]
+fn quoted_commas_part_no_options(rt: HostRuntime) -> Result<(), Fail> {
+    let command = single(rt.alloc(), b"EXEC:'a,b'").ok_or("a command")?;
+    assert_eq!(rt; command.keyword(), b"EXEC".as_slice());
+    let [param] = command.params() else {
+        return Err("one parameter".into());
+    };
+    assert_eq!(rt; param.as_slice(), b"a,b".as_slice());
+    assert_eq!(rt; command.options().len(), 0);
+    Ok(())
+}
+
+#[test]
+fn streams_of_two_halves(rt: HostRuntime) -> Result<(), Fail> {
+    match parse_address(rt.alloc(), b"STDIN!!STDOUT") {
+        Ok(RawAddress::Two(reading, writing)) => {
+            assert_eq!(rt; reading.keyword(), b"STDIN".as_slice());
+            assert_eq!(rt; reading.params().len(), 0);
+            assert_eq!(rt; reading.options().len(), 0);
+            assert_eq!(rt; writing.keyword(), b"STDOUT".as_slice());
+            assert_eq!(rt; writing.params().len(), 0);
+            assert_eq!(rt; writing.options().len(), 0);
+            Ok(())
+        }
+        _ => Err("two halves".into()),
+    }
+}
+
+#[test]
 fn printed_texts(rt: HostRuntime) -> Result<(), Fail> {
     let alloc = rt.alloc();
     let command = printed(alloc, b"EXEC:'a,b'").ok_or("a command")?;
