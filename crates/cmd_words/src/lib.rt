@@ -7,6 +7,7 @@ mod commands;
 mod directions;
 mod faults;
 mod flags;
+mod laws;
 mod leading;
 mod settings;
 #[cfg(test)]
@@ -14,3 +15,4 @@ mod tests;
 
 pub use commands::{Command, command_of};
 pub use faults::CommandFault;
+pub use laws::command_is_told;
