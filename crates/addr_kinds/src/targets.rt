@@ -11,8 +11,8 @@ use crate::rules::{
 use relay_model::{Bytes, Family, Target, Text};
 use std::alloc::Global;
 
-/// A count for a report.
-pub(crate) fn counted(count: usize) -> u32
+/// A count or a place for a report, which stands still at the end of 32 bits.
+pub fn counted(count: usize) -> u32
     ensures { result ≡ counted count }
 {
     u32::try_from(count).unwrap_or(u32::MAX)

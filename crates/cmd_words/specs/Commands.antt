@@ -26,6 +26,7 @@ use Rattle.addr_kinds.specs.declared.faults.KindFault.TheVariants as kinds
 use Rattle.addr_kinds.specs.declared.uses.Asked.{Asked}
 use Rattle.addr_kinds.specs.declared.uses.Asked.TheVariants.{TwoWay, Reading, Writing}
 use Rattle.addr_kinds.specs.Resolving.{resolution}
+use Rattle.addr_kinds.specs.Targets.{counted}
 use Rattle.cmd_words.specs.declared.settings.Settings.{Settings}
 use Rattle.cmd_words.specs.declared.settings.Instead.{Instead}
 use Rattle.cmd_words.specs.declared.settings.Instead.TheVariants as instead
@@ -35,7 +36,7 @@ use Rattle.cmd_words.specs.declared.faults.CommandFault.{CommandFault}
 use Rattle.cmd_words.specs.declared.faults.CommandFault.TheVariants as faults
 use Rattle.cmd_words.specs.declared.commands.Command.{Command}
 use Rattle.cmd_words.specs.declared.commands.Command.TheVariants as commands
-use Rattle.cmd_words.specs.Flags.{capped, refused_at, flags_of}
+use Rattle.cmd_words.specs.Flags.{refused_at, flags_of}
 
 -- ---- refusals
 
@@ -150,7 +151,7 @@ between settings first (left_word ∷ right_word ∷ []) =
     address_at settings first Left left_word >>= λ left.
     address_at settings (first + 1) Right right_word >>= λ right.
     directed (config_of settings left right)
-between settings first words = Err (whole (refusals.AddressCount (capped (length words))))
+between settings first words = Err (whole (refusals.AddressCount (counted (length words))))
 
 abbrev pub instead_of : Instead → Command
 instead_of instead.Usage = commands.Usage

@@ -11,6 +11,7 @@ use Rattle.relay_model.specs.declared.refusals.Refusal.TheVariants as refusals
 use Rattle.relay_model.specs.declared.refusals.Refused.{Refused}
 use Rattle.option_table.specs.Parts.{◌>>=◌, only_if}
 use Rattle.option_table.specs.Numbers.{number_of, time_of}
+use Rattle.addr_kinds.specs.Targets.{counted}
 use Rattle.cmd_words.specs.declared.settings.Settings.{Settings}
 use Rattle.cmd_words.specs.declared.settings.Switch.{Switch}
 use Rattle.cmd_words.specs.declared.settings.Switch.TheVariants.{OnlyRight, OnlyLeft, TextDump, HexDump, AnyGroup, Sloppy, Messages}
@@ -171,13 +172,9 @@ IsSound next (Stop what) = Unit {0}
 
 -- ---- all flags
 
--- numbers of words stand still at the end of 32 bits
-abbrev pub capped : ℕ → ℕ
-capped n = if nat_le n 4294967295 then n else 4294967295
-
 -- a refusal of the word at a place that is counted from 0
 abbrev pub refused_at : ℕ → ℕ → Refusal → Refused
-refused_at at half why = record { word = capped (at + 1); half = half; why = why }
+refused_at at half why = record { word = counted (at + 1); half = half; why = why }
 
 -- reading goes on behind a flag or behind its value
 abbrev pub after : ℕ → Result Step Refusal → (Settings → Result Flagged Refused) → (Settings → Result Flagged Refused) → Result Flagged Refused

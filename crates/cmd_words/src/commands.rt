@@ -6,9 +6,10 @@ ghost use Rattle.cmd_words.specs.Commands.{Answers, IsFit, whole, misplaced_fork
 
 use crate::addresses::address_at;
 use crate::directions::has_direction;
-use crate::faults::{CommandFault, capped};
+use crate::faults::CommandFault;
 use crate::leading::read_flags;
 use crate::settings::{Flagged, Instead, Settings};
+use addr_kinds::counted;
 use relay_model::{Address, Config, Refusal, Refused, Side, Text};
 use std::alloc::Global;
 
@@ -79,7 +80,7 @@ fn between(
     ensures fit { IfOk result IsFit }
 {
     let [left, right] = words else {
-        let have = capped(words.len());
+        let have = counted(words.len());
         return Err(whole(Refusal::AddressCount { have }));
     };
     let left = address_at(alloc, settings, first, Side::Left, left.as_slice())?;

@@ -1,10 +1,10 @@
 // Why a list of words makes no command.
 ghost use Rattle.std.specs.Prelude.{◌≡◌, ◌+◌, ◌<◌, ◌^◌};
-ghost use Rattle.cmd_words.specs.Flags.{capped, refused_at};
+ghost use Rattle.cmd_words.specs.Flags.{refused_at};
 ghost use Rattle.cmd_words.specs.Commands.{wrong_at, text_fault, kind_fault};
 
 use addr_grammar::GrammarFault;
-use addr_kinds::KindFault;
+use addr_kinds::{KindFault, counted};
 use relay_model::{NoMemory, Refusal, Refused};
 use thiserror::Error;
 
@@ -13,18 +13,11 @@ use thiserror::Error;
 #[derive(Debug, Drop, Error)]
 pub enum CommandFault {
     /// What is wrong, and with which word.
-    #[error("word {}: {:?}", .0.word, .0.why)]
+    #[error("refused at word {}, half {}", .0.word, .0.half)]
     Refused(Refused),
     /// No memory was found.
     #[error("out of memory")]
     Memory,
-}
-
-/// The number, which stands still at the end of 32 bits.
-pub fn capped(number: usize) -> u32
-    ensures { result ≡ capped number }
-{
-    u32::try_from(number).unwrap_or(u32::MAX)
 }
 
 /// A refusal of the word at this place, counted from 0, and of a half of its address.
@@ -33,7 +26,7 @@ pub fn refused_at(at: usize, half: u8, why: Refusal) -> Refused
     ensures { result ≡ refused_at at half why }
 {
     Refused {
-        word: capped(at + 1),
+        word: counted(at + 1),
         half,
         why,
     }
