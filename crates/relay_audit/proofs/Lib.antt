@@ -5,4 +5,5 @@ pub mod Implied
 pub mod Judged
 pub mod Lists
 pub mod OneVerdict
+pub mod Pieces
 pub mod Streams

@@ -1,17 +1,20 @@
 -- How the code sees a list of acts, and what it asks of one.
-use Rattle.std.specs.Prelude.{ℕ, zero, suc, ◌+◌, Bool, true, false, not, ◌&&◌, ◌||◌, nat_lt, List, [], ◌∷◌, length, map, count_by, is_none}
+use Rattle.std.specs.Prelude.{◌≡◌, ℕ, zero, suc, ◌+◌, Bool, true, false, not, ◌&&◌, ◌||◌, nat_lt, List, [], ◌∷◌, ◌++◌, length, drop, map, count_by, is_none}
 use Rattle.std.specs.Borrow.{Bor}
+use Rattle.relay_model.specs.declared.places.Way.{Way}
 use Rattle.relay_model.specs.declared.places.Place.{Place}
 use Rattle.relay_model.specs.declared.commands.Config.{Config}
 use Rattle.relay_model.specs.declared.acts.Why.{Why}
 use Rattle.relay_model.specs.declared.acts.Why.TheVariants as whys
 use Rattle.relay_model.specs.declared.acts.Act.{Act}
 use Rattle.relay_model.specs.declared.acts.Act.TheVariants.{Read, Closed, Note, NoteFault}
-use Rattle.relay_model.specs.Configs.{things, is_program_door}
-use Rattle.relay_model.specs.History.{held, same_why}
+use Rattle.relay_model.specs.Configs.{things, is_program_door, input, output, keeps_borders}
+use Rattle.relay_model.specs.History.{held, same_why, got, put, sent}
+use Rattle.relay_model.specs.Transfers.{due, due_pieces}
 use Rattle.relay_model.specs.Cause.{cause, closed_why}
 use Rattle.relay_model.specs.Calls.{called_at}
 use Rattle.relay_model.specs.Audit.{closes, door_ends, is_cause}
+use Rattle.relay_laws.specs.Packets.{at_most_one}
 
 -- the acts that a slice of references shows
 abbrev pub acts : List (Bor Act) → List Act
@@ -22,6 +25,12 @@ abbrev pub reads_some : List Act → Bool
 reads_some [] = true
 reads_some (Read q bytes ∷ past) = nat_lt 0 (length bytes)
 reads_some (act ∷ past) = true
+
+-- where borders are kept, what is due and not yet written is one piece at most
+abbrev pub OnePieceWaits : Config → List Act → Type 0
+OnePieceWaits c past =
+    (s : ℕ) (w : Way) → keeps_borders c w ≡ true →
+    due_pieces c past s w ≡ sent past (output c s w) ++ at_most_one (drop (length (put past (output c s w))) (due c w (got past (input c s w))))
 
 -- an act that waits until no dump is owed: all but closings and notes
 abbrev pub awaits_dump : Act → Bool

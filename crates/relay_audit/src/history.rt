@@ -4,11 +4,11 @@ ghost use Rattle.std.specs.Prelude.{◌≡◌, ◌&&◌, length, IfOk};
 ghost use Rattle.relay_model.specs.Places.{same_place, same_half};
 ghost use Rattle.relay_model.specs.Readiness.{names};
 ghost use Rattle.relay_model.specs.Tries.{next_due};
-ghost use Rattle.relay_model.specs.History.{now, turns, same_why, stop_said, memory_said, stage, held, is_gone_with, served, failures, woken, accept_failed, was_closed, was_reaped, got, put, sent, met_end, met_empty, shut_at, read_fault_at, write_fault_at};
+ghost use Rattle.relay_model.specs.History.{now, turns, same_why, stop_said, memory_said, stage, held, is_gone_with, served, failures, woken, accept_failed, was_closed, was_reaped, got, put, met_end, met_empty, shut_at, read_fault_at, write_fault_at};
 ghost use Rattle.relay_audit.specs.Pasts.{acts};
 ghost use Rattle.relay_audit.specs.Answers.{as_stage};
 
-use relay_model::{Act, Bytes, Half, NoMemory, Peer, Place, ReadyAt, ReadyList, Why};
+use relay_model::{Act, Half, NoMemory, Peer, Place, ReadyAt, ReadyList, Why};
 use std::alloc::Global;
 
 // ---- turns
@@ -314,24 +314,6 @@ pub fn put(alloc: Global, past: &[&Act], place: Place) -> Result<Vec<u8>, NoMemo
         }
     }
     Ok(bytes)
-}
-
-/// The pieces in which they were written.
-#[tactic(auto, using(crate::proofs::Lists::acts_before))]
-pub fn sent(alloc: Global, past: &[&Act], place: Place) -> Result<Vec<Bytes>, NoMemory>
-    ensures { IfOk result (λ pieces. pieces.items ≡ sent (acts past.now) place) }
-{
-    let mut pieces = Vec::new(alloc);
-    let mut k = past.len();
-    while k > 0 {
-        k -= 1;
-        let act: &Act = past[k];
-        match act {
-            Act::Wrote(at, piece) if at.is(place) => pieces.push(piece.copy()?)?,
-            _ => {}
-        }
-    }
-    Ok(pieces)
 }
 
 // ---- ends, faults and passed ends

@@ -4,14 +4,14 @@ ghost use Rattle.relay_model.specs.History.{held};
 ghost use Rattle.relay_model.specs.Sessions.{admitted};
 ghost use Rattle.relay_model.specs.May.{Legal};
 ghost use Rattle.relay_model.specs.Audit.{held_count, first_illegal, may_come};
-ghost use Rattle.relay_audit.specs.Pasts.{acts, reads_some, held_below};
+ghost use Rattle.relay_audit.specs.Pasts.{acts, reads_some, held_below, OnePieceWaits};
 ghost use Rattle.relay_audit.specs.Judging.{Judges};
 
 use crate::history::held;
 use crate::may::may_come;
 use crate::sessions::numbers;
 use command_places::{has_fork, options_of, program_door, things};
-use relay_laws::{admitted_is_bounded, one_test_is_right, tests_are_right};
+use relay_laws::{admitted_is_bounded, one_test_is_right, packets_are_due, tests_are_right};
 use relay_model::{Act, Config, Journal, NoMemory, Place};
 use std::alloc::Global;
 
@@ -63,13 +63,16 @@ pub fn held_count(config: &Config, past: &[&Act]) -> u64
 
 // ---- each act
 
-/// A legal history has no more sessions than numbers for them, and no read of nothing.
-fn legal_is_small(config: &Config, limit: u64, past: &[&Act])
+/// A legal history has no more sessions than numbers for them and no read of nothing, and where borders are kept one
+/// piece at most waits.
+fn what_is_legal(config: &Config, limit: u64, past: &[&Act])
     requires { Legal config.now limit (acts past.now) }
     ensures few { admitted config.now (acts past.now) < 2 ^ 32 }
     ensures some { reads_some (acts past.now) ≡ true }
+    ensures one { OnePieceWaits config.now (acts past.now) }
 {
     admitted_is_bounded();
+    packets_are_due();
     let _most = options_of(config, program_door()).stop_after;
     let _last = past.len();
 }
@@ -98,7 +101,7 @@ fn may_follow(
     ensures { IfOk result (λ may. may ≡ may_come config.now limit (acts past.now) act.now) }
 {
     tests_are_right();
-    legal_is_small(config, limit, past);
+    what_is_legal(config, limit, past);
     may_come(alloc, config, limit, past, act)
 }
 
@@ -123,7 +126,7 @@ fn judge_acts(
             });
         }
     }
-    legal_is_small(config, limit, past);
+    what_is_legal(config, limit, past);
     Ok(Judgement::Legal {
         held: held_count(config, past),
     })

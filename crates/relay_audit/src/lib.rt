@@ -20,7 +20,7 @@ mod verdicts;
 
 pub use judging::{Judgement, judge};
 pub use laws::one_verdict;
-pub use reports::{Report, audit_run};
+pub use reports::audit_run;
 pub use verdicts::{Verdict, audit};
 
 #[cfg(test)]

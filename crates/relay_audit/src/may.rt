@@ -1,16 +1,16 @@
 // What may come and what rests, as tests that compute.
-ghost use Rattle.std.specs.Prelude.{◌≡◌, ◌≢◌, ◌<◌, ◌^◌, ◌&&◌, ◌||◌, ◌==◌, not, nat_lt, nat_le, [], ◌∷◌, ◌++◌, length, IfOk, is_none, true};
+ghost use Rattle.std.specs.Prelude.{◌≡◌, ◌≢◌, ◌<◌, ◌≤◌, ◌^◌, ◌&&◌, ◌||◌, ◌==◌, not, nat_lt, nat_le, [], ◌∷◌, ◌++◌, length, IfOk, is_none, true};
 ghost use Rattle.relay_model.specs.Dumps.{dump_of};
 ghost use Rattle.relay_model.specs.Choices.{each_below};
 ghost use Rattle.relay_model.specs.History.{turns, got, put, sent, was_closed, was_reaped, same_why};
 ghost use Rattle.relay_model.specs.Arming.{asked_to_read, asked_to_write};
 ghost use Rattle.relay_model.specs.Sessions.{admitted, live};
 ghost use Rattle.relay_model.specs.Cause.{cause, running};
-ghost use Rattle.relay_model.specs.Configs.{input, output, way_to, medium_of, is_program};
+ghost use Rattle.relay_model.specs.Configs.{input, output, way_to, medium_of, is_program, keeps_borders};
 ghost use Rattle.relay_model.specs.Transfers.{due, due_pieces, backlog};
 ghost use Rattle.relay_model.specs.Rest.{owed, may_read, may_write, until_of};
 ghost use Rattle.relay_model.specs.Audit.{implies, accept_tried, way_rests, session_rests, door_rests, rests, same_number, same_list, same_text, begins, begins_pieces, same_shut, opens, listens_to, accepts_for, accepts_at, closes, may_ask, may_take, may_offer, may_put, may_shut, door_ends, is_cause, may_close, may_come};
-ghost use Rattle.relay_audit.specs.Pasts.{acts, reads_some, awaits_dump, may_end};
+ghost use Rattle.relay_audit.specs.Pasts.{acts, reads_some, awaits_dump, may_end, OnePieceWaits};
 ghost use Rattle.relay_audit.specs.Answers.{as_call};
 
 use crate::arming::{
@@ -19,7 +19,7 @@ use crate::arming::{
 use crate::calls::{called_at, door_call, door_cut, known_call};
 use crate::cause::{cause, closed_why, running};
 use crate::history::{
-    accept_failed, got, got_length, held, memory_said, put, sent, stop_said, turns, was_closed,
+    accept_failed, got, got_length, held, memory_said, put, stop_said, turns, was_closed,
     was_reaped,
 };
 use crate::moments::passed;
@@ -29,13 +29,13 @@ use crate::rest::{
     known_running, may_read, may_write, moves, must_pass, owes_nothing, presses, until_of,
 };
 use crate::sessions::{holds, live, numbers};
-use crate::transfers::{backlog, due, due_pieces, is_spent, over, room};
+use crate::transfers::{backlog, due, is_spent, over, room};
 use command_places::{
     has_fork, how, input, is_program, is_program_door, keeps_borders, medium_of, output,
     program_door, way_from, way_to,
 };
 use dump_format::dump_text;
-use relay_model::{Act, Bytes, Config, Dump, NoMemory, Place, Shut, Way, Why};
+use relay_model::{Act, Config, Dump, NoMemory, Place, Shut, Way, Why};
 use std::alloc::Global;
 
 // ---- rest
@@ -234,25 +234,6 @@ fn begins(mut first: &[u8], mut list: &[u8]) -> bool
     true
 }
 
-/// Whether the list begins with the first pieces.
-fn begins_pieces(mut first: &[Bytes], mut list: &[Bytes]) -> bool
-    ensures { result ≡ begins_pieces first.entry.now list.entry.now }
-{
-    while let [x, xs @ ..] = first {
-        match list {
-            [] => return false,
-            [y, ys @ ..] => {
-                if !same_list(x.as_slice(), y.as_slice()) {
-                    return false;
-                }
-                list = ys;
-            }
-        }
-        first = xs;
-    }
-    true
-}
-
 fn same_shut(one: Shut, other: Shut) -> bool
     ensures { result ≡ same_shut one other }
 {
@@ -414,7 +395,8 @@ fn is_due_next(
     Ok(begins(written.as_slice(), owed.as_slice()))
 }
 
-/// Whether the piece is the next of those that are due at the place.
+/// Whether the piece is the next of those that are due at the place: one at most waits, so it is all that waits.
+#[tactic(auto, using(crate::proofs::Pieces::piece_is_next))]
 fn is_piece_due(
     alloc: Global,
     config: &Config,
@@ -422,12 +404,15 @@ fn is_piece_due(
     place: Place,
     bytes: &[u8],
 ) -> Result<bool, NoMemory>
+    requires one { OnePieceWaits config.now (acts past.now) }
+    requires kept { keeps_borders config.now (way_to place.side) ≡ true }
+    requires offered { may_offer config.now (acts past.now) place ≡ true }
+    requires some { 1 ≤ length bytes.now }
+    requires due { begins (put (acts past.now) place ++ bytes.now) (due config.now (way_to place.side) (got (acts past.now) (input config.now place.session (way_to place.side)))) ≡ true }
     ensures { IfOk result (λ next. next ≡ begins_pieces (sent (acts past.now) place ++ bytes.now ∷ []) (due_pieces config.now (acts past.now) place.session (way_to place.side))) }
 {
-    let owed = due_pieces(alloc, config, past, place.session, way_to(place.side))?;
-    let mut written = sent(alloc, past, place)?;
-    written.push(Bytes::of(alloc, bytes)?)?;
-    Ok(begins_pieces(written.as_slice(), owed.as_slice()))
+    let waiting = backlog(alloc, config, past, place.session, way_to(place.side))?;
+    Ok(waiting == bytes.len())
 }
 
 fn may_put(
@@ -437,7 +422,8 @@ fn may_put(
     place: Place,
     bytes: &[u8],
 ) -> Result<bool, NoMemory>
-    requires { admitted config.now (acts past.now) < 2 ^ 32 }
+    requires few { admitted config.now (acts past.now) < 2 ^ 32 }
+    requires one { OnePieceWaits config.now (acts past.now) }
     ensures { IfOk result (λ may. may ≡ may_put config.now (acts past.now) place bytes.now) }
 {
     if !may_offer(config, past, place) || bytes.len() < 1 {
@@ -630,6 +616,7 @@ fn may_go_on(
     act: &Act,
 ) -> Result<bool, NoMemory>
     requires few { admitted config.now (acts past.now) < 2 ^ 32 }
+    requires one { OnePieceWaits config.now (acts past.now) }
     requires free { is_none (owed config.now (acts past.now)) ≡ true }
     requires kind { awaits_dump act.now ≡ true }
     ensures { IfOk result (λ may. may ≡ may_come config.now limit (acts past.now) act.now) }
@@ -673,6 +660,7 @@ pub fn may_come(
 ) -> Result<bool, NoMemory>
     requires few { admitted config.now (acts past.now) < 2 ^ 32 }
     requires some { reads_some (acts past.now) ≡ true }
+    requires one { OnePieceWaits config.now (acts past.now) }
     ensures { IfOk result (λ may. may ≡ may_come config.now limit (acts past.now) act.now) }
 {
     match act {

@@ -1,16 +1,15 @@
 // What a direction of a session has read, owes and has written.
-ghost use Rattle.std.specs.Prelude.{◌≡◌, ◌==◌, [], ◌∷◌, not, length, IfOk, OnOk};
+ghost use Rattle.std.specs.Prelude.{◌≡◌, ◌==◌, length, IfOk};
 ghost use Rattle.std.specs.List.{before_first, list_any};
 ghost use Rattle.relay_model.specs.Conversions.{read_converted, write_converted, first_bytes, before_escape, effective, due_of, is_used_up, holds_escape, is_met, is_over, at_most_left, read_size, packet_cap, packet_size};
-ghost use Rattle.relay_model.specs.Choices.{joined};
 ghost use Rattle.relay_model.specs.Configs.{input, options_of};
 ghost use Rattle.relay_model.specs.History.{got};
-ghost use Rattle.relay_model.specs.Transfers.{is_empty, due, due_part, due_pieces, over, backlog, room, is_spent};
+ghost use Rattle.relay_model.specs.Transfers.{due, over, backlog, room, is_spent};
 ghost use Rattle.relay_audit.specs.Pasts.{acts};
 
 use crate::history::{got, got_length, met_empty, met_end, put_length};
 use command_places::{input, keeps_borders, options_of, output};
-use relay_model::{Act, Bytes, Config, Conv, NoMemory, Place, Way};
+use relay_model::{Act, Config, Conv, NoMemory, Place, Way};
 use std::alloc::Global;
 
 /// The longest datagram that UDP carries over IPv4, in bytes.
@@ -118,66 +117,6 @@ pub fn due(alloc: Global, config: &Config, way: Way, bytes: &[u8]) -> Result<Vec
     let counted = before_escape(reading.escape, first_bytes(reading.readbytes, bytes));
     let read = read_converted(alloc, reading.conv, counted)?;
     write_converted(alloc, writing.conv, read.as_slice())
-}
-
-/// What a further piece adds to it.
-fn due_part(
-    alloc: Global,
-    config: &Config,
-    way: Way,
-    before: &[u8],
-    piece: &[u8],
-) -> Result<Bytes, NoMemory>
-    ensures { IfOk result (λ part. part ≡ due_part config.now way before.now piece.now) }
-{
-    let owed_before = due(alloc, config, way, before)?;
-    let mut read = Vec::from_slice(alloc, before)?;
-    read.extend_from_slice(piece)?;
-    let owed = due(alloc, config, way, read.as_slice())?;
-    let count = owed_before.len();
-    if count < owed.len() {
-        Bytes::of(alloc, &owed.as_slice()[count..])
-    } else {
-        Bytes::of(alloc, &[])
-    }
-}
-
-fn add_piece(pieces: &mut Vec<Bytes>, piece: Bytes) -> Result<(), NoMemory>
-    ensures { OnOk result (pieces.new.items ≡ joined (not (is_empty piece)) pieces.old.items (piece ∷ [])) }
-{
-    if piece.len() > 0 {
-        pieces.push(piece)?;
-    }
-    Ok(())
-}
-
-/// What is to be written, piece by piece as it was read; a piece that adds nothing is left out.
-#[tactic(auto, using(crate::proofs::Lists::acts_before))]
-pub fn due_pieces(
-    alloc: Global,
-    config: &Config,
-    past: &[&Act],
-    session: u32,
-    way: Way,
-) -> Result<Vec<Bytes>, NoMemory>
-    ensures { IfOk result (λ pieces. pieces.items ≡ due_pieces config.now (acts past.now) session way) }
-{
-    let place = input(config, session, way);
-    let mut pieces = Vec::new(alloc);
-    let mut k = past.len();
-    while k > 0 {
-        k -= 1;
-        let act: &Act = past[k];
-        match act {
-            Act::Read(at, bytes) if at.is(place) => {
-                let before = got(alloc, &past[k + 1..], place)?;
-                let part = due_part(alloc, config, way, before.as_slice(), bytes.as_slice())?;
-                add_piece(&mut pieces, part)?;
-            }
-            _ => {}
-        }
-    }
-    Ok(pieces)
 }
 
 /// How many bytes are due of those that were read, which are counted where none is converted or left out.
