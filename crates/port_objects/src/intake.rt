@@ -47,7 +47,7 @@ pub struct Tap {
 }
 
 impl Tap {
-    /// The bytes that were taken so far.
+    /// The bytes that were taken so far. A tap that was one too many answers `NoMemory`.
     pub fn bytes(&self) -> Result<Bytes, NoMemory> {
         let Some(shadow) = &self.shadow else {
             return Err(NoMemory);
@@ -118,7 +118,8 @@ impl Intake {
         count
     }
 
-    /// A look at what was taken. Where there are too many of them already, it shows nothing.
+    /// A look at what was taken. It takes no memory; where there are too many of them already, its `bytes` answers
+    /// `NoMemory`.
     pub fn tap(&self) -> Tap {
         Tap {
             shadow: Arc::try_clone(&self.shadow).ok(),

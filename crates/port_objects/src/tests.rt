@@ -2,10 +2,11 @@ ghost use Rattle.std.specs.Prelude.{◌≡◌};
 
 use super::*;
 use port_trait::{
-    Begun, DirectReader, DirectWriter, Got, KeyList, MadePeer, Maker, Poller, Port, Sink, SinkTook,
-    Source, SourceGot, Spawner, Took,
+    Begun, DirectReader, DirectWriter, Got, Hint, Joining, KeyList, MadePeer, Maker, Making,
+    Poller, Port, PortReap, Settled, Shutting, Sink, SinkTook, Source, SourceGot, Spawner, Took,
 };
-use relay_model::{Bytes, Half, Peer};
+use relay_model::{Bytes, Half, NoMemory, Options, Part, Peer, Place, Shut, Side, Single, Target};
+use std::alloc::Global;
 use std::test::Fail;
 use std::thread::Promise;
 
@@ -72,6 +73,38 @@ fn a_port_takes_while_there_is_room(rt: HostRuntime) -> Result<(), Fail> {
 }
 
 #[test]
+fn a_port_hints_what_is_left(rt: HostRuntime) -> Result<(), Fail> {
+    let mut port = MemPort::new(rt.alloc(), 1)?;
+    port.add(PortItem::End)?;
+    let mut into = [0u8; 2];
+    let all = Hint {
+        readable: true,
+        writable: true,
+    };
+    let nothing = Hint {
+        readable: false,
+        writable: false,
+    };
+    assert!(rt; port.may_hint());
+    assert_eq!(rt; port.hint(), all);
+    assert_eq!(rt; port.read(&mut into), Got::End);
+    assert_eq!(rt; port.write(b"a"), Took::Took(1));
+    assert_eq!(rt; port.hint(), nothing);
+    Ok(())
+}
+
+#[test]
+fn a_port_stands_at_once(rt: HostRuntime) -> Result<(), Fail> {
+    let mut port = MemPort::new(rt.alloc(), 1)?;
+    assert_eq!(rt; port.begin(), Begun::Begun);
+    assert_eq!(rt; port.settle(), Settled::Ready);
+    assert_eq!(rt; port.shut(Shut::Down), Shutting::Done);
+    assert_eq!(rt; port.reap(), PortReap::NoChild);
+    assert_eq!(rt; port.join(), Joining::Joined);
+    Ok(())
+}
+
+#[test]
 fn a_boxed_port_answers_as_well(rt: HostRuntime) -> Result<(), Fail> {
     let source = MemSource::new(Bytes::of(rt.alloc(), b"a")?, true);
     let mut port: Box<dyn Port> = Box::new(rt.alloc(), DirectReader::new(source))?;
@@ -91,6 +124,46 @@ fn a_direct_writer_writes_all(rt: HostRuntime) -> Result<(), Fail> {
     assert_eq!(rt; port.put_all(b"ab"), Took::Took(2));
     assert_eq!(rt; port.put_all(b"cd"), Took::Failed);
     assert_eq!(rt; tap.bytes()?.as_slice(), b"abc".as_slice());
+    Ok(())
+}
+
+fn stdin(alloc: Global) -> Result<Single, NoMemory> {
+    Ok(Single {
+        target: Target::Stdin,
+        options: Options::defaults(alloc)?,
+    })
+}
+
+#[test]
+fn a_maker_makes_its_next_port(rt: HostRuntime) -> Result<(), Fail> {
+    let single = stdin(rt.alloc())?;
+    let place = Place {
+        session: 0,
+        side: Side::Left,
+        part: Part::Reading,
+        door: false,
+    };
+    let mut maker = MemMaker::new(rt.alloc());
+    maker.add(MakeItem::Port(MemPort::new(rt.alloc(), 2)?))?;
+    maker.add(MakeItem::Fault)?;
+    let Making::Made(mut port) = maker.make(1, place, &single, None) else {
+        return Err("not made")?;
+    };
+    assert_eq!(rt; port.write(b"abc"), Took::Took(2));
+    assert!(rt; matches!(&maker.make(2, place, &single, None), Making::Failed));
+    Ok(())
+}
+
+#[test]
+fn a_maker_listens_at_its_next_port(rt: HostRuntime) -> Result<(), Fail> {
+    let single = stdin(rt.alloc())?;
+    let mut maker = MemMaker::new(rt.alloc());
+    maker.add(MakeItem::Port(MemPort::new(rt.alloc(), 2)?))?;
+    let Making::Made(mut door) = maker.listen(1, &single) else {
+        return Err("not made")?;
+    };
+    assert_eq!(rt; door.write(b"abc"), Took::Took(2));
+    assert!(rt; matches!(&maker.listen(2, &single), Making::Failed));
     Ok(())
 }
 
@@ -115,6 +188,24 @@ fn a_poller_names_once(rt: HostRuntime) -> Result<(), Fail> {
     assert_eq!(rt; ready.len(), 1);
     assert_eq!(rt; poller.poll(None, &mut ready).at, 5);
     assert_eq!(rt; ready.len(), 0);
+    Ok(())
+}
+
+#[test]
+fn a_new_poller_names_nothing(rt: HostRuntime) -> Result<(), Fail> {
+    let mut ready = KeyList::new(rt.alloc())?;
+    ready.push((7, Half::ToWrite));
+    assert_eq!(rt; MemPoller::new().poll(Some(3), &mut ready).at, 3);
+    assert_eq!(rt; ready.len(), 0);
+    Ok(())
+}
+
+#[test]
+fn a_sure_spawner_starts_each_work(rt: HostRuntime) -> Result<(), Fail> {
+    let Ok(task) = SureSpawner::new(rt).start(Seven, || 7u64) else {
+        return Err("refused")?;
+    };
+    assert_eq!(rt; task.join(&rt), 7);
     Ok(())
 }
 
