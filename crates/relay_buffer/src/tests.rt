@@ -221,3 +221,73 @@ fn packets_keep_their_borders(rt: HostRuntime) -> Result<(), Fail> {
     take_all(&rt, &mut flow, b"bc");
     Ok(())
 }
+
+#[test]
+fn a_packet_is_no_longer_than_a_datagram(rt: HostRuntime) -> Result<(), Fail> {
+    let lane = Lane {
+        block: 100_000,
+        packets: Some(65_507),
+        ..STREAM
+    };
+    let flow = Flow::new(rt.alloc(), lane)?;
+    assert_eq!(rt; flow.room(), 65_507);
+
+    // With each newline doubled it has to fit yet.
+    let lane = Lane {
+        how: Convs {
+            read: Conv::Plain,
+            write: Conv::Crnl,
+        },
+        packets: Some(32_753),
+        ..lane
+    };
+    let flow = Flow::new(rt.alloc(), lane)?;
+    assert_eq!(rt; flow.room(), 32_753);
+    Ok(())
+}
+
+#[test]
+fn a_piece_may_be_converted_to_nothing(rt: HostRuntime) -> Result<(), Fail> {
+    let lane = Lane {
+        how: Convs {
+            read: Conv::Crnl,
+            write: Conv::Plain,
+        },
+        ..STREAM
+    };
+    let mut flow = Flow::new(rt.alloc(), lane)?;
+    fill(&rt, &mut flow, b"\r");
+    assert!(rt; flow.spent());
+    assert!(rt; flow.pending().is_empty());
+    assert_eq!(rt; flow.room(), 8192);
+    fill(&rt, &mut flow, b"a");
+    assert_eq!(rt; flow.pending(), b"a".as_slice());
+    take_all(&rt, &mut flow, b"a");
+    Ok(())
+}
+
+// 600 bytes: 200 times `ab` and a newline, so 200 times `ab`, a carriage return and a newline.
+#[test]
+fn a_long_block_is_converted_whole(rt: HostRuntime) -> Result<(), Fail> {
+    let mut block = [b'a'; 600];
+    let mut want = [b'a'; 800];
+    for i in 0..200 {
+        block[3 * i + 1] = b'b';
+        block[3 * i + 2] = b'\n';
+        want[4 * i + 1] = b'b';
+        want[4 * i + 2] = b'\r';
+        want[4 * i + 3] = b'\n';
+    }
+    let lane = Lane {
+        how: Convs {
+            read: Conv::Plain,
+            write: Conv::Crnl,
+        },
+        ..STREAM
+    };
+    let mut flow = Flow::new(rt.alloc(), lane)?;
+    fill(&rt, &mut flow, &block);
+    assert_eq!(rt; flow.waiting(), 800);
+    take_all(&rt, &mut flow, &want);
+    Ok(())
+}
