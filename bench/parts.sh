@@ -8,17 +8,23 @@ set -u
 here="$(cd "$(dirname "${BASH_SOURCE[0]}")/.." && pwd)"
 rounds="${ROUNDS:-5}"
 
-# figures_of PROGRAM COUNT: a line 'figure<tab>value' for each line that the program prints.
+# figures_of PROGRAM COUNT: a line 'figure<tab>value' for each line that the program prints. Fails where it does.
 figures_of() {
-    timeout 600 "$here/crates/$1/out/$1" "$2" | sed -n 's/^\(.*\): \([0-9.]*\) \?\(MB\/s\|ns\)\?.*$/\1\t\2 \3/p'
+    local printed
+    printed="$(timeout 600 "$here/crates/$1/out/$1" "$2")" || return
+    sed -n 's/^\(.*\): \([0-9.]*\) \?\(MB\/s\|ns\)\?.*$/\1\t\2 \3/p' <<<"$printed"
 }
 
 # table PROGRAM COUNT
 table() {
-    local all='' round
+    local all='' figures round
     (cd "$here/crates/$1" && rt run </dev/null >/dev/null) || return 1
     for ((round = 1; round <= rounds; round++)); do
-        all+="$(figures_of "$1" "$2")"$'\n'
+        if ! figures="$(figures_of "$1" "$2")"; then
+            echo "parts.sh: $1 failed, or took more than 600 seconds" >&2
+            return 1
+        fi
+        all+="$figures"$'\n'
     done
     printf '%-30s %10s %10s %10s\n' "$1" median least most
     cut -f1 <<<"$all" | awk 'NF && !seen[$0]++' | while IFS= read -r figure; do

@@ -3,6 +3,7 @@
 
 ghost use Rattle.std.specs.Prelude.{◌≡◌, None};
 
+use circular_buffer::HeapCircularBuffer;
 use line_ends::Convs;
 use relay_buffer::{Flow, Lane};
 use relay_model::Conv;
@@ -18,8 +19,16 @@ const LINE: usize = 40;
 /// Where the random letters begin, so that each run passes the same text.
 const SEED: u64 = 1;
 
-/// Fills in and takes one block, and answers a byte of it.
-fn pass(flow: &mut Flow, source: &[u8]) -> u8 {
+/// What was passed on, and in what time. `seen` depends on the bytes, so that the work can't be left out.
+#[derive(Clone, Copy, Debug)]
+struct Spent {
+    bytes: u64,
+    micros: u128,
+    seen: u8,
+}
+
+/// Fills in one block and takes it. Answers how many bytes were filled in, and a byte of what was taken.
+fn pass(flow: &mut Flow, source: &[u8]) -> (usize, u8) {
     let room = flow.room().min(source.len());
     flow.fill(&source[..room]);
     let mut seen = 0;
@@ -29,30 +38,69 @@ fn pass(flow: &mut Flow, source: &[u8]) -> u8 {
         seen ^= piece.last().copied().unwrap_or(0);
         flow.took(len);
     }
-    seen
+    (room, seen)
 }
 
-fn rate(clock: &impl Clock, flow: &mut Flow, source: &[u8], rounds: u64) -> io::Result<(u128, u8)> {
+/// The same for the ring alone.
+fn pass_ring(ring: &mut HeapCircularBuffer<u8>, source: &[u8]) -> (usize, u8) {
+    let count = ring.fill_from_slice(source);
+    let (front, back) = ring.as_slices();
+    let seen = last_of(front) ^ last_of(back);
+    ring.truncate_front(0);
+    (count, seen)
+}
+
+fn last_of(piece: &[u8]) -> u8 {
+    piece.last().copied().unwrap_or(0)
+}
+
+fn flow_rate(clock: &impl Clock, flow: &mut Flow, source: &[u8], rounds: u64) -> io::Result<Spent> {
     let start = Instant::now(clock)?;
+    let mut bytes = 0u64;
     let mut seen = 0;
     for _ in 0..rounds {
-        seen ^= pass(flow, source);
+        let (count, byte) = pass(flow, source);
+        bytes = bytes.saturating_add(count as u64);
+        seen ^= byte;
     }
     let micros = start.elapsed(clock)?.as_micros();
-    Ok((micros, seen))
+    Ok(Spent {
+        bytes,
+        micros,
+        seen,
+    })
 }
 
-fn copies(
+fn ring_rate(
     clock: &impl Clock,
+    ring: &mut HeapCircularBuffer<u8>,
     source: &[u8],
-    out: &mut [u8],
     rounds: u64,
-) -> io::Result<(u128, u8)> {
+) -> io::Result<Spent> {
+    let start = Instant::now(clock)?;
+    let mut bytes = 0u64;
+    let mut seen = 0;
+    for _ in 0..rounds {
+        let (count, byte) = pass_ring(ring, source);
+        bytes = bytes.saturating_add(count as u64);
+        seen ^= byte;
+    }
+    let micros = start.elapsed(clock)?.as_micros();
+    Ok(Spent {
+        bytes,
+        micros,
+        seen,
+    })
+}
+
+fn copy_rate(clock: &impl Clock, source: &[u8], out: &mut [u8], rounds: u64) -> io::Result<Spent> {
     let start = Instant::now(clock)?;
     let len = source.len().min(out.len());
+    let mut bytes = 0u64;
     let mut seen = 0;
     for i in 0..rounds {
         out[..len].copy_from_slice(&source[..len]);
+        bytes = bytes.saturating_add(len as u64);
         let at = (i % 4096) as usize;
         if at < out.len() {
             seen ^= out[at];
@@ -60,17 +108,24 @@ fn copies(
         }
     }
     let micros = start.elapsed(clock)?.as_micros();
-    Ok((micros, seen))
+    Ok(Spent {
+        bytes,
+        micros,
+        seen,
+    })
 }
 
-fn report(rt: &impl Print, name: &str, rounds: u64, spent: (u128, u8)) -> io::Result<()> {
-    let (micros, seen) = spent;
-    let bytes = (rounds as u128).saturating_mul(8192);
-    let megabytes = bytes / micros.max(1);
+fn report(rt: &impl Print, name: &str, spent: Spent) -> io::Result<()> {
+    let Spent {
+        bytes,
+        micros,
+        seen,
+    } = spent;
+    let megabytes = u128::from(bytes) / micros.max(1);
     println!(rt; "{name}: {megabytes} MB/s in {micros} us ({seen})")
 }
 
-/// Prints how fast a flow by this lane passes `source` on, and answers the microseconds that it took.
+/// Prints how fast a flow by this lane passes `source` on.
 fn measure(
     rt: &(impl Clock + Print),
     alloc: Global,
@@ -78,23 +133,28 @@ fn measure(
     lane: Lane,
     source: &[u8],
     rounds: u64,
-) -> io::Result<u128>
+) -> io::Result<Spent>
     requires { lane.packets ≡ None }
 {
     let Ok(mut flow) = Flow::new(alloc, lane) else {
-        println!(rt; "{name}: no memory")?;
-        return Ok(0);
+        return Err(io::ErrorKind::OutOfMemory.into());
     };
-    let spent = rate(rt, &mut flow, source, rounds)?;
-    report(rt, name, rounds, spent)?;
-    Ok(spent.0)
+    let spent = flow_rate(rt, &mut flow, source, rounds)?;
+    report(rt, name, spent)?;
+    Ok(spent)
+}
+
+/// Prints how the time of the one stands to that of the other, in hundredths.
+fn report_ratio(rt: &impl Print, name: &str, base: Spent, spent: Spent) -> io::Result<()> {
+    let hundredths = base.micros.saturating_mul(100) / spent.micros.max(1);
+    println!(rt; "{name}: {}.{:02}", hundredths / 100, hundredths % 100)
 }
 
 fn lane(read: Conv, write: Conv, escape: Option<u8>) -> Lane
     ensures { result.packets ≡ None }
 {
     Lane {
-        block: 8192,
+        block: BLOCK as u32,
         how: Convs { read, write },
         readbytes: None,
         escape,
@@ -139,16 +199,15 @@ fn main(rt: HostRuntime) -> io::Result<()> {
     let text = lines(rt.alloc(), false)?;
     let returns = lines(rt.alloc(), true)?;
     let mut out = vec![in rt.alloc(); 0u8; BLOCK]?;
-    let copy = copies(&rt, &text, &mut out, rounds)?;
-    report(&rt, "memcpy", rounds, copy)?;
+    let copy = copy_rate(&rt, &text, &mut out, rounds)?;
+    report(&rt, "memcpy", copy)?;
+    let mut ring = HeapCircularBuffer::with_capacity(rt.alloc(), 2 * BLOCK)?;
+    let alone = ring_rate(&rt, &mut ring, &text, rounds)?;
+    report(&rt, "ring", alone)?;
     let plain = lane(Conv::Plain, Conv::Plain, None);
-    let micros = measure(&rt, rt.alloc(), "plain", plain, &text, rounds)?;
-    let hundredths = copy.0.saturating_mul(100) / micros.max(1);
-    println!(&rt;
-        "plain to memcpy: {}.{:02}",
-        hundredths / 100,
-        hundredths % 100
-    )?;
+    let passed = measure(&rt, rt.alloc(), "plain", plain, &text, rounds)?;
+    report_ratio(&rt, "plain to memcpy", copy, passed)?;
+    report_ratio(&rt, "plain to ring", alone, passed)?;
     let escape = lane(Conv::Plain, Conv::Plain, Some(1));
     measure(
         &rt,
