@@ -1,5 +1,5 @@
 -- What acts change, kind by kind.
-use Rattle.std.specs.Prelude.{◌≡◌, ℕ, suc, Bool, true, false, ◌&&◌, ◌||◌, List, [], ◌∷◌, ◌++◌, Option, Some, if◌then◌else◌}
+use Rattle.std.specs.Prelude.{◌≡◌, ℕ, suc, Bool, true, false, ◌||◌, List, [], ◌∷◌, ◌++◌, Option, Some, if◌then◌else◌}
 use Rattle.relay_model.specs.declared.places.Half.TheVariants.{ToRead, ToWrite}
 use Rattle.relay_model.specs.declared.places.Way.{Way}
 use Rattle.relay_model.specs.declared.places.Place.{Place}
@@ -7,13 +7,11 @@ use Rattle.relay_model.specs.declared.commands.Config.{Config}
 use Rattle.relay_model.specs.declared.acts.Peer.{Peer}
 use Rattle.relay_model.specs.declared.acts.Why.{Why}
 use Rattle.relay_model.specs.declared.acts.Why.TheVariants as whys
-use Rattle.relay_model.specs.declared.acts.Shut.{Shut as Shutting}
-use Rattle.relay_model.specs.declared.acts.ChildEnd.{ChildEnd}
 use Rattle.relay_model.specs.declared.acts.Act.{Act}
 use Rattle.relay_model.specs.declared.acts.Act.TheVariants.{Turn, Opened, OpenLater, OpenFailed, Listening, ListenFailed, Accepted, NoPeer, AcceptFailed, Read, ReadEmpty, ReadEnd, ReadNotYet, ReadFault, Wrote, WriteNotYet, WriteFault, Shut, ShutFault, Closed, Reaped}
 use Rattle.relay_model.specs.Readiness.{Listed, names}
 use Rattle.relay_model.specs.Holding.{Free, Settling, Open, ShutDown, standing}
-use Rattle.relay_model.specs.Choices.{joined, one_more, only_if, or_else}
+use Rattle.relay_model.specs.Choices.{one_more, or_else}
 use Rattle.relay_model.specs.Configs.{input, is_of, is_place_of, accepting_door}
 use Rattle.relay_model.specs.History.{now, turns, stop_said, memory_said, same_why, Usable, Unsettled, Failed, Met, Waiting, Gone, stage, failures, woken, accept_failed, was_closed, was_reaped, reaped_since, got, put, sent, met_end, met_empty, shut_at, read_fault_at, write_fault_at}
 use Rattle.relay_model.specs.Arming.{Armed, Disarmed, AtEnd, read_arming, armed_to_write, armed_to_accept, asked_to_read, asked_to_write, asked_to_accept}

@@ -1,4 +1,4 @@
-// The one relay that is built so far: standard input to standard output, all options at their defaults.
+// The defaults of the options, and a plain relay with them for tests.
 ghost use Rattle.std.specs.Prelude.{◌≡◌, [], IfOk};
 ghost use Rattle.relay_model.specs.PlainRelay.{plain_relay, standard, default_options};
 
@@ -16,9 +16,6 @@ const NO_FLAGS: FileFlags = FileFlags {
 };
 
 impl Options {
-    /// The block size where no `-b` is given, in bytes.
-    pub const BLOCK: u32 = 8192;
-
     /// Every option at its default (socat(1)).
     pub fn defaults(alloc: Global) -> Result<Options, NoMemory>
         ensures { IfOk result (λ options. options ≡ default_options) }

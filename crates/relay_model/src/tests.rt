@@ -2,8 +2,8 @@
 ghost use Rattle.std.specs.Prelude.{◌≤◌};
 
 use crate::{
-    Act, Askings, Bytes, Half, Journal, Kept, Options, Part, Place, ReadyAt, ReadyList, Side,
-    Single, Target, Text, Texts, Why,
+    Act, Address, Askings, Bytes, Config, Family, Half, Journal, Kept, Options, Part, Place,
+    ReadyAt, ReadyList, Side, Single, Target, Text, Texts, Why,
 };
 use std::test::Fail;
 
@@ -185,5 +185,77 @@ fn has_the_defaults(rt: HostRuntime) -> Result<(), Fail> {
     assert_eq!(rt; (options.socksport, options.proxyport), (1080, 8080));
     assert_eq!(rt; (options.retry, options.interval), (0, 1000));
     assert_eq!(rt; options.socksuser.len(), 0);
+    Ok(())
+}
+
+fn listens_with_3_retries(single: &Single) -> bool {
+    match single.target {
+        Target::TcpListen {
+            family: Family::V4,
+            port,
+        } => port == 9000 && single.options.retry == 3,
+        _ => false,
+    }
+}
+
+fn creates_data(single: &Single) -> bool {
+    match &single.target {
+        Target::Create(name) => name.as_slice() == b"data".as_slice() && single.options.ignoreeof,
+        _ => false,
+    }
+}
+
+fn listens_and_creates(address: &Address) -> bool {
+    match address {
+        Address::Two { reading, writing } => {
+            listens_with_3_retries(reading) && creates_data(writing)
+        }
+        Address::One(_) => false,
+    }
+}
+
+fn only_creates(address: &Address) -> bool {
+    match address {
+        Address::One(single) => creates_data(single),
+        Address::Two { .. } => false,
+    }
+}
+
+#[test]
+fn copies_an_address(rt: HostRuntime) -> Result<(), Fail> {
+    let mut retrying = Options::defaults(rt.alloc())?;
+    retrying.retry = 3;
+    let mut patient = Options::defaults(rt.alloc())?;
+    patient.ignoreeof = true;
+    let address = Address::Two {
+        reading: Single {
+            target: Target::TcpListen {
+                family: Family::V4,
+                port: 9000,
+            },
+            options: retrying,
+        },
+        writing: Single {
+            target: Target::Create(Text::of(rt.alloc(), b"data")?),
+            options: patient,
+        },
+    };
+    let copied = address.copy()?;
+    assert!(rt; listens_and_creates(&copied));
+    Ok(())
+}
+
+#[test]
+fn copies_a_config(rt: HostRuntime) -> Result<(), Fail> {
+    let mut patient = Options::defaults(rt.alloc())?;
+    patient.ignoreeof = true;
+    let mut config = Config::plain(rt.alloc(), 512)?;
+    config.left = Address::One(Single {
+        target: Target::Create(Text::of(rt.alloc(), b"data")?),
+        options: patient,
+    });
+    let copied = config.copy()?;
+    assert_eq!(rt; (copied.block, copied.closing), (512, 500));
+    assert!(rt; only_creates(&copied.left));
     Ok(())
 }
