@@ -170,24 +170,24 @@ no_service c past q nothing own e = go (is_left q && has_fork c) refl e
     go false left k = let x : Nothing ≡ Serve q = sym nothing ∙ k in cc
 
 -- the act is one that a call or a direction asks for
-abbrev works : Act → Bool
-works (Turn until at ready stop) = false
-works (Accepted q peer) = false
-works (Closed q why) = false
-works (Reaped q end) = false
-works (Note text) = false
-works (NoteFault text) = false
-works act = true
+abbrev is_called_for : Act → Bool
+is_called_for (Turn until at ready stop) = false
+is_called_for (Accepted q peer) = false
+is_called_for (Closed q why) = false
+is_called_for (Reaped q end) = false
+is_called_for (Note text) = false
+is_called_for (NoteFault text) = false
+is_called_for act = true
 
 no_work :
     (c : Config) (n : ℕ) (act : Act) (past : List Act) (p : Place) → Legal c n (act ∷ past) → has_fork c ≡ true → admitted c past ≤ p.session →
-    is_program_door c p ≡ false → is_at act p ≡ true → works act ≡ true → ⊥
+    is_program_door c p ≡ false → is_at act p ≡ true → is_called_for act ≡ true → ⊥
 no_work c n act past p legal fork below own at work = refute act legal at work
   where
     none : call c past p.session ≡ Nothing
     none = call_of_dead c past p.session (unborn c past p.session fork below)
 
-    refute : (a : Act) → Legal c n (a ∷ past) → is_at a p ≡ true → works a ≡ true → ⊥
+    refute : (a : Act) → Legal c n (a ∷ past) → is_at a p ≡ true → is_called_for a ≡ true → ⊥
     refute (Opened q) l e k = no_open c past p none (subst (λ x. (called_at c past x ≡ Open x) ⊎ (called_at c past x ≡ Settle x)) (same_place_equal q p e) l.0.1)
     refute (OpenLater q) l e k = no_open c past p none (subst (λ x. (called_at c past x ≡ Open x) ⊎ (called_at c past x ≡ Settle x)) (same_place_equal q p e) l.0.1)
     refute (OpenFailed q) l e k = no_open c past p none (subst (λ x. (called_at c past x ≡ Open x) ⊎ (called_at c past x ≡ Settle x)) (same_place_equal q p e) l.0.1)
@@ -300,7 +300,7 @@ unpermitted c past q p peer met fork left below e = false_from_ne_true (permits 
 
 fit_stays :
     (c : Config) (n : ℕ) (act : Act) (past : List Act) (p : Place) → Legal c n (act ∷ past) → has_fork c ≡ true → is_left p ≡ true → admitted c (act ∷ past) ≤ p.session →
-    (is_at act p ≡ true → works act ≡ true → ⊥) → is_fit c p (stage past p) ≡ false → is_fit c p (stage (act ∷ past) p) ≡ false
+    (is_at act p ≡ true → is_called_for act ≡ true → ⊥) → is_fit c p (stage past p) ≡ false → is_fit c p (stage (act ∷ past) p) ≡ false
 fit_stays c n (Opened q) past p legal fork left below none f = fit_kept c p (same_place q p) Usable (stage past p) (λ e. absurd (none e refl)) f
 fit_stays c n (OpenLater q) past p legal fork left below none f = fit_kept c p (same_place q p) Unsettled (stage past p) (λ e. refl) f
 fit_stays c n (OpenFailed q) past p legal fork left below none f = fit_kept c p (same_place q p) Failed (stage past p) (λ e. refl) f
@@ -341,22 +341,22 @@ unclosed_stays c n act past s legal fork below uncut uncaused f = f
 apart_from : (kind at : Bool) → (at ≡ true → kind ≡ true → ⊥) → (kind && at) ≡ false
 apart_from kind at h = false_from_ne_true (kind && at) (λ e. let x = and_parts kind at e in h x.1 x.0)
 
-opening_works : (act : Act) → fails_to_open act ≡ true → works act ≡ true
-opening_works (OpenFailed q) e = refl
-opening_works (ListenFailed q) e = refl
-opening_works act e = absurd (false≢true e)
+opening_called : (act : Act) → fails_to_open act ≡ true → is_called_for act ≡ true
+opening_called (OpenFailed q) e = refl
+opening_called (ListenFailed q) e = refl
+opening_called act e = absurd (false≢true e)
 
-accepting_works : (act : Act) → fails_to_accept act ≡ true → works act ≡ true
-accepting_works (AcceptFailed q) e = refl
-accepting_works act e = absurd (false≢true e)
+accepting_called : (act : Act) → fails_to_accept act ≡ true → is_called_for act ≡ true
+accepting_called (AcceptFailed q) e = refl
+accepting_called act e = absurd (false≢true e)
 
-reading_works : (act : Act) → fails_to_read act ≡ true → works act ≡ true
-reading_works (ReadFault q) e = refl
-reading_works act e = absurd (false≢true e)
+reading_called : (act : Act) → fails_to_read act ≡ true → is_called_for act ≡ true
+reading_called (ReadFault q) e = refl
+reading_called act e = absurd (false≢true e)
 
-writing_works : (act : Act) → fails_to_write act ≡ true → works act ≡ true
-writing_works (WriteFault q) e = refl
-writing_works act e = absurd (false≢true e)
+writing_called : (act : Act) → fails_to_write act ≡ true → is_called_for act ≡ true
+writing_called (WriteFault q) e = refl
+writing_called act e = absurd (false≢true e)
 
 fresh : (c : Config) (n : ℕ) (past : List Act) (s : ℕ) → Legal c n past → has_fork c ≡ true → admitted c past ≤ s → door_cut past ≡ false → Fresh c past s
 fresh c n [] s legal fork below uncut = record { opening = λ p e o. refl; accepting = λ p e o. refl; reading = λ p e o. refl; writing = λ p e o. refl; unfit = λ part. refl; unclosed = refl }
@@ -365,14 +365,14 @@ fresh c n (act ∷ past) s legal fork below uncut =
     let open_before : door_cut past ≡ false = false_from_ne_true (door_cut past) (λ e. true≢false (sym (cut_stays act past e) ∙ uncut)) in
     let f = fresh c n past s legal.1 fork before open_before in
     let left = steps_leave act past in
-    let none : (p : Place) → p.session ≡ s → is_program_door c p ≡ false → is_at act p ≡ true → works act ≡ true → ⊥ =
+    let none : (p : Place) → p.session ≡ s → is_program_door c p ≡ false → is_at act p ≡ true → is_called_for act ≡ true → ⊥ =
     λ p e o. no_work c n act past p legal fork (subst (λ (x : ℕ). admitted c past ≤ x) (sym e) before) o
     in
     record {
-      opening = λ p e o. left.failures_same p (apart_from (fails_to_open act) (is_at act p) (λ h k. none p e o h (opening_works act k))) ∙ f.opening p e o;
-      accepting = λ p e o. left.accept_failed_same p (apart_from (fails_to_accept act) (is_at act p) (λ h k. none p e o h (accepting_works act k))) ∙ f.accepting p e o;
-      reading = λ p e o. left.read_fault_at_same p (apart_from (fails_to_read act) (is_at act p) (λ h k. none p e o h (reading_works act k))) ∙ f.reading p e o;
-      writing = λ p e o. left.write_fault_at_same p (apart_from (fails_to_write act) (is_at act p) (λ h k. none p e o h (writing_works act k))) ∙ f.writing p e o;
+      opening = λ p e o. left.failures_same p (apart_from (fails_to_open act) (is_at act p) (λ h k. none p e o h (opening_called act k))) ∙ f.opening p e o;
+      accepting = λ p e o. left.accept_failed_same p (apart_from (fails_to_accept act) (is_at act p) (λ h k. none p e o h (accepting_called act k))) ∙ f.accepting p e o;
+      reading = λ p e o. left.read_fault_at_same p (apart_from (fails_to_read act) (is_at act p) (λ h k. none p e o h (reading_called act k))) ∙ f.reading p e o;
+      writing = λ p e o. left.write_fault_at_same p (apart_from (fails_to_write act) (is_at act p) (λ h k. none p e o h (writing_called act k))) ∙ f.writing p e o;
       unfit = λ part. fit_stays c n act past (place_at s Left part) legal fork refl below (none (place_at s Left part) refl (place_own c s Left part)) (f.unfit part);
       unclosed = unclosed_stays c n act past s legal fork before uncut (fresh_cause c past s open_before f) f.unclosed;
     }
