@@ -100,7 +100,7 @@ single_read single at =
     (params_read single.params (at + length (written single.keyword))) (options_read single.options (at + length (written single.keyword) + length (printed_params single.params))))
 
 -- no such mark stands among the tokens
-abbrev pub Free : Mark → List Token → Type 0
+abbrev Free : Mark → List Token → Type 0
 Free mark = AllByRecursion (λ t. is_mark mark t.kind ≡ false)
 
 free_append : (mark : Mark) (xs ys : List Token) → Free mark xs → Free mark ys → Free mark (xs ++ ys)
@@ -140,17 +140,17 @@ free_single at single =
     (free_append Dual (param_tokens (at + length (written single.keyword)) single.params) (options_tokens (at + length (written single.keyword) + length (printed_params single.params)) single.options)
     (free_params Dual refl (at + length (written single.keyword)) single.params) (free_options (at + length (written single.keyword) + length (printed_params single.params)) single.options))
 
-pub before_free : (mark : Mark) (xs ys : List Token) → Free mark xs → before mark (xs ++ ys) ≡ xs ++ before mark ys
+before_free : (mark : Mark) (xs ys : List Token) → Free mark xs → before mark (xs ++ ys) ≡ xs ++ before mark ys
 before_free mark [] ys free = refl
 before_free mark (x ∷ xs) ys free =
     ap (λ (b : Bool). cond b [] (x ∷ before mark (xs ++ ys))) free.0 ∙ ap (λ (ts : List Token). x ∷ ts) (before_free mark xs ys free.1)
 
-pub after_free : (mark : Mark) (xs ys : List Token) → Free mark xs → after mark (xs ++ ys) ≡ after mark ys
+after_free : (mark : Mark) (xs ys : List Token) → Free mark xs → after mark (xs ++ ys) ≡ after mark ys
 after_free mark [] ys free = refl
 after_free mark (x ∷ xs) ys free =
     ap (λ (b : Bool). cond b (Some (x, xs ++ ys)) (after mark (xs ++ ys))) free.0 ∙ after_free mark xs ys free.1
 
-pub after_none : (mark : Mark) (xs : List Token) → Free mark xs → after mark xs ≡ None
+after_none : (mark : Mark) (xs : List Token) → Free mark xs → after mark xs ≡ None
 after_none mark xs free = ap (after mark) (sym (append-nil xs)) ∙ after_free mark xs [] free
 
 decoded_bytes : (at : ℕ) (bytes : List ℕ) → decoded (byte_tokens at bytes) ≡ bytes

@@ -1,75 +1,134 @@
--- Which texts spell which addresses, as a relation. Where the tokens lie in the text doesn't matter.
-use Rattle.std.specs.Prelude.{◌≡◌, ℕ, true, false, ◌⊎◌, List, [], ◌∷◌, ◌++◌, Option, Some, None, option_map, Result, Ok}
+-- Which texts spell which addresses, as a relation by cases on the bytes. Where they stand in the text doesn't matter.
+use Rattle.std.specs.Prelude.{◌≡◌, ◌≢◌, ℕ, ◌≤◌, Bool, true, false, ◌&&◌, ◌||◌, ◌==◌, if◌then◌else◌, ◌⊎◌, List, [], ◌∷◌, ◌++◌, length, map, Option, Some, None, option_map, Result, Ok}
 use Rattle.std.specs.List.{AllByRecursion}
-use Rattle.addr_words.specs.declared.token_list.Token.{Token}
-use Rattle.addr_words.specs.Reading.{tokens_of}
-use Rattle.addr_grammar.specs.declared.cutting.Mark.{Mark}
-use Rattle.addr_grammar.specs.declared.cutting.Mark.TheVariants.{Colon, Comma, Dual, Equals}
+use Rattle.addr_words.specs.declared.token_list.TokenKind.{TokenKind}
+use Rattle.addr_words.specs.declared.token_list.TokenKind.TheVariants.{Byte, Colon, Comma, Dual, Equals}
 use Rattle.addr_grammar.specs.declared.addresses.RawAddress.{RawAddress}
 use Rattle.addr_grammar.specs.declared.addresses.RawAddress.TheVariants.{One, Two}
 use Rattle.addr_grammar.specs.declared.faults.GrammarFault.{GrammarFault}
 use Rattle.addr_grammar.specs.Addresses.{Named, Parts, is_empty, is_dash, has_slash, FitsKeyword}
-use Rattle.addr_grammar.specs.Grammar.{is_mark, decoded, gopen, stdio, Reads}
+use Rattle.addr_grammar.specs.Grammar.{Reads}
 
--- no such mark stands among the tokens
-abbrev pub Free : Mark → List Token → Type 0
-Free mark tokens = AllByRecursion (λ t. is_mark mark t.kind ≡ false) tokens
+-- the marks of quotes, each of which ends what it begins
+abbrev pub IsQuoteMark : ℕ → Type 0
+IsQuoteMark b = (b ≡ 34) ⊎ (b ≡ 39)
 
--- the tokens before the first such mark and those after it; without a mark all stand before it
-abbrev pub PartAt : Mark → List Token → List Token → Option (List Token) → Type 0
-PartAt mark tokens front None = Free mark front × (tokens ≡ front)
-PartAt mark tokens front (Some back) = Free mark front × ((t : Token) × (is_mark mark t.kind ≡ true) × (tokens ≡ front ++ t ∷ back))
+-- a byte that opens a bracket, and the one that closes it
+abbrev pub IsBracketPair : ℕ → ℕ → Type 0
+IsBracketPair b e = ((b ≡ 40) × (e ≡ 41)) ⊎ (((b ≡ 91) × (e ≡ 93)) ⊎ ((b ≡ 123) × (e ≡ 125)))
+
+-- What is open is told by the bytes that close it, the innermost first. Whether that is a quote:
+abbrev pub in_quotes : List ℕ → Bool
+in_quotes [] = false
+in_quotes (e ∷ ends) = (e == 34) || (e == 39)
+
+abbrev pub in_single_quotes : List ℕ → Bool
+in_single_quotes [] = false
+in_single_quotes (e ∷ ends) = e == 39
+
+abbrev pub is_one_of : List ℕ → ℕ → Bool
+is_one_of [] b = false
+is_one_of (s ∷ specials) b = (b == s) || is_one_of specials b
+
+-- the bytes that stand for something else than themselves
+abbrev pub special_in : List ℕ → List ℕ
+special_in [] = 92 ∷ 34 ∷ 39 ∷ 40 ∷ 91 ∷ 123 ∷ 58 ∷ 44 ∷ 61 ∷ []
+special_in (e ∷ ends) =
+    if e == 39 then 39 ∷ []
+    else (if e == 34 then 92 ∷ 34 ∷ []
+    else e ∷ 92 ∷ 34 ∷ 39 ∷ 40 ∷ 91 ∷ 123 ∷ [])
+
+-- whether a byte and what follows it begin with `!!` outside
+abbrev pub parts_halves : List ℕ → ℕ → List ℕ → Bool
+parts_halves [] b [] = false
+parts_halves [] b (c ∷ bytes) = (b == 33) && (c == 33)
+parts_halves (e ∷ ends) b bytes = false
+
+-- what bytes stand for, one after the other, where some quotes and brackets are open; at the end none may be
+pub data SpellsKinds : List ℕ → List ℕ → List TokenKind → Type 0 where
+  over : SpellsKinds [] [] []
+  escaped : (ends bytes : List ℕ) (kinds : List TokenKind) (b : ℕ) → in_single_quotes ends ≡ false → SpellsKinds ends bytes kinds → SpellsKinds ends (92 ∷ b ∷ bytes) (Byte b ∷ kinds)
+  quote_begins : (ends bytes : List ℕ) (kinds : List TokenKind) (q : ℕ) → IsQuoteMark q → in_quotes ends ≡ false → SpellsKinds (q ∷ ends) bytes kinds → SpellsKinds ends (q ∷ bytes) kinds
+  quote_ends : (ends bytes : List ℕ) (kinds : List TokenKind) (q : ℕ) → IsQuoteMark q → SpellsKinds ends bytes kinds → SpellsKinds (q ∷ ends) (q ∷ bytes) kinds
+  bracket_begins : (ends bytes : List ℕ) (kinds : List TokenKind) (b e : ℕ) → IsBracketPair b e → in_quotes ends ≡ false → SpellsKinds (e ∷ ends) bytes kinds → SpellsKinds ends (b ∷ bytes) (Byte b ∷ kinds)
+  bracket_ends : (ends bytes : List ℕ) (kinds : List TokenKind) (e : ℕ) → in_quotes (e ∷ ends) ≡ false → SpellsKinds ends bytes kinds → SpellsKinds (e ∷ ends) (e ∷ bytes) (Byte e ∷ kinds)
+  colon : (bytes : List ℕ) (kinds : List TokenKind) → SpellsKinds [] bytes kinds → SpellsKinds [] (58 ∷ bytes) (Colon ∷ kinds)
+  comma : (bytes : List ℕ) (kinds : List TokenKind) → SpellsKinds [] bytes kinds → SpellsKinds [] (44 ∷ bytes) (Comma ∷ kinds)
+  equals : (bytes : List ℕ) (kinds : List TokenKind) → SpellsKinds [] bytes kinds → SpellsKinds [] (61 ∷ bytes) (Equals ∷ kinds)
+  dual : (bytes : List ℕ) (kinds : List TokenKind) → SpellsKinds [] bytes kinds → SpellsKinds [] (33 ∷ 33 ∷ bytes) (Dual ∷ kinds)
+  itself : (ends bytes : List ℕ) (kinds : List TokenKind) (b : ℕ) → is_one_of (special_in ends) b ≡ false → parts_halves ends b bytes ≡ false → SpellsKinds ends bytes kinds → SpellsKinds ends (b ∷ bytes) (Byte b ∷ kinds)
+
+-- the byte that each of these is where it parts nothing
+abbrev pub byte_in : TokenKind → ℕ
+byte_in (Byte b) = b
+byte_in Colon = 58
+byte_in Comma = 44
+byte_in Dual = 33
+byte_in Equals = 61
+
+abbrev pub bytes_in : List TokenKind → List ℕ
+bytes_in = map byte_in
+
+-- no such mark stands among these
+abbrev pub Free : TokenKind → List TokenKind → Type 0
+Free mark = AllByRecursion (λ kind. kind ≢ mark)
+
+-- what stands before the first such mark and what stands after it; without a mark all stands before it
+abbrev pub PartAt : TokenKind → List TokenKind → List TokenKind → Option (List TokenKind) → Type 0
+PartAt mark kinds front None = Free mark front × (kinds ≡ front)
+PartAt mark kinds front (Some back) = Free mark front × (kinds ≡ front ++ mark ∷ back)
 
 -- parameters: the texts between the colons behind the first part
-abbrev pub SpellsTexts : Option (List Token) → List (List ℕ) → Type 0
+abbrev pub SpellsTexts : Option (List TokenKind) → List (List ℕ) → Type 0
 SpellsTexts None [] = Unit {0}
 SpellsTexts None (p ∷ params) = ⊥
-SpellsTexts (Some tokens) [] = ⊥
-SpellsTexts (Some tokens) (p ∷ params) = (front : List Token) × (back : Option (List Token)) × PartAt Colon tokens front back × (decoded front ≡ p) × SpellsTexts back params
+SpellsTexts (Some kinds) [] = ⊥
+SpellsTexts (Some kinds) (p ∷ params) = (front : List TokenKind) × (back : Option (List TokenKind)) × PartAt Colon kinds front back × (bytes_in front ≡ p) × SpellsTexts back params
 
--- a file name, `-`, or a keyword
-abbrev pub SpellsKeyword : List ℕ → Option (List Token) → List ℕ → List ℕ → List (List ℕ) → Type 0
+-- a file name (`GOPEN`), `-` (`STDIO`), or a keyword
+abbrev pub SpellsKeyword : List ℕ → Option (List TokenKind) → List ℕ → List ℕ → List (List ℕ) → Type 0
 SpellsKeyword first back whole keyword params =
-    ((has_slash first ≡ true) × (keyword ≡ gopen) × (params ≡ whole ∷ []))
-    ⊎ (((has_slash first ≡ false) × (is_dash first ≡ true) × (keyword ≡ stdio) × SpellsTexts back params)
+    ((has_slash first ≡ true) × (keyword ≡ 71 ∷ 79 ∷ 80 ∷ 69 ∷ 78 ∷ []) × (params ≡ whole ∷ []))
+    ⊎ (((has_slash first ≡ false) × (is_dash first ≡ true) × (keyword ≡ 83 ∷ 84 ∷ 68 ∷ 73 ∷ 79 ∷ []) × SpellsTexts back params)
     ⊎ (FitsKeyword first × (keyword ≡ first) × SpellsTexts back params))
 
-abbrev pub SpellsHead : List Token → List ℕ → List (List ℕ) → Type 0
-SpellsHead tokens keyword params =
-    (front : List Token) × (back : Option (List Token)) × PartAt Colon tokens front back × SpellsKeyword (decoded front) back (decoded tokens) keyword params
+abbrev pub SpellsHead : List TokenKind → List ℕ → List (List ℕ) → Type 0
+SpellsHead kinds keyword params =
+    (front : List TokenKind) × (back : Option (List TokenKind)) × PartAt Colon kinds front back × SpellsKeyword (bytes_in front) back (bytes_in kinds) keyword params
 
 -- a name that isn't empty, and the value behind the first equals sign
-pub record SpellsOption (tokens : List Token) (option : Named) : Type 0 where
-  pub front : List Token
-  pub back : Option (List Token)
-  pub parted : PartAt Equals tokens front back
-  pub name : decoded front ≡ option.name
+pub record SpellsOption (kinds : List TokenKind) (option : Named) : Type 0 where
+  pub front : List TokenKind
+  pub back : Option (List TokenKind)
+  pub parted : PartAt Equals kinds front back
+  pub name : bytes_in front ≡ option.name
   pub not_empty : is_empty option.name ≡ false
-  pub value : option_map decoded back ≡ option.value
+  pub value : option_map bytes_in back ≡ option.value
 
 -- options: the parts between the commas behind the head
-abbrev pub SpellsOptions : Option (List Token) → List Named → Type 0
+abbrev pub SpellsOptions : Option (List TokenKind) → List Named → Type 0
 SpellsOptions None [] = Unit {0}
 SpellsOptions None (o ∷ options) = ⊥
-SpellsOptions (Some tokens) [] = ⊥
-SpellsOptions (Some tokens) (o ∷ options) = (front : List Token) × (back : Option (List Token)) × PartAt Comma tokens front back × SpellsOption front o × SpellsOptions back options
+SpellsOptions (Some kinds) [] = ⊥
+SpellsOptions (Some kinds) (o ∷ options) = (front : List TokenKind) × (back : Option (List TokenKind)) × PartAt Comma kinds front back × SpellsOption front o × SpellsOptions back options
 
-pub record SpellsSingle (tokens : List Token) (single : Parts) : Type 0 where
-  pub front : List Token
-  pub back : Option (List Token)
-  pub parted : PartAt Comma tokens front back
+pub record SpellsSingle (kinds : List TokenKind) (single : Parts) : Type 0 where
+  pub front : List TokenKind
+  pub back : Option (List TokenKind)
+  pub parted : PartAt Comma kinds front back
   pub head : SpellsHead front single.keyword single.params
   pub options : SpellsOptions back single.options
 
-abbrev pub SpellsTokens : List Token → RawAddress → Type 0
-SpellsTokens tokens (One single) = Free Dual tokens × SpellsSingle tokens single
-SpellsTokens tokens (Two reading writing) =
-    (left : List Token) × (right : List Token) × PartAt Dual tokens left (Some right) × Free Dual right × SpellsSingle left reading × SpellsSingle right writing
+abbrev pub SpellsAddress : List TokenKind → RawAddress → Type 0
+SpellsAddress kinds (One single) = Free Dual kinds × SpellsSingle kinds single
+SpellsAddress kinds (Two reading writing) =
+    (left : List TokenKind) × (right : List TokenKind) × PartAt Dual kinds left (Some right) × Free Dual right × SpellsSingle left reading × SpellsSingle right writing
 
 pub record Spells (text : List ℕ) (address : RawAddress) : Type 0 where
-  pub tokens : List Token
-  pub read : tokens_of text ≡ Ok tokens
-  pub spelled : SpellsTokens tokens address
+  pub kinds : List TokenKind
+  pub short : length text ≤ 65536
+  pub stands : SpellsKinds [] text kinds
+  pub spelled : SpellsAddress kinds address
 
 -- what is spelled so is read, unless memory runs out
 abbrev pub ReadsSpelled : List ℕ → Result RawAddress GrammarFault → Type 0

@@ -3,6 +3,7 @@ ghost use Rattle.std.specs.Prelude.{◌≡◌, ◌≤◌, ◌++◌, length, map,
 ghost use Rattle.addr_words.specs.Writing.{written};
 ghost use Rattle.addr_grammar.specs.Addresses.{IsSingle, named};
 ghost use Rattle.addr_grammar.specs.Grammar.{reading};
+ghost use Rattle.addr_grammar.specs.Spelling.{Spells};
 ghost use Rattle.addr_grammar.specs.Printing.{printed_params, printed_value, printed_option, printed_options, printed_single, printed, IsAddress};
 
 use crate::addresses::{RawAddress, RawSingle};
@@ -76,7 +77,8 @@ fn push_address(out: &mut Vec<u8>, address: &RawAddress) -> Result<(), NoMemory>
 /// The address as a text with no quotes, each byte that would mean something else behind a backslash.
 pub fn print_address(alloc: Global, address: &RawAddress) -> Result<Bytes, NoMemory>
     ensures text { IfOk result (λ text. text ≡ printed address.now) }
-    // What is printed spells the address again.
+    // What is printed spells the address, and is read as it again.
+    ensures spells { IfOk result (λ text. length text ≤ 65536 → Spells text address.now) }
     ensures again { IfOk result (λ text. length text ≤ 65536 → reading text ≡ Ok address.now) }
 {
     let mut out = Vec::new(alloc);
