@@ -30,7 +30,7 @@ abbrev pub is_one_of : List ℕ → ℕ → Bool
 is_one_of [] b = false
 is_one_of (s ∷ specials) b = (b == s) || is_one_of specials b
 
--- the bytes that stand for something else than themselves
+-- the bytes that stand for something else than themselves: outside, in single quotes, in double quotes, in a bracket
 abbrev pub special_in : List ℕ → List ℕ
 special_in [] = 92 ∷ 34 ∷ 39 ∷ 40 ∷ 91 ∷ 123 ∷ 58 ∷ 44 ∷ 61 ∷ []
 special_in (e ∷ ends) =
@@ -44,7 +44,10 @@ parts_halves [] b [] = false
 parts_halves [] b (c ∷ bytes) = (b == 33) && (c == 33)
 parts_halves (e ∷ ends) b bytes = false
 
--- what bytes stand for, one after the other, where some quotes and brackets are open; at the end none may be
+-- What bytes stand for, one after the other, where some quotes and brackets are open; at the end none may be. A
+-- backslash takes the next byte with it, but in single quotes. Quotes don't nest, and their marks stand for nothing.
+-- Brackets nest, and stand for themselves. Colons, commas, equals signs and `!!` are marks outside alone. Whatever is
+-- none of these stands for itself.
 pub data SpellsKinds : List ℕ → List ℕ → List TokenKind → Type 0 where
   over : SpellsKinds [] [] []
   escaped : (ends bytes : List ℕ) (kinds : List TokenKind) (b : ℕ) → in_single_quotes ends ≡ false → SpellsKinds ends bytes kinds → SpellsKinds ends (92 ∷ b ∷ bytes) (Byte b ∷ kinds)

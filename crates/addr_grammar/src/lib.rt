@@ -1,5 +1,6 @@
 // The grammar of addresses, read and printed. `specs/Grammar.antt` says which address a list of tokens
-// spells and what is wrong with one that spells none.
+// spells and what is wrong with one that spells none; `specs/Spelling.antt` says on its own, by cases on the
+// bytes, which texts spell which addresses.
 #![tactic(auto)]
 
 mod addresses;
