@@ -48,7 +48,7 @@ fn measure(rt: &(impl Clock + Print), alloc: Global, keys: u32, rounds: u64) -> 
     let start = Instant::now(rt)?;
     for _ in 0..rounds {
         if timers.reserve(keys as usize).is_err() {
-            return println!(rt; "{keys} keys: no memory");
+            return Err(io::ErrorKind::OutOfMemory.into());
         }
         state = set_all(&mut timers, keys, state);
         seen = next(seen ^ due_all(&mut timers, keys));
