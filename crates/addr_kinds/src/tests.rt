@@ -1,7 +1,7 @@
 // Addresses in odd spellings, with what an independent reading of socat(1) says of each.
 use super::*;
 use addr_grammar::{RawAddress, parse_address};
-use relay_model::{Conv, Shut, Single, Target};
+use relay_model::{Conv, Family, Range, Shut, Single, Target};
 use std::alloc::Global;
 use std::test::*;
 
@@ -158,5 +158,164 @@ fn words_and_defaults(rt: HostRuntime) -> Result<(), Fail> {
         .ok()
         .ok_or("a proxy")?;
     assert_eq!(rt; proxy.options.proxyport, 3128);
+    Ok(())
+}
+
+/// The kinds of socat(1) that the relay leaves out.
+const LEFT_OUT_KINDS: [&[u8]; 35] = [
+    b"PTY",
+    b"READLINE",
+    b"OPENSSL",
+    b"OPENSSL-CONNECT",
+    b"OPENSSL-LISTEN",
+    b"SSL",
+    b"TUN",
+    b"INTERFACE",
+    b"FD",
+    b"IP-SENDTO",
+    b"IP-DATAGRAM",
+    b"IP-RECVFROM",
+    b"IP-RECV",
+    b"SCTP",
+    b"SCTP-CONNECT",
+    b"SCTP-LISTEN",
+    b"VSOCK-CONNECT",
+    b"VSOCK-LISTEN",
+    b"UNIX-SENDTO",
+    b"UNIX-RECVFROM",
+    b"UNIX-RECV",
+    b"UNIX-CLIENT",
+    b"ABSTRACT-CONNECT",
+    b"ABSTRACT-LISTEN",
+    b"ABSTRACT-SENDTO",
+    b"ABSTRACT-RECVFROM",
+    b"ABSTRACT-RECV",
+    b"ABSTRACT-CLIENT",
+    b"UDP-DATAGRAM",
+    b"SOCKET-CONNECT",
+    b"SOCKET-LISTEN",
+    b"SOCKET-SENDTO",
+    b"SOCKET-DATAGRAM",
+    b"SOCKET-RECVFROM",
+    b"SOCKET-RECV",
+];
+
+#[test]
+fn left_out_kinds(rt: HostRuntime) {
+    for keyword in &LEFT_OUT_KINDS {
+        let fault = refusal(rt.alloc(), keyword, Asked::TwoWay, false);
+        assert!(rt; matches!(fault, Some(KindFault::LeftOutKind)));
+    }
+}
+
+/// The options of socat(1) that the relay leaves out.
+const LEFT_OUT_OPTIONS: [&str; 42] = [
+    "raw",
+    "rawer",
+    "echo",
+    "ctty",
+    "setsid",
+    "pty",
+    "stderr",
+    "nofork",
+    "fdin",
+    "fdout",
+    "path",
+    "user",
+    "group",
+    "mode",
+    "perm",
+    "owner",
+    "su",
+    "su-d",
+    "setuid",
+    "setgid",
+    "chroot",
+    "lock",
+    "waitlock",
+    "seek",
+    "keepalive",
+    "backlog",
+    "linger",
+    "broadcast",
+    "tos",
+    "ttl",
+    "ipv6only",
+    "pf",
+    "sndbuf",
+    "rcvbuf",
+    "so-bindtodevice",
+    "cert",
+    "key",
+    "cafile",
+    "verify",
+    "end-close",
+    "cool-write",
+    "nonblock",
+];
+
+#[test]
+fn left_out_options(rt: HostRuntime) -> Result<(), Fail> {
+    let alloc = rt.alloc();
+    for name in &LEFT_OUT_OPTIONS {
+        let text = format!(in alloc; "STDIO,cr,{name}")?;
+        let fault = refusal(alloc, text.as_bytes(), Asked::TwoWay, true);
+        assert!(rt; matches!(fault, Some(KindFault::LeftOutOption { place: 2 })));
+    }
+    Ok(())
+}
+
+/// Addresses that connect by TCP to port 80 of this host, and the family that each names.
+const TCP_CLIENTS: [(&[u8], Family, &[u8]); 7] = [
+    (b"TCP:h:80", Family::Any, b"h"),
+    (b"TCP4:h:80", Family::V4, b"h"),
+    (b"TCP6:h:80", Family::V6, b"h"),
+    (b"TCP-CONNECT:h:80", Family::Any, b"h"),
+    (b"TCP4-CONNECT:h:80", Family::V4, b"h"),
+    (b"TCP6-CONNECT:h:80", Family::V6, b"h"),
+    // Zeros in front make a name of what would be an address of the other family.
+    (b"TCP6:01.2.3.4:80", Family::V6, b"01.2.3.4"),
+];
+
+fn connects(target: &Target, named: Family, to: &[u8]) -> bool {
+    match target {
+        Target::Tcp { family, host, port } => {
+            *family == named && host.as_slice() == to && *port == 80
+        }
+        _ => false,
+    }
+}
+
+#[test]
+fn tcp_clients(rt: HostRuntime) -> Result<(), Fail> {
+    for (text, family, host) in &TCP_CLIENTS {
+        let single = resolved(rt.alloc(), text, Asked::TwoWay, false)
+            .ok()
+            .ok_or("an address")?;
+        assert!(rt; connects(&single.target, *family, host));
+    }
+    Ok(())
+}
+
+#[test]
+fn last_fork_holds(rt: HostRuntime) -> Result<(), Fail> {
+    let single = resolved(rt.alloc(), b"TCP-L:1,fork,fork=0", Asked::TwoWay, false)
+        .ok()
+        .ok_or("an address")?;
+    assert!(rt; !single.options.fork);
+    Ok(())
+}
+
+#[test]
+fn mask_with_holes(rt: HostRuntime) -> Result<(), Fail> {
+    let text = b"TCP-L:1,range=10.7.3.9:255.0.255.0";
+    let single = resolved(rt.alloc(), text, Asked::TwoWay, false)
+        .ok()
+        .ok_or("an address")?;
+    let range = Range::V4 {
+        net: [10, 0, 3, 0],
+        mask: [255, 0, 255, 0],
+    };
+    assert_eq!(rt; single.options.range, Some(range));
     Ok(())
 }
