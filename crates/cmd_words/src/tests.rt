@@ -28,7 +28,7 @@ fn refused(alloc: Global, words: &[&[u8]]) -> Option<Refused> {
 }
 
 /// Refusals of flags and of the number of addresses.
-const FLAGS: [Case; 16] = [
+const FLAGS: [Case; 18] = [
     (&[b"-b0", b"-", b"-"], 1, 0, Refusal::BadFlagValue),
     (&[b"-b1048577", b"-", b"-"], 1, 0, Refusal::BadFlagValue),
     (&[b"-b"], 1, 0, Refusal::NoValue),
@@ -42,6 +42,13 @@ const FLAGS: [Case; 16] = [
     (&[b"-:x", b"-"], 1, 0, Refusal::UnknownFlag),
     (&[b"--journal=j", b"-", b"-"], 1, 0, Refusal::UnknownFlag),
     (&[b"-vx", b"-", b"-"], 1, 0, Refusal::UnknownFlag),
+    (&[b"--help"], 1, 0, Refusal::UnknownFlag),
+    (
+        &[b"-d", b"--version", b"-", b"-"],
+        2,
+        0,
+        Refusal::UnknownFlag,
+    ),
     (&[b"-b", b"-", b"-", b"-d5"], 1, 0, Refusal::BadFlagValue),
     (&[b"-t4000000.000001"], 1, 0, Refusal::BadFlagValue),
     (
@@ -68,7 +75,7 @@ const FLAGS: [Case; 16] = [
 ];
 
 /// Refusals of addresses and of the directions between them.
-const ADDRESSES: [Case; 33] = [
+const ADDRESSES: [Case; 34] = [
     (&[b"", b"-"], 1, 0, Refusal::Empty),
     (&[b"(a", b"STDIO"], 1, 0, Refusal::Unclosed { at: 0 }),
     (
@@ -113,6 +120,12 @@ const ADDRESSES: [Case; 33] = [
         2,
         1,
         Refusal::Parameters { want: 2, have: 1 },
+    ),
+    (
+        &[b"STDIN", b"-:x"],
+        2,
+        1,
+        Refusal::Parameters { want: 0, have: 1 },
     ),
     (
         &[b"PIPE:x:x", b"readline:[::1]:09,crnl=1"],
@@ -284,5 +297,15 @@ fn defaults(rt: HostRuntime) -> Result<(), Fail> {
         Address::One(_) => false,
     };
     assert!(rt; has_streams);
+    Ok(())
+}
+
+#[test]
+fn printed_fault(rt: HostRuntime) -> Result<(), Fail> {
+    let alloc = rt.alloc();
+    let words = texts(alloc, &[b"-", b"-!!FOO"]).ok().ok_or("words")?;
+    let fault = command_of(alloc, words.as_slice()).err().ok_or("a fault")?;
+    let line = format!(in alloc; "{fault}")?;
+    assert_eq!(rt; line.as_str(), "refused at word 2, half 2");
     Ok(())
 }
