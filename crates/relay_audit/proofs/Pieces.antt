@@ -1,6 +1,8 @@
 -- Where one piece at most waits, the next piece is all that waits.
-use Rattle.std.proofs.Common.{◌≡◌, refl, sym, ap, ◌∙◌, ℕ, suc, ◌-◌, ◌≤◌, Bool, true, false, not, ◌&&◌, ◌==◌, List, [], ◌∷◌, ◌++◌, length, drop, arith}
+use Rattle.std.proofs.Common.{◌≡◌, refl, sym, ap, subst, ◌∙◌, ℕ, suc, ◌-◌, ◌≤◌, Bool, true, false, not, ◌&&◌, ◌==◌, List, [], ◌∷◌, ◌++◌, length, drop, arith}
 use Rattle.std.proofs.lemmas.Bool.{false≢true, and_parts, and_from, eqb-true, eq-eqb, ne_eqb}
+use Rattle.std.proofs.Math.Seq.{drop-append_seam}
+use Rattle.std.proofs.Math.ListN.{drop_of_length-le}
 use Rattle.std.proofs.lemmas.List.{length-drop}
 use Rattle.relay_model.specs.declared.places.Place.{Place}
 use Rattle.relay_model.specs.declared.commands.Config.{Config}
@@ -12,10 +14,11 @@ use Rattle.relay_model.specs.Arming.{armed_to_write}
 use Rattle.relay_model.specs.Transfers.{due, due_pieces, backlog}
 use Rattle.relay_model.specs.Moments.{passed}
 use Rattle.relay_model.specs.Rest.{moves}
+use Rattle.relay_model.specs.May.{BeginsWith}
 use Rattle.relay_model.specs.Audit.{same_list, begins, begins_pieces, may_offer}
 use Rattle.relay_laws.specs.Packets.{at_most_one}
 use Rattle.relay_laws.proofs.PlaceLemmas.{same_place_equal}
-use Rattle.relay_audit.specs.Pasts.{OnePieceWaits}
+use Rattle.relay_audit.specs.Pasts.{WrittenStands, OnePieceWaits}
 
 list_is : (xs : List ℕ) → same_list xs xs ≡ true
 list_is [] = refl
@@ -72,6 +75,26 @@ is_output c past p e =
     let a = and_parts (same && goes && before) (armed_to_write past p) e in
     let b = and_parts (same && goes) before a.0 in
     same_place_equal p (output c p.session (way_to p.side)) (and_parts same goes b.0).0
+
+pub all_dropped : (n : ℕ) (xs : List ℕ) → length xs ≤ n → drop n xs ≡ []
+all_dropped n xs h = drop_of_length-le xs h
+
+same_first : (first bytes rest : List ℕ) → begins (first ++ bytes) (first ++ rest) ≡ begins bytes rest
+same_first [] bytes rest = refl
+same_first (x ∷ xs) bytes rest = ap (λ b. b && begins (xs ++ bytes) (xs ++ rest)) (eq-eqb x x refl) ∙ same_first xs bytes rest
+
+begins_rest : (written bytes all : List ℕ) → BeginsWith written all → begins bytes (drop (length written) all) ≡ begins (written ++ bytes) all
+begins_rest written bytes all (rest, e) =
+    ap (λ list. begins bytes (drop (length written) list)) e
+    ∙ ap (begins bytes) (drop-append_seam written rest)
+    ∙ sym (same_first written bytes rest)
+    ∙ ap (begins (written ++ bytes)) (sym e)
+
+-- of what is due, the bytes that were written needn't be compared again
+pub next_bytes : (c : Config) (past : List Act) (p : Place) (bytes : List ℕ) → WrittenStands c past → may_offer c past p ≡ true → begins bytes (drop (length (put past p)) (due c (way_to p.side) (got past (input c p.session (way_to p.side))))) ≡ begins (put past p ++ bytes) (due c (way_to p.side) (got past (input c p.session (way_to p.side))))
+next_bytes c past p bytes written offered =
+    begins_rest (put past p) bytes (due c (way_to p.side) (got past (input c p.session (way_to p.side))))
+    (subst (λ q. BeginsWith (put past q) (due c (way_to p.side) (got past (input c p.session (way_to p.side))))) (sym (is_output c past p offered)) (written p.session (way_to p.side)))
 
 pub piece_is_next : (c : Config) (past : List Act) (p : Place) (bytes : List ℕ) → OnePieceWaits c past → keeps_borders c (way_to p.side) ≡ true → may_offer c past p ≡ true → 1 ≤ length bytes → begins (put past p ++ bytes) (due c (way_to p.side) (got past (input c p.session (way_to p.side)))) ≡ true → (backlog c past p.session (way_to p.side) == length bytes) ≡ begins_pieces (sent past p ++ bytes ∷ []) (due_pieces c past p.session (way_to p.side))
 piece_is_next c past p bytes one keeps offered some e =

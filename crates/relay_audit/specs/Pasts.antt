@@ -13,6 +13,7 @@ use Rattle.relay_model.specs.History.{held, same_why, got, put, sent}
 use Rattle.relay_model.specs.Transfers.{due, due_pieces}
 use Rattle.relay_model.specs.Cause.{cause, closed_why}
 use Rattle.relay_model.specs.Calls.{called_at}
+use Rattle.relay_model.specs.May.{BeginsWith}
 use Rattle.relay_model.specs.Audit.{closes, door_ends, is_cause}
 use Rattle.relay_laws.specs.Packets.{at_most_one}
 
@@ -25,6 +26,10 @@ abbrev pub reads_some : List Act → Bool
 reads_some [] = true
 reads_some (Read q bytes ∷ past) = nat_lt 0 (length bytes)
 reads_some (act ∷ past) = true
+
+-- what each direction has written is a beginning of what is due
+abbrev pub WrittenStands : Config → List Act → Type 0
+WrittenStands c past = (s : ℕ) (w : Way) → BeginsWith (put past (output c s w)) (due c w (got past (input c s w)))
 
 -- where borders are kept, what is due and not yet written is one piece at most
 abbrev pub OnePieceWaits : Config → List Act → Type 0

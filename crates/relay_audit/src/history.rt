@@ -298,24 +298,6 @@ pub fn got(alloc: Global, past: &[&Act], place: Place) -> Result<Vec<u8>, NoMemo
     Ok(bytes)
 }
 
-/// The bytes that were written at a place.
-#[tactic(auto, using(crate::proofs::Lists::acts_before))]
-pub fn put(alloc: Global, past: &[&Act], place: Place) -> Result<Vec<u8>, NoMemory>
-    ensures { IfOk result (λ bytes. bytes.items ≡ put (acts past.now) place) }
-{
-    let mut bytes = Vec::new(alloc);
-    let mut k = past.len();
-    while k > 0 {
-        k -= 1;
-        let act: &Act = past[k];
-        match act {
-            Act::Wrote(at, piece) if at.is(place) => bytes.extend_from_slice(piece.as_slice())?,
-            _ => {}
-        }
-    }
-    Ok(bytes)
-}
-
 // ---- ends, faults and passed ends
 
 /// Whether a read of the place met the end of its input.

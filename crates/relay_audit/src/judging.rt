@@ -4,14 +4,16 @@ ghost use Rattle.relay_model.specs.History.{held};
 ghost use Rattle.relay_model.specs.Sessions.{admitted};
 ghost use Rattle.relay_model.specs.May.{Legal};
 ghost use Rattle.relay_model.specs.Audit.{held_count, first_illegal, may_come};
-ghost use Rattle.relay_audit.specs.Pasts.{acts, reads_some, held_below, OnePieceWaits};
+ghost use Rattle.relay_audit.specs.Pasts.{acts, reads_some, held_below, WrittenStands, OnePieceWaits};
 ghost use Rattle.relay_audit.specs.Judging.{Judges};
 
 use crate::history::held;
 use crate::may::may_come;
 use crate::sessions::numbers;
 use command_places::{has_fork, options_of, program_door, things};
-use relay_laws::{admitted_is_bounded, one_test_is_right, packets_are_due, tests_are_right};
+use relay_laws::{
+    admitted_is_bounded, one_test_is_right, packets_are_due, tests_are_right, written_is_due,
+};
 use relay_model::{Act, Config, Journal, NoMemory, Place};
 use std::alloc::Global;
 
@@ -63,16 +65,18 @@ pub fn held_count(config: &Config, past: &[&Act]) -> u64
 
 // ---- each act
 
-/// A legal history has no more sessions than numbers for them and no read of nothing, and where borders are kept one
-/// piece at most waits.
+/// A legal history has no more sessions than numbers for them and no read of nothing, what was written begins what is
+/// due, and where borders are kept one piece at most waits.
 fn what_is_legal(config: &Config, limit: u64, past: &[&Act])
     requires { Legal config.now limit (acts past.now) }
     ensures few { admitted config.now (acts past.now) < 2 ^ 32 }
     ensures some { reads_some (acts past.now) ≡ true }
+    ensures written { WrittenStands config.now (acts past.now) }
     ensures one { OnePieceWaits config.now (acts past.now) }
 {
     admitted_is_bounded();
     packets_are_due();
+    written_is_due();
     let _most = options_of(config, program_door()).stop_after;
     let _last = past.len();
 }
@@ -133,7 +137,8 @@ fn judge_acts(
 }
 
 /// Whether the journal is a legal history of this command, in a run of so many turns at most. The acts of the
-/// journal are judged one by one, and the time grows with the square of their number.
+/// journal are judged one by one, each by all that stands before it. So the time grows with the square of the journal's
+/// length, and with the number of its sessions.
 pub fn judge(
     alloc: Global,
     config: &Config,

@@ -1,5 +1,5 @@
 // What may come and what rests, as tests that compute.
-ghost use Rattle.std.specs.Prelude.{◌≡◌, ◌≢◌, ◌<◌, ◌≤◌, ◌^◌, ◌&&◌, ◌||◌, ◌==◌, not, nat_lt, nat_le, [], ◌∷◌, ◌++◌, length, IfOk, is_none, true};
+ghost use Rattle.std.specs.Prelude.{◌≡◌, ◌≢◌, ◌<◌, ◌≤◌, ◌^◌, ◌&&◌, ◌||◌, ◌==◌, not, nat_lt, nat_le, [], ◌∷◌, ◌++◌, length, drop, IfOk, is_none, true};
 ghost use Rattle.relay_model.specs.Dumps.{dump_of};
 ghost use Rattle.relay_model.specs.Choices.{each_below};
 ghost use Rattle.relay_model.specs.History.{turns, got, put, sent, was_closed, was_reaped, same_why};
@@ -10,7 +10,7 @@ ghost use Rattle.relay_model.specs.Configs.{input, output, way_to, medium_of, is
 ghost use Rattle.relay_model.specs.Transfers.{due, due_pieces, backlog};
 ghost use Rattle.relay_model.specs.Rest.{owed, may_read, may_write, until_of};
 ghost use Rattle.relay_model.specs.Audit.{implies, accept_tried, way_rests, session_rests, door_rests, rests, same_number, same_list, same_text, begins, begins_pieces, same_shut, opens, listens_to, accepts_for, accepts_at, closes, may_ask, may_take, may_offer, may_put, may_shut, door_ends, is_cause, may_close, may_come};
-ghost use Rattle.relay_audit.specs.Pasts.{acts, reads_some, awaits_dump, may_end, OnePieceWaits};
+ghost use Rattle.relay_audit.specs.Pasts.{acts, reads_some, awaits_dump, may_end, WrittenStands, OnePieceWaits};
 ghost use Rattle.relay_audit.specs.Answers.{as_call};
 
 use crate::arming::{
@@ -19,7 +19,7 @@ use crate::arming::{
 use crate::calls::{called_at, door_call, door_cut, known_call};
 use crate::cause::{cause, closed_why, running};
 use crate::history::{
-    accept_failed, got, got_length, held, memory_said, put, stop_said, turns, was_closed,
+    accept_failed, got_length, held, memory_said, put_length, stop_said, turns, was_closed,
     was_reaped,
 };
 use crate::moments::passed;
@@ -29,7 +29,7 @@ use crate::rest::{
     known_running, may_read, may_write, moves, must_pass, owes_nothing, presses, until_of,
 };
 use crate::sessions::{holds, live, numbers};
-use crate::transfers::{backlog, due, is_spent, over, room};
+use crate::transfers::{backlog, due_after, is_spent, over, room};
 use command_places::{
     has_fork, how, input, is_program, is_program_door, keeps_borders, medium_of, output,
     program_door, way_from, way_to,
@@ -234,6 +234,18 @@ fn begins(mut first: &[u8], mut list: &[u8]) -> bool
     true
 }
 
+/// What follows the first so many bytes.
+#[tactic(auto, using(crate::proofs::Pieces::all_dropped))]
+fn after_first(bytes: &[u8], count: usize) -> &[u8]
+    ensures { result.now ≡ drop count bytes.now }
+{
+    if count < bytes.len() {
+        &bytes[count..]
+    } else {
+        &[]
+    }
+}
+
 fn same_shut(one: Shut, other: Shut) -> bool
     ensures { result ≡ same_shut one other }
 {
@@ -377,7 +389,9 @@ fn may_try_write(
     Ok(backlog(alloc, config, past, place.session, way_to(place.side))? >= 1)
 }
 
-/// Whether the bytes go on where those that were written at the place end, of all that are due there.
+/// Whether the bytes go on where those that were written at the place end, of all that are due there. Those that were
+/// written are a beginning of it.
+#[tactic(auto, using(crate::proofs::Pieces::next_bytes))]
 fn is_due_next(
     alloc: Global,
     config: &Config,
@@ -385,14 +399,13 @@ fn is_due_next(
     place: Place,
     bytes: &[u8],
 ) -> Result<bool, NoMemory>
+    requires written { WrittenStands config.now (acts past.now) }
+    requires offered { may_offer config.now (acts past.now) place ≡ true }
     ensures { IfOk result (λ next. next ≡ begins (put (acts past.now) place ++ bytes.now) (due config.now (way_to place.side) (got (acts past.now) (input config.now place.session (way_to place.side))))) }
 {
-    let way = way_to(place.side);
-    let read = got(alloc, past, input(config, place.session, way))?;
-    let owed = due(alloc, config, way, read.as_slice())?;
-    let mut written = put(alloc, past, place)?;
-    written.extend_from_slice(bytes)?;
-    Ok(begins(written.as_slice(), owed.as_slice()))
+    let owed = due_after(alloc, config, past, place.session, way_to(place.side))?;
+    let written = put_length(past, place)?;
+    Ok(begins(bytes, after_first(owed.as_slice(), written)))
 }
 
 /// Whether the piece is the next of those that are due at the place: one at most waits, so it is all that waits.
@@ -423,6 +436,7 @@ fn may_put(
     bytes: &[u8],
 ) -> Result<bool, NoMemory>
     requires few { admitted config.now (acts past.now) < 2 ^ 32 }
+    requires written { WrittenStands config.now (acts past.now) }
     requires one { OnePieceWaits config.now (acts past.now) }
     ensures { IfOk result (λ may. may ≡ may_put config.now (acts past.now) place bytes.now) }
 {
@@ -616,6 +630,7 @@ fn may_go_on(
     act: &Act,
 ) -> Result<bool, NoMemory>
     requires few { admitted config.now (acts past.now) < 2 ^ 32 }
+    requires written { WrittenStands config.now (acts past.now) }
     requires one { OnePieceWaits config.now (acts past.now) }
     requires free { is_none (owed config.now (acts past.now)) ≡ true }
     requires kind { awaits_dump act.now ≡ true }
@@ -660,6 +675,7 @@ pub fn may_come(
 ) -> Result<bool, NoMemory>
     requires few { admitted config.now (acts past.now) < 2 ^ 32 }
     requires some { reads_some (acts past.now) ≡ true }
+    requires written { WrittenStands config.now (acts past.now) }
     requires one { OnePieceWaits config.now (acts past.now) }
     ensures { IfOk result (λ may. may ≡ may_come config.now limit (acts past.now) act.now) }
 {

@@ -109,7 +109,7 @@ fn before_escape(escape: Option<u8>, bytes: &[u8]) -> &[u8]
 }
 
 /// What is to be written of the bytes that a direction reads.
-pub fn due(alloc: Global, config: &Config, way: Way, bytes: &[u8]) -> Result<Vec<u8>, NoMemory>
+fn due(alloc: Global, config: &Config, way: Way, bytes: &[u8]) -> Result<Vec<u8>, NoMemory>
     ensures { IfOk result (λ owed. owed.items ≡ due config.now way bytes.now) }
 {
     let reading = options_of(config, input(config, 0, way));
@@ -141,6 +141,27 @@ fn due_length(
             let owed = due(alloc, config, way, read.as_slice())?;
             Ok(owed.len())
         }
+    }
+}
+
+/// What is to be written of all that was read, which is just that where none is converted or left out.
+pub fn due_after(
+    alloc: Global,
+    config: &Config,
+    past: &[&Act],
+    session: u32,
+    way: Way,
+) -> Result<Vec<u8>, NoMemory>
+    ensures { IfOk result (λ owed. owed.items ≡ due config.now way (got (acts past.now) (input config.now session way))) }
+{
+    let read = got(alloc, past, input(config, session, way))?;
+    let reading = options_of(config, input(config, 0, way));
+    let writing = options_of(config, output(config, 0, way));
+    let convs = (reading.conv, writing.conv);
+    let ends = (reading.readbytes, reading.escape);
+    match (convs, ends) {
+        ((Conv::Plain, Conv::Plain), (None, None)) => Ok(read),
+        _ => due(alloc, config, way, read.as_slice()),
     }
 }
 
