@@ -1,6 +1,6 @@
 #!/usr/bin/env bash
 # Runs the built auditor on the journals of tests/data/journals.txt, which were judged by other means, on those of
-# tests/data/journals_by_hand.txt, on one of 2,000 acts, and on files that are missing, empty, cut or too long. One line
+# tests/data/journals_by_hand.txt, on two of 2,000 acts, and on files that are missing, empty, cut or too long. One line
 # a case that fails, and 'N passed, M failed' at the end; the status is 1 where a case failed.
 # Usage: tests/audit.sh [PROGRAM]      (bin/socat-audit where none is given)
 set -u
@@ -33,7 +33,7 @@ status_of() {
 # run_cases FILE: each case of the file in tests/data: a line 'words', a line 'verdict', a line 'lines' with their
 # number, and the journal's text, without its last newline where 'unfinished' follows the number.
 run_cases() {
-    local file="$1" number=0 key rest words='' verdict='' count unfinished i line
+    local file="$1" number=0 wanted key rest words='' verdict='' count unfinished i line
     while IFS=' ' read -r key rest; do
         case "$key" in
             words) words="$rest" ;;
@@ -51,16 +51,19 @@ run_cases() {
                         printf '%s\n' "$line"
                     fi
                 done >"$scratch/journal"
-                # The words have no spaces or quotes of their own.
+                # The words have no spaces or quotes of their own; a * in one stands for itself.
+                set -f
                 # shellcheck disable=SC2086
                 expect "$file, case $number ($words)" "$verdict" "$(status_of "$verdict")" "$scratch/journal" $words
+                set +f
                 ;;
         esac
     done <"$here/tests/data/$file"
     echo "$number journals of $file"
-    if [ "$number" -eq 0 ]; then
+    wanted="$(grep -c '^verdict ' "$here/tests/data/$file")"
+    if [ "$number" -eq 0 ] || [ "$number" -ne "$wanted" ]; then
         failed=$((failed + 1))
-        echo "FAILED  $file has no case"
+        echo "FAILED  $number cases of $file were run, of $wanted"
     fi
 }
 
@@ -85,25 +88,41 @@ two_thousand_acts() {
     done
 }
 
-# A journal of 2,000 acts is judged within 5 seconds.
+# The journal of a run of 2,000 acts between two places of datagrams: 999 packets of 512 bytes are passed on.
+two_thousand_packets() {
+    local piece i
+    piece="$(printf '5a%.0s' {1..512})"
+    printf 'opened 0LI-\nopened 0RO-\n'
+    for ((i = 0; i < 999; i++)); do
+        printf 'read 0LI- x%s\nwrote 0RO- x%s\n' "$piece" "$piece"
+    done
+}
+
+# run_long_journal NAME LINE FILE WORDS..: the auditor says this line of a journal of 2,000 acts within 5 seconds.
 run_long_journal() {
-    local said begun ended
-    two_thousand_acts >"$scratch/many"
+    local name="$1" line="$2" file="$3" said begun ended
+    shift 3
     begun="$(date +%s%N)"
-    said="$(timeout 5 "$program" "$scratch/many" -u TCP-LISTEN:80,fork,max-children=10,stop-after=10 CREATE:f)"
+    said="$(timeout 5 "$program" "$file" "$@")"
     ended="$(date +%s%N)"
-    if [ "$said" = 'yes: 2000 acts, 0 held' ]; then
+    if [ "$said" = "$line" ]; then
         passed=$((passed + 1))
-        echo "2000 acts in $(((ended - begun) / 1000000)) ms"
+        echo "$name in $(((ended - begun) / 1000000)) ms"
     else
         failed=$((failed + 1))
-        echo "FAILED  2000 acts: '$said' after $(((ended - begun) / 1000000)) ms"
+        echo "FAILED  $name: '$said' after $(((ended - begun) / 1000000)) ms"
     fi
 }
 
 run_cases journals.txt
 run_cases journals_by_hand.txt
-run_long_journal
+
+two_thousand_acts >"$scratch/many"
+run_long_journal "2000 acts" 'yes: 2000 acts, 0 held' "$scratch/many" \
+    -u TCP-LISTEN:80,fork,max-children=10,stop-after=10 CREATE:f
+two_thousand_packets >"$scratch/packets"
+run_long_journal "2000 acts with packets" 'yes: 2000 acts, 2 held' "$scratch/packets" \
+    -u UDP-RECV:9 UDP-SENDTO:127.0.0.1:9
 
 : >"$scratch/empty"
 printf 'opened 0LI-\nopened 0RO' >"$scratch/cut"
