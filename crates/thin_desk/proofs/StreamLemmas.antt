@@ -1,14 +1,10 @@
--- What was read and written, over an act that moves no bytes, and where all of it was at one place.
-use Rattle.std.proofs.Common.{◌≡◌, ℕ, Bool, List, [], ◌∷◌, ◌++◌, Option, None, Some, true, false, is_some, option_map, ap, refl}
+-- What was read and written, over an act that moves no bytes.
+use Rattle.std.proofs.Common.{◌≡◌, ℕ, List, ◌∷◌, Option, None, Some, true, false, is_some, option_map, refl}
 use Rattle.relay_model.specs.declared.acts.Act.{Act}
 use Rattle.relay_model.specs.declared.acts.Act.TheVariants.{Read, Wrote}
-use Rattle.relay_model.specs.declared.places.Place.{Place}
-use Rattle.relay_model.specs.History.{got, put}
-use Rattle.relay_model.specs.Choices.{joined}
-use Rattle.relay_model.specs.Places.{same_place}
 use Rattle.relay_model.specs.Journals.{History, Asking}
 use Rattle.world_trait.specs.Recordings.{with_act, with_asking}
-use Rattle.thin_desk.specs.Streams.{bytes_read, bytes_written, moves_nothing, ReadSince, WrittenSince, ReadsOnlyAt, WritesOnlyAt}
+use Rattle.thin_desk.specs.Streams.{bytes_read, bytes_written, moves_nothing, ReadSince, WrittenSince}
 
 read_stays : (act : Act) (past : List Act) → moves_nothing act ≡ true → bytes_read (act ∷ past) ≡ bytes_read past
 read_stays (Read place bytes) past still = cc
@@ -40,19 +36,3 @@ written-with_asking held holds (Some history) told' act asking e still since = r
 pub tells_nothing : (f : History → History) (told : Option History) → is_some told ≡ false → told ≡ option_map f told
 tells_nothing f None none = refl
 tells_nothing f (Some history) none = absurd (let e : true ≡ false = none in cc)
-
-at_place : (b : Bool) (all own bytes : List ℕ) → b ≡ true → all ≡ own → all ++ bytes ≡ joined b own bytes
-at_place true all own bytes here same = ap (λ xs. xs ++ bytes) same
-at_place false all own bytes here same = absurd (let e : false ≡ true = here in cc)
-
--- where all reads are at one place, they are that place's
-pub bytes_read-got : (acts : List Act) (p : Place) → ReadsOnlyAt p acts → bytes_read acts ≡ got acts p
-bytes_read-got [] p only = refl
-bytes_read-got (Read place bytes ∷ past) p only = at_place (same_place place p) (bytes_read past) (got past p) bytes only.0 (bytes_read-got past p only.1)
-bytes_read-got (act ∷ past) p only = bytes_read-got past p only
-
--- where all writes are at one place, they are that place's
-pub bytes_written-put : (acts : List Act) (p : Place) → WritesOnlyAt p acts → bytes_written acts ≡ put acts p
-bytes_written-put [] p only = refl
-bytes_written-put (Wrote place bytes ∷ past) p only = at_place (same_place place p) (bytes_written past) (put past p) bytes only.0 (bytes_written-put past p only.1)
-bytes_written-put (act ∷ past) p only = bytes_written-put past p only

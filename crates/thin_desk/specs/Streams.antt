@@ -5,8 +5,6 @@ use Rattle.std.specs.Coded.{Coded-set, coded_list, coded_ℕ}
 use Rattle.std.specs.Io.KnownBytes.{Consumes, Appends}
 use Rattle.relay_model.specs.declared.acts.Act.{Act}
 use Rattle.relay_model.specs.declared.acts.Act.TheVariants.{Read, Wrote}
-use Rattle.relay_model.specs.declared.places.Place.{Place}
-use Rattle.relay_model.specs.Places.{same_place}
 use Rattle.relay_model.specs.Journals.{History}
 
 -- the bytes of all reads, the oldest first
@@ -59,15 +57,3 @@ moves_nothing act = true
 abbrev pub Tells : Option Act → Option History → Option History → Type 0
 Tells None told told' = told' ≡ told
 Tells (Some act) told told' = told' ≡ option_map (with_act act) told
-
--- every told read is at this place
-abbrev pub ReadsOnlyAt : Place → List Act → Type 0
-ReadsOnlyAt p [] = ⊤
-ReadsOnlyAt p (Read place bytes ∷ past) = (same_place place p ≡ true) × ReadsOnlyAt p past
-ReadsOnlyAt p (act ∷ past) = ReadsOnlyAt p past
-
--- every told write is at this place
-abbrev pub WritesOnlyAt : Place → List Act → Type 0
-WritesOnlyAt p [] = ⊤
-WritesOnlyAt p (Wrote place bytes ∷ past) = (same_place place p ≡ true) × WritesOnlyAt p past
-WritesOnlyAt p (act ∷ past) = WritesOnlyAt p past

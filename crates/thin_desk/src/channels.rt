@@ -1,5 +1,5 @@
 // A reader and a writer beside the recording of what they gave and took.
-ghost use Rattle.std.specs.Prelude.{◌≡◌, ◌≤◌, ◌<◌, ◌+◌, [], ℕ, List, Option, None, Some, true, false, is_some, length, take, OnOk, OnErr, IfSome, IfNone, IsTrue, MatchOption, option_map};
+ghost use Rattle.std.specs.Prelude.{◌≡◌, ◌≤◌, ◌<◌, ◌+◌, [], ℕ, List, Option, None, Some, true, false, is_some, length, take, OnOk, OnErr, IfOk, IfSome, IfNone, IsTrue, MatchOption, option_map};
 ghost use Rattle.std.specs.Io.KnownBytes.{Keeps, Appends, Consumes};
 ghost use Rattle.relay_model.specs.Readiness.{copied_list};
 ghost use Rattle.world_trait.specs.Recordings.{HasRoom, HasAskingRoom, KeepsNothing, told_by, with_act, with_asking};
@@ -204,16 +204,31 @@ impl<R: Read + Drop, K: Write + Drop, S: Start> Channels<R, K, S> {
         Ok(())
     }
 
-    /// Appends an act that moves no bytes, and what was asked.
-    pub fn note_asking(&mut self, act: Act, place: Place, single: Single)
+    /// A copy of what is asked, where that is kept.
+    pub fn copied_asking(&self, single: &Single) -> Result<Option<Single>, NoMemory>
+        ensures ok { IfOk result (λ copy. MatchOption copy (self.now.recording.told ≡ None) (λ kept. kept ≡ single.now)) }
+        ensures lacked { OnErr result (is_some self.now.recording.told ≡ true) }
+    {
+        if self.recording.keeps() {
+            return Ok(Some(single.copy()?));
+        }
+        Ok(None)
+    }
+
+    /// Appends an act that moves no bytes, and what was asked, by the copy that was made of it.
+    pub fn note_asking(&mut self, act: Act, place: Place, _single: &Single, copied: Option<Single>)
         requires room { HasRoom 1 self.old.recording }
         requires asking_room { HasAskingRoom 1 self.old.recording }
         requires still { moves_nothing act ≡ true }
-        ensures told { self.new.recording.told ≡ option_map (with_asking act (place, single)) self.old.recording.told }
+        requires copied { MatchOption copied (self.old.recording.told ≡ None) (λ copy. copy ≡ _single.now) }
+        ensures told { self.new.recording.told ≡ option_map (with_asking act (place, _single.now)) self.old.recording.told }
         ensures keeps { is_some self.new.recording.told ≡ is_some self.old.recording.told }
         ensures room { self.old.recording.room ≤ self.new.recording.room + 1 }
     {
-        self.recording.put_asking(act, place, single);
+        let Some(copy) = copied else {
+            return;
+        };
+        self.recording.put_asking(act, place, copy);
     }
 
     /// Flushes the writer; whether it could.

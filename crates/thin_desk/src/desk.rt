@@ -212,13 +212,13 @@ impl<R: Read + Drop, K: Write + Drop, E: Write + Drop, S: Start> World for ThinD
     }
 
     fn open_place(&mut self, place: Place, single: &Single, _behind: Option<Peer>) -> OpenAnswer {
-        let Ok(asked) = single.copy() else {
-            return OpenAnswer::Memory;
-        };
         let Ok(()) = self.channels.reserve(self.held.len() + 2) else {
             return OpenAnswer::Memory;
         };
         let Ok(()) = self.channels.reserve_asking() else {
+            return OpenAnswer::Memory;
+        };
+        let Ok(asked) = self.channels.copied_asking(single) else {
             return OpenAnswer::Memory;
         };
         let Ok(()) = self.held.reserve(1) else {
@@ -227,14 +227,15 @@ impl<R: Read + Drop, K: Write + Drop, E: Write + Drop, S: Start> World for ThinD
         let Some(stream) = stream_of(single) else {
             self.faults = self.faults.saturating_add(1);
             self.channels
-                .note_asking(Act::OpenFailed(place), place, asked);
+                .note_asking(Act::OpenFailed(place), place, single, asked);
             return OpenAnswer::Failed;
         };
         let Ok(()) = self.stations.push(Station { place, stream }) else {
             return OpenAnswer::Memory;
         };
         self.held.add(place, Standing::Open);
-        self.channels.note_asking(Act::Opened(place), place, asked);
+        self.channels
+            .note_asking(Act::Opened(place), place, single, asked);
         OpenAnswer::Opened
     }
 
@@ -251,18 +252,18 @@ impl<R: Read + Drop, K: Write + Drop, E: Write + Drop, S: Start> World for ThinD
 
     /// Fails: there is nothing to listen at.
     fn listen(&mut self, door: Place, single: &Single) -> ListenAnswer {
-        let Ok(asked) = single.copy() else {
-            return ListenAnswer::Memory;
-        };
         let Ok(()) = self.channels.reserve(self.held.len() + 1) else {
             return ListenAnswer::Memory;
         };
         let Ok(()) = self.channels.reserve_asking() else {
             return ListenAnswer::Memory;
         };
+        let Ok(asked) = self.channels.copied_asking(single) else {
+            return ListenAnswer::Memory;
+        };
         self.faults = self.faults.saturating_add(1);
         self.channels
-            .note_asking(Act::ListenFailed(door), door, asked);
+            .note_asking(Act::ListenFailed(door), door, single, asked);
         ListenAnswer::Failed
     }
 

@@ -7,8 +7,6 @@ use Rattle.thin_desk.proofs.desk.ThinDeskWorld.listen.Goals as goal
 
 pub returns-clause-act : goal.returns-clause-act
 returns-clause-act g c = record {
-  told = (let single_is = ap (λ s. option_map (with_asking (ListenFailed c.args.door) (c.args.door, s)) c.args.self.now.channels.recording.told) c.in-Ok.ensures in
-      let before = ap (option_map (with_asking (ListenFailed c.args.door) (c.args.door, c.in-Ok.asked))) (c.reserve_asking.ensures.told ∙ c.reserve.ensures.told) in
-      c.note_asking.ensures.told ∙ before ∙ single_is);
+  told = c.note_asking.ensures.told ∙ ap (option_map (with_asking (ListenFailed c.args.door) (c.args.door, c.args.single.now))) (c.reserve_asking.ensures.told ∙ c.reserve.ensures.told);
   held = free_stays (lookup c.args.self.now.held.entries) c.args.door c.requires;
 }

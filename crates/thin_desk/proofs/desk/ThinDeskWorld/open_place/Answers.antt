@@ -7,8 +7,6 @@ use Rattle.thin_desk.proofs.desk.ThinDeskWorld.open_place.Goals as goal
 
 pub returns-in_default-stream_of-clause-act : goal.returns-in_default-stream_of-clause-act
 returns-in_default-stream_of-clause-act g c = record {
-  told = (let single_is = ap (λ s. option_map (with_asking (OpenFailed c.args.place) (c.args.place, s)) c.args.self.now.channels.recording.told) c.in-Ok.ensures in
-      let before = ap (option_map (with_asking (OpenFailed c.args.place) (c.args.place, c.in-Ok.asked))) (c.reserve_asking.ensures.told ∙ c.reserve.ensures.told) in
-      c.note_asking.ensures.told ∙ before ∙ single_is);
+  told = c.note_asking.ensures.told ∙ ap (option_map (with_asking (OpenFailed c.args.place) (c.args.place, c.args.single.now))) (c.reserve_asking.ensures.told ∙ c.reserve.ensures.told);
   held = rw c.reserve-2.ensures.entries (free_stays (lookup c.args.self.now.held.entries) c.args.place c.requires);
 }
