@@ -11,4 +11,4 @@ mod runs;
 mod tests;
 
 pub use calls::{program, socat};
-pub use runs::{Thin, run, run_program};
+pub use runs::{Thin, run, run_kept, run_program};

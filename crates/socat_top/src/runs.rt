@@ -1,5 +1,5 @@
 // The run of a list of words over two plain streams.
-ghost use Rattle.std.specs.Prelude.{◌≡◌, true, Some};
+ghost use Rattle.std.specs.Prelude.{◌≡◌, ℕ, List, [], true, Some};
 ghost use Rattle.relay_model.specs.declared.places.Place.{Place as Spot};
 ghost use Rattle.relay_model.specs.Holding.{Free};
 ghost use Rattle.relay_model.specs.Journals.{History};
@@ -16,8 +16,9 @@ use exit_status::{Outcome, status};
 use relay_model::Text;
 use std::alloc::Global;
 use std::io::{Read, Write};
+use std::marker::Brand;
 use thin_desk::{Done, Start, ThinDesk};
-use world_trait::World;
+use world_trait::{Recorder, World};
 
 /// How a run over two plain streams ended: its outcome, the exit status of it, and what the desk left.
 #[derive(Drop)]
@@ -77,4 +78,45 @@ pub fn run_program<R: Read + Drop, K: Write + Drop, E: Write + Drop, S: Start>(
         status: status(&outcome),
         done: desk.finish(),
     }
+}
+
+/// Does what the words ask between these streams, with at most `turns` waits, and keeps its history: it is legal,
+/// what the reader had is what the kept reads gave and then what it has left, and what the writer holds is what it
+/// held and then what the kept writes took.
+pub fn run_kept<R: Read + Drop, K: Write + Drop, E: Write + Drop>(
+    alloc: Global,
+    reader: R,
+    writer: K,
+    errors: E,
+    words: &[Text],
+    turns: u64,
+) -> Thin<R, K, E>
+    ensures status { result.status ≡ exit_code result.outcome }
+    ensures headline { Leaves (task words.now) turns (record { acts = []; asked = [] }) (Some (history_of result.done.kept)) result.outcome }
+    ensures answers { Answers (task words.now) result.outcome }
+    ensures reads { ReadSince (R.remaining reader) (Some (history_of result.done.kept)) (R.remaining result.done.reader) }
+    ensures writes { WrittenSince (K.contents writer) (Some (history_of result.done.kept)) (K.contents result.done.writer) }
+{
+    begin_and_run::<R, K, E, Brand>(alloc, reader, writer, errors, words, turns)
+}
+
+/// The same, where a reader and a writer of the start `S` are handed in.
+fn begin_and_run<R: Read + Drop, K: Write + Drop, E: Write + Drop, S: Start>(
+    alloc: Global,
+    reader: R,
+    writer: K,
+    errors: E,
+    words: &[Text],
+    turns: u64,
+) -> Thin<R, K, E>
+    requires input { (xs : List ℕ) → S.input ≡ Some xs → R.remaining reader ≡ Some xs }
+    requires output { (xs : List ℕ) → S.output ≡ Some xs → K.contents writer ≡ Some xs }
+    ensures status { result.status ≡ exit_code result.outcome }
+    ensures headline { Leaves (task words.now) turns (record { acts = []; asked = [] }) (Some (history_of result.done.kept)) result.outcome }
+    ensures answers { Answers (task words.now) result.outcome }
+    ensures reads { ReadSince S.input (Some (history_of result.done.kept)) (R.remaining result.done.reader) }
+    ensures writes { WrittenSince S.output (Some (history_of result.done.kept)) (K.contents result.done.writer) }
+{
+    let desk = ThinDesk::<R, K, E, S>::new(alloc, reader, writer, errors, Recorder::Keep);
+    run(alloc, desk, words, turns)
 }
