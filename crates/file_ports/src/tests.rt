@@ -1,6 +1,8 @@
 use super::*;
 use port_objects::{MemSink, MemSource, SureSpawner};
-use port_trait::{Begun, Got, Joining, Making, Port, Shutting, Took, Wake};
+use port_trait::{
+    Begun, Got, Hint, Joining, Making, Port, PortReap, Settled, Shutting, Took, Wake,
+};
 use relay_model::{Bytes, NoMemory, Options, Part, Shut, Single, Target, Text};
 use std::alloc::{AllocError, Global};
 use std::process::Command;
@@ -51,11 +53,31 @@ fn read_on<R: Wait>(
 fn a_pipe_gives_back_what_it_took(rt: HostRuntime) -> Result<(), Fail> {
     let mut port = EchoPort::new(rt.alloc(), 3)?;
     let mut into = [0u8; 2];
+    assert_eq!(rt; port.begin(), Begun::Begun);
+    assert_eq!(rt; port.settle(), Settled::Ready);
+    assert!(rt; port.may_hint());
+    assert_eq!(rt; port.reap(), PortReap::NoChild);
+    assert_eq!(rt; port.send(b"a"), Took::Failed);
+    assert_eq!(rt;
+        port.hint(),
+        Hint {
+            readable: false,
+            writable: true
+        }
+    );
     assert_eq!(rt; port.read(&mut into), Got::NotYet);
     assert_eq!(rt; port.write(b"abcd"), Took::Took(3));
     assert_eq!(rt; port.write(b"d"), Took::NotYet);
+    assert_eq!(rt;
+        port.hint(),
+        Hint {
+            readable: true,
+            writable: false
+        }
+    );
     assert_eq!(rt; port.read(&mut into), Got::Bytes(2));
     assert_eq!(rt; into.as_slice(), b"ab".as_slice());
+    assert_eq!(rt; port.join(), Joining::Joined);
     Ok(())
 }
 
@@ -187,6 +209,33 @@ fn a_named_pipe_is_opened_by_its_thread(rt: HostRuntime) -> Result<(), Fail> {
 }
 
 #[test]
+fn a_named_pipe_is_written_by_its_thread(rt: HostRuntime) -> Result<(), Fail> {
+    let made = Command::new(rt.alloc(), "mkfifo")?
+        .arg("channel")?
+        .status(&rt)?;
+    assert!(rt; made.success());
+    let name = Text::of(rt.alloc(), b"channel")?;
+    let single = plain(rt.alloc(), Target::NamedPipe(name))?;
+    let OpenedFile { ends, removal } = opened(open_file(rt, rt.alloc(), &single, Part::Reading))?;
+    let mut spawner = SureSpawner::new(rt);
+    let made = file_port(rt.alloc(), ends, &mut spawner, no_wakes(), removal)?;
+    let mut reader: Box<dyn Port> = Box::new(rt.alloc(), made)?;
+    assert_eq!(rt; reader.begin(), Begun::Begun);
+    let OpenedFile { ends, removal } = opened(open_file(rt, rt.alloc(), &single, Part::Writing))?;
+    let mut spawner = SureSpawner::new(rt);
+    let mut writer = file_port(rt.alloc(), ends, &mut spawner, no_wakes(), removal)?;
+    write_all(&mut writer, b"hello")?;
+    // the pipe ends where nobody has it open for writing
+    drop(writer);
+    let (all, got) = read_on(&rt, rt.alloc(), &mut reader)?;
+    assert_eq!(rt; got, Got::End);
+    assert_eq!(rt; all.as_slice(), b"hello".as_slice());
+    assert_eq!(rt; reader.join(), Joining::Joined);
+    fs::remove_file(&rt, "channel")?;
+    Ok(())
+}
+
+#[test]
 fn what_is_not_there_is_not_opened(rt: HostRuntime) -> Result<(), Fail> {
     let name = Text::of(rt.alloc(), b"missing")?;
     let single = plain(rt.alloc(), Target::FileAt(name))?;
@@ -217,6 +266,10 @@ fn a_file_in_memory_is_used_both_ways(rt: HostRuntime) -> Result<(), Fail> {
     let made = file_port(rt.alloc(), ends, &mut SureSpawner::new(rt), no_wakes(), ())?;
     let mut port: Box<dyn Port> = Box::new(rt.alloc(), made)?;
     assert_eq!(rt; port.begin(), Begun::Begun);
+    assert_eq!(rt; port.settle(), Settled::Ready);
+    assert!(rt; port.may_hint());
+    assert!(rt; port.hint().writable);
+    assert_eq!(rt; port.reap(), PortReap::NoChild);
     assert_eq!(rt; port.write(b"xyz"), Took::Took(3));
     assert_eq!(rt; port.send(b"xyz"), Took::Failed);
     assert_eq!(rt; port.shut(Shut::Down), Shutting::Done);

@@ -4,7 +4,9 @@ ghost use Rattle.port_trait.specs.Streams.{SourceGives, source_failed, source_en
 
 use super::*;
 use port_objects::{ListSpawner, MemSink, MemSource, SureSpawner};
-use port_trait::{Begun, Got, Joining, Port, Shutting, Source, SourceGot, Took, Wake};
+use port_trait::{
+    Begun, Got, Joining, Port, PortReap, Settled, Shutting, Source, SourceGot, Took, Wake,
+};
 use relay_model::{Bytes, Shut};
 use std::alloc::{AllocError, Global};
 use std::sync::Wait;
@@ -135,7 +137,13 @@ fn a_reader_only_reads(rt: HostRuntime) -> Result<(), Fail> {
     let ring = RingReader::new(rt.alloc(), source, &mut SureSpawner::new(rt), Nobody)?;
     let mut port: Box<dyn Port> = Box::new(rt.alloc(), ring)?;
     assert_eq!(rt; port.begin(), Begun::Begun);
+    assert_eq!(rt; port.settle(), Settled::Ready);
     assert_eq!(rt; port.write(b"a"), Took::Failed);
+    assert_eq!(rt; port.send(b"a"), Took::Failed);
+    assert_eq!(rt; port.put_all(b"a"), Took::Failed);
+    assert_eq!(rt; port.reap(), PortReap::NoChild);
+    // no mark was taken yet
+    assert_eq!(rt; port.join(), Joining::Running);
     assert_eq!(rt; port.shut(Shut::Down), Shutting::Done);
     let (all, got) = read_on(&rt, rt.alloc(), &mut port)?;
     assert_eq!(rt; got, Got::End);
