@@ -5,7 +5,7 @@ ghost use Rattle.relay_model.specs.Holding.{Free};
 ghost use Rattle.world_trait.specs.Reads.{HasBytes};
 ghost use Rattle.world_trait.specs.Writes.{HasCount};
 
-use crate::socat;
+use crate::{program, socat};
 use exit_status::{EndWhy, Op, Outcome, status};
 use relay_model::{Act, Bytes, NoMemory, Part, Place, Shut, Side, Text, Texts, Why};
 use std::alloc::Global;
@@ -87,10 +87,10 @@ fn dripping(alloc: Global) -> Result<MemWorld, NoMemory>
     Ok(world)
 }
 
-/// The words of a line.
+/// The words of a line, which stand between single blanks.
 fn words_of(alloc: Global, line: &str) -> Result<Texts, NoMemory> {
     let mut words = Texts::new(alloc);
-    for word in line.split_whitespace() {
+    for word in line.split(' ') {
         words.push(Text::of(alloc, word.as_bytes())?)?;
     }
     Ok(words)
@@ -180,27 +180,63 @@ fn taken(alloc: Global, world: &MemWorld) -> Result<Vec<u8>, NoMemory> {
     Ok(all)
 }
 
-/// How a run ended, its acts, and what the right took.
+/// Whether an act is a shut, done or failed.
+fn has_shut(world: &MemWorld) -> bool {
+    let journal = world.journal();
+    for i in 0..journal.len() {
+        if matches!(journal.get(i), Act::Shut(_, _) | Act::ShutFault(_, _)) {
+            return true;
+        }
+    }
+    false
+}
+
+/// How a run ended, its acts, what the right took, and whether a place was shut.
 #[derive(Drop)]
 struct Ran {
     outcome: Outcome,
     acts: Vec<u8>,
     taken: Vec<u8>,
+    shut: bool,
+}
+
+fn ended(alloc: Global, world: &MemWorld, outcome: Outcome) -> Result<Ran, NoMemory> {
+    Ok(Ran {
+        outcome,
+        acts: acts_of(alloc, world)?,
+        taken: taken(alloc, world)?,
+        shut: has_shut(world),
+    })
 }
 
 /// Runs these words over the world.
-fn play(alloc: Global, mut world: MemWorld, line: &str, turns: u64) -> Result<Ran, NoMemory>
+fn play_words(
+    alloc: Global,
+    mut world: MemWorld,
+    words: &Texts,
+    turns: u64,
+) -> Result<Ran, NoMemory>
+    requires { (p : Spot) → ⟦<MemWorld as World>⟧.held world p ≡ Free }
+{
+    let outcome = socat(alloc, &mut world, words.as_slice(), turns);
+    ended(alloc, &world, outcome)
+}
+
+/// Runs the words of this line over the world.
+fn play(alloc: Global, world: MemWorld, line: &str, turns: u64) -> Result<Ran, NoMemory>
     requires { (p : Spot) → ⟦<MemWorld as World>⟧.held world p ≡ Free }
 {
     let words = words_of(alloc, line)?;
-    let outcome = socat(alloc, &mut world, words.as_slice(), turns);
-    let acts = acts_of(alloc, &world)?;
-    let taken = taken(alloc, &world)?;
-    Ok(Ran {
-        outcome,
-        acts,
-        taken,
-    })
+    play_words(alloc, world, &words, turns)
+}
+
+/// Runs the words of this line over the world, as words of the program.
+fn play_program(alloc: Global, mut world: MemWorld, line: &str) -> Result<Ran, NoMemory>
+    requires { (p : Spot) → ⟦<MemWorld as World>⟧.held world p ≡ Free }
+{
+    let words = words_of(alloc, line)?;
+    let outcome = program(alloc, &mut world, words.as_slice(), MANY);
+    ended(alloc, &world, outcome)
 }
 
 fn relays(alloc: Global, world: MemWorld, turns: u64) -> Result<Ran, NoMemory>
@@ -258,6 +294,7 @@ fn stops_after_its_turns(rt: HostRuntime) -> Result<(), Fail> {
             b"\nstopped left\nstopped right\nnoted socat: stopped after 3 turns\n"
         )
     );
+    assert!(rt; !ran.shut);
     Ok(())
 }
 
@@ -336,20 +373,81 @@ fn blames_the_right_opening(rt: HostRuntime) -> Result<(), Fail> {
     Ok(())
 }
 
-/// Words that open nothing, and the one act of each.
-const NOTED: [(&str, &str, u8); 6] = [
-    ("STDIO", "noted socat: E21: addresses want 2 have 1\n", 1),
+/// Words that open nothing, the one act of each, and its status.
+const NOTED: [(&str, &str, u8); 23] = [
+    (
+        "OPEN:x,,creat STDIO",
+        "noted socat: E07 word 1: empty option at 7\n",
+        1,
+    ),
+    (
+        "STDIO PTY",
+        "noted socat: E13 word 2 half 1: address kind left out\n",
+        1,
+    ),
     (
         "FOO STDIO",
         "noted socat: E12 word 1 half 1: unknown address kind\n",
         1,
     ),
+    (
+        "STDIO TCP:h",
+        "noted socat: E14 word 2 half 1: parameters want 2 have 1\n",
+        1,
+    ),
+    ("(a STDIO", "noted socat: E01 word 1: unclosed at 0\n", 1),
+    ("STDIO", "noted socat: E21: addresses want 2 have 1\n", 1),
     ("STDOUT STDERR", "noted socat: E22: no direction\n", 1),
+    ("-b0 - -", "noted socat: E20 word 1: bad flag value\n", 1),
+    ("-b", "noted socat: E19 word 1: flag without value\n", 1),
+    (
+        "-t 4000001 - -",
+        "noted socat: E20 word 1: bad flag value\n",
+        1,
+    ),
+    ("-z - -", "noted socat: E18 word 1: unknown flag\n", 1),
+    (" -", "noted socat: E05 word 1: empty address\n", 1),
+    (
+        "OPEN: -",
+        "noted socat: E15 word 1 half 1: bad parameter 1\n",
+        1,
+    ),
+    (
+        "TCP:h:65536 -",
+        "noted socat: E15 word 1 half 1: bad parameter 2\n",
+        1,
+    ),
+    (
+        "-,fork -",
+        "noted socat: E10 word 1 half 1: option 1 of another group\n",
+        1,
+    ),
+    (
+        "-g -,fork -",
+        "noted socat: E17 word 2 half 1: fork not here\n",
+        1,
+    ),
+    (
+        "-,escape=256 -",
+        "noted socat: E11 word 1 half 1: bad value of option 1\n",
+        1,
+    ),
+    (
+        "-,pty -",
+        "noted socat: E09 word 1 half 1: left-out option 1\n",
+        1,
+    ),
+    (
+        "-u STDOUT -",
+        "noted socat: E16 word 2 half 1: wrong use\n",
+        1,
+    ),
     (
         "-U STDIN STDOUT",
         "noted socat: E16 word 2 half 1: wrong use\n",
         1,
     ),
+    ("- - -", "noted socat: E21: addresses want 2 have 3\n", 1),
     ("-u STDIN,cr STDOUT", "noted socat: E23: not built\n", 1),
     ("-V", "noted socat relay, profile of 1.7\n", 0),
 ];
@@ -362,5 +460,56 @@ fn notes_what_opens_nothing(rt: HostRuntime) -> Result<(), Fail> {
         assert_eq!(rt; ran.acts.as_slice(), case.1.as_bytes());
         assert_eq!(rt; status(&ran.outcome), case.2);
     }
+    Ok(())
+}
+
+/// A word of this byte alone, and `-`.
+fn long_words(alloc: Global, byte: u8, length: usize) -> Result<Texts, NoMemory> {
+    let long = vec![in alloc; byte; length]?;
+    let mut words = Texts::new(alloc);
+    words.push(Text::of(alloc, &long)?)?;
+    words.push(Text::of(alloc, b"-")?)?;
+    Ok(words)
+}
+
+#[test]
+fn notes_long_words(rt: HostRuntime) -> Result<(), Fail> {
+    let alloc = rt.alloc();
+    let cases: [(u8, usize, &str); 2] = [
+        (b'a', 65_537, "noted socat: E03 word 1: address too long\n"),
+        (b'(', 65_536, "noted socat: E01 word 1: unclosed at 0\n"),
+    ];
+    for case in &cases {
+        let words = long_words(alloc, case.0, case.1)?;
+        let ran = play_words(alloc, empty(alloc), &words, MANY)?;
+        assert_eq!(rt; ran.acts.as_slice(), case.2.as_bytes());
+        assert_eq!(rt; status(&ran.outcome), 1);
+    }
+    Ok(())
+}
+
+#[test]
+fn the_program_relays(rt: HostRuntime) -> Result<(), Fail> {
+    let alloc = rt.alloc();
+    let world = giving(alloc, b"abc", ReadItem::End)?;
+    let ran = play_program(alloc, world, "-u STDIN STDOUT")?;
+    assert_eq!(rt; ran.outcome, Outcome::Ended(EndWhy::Finished));
+    assert_eq!(rt; ran.taken.as_slice(), b"abc".as_slice());
+    Ok(())
+}
+
+#[test]
+fn the_program_writes_no_journal_yet(rt: HostRuntime) -> Result<(), Fail> {
+    let alloc = rt.alloc();
+    let world = giving(alloc, b"abc", ReadItem::End)?;
+    let ran = play_program(alloc, world, "--journal=j -u STDIN STDOUT")?;
+    assert_eq!(rt;
+        ran.acts.as_slice(),
+        b"noted socat: E23: not built\n".as_slice()
+    );
+    assert_eq!(rt; status(&ran.outcome), 1);
+    let other = play_program(alloc, empty(alloc), "-u --journal=j STDIN STDOUT")?;
+    let line = b"noted socat: E18 word 2: unknown flag\n";
+    assert_eq!(rt; other.acts.as_slice(), line.as_slice());
     Ok(())
 }
