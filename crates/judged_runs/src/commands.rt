@@ -1,6 +1,6 @@
 // Commands of several kinds, run over a scripted world: how each ends, what its places took, and that the auditor finds
 // its history legal.
-ghost use Rattle.std.specs.Prelude.{◌≡◌};
+ghost use Rattle.std.specs.Prelude.{◌≡◌, ◌<◌, length, IfOk};
 ghost use Rattle.relay_model.specs.declared.places.Place.{Place as Spot};
 ghost use Rattle.relay_model.specs.Holding.{Free};
 ghost use Rattle.world_trait.specs.Reads.{HasBytes};
@@ -11,8 +11,11 @@ use cmd_words::{Command, command_of};
 use command_places::has_fork;
 use event_loop::relay;
 use exit_status::{EndWhy, Op, Outcome};
-use relay_audit::{Judgement, judge};
-use relay_model::{Act, Bytes, Dump, Journal, NoMemory, Part, Peer, Place, Side, Text, Texts};
+use journal_text::write_journal;
+use relay_audit::{Judgement, Verdict, audit, judge};
+use relay_model::{
+    Act, Bytes, Dump, Journal, NoMemory, Part, Peer, Place, Shut, Side, Text, Texts, Why,
+};
 use std::alloc::Global;
 use std::process::Abort;
 use std::test::Fail;
@@ -61,6 +64,42 @@ fn give(world: &mut MemWorld, place: Place, at: u64, item: ReadItem) -> Result<(
     world.add_read(place, at, item)
 }
 
+/// The same, of these bytes.
+fn give_bytes(
+    alloc: Global,
+    world: &mut MemWorld,
+    place: Place,
+    at: u64,
+    bytes: &[u8],
+) -> Result<(), NoMemory>
+    requires item { 0 < length bytes.now }
+    requires free { (p : Spot) → ⟦<MemWorld as World>⟧.held world.old p ≡ Free }
+    ensures free { (p : Spot) → ⟦<MemWorld as World>⟧.held world.new p ≡ Free }
+{
+    give(world, place, at, ReadItem::Bytes(Bytes::of(alloc, bytes)?))
+}
+
+/// What becomes of the next write at the place.
+fn take(world: &mut MemWorld, place: Place, item: WriteItem) -> Result<(), NoMemory>
+    requires item { HasCount item }
+    requires free { (p : Spot) → ⟦<MemWorld as World>⟧.held world.old p ≡ Free }
+    ensures free { (p : Spot) → ⟦<MemWorld as World>⟧.held world.new p ≡ Free }
+{
+    world.add_write(place, 0, item)
+}
+
+/// A peer comes to the door of the left at once.
+fn come(world: &mut MemWorld) -> Result<(), NoMemory>
+    requires free { (p : Spot) → ⟦<MemWorld as World>⟧.held world.old p ≡ Free }
+    ensures free { (p : Spot) → ⟦<MemWorld as World>⟧.held world.new p ≡ Free }
+{
+    let peer = Peer::V4 {
+        addr: [127, 0, 0, 1],
+        port: 4000,
+    };
+    world.add_peer(INPUT.own_door(), 0, PeerItem::Comes(peer))
+}
+
 fn words_of(alloc: Global, line: &str) -> Result<Texts, NoMemory> {
     let mut words = Texts::new(alloc);
     for word in line.split_whitespace() {
@@ -82,7 +121,53 @@ fn taken(alloc: Global, journal: &Journal, place: Place) -> Result<Vec<u8>, NoMe
     Ok(bytes)
 }
 
-/// The relay of these words over the world ends so, and its history is legal.
+/// The pieces that were written at the place are these.
+fn expect_pieces(
+    rt: &impl Abort,
+    alloc: Global,
+    journal: &Journal,
+    place: Place,
+    wanted: &[&[u8]],
+) -> Result<(), Fail> {
+    let mut pieces = Vec::new(alloc);
+    for i in 0..journal.len() {
+        if let Act::Wrote(at, piece) = journal.get(i)
+            && at.is(place)
+        {
+            pieces.push(piece.as_slice())?;
+        }
+    }
+    assert_eq!(rt; pieces.as_slice(), wanted);
+    Ok(())
+}
+
+/// When the end was passed on at the place, and how.
+fn passing(journal: &Journal, place: Place) -> Option<(u64, Shut)> {
+    let mut now = 0;
+    for i in 0..journal.len() {
+        match journal.get(i) {
+            Act::Turn { at, .. } => now = *at,
+            Act::Shut(at, shut) if at.is(place) => return Some((now, *shut)),
+            _ => {}
+        }
+    }
+    None
+}
+
+/// When the place was closed, and why.
+fn closing(journal: &Journal, place: Place) -> Option<(u64, Why)> {
+    let mut now = 0;
+    for i in 0..journal.len() {
+        match journal.get(i) {
+            Act::Turn { at, .. } => now = *at,
+            Act::Closed(at, why) if at.is(place) => return Some((now, *why)),
+            _ => {}
+        }
+    }
+    None
+}
+
+/// The relay of these words over the world ends so, and its history is legal, also as a text that is audited by itself.
 fn expect_end(
     rt: &impl Abort,
     alloc: Global,
@@ -103,6 +188,10 @@ fn expect_end(
     assert_eq!(rt; outcome, ending);
     let judged = judge(alloc, &config, world.journal(), 100)?;
     assert_eq!(rt; judged, Judgement::Legal { held: 0 });
+    let acts = world.journal().len() as u64;
+    let text = write_journal(alloc, world.journal())?;
+    let verdict = audit(alloc, text.as_slice(), words.as_slice(), 100)?;
+    assert_eq!(rt; verdict, Verdict::Yes { acts, held: 0 });
     Ok(())
 }
 
@@ -298,9 +387,66 @@ fn packets(rt: HostRuntime) -> Result<(), Fail> {
         "-T1 UDP:localhost:1 UDP:localhost:2",
         Outcome::Ended(EndWhy::Idle),
     )?;
-    let right = taken(alloc, world.journal(), RIGHT)?;
-    assert_eq!(rt; right.as_slice(), b"onetwo".as_slice());
+    expect_pieces(&rt, alloc, world.journal(), RIGHT, &[b"one", b"two"])
+}
+
+#[test]
+fn packets_converted(rt: HostRuntime) -> Result<(), Fail> {
+    let alloc = rt.alloc();
+    let mut world = empty(alloc);
+    come(&mut world)?;
+    give_bytes(alloc, &mut world, INPUT, 0, b"a\n")?;
+    give_bytes(alloc, &mut world, INPUT, 0, b"bc")?;
+    give(&mut world, INPUT, 0, ReadItem::Empty)?;
+    take(&mut world, OUTPUT, WriteItem::NotYet)?;
+    take(&mut world, OUTPUT, WriteItem::Upto(1))?;
+    expect_end(
+        &rt,
+        alloc,
+        &mut world,
+        "-u UDP-LISTEN:9000,null-eof UDP:127.0.0.1:9001,crnl,shut-null",
+        Outcome::Ended(EndWhy::Finished),
+    )?;
+    expect_pieces(&rt, alloc, world.journal(), OUTPUT, &[b"a\r\n", b"bc"])?;
+    assert_eq!(rt; passing(world.journal(), OUTPUT), Some((0, Shut::Null)));
     Ok(())
+}
+
+#[test]
+fn a_packet_of_which_nothing_is_left(rt: HostRuntime) -> Result<(), Fail> {
+    let alloc = rt.alloc();
+    let mut world = empty(alloc);
+    come(&mut world)?;
+    give_bytes(alloc, &mut world, INPUT, 0, b"\r")?;
+    give_bytes(alloc, &mut world, INPUT, 0, b"a")?;
+    give(&mut world, INPUT, 0, ReadItem::Empty)?;
+    expect_end(
+        &rt,
+        alloc,
+        &mut world,
+        "-u UDP-LISTEN:9000,crnl,null-eof UDP:127.0.0.1:9001",
+        Outcome::Ended(EndWhy::Finished),
+    )?;
+    expect_pieces(&rt, alloc, world.journal(), OUTPUT, &[b"a"])?;
+    assert_eq!(rt; passing(world.journal(), OUTPUT), Some((0, Shut::Nothing)));
+    Ok(())
+}
+
+#[test]
+fn a_packet_longer_than_a_block(rt: HostRuntime) -> Result<(), Fail> {
+    let alloc = rt.alloc();
+    let mut world = empty(alloc);
+    come(&mut world)?;
+    give_bytes(alloc, &mut world, INPUT, 0, b"abcdefgh")?;
+    give(&mut world, INPUT, 0, ReadItem::Empty)?;
+    expect_end(
+        &rt,
+        alloc,
+        &mut world,
+        "-b4 -u UDP-LISTEN:9000,null-eof UDP:127.0.0.1:9001",
+        Outcome::Ended(EndWhy::Finished),
+    )?;
+    expect_pieces(&rt, alloc, world.journal(), OUTPUT, &[b"abcd", b"efgh"])
 }
 
 #[test]
@@ -322,5 +468,113 @@ fn a_fault_that_breaks_one_direction(rt: HostRuntime) -> Result<(), Fail> {
     expect_end(&rt, alloc, &mut world, "-s STDIO TCP:localhost:80", ending)?;
     let left = taken(alloc, world.journal(), LEFT)?;
     assert_eq!(rt; left.as_slice(), b"late".as_slice());
+    Ok(())
+}
+
+// The right fails at 10, and the left goes on until its end.
+fn broken_right(alloc: Global) -> Result<MemWorld, NoMemory>
+    ensures { IfOk result (λ world. (p : Spot) → ⟦<MemWorld as World>⟧.held world p ≡ Free) }
+{
+    let mut world = empty(alloc);
+    give_bytes(alloc, &mut world, LEFT, 0, b"a")?;
+    give_bytes(alloc, &mut world, LEFT, 20, b"b")?;
+    give(&mut world, LEFT, 30, ReadItem::End)?;
+    give(&mut world, RIGHT, 10, ReadItem::Fault)?;
+    Ok(world)
+}
+
+const RIGHT_UNREAD: Outcome = Outcome::Faulted {
+    place: RIGHT,
+    op: Op::Reading,
+};
+
+#[test]
+fn the_other_direction_goes_on(rt: HostRuntime) -> Result<(), Fail> {
+    let alloc = rt.alloc();
+    let mut world = broken_right(alloc)?;
+    let words = "-s STDIO TCP:localhost:80";
+    expect_end(&rt, alloc, &mut world, words, RIGHT_UNREAD)?;
+    expect_pieces(&rt, alloc, world.journal(), RIGHT, &[b"a", b"b"])?;
+    assert_eq!(rt; passing(world.journal(), RIGHT), Some((30, Shut::Down)));
+    assert_eq!(rt; closing(world.journal(), LEFT), Some((30, Why::Faulted)));
+    assert_eq!(rt; closing(world.journal(), RIGHT), Some((30, Why::Faulted)));
+    Ok(())
+}
+
+#[test]
+fn a_fault_ends_all(rt: HostRuntime) -> Result<(), Fail> {
+    let alloc = rt.alloc();
+    let mut world = broken_right(alloc)?;
+    let words = "STDIO TCP:localhost:80";
+    expect_end(&rt, alloc, &mut world, words, RIGHT_UNREAD)?;
+    expect_pieces(&rt, alloc, world.journal(), RIGHT, &[b"a"])?;
+    assert_eq!(rt; passing(world.journal(), RIGHT), None);
+    assert_eq!(rt; closing(world.journal(), LEFT), Some((10, Why::Faulted)));
+    assert_eq!(rt; closing(world.journal(), RIGHT), Some((10, Why::Faulted)));
+    Ok(())
+}
+
+#[test]
+fn the_closing_time_after_a_fault(rt: HostRuntime) -> Result<(), Fail> {
+    let alloc = rt.alloc();
+    let mut world = empty(alloc);
+    give(&mut world, RIGHT, 10, ReadItem::Fault)?;
+    let words = "-s -t1 STDIO TCP:localhost:80";
+    expect_end(&rt, alloc, &mut world, words, RIGHT_UNREAD)?;
+    assert_eq!(rt; passing(world.journal(), LEFT), None);
+    assert_eq!(rt; passing(world.journal(), RIGHT), None);
+    assert_eq!(rt;
+        closing(world.journal(), LEFT),
+        Some((1010, Why::ClosingTime))
+    );
+    assert_eq!(rt;
+        closing(world.journal(), RIGHT),
+        Some((1010, Why::ClosingTime))
+    );
+    Ok(())
+}
+
+// One byte a write, and no room after each.
+#[test]
+fn small_writes(rt: HostRuntime) -> Result<(), Fail> {
+    let alloc = rt.alloc();
+    let mut world = empty(alloc);
+    give_bytes(alloc, &mut world, INPUT, 0, b"abcdefgh")?;
+    give(&mut world, INPUT, 0, ReadItem::End)?;
+    for _ in 0..8 {
+        take(&mut world, OUTPUT, WriteItem::Upto(1))?;
+        take(&mut world, OUTPUT, WriteItem::NotYet)?;
+    }
+    let ending = Outcome::Ended(EndWhy::Finished);
+    expect_end(&rt, alloc, &mut world, "-b4 -u STDIN STDOUT", ending)?;
+    let wanted: &[&[u8]] = &[b"a", b"b", b"c", b"d", b"e", b"f", b"g", b"h"];
+    expect_pieces(&rt, alloc, world.journal(), OUTPUT, wanted)
+}
+
+// The closing time counts from the left's end, however much the right still gives.
+#[test]
+fn too_late_for_the_closing_time(rt: HostRuntime) -> Result<(), Fail> {
+    let alloc = rt.alloc();
+    let mut world = empty(alloc);
+    give(&mut world, LEFT, 0, ReadItem::End)?;
+    give_bytes(alloc, &mut world, RIGHT, 499, b"r")?;
+    give_bytes(alloc, &mut world, RIGHT, 500, b"s")?;
+    expect_end(
+        &rt,
+        alloc,
+        &mut world,
+        "STDIO TCP:localhost:80",
+        Outcome::Ended(EndWhy::ClosingTime),
+    )?;
+    expect_pieces(&rt, alloc, world.journal(), LEFT, &[b"r"])?;
+    assert_eq!(rt; passing(world.journal(), RIGHT), Some((0, Shut::Down)));
+    assert_eq!(rt;
+        closing(world.journal(), LEFT),
+        Some((500, Why::ClosingTime))
+    );
+    assert_eq!(rt;
+        closing(world.journal(), RIGHT),
+        Some((500, Why::ClosingTime))
+    );
     Ok(())
 }
