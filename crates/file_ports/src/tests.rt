@@ -209,33 +209,6 @@ fn a_named_pipe_is_opened_by_its_thread(rt: HostRuntime) -> Result<(), Fail> {
 }
 
 #[test]
-fn a_named_pipe_is_written_by_its_thread(rt: HostRuntime) -> Result<(), Fail> {
-    let made = Command::new(rt.alloc(), "mkfifo")?
-        .arg("channel")?
-        .status(&rt)?;
-    assert!(rt; made.success());
-    let name = Text::of(rt.alloc(), b"channel")?;
-    let single = plain(rt.alloc(), Target::NamedPipe(name))?;
-    let OpenedFile { ends, removal } = opened(open_file(rt, rt.alloc(), &single, Part::Reading))?;
-    let mut spawner = SureSpawner::new(rt);
-    let made = file_port(rt.alloc(), ends, &mut spawner, no_wakes(), removal)?;
-    let mut reader: Box<dyn Port> = Box::new(rt.alloc(), made)?;
-    assert_eq!(rt; reader.begin(), Begun::Begun);
-    let OpenedFile { ends, removal } = opened(open_file(rt, rt.alloc(), &single, Part::Writing))?;
-    let mut spawner = SureSpawner::new(rt);
-    let mut writer = file_port(rt.alloc(), ends, &mut spawner, no_wakes(), removal)?;
-    write_all(&mut writer, b"hello")?;
-    // the pipe ends where nobody has it open for writing
-    drop(writer);
-    let (all, got) = read_on(&rt, rt.alloc(), &mut reader)?;
-    assert_eq!(rt; got, Got::End);
-    assert_eq!(rt; all.as_slice(), b"hello".as_slice());
-    assert_eq!(rt; reader.join(), Joining::Joined);
-    fs::remove_file(&rt, "channel")?;
-    Ok(())
-}
-
-#[test]
 fn what_is_not_there_is_not_opened(rt: HostRuntime) -> Result<(), Fail> {
     let name = Text::of(rt.alloc(), b"missing")?;
     let single = plain(rt.alloc(), Target::FileAt(name))?;
