@@ -88,6 +88,25 @@ fn take(world: &mut MemWorld, place: Place, item: WriteItem) -> Result<(), NoMem
     world.add_write(place, 0, item)
 }
 
+/// The next write at the output takes one byte, and the one after it none.
+fn take_one(world: &mut MemWorld) -> Result<(), NoMemory>
+    requires free { (p : Spot) → ⟦<MemWorld as World>⟧.held world.old p ≡ Free }
+    ensures free { (p : Spot) → ⟦<MemWorld as World>⟧.held world.new p ≡ Free }
+{
+    take(world, OUTPUT, WriteItem::Upto(1))?;
+    take(world, OUTPUT, WriteItem::NotYet)
+}
+
+fn take_four(world: &mut MemWorld) -> Result<(), NoMemory>
+    requires free { (p : Spot) → ⟦<MemWorld as World>⟧.held world.old p ≡ Free }
+    ensures free { (p : Spot) → ⟦<MemWorld as World>⟧.held world.new p ≡ Free }
+{
+    take_one(world)?;
+    take_one(world)?;
+    take_one(world)?;
+    take_one(world)
+}
+
 /// A peer comes to the door of the left at once.
 fn come(world: &mut MemWorld) -> Result<(), NoMemory>
     requires free { (p : Spot) → ⟦<MemWorld as World>⟧.held world.old p ≡ Free }
@@ -541,10 +560,8 @@ fn small_writes(rt: HostRuntime) -> Result<(), Fail> {
     let mut world = empty(alloc);
     give_bytes(alloc, &mut world, INPUT, 0, b"abcdefgh")?;
     give(&mut world, INPUT, 0, ReadItem::End)?;
-    for _ in 0..8 {
-        take(&mut world, OUTPUT, WriteItem::Upto(1))?;
-        take(&mut world, OUTPUT, WriteItem::NotYet)?;
-    }
+    take_four(&mut world)?;
+    take_four(&mut world)?;
     let ending = Outcome::Ended(EndWhy::Finished);
     expect_end(&rt, alloc, &mut world, "-b4 -u STDIN STDOUT", ending)?;
     let wanted: &[&[u8]] = &[b"a", b"b", b"c", b"d", b"e", b"f", b"g", b"h"];
