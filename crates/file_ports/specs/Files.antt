@@ -1,5 +1,5 @@
 -- What contracts see of a file, and what the calls of its port do.
-use Rattle.std.specs.Prelude.{◌≡◌, ℕ, ◌+◌, ◌-◌, ◌^◌, ◌≤◌, min, Bool, true, false, ◌&&◌, List, Option, None, Some, option_map, option_and_then, IfSome, IsSome}
+use Rattle.std.specs.Prelude.{is_some, ◌≡◌, ℕ, ◌+◌, ◌-◌, ◌^◌, ◌≤◌, min, Bool, true, false, not, ◌&&◌, List, Option, None, Some, option_map, option_and_then, IfSome, IsSome}
 use Rattle.relay_model.specs.declared.acts.Shut.{Shut}
 use Rattle.port_trait.specs.declared.counts.Counts.{Counts}
 use Rattle.port_trait.specs.declared.answers.Begun.{Begun as BeginAnswer}
@@ -11,11 +11,12 @@ use Rattle.port_trait.specs.declared.answers.Took.TheVariants as writes
 use Rattle.port_trait.specs.Counting.{Tallied}
 use Rattle.port_trait.specs.Meanings.{Behind, read_event, write_event, is_end}
 use Rattle.port_trait.specs.Streams.{finishes}
+use Rattle.port_trait.specs.Serving.{Serving}
 use Rattle.thread_rings.specs.Readers.{ReaderState, given_of, gave_behind, left_behind, ends_behind, faults_behind, BeginStep, ReadStep, KeptByRead, is_of_mark, CountsWithin, TellsSource}
 use Rattle.thread_rings.specs.Readers as readers
 use Rattle.thread_rings.specs.Writers.{WriterState, WriterBeginStep, WriterWrites, WriterPutsAll, took_behind, line_after_shut}
 use Rattle.thread_rings.specs.Writers as writers
-use Rattle.thread_rings.specs.WriterRing.{IsBehind, is_open, may_join}
+use Rattle.thread_rings.specs.WriterRing.{IsBehind, is_open, is_shut, may_join}
 
 -- the ring that reads it, the ring that writes it, and how many calls found no half that serves them
 pub record FileState : Type 0 where
@@ -114,6 +115,27 @@ writer_joins (Some writer) = may_join writer.line
 -- no half that there is still runs
 abbrev pub joins_of : FileState → Bool
 joins_of file = reader_joins file.reader && writer_joins file.writer
+
+abbrev pub reader_misuses : Option ReaderState → ℕ
+reader_misuses None = 0
+reader_misuses (Some reader) = reader.misuses
+
+abbrev pub writer_misuses : Option WriterState → ℕ
+writer_misuses None = 0
+writer_misuses (Some writer) = writer.misuses
+
+-- a half that isn't there serves nothing
+abbrev pub writer_serves : Option WriterState → Bool
+writer_serves None = false
+writer_serves (Some writer) = not (is_shut writer.line)
+
+-- it serves what its rings serve; the calls that no half serves are misuses as those of the rings are
+abbrev pub served_of : FileState → Serving
+served_of file = record {
+  reads = is_some file.reader;
+  writes = writer_serves file.writer;
+  misuses = capped (reader_misuses file.reader + writer_misuses file.writer + file.missed);
+}
 
 -- a call that no half serves is counted, and changes nothing else
 abbrev pub IsMissed : FileState → FileState → Type 0

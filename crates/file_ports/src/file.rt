@@ -1,7 +1,8 @@
 // A file: what reads it and what writes it.
-ghost use Rattle.std.specs.Prelude.{◌≡◌, ◌<◌, ◌+◌, ◌-◌, ◌^◌, min, Bool, true, false, ◌&&◌, length, Some, None, IfNone, IfSome, option_map};
+ghost use Rattle.std.specs.Prelude.{◌≡◌, ◌<◌, ◌≤◌, ◌+◌, ◌-◌, ◌^◌, min, Bool, true, false, ◌&&◌, length, Some, None, IfNone, IfSome, option_map};
 ghost use Rattle.port_trait.specs.Counting.{Tallied};
 ghost use Rattle.port_trait.specs.Meanings.{Gives, Accepts, AcceptsWhole, AcceptsAll, Behind, OnJoined, begun_after, is_end, begin_event, settle_event, read_event, write_event, shut_event, join_answer};
+ghost use Rattle.port_trait.specs.Serving.{IsCalled, Explained, Shuts, is_begin_served};
 ghost use Rattle.port_trait.specs.declared.answers.Begun.TheVariants as begins;
 ghost use Rattle.port_trait.specs.declared.answers.Settled.TheVariants as settles;
 ghost use Rattle.port_trait.specs.declared.answers.Took.TheVariants as writes;
@@ -9,7 +10,7 @@ ghost use Rattle.port_trait.specs.declared.answers.Shutting.TheVariants as shuts
 ghost use Rattle.port_trait.specs.declared.answers.PortReap.TheVariants as reaps;
 ghost use Rattle.port_trait.specs.declared.answers.Joining.TheVariants as joining;
 ghost use Rattle.thread_rings.specs.Readers.{given_of};
-ghost use Rattle.file_ports.specs.Files.{gave_of, took_of, behind_gave_of, behind_took_of, behind_faults_of, behind_ends_of, behind_left_of, counts_of, begun_of, ended_of, joins_of, FileBegins, FileReads, FileWrites, FilePutsAll, FileShuts, IsMissed, ReaderBegins, SameReader, SameWriter, KnowsSource, KnowsSink, SameEmpties, reader_begun, reader_ended, reader_counts, reader_joins, writer_joins};
+ghost use Rattle.file_ports.specs.Files.{gave_of, took_of, behind_gave_of, behind_took_of, behind_faults_of, behind_ends_of, behind_left_of, counts_of, begun_of, ended_of, joins_of, served_of, FileBegins, FileReads, FileWrites, FilePutsAll, FileShuts, IsMissed, ReaderBegins, SameReader, SameWriter, KnowsSource, KnowsSink, SameEmpties, reader_begun, reader_ended, reader_counts, reader_joins, reader_misuses, writer_joins};
 
 use port_trait::{
     Begun, Got, Hint, Joining, Port, PortReap, Settled, Shutting, Sink, Source, Took,
@@ -109,6 +110,8 @@ where
 
     ghost behind_left = { behind_left_of };
 
+    ghost served = { λ port. Some (served_of port) };
+
     ghost counts = { counts_of };
 
     ghost begun = { begun_of };
@@ -126,6 +129,8 @@ where
         ensures begun { begun_of self.new ≡ begun_after (begun_of self.old) result }
         ensures kept { (gave_of self.new ≡ gave_of self.old) × (took_of self.new ≡ took_of self.old) × (ended_of self.new ≡ ended_of self.old) }
         ensures counts { Tallied (begin_event result) (counts_of self.old) (counts_of self.new) }
+        ensures served { IsCalled (is_begin_served result) (served_of self.old) (served_of self.new) }
+        ensures misused { (served_of self.new).misuses ≤ (counts_of self.new).faults }
         ensures empties { SameEmpties self.old self.new }
     {
         match begin_reader(&mut self.reader) {
@@ -153,6 +158,7 @@ where
         ensures reads { FileReads self.old.reader self.old self.new into.new result }
         ensures gives { Gives (gave_of self.old) (gave_of self.new) into.new result }
         ensures ended { ended_of self.new ≡ is_end result }
+        ensures served { IsCalled (served_of self.old).reads (served_of self.old) (served_of self.new) }
         ensures kept { (took_of self.new ≡ took_of self.old) × (begun_of self.new ≡ begun_of self.old) }
         ensures counts { Tallied (read_event result) (counts_of self.old) (counts_of self.new) }
         ensures empties { SameEmpties self.old self.new }
@@ -170,6 +176,7 @@ where
     fn write(&mut self, bytes: &[u8]) -> Took
         requires { 0 < length bytes.now }
         ensures writes { FileWrites self.old.writer self.old self.new bytes.now result }
+        ensures served { IsCalled (begun_of self.old && (served_of self.old).writes) (served_of self.old) (served_of self.new) }
         ensures accepts { Accepts (took_of self.old) (took_of self.new) bytes.now result }
         ensures kept { (gave_of self.new ≡ gave_of self.old) × (begun_of self.new ≡ begun_of self.old) × (ended_of self.new ≡ ended_of self.old) }
         ensures counts { Tallied (write_event result) (counts_of self.old) (counts_of self.new) }
@@ -188,6 +195,7 @@ where
     fn send(&mut self, bytes: &[u8]) -> Took
         ensures failed { result ≡ writes.Failed }
         ensures missed { IsMissed self.old self.new }
+        ensures served { IsCalled false (served_of self.old) (served_of self.new) }
         ensures accepts { AcceptsWhole (took_of self.old) (took_of self.new) bytes.now result }
         ensures kept { (gave_of self.new ≡ gave_of self.old) × (begun_of self.new ≡ begun_of self.old) × (ended_of self.new ≡ ended_of self.old) }
         ensures counts { Tallied (write_event result) (counts_of self.old) (counts_of self.new) }
@@ -201,6 +209,7 @@ where
     /// Writes all to the writing ring.
     fn put_all(&mut self, bytes: &[u8]) -> Took
         ensures writes { FilePutsAll self.old.writer self.old self.new bytes.now result }
+        ensures served { IsCalled (begun_of self.old && (served_of self.old).writes) (served_of self.old) (served_of self.new) }
         ensures accepts { AcceptsAll (took_of self.old) (took_of self.new) bytes.now result }
         ensures kept { (gave_of self.new ≡ gave_of self.old) × (begun_of self.new ≡ begun_of self.old) × (ended_of self.new ≡ ended_of self.old) }
         ensures counts { Tallied (write_event result) (counts_of self.old) (counts_of self.new) }
@@ -219,6 +228,7 @@ where
     fn shut(&mut self, how: Shut) -> Shutting
         ensures done { result ≡ shuts.Done }
         ensures shuts { FileShuts self.old.writer self.old self.new how }
+        ensures served { Shuts how (Some (served_of self.old)) (Some (served_of self.new)) }
         ensures kept { (gave_of self.new ≡ gave_of self.old) × (took_of self.new ≡ took_of self.old) × (begun_of self.new ≡ begun_of self.old) × (ended_of self.new ≡ ended_of self.old) }
         ensures counts { Tallied (shut_event result) (counts_of self.old) (counts_of self.new) }
         ensures empties { SameEmpties self.old self.new }
@@ -271,6 +281,8 @@ where
         ensures missed { self.new.missed ≡ self.old.missed }
         ensures source { reader_joins self.old.reader ≡ true → IfSome self.new.reader KnowsSource }
         ensures sink { writer_joins self.old.writer ≡ true → IfSome self.new.writer KnowsSink }
+        ensures served { served_of self.new ≡ served_of self.old }
+        ensures explained { OnJoined result (Explained (Some (served_of self.new)) (counts_of self.new) (behind_faults_of self.new) (behind_ends_of self.new)) }
         ensures kept { (gave_of self.new ≡ gave_of self.old) × (took_of self.new ≡ took_of self.old) × (counts_of self.new ≡ counts_of self.old) × (begun_of self.new ≡ begun_of self.old) × (ended_of self.new ≡ ended_of self.old) × (joins_of self.new ≡ joins_of self.old) }
         ensures behind { OnJoined result (Behind (gave_of self.new) (took_of self.new) (behind_gave_of self.new) (behind_took_of self.new) (behind_left_of self.new) (behind_faults_of self.new) (ended_of self.new)) }
     {
@@ -292,6 +304,9 @@ where
     ensures begun { reader_begun reader.new ≡ begun_after (reader_begun reader.old) result }
     ensures kept { (option_map given_of reader.new ≡ option_map given_of reader.old) × (reader_ended reader.new ≡ reader_ended reader.old) }
     ensures counts { Tallied (begin_event result) (reader_counts reader.old) (reader_counts reader.new) }
+    ensures misuses { reader_misuses reader.new ≤ reader_misuses reader.old + 1 }
+    ensures served { is_begin_served result ≡ true → reader_misuses reader.new ≡ reader_misuses reader.old }
+    ensures misused { reader_misuses reader.new ≤ (reader_counts reader.new).faults }
     ensures empties { (reader_counts reader.new).empties ≡ (reader_counts reader.old).empties }
 {
     match reader {

@@ -3,5 +3,6 @@ pub mod Direct
 pub mod Keys
 pub mod Made
 pub mod Meanings
+pub mod Serving
 pub mod Streams
 pub mod Tasks

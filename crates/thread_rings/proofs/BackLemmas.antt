@@ -16,6 +16,7 @@ use Rattle.crossbeam_queue.specs.Passes.{view}
 use Rattle.thread_rings.specs.declared.writer_stages.WriterBack.{WriterBack}
 use Rattle.thread_rings.specs.WriterRing.{gained, unless_failed, behind_of, GrewBy, IsBack, IsBehind}
 use Rattle.thread_rings.proofs.ItemLists.{last_counted, drained}
+use Rattle.thread_rings.proofs.Readings.{seen_in_rise}
 
 -- a last end mark is a last mark
 pub ends_with_mark : (xs : List RingItem) → last_is is_end_mark xs ≡ true → last_is is_mark xs ≡ true
@@ -91,11 +92,12 @@ hears_less took faults before faults_before outlet taken taken' told heard heard
 pub is_behind : {K : Type 0} (took : K → Option (List ℕ)) (faults : K → ℕ) (back : WriterBack K) → IsBack took faults back → IsBehind (record { had = took back.begun.value; sent = (view back.items).sent; marks = length (view back.marks).taken; begun = true; refused = false; behind = Some (behind_of took faults back) }) (behind_of took faults back)
 is_behind took faults back is =
     let all = is.all in
+    let seen = seen_in_rise (faults back.begun.value) (faults back.outlet.sink) back.outlet.faults is.true_to_sink.rose in
     let given = subst (λ (xs : List RingItem). Delivers took (took back.begun.value) back.outlet (bytes_of xs)) (sym all) is.true_to_sink.delivered in record {
       all = sym all;
       ended = is.ended;
       front = gains_front back.outlet.faults back.outlet.sound (took back.begun.value) (took back.outlet.sink) (bytes_of (view back.items).sent) given;
-      whole = λ none. whole_if_sound back.outlet.faults back.outlet.sound (took back.begun.value) (took back.outlet.sink) (bytes_of (view back.items).sent) (omega (arith, none)) given;
-      grew = grows_by back.outlet.faults back.outlet.sound (took back.begun.value) (took back.outlet.sink) (bytes_of (view back.items).sent) (behind_of took faults back).faults (λ none. omega (arith, none)) given;
-      told = omega (arith, is.true_to_sink.told_less);
+      whole = λ none. whole_if_sound back.outlet.faults back.outlet.sound (took back.begun.value) (took back.outlet.sink) (bytes_of (view back.items).sent) (omega (arith, none, seen)) given;
+      grew = grows_by back.outlet.faults back.outlet.sound (took back.begun.value) (took back.outlet.sink) (bytes_of (view back.items).sent) (behind_of took faults back).faults (λ none. omega (arith, none, seen)) given;
+      told = omega (arith, is.true_to_sink.told_less, seen);
     }

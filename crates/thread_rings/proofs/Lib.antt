@@ -4,5 +4,6 @@ pub mod Feedings
 pub mod ItemLists
 pub mod Putting
 pub mod Readings
+pub mod Servings
 pub mod Taking
 pub mod Truth

@@ -1,13 +1,14 @@
 -- What each call of a reader's port keeps.
-use Rattle.std.proofs.Common.{◌≡◌, ◌≢◌, ℕ, ◌+◌, ◌-◌, ◌^◌, ◌≤◌, ◌<◌, min, Bool, true, false, List, [], ◌∷◌, ◌++◌, length, take, drop, refl, sym, ap, ◌∙◌, subst, append_assoc, arith}
-use Rattle.std.specs.Prelude.{Option, None, Some, IfSome}
+use Rattle.std.proofs.Common.{◌≡◌, ◌≢◌, ℕ, ◌+◌, ◌-◌, ◌^◌, ◌≤◌, ◌<◌, min, max, Bool, true, false, List, [], ◌∷◌, ◌++◌, length, take, drop, refl, sym, ap, ◌∙◌, subst, append_assoc, arith}
+use Rattle.std.specs.Prelude.{Option, None, Some, IfSome, nat_lt, if◌then◌else◌}
 use Rattle.std.proofs.lemmas.List.{append-nil, length-append, take-append-drop}
 use Rattle.std.proofs.Math.Seq.{take-append_seam}
-use Rattle.std.proofs.lemmas.Bool.{false≢true}
+use Rattle.std.proofs.lemmas.Bool.{false≢true, ltb-true}
 use Rattle.port_trait.specs.declared.answers.Got.TheVariants as reads
 use Rattle.port_trait.specs.declared.counts.Counts.{Counts}
 use Rattle.port_trait.specs.Meanings.{Gives, Behind}
 use Rattle.port_trait.specs.Streams.{Loses}
+use Rattle.port_trait.specs.Serving.{rise}
 use Rattle.ordered_queue.specs.declared.roles.View.{View}
 use Rattle.ordered_queue.specs.Order.{view_of}
 use Rattle.thread_rings.specs.declared.items.RingItem.{RingItem}
@@ -19,7 +20,8 @@ use Rattle.thread_rings.specs.declared.reader_stage.Stage.{Stage}
 use Rattle.thread_rings.specs.declared.reader_stage.Stage.TheVariants as stages
 use Rattle.thread_rings.specs.Items.{item_bytes, bytes_of, is_mark, is_end_mark, is_fault_mark, last_is, marks, end_marks, fault_marks}
 use Rattle.thread_rings.specs.Words.{asks, is_ask}
-use Rattle.thread_rings.specs.Feeding.{Feeds, marks_sent}
+use Rattle.thread_rings.specs.Feeding.{Feeds, RoseTimes, marks_sent}
+use Rattle.thread_rings.specs.Tallies.{IsTallied}
 use Rattle.thread_rings.specs.Readers.{AtStage, IsReading, ReaderState, SourceBehind, GivesStep, given, gone, source_behind, behind_of, is_begun, is_running}
 use Rattle.thread_rings.proofs.ItemLists.{bytes_snoc, count_append, count_snoc, one_counted, last_snoc, drained}
 
@@ -36,13 +38,17 @@ given_front all front held is =
     let e : length all - length held ≡ length front = omega (arith, ap length is, length-append front held) in
     (λ i. take (e i) (is i)) ∙ take-append_seam front held
 
+-- what counts neither a fault nor an end
+tallied_as_before : {misuses fault_marks end_marks : ℕ} (counts counts' : Counts) → counts'.faults ≡ counts.faults → counts'.ends ≡ counts.ends → IsTallied misuses fault_marks end_marks counts → IsTallied misuses fault_marks end_marks counts'
+tallied_as_before counts counts' same_faults same_ends so = record { faults = omega (arith, so.faults, same_faults); misused = omega (arith, so.misused, same_faults); ends = omega (arith, so.ends, same_ends) }
+
 unmarked : (marked : Bool) (held : List ℕ) → (marked ≡ true → held ≡ []) → held ≢ [] → marked ≡ false
 unmarked true held so some = absurd (some (so refl))
 unmarked false held so some = refl
 
-module _ {S : Type 0} (left : S → Option (List ℕ)) (faults ends : S → ℕ) (lines : Lines Word) (start : S) (since : Counts) (strayed : Bool) where
+module _ {S : Type 0} (left : S → Option (List ℕ)) (faults ends : S → ℕ) (lines : Lines Word) (start : S) (misuses : ℕ) where
   abbrev Reading : View RingItem → View Word → List ℕ → Bool → Bool → Counts → Stage S → Type 0
-  Reading items words held marked ended counts stage = IsReading left faults ends lines start items words held marked ended strayed since counts stage
+  Reading items words held marked ended counts stage = IsReading left faults ends lines start items words held marked ended misuses counts stage
 
   -- a read gave of what was held
   pub gives_held : (items : View RingItem) (words : View Word) (held : List ℕ) (marked ended : Bool) (counts : Counts) (stage : Stage S) (n : ℕ) →
@@ -76,7 +82,7 @@ module _ {S : Type 0} (left : S → Option (List ℕ)) (faults ends : S → ℕ)
       at_mark = λ is. absurd (false≢true is);
       at_end = λ is. absurd (false≢true is);
     };
-    counted = λ clean. (omega (arith, (so.counted clean).0, same_faults), omega (arith, (so.counted clean).1, same_ends));
+    counted = tallied_as_before counts counts' same_faults same_ends so.counted;
     at_stage = idle_stage items words marked stage idle so.at_stage;
   })
 
@@ -97,7 +103,7 @@ module _ {S : Type 0} (left : S → Option (List ℕ)) (faults ends : S → ℕ)
       at_mark = λ is. absurd (false≢true is);
       at_end = λ is. absurd (false≢true is);
     };
-    counted = λ clean. (omega (arith, (so.counted clean).0, same_faults), omega (arith, (so.counted clean).1, same_ends));
+    counted = tallied_as_before counts counts' same_faults same_ends so.counted;
     at_stage = running_stage items items words words' marked false stage runs asked (omega arith) so.at_stage;
   })
 
@@ -115,18 +121,19 @@ module _ {S : Type 0} (left : S → Option (List ℕ)) (faults ends : S → ℕ)
           at_mark = λ is. absurd (false≢true is);
           at_end = λ is. absurd (false≢true is);
         };
-        counted = λ clean. (
-          omega (arith, (so.counted clean).0, ap fault_marks taken, count_snoc is_fault_mark items.taken (kinds.Chunk chunk)),
-          omega (arith, (so.counted clean).1, ap end_marks taken, count_snoc is_end_mark items.taken (kinds.Chunk chunk)),
-        );
+        counted = record {
+          faults = omega (arith, so.counted.faults, ap fault_marks taken, count_snoc is_fault_mark items.taken (kinds.Chunk chunk));
+          misused = so.counted.misused;
+          ends = omega (arith, so.counted.ends, ap end_marks taken, count_snoc is_end_mark items.taken (kinds.Chunk chunk));
+        };
         at_stage = running_stage items items' words words' marked false stage runs asked (omega (arith, ap marks taken, count_snoc is_mark items.taken (kinds.Chunk chunk))) so.at_stage;
       }
 
   -- a read took a mark
   takes_mark : (items items' : View RingItem) (words words' : View Word) (held : List ℕ) (marked ended ended' : Bool) (counts counts' : Counts) (stage : Stage S) (mark : RingItem) →
-      item_bytes mark ≡ [] → is_mark mark ≡ true → (ended' ≡ true → is_end_mark mark ≡ true) → counts'.faults ≤ counts.faults + fault_marks (mark ∷ []) → counts'.ends ≤ counts.ends + end_marks (mark ∷ [])
+      item_bytes mark ≡ [] → is_mark mark ≡ true → (ended' ≡ true → is_end_mark mark ≡ true) → counts.faults ≤ counts'.faults → counts'.faults ≤ counts.faults + fault_marks (mark ∷ []) → counts'.ends ≤ counts.ends + end_marks (mark ∷ [])
       → Reading items words held marked ended counts stage → held ≡ [] → is_running stage ≡ true → words'.sends ≡ true → asks words'.sent ≡ asks words.sent + marks_sent marked → items' ≡ view_of items.sends items.takes items.sent (items.taken ++ mark ∷ []) → Reading items' words' held true ended' counts' stage
-  takes_mark items items' words words' held marked ended ended' counts counts' stage mark none a_mark an_end more_faults more_ends so nothing runs sends asked is =
+  takes_mark items items' words words' held marked ended ended' counts counts' stage mark none a_mark an_end no_fewer more_faults more_ends so nothing runs sends asked is =
       let taken : items'.taken ≡ items.taken ++ mark ∷ [] = ap (λ (v : View RingItem). v.taken) is in
       record {
         taking = record {
@@ -136,22 +143,23 @@ module _ {S : Type 0} (left : S → Option (List ℕ)) (faults ends : S → ℕ)
           at_mark = λ _. (nothing, ap (last_is is_mark) taken ∙ last_snoc is_mark items.taken mark ∙ a_mark);
           at_end = λ ended. (refl, ap (last_is is_end_mark) taken ∙ last_snoc is_end_mark items.taken mark ∙ an_end ended);
         };
-        counted = λ clean. (
-          omega (arith, (so.counted clean).0, more_faults, ap fault_marks taken, count_snoc is_fault_mark items.taken mark),
-          omega (arith, (so.counted clean).1, more_ends, ap end_marks taken, count_snoc is_end_mark items.taken mark),
-        );
+        counted = record {
+          faults = omega (arith, so.counted.faults, more_faults, ap fault_marks taken, count_snoc is_fault_mark items.taken mark);
+          misused = omega (arith, so.counted.misused, no_fewer);
+          ends = omega (arith, so.counted.ends, more_ends, ap end_marks taken, count_snoc is_end_mark items.taken mark);
+        };
         at_stage = running_stage items items' words words' marked true stage runs asked (omega (arith, ap marks taken, count_snoc is_mark items.taken mark, one_counted mark a_mark)) so.at_stage;
       }
 
   pub takes_end : (items items' : View RingItem) (words words' : View Word) (held : List ℕ) (marked ended : Bool) (counts counts' : Counts) (stage : Stage S) (told : ℕ) →
       counts'.faults ≡ counts.faults → counts'.ends ≡ min (counts.ends + 1) (2 ^ 64 - 1)
       → Reading items words held marked ended counts stage → held ≡ [] → is_running stage ≡ true → words'.sends ≡ true → asks words'.sent ≡ asks words.sent + marks_sent marked → items' ≡ view_of items.sends items.takes items.sent (items.taken ++ kinds.End told ∷ []) → Reading items' words' held true true counts' stage
-  takes_end items items' words words' held marked ended counts counts' stage told more_faults more_ends = takes_mark items items' words words' held marked ended true counts counts' stage (kinds.End told) refl refl (λ _. refl) (omega (arith, more_faults)) (omega (arith, more_ends))
+  takes_end items items' words words' held marked ended counts counts' stage told more_faults more_ends = takes_mark items items' words words' held marked ended true counts counts' stage (kinds.End told) refl refl (λ _. refl) (omega (arith, more_faults)) (omega (arith, more_faults)) (omega (arith, more_ends))
 
   pub takes_fault : (items items' : View RingItem) (words words' : View Word) (held : List ℕ) (marked ended : Bool) (counts counts' : Counts) (stage : Stage S) (told : ℕ) →
-      counts'.faults ≡ min (counts.faults + 1) (2 ^ 64 - 1) → counts'.ends ≡ counts.ends
+      counts.faults ≤ counts'.faults → counts'.faults ≡ min (counts.faults + 1) (2 ^ 64 - 1) → counts'.ends ≡ counts.ends
       → Reading items words held marked ended counts stage → held ≡ [] → is_running stage ≡ true → words'.sends ≡ true → asks words'.sent ≡ asks words.sent + marks_sent marked → items' ≡ view_of items.sends items.takes items.sent (items.taken ++ kinds.Fault told ∷ []) → Reading items' words' held true false counts' stage
-  takes_fault items items' words words' held marked ended counts counts' stage told more_faults more_ends = takes_mark items items' words words' held marked ended false counts counts' stage (kinds.Fault told) refl refl (λ is. absurd (false≢true is)) (omega (arith, more_faults)) (omega (arith, more_ends))
+  takes_fault items items' words words' held marked ended counts counts' stage told no_fewer more_faults more_ends = takes_mark items items' words words' held marked ended false counts counts' stage (kinds.Fault told) refl refl (λ is. absurd (false≢true is)) no_fewer (omega (arith, more_faults)) (omega (arith, more_ends))
 
 -- what the answers hand out
 pub gives_of_held : (taken : List RingItem) (held into : List ℕ) (n : ℕ) → (front : List ℕ) × (bytes_of taken ≡ front ++ held) → take n into ≡ take n held → 1 ≤ n → n ≤ length into → Gives (Some (given taken held)) (Some (given taken (drop n held))) into (reads.Bytes n)
@@ -208,8 +216,16 @@ loses_given taken held l0 l nothing loses =
     subst (λ bytes. Loses l0 l bytes) (sym all) loses
 
 pub tells_over : {S : Type 0} (left : S → Option (List ℕ)) (faults ends : S → ℕ) (lines : Lines Word) (start : S) (items : View RingItem) (words : View Word) (held : List ℕ) (marked : Bool) (stage : Stage S) → is_running stage ≡ false → held ≡ [] → AtStage left faults ends lines start items words marked stage → is_begun stage ≡ true
-    → (source : SourceBehind) × (behind_of left faults ends start stage ≡ Some source) × Loses (left start) source.left (given items.taken held)
+    → (source : SourceBehind) × (behind_of left faults ends start items.taken stage ≡ Some source) × Loses (left start) source.left (given items.taken held)
 tells_over left faults ends lines start items words held marked (stages.Waiting task) idle nothing at begun = absurd (false≢true begun)
 tells_over left faults ends lines start items words held marked stages.Refused idle nothing at begun = absurd (false≢true begun)
 tells_over left faults ends lines start items words held marked (stages.Running task) idle nothing at begun = absurd (false≢true (sym idle))
-tells_over left faults ends lines start items words held marked (stages.Over source) idle nothing at begun = (source_behind left faults ends start source, refl, loses_given items.taken held (left start) (left source) nothing at.0.gave)
+tells_over left faults ends lines start items words held marked (stages.Over source) idle nothing at begun = (source_behind left faults ends start source items.taken, refl, loses_given items.taken held (left start) (left source) nothing at.0.gave)
+
+-- what was seen to happen is no more than the rise of its count
+pub seen_in_rise : (before now seen : ℕ) → RoseTimes before seen now → seen ≤ rise before now seen
+seen_in_rise before now seen rose = seen_within (nat_lt now (2 ^ 64 - 1)) refl
+  where
+    seen_within : (low : Bool) → nat_lt now (2 ^ 64 - 1) ≡ low → seen ≤ (if low then now - before else max (now - before) seen)
+    seen_within true is = omega (arith, rose, ltb-true now (2 ^ 64 - 1) is)
+    seen_within false is = omega arith

@@ -3,6 +3,7 @@ pub mod Items
 pub mod Readers
 pub mod Starting
 pub mod Stores
+pub mod Tallies
 pub mod Words
 pub mod Writer
 pub mod WriterPuts

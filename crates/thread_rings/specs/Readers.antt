@@ -1,11 +1,12 @@
 -- What contracts see of a reader.
-use Rattle.std.specs.Prelude.{◌≡◌, ℕ, ◌+◌, ◌-◌, ◌^◌, ◌≤◌, min, Bool, true, false, ◌||◌, not, List, [], ◌∷◌, ◌++◌, length, take, drop, Option, None, Some, IfSome, if◌then◌else◌}
+use Rattle.std.specs.Prelude.{◌≡◌, ℕ, ◌+◌, ◌-◌, ◌^◌, ◌≤◌, min, Bool, true, false, ◌||◌, not, List, [], ◌∷◌, ◌++◌, length, take, drop, Option, None, Some, IfSome}
 use Rattle.port_trait.specs.declared.answers.Got.{Got}
 use Rattle.port_trait.specs.declared.answers.Got.TheVariants as reads
 use Rattle.port_trait.specs.declared.answers.Begun.{Begun as BeginAnswer}
 use Rattle.port_trait.specs.declared.answers.Begun.TheVariants as begins
 use Rattle.port_trait.specs.declared.counts.Counts.{Counts}
 use Rattle.port_trait.specs.Streams.{Loses}
+use Rattle.port_trait.specs.Serving.{Serving, rise}
 use Rattle.crossbeam_queue.specs.Fifo.{Held}
 use Rattle.ordered_queue.specs.declared.roles.View.{View}
 use Rattle.ordered_queue.specs.Order.{IsSound}
@@ -20,16 +21,15 @@ use Rattle.thread_rings.specs.declared.reader_stage.Stage.{Stage}
 use Rattle.thread_rings.specs.declared.reader_stage.Stage.TheVariants as stages
 use Rattle.thread_rings.specs.Items.{bytes_of, is_mark, is_end_mark, last_is, marks, end_marks, fault_marks, told, Follows}
 use Rattle.thread_rings.specs.Words.{asks}
-use Rattle.thread_rings.specs.Feeding.{Feeds, RoseTimes, marks_sent}
+use Rattle.thread_rings.specs.Feeding.{Feeds, marks_sent}
 use Rattle.thread_rings.specs.Starting.{WillFeed}
+use Rattle.thread_rings.specs.Tallies.{IsTallied}
 
--- a source behind a reader: what it gave since the thread began, what it has left, and its counts then and now
+-- a source behind a reader: what it gave since the thread began, what it has left, and how far its counts rose
 pub record SourceBehind : Type 0 where
   pub gave : Option (List ℕ)
   pub left : Option (List ℕ)
-  pub faults_before : ℕ
   pub faults : ℕ
-  pub ends_before : ℕ
   pub ends : ℕ
 
 -- a reader: what its source had left when it was made, the items that it took, and the rest of the last chunk, which is
@@ -44,9 +44,8 @@ pub record ReaderState : Type 0 where
   pub begun : Bool
   pub refused : Bool
   pub counts : Counts
-  -- the counts at the begin, and whether a fault was counted since that no mark tells of
-  pub since : Counts
-  pub strayed : Bool
+  -- how many of the faults are calls that it doesn't serve
+  pub misuses : ℕ
   pub behind : Option SourceBehind
 
 -- the bytes that were given
@@ -55,6 +54,10 @@ given taken held = take (length (bytes_of taken) - length held) (bytes_of taken)
 
 abbrev pub given_of : ReaderState → List ℕ
 given_of reader = given reader.taken reader.held
+
+-- it serves reads
+abbrev pub served_of : ReaderState → Serving
+served_of reader = record { reads = true; writes = false; misuses = reader.misuses }
 
 abbrev pub joins_of : ReaderState → Bool
 joins_of reader = not reader.begun || reader.marked
@@ -69,11 +72,11 @@ left_behind (Some source) = source.left
 
 abbrev pub faults_behind : Option SourceBehind → Option ℕ
 faults_behind None = None
-faults_behind (Some source) = Some (source.faults - source.faults_before)
+faults_behind (Some source) = Some source.faults
 
 abbrev pub ends_behind : Option SourceBehind → Option ℕ
 ends_behind None = None
-ends_behind (Some source) = Some (source.ends - source.ends_before)
+ends_behind (Some source) = Some source.ends
 
 -- what went off the front of what is left
 abbrev pub gone : Option (List ℕ) → Option (List ℕ) → Option (List ℕ)
@@ -81,15 +84,20 @@ gone None now = None
 gone (Some before) None = None
 gone (Some before) (Some now) = Some (take (length before - length now) before)
 
-abbrev pub source_behind : {S : Type 0} → (S → Option (List ℕ)) → (S → ℕ) → (S → ℕ) → S → S → SourceBehind
-source_behind left faults ends start source = record { gave = gone (left start) (left source); left = left source; faults_before = faults start; faults = faults source; ends_before = ends start; ends = ends source }
+abbrev pub source_behind : {S : Type 0} → (S → Option (List ℕ)) → (S → ℕ) → (S → ℕ) → S → S → List RingItem → SourceBehind
+source_behind left faults ends start source taken = record {
+  gave = gone (left start) (left source);
+  left = left source;
+  faults = rise (faults start) (faults source) (fault_marks taken);
+  ends = rise (ends start) (ends source) (end_marks taken);
+}
 
 -- the source is in the port's hand once the thread has ended
-abbrev pub behind_of : {S : Type 0} → (S → Option (List ℕ)) → (S → ℕ) → (S → ℕ) → S → Stage S → Option SourceBehind
-behind_of left faults ends start (stages.Waiting task) = None
-behind_of left faults ends start stages.Refused = None
-behind_of left faults ends start (stages.Running task) = None
-behind_of left faults ends start (stages.Over source) = Some (source_behind left faults ends start source)
+abbrev pub behind_of : {S : Type 0} → (S → Option (List ℕ)) → (S → ℕ) → (S → ℕ) → S → List RingItem → Stage S → Option SourceBehind
+behind_of left faults ends start taken (stages.Waiting task) = None
+behind_of left faults ends start taken stages.Refused = None
+behind_of left faults ends start taken (stages.Running task) = None
+behind_of left faults ends start taken (stages.Over source) = Some (source_behind left faults ends start source taken)
 
 -- the stage of a thread that was to be started
 abbrev pub stage_of : {S : Type 0} → Option (Task (Fed S) (FeedPromise S)) → Stage S
@@ -122,10 +130,6 @@ pub record Taking (items : View RingItem) (words : View Word) (held : List ℕ) 
   pub at_mark : marked ≡ true → (held ≡ []) × (last_is is_mark items.taken ≡ true)
   pub at_end : ended ≡ true → (marked ≡ true) × (last_is is_end_mark items.taken ≡ true)
 
--- the counts since the begin are those of the marks, where nothing else was counted
-abbrev pub CountsMarks : Bool → Counts → Counts → List RingItem → Type 0
-CountsMarks strayed since now taken = strayed ≡ false → (now.faults ≤ since.faults + fault_marks taken) × (now.ends ≤ since.ends + end_marks taken)
-
 abbrev pub no_counts : Counts
 no_counts = record { faults = 0; ends = 0; empties = 0; stalls = 0 }
 
@@ -140,8 +144,7 @@ fresh_reader had refused = record {
   begun = false;
   refused = refused;
   counts = no_counts;
-  since = no_counts;
-  strayed = false;
+  misuses = 0;
   behind = None;
 }
 
@@ -154,9 +157,9 @@ AtStage left faults ends lines start items words marked (stages.Over source) = F
     × (last_is is_end_mark items.taken ≡ true → IfSome (left source) (λ rest. rest ≡ []))
 
 -- all that stays so of a reader, beside that its passes are those of its lines
-pub record IsReading {S : Type 0} (left : S → Option (List ℕ)) (faults ends : S → ℕ) (lines : Lines Word) (start : S) (items : View RingItem) (words : View Word) (held : List ℕ) (marked ended strayed : Bool) (since counts : Counts) (stage : Stage S) : Type 0 where
+pub record IsReading {S : Type 0} (left : S → Option (List ℕ)) (faults ends : S → ℕ) (lines : Lines Word) (start : S) (items : View RingItem) (words : View Word) (held : List ℕ) (marked ended : Bool) (misuses : ℕ) (counts : Counts) (stage : Stage S) : Type 0 where
   pub taking : Taking items words held marked ended
-  pub counted : CountsMarks strayed since counts items.taken
+  pub counted : IsTallied misuses (fault_marks items.taken) (end_marks items.taken) counts
   pub at_stage : AtStage left faults ends lines start items words marked stage
 
 -- what a read that gave so many bytes did: it gave the rest of a chunk that was held, or took a chunk
@@ -185,31 +188,24 @@ pub record KeptByRead (old new : ReaderState) : Type 0 where
   pub had : new.had ≡ old.had
   pub begun : new.begun ≡ old.begun
   pub refused : new.refused ≡ old.refused
-  pub since : new.since ≡ old.since
-  pub strayed : new.strayed ≡ old.strayed
+  pub misuses : new.misuses ≡ old.misuses
   pub empties : new.counts.empties ≡ old.counts.empties
   pub behind : new.behind ≡ old.behind
 
--- a call that a reader can't serve is one fault that no mark tells of, and changes nothing else
-abbrev pub strayed_reader : ReaderState → ReaderState
-strayed_reader reader = record reader { strayed = true; counts = record reader.counts { faults = min (reader.counts.faults + 1) (2 ^ 64 - 1) } }
-
--- a reader that begins counts from there on; one that has begun stays as it is
-abbrev pub begun_reader : ReaderState → ReaderState
-begun_reader reader = if reader.begun then reader else record reader { begun = true; since = reader.counts; strayed = false }
+-- a call that a reader doesn't serve is one fault and one misuse, and changes nothing else
+abbrev pub misused_reader : ReaderState → ReaderState
+misused_reader reader = record reader { counts = record reader.counts { faults = min (reader.counts.faults + 1) (2 ^ 64 - 1) }; misuses = min (reader.misuses + 1) (2 ^ 64 - 1) }
 
 -- a begin by its answer: it fails exactly where no thread could be started
 abbrev pub BeginStep : ReaderState → ReaderState → BeginAnswer → Type 0
-BeginStep old new begins.Begun = (old.refused ≡ false) × (new ≡ begun_reader old)
-BeginStep old new begins.Failed = (old.refused ≡ true) × (new ≡ strayed_reader old)
+BeginStep old new begins.Begun = (old.refused ≡ false) × (new ≡ record old { begun = true })
+BeginStep old new begins.Failed = (old.refused ≡ true) × (new ≡ misused_reader old)
 BeginStep old new begins.Memory = ⊥
 
--- where nothing else was counted since the begin, the source failed and ended as often as the reader counted, or its
--- counts stand at their last values
+-- the faults that aren't misuses, and the ends, are those of the source
 abbrev pub CountsWithin : ReaderState → Option SourceBehind → Type 0
 CountsWithin reader None = Unit {0}
-CountsWithin reader (Some source) = reader.begun ≡ true → reader.strayed ≡ false
-    → RoseTimes source.faults_before (reader.counts.faults - reader.since.faults) source.faults × RoseTimes source.ends_before (reader.counts.ends - reader.since.ends) source.ends
+CountsWithin reader (Some source) = (reader.counts.faults ≤ reader.misuses + source.faults) × (reader.counts.ends ≤ source.ends)
 
 -- a begun reader that has joined tells its source, which had what was given and then what it has left
 abbrev pub TellsSource : ReaderState → Type 0

@@ -1,7 +1,8 @@
 -- How a writer stands: what its port put, what its thread came to, and what the calls of the port do to that.
-use Rattle.std.specs.Prelude.{◌≡◌, ℕ, zero, suc, ◌+◌, ◌-◌, ◌^◌, ◌≤◌, min, max, Bool, true, false, not, ◌&&◌, List, [], ◌++◌, length, take, drop, Option, None, Some, option_map, IfSome, if◌then◌else◌}
+use Rattle.std.specs.Prelude.{◌≡◌, ℕ, zero, suc, ◌+◌, ◌-◌, ◌^◌, ◌≤◌, min, Bool, true, false, not, ◌&&◌, List, [], ◌++◌, length, take, drop, Option, None, Some, option_map, IfSome, if◌then◌else◌}
 use Rattle.crossbeam_queue.specs.Passes.{view}
 use Rattle.port_trait.specs.Meanings.{Adds, IsFront}
+use Rattle.port_trait.specs.Serving.{rise}
 use Rattle.port_trait.specs.declared.answers.Begun.{Begun as BeginAnswer}
 use Rattle.port_trait.specs.declared.answers.Begun.TheVariants as begins
 use Rattle.port_trait.specs.declared.answers.Took.{Took as WriteAnswer}
@@ -37,8 +38,7 @@ abbrev pub took_soundly : {K : Type 0} → (K → Option (List ℕ)) → K → O
 took_soundly took begun outlet = unless_failed outlet.faults outlet.sound (gained (took begun) (took outlet.sink))
 
 -- what a joined writer knows: the items that its thread took, what its sink took before its first fault, what the sink
--- has taken in all, and how far its count of faults rose. Where that count stands at its last value, it rose at least
--- as often as the thread saw the sink fail
+-- has taken in all, and how far its count of faults rose
 pub record WriterBehind : Type 0 where
   pub taken : List RingItem
   pub took : Option (List ℕ)
@@ -60,7 +60,7 @@ behind_of took faults back = record {
   taken = (view back.items).taken;
   took = took_soundly took back.begun.value back.outlet;
   total = took back.outlet.sink;
-  faults = max (faults back.outlet.sink - faults back.begun.value) back.outlet.faults;
+  faults = rise (faults back.begun.value) (faults back.outlet.sink) back.outlet.faults;
 }
 
 -- the line of a writer that was just made, of a sink that had taken so much

@@ -1,6 +1,7 @@
 -- What contracts see of a writer, and what the calls of its port do.
-use Rattle.std.specs.Prelude.{◌≡◌, ℕ, ◌+◌, ◌-◌, ◌^◌, ◌≤◌, min, Bool, true, false, ◌&&◌, List, [], ◌∷◌, ◌++◌, length, take, Option, None, Some, if◌then◌else◌}
+use Rattle.std.specs.Prelude.{◌≡◌, ℕ, ◌+◌, ◌-◌, ◌^◌, ◌≤◌, min, Bool, true, false, not, ◌&&◌, List, [], ◌∷◌, ◌++◌, length, take, Option, None, Some, if◌then◌else◌}
 use Rattle.port_trait.specs.declared.counts.Counts.{Counts}
+use Rattle.port_trait.specs.Serving.{Serving}
 use Rattle.port_trait.specs.declared.answers.Begun.{Begun as BeginAnswer}
 use Rattle.port_trait.specs.declared.answers.Begun.TheVariants as begins
 use Rattle.port_trait.specs.declared.answers.Took.{Took as WriteAnswer}
@@ -8,7 +9,7 @@ use Rattle.port_trait.specs.declared.answers.Took.TheVariants as writes
 use Rattle.thread_rings.specs.declared.items.RingItem.TheVariants as items
 use Rattle.thread_rings.specs.Items.{bytes_of, told}
 use Rattle.thread_rings.specs.Feeding.{AddsChunks}
-use Rattle.thread_rings.specs.WriterRing.{WriterLine, WriterBehind, WritesChunk, fresh_line, is_open}
+use Rattle.thread_rings.specs.WriterRing.{WriterLine, WriterBehind, WritesChunk, fresh_line, is_open, is_shut}
 
 -- how its line stands, what was counted, and how often it failed for no fault of the sink
 pub record WriterState : Type 0 where
@@ -35,13 +36,16 @@ abbrev pub faults_behind : Option WriterBehind → Option ℕ
 faults_behind None = None
 faults_behind (Some behind) = Some behind.faults
 
--- it fails only at the fault marks that were taken and at calls that it can't serve, at each of those, and never ends
-pub record IsTallied (line : WriterLine) (counts : Counts) (misuses : ℕ) : Type 0 where
-  pub faults : counts.faults ≤ misuses + line.marks
-  pub misused : misuses ≤ counts.faults
-  pub ends : counts.ends ≡ 0
+-- a sink has no ends to count
+abbrev pub ends_behind : Option WriterBehind → Option ℕ
+ends_behind None = None
+ends_behind (Some behind) = Some 0
 
--- a call that the writer can't serve is one fault and one misuse, and changes nothing else
+-- it serves writes until its end mark was put
+abbrev pub served_of : WriterState → Serving
+served_of writer = record { reads = false; writes = not (is_shut writer.line); misuses = writer.misuses }
+
+-- a call that the writer doesn't serve is one fault and one misuse, and changes nothing else
 abbrev pub misused_writer : WriterState → WriterState
 misused_writer writer = record writer { counts = record writer.counts { faults = min (writer.counts.faults + 1) (2 ^ 64 - 1) }; misuses = min (writer.misuses + 1) (2 ^ 64 - 1) }
 

@@ -39,8 +39,7 @@ where
     pub(crate) ended: bool,
     pub(crate) stage: Stage<S>,
     pub(crate) counts: Counts,
-    pub(crate) since: Counts,
-    pub(crate) strayed: bool,
+    pub(crate) misuses: u64,
     pub(crate) pace: Pace,
 }
 
@@ -55,9 +54,9 @@ where
 
     ghost use Rattle.thread_rings.specs.Readers.{IsReading, is_begun, is_refused, behind_of};
 
-    ghost view = { λ r. record { had = S.left r.start.value; taken = (known r.items).taken; held = r.held; marked = r.marked; ended = r.ended; begun = is_begun r.stage; refused = is_refused r.stage; counts = r.counts; since = r.since; strayed = r.strayed; behind = behind_of S.left S.faults S.ends r.start.value r.stage } };
+    ghost view = { λ r. record { had = S.left r.start.value; taken = (known r.items).taken; held = r.held; marked = r.marked; ended = r.ended; begun = is_begun r.stage; refused = is_refused r.stage; counts = r.counts; misuses = r.misuses; behind = behind_of S.left S.faults S.ends r.start.value (known r.items).taken r.stage } };
 
-    ghost invariant = { λ r. IsPassOf r.lines.value.items r.items × IsPassOf r.lines.value.back r.words × IsReading S.left S.faults S.ends r.lines.value r.start.value (known r.items) (known r.words) r.held r.marked r.ended r.strayed r.since r.counts r.stage };
+    ghost invariant = { λ r. IsPassOf r.lines.value.items r.items × IsPassOf r.lines.value.back r.words × IsReading S.left S.faults S.ends r.lines.value r.start.value (known r.items) (known r.words) r.held r.marked r.ended r.misuses r.counts r.stage };
 }
 
 impl<S, R> RingReader<S, R>
@@ -97,8 +96,7 @@ where
             ended: false,
             stage,
             counts: Counts::new(),
-            since: Counts::new(),
-            strayed: false,
+            misuses: 0,
             pace: Pace::new(),
         })
     }

@@ -1,14 +1,15 @@
 // A reader as a port.
-ghost use Rattle.std.specs.Prelude.{◌≡◌, ◌<◌, ◌+◌, ◌-◌, ◌^◌, min, [], true, false, length, Some, None};
-ghost use Rattle.port_trait.specs.Counting.{Tallied};
+ghost use Rattle.std.specs.Prelude.{◌≡◌, ◌<◌, ◌≤◌, ◌+◌, ◌-◌, ◌^◌, min, [], true, false, length, Some, None};
+ghost use Rattle.port_trait.specs.Counting.{Tallied, Fault};
 ghost use Rattle.port_trait.specs.Meanings.{Gives, Accepts, AcceptsWhole, AcceptsAll, Behind, OnJoined, begun_after, is_end, begin_event, settle_event, read_event, write_event, shut_event, join_answer};
+ghost use Rattle.port_trait.specs.Serving.{IsCalled, Explained, is_begin_served};
 ghost use Rattle.port_trait.specs.declared.answers.Begun.TheVariants as begins;
 ghost use Rattle.port_trait.specs.declared.answers.Got.TheVariants as reads;
 ghost use Rattle.port_trait.specs.declared.answers.Took.TheVariants as writes;
 ghost use Rattle.port_trait.specs.declared.answers.Settled.TheVariants as settles;
 ghost use Rattle.port_trait.specs.declared.answers.Shutting.TheVariants as shuts;
 ghost use Rattle.port_trait.specs.declared.answers.PortReap.TheVariants as reaps;
-ghost use Rattle.thread_rings.specs.Readers.{given_of, joins_of, gave_behind, left_behind, faults_behind, ends_behind, BeginStep, strayed_reader, ReadStep, KeptByRead, CountsWithin, TellsSource, is_of_mark};
+ghost use Rattle.thread_rings.specs.Readers.{given_of, joins_of, gave_behind, left_behind, faults_behind, ends_behind, served_of, BeginStep, misused_reader, ReadStep, KeptByRead, CountsWithin, TellsSource, is_of_mark};
 
 use crate::items::RingItem;
 use crate::reader::RingReader;
@@ -31,6 +32,16 @@ fn nothing_yet(counts: &mut Counts) -> Got
     Got::NotYet
 }
 
+/// Counts a call that the reader doesn't serve.
+fn misuse(counts: &mut Counts, misuses: &mut u64)
+    ensures fault { counts.new ≡ record counts.old { faults = min (counts.old.faults + 1) (2 ^ 64 - 1) } }
+    ensures misuse { misuses.new ≡ min (misuses.old + 1) (2 ^ 64 - 1) }
+    ensures counted { Tallied (Some Fault) counts.old counts.new }
+{
+    counts.count_fault();
+    *misuses = misuses.saturating_add(1);
+}
+
 impl<S, R> Port for RingReader<S, R>
 where
     S: Source + Drop,
@@ -45,6 +56,8 @@ where
     ghost behind_ends = { λ ring. ends_behind ring.behind };
 
     ghost behind_left = { λ ring. left_behind ring.behind };
+
+    ghost served = { λ ring. Some (served_of ring) };
 
     ghost counts = { λ ring. ring.counts };
 
@@ -61,6 +74,8 @@ where
         ensures again { self.old.begun ≡ true → (result ≡ begins.Begun) × (self.new ≡ self.old) }
         ensures step { BeginStep self.old self.new result }
         ensures begun { self.new.begun ≡ begun_after self.old.begun result }
+        ensures served { IsCalled (is_begin_served result) (served_of self.old) (served_of self.new) }
+        ensures misused { self.new.misuses ≤ self.new.counts.faults }
         ensures kept { (Some (given_of self.new) ≡ Some (given_of self.old)) × (self.new.ended ≡ self.old.ended) }
         ensures counts { Tallied (begin_event result) self.old.counts self.new.counts }
         ensures empties { self.new.counts.empties ≡ self.old.counts.empties }
@@ -69,13 +84,10 @@ where
             return Begun::Begun;
         }
         let Stage::Waiting(task) = mem::replace(&mut self.stage, Stage::Refused) else {
-            self.strayed = true;
-            self.counts.count_fault();
+            misuse(&mut self.counts, &mut self.misuses);
             return Begun::Failed;
         };
         self.lines.start.give(&self.lines.thread);
-        self.since = self.counts;
-        self.strayed = false;
         self.stage = Stage::Running(task);
         Begun::Begun
     }
@@ -135,40 +147,37 @@ where
 
     fn write(&mut self, bytes: &[u8]) -> Took
         ensures failed { result ≡ writes.Failed }
-        ensures same { self.new ≡ strayed_reader self.old }
+        ensures same { self.new ≡ misused_reader self.old }
         ensures accepts { Accepts None None bytes.now result }
         ensures kept { (Some (given_of self.new) ≡ Some (given_of self.old)) × (self.new.begun ≡ self.old.begun) × (self.new.ended ≡ self.old.ended) }
         ensures counts { Tallied (write_event result) self.old.counts self.new.counts }
     {
         let _ = bytes;
-        self.strayed = true;
-        self.counts.count_fault();
+        misuse(&mut self.counts, &mut self.misuses);
         Took::Failed
     }
 
     fn send(&mut self, bytes: &[u8]) -> Took
         ensures failed { result ≡ writes.Failed }
-        ensures same { self.new ≡ strayed_reader self.old }
+        ensures same { self.new ≡ misused_reader self.old }
         ensures accepts { AcceptsWhole None None bytes.now result }
         ensures kept { (Some (given_of self.new) ≡ Some (given_of self.old)) × (self.new.begun ≡ self.old.begun) × (self.new.ended ≡ self.old.ended) }
         ensures counts { Tallied (write_event result) self.old.counts self.new.counts }
     {
         let _ = bytes;
-        self.strayed = true;
-        self.counts.count_fault();
+        misuse(&mut self.counts, &mut self.misuses);
         Took::Failed
     }
 
     fn put_all(&mut self, bytes: &[u8]) -> Took
         ensures failed { result ≡ writes.Failed }
-        ensures same { self.new ≡ strayed_reader self.old }
+        ensures same { self.new ≡ misused_reader self.old }
         ensures accepts { AcceptsAll None None bytes.now result }
         ensures kept { (Some (given_of self.new) ≡ Some (given_of self.old)) × (self.new.begun ≡ self.old.begun) × (self.new.ended ≡ self.old.ended) }
         ensures counts { Tallied (write_event result) self.old.counts self.new.counts }
     {
         let _ = bytes;
-        self.strayed = true;
-        self.counts.count_fault();
+        misuse(&mut self.counts, &mut self.misuses);
         Took::Failed
     }
 
@@ -214,6 +223,7 @@ where
         ensures kept { (Some (given_of self.new) ≡ Some (given_of self.old)) × (self.new.counts ≡ self.old.counts) × (self.new.begun ≡ self.old.begun) × (self.new.ended ≡ self.old.ended) × (joins_of self.new ≡ joins_of self.old) }
         ensures behind { OnJoined result (Behind (Some (given_of self.new)) None (gave_behind self.new.behind) None (left_behind self.new.behind) (faults_behind self.new.behind) self.new.ended) }
         ensures counts { OnJoined result (CountsWithin self.new self.new.behind) }
+        ensures explained { OnJoined result (Explained (Some (served_of self.new)) self.new.counts (faults_behind self.new.behind) (ends_behind self.new.behind)) }
         ensures source { OnJoined result (TellsSource self.new) }
     {
         if !self.stage.is_begun() {

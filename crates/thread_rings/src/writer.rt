@@ -2,6 +2,7 @@
 ghost use Rattle.std.specs.Prelude.{◌≡◌, ◌≢◌, ◌<◌, ◌≤◌, ◌+◌, ◌-◌, ◌^◌, min, Bool, true, false, length, None, Some, IfOk, IfSome, IsSome};
 ghost use Rattle.port_trait.specs.Counting.{Rose, Tallied, Fault};
 ghost use Rattle.port_trait.specs.Streams.{finishes};
+ghost use Rattle.port_trait.specs.Serving.{IsCalled, Explained, is_begin_served};
 ghost use Rattle.port_trait.specs.Meanings.{Gives, Accepts, AcceptsWhole, AcceptsAll, Behind, OnJoined, join_answer, begun_after, is_end, begin_event, settle_event, read_event, write_event, shut_event};
 ghost use Rattle.port_trait.specs.declared.answers.Begun.TheVariants as begins;
 ghost use Rattle.port_trait.specs.declared.answers.Got.TheVariants as reads;
@@ -10,8 +11,8 @@ ghost use Rattle.port_trait.specs.declared.answers.Settled.TheVariants as settle
 ghost use Rattle.port_trait.specs.declared.answers.Shutting.TheVariants as shuts;
 ghost use Rattle.port_trait.specs.declared.answers.PortReap.TheVariants as reaps;
 ghost use Rattle.thread_rings.specs.Items.{bytes_of};
-ghost use Rattle.thread_rings.specs.WriterRing.{IsBehind, is_open, may_join};
-ghost use Rattle.thread_rings.specs.Writers.{misused_writer, WriterBeginStep, WriterWrites, WriterPutsAll, fresh_writer, took_of, took_behind, faults_behind, line_after_shut};
+ghost use Rattle.thread_rings.specs.WriterRing.{IsBehind, is_open, is_shut, may_join};
+ghost use Rattle.thread_rings.specs.Writers.{misused_writer, served_of, ends_behind, WriterBeginStep, WriterWrites, WriterPutsAll, fresh_writer, took_of, took_behind, faults_behind, line_after_shut};
 
 use crate::lines::make_lines;
 use crate::words::SinkFault;
@@ -54,11 +55,11 @@ where
     ghost Value = { WriterState };
 
     ghost use Rattle.thread_rings.specs.WriterRing.{Stands, line_of};
-    ghost use Rattle.thread_rings.specs.Writers.{IsTallied};
+    ghost use Rattle.thread_rings.specs.Tallies.{IsTallied};
 
     ghost view = { λ w. record { line = line_of K.took K.faults w.stage; counts = w.counts; misuses = w.misuses } };
 
-    ghost invariant = { λ w. Stands K.took K.faults w.stage × IsTallied (line_of K.took K.faults w.stage) w.counts w.misuses };
+    ghost invariant = { λ w. Stands K.took K.faults w.stage × IsTallied w.misuses (line_of K.took K.faults w.stage).marks 0 w.counts };
 }
 
 impl<K, R> RingWriter<K, R>
@@ -111,7 +112,7 @@ impl<K, R> RingWriter<K, R>
 where
     K: Sink + Drop,
 {
-    /// Counts a call that the writer can't serve.
+    /// Counts a call that the writer doesn't serve.
     fn misuse(&mut self)
         ensures misused { self.new ≡ misused_writer self.old }
         ensures counts { Tallied (Some Fault) self.old.counts self.new.counts }
@@ -132,6 +133,10 @@ where
 
     ghost behind_faults = { λ w. faults_behind w.line.behind };
 
+    ghost behind_ends = { λ w. ends_behind w.line.behind };
+
+    ghost served = { λ w. Some (served_of w) };
+
     ghost counts = { λ w. w.counts };
 
     ghost begun = { λ w. w.line.begun };
@@ -147,6 +152,8 @@ where
         ensures again { self.old.line.begun ≡ true → (result ≡ begins.Begun) × (self.new ≡ self.old) }
         ensures step { WriterBeginStep self.old self.new result }
         ensures begun { self.new.line.begun ≡ begun_after self.old.line.begun result }
+        ensures served { IsCalled (is_begin_served result) (served_of self.old) (served_of self.new) }
+        ensures misused { self.new.misuses ≤ self.new.counts.faults }
         ensures kept { Some (took_of self.new) ≡ Some (took_of self.old) }
         ensures counts { Tallied (begin_event result) self.old.counts self.new.counts }
         ensures empties { self.new.counts.empties ≡ self.old.counts.empties }
@@ -188,6 +195,7 @@ where
     fn write(&mut self, bytes: &[u8]) -> Took
         requires { 0 < length bytes.now }
         ensures writes { WriterWrites (is_open self.old.line) self.old self.new bytes.now result }
+        ensures served { IsCalled (is_open self.old.line) (served_of self.old) (served_of self.new) }
         ensures accepts { Accepts (Some (took_of self.old)) (Some (took_of self.new)) bytes.now result }
         ensures kept { (self.new.line.begun ≡ self.old.line.begun) × (self.new.line.refused ≡ self.old.line.refused) }
         ensures counts { Tallied (write_event result) self.old.counts self.new.counts }
@@ -228,6 +236,7 @@ where
     /// Puts all bytes in chunks, and waits for room.
     fn put_all(&mut self, bytes: &[u8]) -> Took
         ensures writes { WriterPutsAll (is_open self.old.line) self.old self.new bytes.now result }
+        ensures served { IsCalled (is_open self.old.line) (served_of self.old) (served_of self.new) }
         ensures accepts { AcceptsAll (Some (took_of self.old)) (Some (took_of self.new)) bytes.now result }
         ensures kept { (self.new.line.begun ≡ self.old.line.begun) × (self.new.line.refused ≡ self.old.line.refused) }
         ensures counts { Tallied (write_event result) self.old.counts self.new.counts }
@@ -301,6 +310,7 @@ where
         ensures shows { OnJoined result (IfSome self.new.line.behind (IsBehind self.new.line)) }
         ensures bounded { OnJoined result (IfSome self.new.line.behind (λ behind. self.new.counts.faults ≤ self.new.misuses + behind.faults)) }
         ensures no_ends { self.new.counts.ends ≡ 0 }
+        ensures explained { OnJoined result (Explained (Some (served_of self.new)) self.new.counts (faults_behind self.new.line.behind) (ends_behind self.new.line.behind)) }
         ensures kept { (Some (took_of self.new) ≡ Some (took_of self.old)) × (self.new.counts ≡ self.old.counts) × (self.new.line.begun ≡ self.old.line.begun) × (may_join self.new.line ≡ may_join self.old.line) }
         ensures behind { OnJoined result (Behind None (Some (took_of self.new)) None (took_behind self.new.line.behind) None (faults_behind self.new.line.behind) false) }
     {

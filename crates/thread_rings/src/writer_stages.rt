@@ -131,6 +131,7 @@ impl<K: Sink + Drop> Stage<K> {
         ensures stands { Stands K.took K.faults self.new }
         ensures bound { result.0 ≤ length bytes.now }
         ensures all { result.1 ≡ false → result.0 ≡ length bytes.now }
+        ensures open { is_open (line_of K.took K.faults self.new) ≡ true }
         ensures put { AddsChunks (line_of K.took K.faults self.old).sent (line_of K.took K.faults self.new).sent (take result.0 bytes.now) }
         ensures kept { line_of K.took K.faults self.new ≡ record (line_of K.took K.faults self.old) { sent = (line_of K.took K.faults self.new).sent; marks = (line_of K.took K.faults self.old).marks + (if result.1 then 1 else 0) } }
     {

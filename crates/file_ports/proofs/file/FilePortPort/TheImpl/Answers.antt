@@ -1,36 +1,40 @@
 -- The clauses of a port, from those of a file. A file has no child.
-use Rattle.std.proofs.Common.{refl}
+use Rattle.std.proofs.Common.{refl, ap}
+use Rattle.std.specs.Prelude.{Some}
+use Rattle.file_ports.specs.Files.{FileState, served_of}
 use Rattle.file_ports.proofs.file.FilePortPort.TheImpl.Goals as goal
 
 pub settle-tells : goal.settle-tells
-settle-tells g x c = record { kept = (c.ensures.kept.0, c.ensures.kept.1, c.ensures.kept.2, c.ensures.kept.3, refl); counts = c.ensures.counts }
+settle-tells g x c = record { kept = (c.ensures.kept.0, c.ensures.kept.1, c.ensures.kept.2, c.ensures.kept.3, refl); served = ap (λ (file : FileState). Some (served_of file)) c.ensures.same; counts = c.ensures.counts }
 
 pub read-tells : goal.read-tells
-read-tells g x c = record { gives = c.ensures.gives; ended = c.ensures.ended; kept = (c.ensures.kept.0, c.ensures.kept.1, refl); counts = c.ensures.counts }
+read-tells g x c = record { gives = c.ensures.gives; ended = c.ensures.ended; kept = (c.ensures.kept.0, c.ensures.kept.1, refl); served = (_, refl, c.ensures.served); counts = c.ensures.counts }
 
 pub write-tells : goal.write-tells
-write-tells g x c = record { accepts = c.ensures.accepts; kept = (c.ensures.kept.0, c.ensures.kept.1, c.ensures.kept.2, refl); counts = c.ensures.counts }
+write-tells g x c = record { accepts = c.ensures.accepts; kept = (c.ensures.kept.0, c.ensures.kept.1, c.ensures.kept.2, refl); served = (_, refl, c.ensures.served); counts = c.ensures.counts }
 
 pub send-tells : goal.send-tells
-send-tells g x c = record { accepts = c.ensures.accepts; kept = (c.ensures.kept.0, c.ensures.kept.1, c.ensures.kept.2, refl); counts = c.ensures.counts }
+send-tells g x c = record { accepts = c.ensures.accepts; kept = (c.ensures.kept.0, c.ensures.kept.1, c.ensures.kept.2, refl); served = (_, refl, c.ensures.served); counts = c.ensures.counts }
 
 pub put_all-tells : goal.put_all-tells
-put_all-tells g x c = record { accepts = c.ensures.accepts; kept = (c.ensures.kept.0, c.ensures.kept.1, c.ensures.kept.2, refl); counts = c.ensures.counts }
+put_all-tells g x c = record { accepts = c.ensures.accepts; kept = (c.ensures.kept.0, c.ensures.kept.1, c.ensures.kept.2, refl); served = (_, refl, c.ensures.served); counts = c.ensures.counts }
 
 pub shut-tells : goal.shut-tells
-shut-tells g x c = record { kept = (c.ensures.kept.0, c.ensures.kept.1, c.ensures.kept.2, c.ensures.kept.3, refl); counts = c.ensures.counts }
+shut-tells g x c = record { kept = (c.ensures.kept.0, c.ensures.kept.1, c.ensures.kept.2, c.ensures.kept.3, refl); served = c.ensures.served; counts = c.ensures.counts }
 
 pub hint-tells : goal.hint-tells
 hint-tells g x c = record {
   hinted = tt;
   kept = (c.ensures.kept.0, c.ensures.kept.1, refl, c.ensures.kept.2, c.ensures.kept.3, c.ensures.kept.4, c.ensures.kept.5, refl);
   behind = c.ensures.behind;
+  served = ap (λ (file : FileState). Some (served_of file)) c.ensures.same;
 }
 
 pub reap-tells : goal.reap-tells
 reap-tells g x c = record {
   reaped = rw c.ensures.reaped refl;
   kept = (c.ensures.kept.0, c.ensures.kept.1, c.ensures.kept.2, c.ensures.kept.3, refl);
+  served = ap (λ (file : FileState). Some (served_of file)) c.ensures.same;
   counts = c.ensures.counts;
 }
 
@@ -38,5 +42,7 @@ pub join-tells : goal.join-tells
 join-tells g x c = record {
   joined = c.ensures.joined;
   kept = (c.ensures.kept.0, c.ensures.kept.1, c.ensures.kept.2, c.ensures.kept.3, c.ensures.kept.4, c.ensures.kept.5, refl);
+  served = ap Some c.ensures.served;
+  explained = c.ensures.explained;
   behind = c.ensures.behind;
 }
