@@ -2,7 +2,7 @@
 ghost use Rattle.std.specs.Prelude.{◌≡◌, ◌<◌, ◌≤◌, ◌+◌, ◌-◌, ◌^◌, min, Bool, true, false, ◌&&◌, length, Some, None, IfNone, IfSome, option_map};
 ghost use Rattle.port_trait.specs.Counting.{Tallied};
 ghost use Rattle.port_trait.specs.Meanings.{Gives, Accepts, AcceptsWhole, AcceptsAll, Behind, OnJoined, begun_after, is_end, begin_event, settle_event, read_event, write_event, shut_event, join_answer};
-ghost use Rattle.port_trait.specs.Serving.{IsCalled, Explained, Shuts, is_begin_served};
+ghost use Rattle.port_trait.specs.Serving.{IsCalled, Explained, is_begin_served};
 ghost use Rattle.port_trait.specs.declared.answers.Begun.TheVariants as begins;
 ghost use Rattle.port_trait.specs.declared.answers.Settled.TheVariants as settles;
 ghost use Rattle.port_trait.specs.declared.answers.Took.TheVariants as writes;
@@ -130,7 +130,7 @@ where
         ensures kept { (gave_of self.new ≡ gave_of self.old) × (took_of self.new ≡ took_of self.old) × (ended_of self.new ≡ ended_of self.old) }
         ensures counts { Tallied (begin_event result) (counts_of self.old) (counts_of self.new) }
         ensures served { IsCalled (is_begin_served result) (served_of self.old) (served_of self.new) }
-        ensures misused { (served_of self.new).misuses ≤ (counts_of self.new).faults }
+        ensures misused { result ≡ begins.Begun → (served_of self.new).misuses ≤ (counts_of self.new).faults }
         ensures empties { SameEmpties self.old self.new }
     {
         match begin_reader(&mut self.reader) {
@@ -228,7 +228,6 @@ where
     fn shut(&mut self, how: Shut) -> Shutting
         ensures done { result ≡ shuts.Done }
         ensures shuts { FileShuts self.old.writer self.old self.new how }
-        ensures served { Shuts how (Some (served_of self.old)) (Some (served_of self.new)) }
         ensures kept { (gave_of self.new ≡ gave_of self.old) × (took_of self.new ≡ took_of self.old) × (begun_of self.new ≡ begun_of self.old) × (ended_of self.new ≡ ended_of self.old) }
         ensures counts { Tallied (shut_event result) (counts_of self.old) (counts_of self.new) }
         ensures empties { SameEmpties self.old self.new }

@@ -49,7 +49,7 @@ pub trait Port: Drop {
         ensures begun { begun self.new ≡ begun_after (begun self.old) result }
         ensures kept { (gave self.new ≡ gave self.old) × (took self.new ≡ took self.old) × (ended self.new ≡ ended self.old) }
         ensures served { Called (λ _. is_begin_served result) (served self.old) (served self.new) }
-        ensures misused { MisusesCounted (served self.new) (counts self.new) }
+        ensures misused { result ≡ begins.Begun → MisusesCounted (served self.new) (counts self.new) }
         ensures counts { Tallied (begin_event result) (counts self.old) (counts self.new) };
 
     /// Asks once, without waiting, whether what was begun stands.

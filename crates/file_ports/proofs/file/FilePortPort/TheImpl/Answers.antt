@@ -2,6 +2,7 @@
 use Rattle.std.proofs.Common.{refl, ap}
 use Rattle.std.specs.Prelude.{Some}
 use Rattle.file_ports.specs.Files.{FileState, served_of}
+use Rattle.file_ports.proofs.Servings.{shuts_served}
 use Rattle.file_ports.proofs.file.FilePortPort.TheImpl.Goals as goal
 
 pub settle-tells : goal.settle-tells
@@ -20,7 +21,7 @@ pub put_all-tells : goal.put_all-tells
 put_all-tells g x c = record { accepts = c.ensures.accepts; kept = (c.ensures.kept.0, c.ensures.kept.1, c.ensures.kept.2, refl); served = (_, refl, c.ensures.served); counts = c.ensures.counts }
 
 pub shut-tells : goal.shut-tells
-shut-tells g x c = record { kept = (c.ensures.kept.0, c.ensures.kept.1, c.ensures.kept.2, c.ensures.kept.3, refl); served = c.ensures.served; counts = c.ensures.counts }
+shut-tells g x c = record { kept = (c.ensures.kept.0, c.ensures.kept.1, c.ensures.kept.2, c.ensures.kept.3, refl); served = shuts_served c.args.how c.args.self.now.reader c.args.self.now.writer c.args.self.now.missed c.new.self.now c.ensures.shuts; counts = c.ensures.counts }
 
 pub hint-tells : goal.hint-tells
 hint-tells g x c = record {

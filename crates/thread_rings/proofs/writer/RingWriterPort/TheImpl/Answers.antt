@@ -7,7 +7,7 @@ use Rattle.thread_rings.proofs.Servings.{called_misused}
 use Rattle.thread_rings.proofs.writer.RingWriterPort.TheImpl.Goals as goal
 
 pub begin-tells : goal.begin-tells
-begin-tells g x c = record { again = c.ensures.again; begun = c.ensures.begun; kept = (refl, c.ensures.kept, refl); served = (_, refl, c.ensures.served); misused = c.ensures.misused; counts = c.ensures.counts }
+begin-tells g x c = record { again = c.ensures.again; begun = c.ensures.begun; kept = (refl, c.ensures.kept, refl); served = (_, refl, c.ensures.served); misused = λ _. c.ensures.misused; counts = c.ensures.counts }
 
 pub settle-tells : goal.settle-tells
 settle-tells g x c = record { kept = (refl, c.ensures.kept.0, c.ensures.kept.1, refl, refl); served = ap (λ (w : WriterState). Some (served_of w)) c.ensures.same; counts = c.ensures.counts }
