@@ -4,7 +4,6 @@
 
 mod addresses;
 mod commands;
-mod directions;
 mod faults;
 mod flags;
 mod laws;

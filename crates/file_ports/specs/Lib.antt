@@ -3,3 +3,4 @@ pub mod Echoes
 pub mod Files
 pub mod Opened
 pub mod Openings
+pub mod Streams

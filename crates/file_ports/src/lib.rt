@@ -6,6 +6,7 @@ mod echo;
 mod file;
 mod making;
 mod open;
+mod opening;
 mod streams;
 #[cfg(test)]
 mod tests;

@@ -1,0 +1,3 @@
+pub mod Eithers
+pub mod Makers
+pub mod Ports
