@@ -130,15 +130,13 @@ refused 'socat: E01 word 1: unclosed at 2' $'\xe2\x82"' -
 
 # --- what is in order and can't be run yet
 
-for words in 'TCP-LISTEN:1,fork TCP:localhost:2' '-v -u STDIN STDOUT' '-x - PIPE' '--load 7' \
-    '--journal=j -u STDIN STDOUT'; do
+for words in '- -' '-U STDOUT STDIN' '-u STDIN,cr STDOUT' '-u OPEN:no-such-file STDOUT' \
+    'TCP-LISTEN:1,fork TCP:localhost:2' '-v -u STDIN STDOUT' '--load 7' '--journal=j -u STDIN STDOUT'; do
     # The words are split at spaces.
     # shellcheck disable=SC2086
     refused 'socat: E23: not built' $words
 done
-
-# A name that isn't UTF-8 is in order, and fails at its opening.
-refused 'socat: open failed on the left after 1 attempts' -u $'OPEN:\xff\xfe' STDOUT
+refused 'socat: E23: not built' -u $'OPEN:\xff\xfe' STDOUT
 
 # --- usage and version
 

@@ -17,6 +17,6 @@ mod uses;
 
 pub use faults::KindFault;
 pub use laws::resolutions_are_told;
-pub use resolving::resolve;
+pub use resolving::{listens, resolve};
 pub use targets::counted;
 pub use uses::Asked;

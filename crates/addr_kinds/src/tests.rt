@@ -124,7 +124,7 @@ fn listening_address(rt: HostRuntime) -> Result<(), Fail> {
     let single = resolved(rt.alloc(), text, Asked::TwoWay, false)
         .ok()
         .ok_or("an address")?;
-    assert!(rt; single.target.listens());
+    assert!(rt; listens(&single.target));
     assert!(rt; single.options.fork);
     assert_eq!(rt; single.options.conv, Conv::Crnl);
     assert_eq!(rt; single.options.retry, 16);

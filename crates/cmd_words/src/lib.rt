@@ -4,6 +4,7 @@
 
 mod addresses;
 mod commands;
+mod directions;
 mod faults;
 mod flags;
 mod laws;

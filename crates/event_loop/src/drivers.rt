@@ -75,8 +75,7 @@ impl Driver {
         ensures fewer { rank self.new < rank self.old }
         ensures made { self.new.made ≡ self.old.made }
     {
-        let behind = self.session.peer();
-        match world.open_place(place, single(config, place), behind) {
+        match world.open_place(place, single(config, place), None) {
             OpenAnswer::Opened => self.session.heard(0, Answer::Opened),
             OpenAnswer::Later => self.session.heard(0, Answer::Later),
             OpenAnswer::Failed => self.session.heard(0, Answer::Failed),

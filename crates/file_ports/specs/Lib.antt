@@ -3,4 +3,3 @@ pub mod Echoes
 pub mod Files
 pub mod Opened
 pub mod Openings
-pub mod Streams

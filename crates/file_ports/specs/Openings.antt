@@ -1,8 +1,8 @@
 -- The port that is made of what a file's ends are.
 use Rattle.std.specs.Prelude.{◌≡◌, ℕ, ◌+◌, Bool, true, false, List, Option, None, Some}
-use Rattle.ring_items.specs.Tallies.{RoseTimes}
-use Rattle.ring_reader.specs.Readers.{fresh_reader}
-use Rattle.ring_writer.specs.Writers.{fresh_writer}
+use Rattle.thread_rings.specs.Feeding.{RoseTimes}
+use Rattle.thread_rings.specs.Readers.{fresh_reader}
+use Rattle.thread_rings.specs.Writers.{fresh_writer}
 use Rattle.file_ports.specs.declared.open.FileEnds.{FileEnds}
 use Rattle.file_ports.specs.declared.open.FileEnds.TheVariants as ends
 use Rattle.file_ports.specs.Files.{FileState}

@@ -6,7 +6,6 @@ mod echo;
 mod file;
 mod making;
 mod open;
-mod opening;
 mod streams;
 #[cfg(test)]
 mod tests;

@@ -14,3 +14,6 @@ pub use faults::JournalFault;
 pub use laws::{one_bad_line, one_journal};
 pub use reading::read_journal;
 pub use writing::write_journal;
+
+#[cfg(test)]
+mod tests;

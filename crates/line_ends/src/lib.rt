@@ -88,3 +88,69 @@ fn append(out: &mut [u8], at: usize, bytes: &[u8]) -> usize
     out[at..end].copy_from_slice(bytes);
     end
 }
+
+#[cfg(test)]
+mod tests {
+    use super::*;
+    use std::process::Abort;
+
+    fn expect_conversion(rt: &impl Abort, read: Conv, write: Conv, block: &[u8], want: &[u8])
+        requires { length block.now ≤ 8 }
+    {
+        let mut out = [0u8; 16];
+        let len = convert(Convs { read, write }, block, &mut out);
+        assert_eq!(rt; &out[..len], want);
+    }
+
+    #[test]
+    fn each_pair_of_conversions(rt: HostRuntime) {
+        let block = b"a\r\nb\rc\nd";
+        expect_conversion(&rt, Conv::Plain, Conv::Plain, block, b"a\r\nb\rc\nd");
+        expect_conversion(&rt, Conv::Plain, Conv::Cr, block, b"a\r\rb\rc\rd");
+        expect_conversion(&rt, Conv::Plain, Conv::Crnl, block, b"a\r\r\nb\rc\r\nd");
+        expect_conversion(&rt, Conv::Cr, Conv::Plain, block, b"a\n\nb\nc\nd");
+        expect_conversion(&rt, Conv::Cr, Conv::Cr, block, b"a\r\rb\rc\rd");
+        expect_conversion(&rt, Conv::Cr, Conv::Crnl, block, b"a\r\n\r\nb\r\nc\r\nd");
+        expect_conversion(&rt, Conv::Crnl, Conv::Plain, block, b"a\nbc\nd");
+        expect_conversion(&rt, Conv::Crnl, Conv::Cr, block, b"a\rbc\rd");
+        expect_conversion(&rt, Conv::Crnl, Conv::Crnl, block, b"a\r\nbc\r\nd");
+    }
+
+    #[test]
+    fn nothing_is_converted_to_nothing(rt: HostRuntime) {
+        expect_conversion(&rt, Conv::Plain, Conv::Plain, b"", b"");
+        expect_conversion(&rt, Conv::Crnl, Conv::Crnl, b"", b"");
+    }
+
+    // 120 bytes: 40 times `x`, a newline and a carriage return. The carriage return is read as no line end.
+    #[test]
+    fn a_long_block(rt: HostRuntime) {
+        let mut block = [b'x'; 120];
+        let mut want = [b'x'; 160];
+        for i in 0..40 {
+            block[3 * i + 1] = b'\n';
+            block[3 * i + 2] = b'\r';
+            want[4 * i + 1] = b'\r';
+            want[4 * i + 2] = b'\n';
+            want[4 * i + 3] = b'\r';
+        }
+        let how = Convs {
+            read: Conv::Plain,
+            write: Conv::Crnl,
+        };
+        let mut out = [0u8; 240];
+        let len = convert(how, &block, &mut out);
+        assert_eq!(rt; &out[..len], want.as_slice());
+    }
+
+    #[test]
+    fn a_return_and_a_newline_in_two_blocks(rt: HostRuntime) {
+        expect_conversion(&rt, Conv::Crnl, Conv::Plain, b"a\r", b"a");
+        expect_conversion(&rt, Conv::Crnl, Conv::Plain, b"\nb", b"\nb");
+        expect_conversion(&rt, Conv::Cr, Conv::Cr, b"\n\r", b"\r\r");
+        cuts_change_nothing(Convs {
+            read: Conv::Crnl,
+            write: Conv::Plain,
+        });
+    }
+}

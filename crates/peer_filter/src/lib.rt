@@ -103,3 +103,6 @@ fn agree_under(mask: &[u8], one: &[u8], other: &[u8]) -> bool
     }
     true
 }
+
+#[cfg(test)]
+mod tests;

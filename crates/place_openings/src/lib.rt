@@ -10,3 +10,6 @@ mod steps;
 
 pub use calls::{Call, GivenUp};
 pub use session_openings::Openings;
+
+#[cfg(test)]
+mod tests;

@@ -181,12 +181,6 @@ impl Port for MemPort {
         true
     }
 
-    fn has_child(&self) -> bool
-        ensures { result ≡ false }
-    {
-        false
-    }
-
     fn reap(&mut self) -> PortReap
         ensures none { result ≡ reaps.NoChild }
         ensures kept { self.new ≡ self.old }

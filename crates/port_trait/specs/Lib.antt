@@ -1,6 +1,5 @@
 pub mod Counting
 pub mod Direct
-pub mod Hinting
 pub mod Keys
 pub mod Made
 pub mod Meanings

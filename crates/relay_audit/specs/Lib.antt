@@ -1,2 +1,5 @@
+pub mod Answers
+pub mod Judging
+pub mod Pasts
 pub mod Reports
 pub mod Verdicts

@@ -4,6 +4,8 @@
 mod backlogs;
 mod flows;
 mod lanes;
+#[cfg(test)]
+mod tests;
 
 pub use flows::Flow;
 pub use lanes::Lane;

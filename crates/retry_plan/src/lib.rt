@@ -80,3 +80,6 @@ impl Plan {
         }
     }
 }
+
+#[cfg(test)]
+mod tests;

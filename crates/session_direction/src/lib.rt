@@ -4,5 +4,7 @@
 
 mod armings;
 mod directions;
+#[cfg(test)]
+mod tests;
 
 pub use directions::{Direction, Want};

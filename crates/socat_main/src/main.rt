@@ -1,53 +1,47 @@
 // The program: it passes its arguments on as they are, and ends with the status of the run.
 #![tactic(auto)]
 
-mod relay;
-
-use mio_poller::MioPoller;
-use port_trait::StdSpawner;
-use program_words::program_words;
-use real_maker::Spares;
-use relay::{NO_MEMORY, made, relay, wakes};
+use relay_model::{NoMemory, Text, Texts};
+use socat_top::run_program;
+use std::alloc::Global;
+use std::env::{Env, FillError};
+use std::marker::Brand;
 use std::process::ExitCode;
+use thin_desk::ThinDesk;
+use world_trait::Recorder;
 
-/// How many places of a command read or write behind a ring: at most one on each side.
-const SIDES: u8 = 2;
+/// The longest argument that Linux passes to a program, in bytes.
+const LONGEST_ARGUMENT: usize = 131_072;
 
-// The spare rings are made here, since only here it is known that what they will serve may go to a thread.
-fn main(rt: HostRuntime) -> ExitCode {
-    let alloc = rt.alloc();
-    let Ok(words) = program_words(alloc, &rt) else {
-        return ExitCode::from(NO_MEMORY);
-    };
-    let poller = match made(MioPoller::new(rt, alloc)) {
-        Ok(poller) => poller,
-        Err(status) => return ExitCode::from(status),
-    };
-    let mut spares = Spares::new(alloc);
-    for _ in 0..SIDES {
-        let (reading, writing) = match wakes(&poller) {
-            Ok(wakes) => wakes,
-            Err(status) => return ExitCode::from(status),
-        };
-        let mut spawner = StdSpawner::new(rt);
-        if spares
-            .add(rt, alloc, &mut spawner, reading, writing)
-            .is_err()
-        {
-            return ExitCode::from(NO_MEMORY);
+/// The status where there is no memory for the arguments.
+const NO_MEMORY: u8 = 2;
+
+/// The arguments without the program's name. They may hold any bytes.
+fn words(alloc: Global, env: &impl Env) -> Result<Texts, NoMemory> {
+    let mut buffer = vec![in alloc; 0; LONGEST_ARGUMENT]?;
+    let mut words = Texts::new(alloc);
+    for i in 1..usize::MAX {
+        match env.arg(i, &mut buffer) {
+            Ok(length) => words.push(Text::of(alloc, &buffer[..length])?)?,
+            Err(FillError::NotPresent) => break,
+            Err(FillError::TooLong) => return Err(NoMemory),
         }
     }
-    let words = words.as_slice();
-    match relay(
-        rt,
+    Ok(words)
+}
+
+fn main(rt: HostRuntime) -> ExitCode {
+    let alloc = rt.alloc();
+    let Ok(words) = words(alloc, &rt) else {
+        return ExitCode::from(NO_MEMORY);
+    };
+    let desk = ThinDesk::<_, _, _, Brand>::new(
         alloc,
-        poller,
-        spares,
         rt.stdin(),
         rt.stdout(),
         rt.stderr(),
-        words,
-    ) {
-        Ok(status) | Err(status) => ExitCode::from(status),
-    }
+        Recorder::Skip,
+    );
+    let thin = run_program(alloc, desk, words.as_slice(), u64::MAX);
+    ExitCode::from(thin.status)
 }

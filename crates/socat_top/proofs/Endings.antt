@@ -1,7 +1,7 @@
 -- Runs that end for want of memory.
 use Rattle.std.proofs.Common.{◌≡◌, ℕ, true, false, if◌then◌else◌, List, [], ◌∷◌, ◌++◌, Option, Some, refl, ap, subst, sym, ◌∙◌, inl, inr, ◌⊎◌}
 use Rattle.relay_model.specs.declared.commands.Config.{Config}
-use Rattle.relay_model.specs.Journals.{History}
+use Rattle.relay_model.specs.Journals.{History, Asking}
 use Rattle.exit_status.specs.declared.outcomes.Outcome.{Outcome}
 use Rattle.exit_status.specs.declared.outcomes.Outcome.TheVariants as outcomes
 use Rattle.exit_status.specs.Lines.{line}
@@ -14,7 +14,7 @@ use Rattle.socat_top.specs.Notes.{Said, Tail}
 use Rattle.cmd_words.specs.declared.commands.Command.TheVariants as commands
 use Rattle.socat_top.specs.Built.{is_built}
 use Rattle.socat_top.specs.Tasks.{Task, Relaying, Telling, Refusing, Unread, not_built, command_task, unrelayed}
-use Rattle.socat_top.specs.Headline.{Headline, Leaves, Answers, CompletesTask}
+use Rattle.socat_top.specs.Headline.{Headline, Leaves, Answers}
 
 pub either : {A : Type 0} → A ⊎ A → A
 either (inl a) = a
@@ -80,20 +80,3 @@ concluded c n before told told' answer given_answer h tail same =
       answer_is = given c n h.acts answer given_answer h.outcome_is same;
       own = h.own;
     }
-
--- what relays nothing has nothing to complete
-pub nothing_to_complete : (task : Task) (n f f' w w' s s' : ℕ) (answer : Outcome) → CompletesTask (unrelayed task) n f f' w w' s s' answer
-nothing_to_complete (Relaying c) n f f' w w' s s' answer = tt
-nothing_to_complete (Telling text) n f f' w w' s s' answer = tt
-nothing_to_complete (Refusing refused) n f f' w w' s s' answer = tt
-nothing_to_complete Unread n f f' w w' s s' answer = tt
-
-pub lacking_completes : (task : Task) (n f f' w w' s s' : ℕ) (answer : Outcome) → answer ≡ outcomes.Memory → CompletesTask task n f f' w w' s s' answer
-lacking_completes (Relaying c) n f f' w w' s s' answer e = λ calm left quiet. ap relayed.is_undisturbed e
-lacking_completes (Telling text) n f f' w w' s s' answer e = tt
-lacking_completes (Refusing refused) n f f' w w' s s' answer e = tt
-lacking_completes Unread n f f' w w' s s' answer e = tt
-
--- a relay that is offered is the task of its command
-pub offered_completes : (c : Config) (n f f' w w' s s' : ℕ) (answer : Outcome) → is_built c ≡ true → relayed.Completes n f f' w w' s s' answer → CompletesTask (command_task (commands.Relay c)) n f f' w w' s s' answer
-offered_completes c n f f' w w' s s' answer built h = subst (λ b. CompletesTask (if b then Relaying c else Refusing not_built) n f f' w w' s s' answer) (sym built) h

@@ -6,9 +6,9 @@ ghost use Rattle.relay_model.specs.Journals.{History};
 ghost use Rattle.cmd_words.specs.Commands.{IsFit};
 ghost use Rattle.event_loop.specs.Courses.{Risen};
 ghost use Rattle.relay_model.specs.Configs.{Fit};
-ghost use Rattle.event_loop.specs.Headline.{Completes, StopCause, is_failure, is_relayed};
+ghost use Rattle.event_loop.specs.Headline.{StopCause, is_failure, is_relayed};
 ghost use Rattle.socat_top.specs.Built.{is_built};
-ghost use Rattle.socat_top.specs.Headline.{Answers, CompletesTask, Headline, Leaves};
+ghost use Rattle.socat_top.specs.Headline.{Answers, Headline, Leaves};
 ghost use Rattle.socat_top.specs.Tasks.{task, command_task, task_of, unrelayed, asks_for_journal, program_task};
 
 use crate::built::can_run;
@@ -37,7 +37,6 @@ pub fn socat<W: World>(alloc: Global, world: &mut W, words: &[Text], turns: u64)
     ensures tells { is_some (W.told world.new) ≡ is_some (W.told world.old) }
     ensures failed { is_failure result ≡ true → Risen (W.faults world.old) (W.faults world.new) }
     ensures stopped { StopCause turns (W.waits world.old) (W.waits world.new) (W.stops world.old) (W.stops world.new) result }
-    ensures complete { CompletesTask (task words.now) turns (W.faults world.old) (W.faults world.new) (W.waits world.old) (W.waits world.new) (W.stops world.old) (W.stops world.new) result }
 {
     match command_of(alloc, words) {
         Ok(command) => obey(alloc, world, &command, turns),
@@ -56,7 +55,6 @@ pub fn program<W: World>(alloc: Global, world: &mut W, words: &[Text], turns: u6
     ensures tells { is_some (W.told world.new) ≡ is_some (W.told world.old) }
     ensures failed { is_failure result ≡ true → Risen (W.faults world.old) (W.faults world.new) }
     ensures stopped { StopCause turns (W.waits world.old) (W.waits world.new) (W.stops world.old) (W.stops world.new) result }
-    ensures complete { CompletesTask (program_task words.now) turns (W.faults world.old) (W.faults world.new) (W.waits world.old) (W.waits world.new) (W.stops world.old) (W.stops world.new) result }
 {
     match words {
         [first, others @ ..] if is_journal_flag(first) => answer_unrelayed(alloc, world, others),
@@ -79,7 +77,6 @@ fn answer_unrelayed<W: World>(alloc: Global, world: &mut W, words: &[Text]) -> O
     ensures tells { is_some (W.told world.new) ≡ is_some (W.told world.old) }
     ensures calm { is_failure result ≡ false }
     ensures unstopped { (n a b d e : ℕ) → StopCause n a b d e result }
-    ensures incomplete { (n f f' w w' s s' : ℕ) → CompletesTask (unrelayed (task words.now)) n f f' w w' s s' result }
 {
     match command_of(alloc, words) {
         Ok(command) => decline(alloc, world, &command),
@@ -96,7 +93,6 @@ fn decline<W: World>(alloc: Global, world: &mut W, command: &Command) -> Outcome
     ensures tells { is_some (W.told world.new) ≡ is_some (W.told world.old) }
     ensures calm { is_failure result ≡ false }
     ensures unstopped { (n a b d e : ℕ) → StopCause n a b d e result }
-    ensures incomplete { (n f f' w w' s s' : ℕ) → CompletesTask (unrelayed (command_task command.now)) n f f' w w' s s' result }
 {
     match command {
         Command::Relay(_config) => conclude(alloc, world, Outcome::Refused(NOT_BUILT)),
@@ -116,7 +112,6 @@ fn obey<W: World>(alloc: Global, world: &mut W, command: &Command, turns: u64) -
     ensures tells { is_some (W.told world.new) ≡ is_some (W.told world.old) }
     ensures failed { is_failure result ≡ true → Risen (W.faults world.old) (W.faults world.new) }
     ensures stopped { StopCause turns (W.waits world.old) (W.waits world.new) (W.stops world.old) (W.stops world.new) result }
-    ensures complete { CompletesTask (command_task command.now) turns (W.faults world.old) (W.faults world.new) (W.waits world.old) (W.waits world.new) (W.stops world.old) (W.stops world.new) result }
 {
     match command {
         Command::Relay(config) if can_run(config) => run_relay(alloc, world, config, turns),
@@ -135,7 +130,6 @@ fn run_relay<W: World>(alloc: Global, world: &mut W, config: &Config, turns: u64
     ensures tells { is_some (W.told world.new) ≡ is_some (W.told world.old) }
     ensures failed { is_failure result ≡ true → Risen (W.faults world.old) (W.faults world.new) }
     ensures stopped { StopCause turns (W.waits world.old) (W.waits world.new) (W.stops world.old) (W.stops world.new) result }
-    ensures complete { Completes turns (W.faults world.old) (W.faults world.new) (W.waits world.old) (W.waits world.new) (W.stops world.old) (W.stops world.new) result }
 {
     let outcome = relay(alloc, world, config, turns);
     conclude(alloc, world, outcome)

@@ -4,7 +4,11 @@
 mod built;
 mod calls;
 mod notes;
+#[cfg(test)]
+mod run_tests;
 mod runs;
+#[cfg(test)]
+mod tests;
 
 pub use calls::{program, socat};
-pub use runs::{Shipped, run, run_program};
+pub use runs::{Thin, run, run_kept, run_program};

@@ -7,3 +7,6 @@ mod timer;
 mod timers;
 
 pub use timers::TimerSet;
+
+#[cfg(test)]
+mod tests;

@@ -1,1 +1,4 @@
+pub mod HeldLemmas
+pub mod LineLemmas
+pub mod LookLemmas
 pub mod TableLemmas

@@ -1,5 +1,5 @@
 use Rattle.socat_top.specs.Tasks.{task, unrelayed}
-use Rattle.socat_top.proofs.Endings.{either, lacking, lacking_answers, nothing_to_complete}
+use Rattle.socat_top.proofs.Endings.{either, lacking, lacking_answers}
 use Rattle.socat_top.proofs.calls.answer_unrelayed.Goals as goal
 
 pub returns-in-Err-Memory-clause-headline : goal.returns-in-Err-Memory-clause-headline
@@ -9,6 +9,3 @@ returns-in-Err-Memory-clause-headline g c = λ n before told.
 
 pub returns-in-Err-Memory-clause-answers : goal.returns-in-Err-Memory-clause-answers
 returns-in-Err-Memory-clause-answers g c = lacking_answers (unrelayed (task c.args.words.now)) c.conclude-in-Err-Memory.result (either c.conclude-in-Err-Memory.ensures.answer)
-
-pub returns-in-Err-Memory-clause-incomplete : goal.returns-in-Err-Memory-clause-incomplete
-returns-in-Err-Memory-clause-incomplete g c = λ n f f' w w' s s'. nothing_to_complete (task c.args.words.now) n f f' w w' s s' c.conclude-in-Err-Memory.result

@@ -1,4 +1,0 @@
-pub mod PlaceLemmas
-pub mod PortLemmas
-pub mod SoundLemmas
-pub mod StationLemmas

@@ -1,4 +1,0 @@
-pub mod Causes
-pub mod Changes
-pub mod Footing
-pub mod Stations

@@ -1,4 +1,0 @@
-pub mod Calls
-pub mod Clocks
-pub mod Naming
-pub mod Records

@@ -1,3 +1,0 @@
-pub mod Eithers
-pub mod Makers
-pub mod Ports

@@ -1,3 +1,0 @@
-pub mod HeldLemmas
-pub mod LineLemmas
-pub mod LookLemmas

@@ -1,0 +1,13 @@
+use Rattle.std.proofs.Common.{arith}
+use Rattle.thread_rings.proofs.Delivery.{gives, fails}
+use Rattle.thread_rings.proofs.writer_outlet.Outlet.give.Goals as goal
+
+pub returns-then-failed-clause-delivered : goal.returns-then-failed-clause-delivered
+returns-then-failed-clause-delivered g c = λ before given was.
+    fails c.args.self.now.faults c.saturating_add-self.result c.args.self.now.sound c.sound_after-self.result c.write_front-count.result.0 before (g.K.Sink.took c.args.self.now.sink) (g.K.Sink.took c.write_front-count.new.sink) given c.args.bytes.now
+    was c.write_front-count.ensures.taken c.write_front-count.ensures.bound c.sound_after-self.ensures.first c.sound_after-self.ensures.later (omega arith)
+
+pub returns-clause-delivered : goal.returns-clause-delivered
+returns-clause-delivered g c = λ before given was.
+    gives c.args.self.now.faults c.args.self.now.sound c.sound_after-self.result c.write_front-count.result.0 before (g.K.Sink.took c.args.self.now.sink) (g.K.Sink.took c.write_front-count.new.sink) given c.args.bytes.now
+    was c.write_front-count.ensures.taken (c.write_front-count.ensures.all c.if-failed.false) c.sound_after-self.ensures.first c.sound_after-self.ensures.later

@@ -1,0 +1,12 @@
+pub mod Feeding
+pub mod Items
+pub mod Readers
+pub mod Starting
+pub mod Stores
+pub mod Tallies
+pub mod Words
+pub mod Writer
+pub mod WriterPuts
+pub mod WriterRing
+pub mod WriterThread
+pub mod Writers

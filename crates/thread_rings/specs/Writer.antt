@@ -1,0 +1,17 @@
+-- What a sink took of the bytes that a writer's thread gave to it. Contents that aren't told are None.
+use Rattle.std.specs.Prelude.{◌≡◌, ℕ, zero, suc, ◌+◌, ◌-◌, ◌^◌, ◌≤◌, min, Bool, true, false, List, ◌++◌, length, take, Option, option_map}
+use Rattle.thread_rings.specs.declared.writer_outlet.Outlet.{Outlet}
+
+-- a sink that never failed took all bytes; one that did took a front of them before its first fault. Of those bytes the
+-- number is kept, or the last number where there are more
+abbrev pub Delivered : ℕ → ℕ → Option (List ℕ) → Option (List ℕ) → List ℕ → Type 0
+Delivered zero sound before now bytes = (sound ≡ min (length bytes) (2 ^ 64 - 1)) × (now ≡ option_map (λ all. all ++ bytes) before)
+Delivered (suc faults) sound before now bytes = (n : ℕ) × (later : List ℕ) × (n ≤ length bytes) × (sound ≡ min n (2 ^ 64 - 1)) × (now ≡ option_map (λ all. all ++ (take n bytes ++ later)) before)
+
+abbrev pub Delivers : {K : Type 0} → (K → Option (List ℕ)) → Option (List ℕ) → Outlet K → List ℕ → Type 0
+Delivers took before outlet bytes = Delivered outlet.faults outlet.sound before (took outlet.sink) bytes
+
+-- a count of faults after a call that came to its end well, or failed
+abbrev pub faults_after : Bool → ℕ → ℕ
+faults_after true faults = faults
+faults_after false faults = min (faults + 1) (2 ^ 64 - 1)
