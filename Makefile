@@ -33,6 +33,7 @@ check:
 # The checks of the built programs alone, without the proofs' gate.
 test: bin/socat bin/socat-audit
 	tests/program.sh bin/socat
+	tests/sockets.sh bin/socat
 	tests/words.sh bin/socat
 	tests/audit.sh bin/socat-audit
 
@@ -43,6 +44,7 @@ install: bin/socat bin/socat-audit
 
 bench: bin/socat
 	bench/throughput.sh bin/socat
+	bench/sockets.sh bin/socat
 	bench/words.sh bin/socat
 	bench/parts.sh
 	cd crates/bench_pump && rt run </dev/null >/dev/null

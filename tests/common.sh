@@ -19,3 +19,49 @@ use_program() {
     scratch="$(mktemp -d)" || exit 1
     trap 'rm -rf "$scratch"' EXIT
 }
+
+# report NAME PROBLEM: a case passed where no problem is named.
+report() {
+    if [ -z "$2" ]; then
+        passed=$((passed + 1))
+        echo "ok      $1"
+    else
+        failed=$((failed + 1))
+        echo "FAILED  $1: $2"
+    fi
+}
+
+# try NAME STATUS INPUT OUTPUT LINE WORD..: runs the program on the input, and looks at its status, its output and its
+# one line on standard error ('' for none). INPUT and OUTPUT are texts for printf '%b'.
+try() {
+    local name="$1" wanted="$2" input="$3" output="$4" line="$5" status problem=''
+    shift 5
+    printf '%b' "$input" | timeout 60 "$program" "$@" >"$scratch/out" 2>"$scratch/err"
+    status="${PIPESTATUS[1]}"
+    printf '%b' "$output" >"$scratch/wanted"
+    [ -z "$line" ] || printf '%s\n' "$line" >"$scratch/line"
+    [ -n "$line" ] || : >"$scratch/line"
+    if [ "$status" -ne "$wanted" ]; then
+        problem="status $status, said $(head -c 200 "$scratch/err")"
+    elif ! cmp -s "$scratch/out" "$scratch/wanted"; then
+        problem="other bytes came out: $(head -c 60 "$scratch/out" | od -An -c | head -3)"
+    elif ! cmp -s "$scratch/err" "$scratch/line"; then
+        problem="said $(head -c 200 "$scratch/err")"
+    fi
+    report "$name" "$problem"
+}
+
+# holds FILE TEXT: '' where the file holds just this text (for printf '%b'), else what is wrong.
+holds() {
+    printf '%b' "$2" >"$scratch/held"
+    if [ ! -e "$1" ]; then
+        echo "$1 isn't there"
+    elif ! cmp -s "$1" "$scratch/held"; then
+        echo "$1 holds $(head -c 60 "$1" | od -An -c | head -3)"
+    fi
+}
+
+# same FILE FILE: '' where both hold the same bytes, else what is wrong.
+same() {
+    [ "$(cksum <"$1")" = "$(cksum <"$2")" ] || echo "$1 and $2 differ"
+}

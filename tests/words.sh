@@ -1,6 +1,7 @@
 #!/usr/bin/env bash
 # Runs the built program on words that it refuses, and on those that ask for usage or version: each has its one
-# text on standard error, its status, nothing on standard output, and opens and creates nothing.
+# text on standard error, its status, nothing on standard output, and opens and creates nothing. Only a journal that the
+# first word asks for is made, and stays empty.
 # tests/data/refusals.txt has most of them; it was made by an independent model. One line a group, and
 # 'N passed, M failed' at the end; the status is 1 where a case failed.
 # Usage: tests/words.sh [PROGRAM]      (bin/socat where none is given)
@@ -13,10 +14,14 @@ cd "$scratch/empty" || exit 1
 
 # says STATUS TEXT WORD..: the words end with the status, say the text and do nothing else.
 says() {
-    local status text problem='' got left
+    local status text problem='' got left journal=''
     status="$1"
     text="$2"
     shift 2
+    case "${1:-}" in
+        --journal=/*) ;;
+        --journal=?*) journal="${1#--journal=}" ;;
+    esac
     printf 'abc' >"$scratch/offered"
     {
         timeout 20 "$program" "$@" >"$scratch/out" 2>"$scratch/err"
@@ -32,10 +37,12 @@ says() {
         problem="something was written"
     elif [ "$left" != abc ]; then
         problem="the input was read"
-    elif [ -n "$(ls -A .)" ]; then
+    elif [ "$(ls -A .)" != "$journal" ]; then
         problem="something was made: $(ls -A . | head -n 1)"
-        rm -rf "$scratch/empty"/*
+    elif [ -n "$journal" ] && [ -s "$journal" ]; then
+        problem="something was written to the journal"
     fi
+    rm -rf "$scratch/empty"/*
     if [ -z "$problem" ]; then
         passed=$((passed + 1))
     else
@@ -111,8 +118,8 @@ refused 'socat: E21: addresses want 2 have 0'
 
 # A written journal is asked for by the first word alone; the others are numbered from behind it.
 refused 'socat: E18 word 2: unknown flag' -u --journal=j STDIN STDOUT
-refused 'socat: E18 word 1: unknown flag' --journal=j --journal=j - -
-refused 'socat: E05 word 2: empty address' --journal=j - ''
+refused 'socat: E18 word 1: unknown flag' --journal=/dev/null --journal=j - -
+refused 'socat: E05 word 2: empty address' --journal=/dev/null - ''
 
 long() {
     printf "%0$1d" 0 | tr 0 "$2"
@@ -130,13 +137,15 @@ refused 'socat: E01 word 1: unclosed at 2' $'\xe2\x82"' -
 
 # --- what is in order and can't be run yet
 
-for words in '- -' '-U STDOUT STDIN' '-u STDIN,cr STDOUT' '-u OPEN:no-such-file STDOUT' \
-    'TCP-LISTEN:1,fork TCP:localhost:2' '-v -u STDIN STDOUT' '--load 7' '--journal=j -u STDIN STDOUT'; do
+for words in 'TCP-LISTEN:1,fork TCP:localhost:2' '-v -u STDIN STDOUT' '-x - PIPE' '--load 7' \
+    '--journal=/dev/null --load 7'; do
     # The words are split at spaces.
     # shellcheck disable=SC2086
     refused 'socat: E23: not built' $words
 done
-refused 'socat: E23: not built' -u $'OPEN:\xff\xfe' STDOUT
+
+# A name that isn't UTF-8 is in order, and fails at its opening.
+refused 'socat: open failed on the left after 1 attempts' -u $'OPEN:\xff\xfe' STDOUT
 
 # --- usage and version
 
@@ -146,7 +155,7 @@ options: -b<size> -t<time> -T<time> -u -U -s -v -x -g -d -h -V
 says 0 "$usage" -h
 says 0 "$usage" '-?' and more words
 says 0 "$usage" -u -b4 -h
-says 0 "$usage" --journal=j -h
+says 0 "$usage" --journal=/dev/null -h
 says 0 'socat relay, profile of 1.7
 ' -V
 

@@ -17,6 +17,3 @@ pub use laws::addresses_are_told;
 pub use options::RawOption;
 pub use parsing::{one_address, parse_address};
 pub use printing::print_address;
-
-#[cfg(test)]
-mod tests;

@@ -141,11 +141,3 @@ same_group one other = false
 -- whether the group is among these
 abbrev pub includes : List Group → Group → Bool
 includes groups group = list_any (λ one. same_group one group) groups
-
--- the kinds that peers connect to
-abbrev pub is_listener : Target → Bool
-is_listener (target.TcpListen family port) = true
-is_listener (target.UdpListen family port) = true
-is_listener (target.UdpRecvfrom family port) = true
-is_listener (target.UnixListen name) = true
-is_listener other = false

@@ -11,12 +11,10 @@ mod resolving;
 mod rules;
 mod table;
 mod targets;
-#[cfg(test)]
-mod tests;
 mod uses;
 
 pub use faults::KindFault;
 pub use laws::resolutions_are_told;
-pub use resolving::{listens, resolve};
+pub use resolving::resolve;
 pub use targets::counted;
 pub use uses::Asked;

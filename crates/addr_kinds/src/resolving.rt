@@ -1,6 +1,6 @@
 // What an address asks for.
 ghost use Rattle.std.specs.Prelude.{◌≡◌};
-ghost use Rattle.addr_kinds.specs.Kinds.{is_listener, known_of};
+ghost use Rattle.addr_kinds.specs.Kinds.{known_of};
 ghost use Rattle.addr_kinds.specs.Resolving.{allows, may_be_used, resolution, Resolves};
 
 use crate::effects::first_options;
@@ -11,21 +11,8 @@ use crate::table::kind_of;
 use crate::targets::target_of;
 use crate::uses::Asked;
 use addr_grammar::RawSingle;
-use relay_model::{FileFlags, Single, Target};
+use relay_model::{FileFlags, Single};
 use std::alloc::Global;
-
-/// Whether peers connect to an address of this kind.
-pub fn listens(target: &Target) -> bool
-    ensures { result ≡ is_listener target.now }
-{
-    matches!(
-        target,
-        Target::TcpListen { .. }
-            | Target::UdpListen { .. }
-            | Target::UdpRecvfrom { .. }
-            | Target::UnixListen(_)
-    )
-}
 
 /// Whether the flags leave a file open for what it is asked.
 fn allows(flags: FileFlags, asked: Asked) -> bool

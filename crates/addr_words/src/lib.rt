@@ -14,6 +14,3 @@ pub use laws::{spans_cover, tokens_are_told};
 pub use scanning::words_of;
 pub use token_list::{Token, TokenKind, Words};
 pub use writing::write_word;
-
-#[cfg(test)]
-mod tests;

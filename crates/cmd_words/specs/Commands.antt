@@ -1,9 +1,8 @@
 -- Which command a list of words makes, or the first thing that is wrong with it: the flags from left to right, then
 -- the number of addresses, then the first address and the second, then the directions.
-use Rattle.std.specs.Prelude.{◌≡◌, ℕ, ◌+◌, Bool, not, ◌&&◌, ◌||◌, List, [], ◌∷◌, length, drop, Option, Some, None, is_some, Result, Ok, Err, if◌then◌else◌}
+use Rattle.std.specs.Prelude.{◌≡◌, ℕ, ◌+◌, Bool, not, ◌&&◌, ◌||◌, List, [], ◌∷◌, length, drop, Option, Some, None, Result, Ok, Err, if◌then◌else◌}
 use Rattle.relay_model.specs.declared.places.Side.{Side}
 use Rattle.relay_model.specs.declared.places.Side.TheVariants.{Left, Right}
-use Rattle.relay_model.specs.declared.places.Half.TheVariants.{ToRead, ToWrite}
 use Rattle.relay_model.specs.declared.places.Way.TheVariants.{LeftToRight, RightToLeft}
 use Rattle.relay_model.specs.declared.commands.Config.{Config}
 use Rattle.relay_model.specs.declared.commands.Ways.{Ways}
@@ -14,7 +13,7 @@ use Rattle.relay_model.specs.declared.commands.Single.{Single}
 use Rattle.relay_model.specs.declared.refusals.Refusal.{Refusal}
 use Rattle.relay_model.specs.declared.refusals.Refusal.TheVariants as refusals
 use Rattle.relay_model.specs.declared.refusals.Refused.{Refused}
-use Rattle.relay_model.specs.Configs.{Fit, listens, parts_of, part_with, formed}
+use Rattle.relay_model.specs.Configs.{Fit, listens, formed}
 use Rattle.option_table.specs.Parts.{only_if}
 use Rattle.addr_grammar.specs.declared.addresses.RawAddress.{RawAddress}
 use Rattle.addr_grammar.specs.declared.addresses.RawAddress.TheVariants as written
@@ -116,17 +115,6 @@ address_at settings at side word =
     placed at address (misplaced_fork side address)
 
 -- ---- the whole
-
-abbrev pub is_read : Ways → Side → Address → Bool
-is_read asked side address = is_some (part_with ToRead (parts_of asked address side))
-
-abbrev pub is_written : Ways → Side → Address → Bool
-is_written asked side address = is_some (part_with ToWrite (parts_of asked address side))
-
--- whether some direction is read on one side and written on the other
-abbrev pub has_direction : Ways → Address → Address → Bool
-has_direction asked left right =
-    (is_read asked Left left && is_written asked Right right) || (is_read asked Right right && is_written asked Left left)
 
 abbrev pub config_of : Settings → Address → Address → Config
 config_of settings left right = record {

@@ -7,7 +7,7 @@ ghost use Rattle.cmd_words.specs.Commands.{Answers, parsed, single_at, use_of, r
 use crate::faults::{CommandFault, kind_fault, text_fault, wrong_at};
 use crate::settings::Settings;
 use addr_grammar::{RawAddress, RawSingle, parse_address};
-use addr_kinds::{Asked, listens, resolve};
+use addr_kinds::{Asked, resolve};
 use relay_model::{Address, Refusal, Side, Single, Ways};
 use std::alloc::Global;
 
@@ -83,7 +83,7 @@ fn misplaced_fork(side: Side, address: &Address) -> Option<u8>
         (_, Address::Two { reading, .. }) if reading.options.fork => Some(1),
         (_, Address::Two { writing, .. }) if writing.options.fork => Some(2),
         (_, Address::Two { .. }) => None,
-        (Side::Left, Address::One(single)) if listens(&single.target) => None,
+        (Side::Left, Address::One(single)) if single.target.listens() => None,
         (_, Address::One(single)) if single.options.fork => Some(1),
         (_, Address::One(_)) => None,
     }

@@ -1,16 +1,18 @@
 // What a command line asks for.
-ghost use Rattle.std.specs.Prelude.{◌≡◌, ◌+◌, ◌<◌, ◌^◌, None, length, IfOk};
+ghost use Rattle.std.specs.Prelude.{◌≡◌, ◌+◌, ◌<◌, ◌^◌, ◌||◌, None, length, IfOk};
+ghost use Rattle.relay_model.specs.Configs.{formed};
+ghost use Rattle.relay_model.specs.declared.places.Way.TheVariants.{LeftToRight, RightToLeft};
 ghost use Rattle.relay_model.specs.declared.places.Side.TheVariants.{Left, Right};
 ghost use Rattle.cmd_words.specs.Flags.{IsBounded};
 ghost use Rattle.cmd_words.specs.Commands.{Answers, IsFit, whole, misplaced_fork, instead_of, directed, config_of, between, command};
 
 use crate::addresses::address_at;
-use crate::directions::has_direction;
 use crate::faults::CommandFault;
 use crate::leading::read_flags;
 use crate::settings::{Flagged, Instead, Settings};
 use addr_kinds::counted;
-use relay_model::{Address, Config, Refusal, Refused, Side, Text};
+use command_places::formed;
+use relay_model::{Address, Config, Refusal, Refused, Side, Text, Way};
 use std::alloc::Global;
 
 /// What a command line asks for: a relay, the usage, the version, or the run that is generated from a number.
@@ -43,7 +45,15 @@ fn whole(why: Refusal) -> CommandFault
     })
 }
 
+/// Whether some direction is read on one side and written on the other.
+fn has_direction(config: &Config) -> bool
+    ensures { result ≡ (formed config.now LeftToRight || formed config.now RightToLeft) }
+{
+    formed(config, Way::LeftToRight) || formed(config, Way::RightToLeft)
+}
+
 /// The relay between two addresses, where they form a direction.
+#[tactic(auto, using(crate::proofs::Fitting::fit_of))]
 fn directed(settings: Settings, left: Address, right: Address) -> Result<Command, CommandFault>
     requires bounded { IsBounded settings }
     requires left { misplaced_fork Left left ≡ None }
@@ -51,10 +61,7 @@ fn directed(settings: Settings, left: Address, right: Address) -> Result<Command
     ensures exact { result ≡ directed (config_of settings left right) }
     ensures fit { IfOk result IsFit }
 {
-    if !has_direction(settings.ways, &left, &right) {
-        return Err(whole(Refusal::NoDirection));
-    }
-    Ok(Command::Relay(Config {
+    let config = Config {
         block: settings.block,
         closing: settings.closing,
         idle: settings.idle,
@@ -63,7 +70,11 @@ fn directed(settings: Settings, left: Address, right: Address) -> Result<Command
         sloppy: settings.sloppy,
         left,
         right,
-    }))
+    };
+    if !has_direction(&config) {
+        return Err(whole(Refusal::NoDirection));
+    }
+    Ok(Command::Relay(config))
 }
 
 /// The relay between the addresses that are the words from the place `first` on.

@@ -4,14 +4,11 @@
 
 mod addresses;
 mod commands;
-mod directions;
 mod faults;
 mod flags;
 mod laws;
 mod leading;
 mod settings;
-#[cfg(test)]
-mod tests;
 
 pub use commands::{Command, command_of};
 pub use faults::CommandFault;

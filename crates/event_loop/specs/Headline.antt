@@ -1,5 +1,5 @@
 -- What a run leaves: a legal history, nothing held, and the outcome that the history gives.
-use Rattle.std.specs.Prelude.{◌≡◌, ℕ, ◌+◌, ◌-◌, ◌^◌, ◌≤◌, Bool, true, false, List, Option, Some, min, ◌⊎◌}
+use Rattle.std.specs.Prelude.{◌≡◌, ℕ, ◌+◌, ◌-◌, ◌^◌, ◌≤◌, ◌<◌, Bool, true, false, List, Option, Some, min, ◌⊎◌}
 use Rattle.relay_model.specs.declared.acts.Act.{Act}
 use Rattle.relay_model.specs.declared.places.Place.{Place}
 use Rattle.relay_model.specs.declared.commands.Config.{Config}
@@ -45,3 +45,20 @@ is_relayed outcome = false
 abbrev pub StopCause : ℕ → ℕ → ℕ → ℕ → ℕ → Outcome → Type 0
 StopCause n waits waits' stops stops' (outcomes.Stopped turns) = Risen stops stops' ⊎ ((turns ≡ n) × (min (waits + n) (2 ^ 64 - 1) ≤ waits'))
 StopCause n waits waits' stops stops' outcome = Unit {0}
+
+-- ---- completeness
+
+-- a count didn't rise, and doesn't stand at its last value, where a rise wouldn't show
+abbrev pub Unrisen : ℕ → ℕ → Type 0
+Unrisen before now = now < min (before + 1) (2 ^ 64 - 1)
+
+-- the answers that are left where nothing failed and nothing stopped the run: it ended by itself, or memory was wanting
+abbrev pub is_undisturbed : Outcome → Bool
+is_undisturbed (outcomes.Ended why) = true
+is_undisturbed outcomes.Memory = true
+is_undisturbed outcome = false
+
+-- where no fault and no stop was counted, and fewer than n waits, the answer is one of these
+abbrev pub Completes : ℕ → ℕ → ℕ → ℕ → ℕ → ℕ → ℕ → Outcome → Type 0
+Completes n faults faults' waits waits' stops stops' answer =
+    Unrisen faults faults' → waits' < min (waits + n) (2 ^ 64 - 1) → Unrisen stops stops' → is_undisturbed answer ≡ true

@@ -75,7 +75,8 @@ impl Driver {
         ensures fewer { rank self.new < rank self.old }
         ensures made { self.new.made ≡ self.old.made }
     {
-        match world.open_place(place, single(config, place), None) {
+        let behind = self.session.peer();
+        match world.open_place(place, single(config, place), behind) {
             OpenAnswer::Opened => self.session.heard(0, Answer::Opened),
             OpenAnswer::Later => self.session.heard(0, Answer::Later),
             OpenAnswer::Failed => self.session.heard(0, Answer::Failed),

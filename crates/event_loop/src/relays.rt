@@ -6,7 +6,7 @@ ghost use Rattle.relay_model.specs.Journals.{History};
 ghost use Rattle.event_loop.specs.Seen.{Seen};
 ghost use Rattle.event_loop.specs.Commands.{Runnable};
 ghost use Rattle.event_loop.specs.Courses.{Risen, Course};
-ghost use Rattle.event_loop.specs.Headline.{Headline, StopCause, is_failure, is_relayed};
+ghost use Rattle.event_loop.specs.Headline.{Completes, Headline, StopCause, is_failure, is_relayed};
 
 use crate::drivers::Driver;
 use exit_status::Outcome;
@@ -26,6 +26,7 @@ pub fn relay<W: World>(alloc: Global, world: &mut W, config: &Config, turns: u64
     ensures answers { is_relayed result ≡ true }
     ensures failed { is_failure result ≡ true → Risen (W.faults world.old) (W.faults world.new) }
     ensures stopped { StopCause turns (W.waits world.old) (W.waits world.new) (W.stops world.old) (W.stops world.new) result }
+    ensures complete { Completes turns (W.faults world.old) (W.faults world.new) (W.waits world.old) (W.waits world.new) (W.stops world.old) (W.stops world.new) result }
 {
     match begin(alloc, config) {
         Ok((mut driver, mut scratch)) => {

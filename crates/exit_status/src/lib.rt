@@ -3,8 +3,6 @@
 
 mod lines;
 mod outcomes;
-#[cfg(test)]
-mod tests;
 
 pub use lines::{line_of, usage_text, version_text};
 pub use outcomes::{EndWhy, Op, Outcome, one_answer_fits, status};

@@ -1,2 +1,3 @@
 pub mod Fronts
+pub mod Makings
 pub mod Servings

@@ -3,9 +3,9 @@ use Rattle.std.proofs.Common.{ℕ, false, not, Option, None, Some, refl, ap, ◌
 use Rattle.relay_model.specs.declared.acts.Shut.{Shut}
 use Rattle.port_trait.specs.Serving.{Shuts}
 use Rattle.port_trait.specs.Streams.{finishes}
-use Rattle.thread_rings.specs.Readers.{ReaderState}
-use Rattle.thread_rings.specs.WriterRing.{is_shut}
-use Rattle.thread_rings.specs.Writers.{WriterState, line_after_shut}
+use Rattle.ring_reader.specs.Readers.{ReaderState}
+use Rattle.ring_writer.specs.WriterRing.{is_shut}
+use Rattle.ring_writer.specs.Writers.{WriterState, line_after_shut}
 use Rattle.file_ports.specs.Files.{FileState, FileShuts, served_of}
 
 abbrev file_of : Option ReaderState → Option WriterState → ℕ → FileState

@@ -11,12 +11,12 @@ use Rattle.port_trait.specs.declared.answers.Took.TheVariants as writes
 use Rattle.port_trait.specs.Counting.{Tallied}
 use Rattle.port_trait.specs.Meanings.{Behind, read_event, write_event, is_end}
 use Rattle.port_trait.specs.Streams.{finishes}
-use Rattle.port_trait.specs.Serving.{Serving}
-use Rattle.thread_rings.specs.Readers.{ReaderState, given_of, gave_behind, left_behind, ends_behind, faults_behind, BeginStep, ReadStep, KeptByRead, is_of_mark, CountsWithin, TellsSource}
-use Rattle.thread_rings.specs.Readers as readers
-use Rattle.thread_rings.specs.Writers.{WriterState, WriterBeginStep, WriterWrites, WriterPutsAll, took_behind, line_after_shut}
-use Rattle.thread_rings.specs.Writers as writers
-use Rattle.thread_rings.specs.WriterRing.{IsBehind, is_open, is_shut, may_join}
+use Rattle.port_trait.specs.Serving.{Serving, Explained}
+use Rattle.ring_reader.specs.Readers.{ReaderState, given_of, gave_behind, left_behind, ends_behind, faults_behind, BeginStep, ReadStep, KeptByRead, is_of_mark, TellsSource}
+use Rattle.ring_reader.specs.Readers as readers
+use Rattle.ring_writer.specs.Writers.{WriterState, WriterBeginStep, WriterWrites, WriterPutsAll, took_behind, finished_behind, line_after_shut}
+use Rattle.ring_writer.specs.Writers as writers
+use Rattle.ring_writer.specs.WriterRing.{IsBehind, is_open, is_shut, may_join}
 
 -- the ring that reads it, the ring that writes it, and how many calls found no half that serves them
 pub record FileState : Type 0 where
@@ -42,6 +42,9 @@ behind_ends_of file = option_and_then (λ reader. ends_behind reader.behind) fil
 abbrev pub behind_took_of : FileState → Option (List ℕ)
 behind_took_of file = option_and_then (λ writer. took_behind writer.line.behind) file.writer
 
+abbrev pub behind_finished_of : FileState → Option Bool
+behind_finished_of file = option_and_then (λ writer. finished_behind writer.line.behind) file.writer
+
 -- a sum that is told where both parts are
 abbrev pub told_sum : Option ℕ → Option ℕ → Option ℕ
 told_sum None b = None
@@ -63,11 +66,11 @@ no_counts = record { faults = 0; ends = 0; empties = 0; stalls = 0 }
 
 abbrev pub reader_counts : Option ReaderState → Counts
 reader_counts None = no_counts
-reader_counts (Some reader) = reader.counts
+reader_counts (Some reader) = reader.tally.counts
 
 abbrev pub writer_counts : Option WriterState → Counts
 writer_counts None = no_counts
-writer_counts (Some writer) = writer.counts
+writer_counts (Some writer) = writer.tally.counts
 
 -- a count of 64 bits, which stays at its last value
 abbrev pub capped : ℕ → ℕ
@@ -118,11 +121,11 @@ joins_of file = reader_joins file.reader && writer_joins file.writer
 
 abbrev pub reader_misuses : Option ReaderState → ℕ
 reader_misuses None = 0
-reader_misuses (Some reader) = reader.misuses
+reader_misuses (Some reader) = reader.tally.misuses
 
 abbrev pub writer_misuses : Option WriterState → ℕ
 writer_misuses None = 0
-writer_misuses (Some writer) = writer.misuses
+writer_misuses (Some writer) = writer.tally.misuses
 
 -- a half that isn't there serves nothing
 abbrev pub writer_serves : Option WriterState → Bool
@@ -166,7 +169,7 @@ pub record ReaderReads (old new : ReaderState) (into : List ℕ) (answer : Got) 
   pub ended : new.ended ≡ is_end answer
   pub marked : new.marked ≡ is_of_mark answer
   pub kept : KeptByRead old new
-  pub counts : Tallied (read_event answer) old.counts new.counts
+  pub counts : Tallied (read_event answer) old.tally.counts new.tally.counts
 
 -- a read is one of the reading ring; without that half it fails, and is counted
 abbrev pub FileReads : Option ReaderState → FileState → FileState → List ℕ → Got → Type 0
@@ -176,11 +179,11 @@ FileReads (Some reader) old new into answer = (after : ReaderState) × (new ≡ 
 -- a write is one of the writing ring; without that half it fails, and is counted
 abbrev pub FileWrites : Option WriterState → FileState → FileState → List ℕ → WriteAnswer → Type 0
 FileWrites None old new bytes answer = IsMissed old new × (answer ≡ writes.Failed)
-FileWrites (Some writer) old new bytes answer = (after : WriterState) × (new ≡ record old { writer = Some after }) × WriterWrites (is_open writer.line) writer after bytes answer × Tallied (write_event answer) writer.counts after.counts
+FileWrites (Some writer) old new bytes answer = (after : WriterState) × (new ≡ record old { writer = Some after }) × WriterWrites (is_open writer.line) writer after bytes answer × Tallied (write_event answer) writer.tally.counts after.tally.counts
 
 abbrev pub FilePutsAll : Option WriterState → FileState → FileState → List ℕ → WriteAnswer → Type 0
 FilePutsAll None old new bytes answer = IsMissed old new × (answer ≡ writes.Failed)
-FilePutsAll (Some writer) old new bytes answer = (after : WriterState) × (new ≡ record old { writer = Some after }) × WriterPutsAll (is_open writer.line) writer after bytes answer × Tallied (write_event answer) writer.counts after.counts
+FilePutsAll (Some writer) old new bytes answer = (after : WriterState) × (new ≡ record old { writer = Some after }) × WriterPutsAll (is_open writer.line) writer after bytes answer × Tallied (write_event answer) writer.tally.counts after.tally.counts
 
 -- the end is passed on to the writing ring; without that half nothing is done
 abbrev pub FileShuts : Option WriterState → FileState → FileState → Shut → Type 0
@@ -204,11 +207,11 @@ SameEmpties old new = (counts_of new).empties ≡ (counts_of old).empties
 -- what a joined reading ring knows of its source
 pub record KnowsSource (reader : ReaderState) : Type 0 where
   pub behind : Behind (Some (given_of reader)) None (gave_behind reader.behind) None (left_behind reader.behind) (faults_behind reader.behind) reader.ended
-  pub counts : CountsWithin reader reader.behind
+  pub explained : Explained (Some (readers.served_of reader)) reader.tally.counts (faults_behind reader.behind) (ends_behind reader.behind)
   pub tells : TellsSource reader
 
 -- what a joined writing ring knows of its sink
 pub record KnowsSink (writer : WriterState) : Type 0 where
   pub tells : writer.line.begun ≡ true → IsSome writer.line.behind
   pub behind : IfSome writer.line.behind (IsBehind writer.line)
-  pub counts : IfSome writer.line.behind (λ behind. writer.counts.faults ≤ writer.misuses + behind.faults)
+  pub explained : Explained (Some (writers.served_of writer)) writer.tally.counts (writers.faults_behind writer.line.behind) (writers.ends_behind writer.line.behind)

@@ -2,4 +2,4 @@ pub mod Access
 pub mod Echoes
 pub mod Files
 pub mod Opened
-pub mod Openings
+pub mod Streams

@@ -7,10 +7,13 @@ use Rattle.relay_model.specs.declared.commands.Target.TheVariants as targets
 use Rattle.relay_model.specs.declared.commands.Single.{Single}
 use Rattle.port_trait.specs.declared.makers.Making.{Making}
 use Rattle.port_trait.specs.declared.makers.Making.TheVariants as makings
+use Rattle.file_ports.specs.declared.access.Access.{Access}
 use Rattle.file_ports.specs.declared.access.FileKind.{FileKind}
 use Rattle.file_ports.specs.declared.access.FileKind.TheVariants as kinds
 use Rattle.file_ports.specs.declared.open.FileEnds.{FileEnds}
 use Rattle.file_ports.specs.declared.open.FileEnds.TheVariants as ends
+use Rattle.file_ports.specs.Access.{access_of}
+use Rattle.file_ports.specs.Streams.{FileReading, FileWriting}
 
 -- the kind and the name of an address of a file
 abbrev pub file_named : Target → Option (FileKind × List ℕ)
@@ -27,20 +30,21 @@ OnMade (makings.Later made) P = ⊥
 OnMade makings.Failed P = Unit {0}
 OnMade makings.Memory P = Unit {0}
 
--- a part that reads has what is read, and one that writes what is written
-abbrev pub FitsPart : {S K : Type 0} → Part → FileEnds S K → Type 0
-FitsPart parts.Both (ends.Both source sink) = Unit {0}
-FitsPart parts.Both (ends.Reading source) = ⊥
-FitsPart parts.Both (ends.Writing sink) = ⊥
-FitsPart parts.Reading (ends.Reading source) = Unit {0}
-FitsPart parts.Reading (ends.Writing sink) = ⊥
-FitsPart parts.Reading (ends.Both source sink) = ⊥
-FitsPart parts.Writing (ends.Writing sink) = Unit {0}
-FitsPart parts.Writing (ends.Reading source) = ⊥
-FitsPart parts.Writing (ends.Both source sink) = ⊥
+-- a part that reads has what is read, and one that writes what is written, each opened in this way
+abbrev pub AreOpened : Part → Access → FileEnds FileReading FileWriting → Type 0
+AreOpened parts.Both access (ends.Both source sink) = (source.access ≡ access) × (sink.access ≡ access)
+AreOpened parts.Both access (ends.Reading source) = ⊥
+AreOpened parts.Both access (ends.Writing sink) = ⊥
+AreOpened parts.Reading access (ends.Reading source) = source.access ≡ access
+AreOpened parts.Reading access (ends.Writing sink) = ⊥
+AreOpened parts.Reading access (ends.Both source sink) = ⊥
+AreOpened parts.Writing access (ends.Writing sink) = sink.access ≡ access
+AreOpened parts.Writing access (ends.Reading source) = ⊥
+AreOpened parts.Writing access (ends.Both source sink) = ⊥
 
--- the address is one of a file whose name is UTF-8, the ends are those of the part, and the entry goes where it is to
-pub record IsOpened {S K G : Type 0} (single : Single) (part : Part) (ends : FileEnds S K) (removal : Option G) : Type 0 where
+-- the address is one of a file whose name is UTF-8, the ends are those of the part, opened as the kind of the address
+-- and its flags ask, and the entry goes where it is to
+pub record IsOpened {G : Type 0} (single : Single) (part : Part) (ends : FileEnds FileReading FileWriting) (removal : Option G) : Type 0 where
   pub named : (file : FileKind × List ℕ) × (file_named single.target ≡ Some file) × IsUtf8 file.1
-  pub fits : FitsPart part ends
+  pub opened : AreOpened part (access_of named.0.0 single.options.file part) ends
   pub removed : is_some removal ≡ single.options.unlink_close

@@ -177,6 +177,12 @@ impl Port for EchoPort {
         true
     }
 
+    fn has_child(&self) -> bool
+        ensures { result ≡ false }
+    {
+        false
+    }
+
     fn reap(&mut self) -> PortReap
         ensures none { result ≡ reaps.NoChild }
         ensures kept { self.new ≡ self.old }

@@ -1,7 +1,7 @@
 // A file: what reads it and what writes it.
 ghost use Rattle.std.specs.Prelude.{◌≡◌, ◌<◌, ◌≤◌, ◌+◌, ◌-◌, ◌^◌, min, Bool, true, false, ◌&&◌, length, Some, None, IfNone, IfSome, option_map};
 ghost use Rattle.port_trait.specs.Counting.{Tallied};
-ghost use Rattle.port_trait.specs.Meanings.{Gives, Accepts, AcceptsWhole, AcceptsAll, Behind, OnJoined, begun_after, is_end, begin_event, settle_event, read_event, write_event, shut_event, join_answer};
+ghost use Rattle.port_trait.specs.Meanings.{Gives, Accepts, AcceptsWhole, AcceptsAll, Behind, FinishedBehind, OnJoined, begun_after, is_end, begin_event, settle_event, read_event, write_event, shut_event, join_answer};
 ghost use Rattle.port_trait.specs.Serving.{IsCalled, Explained, is_begin_served};
 ghost use Rattle.port_trait.specs.declared.answers.Begun.TheVariants as begins;
 ghost use Rattle.port_trait.specs.declared.answers.Settled.TheVariants as settles;
@@ -9,8 +9,8 @@ ghost use Rattle.port_trait.specs.declared.answers.Took.TheVariants as writes;
 ghost use Rattle.port_trait.specs.declared.answers.Shutting.TheVariants as shuts;
 ghost use Rattle.port_trait.specs.declared.answers.PortReap.TheVariants as reaps;
 ghost use Rattle.port_trait.specs.declared.answers.Joining.TheVariants as joining;
-ghost use Rattle.thread_rings.specs.Readers.{given_of};
-ghost use Rattle.file_ports.specs.Files.{gave_of, took_of, behind_gave_of, behind_took_of, behind_faults_of, behind_ends_of, behind_left_of, counts_of, begun_of, ended_of, joins_of, served_of, FileBegins, FileReads, FileWrites, FilePutsAll, FileShuts, IsMissed, ReaderBegins, SameReader, SameWriter, KnowsSource, KnowsSink, SameEmpties, reader_begun, reader_ended, reader_counts, reader_joins, reader_misuses, writer_joins};
+ghost use Rattle.ring_reader.specs.Readers.{given_of};
+ghost use Rattle.file_ports.specs.Files.{gave_of, took_of, behind_gave_of, behind_took_of, behind_faults_of, behind_ends_of, behind_left_of, behind_finished_of, counts_of, begun_of, ended_of, joins_of, served_of, FileBegins, FileReads, FileWrites, FilePutsAll, FileShuts, IsMissed, ReaderBegins, SameReader, SameWriter, KnowsSource, KnowsSink, SameEmpties, reader_begun, reader_ended, reader_counts, reader_joins, reader_misuses, writer_joins};
 
 use port_trait::{
     Begun, Got, Hint, Joining, Port, PortReap, Settled, Shutting, Sink, Source, Took,
@@ -109,6 +109,8 @@ where
     ghost behind_ends = { behind_ends_of };
 
     ghost behind_left = { behind_left_of };
+
+    ghost behind_finished = { behind_finished_of };
 
     ghost served = { λ port. Some (served_of port) };
 
@@ -244,7 +246,7 @@ where
         ensures unwritten { IfNone self.old.writer (result.writable ≡ false) }
         ensures same { self.new ≡ self.old }
         ensures kept { (gave_of self.new ≡ gave_of self.old) × (took_of self.new ≡ took_of self.old) × (counts_of self.new ≡ counts_of self.old) × (begun_of self.new ≡ begun_of self.old) × (ended_of self.new ≡ ended_of self.old) × (joins_of self.new ≡ joins_of self.old) }
-        ensures behind { (behind_gave_of self.new ≡ behind_gave_of self.old) × (behind_took_of self.new ≡ behind_took_of self.old) × (behind_faults_of self.new ≡ behind_faults_of self.old) × (behind_ends_of self.new ≡ behind_ends_of self.old) × (behind_left_of self.new ≡ behind_left_of self.old) }
+        ensures behind { (behind_gave_of self.new ≡ behind_gave_of self.old) × (behind_took_of self.new ≡ behind_took_of self.old) × (behind_faults_of self.new ≡ behind_faults_of self.old) × (behind_ends_of self.new ≡ behind_ends_of self.old) × (behind_left_of self.new ≡ behind_left_of self.old) × (behind_finished_of self.new ≡ behind_finished_of self.old) }
     {
         let readable = match &mut self.reader {
             Some(reader) => reader.hint().readable,
@@ -261,6 +263,12 @@ where
         ensures { result ≡ true }
     {
         true
+    }
+
+    fn has_child(&self) -> bool
+        ensures { result ≡ false }
+    {
+        false
     }
 
     fn reap(&mut self) -> PortReap
@@ -284,6 +292,7 @@ where
         ensures explained { OnJoined result (Explained (Some (served_of self.new)) (counts_of self.new) (behind_faults_of self.new) (behind_ends_of self.new)) }
         ensures kept { (gave_of self.new ≡ gave_of self.old) × (took_of self.new ≡ took_of self.old) × (counts_of self.new ≡ counts_of self.old) × (begun_of self.new ≡ begun_of self.old) × (ended_of self.new ≡ ended_of self.old) × (joins_of self.new ≡ joins_of self.old) }
         ensures behind { OnJoined result (Behind (gave_of self.new) (took_of self.new) (behind_gave_of self.new) (behind_took_of self.new) (behind_left_of self.new) (behind_faults_of self.new) (ended_of self.new)) }
+        ensures finished { OnJoined result (FinishedBehind (behind_faults_of self.new) (behind_finished_of self.new)) }
     {
         let reader = join_reader(&mut self.reader);
         match &mut self.writer {

@@ -4,15 +4,12 @@
 mod access;
 mod echo;
 mod file;
-mod making;
 mod open;
+mod opening;
 mod streams;
-#[cfg(test)]
-mod tests;
 
 pub use access::{Access, FileKind};
 pub use echo::EchoPort;
 pub use file::FilePort;
-pub use making::{Wakes, file_port};
 pub use open::{FileEnds, OpenedFile, Removal, open_file};
 pub use streams::{FileSink, FileSource};

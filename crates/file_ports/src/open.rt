@@ -1,9 +1,11 @@
 // Files are opened by their addresses.
 ghost use Rattle.std.specs.Prelude.{◌≡◌, None, Some, IfSome, IfNone, is_some, not, IsUtf8};
 ghost use Rattle.port_trait.specs.declared.makers.Making.TheVariants as makings;
-ghost use Rattle.file_ports.specs.Opened.{file_named, OnMade, FitsPart, IsOpened};
+ghost use Rattle.relay_model.specs.declared.places.Part.TheVariants as parts;
+ghost use Rattle.file_ports.specs.Opened.{file_named, OnMade, AreOpened, IsOpened};
 
 use crate::access::{Access, FileKind};
+use crate::opening::{Opened, open_now};
 use crate::streams::{FileSink, FileSource};
 use port_trait::Making;
 use relay_model::{Part, Single, Target, Text};
@@ -121,7 +123,7 @@ fn open_ends<R>(
 ) -> Making<FileEnds<FileSource<R>, FileSink<R>>>
 where
     R: Files + Copy + Drop,
-    ensures { OnMade result (FitsPart part) }
+    ensures { OnMade result (AreOpened part access) }
 {
     let pipe = is_pipe(&files, name);
     if kind == FileKind::Pipe && !pipe {
@@ -136,8 +138,8 @@ where
     if access.empty_first && !pipe && !is_emptied(&files, name) {
         return Making::Failed;
     }
-    match files.open_file(&access.options(), name) {
-        Ok(file) => ends_of(file, part),
+    match open_now(&files, access, name) {
+        Ok(opened) => ends_of(opened, part),
         Err(_) => Making::Failed,
     }
 }
@@ -156,7 +158,7 @@ fn make_missing<R: Files>(files: &R, name: &str) {
         create_new: true,
         ..Access::plain(false, true)
     };
-    let _ = files.open_file(&access.options(), name);
+    let _ = open_now(files, access, name);
 }
 
 /// Empties the file. True also where nothing is there.
@@ -165,7 +167,7 @@ fn is_emptied<R: Files>(files: &R, name: &str) -> bool {
         truncate: true,
         ..Access::plain(false, true)
     };
-    match files.open_file(&access.options(), name) {
+    match open_now(files, access, name) {
         Ok(_) => true,
         Err(error) => error.kind() == ErrorKind::NotFound,
     }
@@ -181,7 +183,7 @@ fn wait_for_end<R>(
 ) -> Making<FileEnds<FileSource<R>, FileSink<R>>>
 where
     R: Files + Copy + Drop,
-    ensures { OnMade result (FitsPart part) }
+    ensures { OnMade result (AreOpened part access) }
 {
     let Ok(name) = String::from_str(alloc, name) else {
         return Making::Memory;
@@ -194,17 +196,30 @@ where
 }
 
 /// The ends of an open file. Both have one position in the file.
-fn ends_of<R>(file: R::File, part: Part) -> Making<FileEnds<FileSource<R>, FileSink<R>>>
+fn ends_of<R>(opened: Opened<R::File>, part: Part) -> Making<FileEnds<FileSource<R>, FileSink<R>>>
 where
     R: Files + Copy + Drop,
-    ensures { OnMade result (FitsPart part) }
+    ensures { OnMade result (AreOpened part opened.access) }
 {
     match part {
-        Part::Reading => Making::Made(FileEnds::Reading(FileSource::open(file))),
-        Part::Writing => Making::Made(FileEnds::Writing(FileSink::open(file))),
-        Part::Both => match file.try_clone() {
-            Ok(copy) => Making::Made(FileEnds::Both(FileSource::open(copy), FileSink::open(file))),
-            Err(_) => Making::Failed,
-        },
+        Part::Reading => Making::Made(FileEnds::Reading(FileSource::open(opened))),
+        Part::Writing => Making::Made(FileEnds::Writing(FileSink::open(opened))),
+        Part::Both => both_ends(opened),
     }
+}
+
+/// The two ends of an open file.
+fn both_ends<R>(opened: Opened<R::File>) -> Making<FileEnds<FileSource<R>, FileSink<R>>>
+where
+    R: Files + Copy + Drop,
+    ensures { OnMade result (AreOpened parts.Both opened.access) }
+{
+    let Ok(file) = opened.file.try_clone() else {
+        return Making::Failed;
+    };
+    let copy = Opened {
+        file,
+        access: opened.access,
+    };
+    Making::Made(FileEnds::Both(FileSource::open(copy), FileSink::open(opened)))
 }

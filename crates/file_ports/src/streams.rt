@@ -1,9 +1,12 @@
 // What is read from and written to a file that is open, or from and to a named pipe that waits to be opened.
 ghost use Rattle.std.specs.Prelude.{◌≡◌};
+ghost use Rattle.file_ports.specs.Streams.{fresh_file_reading, fresh_file_writing};
 
 use crate::access::Access;
+use crate::opening::{Opened, open_now};
 use port_trait::{Sink, SinkTook, Source, SourceGot};
 use std::io::{Read, Write};
+use std::marker::Model;
 use std::rt::Files;
 
 /// An open file, or the name of a pipe. The opening of a pipe waits for its other end (fifo(7)), so the thread
@@ -11,26 +14,17 @@ use std::rt::Files;
 #[derive(Drop)]
 enum Door<R: Files> {
     Open(R::File),
-    Waiting {
-        files: R,
-        name: String,
-        access: Access,
-    },
+    Waiting { files: R, name: String },
 }
 
 impl<R: Files + Drop> Door<R> {
     /// Opens what waits.
-    fn open(&mut self) {
-        let Door::Waiting {
-            files,
-            name,
-            access,
-        } = self
-        else {
+    fn open(&mut self, access: Access) {
+        let Door::Waiting { files, name } = self else {
             return;
         };
-        if let Ok(file) = files.open_file(&access.options(), name.as_str()) {
-            *self = Door::Open(file);
+        if let Ok(opened) = open_now(files, access, name.as_str()) {
+            *self = Door::Open(opened.file);
         }
     }
 }
@@ -39,28 +33,39 @@ impl<R: Files + Drop> Door<R> {
 #[derive(Drop)]
 pub struct FileSource<R: Files> {
     door: Door<R>,
+    access: Access,
     faults: u64,
     ends: u64,
 }
 
+impl<R: Files> Model for FileSource<R> {
+    ghost use Rattle.file_ports.specs.Streams.{FileReading};
+
+    ghost Value = { FileReading };
+
+    ghost view = { λ source. record { access = source.access; faults = source.faults; ends = source.ends } };
+}
+
 impl<R: Files + Drop> FileSource<R> {
     /// Reads from this file.
-    pub fn open(file: R::File) -> FileSource<R> {
+    pub(crate) fn open(opened: Opened<R::File>) -> FileSource<R>
+        ensures { result ≡ fresh_file_reading opened.access }
+    {
         FileSource {
-            door: Door::Open(file),
+            door: Door::Open(opened.file),
+            access: opened.access,
             faults: 0,
             ends: 0,
         }
     }
 
     /// Reads from the pipe of this name.
-    pub fn waiting(files: R, name: String, access: Access) -> FileSource<R> {
+    pub(crate) fn waiting(files: R, name: String, access: Access) -> FileSource<R>
+        ensures { result ≡ fresh_file_reading access }
+    {
         FileSource {
-            door: Door::Waiting {
-                files,
-                name,
-                access,
-            },
+            door: Door::Waiting { files, name },
+            access,
             faults: 0,
             ends: 0,
         }
@@ -73,7 +78,7 @@ impl<R: Files + Drop> Source for FileSource<R> {
     ghost ends = { λ source. source.ends };
 
     fn read(&mut self, into: &mut [u8]) -> SourceGot {
-        self.door.open();
+        self.door.open(self.access);
         let Door::Open(file) = &mut self.door else {
             self.faults = self.faults.saturating_add(1);
             return SourceGot::Failed;
@@ -96,27 +101,41 @@ impl<R: Files + Drop> Source for FileSource<R> {
 #[derive(Drop)]
 pub struct FileSink<R: Files> {
     door: Door<R>,
+    access: Access,
     faults: u64,
+    finished: bool,
+}
+
+impl<R: Files> Model for FileSink<R> {
+    ghost use Rattle.file_ports.specs.Streams.{FileWriting};
+
+    ghost Value = { FileWriting };
+
+    ghost view = { λ sink. record { access = sink.access; faults = sink.faults; finished = sink.finished } };
 }
 
 impl<R: Files + Drop> FileSink<R> {
     /// Writes to this file.
-    pub fn open(file: R::File) -> FileSink<R> {
+    pub(crate) fn open(opened: Opened<R::File>) -> FileSink<R>
+        ensures { result ≡ fresh_file_writing opened.access }
+    {
         FileSink {
-            door: Door::Open(file),
+            door: Door::Open(opened.file),
+            access: opened.access,
             faults: 0,
+            finished: false,
         }
     }
 
     /// Writes to the pipe of this name.
-    pub fn waiting(files: R, name: String, access: Access) -> FileSink<R> {
+    pub(crate) fn waiting(files: R, name: String, access: Access) -> FileSink<R>
+        ensures { result ≡ fresh_file_writing access }
+    {
         FileSink {
-            door: Door::Waiting {
-                files,
-                name,
-                access,
-            },
+            door: Door::Waiting { files, name },
+            access,
             faults: 0,
+            finished: false,
         }
     }
 }
@@ -124,8 +143,11 @@ impl<R: Files + Drop> FileSink<R> {
 impl<R: Files + Drop> Sink for FileSink<R> {
     ghost faults = { λ sink. sink.faults };
 
+    ghost finished = { λ sink. sink.finished };
+
     fn write(&mut self, bytes: &[u8]) -> SinkTook {
-        self.door.open();
+        self.finished = false;
+        self.door.open(self.access);
         let Door::Open(file) = &mut self.door else {
             self.faults = self.faults.saturating_add(1);
             return SinkTook::Failed;
@@ -145,17 +167,14 @@ impl<R: Files + Drop> Sink for FileSink<R> {
 
     /// Opens a pipe to which nothing was written too, so that its reader sees the end.
     fn finish(&mut self) -> bool {
-        self.door.open();
-        let Door::Open(file) = &mut self.door else {
-            self.faults = self.faults.saturating_add(1);
-            return false;
+        self.door.open(self.access);
+        self.finished = match &mut self.door {
+            Door::Open(file) => file.flush().is_ok(),
+            Door::Waiting { .. } => false,
         };
-        match file.flush() {
-            Ok(()) => true,
-            Err(_) => {
-                self.faults = self.faults.saturating_add(1);
-                false
-            }
+        if !self.finished {
+            self.faults = self.faults.saturating_add(1);
         }
+        self.finished
     }
 }

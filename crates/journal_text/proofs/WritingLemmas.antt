@@ -1,9 +1,9 @@
 -- What is still to be written of a list.
-use Rattle.std.proofs.Common.{◌≡◌, ℕ, ◌+◌, ◌≤◌, List, [], ◌∷◌, ◌++◌, map, reverse, length, drop, Some, refl, sym, ap, subst, ◌∙◌, append_assoc}
+use Rattle.std.proofs.Common.{◌≡◌, ℕ, zero, suc, ◌+◌, ◌-◌, ◌≤◌, ◌<◌, List, [], ◌∷◌, ◌++◌, map, reverse, length, take, drop, Some, refl, sym, ap, subst, ◌∙◌, append_assoc, arith}
 use Rattle.std.specs.Prelude.{slice_get}
 use Rattle.std.specs.List.{AllByRecursion, flat_map, join_with_byte}
 use Rattle.std.specs.Str.{byte}
-use Rattle.std.proofs.lemmas.List.{append-nil, drop_more, drop_all, reverse-append, flat_map_more}
+use Rattle.std.proofs.lemmas.List.{append-nil, drop_more, drop_all, reverse-append, flat_map_more, length-reverse, length-drop, take-append-drop}
 use Rattle.std.proofs.lemmas.Option.{slice_get_within, get_or_from_slice_get}
 use Rattle.relay_model.specs.declared.readiness.ReadyAt.{ReadyAt}
 use Rattle.relay_model.specs.declared.acts.Act.{Act}
@@ -74,3 +74,29 @@ line_at text whole acts i a is so_far =
 pub lines_done : (text whole : List ℕ) (acts : List Act) (i : ℕ) → length acts ≤ i → text ++ lines_of (drop i acts) ≡ whole → text ≡ whole
 lines_done text whole acts i past so_far =
     sym (append-nil text) ∙ ap (λ more. text ++ lines_of more) (sym (drop_all i acts past)) ∙ so_far
+
+-- ---- the oldest acts of a journal, so many
+
+-- an element in front of other elements
+get_in_front : {A : Type 0} (xs ys : List A) (i : ℕ) (x : A) → i < length xs → slice_get (xs ++ ys) i ≡ Some x → slice_get xs i ≡ Some x
+get_in_front [] ys i x within is = absurd (omega (arith, within))
+get_in_front (y ∷ xs) ys zero x within is = is
+get_in_front (y ∷ xs) ys (suc i) x within is = get_in_front xs ys i x (omega (arith, within)) is
+
+abbrev pub oldest : ℕ → List Act → List Act
+oldest count acts = drop (length acts - count) acts
+
+pub length-oldest : (count : ℕ) (acts : List Act) → count ≤ length acts → length (reverse (oldest count acts)) ≡ count
+length-oldest count acts within = omega (arith, within, length-reverse (oldest count acts), length-drop (length acts - count) acts)
+
+-- counted from the oldest, the acts stand where they stand among all
+pub act_of_oldest : (count : ℕ) (acts : List Act) (i : ℕ) (a : Act) → count ≤ length acts → i < count → slice_get (reverse acts) i ≡ Some a → slice_get (reverse (oldest count acts)) i ≡ Some a
+act_of_oldest count acts i a within before is =
+    let newer = take (length acts - count) acts in
+    let parted : reverse acts ≡ reverse (oldest count acts) ++ reverse newer =
+    ap reverse (sym (take-append-drop (length acts - count) acts)) ∙ reverse-append newer (oldest count acts) in
+    let here : i < length (reverse (oldest count acts)) = omega (arith, before, length-oldest count acts within) in
+    get_in_front (reverse (oldest count acts)) (reverse newer) i a here (subst (λ xs. slice_get xs i ≡ Some a) parted is)
+
+pub all_oldest : (acts : List Act) → oldest (length acts) acts ≡ acts
+all_oldest acts = let none : length acts - length acts ≡ 0 = omega arith in ap (λ k. drop k acts) none

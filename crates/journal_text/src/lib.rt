@@ -13,7 +13,4 @@ mod writing;
 pub use faults::JournalFault;
 pub use laws::{one_bad_line, one_journal};
 pub use reading::read_journal;
-pub use writing::write_journal;
-
-#[cfg(test)]
-mod tests;
+pub use writing::{write_front, write_journal};

@@ -1,5 +1,5 @@
 // The text of a journal.
-ghost use Rattle.std.specs.Prelude.{◌≡◌, ◌<◌, ◌++◌, ◌∷◌, [], IfOk, OnOk};
+ghost use Rattle.std.specs.Prelude.{◌≡◌, ◌<◌, ◌≤◌, ◌++◌, ◌∷◌, ◌-◌, [], drop, length, IfOk, OnOk};
 ghost use Rattle.std.specs.Fmt.{decimal, signed_decimal};
 ghost use Rattle.std.specs.List.{join_with_byte, flat_map};
 ghost use Rattle.std.specs.Str.{byte};
@@ -290,17 +290,26 @@ fn push_line(text: &mut Vec<u8>, act: &Act) -> Result<(), NoMemory>
     Ok(())
 }
 
-/// The text of the journal, one line an act, the oldest first: a word and its fields with one space between, and a
-/// newline. Bytes are written as `x` and two hexadecimal digits each, in lower case. Of this text `read_journal`
-/// makes the same acts again.
+/// The text of the first `count` acts of the journal, one line an act, the oldest first: a word and its fields with one
+/// space between, and a newline. Bytes are written as `x` and two hexadecimal digits each, in lower case. Of this text
+/// `read_journal` makes the same acts again.
 #[tactic(auto, using(crate::proofs::WritingLemmas::spelt_in_order, crate::proofs::WritingLemmas::line_at, crate::proofs::WritingLemmas::lines_done))]
-pub fn write_journal(alloc: Global, journal: &Journal) -> Result<Bytes, NoMemory>
-    // Whatever the journal holds, this is what clause `acts` of `read_journal` asks of a text.
-    ensures { IfOk result (λ text. IsTextOf text journal.now.acts) }
+pub fn write_front(alloc: Global, journal: &Journal, count: usize) -> Result<Bytes, NoMemory>
+    requires { count ≤ length journal.now.acts }
+    // Whatever these acts are, this is what clause `acts` of `read_journal` asks of a text.
+    ensures { IfOk result (λ text. IsTextOf text (drop (length journal.now.acts - count) journal.now.acts)) }
 {
     let mut text = Vec::new(alloc);
-    for i in 0..journal.len() {
+    for i in 0..count {
         push_line(&mut text, journal.get(i))?;
     }
     Bytes::of(alloc, text.as_slice())
+}
+
+/// The text of the whole journal.
+#[tactic(auto, using(crate::proofs::WritingLemmas::all_oldest))]
+pub fn write_journal(alloc: Global, journal: &Journal) -> Result<Bytes, NoMemory>
+    ensures { IfOk result (λ text. IsTextOf text journal.now.acts) }
+{
+    write_front(alloc, journal, journal.len())
 }

@@ -7,8 +7,6 @@ mod networks;
 mod numbers;
 mod rows;
 mod table;
-#[cfg(test)]
-mod tests;
 mod values;
 
 pub use literals::{ipv4_literal, ipv6_literal};

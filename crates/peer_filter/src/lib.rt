@@ -103,6 +103,3 @@ fn agree_under(mask: &[u8], one: &[u8], other: &[u8]) -> bool
     }
     true
 }
-
-#[cfg(test)]
-mod tests;

@@ -100,10 +100,6 @@ first_same c past f g same [] (o ∷ os) each = absurd each
 first_same c past f g same (p ∷ ps) [] each = absurd each
 first_same c past f g same (p ∷ ps) (o ∷ os) each = rw (same p o each.0, first_same c past f g same ps os each.1) refl
 
-pub peers_are : (c : Config) (past : List Act) (s : ℕ) (os : List OpeningState) → AreOpenings c past s os → first_of (λ o. peer_by o.filter o.stage) os ≡ first_of (peer_at c past) (places c s)
-peers_are c past s os are =
-    first_same c past (λ o. peer_by o.filter o.stage) (peer_at c past) (λ p o i. rw (i.filter_is, i.stage_is) refl) (places c s) os are.each
-
 held_is : (c : Config) (past : List Act) (p : Place) (o : OpeningState) → IsOpening c past p o → held_by o ≡ held_at c past p
 held_is c past p o i =
     let e = and_by o.has_door (holds_at o.door) (held past (door_of p)) (λ h. ap holds_at (i.door_is h)) in

@@ -1,6 +1,7 @@
 -- The openings of a session, before anything happened.
-use Rattle.std.proofs.Common.{◌≡◌, ℕ, ◌+◌, ◌<◌, false, List, [], ◌∷◌, ◌++◌, map, length, get_or, take, refl, sym, subst}
+use Rattle.std.proofs.Common.{◌≡◌, ℕ, ◌+◌, ◌<◌, Bool, false, true, ◌&&◌, ◌||◌, List, [], ◌∷◌, ◌++◌, map, length, get_or, take, refl, sym, ap, ◌∙◌, subst}
 use Rattle.std.specs.List.{All}
+use Rattle.std.proofs.lemmas.Bool.{true≢false}
 use Rattle.std.proofs.lemmas.List.{take_more}
 use Rattle.std.proofs.lemmas.List.Elements.{All-append, All-map}
 use Rattle.relay_model.specs.declared.places.Side.TheVariants.{Left, Right}
@@ -9,7 +10,9 @@ use Rattle.relay_model.specs.declared.places.Place.{Place}
 use Rattle.relay_model.specs.declared.commands.Config.{Config}
 use Rattle.relay_model.specs.declared.acts.Act.{Act}
 use Rattle.place_openings.specs.OpeningState.{OpeningState}
+use Rattle.relay_model.specs.Places.{same_place}
 use Rattle.place_openings.specs.Stands.{IsOpening, Each}
+use Rattle.place_openings.specs.Steps.{asked_by, has_asked}
 
 each_append : (c : Config) (past : List Act) (ps : List Place) (os : List OpeningState) (p : Place) (o : OpeningState) → Each c past ps os → IsOpening c past p o → Each c past (ps ++ p ∷ []) (os ++ o ∷ [])
 each_append c past [] [] p o each i = (i, tt)
@@ -26,3 +29,16 @@ one_place_more c past ps i d os ns o lt each is e =
 pub no_doors : (c : Config) (s : ℕ) → All (λ p. p.door ≡ false) (places c s)
 no_doors c s =
     All-append (λ p. p.door ≡ false) (map (place_at s Left) (parts c Left)) (map (place_at s Right) (parts c Right)) (All-map (λ p. p.door ≡ false) (place_at s Left) (parts c Left) (λ k d lt. refl)) (All-map (λ p. p.door ≡ false) (place_at s Right) (parts c Right) (λ k d lt. refl))
+
+-- ---- no child was asked for
+
+unasked_last : (os : List OpeningState) (o : OpeningState) (p : Place) → has_asked os p ≡ false → o.asked_child ≡ false → has_asked (os ++ o ∷ []) p ≡ false
+unasked_last [] o p none fresh = ap (λ a. (a && same_place p o.place) || false) fresh
+unasked_last (x ∷ os) o p none fresh = go (asked_by p x) none (unasked_last os o p)
+  where
+    go : (a : Bool) → (a || has_asked os p) ≡ false → (has_asked os p ≡ false → o.asked_child ≡ false → has_asked (os ++ o ∷ []) p ≡ false) → (a || has_asked (os ++ o ∷ []) p) ≡ false
+    go true e ih = absurd (true≢false e)
+    go false e ih = ih e fresh
+
+pub unasked_more : (os ns : List OpeningState) (o : OpeningState) → ((p : Place) → has_asked os p ≡ false) → o.asked_child ≡ false → ns ≡ os ++ o ∷ [] → (p : Place) → has_asked ns p ≡ false
+unasked_more os ns o none fresh e p = ap (λ xs. has_asked xs p) e ∙ unasked_last os o p (none p) fresh

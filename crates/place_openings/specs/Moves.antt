@@ -1,16 +1,17 @@
 -- What a step makes of the list of acts, and of one opening.
-use Rattle.std.specs.Prelude.{◌≡◌, ◌<◌, ◌⊎◌, ℕ, true, false, List, [], ◌∷◌, ◌++◌, Option}
+use Rattle.std.specs.Prelude.{◌≡◌, ◌<◌, ◌⊎◌, ◌||◌, ℕ, Bool, true, false, List, [], ◌∷◌, ◌++◌, Option}
 use Rattle.relay_model.specs.declared.places.Place.{Place}
 use Rattle.relay_model.specs.declared.readiness.ReadyAt.{ReadyAt}
 use Rattle.relay_model.specs.declared.commands.Config.{Config}
 use Rattle.relay_model.specs.declared.acts.ChildEnd.{ChildEnd}
 use Rattle.relay_model.specs.declared.acts.Act.{Act}
 use Rattle.relay_model.specs.declared.acts.Act.TheVariants as acts
+use Rattle.relay_model.specs.Places.{same_place}
 use Rattle.relay_model.specs.Configs.{listens_at}
 use Rattle.relay_model.specs.History.{now, holds_at}
 use Rattle.place_openings.specs.OpeningState.{OpeningState}
 use Rattle.place_openings.specs.Stands.{kept, IsOpening}
-use Rattle.place_openings.specs.Steps.{stage_weight, steps_of, is_place, is_own_door, asks_child}
+use Rattle.place_openings.specs.Steps.{stage_weight, steps_of, is_place, is_own_door, asks_child, asked_by}
 use Rattle.place_openings.specs.declared.steps.Step.{Step}
 use Rattle.place_openings.specs.declared.steps.Step.TheVariants.{Opened, OpenedLater, OpenFailed, Listening, ListenFailed, Accepted, NoPeer, AcceptFailed, Closed, Reaped, Woken, Named}
 
@@ -107,11 +108,17 @@ abbrev pub SomeLower : Step → List OpeningState → Type 0
 SomeLower step [] = ⊥
 SomeLower step (o ∷ os) = Lower step o ⊎ SomeLower step os
 
+-- the step asks for the child of this place
+abbrev pub asks_at : Step → Place → Bool
+asks_at (Reaped q) p = same_place q p
+asks_at step p = false
+
 -- what a step makes of one opening
 pub record Took (step : Step) (old new : OpeningState) : Type 0 where
   pub goes : (c : Config) (past later : List Act) (p : Place) → Follows c step past later → IsOpening c past p old → IsOpening c later p new
   pub apart : Apart step old → new ≡ old
   pub fewer : Lower step old → steps_of new < steps_of old
+  pub asked : (p : Place) → asked_by p new ≡ true → (asked_by p old || asks_at step p) ≡ true
 
 -- and of each of these
 abbrev pub TookEach : Step → List OpeningState → List OpeningState → Type 0

@@ -55,6 +55,11 @@ peer_by admission other = None
 abbrev pub peer_at : Config → List Act → Place → Option Peer
 peer_at c past p = peer_by (admission_of (options_of c p)) (stage past p)
 
+-- that of the first of these places
+abbrev pub peer_of_first : Config → List Act → List Place → Option Peer
+peer_of_first c past [] = None
+peer_of_first c past (p ∷ ps) = peer_at c past p
+
 -- no try is left at a place that has an own door, or at one that has none
 abbrev pub gave_up : Config → List Act → Bool → Place → Bool
 gave_up c past has_door p = same_bool (has_own_door c p) has_door && out_of_tries c past (tried_at (has_own_door c p) p)

@@ -1,5 +1,6 @@
 -- How many calls the openings of a session take at most before the next turn.
 use Rattle.std.specs.Prelude.{ℕ, ◌+◌, Bool, true, false, not, ◌&&◌, List, [], ◌∷◌, if◌then◌else◌}
+use Rattle.std.specs.List.{list_any}
 use Rattle.relay_model.specs.declared.places.Place.{Place}
 use Rattle.relay_model.specs.Places.{same_place, door_of}
 use Rattle.relay_model.specs.History.{Stage, Untried, Usable, Unsettled, Failed, Met, Waiting, Gone}
@@ -34,6 +35,13 @@ is_place q o = same_place q o.place
 
 abbrev pub is_own_door : Place → OpeningState → Bool
 is_own_door q o = o.has_door && same_place q (door_of o.place)
+
+-- whether the child of this place was asked for
+abbrev pub asked_by : Place → OpeningState → Bool
+asked_by p o = o.asked_child && same_place p o.place
+
+abbrev pub has_asked : List OpeningState → Place → Bool
+has_asked os p = list_any (asked_by p) os
 
 -- whether it is asked for the first time what became of the child of this opening
 abbrev pub asks_child : Place → OpeningState → Bool

@@ -10,6 +10,3 @@ mod steps;
 
 pub use calls::{Call, GivenUp};
 pub use session_openings::Openings;
-
-#[cfg(test)]
-mod tests;

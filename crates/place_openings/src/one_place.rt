@@ -17,7 +17,7 @@ ghost use Rattle.place_openings.specs.Answers.{as_stage, as_call};
 ghost use Rattle.place_openings.specs.Queries.{ready_by, held_by, child_by, peer_by, gave_up};
 ghost use Rattle.place_openings.specs.Stands.{IsOpening, kept, tried_at};
 ghost use Rattle.place_openings.specs.States.{state_of};
-ghost use Rattle.place_openings.specs.Steps.{stage_weight, steps_of, is_place, is_own_door, asks_child};
+ghost use Rattle.place_openings.specs.Steps.{stage_weight, steps_of, is_place, is_own_door, asks_child, asked_by};
 ghost use Rattle.place_openings.specs.Tried.{try_call, call_by, is_end_of_tries};
 
 use crate::calls::Call;
@@ -50,7 +50,8 @@ pub struct Opening {
 impl Opening {
     /// Nothing happened at the place yet.
     pub fn new(config: &Config, place: Place) -> Opening
-        ensures { place.door ≡ false → IsOpening config.now [] place (state_of result) }
+        ensures stands { place.door ≡ false → IsOpening config.now [] place (state_of result) }
+        ensures unasked { result.asked_child ≡ false }
     {
         let options = options_of(config, place);
         Opening {
@@ -222,6 +223,7 @@ impl Opening {
         ensures goes { (c : Command) (past : List Act) (p : At) → IsOpening c past p (state_of self.old) → IsOpening c (acts.Opened place ∷ past) p (state_of self.new) }
         ensures apart { is_place place (state_of self.old) ≡ false → is_own_door place (state_of self.old) ≡ false → state_of self.new ≡ state_of self.old }
         ensures fewer { is_place place (state_of self.old) ≡ true → is_own_door place (state_of self.old) ≡ false → stage_weight (as_stage self.old.stage) self.old.woken self.old.tried ≡ 2 → steps_of (state_of self.new) < steps_of (state_of self.old) }
+        ensures asked { (p : At) → asked_by p (state_of self.new) ≡ asked_by p (state_of self.old) }
     {
         self.stage = self.stage.after(place.is(self.place), Stage::Usable);
         self.door = self.door.after(self.is_own_door(place), Stage::Usable);
@@ -232,6 +234,7 @@ impl Opening {
         ensures goes { (c : Command) (past : List Act) (p : At) → IsOpening c past p (state_of self.old) → IsOpening c (acts.OpenLater place ∷ past) p (state_of self.new) }
         ensures apart { is_place place (state_of self.old) ≡ false → is_own_door place (state_of self.old) ≡ false → state_of self.new ≡ state_of self.old }
         ensures fewer { is_place place (state_of self.old) ≡ true → is_own_door place (state_of self.old) ≡ false → stage_weight (as_stage self.old.stage) self.old.woken self.old.tried ≡ 2 → steps_of (state_of self.new) < steps_of (state_of self.old) }
+        ensures asked { (p : At) → asked_by p (state_of self.new) ≡ asked_by p (state_of self.old) }
     {
         self.stage = self.stage.after(place.is(self.place), Stage::Unsettled);
         self.door = self.door.after(self.is_own_door(place), Stage::Unsettled);
@@ -243,6 +246,7 @@ impl Opening {
         ensures goes { (c : Command) (past : List Act) (p : At) → IsOpening c past p (state_of self.old) → listens_at c place ≡ false → at ≡ moment past → IsOpening c (acts.OpenFailed place ∷ past) p (state_of self.new) }
         ensures apart { is_place place (state_of self.old) ≡ false → is_own_door place (state_of self.old) ≡ false → state_of self.new ≡ state_of self.old }
         ensures fewer { is_place place (state_of self.old) ≡ true → is_own_door place (state_of self.old) ≡ false → self.old.has_door ≡ false → stage_weight (as_stage self.old.stage) self.old.woken self.old.tried ≡ 2 → steps_of (state_of self.new) < steps_of (state_of self.old) }
+        ensures asked { (p : At) → asked_by p (state_of self.new) ≡ asked_by p (state_of self.old) }
     {
         self.stage = self.stage.after(place.is(self.place), Stage::Failed);
         self.door = self.door.after(self.is_own_door(place), Stage::Failed);
@@ -257,6 +261,7 @@ impl Opening {
         ensures goes { (c : Command) (past : List Act) (p : At) → IsOpening c past p (state_of self.old) → IsOpening c (acts.Listening door ∷ past) p (state_of self.new) }
         ensures apart { is_place door (state_of self.old) ≡ false → is_own_door door (state_of self.old) ≡ false → state_of self.new ≡ state_of self.old }
         ensures fewer { is_place door (state_of self.old) ≡ false → is_own_door door (state_of self.old) ≡ true → stage_weight (as_stage self.old.door) false self.old.tried ≡ 2 → steps_of (state_of self.new) < steps_of (state_of self.old) }
+        ensures asked { (p : At) → asked_by p (state_of self.new) ≡ asked_by p (state_of self.old) }
     {
         self.stage = self.stage.after(door.is(self.place), Stage::Waiting);
         self.door = self.door.after(self.is_own_door(door), Stage::Waiting);
@@ -268,6 +273,7 @@ impl Opening {
         ensures goes { (c : Command) (past : List Act) (p : At) → IsOpening c past p (state_of self.old) → door.door ≡ true → at ≡ moment past → IsOpening c (acts.ListenFailed door ∷ past) p (state_of self.new) }
         ensures apart { is_place door (state_of self.old) ≡ false → is_own_door door (state_of self.old) ≡ false → state_of self.new ≡ state_of self.old }
         ensures fewer { is_place door (state_of self.old) ≡ false → is_own_door door (state_of self.old) ≡ true → stage_weight (as_stage self.old.door) false self.old.tried ≡ 2 → steps_of (state_of self.new) < steps_of (state_of self.old) }
+        ensures asked { (p : At) → asked_by p (state_of self.new) ≡ asked_by p (state_of self.old) }
     {
         self.stage = self.stage.after(door.is(self.place), Stage::Failed);
         self.door = self.door.after(self.is_own_door(door), Stage::Failed);
@@ -283,6 +289,7 @@ impl Opening {
         ensures goes { (c : Command) (past : List Act) (p : At) → IsOpening c past p (state_of self.old) → place.door ≡ false → IsOpening c (acts.Accepted place peer ∷ past) p (state_of self.new) }
         ensures apart { is_place place (state_of self.old) ≡ false → is_own_door place (state_of self.old) ≡ false → state_of self.new ≡ state_of self.old }
         ensures fewer { is_place place (state_of self.old) ≡ true → is_own_door place (state_of self.old) ≡ false → self.old.asked ≡ false → steps_of (state_of self.new) < steps_of (state_of self.old) }
+        ensures asked { (p : At) → asked_by p (state_of self.new) ≡ asked_by p (state_of self.old) }
     {
         self.stage = self.stage.after(place.is(self.place), Stage::Met(peer));
         self.door = self.door.after(self.is_own_door(place), Stage::Met(peer));
@@ -294,6 +301,7 @@ impl Opening {
         ensures goes { (c : Command) (past : List Act) (p : At) → IsOpening c past p (state_of self.old) → IsOpening c (acts.NoPeer door ∷ past) p (state_of self.new) }
         ensures apart { is_place door (state_of self.old) ≡ false → is_own_door door (state_of self.old) ≡ false → state_of self.new ≡ state_of self.old }
         ensures fewer { is_place door (state_of self.old) ≡ false → is_own_door door (state_of self.old) ≡ true → self.old.asked ≡ false → steps_of (state_of self.new) < steps_of (state_of self.old) }
+        ensures asked { (p : At) → asked_by p (state_of self.new) ≡ asked_by p (state_of self.old) }
     {
         let is_here = self.is_own_door(door);
         self.armed = self.armed && !is_here;
@@ -305,6 +313,7 @@ impl Opening {
         ensures goes { (c : Command) (past : List Act) (p : At) → IsOpening c past p (state_of self.old) → IsOpening c (acts.AcceptFailed door ∷ past) p (state_of self.new) }
         ensures apart { is_place door (state_of self.old) ≡ false → is_own_door door (state_of self.old) ≡ false → state_of self.new ≡ state_of self.old }
         ensures fewer { is_place door (state_of self.old) ≡ false → is_own_door door (state_of self.old) ≡ true → self.old.asked ≡ false → steps_of (state_of self.new) < steps_of (state_of self.old) }
+        ensures asked { (p : At) → asked_by p (state_of self.new) ≡ asked_by p (state_of self.old) }
     {
         self.asked = either(self.is_own_door(door), self.asked);
     }
@@ -315,6 +324,7 @@ impl Opening {
         ensures apart { is_place thing (state_of self.old) ≡ false → is_own_door thing (state_of self.old) ≡ false → state_of self.new ≡ state_of self.old }
         ensures fewer_places { is_place thing (state_of self.old) ≡ true → is_own_door thing (state_of self.old) ≡ false → holds_at (as_stage self.old.stage) ≡ true → steps_of (state_of self.new) < steps_of (state_of self.old) }
         ensures fewer_doors { is_place thing (state_of self.old) ≡ false → is_own_door thing (state_of self.old) ≡ true → holds_at (as_stage self.old.door) ≡ true → steps_of (state_of self.new) < steps_of (state_of self.old) }
+        ensures asked { (p : At) → asked_by p (state_of self.new) ≡ asked_by p (state_of self.old) }
     {
         self.stage = self.stage.after(thing.is(self.place), Stage::Gone(why));
         self.door = self.door.after(self.is_own_door(thing), Stage::Gone(why));
@@ -327,13 +337,15 @@ impl Opening {
         ensures childless { (c : Command) (past : List Act) (p : At) → IsOpening c past p (state_of self.old) → IsOpening c past p (state_of self.new) }
         ensures apart { asks_child place (state_of self.old) ≡ false → state_of self.new ≡ state_of self.old }
         ensures fewer { asks_child place (state_of self.old) ≡ true → steps_of (state_of self.new) < steps_of (state_of self.old) }
+        ensures asked { (p : At) → asked_by p (state_of self.new) ≡ true → (asked_by p (state_of self.old) || same_place place p) ≡ true }
     {
         self.asked_child = self.asked_child || place.is(self.place);
     }
 
     /// A wait has returned that names nothing yet.
     pub fn woken(&mut self)
-        ensures { (c : Command) (past : List Act) (p : At) (until : Option ℕ) (at : ℕ) → IsOpening c past p (state_of self.old) → IsOpening c (acts.Turn until at (kept []) false ∷ past) p (state_of self.new) }
+        ensures goes { (c : Command) (past : List Act) (p : At) (until : Option ℕ) (at : ℕ) → IsOpening c past p (state_of self.old) → IsOpening c (acts.Turn until at (kept []) false ∷ past) p (state_of self.new) }
+        ensures asked { (p : At) → asked_by p (state_of self.new) ≡ asked_by p (state_of self.old) }
     {
         self.asked = false;
         self.tried = false;
@@ -341,7 +353,8 @@ impl Opening {
 
     /// The last turn names this half too.
     pub fn named(&mut self, entry: ReadyAt)
-        ensures { (c : Command) (past : List Act) (p : At) (until : Option ℕ) (at : ℕ) (names : List Entry) → IsOpening c (acts.Turn until at (kept names) false ∷ past) p (state_of self.old) → IsOpening c (acts.Turn until at (kept (names ++ entry ∷ [])) false ∷ past) p (state_of self.new) }
+        ensures goes { (c : Command) (past : List Act) (p : At) (until : Option ℕ) (at : ℕ) (names : List Entry) → IsOpening c (acts.Turn until at (kept names) false ∷ past) p (state_of self.old) → IsOpening c (acts.Turn until at (kept (names ++ entry ∷ [])) false ∷ past) p (state_of self.new) }
+        ensures asked { (p : At) → asked_by p (state_of self.new) ≡ asked_by p (state_of self.old) }
     {
         let is_armed = both(self.is_own_door(entry.place), is_to_read(entry.half));
         self.woken = either(self.woken, entry.place.is(self.place));

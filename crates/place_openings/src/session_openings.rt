@@ -1,5 +1,5 @@
 // The openings of a session, place by place in opening order.
-ghost use Rattle.std.specs.Prelude.{◌≡◌, ◌<◌, ◌≤◌, ◌∷◌, ◌++◌, [], ℕ, true, false, List, Option, length, Some, None, option_map, map};
+ghost use Rattle.std.specs.Prelude.{◌≡◌, ◌<◌, ◌≤◌, ◌||◌, ◌∷◌, ◌++◌, [], ℕ, true, false, List, Option, length, Some, None, option_map, map};
 ghost use Rattle.std.specs.List.{list_any, All};
 ghost use Rattle.relay_model.specs.declared.places.Place.{Place as At};
 ghost use Rattle.relay_model.specs.declared.readiness.ReadyAt.{ReadyAt as Entry};
@@ -9,6 +9,7 @@ ghost use Rattle.relay_model.specs.declared.acts.Act.TheVariants as acts;
 ghost use Rattle.relay_model.specs.declared.acts.ChildEnd.{ChildEnd as Ending};
 ghost use Rattle.relay_model.specs.declared.acts.Why.TheVariants as whys;
 ghost use Rattle.relay_model.specs.Choices.{only_if, or_else};
+ghost use Rattle.relay_model.specs.Places.{same_place};
 ghost use Rattle.relay_model.specs.Configs.{places, listens_at, is_of, is_place_of, is_program, medium_of};
 ghost use Rattle.relay_model.specs.History.{now as moment, held, was_closed, was_reaped};
 ghost use Rattle.relay_model.specs.Arming.{asked_to_accept};
@@ -18,10 +19,10 @@ ghost use Rattle.relay_model.specs.Openings as calls;
 ghost use Rattle.relay_model.specs.Cause.{listening_failed, opening_failed};
 ghost use Rattle.place_openings.specs.Answers.{as_call};
 ghost use Rattle.place_openings.specs.Moves.{TookEach};
-ghost use Rattle.place_openings.specs.Queries.{first_unready, first_of, held_by, child_by, peer_by, peer_at, gave_up};
+ghost use Rattle.place_openings.specs.Queries.{first_unready, first_of, held_by, child_by, peer_of_first, gave_up};
 ghost use Rattle.place_openings.specs.Stands.{Each, AreOpenings, kept};
 ghost use Rattle.place_openings.specs.States.{state_of};
-ghost use Rattle.place_openings.specs.Steps.{steps_in};
+ghost use Rattle.place_openings.specs.Steps.{has_asked, steps_in};
 ghost use Rattle.place_openings.specs.Touching.{touches};
 ghost use Rattle.relay_model.specs.Readiness.{Listed};
 
@@ -56,7 +57,8 @@ impl Model for Openings {
 impl Openings {
     /// The openings of the places of a session with this number, where nothing happened yet.
     pub fn new(config: &Config, number: u32) -> Openings
-        ensures { AreOpenings config.now [] number result }
+        ensures stands { AreOpenings config.now [] number result }
+        ensures unasked { (p : At) → has_asked result p ≡ false }
     {
         let list = places(config, number);
         of_places(config, list.as_slice())
@@ -134,11 +136,14 @@ impl Openings {
         first_child(self.as_slice())
     }
 
-    /// The permitted peer of the first place that is held by one.
-    pub fn peer(&self) -> Option<Peer>
-        ensures { (c : Command) (past : List Act) (s : ℕ) → AreOpenings c past s self.now → result ≡ first_of (peer_at c past) (places c s) }
+    /// The permitted peer of the first place, where that is held by one.
+    pub fn peer_of_first(&self) -> Option<Peer>
+        ensures { (c : Command) (past : List Act) (s : ℕ) → AreOpenings c past s self.now → result ≡ peer_of_first c past (places c s) }
     {
-        first_peer(self.as_slice())
+        let [opening, ..] = self.as_slice() else {
+            return None;
+        };
+        opening.peer()
     }
 
     pub(crate) fn as_slice(&self) -> &[Opening]
@@ -154,6 +159,7 @@ impl Openings {
         ensures goes { (c : Command) (past : List Act) (s : ℕ) → AreOpenings c past s self.old → AreOpenings c (acts.Opened place ∷ past) s self.new }
         ensures fewer_opening { (c : Command) (past : List Act) (s : ℕ) → AreOpenings c past s self.old → first_call c past (places c s) ≡ calls.Open place → steps_in self.new < steps_in self.old }
         ensures fewer_settling { (c : Command) (past : List Act) (s : ℕ) → AreOpenings c past s self.old → first_call c past (places c s) ≡ calls.Settle place → steps_in self.new < steps_in self.old }
+        ensures asked { (p : At) → has_asked self.new p ≡ true → has_asked self.old p ≡ true }
     {
         self.take(Step::Opened(place));
     }
@@ -163,6 +169,7 @@ impl Openings {
         ensures goes { (c : Command) (past : List Act) (s : ℕ) → AreOpenings c past s self.old → AreOpenings c (acts.OpenLater place ∷ past) s self.new }
         ensures fewer_opening { (c : Command) (past : List Act) (s : ℕ) → AreOpenings c past s self.old → first_call c past (places c s) ≡ calls.Open place → steps_in self.new < steps_in self.old }
         ensures fewer_settling { (c : Command) (past : List Act) (s : ℕ) → AreOpenings c past s self.old → first_call c past (places c s) ≡ calls.Settle place → steps_in self.new < steps_in self.old }
+        ensures asked { (p : At) → has_asked self.new p ≡ true → has_asked self.old p ≡ true }
     {
         self.take(Step::OpenedLater(place));
     }
@@ -172,6 +179,7 @@ impl Openings {
         ensures goes { (c : Command) (past : List Act) (s : ℕ) → AreOpenings c past s self.old → listens_at c place ≡ false → at ≡ moment past → AreOpenings c (acts.OpenFailed place ∷ past) s self.new }
         ensures fewer_opening { (c : Command) (past : List Act) (s : ℕ) → AreOpenings c past s self.old → first_call c past (places c s) ≡ calls.Open place → steps_in self.new < steps_in self.old }
         ensures fewer_settling { (c : Command) (past : List Act) (s : ℕ) → AreOpenings c past s self.old → first_call c past (places c s) ≡ calls.Settle place → steps_in self.new < steps_in self.old }
+        ensures asked { (p : At) → has_asked self.new p ≡ true → has_asked self.old p ≡ true }
     {
         self.take(Step::OpenFailed { place, at });
     }
@@ -180,6 +188,7 @@ impl Openings {
     pub fn listening(&mut self, door: Place)
         ensures goes { (c : Command) (past : List Act) (s : ℕ) → AreOpenings c past s self.old → AreOpenings c (acts.Listening door ∷ past) s self.new }
         ensures fewer { (c : Command) (past : List Act) (s : ℕ) → AreOpenings c past s self.old → first_call c past (places c s) ≡ calls.Listen door → steps_in self.new < steps_in self.old }
+        ensures asked { (p : At) → has_asked self.new p ≡ true → has_asked self.old p ≡ true }
     {
         self.take(Step::Listening(door));
     }
@@ -188,6 +197,7 @@ impl Openings {
     pub fn listen_failed(&mut self, door: Place, at: u64)
         ensures goes { (c : Command) (past : List Act) (s : ℕ) → AreOpenings c past s self.old → door.door ≡ true → at ≡ moment past → AreOpenings c (acts.ListenFailed door ∷ past) s self.new }
         ensures fewer { (c : Command) (past : List Act) (s : ℕ) → AreOpenings c past s self.old → first_call c past (places c s) ≡ calls.Listen door → steps_in self.new < steps_in self.old }
+        ensures asked { (p : At) → has_asked self.new p ≡ true → has_asked self.old p ≡ true }
     {
         self.take(Step::ListenFailed { door, at });
     }
@@ -196,6 +206,7 @@ impl Openings {
     pub fn accepted(&mut self, place: Place, peer: Peer)
         ensures goes { (c : Command) (past : List Act) (s : ℕ) → AreOpenings c past s self.old → place.door ≡ false → AreOpenings c (acts.Accepted place peer ∷ past) s self.new }
         ensures fewer { (c : Command) (past : List Act) (s : ℕ) (door : At) → AreOpenings c past s self.old → first_call c past (places c s) ≡ calls.Accept door place → asked_to_accept c past door ≡ false → steps_in self.new < steps_in self.old }
+        ensures asked { (p : At) → has_asked self.new p ≡ true → has_asked self.old p ≡ true }
     {
         self.take(Step::Accepted { place, peer });
     }
@@ -204,6 +215,7 @@ impl Openings {
     pub fn no_peer(&mut self, door: Place)
         ensures goes { (c : Command) (past : List Act) (s : ℕ) → AreOpenings c past s self.old → AreOpenings c (acts.NoPeer door ∷ past) s self.new }
         ensures fewer { (c : Command) (past : List Act) (s : ℕ) (place : At) → AreOpenings c past s self.old → first_call c past (places c s) ≡ calls.Accept door place → asked_to_accept c past door ≡ false → steps_in self.new < steps_in self.old }
+        ensures asked { (p : At) → has_asked self.new p ≡ true → has_asked self.old p ≡ true }
     {
         self.take(Step::NoPeer(door));
     }
@@ -212,6 +224,7 @@ impl Openings {
     pub fn accept_failed(&mut self, door: Place)
         ensures goes { (c : Command) (past : List Act) (s : ℕ) → AreOpenings c past s self.old → AreOpenings c (acts.AcceptFailed door ∷ past) s self.new }
         ensures fewer { (c : Command) (past : List Act) (s : ℕ) (place : At) → AreOpenings c past s self.old → first_call c past (places c s) ≡ calls.Accept door place → asked_to_accept c past door ≡ false → steps_in self.new < steps_in self.old }
+        ensures asked { (p : At) → has_asked self.new p ≡ true → has_asked self.old p ≡ true }
     {
         self.take(Step::AcceptFailed(door));
     }
@@ -222,6 +235,7 @@ impl Openings {
         ensures fewer { (c : Command) (past : List Act) (s : ℕ) → AreOpenings c past s self.old → held past thing ≡ true → is_of c s thing ≡ true → steps_in self.new < steps_in self.old }
         ensures fewer_refusing { (c : Command) (past : List Act) (s : ℕ) → AreOpenings c past s self.old → first_call c past (places c s) ≡ calls.Refuse thing → steps_in self.new < steps_in self.old }
         ensures fewer_serving { (c : Command) (past : List Act) (s : ℕ) → AreOpenings c past s self.old → first_call c past (places c s) ≡ calls.Serve thing → steps_in self.new < steps_in self.old }
+        ensures asked { (p : At) → has_asked self.new p ≡ true → has_asked self.old p ≡ true }
     {
         self.take(Step::Closed { thing, why });
     }
@@ -231,20 +245,23 @@ impl Openings {
         ensures goes { (c : Command) (past : List Act) (s : ℕ) (end : Ending) → AreOpenings c past s self.old → AreOpenings c (acts.Reaped place end ∷ past) s self.new }
         ensures childless { (c : Command) (past : List Act) (s : ℕ) → AreOpenings c past s self.old → AreOpenings c past s self.new }
         ensures fewer { first_of child_by self.old ≡ Some place → steps_in self.new < steps_in self.old }
+        ensures asked { (p : At) → has_asked self.new p ≡ true → (has_asked self.old p || same_place place p) ≡ true }
     {
         self.take(Step::Reaped(place));
     }
 
     /// A wait has returned that names nothing yet.
     pub fn woken(&mut self)
-        ensures { (c : Command) (past : List Act) (s : ℕ) (until : Option ℕ) (at : ℕ) → AreOpenings c past s self.old → AreOpenings c (acts.Turn until at (kept []) false ∷ past) s self.new }
+        ensures goes { (c : Command) (past : List Act) (s : ℕ) (until : Option ℕ) (at : ℕ) → AreOpenings c past s self.old → AreOpenings c (acts.Turn until at (kept []) false ∷ past) s self.new }
+        ensures asked { (p : At) → has_asked self.new p ≡ true → has_asked self.old p ≡ true }
     {
         self.take(Step::Woken);
     }
 
     /// The last turn names this half too.
     pub fn named(&mut self, entry: ReadyAt)
-        ensures { (c : Command) (past : List Act) (s : ℕ) (until : Option ℕ) (at : ℕ) (names : List Entry) → AreOpenings c (acts.Turn until at (kept names) false ∷ past) s self.old → AreOpenings c (acts.Turn until at (kept (names ++ entry ∷ [])) false ∷ past) s self.new }
+        ensures goes { (c : Command) (past : List Act) (s : ℕ) (until : Option ℕ) (at : ℕ) (names : List Entry) → AreOpenings c (acts.Turn until at (kept names) false ∷ past) s self.old → AreOpenings c (acts.Turn until at (kept (names ++ entry ∷ [])) false ∷ past) s self.new }
+        ensures asked { (p : At) → has_asked self.new p ≡ true → has_asked self.old p ≡ true }
     {
         self.take(Step::Named(entry));
     }
@@ -266,7 +283,8 @@ impl Openings {
 fn of_places(config: &Config, places: &[Place]) -> Openings
     requires few { length places.now ≤ 4 }
     requires no_doors { All (λ p. p.door ≡ false) places.now }
-    ensures { Each config.now [] places.now result }
+    ensures stands { Each config.now [] places.now result }
+    ensures unasked { (p : At) → has_asked result p ≡ false }
 {
     let mut openings = Openings::none(config);
     for place in places {
@@ -313,18 +331,6 @@ fn first_child(mut openings: &[Opening]) -> Option<Place>
     while let [opening, rest @ ..] = openings {
         if let Some(place) = opening.child() {
             return Some(place);
-        }
-        openings = rest;
-    }
-    None
-}
-
-fn first_peer(mut openings: &[Opening]) -> Option<Peer>
-    ensures { result ≡ first_of (λ o. peer_by o.filter o.stage) (map state_of openings.entry.now) }
-{
-    while let [opening, rest @ ..] = openings {
-        if let Some(peer) = opening.peer() {
-            return Some(peer);
         }
         openings = rest;
     }

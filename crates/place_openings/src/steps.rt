@@ -1,12 +1,12 @@
 // What happens to the openings of a session.
-ghost use Rattle.std.specs.Prelude.{◌≡◌, ◌<◌, List};
+ghost use Rattle.std.specs.Prelude.{◌≡◌, ◌<◌, ◌||◌, true, List};
 ghost use Rattle.relay_model.specs.declared.places.Place.{Place as At};
 ghost use Rattle.relay_model.specs.declared.commands.Config.{Config as Command};
 ghost use Rattle.relay_model.specs.declared.acts.Act.{Act};
-ghost use Rattle.place_openings.specs.Moves.{Follows, Apart, Lower};
+ghost use Rattle.place_openings.specs.Moves.{Follows, Apart, Lower, asks_at};
 ghost use Rattle.place_openings.specs.Stands.{IsOpening};
 ghost use Rattle.place_openings.specs.States.{state_of};
-ghost use Rattle.place_openings.specs.Steps.{steps_of};
+ghost use Rattle.place_openings.specs.Steps.{asked_by, steps_of};
 
 use crate::one_place::Opening;
 use relay_model::{Peer, Place, ReadyAt, Why};
@@ -34,6 +34,7 @@ impl Opening {
         ensures goes { (c : Command) (past later : List Act) (p : At) → Follows c step past later → IsOpening c past p (state_of self.old) → IsOpening c later p (state_of self.new) }
         ensures apart { Apart step (state_of self.old) → state_of self.new ≡ state_of self.old }
         ensures fewer { Lower step (state_of self.old) → steps_of (state_of self.new) < steps_of (state_of self.old) }
+        ensures asked { (p : At) → asked_by p (state_of self.new) ≡ true → (asked_by p (state_of self.old) || asks_at step p) ≡ true }
     {
         match step {
             Step::Opened(place) => self.opened(place),

@@ -1,5 +1,5 @@
 -- A sink in memory.
-use Rattle.std.specs.Prelude.{ℕ, zero, suc, min}
+use Rattle.std.specs.Prelude.{ℕ, zero, suc, min, Bool, false}
 use Rattle.port_trait.specs.declared.answers.SinkTook.{SinkTook}
 use Rattle.port_trait.specs.declared.answers.SinkTook.TheVariants.{Took, Failed}
 use Rattle.port_objects.specs.Intakes.{IntakeState, fresh_intake}
@@ -7,9 +7,10 @@ use Rattle.port_objects.specs.Intakes.{IntakeState, fresh_intake}
 pub record SinkState : Type 0 where
   pub intake : IntakeState
   pub faults : ℕ
+  pub finished : Bool
 
 abbrev pub fresh_sink : ℕ → SinkState
-fresh_sink room = record { intake = fresh_intake room; faults = 0 }
+fresh_sink room = record { intake = fresh_intake room; faults = 0; finished = false }
 
 -- what a write of so many bytes answers
 abbrev pub scripted_sink : ℕ → ℕ → SinkTook

@@ -181,6 +181,12 @@ impl Port for MemPort {
         true
     }
 
+    fn has_child(&self) -> bool
+        ensures { result ≡ false }
+    {
+        false
+    }
+
     fn reap(&mut self) -> PortReap
         ensures none { result ≡ reaps.NoChild }
         ensures kept { self.new ≡ self.old }

@@ -1,5 +1,5 @@
 // A sink in memory.
-ghost use Rattle.std.specs.Prelude.{◌≡◌, ◌<◌, length, min, take, Some, IfOk, true};
+ghost use Rattle.std.specs.Prelude.{◌≡◌, ◌<◌, length, min, take, Some, IfOk, true, false};
 ghost use Rattle.port_trait.specs.Counting.{Counted};
 ghost use Rattle.port_trait.specs.Streams.{SinkTakes, sink_failed};
 ghost use Rattle.port_objects.specs.Intakes.{fresh_intake, filled};
@@ -16,6 +16,7 @@ use std::marker::Model;
 pub struct MemSink {
     intake: Intake,
     faults: u64,
+    finished: bool,
 }
 
 impl Model for MemSink {
@@ -23,7 +24,7 @@ impl Model for MemSink {
 
     ghost Value = { SinkState };
 
-    ghost view = { λ sink. record { intake = sink.intake; faults = sink.faults } };
+    ghost view = { λ sink. record { intake = sink.intake; faults = sink.faults; finished = sink.finished } };
 }
 
 impl MemSink {
@@ -34,6 +35,7 @@ impl MemSink {
         Ok(MemSink {
             intake: Intake::new(alloc, room)?,
             faults: 0,
+            finished: false,
         })
     }
 
@@ -48,6 +50,8 @@ impl Sink for MemSink {
 
     ghost faults = { λ sink. sink.faults };
 
+    ghost finished = { λ sink. sink.finished };
+
     /// Takes what fits.
     fn write(&mut self, bytes: &[u8]) -> SinkTook
         requires { 0 < length bytes.now }
@@ -55,7 +59,9 @@ impl Sink for MemSink {
         ensures room { self.new.intake ≡ filled self.old.intake (take (min (length bytes.now) self.old.intake.room) bytes.now) }
         ensures takes { SinkTakes (Some self.old.intake.bytes) (Some self.new.intake.bytes) bytes.now result }
         ensures faults { Counted (sink_failed result) self.old.faults self.new.faults }
+        ensures finished { self.new.finished ≡ false }
     {
+        self.finished = false;
         let count = self.intake.put(bytes);
         if count > 0 {
             return SinkTook::Took(count);
@@ -65,9 +71,10 @@ impl Sink for MemSink {
     }
 
     fn finish(&mut self) -> bool
-        ensures finished { result ≡ true }
-        ensures kept { self.new ≡ self.old }
+        ensures answer { result ≡ true }
+        ensures finished { self.new ≡ record self.old { finished = true } }
     {
+        self.finished = true;
         true
     }
 }

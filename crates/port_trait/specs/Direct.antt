@@ -1,7 +1,6 @@
 -- What contracts see of the ports that call their source or sink in the call itself.
 use Rattle.std.specs.Prelude.{◌+◌, ◌-◌, ◌^◌, min, Bool, false}
 use Rattle.port_trait.specs.declared.counts.Counts.{Counts}
-use Rattle.port_trait.specs.declared.answers.Hint.{Hint}
 
 abbrev pub no_counts : Counts
 no_counts = record { faults = 0; ends = 0; empties = 0; stalls = 0 }
@@ -9,9 +8,6 @@ no_counts = record { faults = 0; ends = 0; empties = 0; stalls = 0 }
 -- one fault more
 abbrev pub with_fault : Counts → Counts
 with_fault counts = record counts { faults = min (counts.faults + 1) (2 ^ 64 - 1) }
-
-abbrev pub no_hint : Hint
-no_hint = record { readable = false; writable = false }
 
 -- the source that is read, what was counted, whether a begin came, and whether the last read answered the end
 pub record DirectReading (S : Type 0) : Type 0 where

@@ -1,5 +1,6 @@
 pub mod Counting
 pub mod Direct
+pub mod Hinting
 pub mod Keys
 pub mod Made
 pub mod Meanings

@@ -122,6 +122,10 @@ pub record Behind (gave took behind_gave behind_took behind_left : Option (List 
   pub whole : behind_faults ≡ Some 0 → IfSome took (λ all. IfSome behind_took (λ behind. behind ≡ all))
   pub spent : ended ≡ true → IfSome behind_left (λ rest. rest ≡ [])
 
+-- a joined port without a fault behind it has finished its sink
+abbrev pub FinishedBehind : Option ℕ → Option Bool → Type 0
+FinishedBehind behind_faults behind_finished = IfSome behind_finished (λ finished. behind_faults ≡ Some 0 → finished ≡ true)
+
 -- a fact of a port that has answered `Joined`
 abbrev pub OnJoined : Joining → Type 0 → Type 0
 OnJoined joins.Joined P = P

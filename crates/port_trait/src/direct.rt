@@ -1,7 +1,8 @@
 // Ports that call their source or sink in the call itself, which may block.
-ghost use Rattle.std.specs.Prelude.{◌≡◌, ◌≢◌, ◌<◌, ◌≤◌, ◌++◌, Bool, true, false, length, take, option_map};
+ghost use Rattle.std.specs.Prelude.{◌≡◌, ◌≢◌, ◌<◌, ◌≤◌, ◌++◌, Bool, true, false, not, length, take, option_map};
 ghost use Rattle.port_trait.specs.Counting.{Tallied, Counted};
-ghost use Rattle.port_trait.specs.Direct.{fresh_reading, fresh_writing, with_fault, no_hint};
+ghost use Rattle.port_trait.specs.Direct.{fresh_reading, fresh_writing, with_fault};
+ghost use Rattle.port_trait.specs.Hinting.{no_hint};
 ghost use Rattle.port_trait.specs.Meanings.{AcceptsAll, is_end, read_event, write_event, shut_event, is_write_fault, is_shut_fault, IsOfStream};
 ghost use Rattle.port_trait.specs.Streams.{SourceGives, SinkTakes, source_failed, source_ended, sink_failed, as_source_answer, as_sink_answer, finishes};
 ghost use Rattle.port_trait.specs.declared.answers.Begun.TheVariants as begins;
@@ -58,6 +59,8 @@ impl<S: Source + Drop> Port for DirectReader<S> {
     ghost begun = { λ port. port.begun };
 
     ghost ended = { λ port. port.ended };
+
+    ghost hinting = { λ _. false };
 
     ghost joins = { λ _. true };
 
@@ -157,6 +160,12 @@ impl<S: Source + Drop> Port for DirectReader<S> {
         false
     }
 
+    fn has_child(&self) -> bool
+        ensures { result ≡ false }
+    {
+        false
+    }
+
     fn reap(&mut self) -> PortReap
         ensures none { result ≡ reaps.NoChild }
         ensures kept { self.new ≡ self.old }
@@ -209,6 +218,8 @@ impl<K: Sink + Drop> Port for DirectWriter<K> {
     ghost begun = { λ port. port.begun };
 
     ghost ended = { λ port. port.ended };
+
+    ghost hinting = { λ _. false };
 
     ghost joins = { λ _. true };
 
@@ -285,6 +296,7 @@ impl<K: Sink + Drop> Port for DirectWriter<K> {
     /// Finishes the sink at `Down` and `Close`.
     fn shut(&mut self, how: Shut) -> Shutting
         ensures sink { K.took self.new.sink ≡ K.took self.old.sink }
+        ensures finished { finishes how ≡ true → K.finished self.new.sink ≡ not (is_shut_fault result) }
         ensures sink_faults { Counted (is_shut_fault result) (K.faults self.old.sink) (K.faults self.new.sink) }
         ensures untouched { finishes how ≡ false → (result ≡ shuts.Done) × (self.new ≡ self.old) }
         ensures kept { (self.new.begun ≡ self.old.begun) × (self.new.ended ≡ self.old.ended) }
@@ -313,6 +325,12 @@ impl<K: Sink + Drop> Port for DirectWriter<K> {
     }
 
     fn may_hint(&self) -> bool
+        ensures { result ≡ false }
+    {
+        false
+    }
+
+    fn has_child(&self) -> bool
         ensures { result ≡ false }
     {
         false

@@ -1,6 +1,7 @@
 // Makers open what isn't a standard stream, and hand out the ports of it.
 ghost use Rattle.std.specs.Prelude.{◌≡◌, ℕ, Option};
 ghost use Rattle.port_trait.specs.Counting.{Counted};
+ghost use Rattle.port_trait.specs.Hinting.{StaysHinting};
 ghost use Rattle.port_trait.specs.Made.{making_failed, making_stalled, IsAtOnce, peer_failed, peer_stalled, came_after};
 ghost use Rattle.relay_model.specs.declared.acts.Peer.{Peer};
 
@@ -57,6 +58,7 @@ pub trait Maker {
     /// Takes one peer at the door, which neither gives nor takes bytes by it.
     fn accept(&mut self, door: &mut Self::Made, key: usize) -> MadePeer<Self::Made>
         ensures door { (Self.Made.gave door.new ≡ Self.Made.gave door.old) × (Self.Made.took door.new ≡ Self.Made.took door.old) }
+        ensures hinting { StaysHinting (Self.Made.hinting door.old) (Self.Made.hinting door.new) (Self.Made.hints door.new) }
         ensures came { came self.new ≡ came_after (came self.old) result }
         ensures faults { Counted (peer_failed result) (faults self.old) (faults self.new) }
         ensures stalls { Counted (peer_stalled result) (stalls self.old) (stalls self.new) };

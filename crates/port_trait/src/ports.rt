@@ -1,7 +1,8 @@
 // A port is one end of a transfer: standard input, a file, a socket, a child.
 ghost use Rattle.std.specs.Prelude.{◌≡◌, ◌<◌, ℕ, Bool, true, false, ◌&&◌, List, length, Option, None, IfSome};
 ghost use Rattle.port_trait.specs.Counting.{Tallied};
-ghost use Rattle.port_trait.specs.Meanings.{Gives, Accepts, AcceptsWhole, AcceptsAll, ReapsChild, Behind, OnJoined, join_answer, begun_after, is_end, begin_event, settle_event, read_event, write_event, shut_event};
+ghost use Rattle.port_trait.specs.Hinting.{StaysHinting, no_hint};
+ghost use Rattle.port_trait.specs.Meanings.{Gives, Accepts, AcceptsWhole, AcceptsAll, ReapsChild, Behind, FinishedBehind, OnJoined, join_answer, begun_after, is_end, begin_event, settle_event, read_event, write_event, shut_event};
 ghost use Rattle.port_trait.specs.Serving.{Serving, Called, Shuts, MisusesCounted, Explained, is_begin_served};
 ghost use Rattle.port_trait.specs.declared.answers.Hint.{Hint};
 ghost use Rattle.port_trait.specs.declared.answers.Begun.TheVariants as begins;
@@ -28,10 +29,14 @@ pub trait Port: Drop {
     ghost behind_ends: { Self → Option ℕ } = { λ _. None };
 
     ghost behind_left: { Self → Option (List ℕ) } = { λ _. None };
+    // whether the last call on the sink was a `finish` that answered true
+    ghost behind_finished: { Self → Option Bool } = { λ _. None };
     // which calls it serves, and how many of its faults are calls that it doesn't
     ghost served: { Self → Option Serving } = { λ _. None };
     // the answer that `hint` gives
     ghost hints: { Self → Option Hint } = { λ _. None };
+    // whether a half may ever be hinted; it stays so for good
+    ghost hinting: { Self → Bool } = { λ _. true };
 
     ghost counts: { Self → Counts };
     // whether a `begin` answered `Begun`, and whether the last read answered `End`
@@ -50,12 +55,14 @@ pub trait Port: Drop {
         ensures kept { (gave self.new ≡ gave self.old) × (took self.new ≡ took self.old) × (ended self.new ≡ ended self.old) }
         ensures served { Called (λ _. is_begin_served result) (served self.old) (served self.new) }
         ensures misused { result ≡ begins.Begun → MisusesCounted (served self.new) (counts self.new) }
+        ensures hinting { StaysHinting (hinting self.old) (hinting self.new) (hints self.new) }
         ensures counts { Tallied (begin_event result) (counts self.old) (counts self.new) };
 
     /// Asks once, without waiting, whether what was begun stands.
     fn settle(&mut self) -> Settled
         ensures kept { (gave self.new ≡ gave self.old) × (took self.new ≡ took self.old) × (begun self.new ≡ begun self.old) × (ended self.new ≡ ended self.old) × (child self.new ≡ child self.old) }
         ensures served { served self.new ≡ served self.old }
+        ensures hinting { StaysHinting (hinting self.old) (hinting self.new) (hints self.new) }
         ensures counts { Tallied (settle_event result) (counts self.old) (counts self.new) };
 
     /// Takes what there is, up to the length of `into`. A read after `End` or `Failed` asks once more.
@@ -65,6 +72,7 @@ pub trait Port: Drop {
         ensures ended { ended self.new ≡ is_end result }
         ensures kept { (took self.new ≡ took self.old) × (begun self.new ≡ begun self.old) × (child self.new ≡ child self.old) }
         ensures served { Called (λ serving. serving.reads) (served self.old) (served self.new) }
+        ensures hinting { StaysHinting (hinting self.old) (hinting self.new) (hints self.new) }
         ensures counts { Tallied (read_event result) (counts self.old) (counts self.new) };
 
     /// Accepts a front of the bytes.
@@ -73,6 +81,7 @@ pub trait Port: Drop {
         ensures accepts { Accepts (took self.old) (took self.new) bytes.now result }
         ensures kept { (gave self.new ≡ gave self.old) × (begun self.new ≡ begun self.old) × (ended self.new ≡ ended self.old) × (child self.new ≡ child self.old) }
         ensures served { Called (λ serving. begun self.old && serving.writes) (served self.old) (served self.new) }
+        ensures hinting { StaysHinting (hinting self.old) (hinting self.new) (hints self.new) }
         ensures counts { Tallied (write_event result) (counts self.old) (counts self.new) };
 
     /// Accepts the bytes as one packet, or none of them. A port without packets fails.
@@ -81,6 +90,7 @@ pub trait Port: Drop {
         ensures accepts { AcceptsWhole (took self.old) (took self.new) bytes.now result }
         ensures kept { (gave self.new ≡ gave self.old) × (begun self.new ≡ begun self.old) × (ended self.new ≡ ended self.old) × (child self.new ≡ child self.old) }
         ensures served { Called (λ _. false) (served self.old) (served self.new) }
+        ensures hinting { StaysHinting (hinting self.old) (hinting self.new) (hints self.new) }
         ensures counts { Tallied (write_event result) (counts self.old) (counts self.new) };
 
     /// Accepts all bytes, and may wait for room. Where it fails, a front of them was accepted.
@@ -88,30 +98,39 @@ pub trait Port: Drop {
         ensures accepts { AcceptsAll (took self.old) (took self.new) bytes.now result }
         ensures kept { (gave self.new ≡ gave self.old) × (begun self.new ≡ begun self.old) × (ended self.new ≡ ended self.old) × (child self.new ≡ child self.old) }
         ensures served { Called (λ serving. begun self.old && serving.writes) (served self.old) (served self.new) }
+        ensures hinting { StaysHinting (hinting self.old) (hinting self.new) (hints self.new) }
         ensures counts { Tallied (write_event result) (counts self.old) (counts self.new) };
 
     /// Passes on that no more bytes will be written.
     fn shut(&mut self, how: Shut) -> Shutting
         ensures kept { (gave self.new ≡ gave self.old) × (took self.new ≡ took self.old) × (begun self.new ≡ begun self.old) × (ended self.new ≡ ended self.old) × (child self.new ≡ child self.old) }
         ensures served { Shuts how (served self.old) (served self.new) }
+        ensures hinting { StaysHinting (hinting self.old) (hinting self.new) (hints self.new) }
         ensures counts { Tallied (shut_event result) (counts self.old) (counts self.new) };
 
     /// What the port knows of its readiness by itself.
     fn hint(&mut self) -> Hint
         ensures hinted { IfSome (hints self.old) (λ hint. result ≡ hint) }
+        ensures unready { hinting self.old ≡ false → result ≡ no_hint }
         ensures kept { (gave self.new ≡ gave self.old) × (took self.new ≡ took self.old) × (hints self.new ≡ hints self.old) × (counts self.new ≡ counts self.old) × (begun self.new ≡ begun self.old) × (ended self.new ≡ ended self.old) × (joins self.new ≡ joins self.old) × (child self.new ≡ child self.old) }
-        ensures behind { (behind_gave self.new ≡ behind_gave self.old) × (behind_took self.new ≡ behind_took self.old) × (behind_faults self.new ≡ behind_faults self.old) × (behind_ends self.new ≡ behind_ends self.old) × (behind_left self.new ≡ behind_left self.old) }
+        ensures behind { (behind_gave self.new ≡ behind_gave self.old) × (behind_took self.new ≡ behind_took self.old) × (behind_faults self.new ≡ behind_faults self.old) × (behind_ends self.new ≡ behind_ends self.old) × (behind_left self.new ≡ behind_left self.old) × (behind_finished self.new ≡ behind_finished self.old) }
+        ensures hinting { StaysHinting (hinting self.old) (hinting self.new) (hints self.new) }
         ensures served { served self.new ≡ served self.old };
 
-    /// False only where the port tells no hints, so that nobody has to ask for them.
+    /// Whether the port may ever hint. Where it may not, nobody has to ask it, now or later.
     fn may_hint(&self) -> bool
-        ensures { result ≡ false → hints self.now ≡ None };
+        ensures { result ≡ hinting self.now };
+
+    /// Whether the port has a child, which a `reap` asks for.
+    fn has_child(&self) -> bool
+        ensures { result ≡ child self.now };
 
     /// Asks once, without waiting, how the port's child stands.
     fn reap(&mut self) -> PortReap
         ensures reaped { ReapsChild (child self.old) result }
         ensures kept { (gave self.new ≡ gave self.old) × (took self.new ≡ took self.old) × (begun self.new ≡ begun self.old) × (ended self.new ≡ ended self.old) × (child self.new ≡ child self.old) }
         ensures served { served self.new ≡ served self.old }
+        ensures hinting { StaysHinting (hinting self.old) (hinting self.new) (hints self.new) }
         ensures counts { Tallied None (counts self.old) (counts self.new) };
 
     /// Waits for the thread that works for the port, if that has come to an end of its work.
@@ -120,5 +139,7 @@ pub trait Port: Drop {
         ensures kept { (gave self.new ≡ gave self.old) × (took self.new ≡ took self.old) × (counts self.new ≡ counts self.old) × (begun self.new ≡ begun self.old) × (ended self.new ≡ ended self.old) × (joins self.new ≡ joins self.old) × (child self.new ≡ child self.old) }
         ensures served { served self.new ≡ served self.old }
         ensures explained { OnJoined result (Explained (served self.new) (counts self.new) (behind_faults self.new) (behind_ends self.new)) }
-        ensures behind { OnJoined result (Behind (gave self.new) (took self.new) (behind_gave self.new) (behind_took self.new) (behind_left self.new) (behind_faults self.new) (ended self.new)) };
+        ensures behind { OnJoined result (Behind (gave self.new) (took self.new) (behind_gave self.new) (behind_took self.new) (behind_left self.new) (behind_faults self.new) (ended self.new)) }
+        ensures finished { OnJoined result (FinishedBehind (behind_faults self.new) (behind_finished self.new)) }
+        ensures hinting { StaysHinting (hinting self.old) (hinting self.new) (hints self.new) };
 }

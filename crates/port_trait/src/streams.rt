@@ -1,5 +1,5 @@
 // Sources give bytes and sinks take them; both may block.
-ghost use Rattle.std.specs.Prelude.{◌≡◌, ◌<◌, ℕ, Bool, true, not, List, length, Option, None, min, take};
+ghost use Rattle.std.specs.Prelude.{◌≡◌, ◌<◌, ℕ, Bool, true, false, not, List, length, Option, None, min, take};
 ghost use Rattle.port_trait.specs.Counting.{Counted};
 ghost use Rattle.port_trait.specs.Streams.{SourceGives, SinkTakes, source_failed, source_ended, sink_failed};
 
@@ -29,17 +29,21 @@ pub trait Sink {
     ghost took: { Self → Option (List ℕ) } = { λ _. None };
 
     ghost faults: { Self → ℕ };
+    // whether the last call on it was a `finish` that answered true
+    ghost finished: { Self → Bool };
 
     /// Takes a front of the bytes; may wait for room. Taking nothing is a fault.
     fn write(&mut self, bytes: &[u8]) -> SinkTook
         requires { 0 < length bytes.now }
         ensures takes { SinkTakes (took self.old) (took self.new) bytes.now result }
-        ensures faults { Counted (sink_failed result) (faults self.old) (faults self.new) };
+        ensures faults { Counted (sink_failed result) (faults self.old) (faults self.new) }
+        ensures finished { finished self.new ≡ false };
 
     /// Nothing more will be written. False is a fault.
     fn finish(&mut self) -> bool
         ensures kept { took self.new ≡ took self.old }
-        ensures faults { Counted (not result) (faults self.old) (faults self.new) };
+        ensures faults { Counted (not result) (faults self.old) (faults self.new) }
+        ensures finished { finished self.new ≡ result };
 }
 
 /// A reader of std as a source.
@@ -86,19 +90,27 @@ impl<R: Read> Source for StdSource<R> {
 pub struct StdSink<W> {
     writer: W,
     faults: u64,
+    finished: bool,
 }
 
 impl<W: Write> StdSink<W> {
     /// Writes to this writer.
     pub fn new(writer: W) -> StdSink<W> {
-        StdSink { writer, faults: 0 }
+        StdSink {
+            writer,
+            faults: 0,
+            finished: false,
+        }
     }
 }
 
 impl<W: Write> Sink for StdSink<W> {
     ghost faults = { λ sink. sink.faults };
 
+    ghost finished = { λ sink. sink.finished };
+
     fn write(&mut self, bytes: &[u8]) -> SinkTook {
+        self.finished = false;
         match self.writer.write(bytes) {
             Ok(0) => {
                 self.faults = self.faults.saturating_add(1);
@@ -113,13 +125,11 @@ impl<W: Write> Sink for StdSink<W> {
     }
 
     fn finish(&mut self) -> bool {
-        match self.writer.flush() {
-            Ok(()) => true,
-            Err(_) => {
-                self.faults = self.faults.saturating_add(1);
-                false
-            }
+        self.finished = self.writer.flush().is_ok();
+        if !self.finished {
+            self.faults = self.faults.saturating_add(1);
         }
+        self.finished
     }
 }
 

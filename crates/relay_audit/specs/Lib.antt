@@ -1,5 +1,2 @@
-pub mod Answers
-pub mod Judging
-pub mod Pasts
 pub mod Reports
 pub mod Verdicts

@@ -1,5 +1,5 @@
 // The program's work: what a source gives is audited, and one line says what was found.
-ghost use Rattle.std.specs.Prelude.{◌≡◌, ◌<◌, ◌++◌, ◌⊎◌, option_map, IfOk, IfErr, string_bytes};
+ghost use Rattle.std.specs.Prelude.{◌≡◌, ◌<◌, ◌++◌, ◌⊎◌, true, option_map, IfOk, IfErr, string_bytes};
 ghost use Rattle.std.specs.Bool.{OnTrue, OnFalse};
 ghost use Rattle.port_trait.specs.Counting.{Rose};
 ghost use Rattle.relay_audit.specs.declared.reports.Unread.TheVariants as unread;
@@ -113,9 +113,10 @@ fn status_of(report: Report) -> u8
     }
 }
 
-/// Writes all bytes, and says so where the sink took each.
+/// Writes all bytes, and says so where the sink took each and was finished.
 fn put_line<K: Sink>(sink: &mut K, line: &[u8]) -> bool
     ensures took { OnTrue result (K.took sink.new ≡ option_map (λ all. all ++ line.now) (K.took sink.old)) }
+    ensures finished { OnTrue result (K.finished sink.new ≡ true) }
     ensures failed { OnFalse result (Rose (K.faults sink.old) (K.faults sink.new)) }
 {
     let mut rest = line;
@@ -140,6 +141,7 @@ pub fn audit_run<S: Source, K: Sink>(
 ) -> u8
     ensures known { result < 4 }
     ensures reported { result < 2 → Reported words.now turns (S.left source.old) (S.left source.new) (S.ends source.old) (S.ends source.new) (K.took sink.old) (K.took sink.new) result }
+    ensures finished { result < 2 → K.finished sink.new ≡ true }
     ensures failed { result ≡ 3 → (Rose (S.faults source.old) (S.faults source.new)) ⊎ (Rose (K.faults sink.old) (K.faults sink.new)) }
 {
     let text = match read_text(alloc, source) {

@@ -1,6 +1,6 @@
 -- The bytes that a backlog holds, and how many it could.
 use Rattle.std.specs.Prelude.{◌≡◌, ℕ, ◌*◌, ◌≤◌, Bool, true, false, List, length, min, IfSome, is_some, vec_capacity, if◌then◌else◌}
-use Rattle.relay_model.specs.Conversions.{packet_cap}
+use Rattle.relay_model.specs.Conversions.{longest_packet, packet_cap}
 use Rattle.relay_buffer.specs.declared.lanes.Lane.{Lane}
 use Rattle.relay_buffer.specs.declared.backlogs.Backlog.{Backlog}
 use Rattle.relay_buffer.specs.declared.backlogs.Backlog.TheVariants.{Stream, Packet}
@@ -24,7 +24,7 @@ pub record IsSameStore (old new : Backlog) : Type 0 where
 
 -- how many bytes may wait at once
 abbrev pub most_held : Lane → ℕ
-most_held lane = if is_some lane.packets then min (2 * lane.block) 65507 else 2 * lane.block
+most_held lane = if is_some lane.packets then min (2 * lane.block) longest_packet else 2 * lane.block
 
 -- the store is of the lane's kind, and no more waits in it than may, for which it has room
 pub record CanHold (lane : Lane) (held : Backlog) : Type 0 where

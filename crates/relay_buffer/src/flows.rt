@@ -8,12 +8,9 @@ use crate::backlogs::Backlog;
 use crate::lanes::Lane;
 use circular_buffer::HeapCircularBuffer;
 use memchr::memchr;
-use relay_model::NoMemory;
+use relay_model::{LONGEST_PACKET, NoMemory};
 use std::alloc::Global;
 use std::marker::Model;
-
-/// The most bytes that a UDP datagram carries over IPv4 (RFC 768, RFC 791).
-const LONGEST_PACKET: usize = 65_507;
 
 /// What was read in one direction and isn't written yet. Of what is filled in, the bytes that count are converted,
 /// and taken in that order. A flow takes memory when it is made, and never again.
@@ -46,7 +43,10 @@ impl Flow {
         let most = 2 * lane.block as usize;
         let held = match lane.packets {
             None => Backlog::Stream(HeapCircularBuffer::with_capacity(alloc, most)?),
-            Some(_) => Backlog::Packet(Vec::with_capacity(alloc, most.min(LONGEST_PACKET))?),
+            Some(_) => Backlog::Packet(Vec::with_capacity(
+                alloc,
+                most.min(usize::from(LONGEST_PACKET)),
+            )?),
         };
         Ok(Flow {
             lane,

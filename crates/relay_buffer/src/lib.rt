@@ -4,8 +4,6 @@
 mod backlogs;
 mod flows;
 mod lanes;
-#[cfg(test)]
-mod tests;
 
 pub use flows::Flow;
 pub use lanes::Lane;

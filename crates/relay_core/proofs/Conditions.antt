@@ -11,8 +11,8 @@ use Rattle.relay_model.specs.Places.{same_place}
 use Rattle.relay_model.specs.Configs.{has_fork, places, input, output, formed, way_from, way_to, is_place_of, is_of}
 use Rattle.relay_model.specs.Transfers.{backlog}
 use Rattle.relay_model.specs.Rest.{moves}
-use Rattle.relay_laws.proofs.PlaceLemmas.{same_place_equal}
-use Rattle.relay_laws.proofs.Holdings.{input_passes, output_passes, moves_formed}
+use Rattle.legal_steps.proofs.PlaceLemmas.{same_place_equal}
+use Rattle.legal_steps.proofs.Holdings.{input_passes, output_passes, moves_formed}
 use Rattle.session_direction.proofs.Wanted.{waits_is}
 use Rattle.relay_core.specs.declared.lanes.Lane.{Lane}
 use Rattle.relay_core.specs.declared.lanes.Lane.TheVariants.{Unformed, Formed}
@@ -37,9 +37,9 @@ in_course c past s st (wishes.Open p) a e = a
 in_course c past s st (wishes.Settle p) a e = a
 in_course c past s st (wishes.Listen d) a e = a
 in_course c past s st (wishes.Accept d p) a e = a
-in_course c past s st (wishes.Read p at_most) a e = a
-in_course c past s st (wishes.Write p) a e = a
-in_course c past s st (wishes.Send p) a e = a
+in_course c past s st (wishes.Read p at_most) a e = a.0
+in_course c past s st (wishes.Write p) a e = a.0
+in_course c past s st (wishes.Send p) a e = a.0
 in_course c past s st (wishes.Shut p how) a e = a
 in_course c past s st (wishes.Sleep until) a e = a
 

@@ -8,18 +8,17 @@ use Rattle.relay_model.specs.declared.acts.Act.{Act}
 use Rattle.relay_model.specs.declared.acts.Shut.{Shut as Shutting}
 use Rattle.relay_model.specs.Places.{same_place}
 use Rattle.relay_model.specs.Configs.{input, output, way_from, way_to, keeps_borders, formed}
-use Rattle.relay_model.specs.Arming.{asked_to_write}
 use Rattle.relay_model.specs.Transfers.{over, room}
 use Rattle.relay_model.specs.Moments.{passed, broken}
 use Rattle.relay_model.specs.Cause.{running}
 use Rattle.relay_model.specs.Rest.{goes, moves}
 use Rattle.relay_model.specs.May.{MayRead, MayTryWrite, MayOffer, MayShut}
-use Rattle.relay_laws.proofs.PlaceLemmas.{same_place_equal}
+use Rattle.legal_steps.proofs.PlaceLemmas.{same_place_equal}
 use Rattle.std.proofs.lemmas.Bool.{and_parts}
-use Rattle.session_direction.specs.Directions.{IsDirection, WantsRead}
-use Rattle.session_direction.specs.States.{DirectionState}
+use Rattle.session_direction.specs.Directions.{IsDirection, WantsRead, WantsWrite}
+use Rattle.session_direction.specs.States.{DirectionState, can_read, can_write}
 use Rattle.relay_model.specs.declared.acts.Act.TheVariants as acts
-use Rattle.relay_laws.proofs.Holdings.{moves_formed}
+use Rattle.legal_steps.proofs.Holdings.{moves_formed}
 use Rattle.std.proofs.lemmas.Bool.{false≢true}
 use Rattle.session_direction.specs.Directions.{WantsNothing}
 use Rattle.session_direction.specs.States.{steps_in}
@@ -29,12 +28,36 @@ use Rattle.relay_core.specs.declared.wishes.Wish.{Wish}
 use Rattle.relay_core.specs.declared.wishes.Wish.TheVariants as wishes
 use Rattle.relay_core.specs.declared.transfers.Transfer.{Transfer}
 use Rattle.relay_core.specs.declared.transfers.Transfer.TheVariants as transfers
-use Rattle.relay_core.specs.Lanes.{Reads, LaneWishes, LanesWish}
-use Rattle.relay_core.specs.Transfers.{transfer_act, MayTransfer, TakesFrom, IsUnasked, is_read, place_for, way_of, opposite}
+use Rattle.relay_core.specs.declared.lanes.Lanes.{Lanes}
+use Rattle.relay_core.specs.Lanes.{Reads, Offers, LaneWishes, LanesWish, lane_at, can_read_in, can_write_in}
+use Rattle.relay_core.specs.Transfers.{transfer_act, MayTransfer, TakesFrom, is_read, place_for, way_of, opposite}
 
-pub reads_of : (c : Config) (past : List Act) (s : ℕ) (w : Way) (d : DirectionState) (n : ℕ) → IsDirection c past s w d → WantsRead c past s w n → (p : Place) → p ≡ d.source → Reads c past s p n
-reads_of c past s LeftToRight d n g want p e = subst (λ q. Reads c past s q n) (sym (e ∙ g.source_is)) (record { own = refl; may = want.may; size = want.size; not_asked = want.not_asked })
-reads_of c past s RightToLeft d n g want p e = subst (λ q. Reads c past s q n) (sym (e ∙ g.source_is)) (record { own = refl; may = want.may; size = want.size; not_asked = want.not_asked })
+-- the way of an input and of an output
+from_input : (c : Config) (s : ℕ) (w : Way) → way_from (input c s w).side ≡ w
+from_input c s LeftToRight = refl
+from_input c s RightToLeft = refl
+
+pub borders_at : (c : Config) (s : ℕ) (w : Way) → way_to (output c s w).side ≡ w
+borders_at c s LeftToRight = refl
+borders_at c s RightToLeft = refl
+
+own_input : (c : Config) (past : List Act) (s : ℕ) (w : Way) (n : ℕ) → WantsRead c past s w n → Reads c past s (input c s w) n
+own_input c past s LeftToRight n want = record { own = refl; may = want.may; size = want.size }
+own_input c past s RightToLeft n want = record { own = refl; may = want.may; size = want.size }
+
+own_output : (c : Config) (past : List Act) (s : ℕ) (w : Way) (keeps : Bool) → WantsWrite c past s w keeps → Offers c past s (output c s w) keeps
+own_output c past s LeftToRight keeps want = record { own = refl; may = want.may; keeps = want.borders }
+own_output c past s RightToLeft keeps want = record { own = refl; may = want.may; keeps = want.borders }
+
+pub reads_of : (c : Config) (past : List Act) (s : ℕ) (w : Way) (d : DirectionState) (n : ℕ) → IsDirection c past s w d → WantsRead c past s w n → can_read d ≡ true → (p : Place) → p ≡ d.source → Reads c past s p n × (way_from p.side ≡ w) × (can_read d ≡ true)
+reads_of c past s w d n g want can p e =
+    let k : p ≡ input c s w = e ∙ g.source_is in
+    (subst (λ q. Reads c past s q n) (sym k) (own_input c past s w n want), ap (λ q. way_from q.side) k ∙ from_input c s w, can)
+
+pub offers_of : (c : Config) (past : List Act) (s : ℕ) (w : Way) (d : DirectionState) (keeps : Bool) → IsDirection c past s w d → WantsWrite c past s w keeps → can_write d ≡ true → (p : Place) → p ≡ d.sink → Offers c past s p keeps × (way_to p.side ≡ w) × (can_write d ≡ true)
+offers_of c past s w d keeps g want can p e =
+    let k : p ≡ output c s w = e ∙ g.sink_is in
+    (subst (λ q. Offers c past s q keeps) (sym k) (own_output c past s w keeps want), ap (λ q. way_to q.side) k ∙ borders_at c s w, can)
 
 -- what a read at the input of a direction says
 pub record ReadsAt (c : Config) (past : List Act) (s : ℕ) (w : Way) (n : ℕ) : Type 0 where
@@ -62,40 +85,31 @@ pub writes_at : (c : Config) (past : List Act) (s : ℕ) (w : Way) → MayOffer 
 writes_at c past s LeftToRight may = record { going = may.not_passed; whole = unbroken c past s LeftToRight may.moving }
 writes_at c past s RightToLeft may = record { going = may.not_passed; whole = unbroken c past s RightToLeft may.moving }
 
--- the way of an output, and what keeps borders there
-pub borders_at : (c : Config) (s : ℕ) (w : Way) → way_to (output c s w).side ≡ w
-borders_at c s LeftToRight = refl
-borders_at c s RightToLeft = refl
-
-pub asked_at : (c : Config) (past : List Act) (s : ℕ) (w : Way) → asked_to_write past (input c (output c s w).session (way_to (output c s w).side)) (output c s w) ≡ asked_to_write past (input c s w) (output c s w)
-asked_at c past s LeftToRight = refl
-asked_at c past s RightToLeft = refl
-
 pub unpassed_at : (c : Config) (past : List Act) (s : ℕ) (w : Way) (how : Shutting) → MayShut c past (output c s w) how → passed c past s w ≡ false
 unpassed_at c past s LeftToRight how may = may.not_passed
 unpassed_at c past s RightToLeft how may = may.not_passed
 
-pub lanes_wish : (c : Config) (past : List Act) (s : ℕ) (w : Way) (wish : Wish) → LaneWishes c past s w (Some wish) → LanesWish c past s (Some wish)
-lanes_wish c past s w (wishes.Read p n) h = h
-lanes_wish c past s w (wishes.Write p) h = h
-lanes_wish c past s w (wishes.Send p) h = h
-lanes_wish c past s w (wishes.Shut p how) h = h
-lanes_wish c past s w (wishes.Open p) h = absurd h
-lanes_wish c past s w (wishes.Settle p) h = absurd h
-lanes_wish c past s w (wishes.Listen d) h = absurd h
-lanes_wish c past s w (wishes.Accept d p) h = absurd h
-lanes_wish c past s w (wishes.Close q why) h = absurd h
-lanes_wish c past s w (wishes.Reap p) h = absurd h
-lanes_wish c past s w (wishes.Sleep until) h = absurd h
-lanes_wish c past s w (wishes.Done why) h = absurd h
+pub lanes_wish : (c : Config) (past : List Act) (s : ℕ) (w : Way) (lanes : Lanes) (wish : Wish) → LaneWishes c past s w (lane_at lanes w) (Some wish) → LanesWish c past s lanes (Some wish)
+lanes_wish c past s w lanes (wishes.Read p n) h = (h.0, ap (λ v. can_read_in (lane_at lanes v)) h.1 ∙ h.2)
+lanes_wish c past s w lanes (wishes.Write p) h = (h.0, ap (λ v. can_write_in (lane_at lanes v)) h.1 ∙ h.2)
+lanes_wish c past s w lanes (wishes.Send p) h = (h.0, ap (λ v. can_write_in (lane_at lanes v)) h.1 ∙ h.2)
+lanes_wish c past s w lanes (wishes.Shut p how) h = h
+lanes_wish c past s w lanes (wishes.Open p) h = absurd h
+lanes_wish c past s w lanes (wishes.Settle p) h = absurd h
+lanes_wish c past s w lanes (wishes.Listen d) h = absurd h
+lanes_wish c past s w lanes (wishes.Accept d p) h = absurd h
+lanes_wish c past s w lanes (wishes.Close q why) h = absurd h
+lanes_wish c past s w lanes (wishes.Reap p) h = absurd h
+lanes_wish c past s w lanes (wishes.Sleep until) h = absurd h
+lanes_wish c past s w lanes (wishes.Done why) h = absurd h
 
-pub last_wish : (c : Config) (past : List Act) (s : ℕ) (o : Option Wish) → WantsNothing c past s LeftToRight → LaneWishes c past s RightToLeft o → LanesWish c past s o
-last_wish c past s None n h = each
+pub last_wish : (c : Config) (past : List Act) (s : ℕ) (lanes : Lanes) (o : Option Wish) → WantsNothing c past s LeftToRight → LaneWishes c past s RightToLeft lanes.to_left o → LanesWish c past s lanes o
+last_wish c past s lanes None n h = each
   where
     each : (w : Way) → WantsNothing c past s w
     each LeftToRight = n
     each RightToLeft = h
-last_wish c past s (Some wish) n h = lanes_wish c past s RightToLeft wish h
+last_wish c past s lanes (Some wish) n h = lanes_wish c past s RightToLeft lanes wish h
 
 pub wrote_goes : (c : Config) (past : List Act) (s : ℕ) (w : Way) (d d' : DirectionState) (count took : ℕ) → IsDirection c past s w d → MayTryWrite c past (output c s w) × TakesFrom c (output c s w) d.flow.backlog count →
     (count ≤ length d.flow.backlog → (is_some d.flow.lane.packets ≡ true → count ≡ length d.flow.backlog) → took ≡ count) →
@@ -147,18 +161,18 @@ heard_elsewhere c past s w d p waiting (transfers.Shut how) g e = ap (same_place
 heard_elsewhere c past s w d p waiting (transfers.ShutFailed how) g e = ap (same_place p) (sym g.sink_is) ∙ e
 
 pub fewer_here : (c : Config) (past : List Act) (s : ℕ) (w : Way) (d : DirectionState) (p : Place) (waiting : List ℕ) (t : Transfer) → IsDirection c past s w d →
-    cond (is_read t) (same_place p d.source) (same_place p d.sink) ≡ true → (way_to p.side ≡ w → waiting ≡ d.flow.backlog) → MayTransfer c past p waiting t → IsUnasked c past p t →
-    (n : ℕ) → (MayTransfer c past (place_for c s w t) d.flow.backlog t → IsUnasked c past (place_for c s w t) t → n < steps_in d) → n < steps_in d
-fewer_here c past s w d p waiting (transfers.Read bytes) g e same may unasked n step = let k = at_input c past s w d p g e in step (subst (λ q. MayTransfer c past q d.flow.backlog (transfers.Read bytes)) k may) (subst (λ q. IsUnasked c past q (transfers.Read bytes)) k unasked)
-fewer_here c past s w d p waiting transfers.ReadEmpty g e same may unasked n step = let k = at_input c past s w d p g e in step (subst (λ q. MayTransfer c past q d.flow.backlog transfers.ReadEmpty) k may) (subst (λ q. IsUnasked c past q transfers.ReadEmpty) k unasked)
-fewer_here c past s w d p waiting transfers.ReadEnd g e same may unasked n step = let k = at_input c past s w d p g e in step (subst (λ q. MayTransfer c past q d.flow.backlog transfers.ReadEnd) k may) (subst (λ q. IsUnasked c past q transfers.ReadEnd) k unasked)
-fewer_here c past s w d p waiting transfers.ReadNotYet g e same may unasked n step = let k = at_input c past s w d p g e in step (subst (λ q. MayTransfer c past q d.flow.backlog transfers.ReadNotYet) k may) (subst (λ q. IsUnasked c past q transfers.ReadNotYet) k unasked)
-fewer_here c past s w d p waiting transfers.ReadFailed g e same may unasked n step = let k = at_input c past s w d p g e in step (subst (λ q. MayTransfer c past q d.flow.backlog transfers.ReadFailed) k may) (subst (λ q. IsUnasked c past q transfers.ReadFailed) k unasked)
-fewer_here c past s w d p waiting (transfers.Wrote count) g e same may unasked n step = let k = at_output c past s w d p g e in step (subst (λ ws. MayTransfer c past (output c s w) ws (transfers.Wrote count)) (same (waits_at c s w p k)) (subst (λ q. MayTransfer c past q waiting (transfers.Wrote count)) k may)) (subst (λ q. IsUnasked c past q (transfers.Wrote count)) k unasked)
-fewer_here c past s w d p waiting transfers.WriteNotYet g e same may unasked n step = let k = at_output c past s w d p g e in step (subst (λ ws. MayTransfer c past (output c s w) ws transfers.WriteNotYet) (same (waits_at c s w p k)) (subst (λ q. MayTransfer c past q waiting transfers.WriteNotYet) k may)) (subst (λ q. IsUnasked c past q transfers.WriteNotYet) k unasked)
-fewer_here c past s w d p waiting transfers.WriteFailed g e same may unasked n step = let k = at_output c past s w d p g e in step (subst (λ ws. MayTransfer c past (output c s w) ws transfers.WriteFailed) (same (waits_at c s w p k)) (subst (λ q. MayTransfer c past q waiting transfers.WriteFailed) k may)) (subst (λ q. IsUnasked c past q transfers.WriteFailed) k unasked)
-fewer_here c past s w d p waiting (transfers.Shut how) g e same may unasked n step = let k = at_output c past s w d p g e in step (subst (λ ws. MayTransfer c past (output c s w) ws (transfers.Shut how)) (same (waits_at c s w p k)) (subst (λ q. MayTransfer c past q waiting (transfers.Shut how)) k may)) (subst (λ q. IsUnasked c past q (transfers.Shut how)) k unasked)
-fewer_here c past s w d p waiting (transfers.ShutFailed how) g e same may unasked n step = let k = at_output c past s w d p g e in step (subst (λ ws. MayTransfer c past (output c s w) ws (transfers.ShutFailed how)) (same (waits_at c s w p k)) (subst (λ q. MayTransfer c past q waiting (transfers.ShutFailed how)) k may)) (subst (λ q. IsUnasked c past q (transfers.ShutFailed how)) k unasked)
+    cond (is_read t) (same_place p d.source) (same_place p d.sink) ≡ true → (way_to p.side ≡ w → waiting ≡ d.flow.backlog) → MayTransfer c past p waiting t →
+    (n : ℕ) → (MayTransfer c past (place_for c s w t) d.flow.backlog t → n < steps_in d) → n < steps_in d
+fewer_here c past s w d p waiting (transfers.Read bytes) g e same may n step = let k = at_input c past s w d p g e in step (subst (λ q. MayTransfer c past q d.flow.backlog (transfers.Read bytes)) k may)
+fewer_here c past s w d p waiting transfers.ReadEmpty g e same may n step = let k = at_input c past s w d p g e in step (subst (λ q. MayTransfer c past q d.flow.backlog transfers.ReadEmpty) k may)
+fewer_here c past s w d p waiting transfers.ReadEnd g e same may n step = let k = at_input c past s w d p g e in step (subst (λ q. MayTransfer c past q d.flow.backlog transfers.ReadEnd) k may)
+fewer_here c past s w d p waiting transfers.ReadNotYet g e same may n step = let k = at_input c past s w d p g e in step (subst (λ q. MayTransfer c past q d.flow.backlog transfers.ReadNotYet) k may)
+fewer_here c past s w d p waiting transfers.ReadFailed g e same may n step = let k = at_input c past s w d p g e in step (subst (λ q. MayTransfer c past q d.flow.backlog transfers.ReadFailed) k may)
+fewer_here c past s w d p waiting (transfers.Wrote count) g e same may n step = let k = at_output c past s w d p g e in step (subst (λ ws. MayTransfer c past (output c s w) ws (transfers.Wrote count)) (same (waits_at c s w p k)) (subst (λ q. MayTransfer c past q waiting (transfers.Wrote count)) k may))
+fewer_here c past s w d p waiting transfers.WriteNotYet g e same may n step = let k = at_output c past s w d p g e in step (subst (λ ws. MayTransfer c past (output c s w) ws transfers.WriteNotYet) (same (waits_at c s w p k)) (subst (λ q. MayTransfer c past q waiting transfers.WriteNotYet) k may))
+fewer_here c past s w d p waiting transfers.WriteFailed g e same may n step = let k = at_output c past s w d p g e in step (subst (λ ws. MayTransfer c past (output c s w) ws transfers.WriteFailed) (same (waits_at c s w p k)) (subst (λ q. MayTransfer c past q waiting transfers.WriteFailed) k may))
+fewer_here c past s w d p waiting (transfers.Shut how) g e same may n step = let k = at_output c past s w d p g e in step (subst (λ ws. MayTransfer c past (output c s w) ws (transfers.Shut how)) (same (waits_at c s w p k)) (subst (λ q. MayTransfer c past q waiting (transfers.Shut how)) k may))
+fewer_here c past s w d p waiting (transfers.ShutFailed how) g e same may n step = let k = at_output c past s w d p g e in step (subst (λ ws. MayTransfer c past (output c s w) ws (transfers.ShutFailed how)) (same (waits_at c s w p k)) (subst (λ q. MayTransfer c past q waiting (transfers.ShutFailed how)) k may))
 
 -- a transfer of this way is at its own place
 reads_own : (c : Config) (past : List Act) (s : ℕ) (w : Way) (d : DirectionState) (p : Place) (n : ℕ) → IsDirection c past s w d → p.session ≡ s → way_from p.side ≡ w → MayRead c past p n → same_place p d.source ≡ true

@@ -1,6 +1,8 @@
 pub mod Attempts
 pub mod Blames
+pub mod Bounds
 pub mod Causes
+mod Children
 pub mod Conditions
 pub mod Ended
 pub mod Events

@@ -18,9 +18,9 @@ use Rattle.relay_model.specs.Conversions.{read_converted, write_converted, first
 use Rattle.relay_model.specs.History.{got, put}
 use Rattle.relay_model.specs.Transfers.{due, backlog}
 use Rattle.relay_model.specs.May.{Legal, MayRead}
-use Rattle.relay_laws.proofs.PlaceLemmas.{same_place_equal}
-use Rattle.relay_laws.proofs.Growth.{Grows, same, grows_take, grows_before, grown, due_of_grows, due_nil}
-use Rattle.relay_laws.proofs.Holdings.{moves_formed}
+use Rattle.legal_steps.proofs.PlaceLemmas.{same_place_equal}
+use Rattle.legal_steps.proofs.Growth.{Grows, same, grows_take, grows_before, grown, due_of_grows, due_nil}
+use Rattle.legal_steps.proofs.Holdings.{moves_formed}
 use Rattle.session_direction.proofs.Wanted.{packets_are}
 use Rattle.relay_core.specs.declared.lanes.Lane.{Lane}
 use Rattle.relay_core.specs.declared.lanes.Lane.TheVariants.{Unformed, Formed}

@@ -18,7 +18,7 @@ use Rattle.relay_model.specs.Calls.{call}
 use Rattle.relay_model.specs.Rest.{timer_moment}
 use Rattle.relay_model.specs.Laws.{Tells}
 use Rattle.relay_model.specs.May.{by_refusal, by_service}
-use Rattle.relay_laws.proofs.CallLemmas.{call_tells}
+use Rattle.legal_steps.proofs.CallLemmas.{call_tells}
 use Rattle.session_direction.specs.Directions.{WantsNothing}
 use Rattle.relay_core.specs.declared.states.State.{State}
 use Rattle.relay_core.specs.declared.wishes.Wish.{Wish}
@@ -148,10 +148,10 @@ sleeps_running c n past s st until f e k want u =
       read_ahead = λ w runs. want w;
     }
 
-pub wish_allowed : (c : Config) (n : ℕ) (past : List Act) (s : ℕ) (st : State) (wish : Wish) → LanesWish c past s (Some wish) → st.ending ≡ None → Allowed c n past s st wish
-wish_allowed c n past s st (wishes.Read p at_most) h e = (h, e)
-wish_allowed c n past s st (wishes.Write p) h e = (h, e)
-wish_allowed c n past s st (wishes.Send p) h e = (h, e)
+pub wish_allowed : (c : Config) (n : ℕ) (past : List Act) (s : ℕ) (st : State) (wish : Wish) → LanesWish c past s st.lanes (Some wish) → st.ending ≡ None → Allowed c n past s st wish
+wish_allowed c n past s st (wishes.Read p at_most) h e = (h.0, (e, h.1))
+wish_allowed c n past s st (wishes.Write p) h e = (h.0, (e, h.1))
+wish_allowed c n past s st (wishes.Send p) h e = (h.0, (e, h.1))
 wish_allowed c n past s st (wishes.Shut p how) h e = (h, e)
 wish_allowed c n past s st (wishes.Open p) h e = absurd h
 wish_allowed c n past s st (wishes.Settle p) h e = absurd h

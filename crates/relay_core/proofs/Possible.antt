@@ -26,9 +26,9 @@ use Rattle.relay_model.specs.Calls.{call, called_at}
 use Rattle.relay_model.specs.Rest.{moves, Rest, SessionRests, until_of}
 use Rattle.relay_model.specs.Laws.{Tells}
 use Rattle.relay_model.specs.May.{Legal, Licensed, by_cause, by_refusal, by_service, by_door, by_memory, by_turns, MayOpen}
-use Rattle.relay_laws.proofs.PlaceLemmas.{same_place_equal}
-use Rattle.relay_laws.proofs.CallLemmas.{call_tells}
-use Rattle.relay_laws.proofs.Holdings.{input_passes, moves_formed, moves_running, running_ready, standing_held}
+use Rattle.legal_steps.proofs.PlaceLemmas.{same_place_equal}
+use Rattle.legal_steps.proofs.CallLemmas.{call_tells}
+use Rattle.legal_steps.proofs.Holdings.{input_passes, moves_formed, moves_running, running_ready, standing_held}
 use Rattle.relay_core.specs.declared.states.State.{State}
 use Rattle.relay_core.specs.declared.wishes.Wish.{Wish}
 use Rattle.relay_core.specs.declared.wishes.Wish.TheVariants as wishes

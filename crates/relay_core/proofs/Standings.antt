@@ -12,8 +12,8 @@ use Rattle.relay_model.specs.History.{now, Stage, Untried, Usable, Unsettled, Fa
 use Rattle.relay_model.specs.Openings.{is_ready, stands_ready}
 use Rattle.relay_model.specs.Rest.{moves}
 use Rattle.relay_model.specs.May.{Legal}
-use Rattle.relay_laws.proofs.PlaceLemmas.{same_place_equal}
-use Rattle.relay_laws.proofs.Holdings.{output_passes, moves_formed, moves_running, running_ready}
+use Rattle.legal_steps.proofs.PlaceLemmas.{same_place_equal}
+use Rattle.legal_steps.proofs.Holdings.{output_passes, moves_formed, moves_running, running_ready}
 use Rattle.relay_core.specs.Standings.{StandsFor}
 
 -- an act that sets the stage of its own thing

@@ -15,7 +15,6 @@ use Rattle.relay_model.specs.declared.readiness.ReadyAt.{ReadyAt}
 use Rattle.relay_model.specs.Places.{same_place}
 use Rattle.relay_model.specs.Configs.{places, is_of, is_place_of, has_fork, input, output, formed, way_from, way_to, own_doors, keeps_borders, program_door, Fit}
 use Rattle.relay_model.specs.History.{now, accept_failed, memory_said, stop_said}
-use Rattle.relay_model.specs.Arming.{asked_to_write}
 use Rattle.relay_model.specs.Moments.{moved}
 use Rattle.relay_model.specs.Openings.{Call, Accept, Serve, first_call}
 use Rattle.relay_model.specs.Cause.{cause, closed_why, fault_stands, accept_failed_for}
@@ -23,8 +22,8 @@ use Rattle.relay_model.specs.Calls.{call, called_at}
 use Rattle.relay_model.specs.Rest.{owed, Rest}
 use Rattle.place_openings.specs.Touching.{touches}
 use Rattle.relay_model.specs.May.{May, MayWrite, MayRead, MayTryWrite, MayOffer}
-use Rattle.relay_laws.proofs.PlaceLemmas.{same_place_equal}
-use Rattle.relay_laws.proofs.Holdings.{moves_formed, input_passes, output_passes}
+use Rattle.legal_steps.proofs.PlaceLemmas.{same_place_equal}
+use Rattle.legal_steps.proofs.Holdings.{moves_formed, input_passes, output_passes}
 use Rattle.place_openings.specs.Stands.{AreOpenings}
 use Rattle.place_openings.specs.Steps.{steps_in}
 use Rattle.session_direction.specs.Directions.{listed}
@@ -441,9 +440,6 @@ reads_bytes c past s p n k r fits = read_may c past p n k r.may (omega (arith, f
 
 pub reads_one : (c : Config) (past : List Act) (s : ℕ) (p : Place) (n : ℕ) → Reads c past s p n → MayRead c past p 1
 reads_one c past s p n r = read_may c past p n 1 r.may (omega arith) r.may.some_bytes
-
-pub unasked_there : (c : Config) (past : List Act) (s : ℕ) (p : Place) (borders : Bool) → Offers c past s p borders → asked_to_write past (input c p.session (way_to p.side)) p ≡ false
-unasked_there c past s p borders o = ap (λ x. asked_to_write past (input c x (way_to p.side)) p) o.own ∙ o.not_asked
 
 pub takes_some : (c : Config) (past : List Act) (s : ℕ) (p : Place) (waiting : List ℕ) (count : ℕ) → Offers c past s p false → (0 < count) × (count ≤ length waiting) → TakesFrom c p waiting count
 takes_some c past s p waiting count o fits = record { some_bytes = omega (arith, fits.0); within = fits.1; whole = λ h. absurd (false≢true (sym o.keeps ∙ h)) }

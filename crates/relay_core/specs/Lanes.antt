@@ -7,11 +7,10 @@ use Rattle.relay_model.specs.declared.commands.Config.{Config}
 use Rattle.relay_model.specs.declared.acts.Act.{Act}
 use Rattle.relay_model.specs.Configs.{formed, way_from, way_to}
 use Rattle.relay_buffer.specs.Flows.{room_in}
-use Rattle.session_direction.specs.States.{steps_in}
+use Rattle.session_direction.specs.States.{can_read, can_write, steps_in}
 use Rattle.relay_model.specs.declared.acts.Shut.{Shut as Shutting}
-use Rattle.relay_model.specs.Configs.{input, keeps_borders}
+use Rattle.relay_model.specs.Configs.{keeps_borders}
 use Rattle.relay_model.specs.Transfers.{room}
-use Rattle.relay_model.specs.Arming.{asked_to_read, asked_to_write}
 use Rattle.relay_model.specs.May.{MayRead, MayTryWrite, MayShut}
 use Rattle.session_direction.specs.Directions.{IsDirection, WantsNothing}
 use Rattle.relay_core.specs.declared.wishes.Wish.{Wish}
@@ -49,6 +48,15 @@ lane_steps (Formed d) = steps_in d
 abbrev pub lanes_steps : Lanes → ℕ
 lanes_steps lanes = lane_steps lanes.to_right + lane_steps lanes.to_left
 
+-- its input may be asked before the next turn, and its output
+abbrev pub can_read_in : Lane → Bool
+can_read_in Unformed = false
+can_read_in (Formed d) = can_read d
+
+abbrev pub can_write_in : Lane → Bool
+can_write_in Unformed = false
+can_write_in (Formed d) = can_write d
+
 -- each piece of the lane goes out as one packet
 abbrev pub keeps_pieces : Lane → Bool
 keeps_pieces Unformed = false
@@ -64,40 +72,46 @@ room_at lanes p = room_of (lane_at lanes (way_from p.side))
 abbrev pub keeps_at : Lanes → Place → Bool
 keeps_at lanes p = keeps_pieces (lane_at lanes (way_to p.side))
 
+-- a place may be asked for bytes before the next turn, and offered some
+abbrev pub can_read_at : Lanes → Place → Bool
+can_read_at lanes p = can_read_in (lane_at lanes (way_from p.side))
+
+abbrev pub can_write_at : Lanes → Place → Bool
+can_write_at lanes p = can_write_in (lane_at lanes (way_to p.side))
+
 -- ---- what a lane wishes for
 
--- so many bytes may be read at a place of the session that wasn't asked yet
+-- so many bytes may be read at a place of the session
 pub record Reads (c : Config) (past : List Act) (s : ℕ) (p : Place) (n : ℕ) : Type 0 where
   pub own : p.session ≡ s
   pub may : MayRead c past p n
   pub size : n ≡ room c past s (way_from p.side)
-  pub not_asked : asked_to_read past p ≡ false
 
--- what waits may be offered to a place of the session that wasn't asked yet
+-- what waits may be offered to a place of the session
 pub record Offers (c : Config) (past : List Act) (s : ℕ) (p : Place) (borders : Bool) : Type 0 where
   pub own : p.session ≡ s
   pub may : MayTryWrite c past p
   pub keeps : keeps_borders c (way_to p.side) ≡ borders
-  pub not_asked : asked_to_write past (input c s (way_to p.side)) p ≡ false
 
 -- the end may be passed on at a place of the session
 pub record Shuts (c : Config) (past : List Act) (s : ℕ) (p : Place) (how : Shutting) : Type 0 where
   pub own : p.session ≡ s
   pub may : MayShut c past p how
 
-abbrev pub LaneWishes : Config → List Act → ℕ → Way → Option Wish → Type 0
-LaneWishes c past s w None = WantsNothing c past s w
-LaneWishes c past s w (Some (wishes.Read p n)) = Reads c past s p n
-LaneWishes c past s w (Some (wishes.Write p)) = Offers c past s p false
-LaneWishes c past s w (Some (wishes.Send p)) = Offers c past s p true
-LaneWishes c past s w (Some (wishes.Shut p how)) = Shuts c past s p how
-LaneWishes c past s w (Some other) = ⊥
+-- a read is at the lane's input and a write at its output, which weren't asked since the last turn or can be paid for
+abbrev pub LaneWishes : Config → List Act → ℕ → Way → Lane → Option Wish → Type 0
+LaneWishes c past s w lane None = WantsNothing c past s w
+LaneWishes c past s w lane (Some (wishes.Read p n)) = Reads c past s p n × (way_from p.side ≡ w) × (can_read_in lane ≡ true)
+LaneWishes c past s w lane (Some (wishes.Write p)) = Offers c past s p false × (way_to p.side ≡ w) × (can_write_in lane ≡ true)
+LaneWishes c past s w lane (Some (wishes.Send p)) = Offers c past s p true × (way_to p.side ≡ w) × (can_write_in lane ≡ true)
+LaneWishes c past s w lane (Some (wishes.Shut p how)) = Shuts c past s p how
+LaneWishes c past s w lane (Some other) = ⊥
 
 -- what both directions want: nothing, or the call that one of them wishes for
-abbrev pub LanesWish : Config → List Act → ℕ → Option Wish → Type 0
-LanesWish c past s None = (w : Way) → WantsNothing c past s w
-LanesWish c past s (Some (wishes.Read p n)) = Reads c past s p n
-LanesWish c past s (Some (wishes.Write p)) = Offers c past s p false
-LanesWish c past s (Some (wishes.Send p)) = Offers c past s p true
-LanesWish c past s (Some (wishes.Shut p how)) = Shuts c past s p how
-LanesWish c past s (Some other) = ⊥
+abbrev pub LanesWish : Config → List Act → ℕ → Lanes → Option Wish → Type 0
+LanesWish c past s lanes None = (w : Way) → WantsNothing c past s w
+LanesWish c past s lanes (Some (wishes.Read p n)) = Reads c past s p n × (can_read_at lanes p ≡ true)
+LanesWish c past s lanes (Some (wishes.Write p)) = Offers c past s p false × (can_write_at lanes p ≡ true)
+LanesWish c past s lanes (Some (wishes.Send p)) = Offers c past s p true × (can_write_at lanes p ≡ true)
+LanesWish c past s lanes (Some (wishes.Shut p how)) = Shuts c past s p how
+LanesWish c past s lanes (Some other) = ⊥

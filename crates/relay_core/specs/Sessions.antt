@@ -1,7 +1,11 @@
 -- What a session says of the history that it stands for.
-use Rattle.std.specs.Prelude.{◌≡◌, ℕ, ◌<◌, Bool, List, ◌∷◌, Option, Some, None, is_some}
+use Rattle.std.specs.Prelude.{◌≡◌, ℕ, ◌<◌, Bool, true, List, ◌∷◌, Option, Some, None, is_some}
 use Rattle.relay_model.specs.declared.commands.Config.{Config}
+use Rattle.relay_model.specs.declared.places.Place.{Place}
 use Rattle.relay_model.specs.declared.acts.Act.{Act}
+use Rattle.relay_model.specs.Configs.{is_place_of, is_program, medium_of}
+use Rattle.relay_model.specs.History.{was_closed}
+use Rattle.place_openings.specs.Steps.{has_asked}
 use Rattle.relay_model.specs.Rest.{owed}
 use Rattle.relay_model.specs.May.{May}
 use Rattle.relay_core.specs.declared.sessions.Session.{Session}
@@ -43,3 +47,14 @@ pub record Heard (c : Config) (n : ℕ) (past : List Act) (s : ℕ) (act : Act) 
 abbrev pub HeardBy : Config → ℕ → List Act → ℕ → Option Act → Session → Session → Type 0
 HeardBy c n past s (Some act) old new = Heard c n past s act old new
 HeardBy c n past s None old new = Unit {0}
+
+-- ---- children
+
+-- the session has asked for the child of this place
+abbrev pub has_asked_at : Session → Place → Bool
+has_asked_at session p = has_asked session.state.openings p
+
+-- it has asked for each of its children that was closed
+abbrev pub AsksEach : Config → List Act → ℕ → Session → Type 0
+AsksEach c past s session =
+    (p : Place) → is_place_of c s p ≡ true → is_program (medium_of c p) ≡ true → was_closed past p ≡ true → has_asked_at session p ≡ true

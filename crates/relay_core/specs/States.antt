@@ -26,7 +26,7 @@ use Rattle.relay_core.specs.declared.wishes.Wish.{Wish}
 use Rattle.relay_core.specs.declared.wishes.Wish.TheVariants as wishes
 use Rattle.relay_core.specs.Endings.{Ends, EndingIs}
 use Rattle.relay_core.specs.Timers.{session_until}
-use Rattle.relay_core.specs.Lanes.{AreLanes, Reads, Offers, Shuts, lanes_steps}
+use Rattle.relay_core.specs.Lanes.{AreLanes, Reads, Offers, Shuts, can_read_at, can_write_at, lanes_steps}
 
 -- all fields but `ending` are what the history says
 pub record Ground (c : Config) (past : List Act) (s : ℕ) (st : State) : Type 0 where
@@ -89,11 +89,16 @@ abbrev pub ClosesFor : Config → List Act → ℕ → Option Why → Place → 
 ClosesFor c past s None q why = ((why ≡ whys.Refused) × (call c past s ≡ calls.Refuse q)) ⊎ ((why ≡ whys.Served) × (call c past s ≡ calls.Serve q))
 ClosesFor c past s (Some end) q why = end ≡ why
 
--- what a wish says of whether the session has ended; a child is reaped that wasn't asked for yet
+-- what a wish says of whether the session has ended; a place is read or written that wasn't asked since the last turn or
+-- can be paid for, and a child is reaped that wasn't asked for yet,
+-- and none is left at the end
 abbrev pub Stage : Config → List Act → ℕ → State → Wish → Type 0
 Stage c past s st (wishes.Close q why) = ClosesFor c past s st.ending q why
 Stage c past s st (wishes.Reap p) = (is_some st.ending ≡ true) × (first_of child_by st.openings ≡ Some p)
-Stage c past s st (wishes.Done why) = st.ending ≡ Some why
+Stage c past s st (wishes.Done why) = (st.ending ≡ Some why) × (first_of child_by st.openings ≡ None)
+Stage c past s st (wishes.Read p at_most) = (st.ending ≡ None) × (can_read_at st.lanes p ≡ true)
+Stage c past s st (wishes.Write p) = (st.ending ≡ None) × (can_write_at st.lanes p ≡ true)
+Stage c past s st (wishes.Send p) = (st.ending ≡ None) × (can_write_at st.lanes p ≡ true)
 Stage c past s st wish = st.ending ≡ None
 
 abbrev pub Allowed : Config → ℕ → List Act → ℕ → State → Wish → Type 0

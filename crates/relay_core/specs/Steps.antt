@@ -1,5 +1,5 @@
 -- What an act makes of the state of a session.
-use Rattle.std.specs.Prelude.{◌≡◌, ℕ, ◌<◌, Bool, false, List, [], ◌∷◌, Option, Some, None}
+use Rattle.std.specs.Prelude.{◌≡◌, ℕ, ◌<◌, Bool, true, false, List, [], ◌∷◌, Option, Some, None}
 use Rattle.relay_model.specs.declared.places.Place.{Place}
 use Rattle.relay_model.specs.declared.commands.Config.{Config}
 use Rattle.relay_model.specs.declared.acts.Act.{Act}
@@ -12,7 +12,7 @@ use Rattle.relay_core.specs.declared.transfers.Transfer.{Transfer}
 use Rattle.relay_core.specs.declared.wishes.Wish.{Wish}
 use Rattle.relay_core.specs.declared.wishes.Wish.TheVariants as wishes
 use Rattle.relay_core.specs.Lanes.{waiting_at, keeps_at}
-use Rattle.relay_core.specs.Transfers.{MayTransfer, IsUnasked}
+use Rattle.relay_core.specs.Transfers.{MayTransfer, affords_at}
 use Rattle.relay_core.specs.Endings.{Quiet}
 use Rattle.relay_core.specs.States.{Ground, Fields, steps_of}
 
@@ -32,11 +32,11 @@ pub record Heeds (c : Config) (past : List Act) (s : ℕ) (st : State) : Type 0 
   pub quiet : Quiet c past s
   pub ending_is : st.ending ≡ cause c past s
 
--- a transfer at a place of the session, of a kind that wasn't asked there since the last turn
+-- a transfer at a place of the session, of a kind that wasn't asked there since the last turn or can be paid for
 pub record Transfers (c : Config) (past : List Act) (s : ℕ) (lanes : Lanes) (p : Place) (transfer : Transfer) : Type 0 where
   pub own : p.session ≡ s
   pub may : MayTransfer c past p (waiting_at lanes p) transfer
-  pub unasked : IsUnasked c past p transfer
+  pub affords : affords_at lanes p transfer ≡ true
 
 -- the bytes that a wish offers
 abbrev pub waiting_for : State → Wish → List ℕ

@@ -7,7 +7,9 @@ use Rattle.relay_model.specs.declared.acts.Act.TheVariants as acts
 use Rattle.relay_model.specs.declared.places.Way.{Way}
 use Rattle.relay_model.specs.declared.places.Way.TheVariants.{LeftToRight, RightToLeft}
 use Rattle.relay_model.specs.Configs.{way_from, way_to, keeps_borders, input, output}
-use Rattle.relay_model.specs.Arming.{asked_to_read, asked_to_write}
+use Rattle.relay_core.specs.declared.lanes.Lane.{Lane}
+use Rattle.relay_core.specs.declared.lanes.Lanes.{Lanes}
+use Rattle.relay_core.specs.Lanes.{can_read_in, can_write_in, lane_at}
 use Rattle.relay_model.specs.May.{MayRead, MayTryWrite, MayShut}
 use Rattle.relay_core.specs.declared.transfers.Transfer.{Transfer}
 use Rattle.relay_core.specs.declared.transfers.Transfer.TheVariants as transfers
@@ -84,21 +86,18 @@ opposite RightToLeft = LeftToRight
 abbrev pub place_for : Config → ℕ → Way → Transfer → Place
 place_for c s w transfer = if is_read transfer then input c s w else output c s w
 
--- nothing of this kind was asked at the place since the last turn; an end is passed once anyway
-abbrev pub unasked_to_read : List Act → Place → Type 0
-unasked_to_read past p = asked_to_read past p ≡ false
+-- nothing of this kind was asked there since the last turn, or it can be paid for; an end is passed once anyway
+abbrev pub affords : Lane → Transfer → Bool
+affords lane (transfers.Read bytes) = can_read_in lane
+affords lane transfers.ReadEmpty = can_read_in lane
+affords lane transfers.ReadEnd = can_read_in lane
+affords lane transfers.ReadNotYet = can_read_in lane
+affords lane transfers.ReadFailed = can_read_in lane
+affords lane (transfers.Wrote count) = can_write_in lane
+affords lane transfers.WriteNotYet = can_write_in lane
+affords lane transfers.WriteFailed = can_write_in lane
+affords lane (transfers.Shut how) = true
+affords lane (transfers.ShutFailed how) = true
 
-abbrev pub unasked_to_write : Config → List Act → Place → Type 0
-unasked_to_write c past p = asked_to_write past (input c p.session (way_to p.side)) p ≡ false
-
-abbrev pub IsUnasked : Config → List Act → Place → Transfer → Type 0
-IsUnasked c past p (transfers.Read bytes) = unasked_to_read past p
-IsUnasked c past p transfers.ReadEmpty = unasked_to_read past p
-IsUnasked c past p transfers.ReadEnd = unasked_to_read past p
-IsUnasked c past p transfers.ReadNotYet = unasked_to_read past p
-IsUnasked c past p transfers.ReadFailed = unasked_to_read past p
-IsUnasked c past p (transfers.Wrote count) = unasked_to_write c past p
-IsUnasked c past p transfers.WriteNotYet = unasked_to_write c past p
-IsUnasked c past p transfers.WriteFailed = unasked_to_write c past p
-IsUnasked c past p (transfers.Shut how) = Unit {0}
-IsUnasked c past p (transfers.ShutFailed how) = Unit {0}
+abbrev pub affords_at : Lanes → Place → Transfer → Bool
+affords_at lanes p transfer = affords (lane_at lanes (way_of p transfer)) transfer

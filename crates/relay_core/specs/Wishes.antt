@@ -1,5 +1,7 @@
 -- Which answers fit a wish, and the act that an answer makes of it.
-use Rattle.std.specs.Prelude.{◌≡◌, ℕ, ◌<◌, ◌≤◌, List, length, take, Option, Some, None}
+use Rattle.std.specs.Prelude.{◌≡◌, ℕ, ◌<◌, ◌≤◌, Bool, false, List, length, take, Option, Some, None}
+use Rattle.relay_model.specs.declared.places.Place.{Place}
+use Rattle.relay_model.specs.Places.{same_place}
 use Rattle.relay_model.specs.declared.acts.Act.{Act}
 use Rattle.relay_model.specs.declared.acts.Act.TheVariants as acts
 use Rattle.relay_core.specs.declared.wishes.Wish.{Wish}
@@ -69,3 +71,8 @@ act_of (wishes.Shut p how) waiting answers.Failed = Some (acts.ShutFault p how)
 act_of (wishes.Close p why) waiting answers.Done = Some (acts.Closed p why)
 act_of (wishes.Reap p) waiting (answers.Reaped end) = Some (acts.Reaped p end)
 act_of wish waiting answer = None
+
+-- the wish asks for the child of this place
+abbrev pub reaps_at : Wish → Place → Bool
+reaps_at (wishes.Reap q) p = same_place q p
+reaps_at wish p = false

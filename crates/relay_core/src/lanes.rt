@@ -23,7 +23,7 @@ ghost use Rattle.session_direction.specs.Touches.{touches};
 ghost use Rattle.relay_model.specs.Readiness.{Listed};
 ghost use Rattle.relay_core.specs.Timers.{one_done_at};
 ghost use Rattle.relay_model.specs.Moments.{is_unfinished};
-ghost use Rattle.relay_core.specs.Transfers.{transfer_act, MayTransfer, IsUnasked, is_read, place_for, way_of, opposite};
+ghost use Rattle.relay_core.specs.Transfers.{transfer_act, MayTransfer, affords, affords_at, is_read, place_for, way_of, opposite};
 
 use crate::moments::{both, earlier as lesser, either, one_of};
 use crate::transfers::Transfer;
@@ -57,7 +57,7 @@ impl Lane {
 
     /// The call that it wishes for while the session runs, if there is one.
     pub fn wish(&self, now: u64) -> Option<Wish>
-        ensures { (c : Command) (past : List Act) (s : ℕ) (w : Direct) → IsLane c past s w self.now → now ≡ last_moment past → running c past s ≡ true → Fit c → LaneWishes c past s w result }
+        ensures { (c : Command) (past : List Act) (s : ℕ) (w : Direct) → IsLane c past s w self.now → now ≡ last_moment past → running c past s ≡ true → Fit c → LaneWishes c past s w self.now result }
     {
         let Lane::Formed(direction) = self else {
             return None;
@@ -169,7 +169,7 @@ impl Lane {
     /// A read, a write or a shut was answered at a place, this direction's or another.
     pub fn hear(&mut self, now: u64, place: Place, transfer: Transfer<'_>)
         ensures goes { (c : Command) (past : List Act) (s : ℕ) (w : Direct) (waiting : List ℕ) → IsLane c past s w self.old → now ≡ last_moment past → place.session ≡ s → (way_to place.side ≡ w → waiting ≡ waiting_in self.old) → MayTransfer c past place waiting transfer.entry → IsLane c (transfer_act place waiting transfer.entry ∷ past) s w self.new }
-        ensures fewer { (c : Command) (past : List Act) (s : ℕ) (w : Direct) (waiting : List ℕ) → IsLane c past s w self.old → place.session ≡ s → way_of place transfer.entry ≡ w → (way_to place.side ≡ w → waiting ≡ waiting_in self.old) → MayTransfer c past place waiting transfer.entry → IsUnasked c past place transfer.entry → lane_steps self.new < lane_steps self.old }
+        ensures fewer { (c : Command) (past : List Act) (s : ℕ) (w : Direct) (waiting : List ℕ) → IsLane c past s w self.old → place.session ≡ s → way_of place transfer.entry ≡ w → (way_to place.side ≡ w → waiting ≡ waiting_in self.old) → MayTransfer c past place waiting transfer.entry → affords self.old transfer.entry ≡ true → lane_steps self.new < lane_steps self.old }
         ensures same { (c : Command) (past : List Act) (s : ℕ) (w : Direct) → IsLane c past s w self.old → way_of place transfer.entry ≡ opposite w → lane_steps self.new ≡ lane_steps self.old }
     {
         if let Lane::Formed(direction) = self {
@@ -232,7 +232,7 @@ impl Lanes {
 
     /// The call that a direction wishes for while the session runs, the one to the right first.
     pub fn wish(&self, now: u64) -> Option<Wish>
-        ensures { (c : Command) (past : List Act) (s : ℕ) → AreLanes c past s self.now → now ≡ last_moment past → running c past s ≡ true → Fit c → LanesWish c past s result }
+        ensures { (c : Command) (past : List Act) (s : ℕ) → AreLanes c past s self.now → now ≡ last_moment past → running c past s ≡ true → Fit c → LanesWish c past s self.now result }
     {
         match self.to_right.wish(now) {
             Some(wish) => Some(wish),
@@ -318,7 +318,7 @@ impl Lanes {
     /// A read, a write or a shut was answered at the place.
     pub fn hear(&mut self, now: u64, place: Place, transfer: Transfer<'_>)
         ensures goes { (c : Command) (past : List Act) (s : ℕ) → AreLanes c past s self.old → now ≡ last_moment past → place.session ≡ s → MayTransfer c past place (waiting_at self.old place) transfer.entry → AreLanes c (transfer_act place (waiting_at self.old place) transfer.entry ∷ past) s self.new }
-        ensures fewer { (c : Command) (past : List Act) (s : ℕ) → AreLanes c past s self.old → place.session ≡ s → MayTransfer c past place (waiting_at self.old place) transfer.entry → IsUnasked c past place transfer.entry → lanes_steps self.new < lanes_steps self.old }
+        ensures fewer { (c : Command) (past : List Act) (s : ℕ) → AreLanes c past s self.old → place.session ≡ s → MayTransfer c past place (waiting_at self.old place) transfer.entry → affords_at self.old place transfer.entry ≡ true → lanes_steps self.new < lanes_steps self.old }
     {
         self.to_right.hear(now, place, transfer);
         self.to_left.hear(now, place, transfer);
@@ -371,7 +371,7 @@ fn concerns(direction: &Direction, place: Place, transfer: Transfer<'_>) -> bool
 /// Takes in a transfer of this direction.
 fn hear(direction: &mut Direction, now: u64, transfer: Transfer<'_>)
     ensures goes { (c : Command) (past : List Act) (s : ℕ) (w : Direct) → IsDirection c past s w direction.old → now ≡ last_moment past → MayTransfer c past (place_for c s w transfer.entry) direction.old.flow.backlog transfer.entry → IsDirection c (transfer_act (place_for c s w transfer.entry) direction.old.flow.backlog transfer.entry ∷ past) s w direction.new }
-    ensures fewer { (c : Command) (past : List Act) (s : ℕ) (w : Direct) → IsDirection c past s w direction.old → MayTransfer c past (place_for c s w transfer.entry) direction.old.flow.backlog transfer.entry → IsUnasked c past (place_for c s w transfer.entry) transfer.entry → steps_in direction.new < steps_in direction.old }
+    ensures fewer { (c : Command) (past : List Act) (s : ℕ) (w : Direct) → IsDirection c past s w direction.old → MayTransfer c past (place_for c s w transfer.entry) direction.old.flow.backlog transfer.entry → affords (Lane.Formed direction.old) transfer.entry ≡ true → steps_in direction.new < steps_in direction.old }
 {
     match transfer {
         Transfer::Read(bytes) => direction.read(fitting(bytes, direction.room())),

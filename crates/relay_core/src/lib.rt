@@ -8,8 +8,6 @@ mod moments;
 mod sessions;
 mod states;
 mod steps;
-#[cfg(test)]
-mod tests;
 mod transfers;
 mod wishes;
 

@@ -1,21 +1,24 @@
 // The session as the layers above see it: a state, and the one call that it wishes for next.
-ghost use Rattle.std.specs.Prelude.{◌≡◌, ℕ, ◌+◌, ◌<◌, ◌≤◌, ◌∷◌, ◌++◌, [], List, Option, Some, None, true, false, length, take, IfOk};
+ghost use Rattle.std.specs.Prelude.{◌≡◌, ℕ, ◌+◌, ◌<◌, ◌≤◌, ◌||◌, ◌∷◌, ◌++◌, [], List, Option, Some, None, true, false, length, take, IfOk};
 ghost use Rattle.relay_model.specs.declared.acts.Act.{Act};
 ghost use Rattle.relay_model.specs.declared.acts.Act.TheVariants as acts;
+ghost use Rattle.relay_model.specs.declared.acts.Why.{Why as Cause};
 ghost use Rattle.relay_model.specs.declared.acts.Why.TheVariants as whys;
 ghost use Rattle.relay_model.specs.declared.commands.Config.{Config as Command};
 ghost use Rattle.relay_model.specs.declared.commands.Dump.TheVariants as dumps;
 ghost use Rattle.relay_model.specs.declared.places.Place.{Place as Location};
 ghost use Rattle.relay_model.specs.declared.readiness.ReadyAt.{ReadyAt as Entry};
+ghost use Rattle.relay_model.specs.Conversions.{longest_packet};
 ghost use Rattle.relay_model.specs.Configs.{Fit, has_fork, places, own_doors};
 ghost use Rattle.relay_model.specs.History.{turns};
 ghost use Rattle.relay_model.specs.May.{Legal};
 ghost use Rattle.relay_model.specs.Outcome.{failed_listening, failed_opening};
 ghost use Rattle.relay_model.specs.Rest.{Rest, until_of};
+ghost use Rattle.place_openings.specs.Queries.{peer_of_first};
 ghost use Rattle.session_direction.specs.Directions.{listed};
 ghost use Rattle.relay_core.specs.declared.wishes.Wish.TheVariants as wishes;
 ghost use Rattle.relay_core.specs.declared.wishes.Answer.TheVariants as answers;
-ghost use Rattle.relay_core.specs.Wishes.{Fits, act_of};
+ghost use Rattle.relay_core.specs.Wishes.{Fits, act_of, reaps_at};
 ghost use Rattle.relay_core.specs.States.{Wished};
 ghost use Rattle.relay_core.specs.Conditions.{CanBeMade, is_course, is_writing, IsAtOwn};
 ghost use Rattle.relay_core.specs.Told.{told_listening, told_opening};
@@ -23,7 +26,7 @@ ghost use Rattle.relay_core.specs.Told.{told_listening, told_opening};
 use crate::states::State;
 use crate::wishes::{Answer, Wish};
 use place_openings::GivenUp;
-use relay_model::{Config, NoMemory, ReadyAt, Why};
+use relay_model::{Config, NoMemory, Peer, ReadyAt, Why};
 use std::alloc::Global;
 
 /// One relay between two addresses, as a machine without ports. Each wish is answered before the next one.
@@ -34,14 +37,15 @@ pub struct Session {
 }
 
 impl Session {
-    ghost use Rattle.relay_core.specs.Sessions.{Stands, Hears, HeardBy, wish_of, waiting_of, left_of, has_ended};
+    ghost use Rattle.relay_core.specs.Sessions.{Stands, Hears, HeardBy, AsksEach, wish_of, waiting_of, left_of, has_ended, has_asked_at};
 
     /// The session of a command without `fork`, at the beginning of its history. It takes all the memory that it
     /// will use.
     pub fn new(alloc: Global, config: &Config) -> Result<Session, NoMemory>
         requires fit { Fit config.now }
         requires alone { has_fork config.now ≡ false }
-        ensures { IfOk result (λ session. (n : ℕ) → Stands config.now n [] 0 session) }
+        ensures stands { IfOk result (λ session. (n : ℕ) → Stands config.now n [] 0 session) }
+        ensures unasked { IfOk result (λ session. (p : Location) → has_asked_at session p ≡ false) }
     {
         let state = State::new(alloc, config)?;
         let wish = state.plan();
@@ -56,6 +60,8 @@ impl Session {
         ensures own { (c : Command) (n : ℕ) (past : List Act) (s : ℕ) → Stands c n past s self.now → IsAtOwn c s result }
         ensures can { (c : Command) (n : ℕ) (past : List Act) (s : ℕ) → Stands c n past s self.now → Legal c n past → CanBeMade past result }
         ensures rests { (c : Command) (n : ℕ) (past : List Act) (s : ℕ) (until : Option ℕ) → Stands c n past s self.now → Legal c n past → c.dump ≡ dumps.Off → result ≡ wishes.Sleep until → Rest c past × (until ≡ until_of c past) }
+        ensures left { (c : Command) (n : ℕ) (past : List Act) (s : ℕ) → Stands c n past s self.now → left_of self.now ≤ 64 }
+        ensures children { (c : Command) (n : ℕ) (past : List Act) (s : ℕ) (why : Cause) → Stands c n past s self.now → result ≡ wishes.Done why → AsksEach c past s self.now }
     {
         self.wish
     }
@@ -65,7 +71,7 @@ impl Session {
         ensures front { result.now ≡ take (length result.now) (waiting_of self.now) }
         ensures some { result.now ≡ [] → waiting_of self.now ≡ [] }
         ensures offers { (c : Command) (n : ℕ) (past : List Act) (s : ℕ) → Stands c n past s self.now → is_writing (wish_of self.now) ≡ true → 0 < length result.now }
-        ensures packet { (c : Command) (n : ℕ) (past : List Act) (s : ℕ) (p : Location) → Stands c n past s self.now → Legal c n past → wish_of self.now ≡ wishes.Send p → (result.now ≡ waiting_of self.now) × (length result.now ≤ 65507) }
+        ensures packet { (c : Command) (n : ℕ) (past : List Act) (s : ℕ) (p : Location) → Stands c n past s self.now → Legal c n past → wish_of self.now ≡ wishes.Send p → (result.now ≡ waiting_of self.now) × (length result.now ≤ longest_packet) }
     {
         self.state.offered(self.wish)
     }
@@ -77,6 +83,7 @@ impl Session {
         ensures childless { (c : Command) (n : ℕ) (past : List Act) (s : ℕ) → Stands c n past s self.old → answer.entry ≡ answers.NoChild → Stands c n past s self.new × (left_of self.new < left_of self.old) }
         ensures woken { (c : Command) (n : ℕ) (past : List Act) (s : ℕ) (until : Option ℕ) → Stands c n past s self.old → wish_of self.old ≡ wishes.Sleep until → answer.entry ≡ answers.Woken → Hears c n (acts.Turn until now (listed []) false ∷ past) s self.new }
         ensures over { (c : Command) (n : ℕ) (past : List Act) (s : ℕ) → Stands c n past s self.old → has_ended self.old ≡ true → has_ended self.new ≡ true }
+        ensures asked { (p : Location) → has_asked_at self.new p ≡ true → (has_asked_at self.old p || reaps_at (wish_of self.old) p) ≡ true }
     {
         self.state.hear(now, self.wish, answer);
         self.wish = self.state.plan();
@@ -84,7 +91,8 @@ impl Session {
 
     /// The turn that was just heard names this half too.
     pub fn ready(&mut self, entry: ReadyAt)
-        ensures { (c : Command) (n : ℕ) (past : List Act) (s : ℕ) (until : Option ℕ) (at : ℕ) (names : List Entry) → Hears c n (acts.Turn until at (listed names) false ∷ past) s self.old → Hears c n (acts.Turn until at (listed (names ++ entry ∷ [])) false ∷ past) s self.new }
+        ensures goes { (c : Command) (n : ℕ) (past : List Act) (s : ℕ) (until : Option ℕ) (at : ℕ) (names : List Entry) → Hears c n (acts.Turn until at (listed names) false ∷ past) s self.old → Hears c n (acts.Turn until at (listed (names ++ entry ∷ [])) false ∷ past) s self.new }
+        ensures asked { (p : Location) → has_asked_at self.new p ≡ true → has_asked_at self.old p ≡ true }
     {
         self.state.named(entry);
         self.wish = self.state.plan();
@@ -98,9 +106,17 @@ impl Session {
         ensures memory { (c : Command) (n : ℕ) (past : List Act) (s : ℕ) → Stands c n past s self.old → has_ended self.old ≡ false → why ≡ whys.Memory → Stands c n past s self.new }
         ensures over { has_ended self.new ≡ true }
         ensures left { left_of self.new ≡ left_of self.old }
+        ensures asked { (p : Location) → has_asked_at self.new p ≡ true → has_asked_at self.old p ≡ true }
     {
         self.state.cut(why);
         self.wish = self.state.plan();
+    }
+
+    /// The permitted peer of its first place in opening order, while that is held by one.
+    pub fn peer(&self) -> Option<Peer>
+        ensures { (c : Command) (n : ℕ) (past : List Act) (s : ℕ) → Stands c n past s self.now → result ≡ peer_of_first c past (places c s) }
+    {
+        self.state.openings.peer_of_first()
     }
 
     // ---- what it tells at its end

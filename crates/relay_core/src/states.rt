@@ -2,6 +2,8 @@
 ghost use Rattle.std.specs.Prelude.{◌≡◌, ℕ, ◌+◌, ◌<◌, ◌≤◌, ◌&&◌, ◌||◌, ◌∷◌, ◌++◌, [], not, List, Option, Some, None, is_some, length, take, true, false, IfOk};
 ghost use Rattle.relay_model.specs.declared.acts.Act.{Act};
 ghost use Rattle.relay_model.specs.declared.commands.Config.{Config as Command};
+ghost use Rattle.relay_model.specs.declared.places.Place.{Place as Spot};
+ghost use Rattle.place_openings.specs.Steps.{has_asked};
 ghost use Rattle.relay_model.specs.Configs.{Fit, has_fork};
 ghost use Rattle.relay_model.specs.Choices.{first_some, only_if, earlier};
 ghost use Rattle.relay_model.specs.History.{now as last_moment};
@@ -48,7 +50,8 @@ impl State {
     pub fn new(alloc: Global, config: &Config) -> Result<State, NoMemory>
         requires fit { Fit config.now }
         requires alone { has_fork config.now ≡ false }
-        ensures { IfOk result (λ st. (n : ℕ) → Fields config.now n [] 0 st) }
+        ensures stands { IfOk result (λ st. (n : ℕ) → Fields config.now n [] 0 st) }
+        ensures unasked { IfOk result (λ st. (p : Spot) → has_asked st.openings p ≡ false) }
     {
         let mut state = State {
             closing: config.closing,

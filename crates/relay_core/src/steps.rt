@@ -1,17 +1,20 @@
 // What each answer makes of the state of a session.
-ghost use Rattle.std.specs.Prelude.{◌≡◌, if◌then◌else◌, ℕ, ◌+◌, ◌<◌, ◌≤◌, ◌∷◌, ◌++◌, [], ◌⊎◌, List, Option, Some, None, is_some, length, take, true, false};
+ghost use Rattle.std.specs.Prelude.{◌≡◌, if◌then◌else◌, ℕ, ◌+◌, ◌<◌, ◌≤◌, ◌||◌, ◌∷◌, ◌++◌, [], ◌⊎◌, List, Option, Some, None, is_some, length, take, true, false};
 ghost use Rattle.relay_model.specs.declared.acts.Act.{Act};
 ghost use Rattle.relay_model.specs.declared.acts.Act.TheVariants as acts;
 ghost use Rattle.relay_model.specs.declared.acts.ChildEnd.{ChildEnd as Ending};
 ghost use Rattle.relay_model.specs.declared.acts.Why.{Why as Cause};
 ghost use Rattle.relay_model.specs.declared.acts.Why.TheVariants as whys;
+ghost use Rattle.relay_model.specs.declared.places.Place.{Place as Spot};
+ghost use Rattle.relay_model.specs.Places.{same_place};
 ghost use Rattle.relay_model.specs.Cause.{cause};
 ghost use Rattle.relay_model.specs.declared.commands.Config.{Config as Command};
 ghost use Rattle.relay_model.specs.declared.readiness.ReadyAt.{ReadyAt as Entry};
 ghost use Rattle.session_direction.specs.Directions.{listed};
 ghost use Rattle.relay_core.specs.declared.wishes.Wish.TheVariants as wishes;
 ghost use Rattle.relay_core.specs.declared.wishes.Answer.TheVariants as answers;
-ghost use Rattle.relay_core.specs.Wishes.{Fits, act_of};
+ghost use Rattle.relay_core.specs.Wishes.{Fits, act_of, reaps_at};
+ghost use Rattle.place_openings.specs.Steps.{has_asked};
 ghost use Rattle.relay_core.specs.Lanes.{waiting_at};
 ghost use Rattle.relay_core.specs.Transfers.{transfer_act, moves_bytes};
 
@@ -35,6 +38,7 @@ impl State {
         ensures childless { (c : Command) (n : ℕ) (past : List Act) (s : ℕ) → Fields c n past s self.old → Allowed c n past s self.old wish → answer.entry ≡ answers.NoChild → Fields c n past s self.new × (steps_of self.new < steps_of self.old) }
         ensures woken { (c : Command) (past : List Act) (s : ℕ) (until : Option ℕ) → Ground c past s self.old → Quiet c past s → answer.entry ≡ answers.Woken → Heeds c (acts.Turn until now (listed []) false ∷ past) s self.new }
         ensures over { (c : Command) (n : ℕ) (past : List Act) (s : ℕ) → Allowed c n past s self.old wish → is_some self.old.ending ≡ true → is_some self.new.ending ≡ true }
+        ensures asked { (p : Spot) → has_asked self.new.openings p ≡ true → (has_asked self.old.openings p || reaps_at wish p) ≡ true }
     {
         match answer {
             Answer::Woken => self.woken(now),
@@ -47,6 +51,7 @@ impl State {
     fn without_child(&mut self, wish: Wish)
         ensures goes { (c : Command) (n : ℕ) (past : List Act) (s : ℕ) → Fields c n past s self.old → Allowed c n past s self.old wish → Fits wish (waiting_for self.old wish) answers.NoChild → Fields c n past s self.new × (steps_of self.new < steps_of self.old) }
         ensures same { self.new.ending ≡ self.old.ending }
+        ensures asked { (p : Spot) → has_asked self.new.openings p ≡ true → (has_asked self.old.openings p || reaps_at wish p) ≡ true }
     {
         if let Wish::Reap(place) = wish {
             self.childless(place);
@@ -58,6 +63,7 @@ impl State {
         requires { Fits wish (waiting_for self.old wish) answer }
         ensures goes { (c : Command) (n : ℕ) (past : List Act) (s : ℕ) → Fields c n past s self.old → Allowed c n past s self.old wish → AbsorbedBy c n past s (act_of wish (waiting_for self.old wish) answer.entry) self.old self.new }
         ensures over { (c : Command) (n : ℕ) (past : List Act) (s : ℕ) → Allowed c n past s self.old wish → is_some self.old.ending ≡ true → is_some self.new.ending ≡ true }
+        ensures asked { (p : Spot) → has_asked self.new.openings p ≡ true → (has_asked self.old.openings p || reaps_at wish p) ≡ true }
     {
         match (wish, answer) {
             (Wish::Open(place), Answer::Opened) => self.opened(place),
@@ -113,6 +119,7 @@ impl State {
     pub fn opened(&mut self, place: Place)
         ensures goes { (c : Command) (n : ℕ) (past : List Act) (s : ℕ) → Fields c n past s self.old → Allowed c n past s self.old (wishes.Open place) → Absorbed c n past s (acts.Opened place) self.old self.new }
         ensures settles { (c : Command) (n : ℕ) (past : List Act) (s : ℕ) → Fields c n past s self.old → Allowed c n past s self.old (wishes.Settle place) → Absorbed c n past s (acts.Opened place) self.old self.new }
+        ensures asked { (p : Spot) → has_asked self.new.openings p ≡ true → has_asked self.old.openings p ≡ true }
     {
         self.openings.opened(place);
         self.lanes.opened(place);
@@ -124,6 +131,7 @@ impl State {
     pub fn opened_later(&mut self, place: Place)
         ensures goes { (c : Command) (n : ℕ) (past : List Act) (s : ℕ) → Fields c n past s self.old → Allowed c n past s self.old (wishes.Open place) → Absorbed c n past s (acts.OpenLater place) self.old self.new }
         ensures settles { (c : Command) (n : ℕ) (past : List Act) (s : ℕ) → Fields c n past s self.old → Allowed c n past s self.old (wishes.Settle place) → Absorbed c n past s (acts.OpenLater place) self.old self.new }
+        ensures asked { (p : Spot) → has_asked self.new.openings p ≡ true → has_asked self.old.openings p ≡ true }
     {
         self.openings.opened_later(place);
         self.lanes.unmoved();
@@ -134,6 +142,7 @@ impl State {
     pub fn open_failed(&mut self, place: Place)
         ensures goes { (c : Command) (n : ℕ) (past : List Act) (s : ℕ) → Fields c n past s self.old → Allowed c n past s self.old (wishes.Open place) → Absorbed c n past s (acts.OpenFailed place) self.old self.new }
         ensures settles { (c : Command) (n : ℕ) (past : List Act) (s : ℕ) → Fields c n past s self.old → Allowed c n past s self.old (wishes.Settle place) → Absorbed c n past s (acts.OpenFailed place) self.old self.new }
+        ensures asked { (p : Spot) → has_asked self.new.openings p ≡ true → has_asked self.old.openings p ≡ true }
     {
         self.openings.open_failed(place, self.clock);
         self.lanes.unmoved();
@@ -142,7 +151,8 @@ impl State {
 
     /// The door listens.
     pub fn listening(&mut self, door: Place)
-        ensures { (c : Command) (n : ℕ) (past : List Act) (s : ℕ) → Fields c n past s self.old → Allowed c n past s self.old (wishes.Listen door) → Absorbed c n past s (acts.Listening door) self.old self.new }
+        ensures goes { (c : Command) (n : ℕ) (past : List Act) (s : ℕ) → Fields c n past s self.old → Allowed c n past s self.old (wishes.Listen door) → Absorbed c n past s (acts.Listening door) self.old self.new }
+        ensures asked { (p : Spot) → has_asked self.new.openings p ≡ true → has_asked self.old.openings p ≡ true }
     {
         self.openings.listening(door);
         self.lanes.unmoved();
@@ -151,7 +161,8 @@ impl State {
 
     /// The listening failed.
     pub fn listen_failed(&mut self, door: Place)
-        ensures { (c : Command) (n : ℕ) (past : List Act) (s : ℕ) → Fields c n past s self.old → Allowed c n past s self.old (wishes.Listen door) → Absorbed c n past s (acts.ListenFailed door) self.old self.new }
+        ensures goes { (c : Command) (n : ℕ) (past : List Act) (s : ℕ) → Fields c n past s self.old → Allowed c n past s self.old (wishes.Listen door) → Absorbed c n past s (acts.ListenFailed door) self.old self.new }
+        ensures asked { (p : Spot) → has_asked self.new.openings p ≡ true → has_asked self.old.openings p ≡ true }
     {
         self.openings.listen_failed(door, self.clock);
         self.lanes.unmoved();
@@ -160,7 +171,8 @@ impl State {
 
     /// A peer was accepted at the door; the place is its.
     pub fn accepted(&mut self, door: Place, place: Place, peer: Peer)
-        ensures { (c : Command) (n : ℕ) (past : List Act) (s : ℕ) → Fields c n past s self.old → Allowed c n past s self.old (wishes.Accept door place) → Absorbed c n past s (acts.Accepted place peer) self.old self.new }
+        ensures goes { (c : Command) (n : ℕ) (past : List Act) (s : ℕ) → Fields c n past s self.old → Allowed c n past s self.old (wishes.Accept door place) → Absorbed c n past s (acts.Accepted place peer) self.old self.new }
+        ensures asked { (p : Spot) → has_asked self.new.openings p ≡ true → has_asked self.old.openings p ≡ true }
     {
         self.openings.accepted(place, peer);
         self.lanes.opened(place);
@@ -170,7 +182,8 @@ impl State {
 
     /// No peer has come to the door yet.
     pub fn no_peer(&mut self, door: Place, place: Place)
-        ensures { (c : Command) (n : ℕ) (past : List Act) (s : ℕ) → Fields c n past s self.old → Allowed c n past s self.old (wishes.Accept door place) → Absorbed c n past s (acts.NoPeer door) self.old self.new }
+        ensures goes { (c : Command) (n : ℕ) (past : List Act) (s : ℕ) → Fields c n past s self.old → Allowed c n past s self.old (wishes.Accept door place) → Absorbed c n past s (acts.NoPeer door) self.old self.new }
+        ensures asked { (p : Spot) → has_asked self.new.openings p ≡ true → has_asked self.old.openings p ≡ true }
     {
         self.openings.no_peer(door);
         self.lanes.unmoved();
@@ -179,7 +192,8 @@ impl State {
 
     /// The accepting failed, which ends the session.
     pub fn accept_failed(&mut self, door: Place, place: Place)
-        ensures { (c : Command) (n : ℕ) (past : List Act) (s : ℕ) → Fields c n past s self.old → Allowed c n past s self.old (wishes.Accept door place) → Absorbed c n past s (acts.AcceptFailed door) self.old self.new }
+        ensures goes { (c : Command) (n : ℕ) (past : List Act) (s : ℕ) → Fields c n past s self.old → Allowed c n past s self.old (wishes.Accept door place) → Absorbed c n past s (acts.AcceptFailed door) self.old self.new }
+        ensures asked { (p : Spot) → has_asked self.new.openings p ≡ true → has_asked self.old.openings p ≡ true }
     {
         self.openings.accept_failed(door);
         self.lanes.unmoved();
@@ -188,7 +202,8 @@ impl State {
 
     /// A read, a write or a shut was answered at the place.
     pub fn transferred(&mut self, place: Place, transfer: Transfer<'_>)
-        ensures { (c : Command) (n : ℕ) (past : List Act) (s : ℕ) → Fields c n past s self.old → self.old.ending ≡ None → Transfers c past s self.old.lanes place transfer.entry → Absorbed c n past s (transfer_act place (waiting_at self.old.lanes place) transfer.entry) self.old self.new }
+        ensures goes { (c : Command) (n : ℕ) (past : List Act) (s : ℕ) → Fields c n past s self.old → self.old.ending ≡ None → Transfers c past s self.old.lanes place transfer.entry → Absorbed c n past s (transfer_act place (waiting_at self.old.lanes place) transfer.entry) self.old self.new }
+        ensures asked { (p : Spot) → has_asked self.new.openings p ≡ true → has_asked self.old.openings p ≡ true }
     {
         self.lanes.hear(self.clock, place, transfer);
         self.openings.unmoved();
@@ -212,6 +227,7 @@ impl State {
     pub fn closed(&mut self, thing: Place, why: Why)
         ensures goes { (c : Command) (n : ℕ) (past : List Act) (s : ℕ) → Fields c n past s self.old → Allowed c n past s self.old (wishes.Close thing why) → Absorbed c n past s (acts.Closed thing why) self.old self.new }
         ensures over { is_some self.old.ending ≡ true → is_some self.new.ending ≡ true }
+        ensures asked { (p : Spot) → has_asked self.new.openings p ≡ true → has_asked self.old.openings p ≡ true }
     {
         self.openings.closed(thing, why);
         self.lanes.unmoved();
@@ -234,6 +250,7 @@ impl State {
     pub fn reaped(&mut self, place: Place)
         ensures goes { (c : Command) (n : ℕ) (past : List Act) (s : ℕ) (end : Ending) → Fields c n past s self.old → Allowed c n past s self.old (wishes.Reap place) → Absorbed c n past s (acts.Reaped place end) self.old self.new }
         ensures same { self.new.ending ≡ self.old.ending }
+        ensures asked { (p : Spot) → has_asked self.new.openings p ≡ true → (has_asked self.old.openings p || same_place place p) ≡ true }
     {
         self.openings.reaped(place);
         self.lanes.unmoved();
@@ -243,6 +260,7 @@ impl State {
     pub fn childless(&mut self, place: Place)
         ensures goes { (c : Command) (n : ℕ) (past : List Act) (s : ℕ) → Fields c n past s self.old → Allowed c n past s self.old (wishes.Reap place) → Fields c n past s self.new × (steps_of self.new < steps_of self.old) }
         ensures same { self.new.ending ≡ self.old.ending }
+        ensures asked { (p : Spot) → has_asked self.new.openings p ≡ true → (has_asked self.old.openings p || same_place place p) ≡ true }
     {
         self.openings.reaped(place);
     }
@@ -251,7 +269,8 @@ impl State {
 
     /// A wait has returned that names nothing yet.
     pub fn woken(&mut self, at: u64)
-        ensures { (c : Command) (past : List Act) (s : ℕ) (until : Option ℕ) → Ground c past s self.old → Quiet c past s → Heeds c (acts.Turn until at (listed []) false ∷ past) s self.new }
+        ensures goes { (c : Command) (past : List Act) (s : ℕ) (until : Option ℕ) → Ground c past s self.old → Quiet c past s → Heeds c (acts.Turn until at (listed []) false ∷ past) s self.new }
+        ensures asked { (p : Spot) → has_asked self.new.openings p ≡ true → has_asked self.old.openings p ≡ true }
     {
         self.openings.woken();
         self.lanes.woken();
@@ -261,7 +280,8 @@ impl State {
 
     /// The last turn names this half too.
     pub fn named(&mut self, entry: ReadyAt)
-        ensures { (c : Command) (past : List Act) (s : ℕ) (until : Option ℕ) (at : ℕ) (names : List Entry) → Heeds c (acts.Turn until at (listed names) false ∷ past) s self.old → Heeds c (acts.Turn until at (listed (names ++ entry ∷ [])) false ∷ past) s self.new }
+        ensures goes { (c : Command) (past : List Act) (s : ℕ) (until : Option ℕ) (at : ℕ) (names : List Entry) → Heeds c (acts.Turn until at (listed names) false ∷ past) s self.old → Heeds c (acts.Turn until at (listed (names ++ entry ∷ [])) false ∷ past) s self.new }
+        ensures asked { (p : Spot) → has_asked self.new.openings p ≡ true → has_asked self.old.openings p ≡ true }
     {
         self.openings.named(entry);
         self.lanes.named(entry);
@@ -274,6 +294,7 @@ impl State {
         ensures early { (c : Command) (n : ℕ) (past : List Act) (s : ℕ) → Fields c n past s self.old → self.old.ending ≡ None → Ends c n past s why → Fields c n past s self.new }
         ensures over { self.new.ending ≡ Some why }
         ensures left { steps_of self.new ≡ steps_of self.old }
+        ensures asked { (p : Spot) → has_asked self.new.openings p ≡ true → has_asked self.old.openings p ≡ true }
     {
         self.openings.unmoved();
         self.lanes.unmoved();

@@ -1,4 +1,4 @@
--- The least moment of the whole is the least of its parts', and the whole rests where its parts do.
+-- The least moment of the whole is the least of its parts'.
 use Rattle.std.proofs.Common.{◌≡◌, refl, sym, ap, ◌∙◌, ℕ, zero, suc, ◌<◌, ◌≤◌, Bool, true, false, cond, List, Option, Some, None, arith, inl, inr, ◌⊎◌, le_of_eq}
 use Rattle.std.proofs.lemmas.Bool.{cases_lt, cases_eq}
 use Rattle.std.proofs.lemmas.Option.{same_Some}
@@ -7,12 +7,8 @@ use Rattle.relay_model.specs.declared.acts.Act.{Act}
 use Rattle.relay_model.specs.Choices.{earlier, least_below}
 use Rattle.relay_model.specs.History.{now}
 use Rattle.relay_model.specs.Sessions.{numbers}
-use Rattle.relay_model.specs.Outcome.{outcome}
-use Rattle.relay_model.specs.Rest.{owed, session_moment, door_moment, SessionRests, DoorRests, Rest, until_of}
-use Rattle.relay_model.specs.May.{Legal}
+use Rattle.relay_model.specs.Rest.{session_moment, door_moment, until_of}
 use Rattle.relay_model.specs.Waits.{works, FallsDue, IsUntil, at_once, at_least, never}
-use Rattle.relay_laws.proofs.Begun.{unbegun_holds, unbegun_live}
-use Rattle.relay_laws.proofs.Sound.{silent}
 
 -- the answer is the least number with the property, where there is one
 pub data LeastOf (P : ℕ → Type 0) (answer : Option ℕ) : Type 0 where
@@ -91,12 +87,3 @@ pub until_least : (c : Config) (past : List Act) → IsUntil c past (until_of c 
 until_least c past =
     until_cases c past (works c past) (earlier (door_moment c past) (least_below (session_moment c past) (numbers c past))) refl
     (join_least (λ m. door_moment c past ≡ Some m) (Among (session_moment c past) (numbers c past)) (door_moment c past) (least_below (session_moment c past) (numbers c past)) (own_least (door_moment c past)) (below_least (session_moment c past) (numbers c past)))
-
-pub rest_of_parts :
-    (c : Config) (n : ℕ) (past : List Act) → Legal c n past → outcome c past ≡ None → owed c past ≡ None →
-    ((s : ℕ) → s < suc (numbers c past) → SessionRests c past s) → DoorRests c past → Rest c past
-rest_of_parts c n past legal o d sessions door = record { no_outcome = o; no_dump = d; sessions = λ s. one s (cases_lt s (suc (numbers c past))); door = door }
-  where
-    one : (s : ℕ) → (s < suc (numbers c past)) ⊎ (suc (numbers c past) ≤ s) → SessionRests c past s
-    one s (inl near) = sessions s near
-    one s (inr far) = silent c past s (unbegun_live c past s far) (unbegun_holds c n past s legal far)

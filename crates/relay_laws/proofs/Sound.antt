@@ -1,6 +1,6 @@
 -- What the tests that compute let through may come: a journal whose acts all pass is legal.
-use Rattle.std.proofs.Common.{◌≡◌, refl, sym, ap, subst, ◌∙◌, ℕ, zero, suc, ◌<◌, ◌≤◌, Bool, true, false, not, cond, ◌&&◌, ◌||◌, ◌==◌, nat_le, nat_lt, is_some, is_none, List, [], ◌∷◌, ◌++◌, length, Option, Some, None, arith, inl, inr, ◌⊎◌}
-use Rattle.std.proofs.lemmas.Bool.{false≢true, and_parts, and_right, ltb-true, leb-true, eqb-true, not-true, cases_eq, cases_lt}
+use Rattle.std.proofs.Common.{◌≡◌, refl, sym, ap, subst, ℕ, zero, suc, ◌<◌, ◌≤◌, Bool, true, false, not, ◌&&◌, ◌||◌, ◌==◌, nat_le, nat_lt, is_some, is_none, List, [], ◌∷◌, ◌++◌, length, Option, Some, None, arith, inl, inr, ◌⊎◌}
+use Rattle.std.proofs.lemmas.Bool.{false≢true, and_parts, ltb-true, leb-true, eqb-true, not-true, cases_eq, cases_lt}
 use Rattle.relay_model.specs.declared.places.Way.{Way}
 use Rattle.relay_model.specs.declared.places.Way.TheVariants.{LeftToRight, RightToLeft}
 use Rattle.relay_model.specs.declared.places.Place.{Place}
@@ -13,21 +13,22 @@ use Rattle.relay_model.specs.declared.acts.Act.{Act}
 use Rattle.relay_model.specs.declared.acts.Act.TheVariants.{Turn, Opened, OpenLater, OpenFailed, Listening, ListenFailed, Accepted, NoPeer, AcceptFailed, Read, ReadEmpty, ReadEnd, ReadNotYet, ReadFault, Wrote, WriteNotYet, WriteFault, Shut, ShutFault, Closed, Reaped, Note, NoteFault}
 use Rattle.relay_model.specs.Places.{same_place}
 use Rattle.relay_model.specs.Choices.{each_below}
-use Rattle.relay_model.specs.Configs.{input, output, way_from, way_to, is_program_door, program_door, has_fork, medium_of, is_program, keeps_borders, how, places}
+use Rattle.relay_model.specs.Configs.{input, output, way_from, way_to, is_program_door, program_door, has_fork, medium_of, is_program, keeps_borders, how}
 use Rattle.relay_model.specs.History.{turns, held, got, put, sent, was_closed, was_reaped, same_why}
 use Rattle.relay_model.specs.Arming.{armed_to_read, armed_to_write, asked_to_read, asked_to_write}
-use Rattle.relay_model.specs.Sessions.{holds, live, numbers}
+use Rattle.relay_model.specs.Sessions.{holds, numbers}
 use Rattle.relay_model.specs.Transfers.{due, due_pieces, over, backlog, room, is_spent}
 use Rattle.relay_model.specs.Moments.{passed}
-use Rattle.relay_model.specs.Openings.{Call, Nothing, TryAt, Open, Settle, Listen, Accept, Refuse, Serve, ready, first_call}
-use Rattle.relay_model.specs.Cause.{cause, closed_why, running}
+use Rattle.relay_model.specs.Openings.{Call, Nothing, TryAt, Open, Settle, Listen, Accept, Refuse, Serve, ready}
+use Rattle.relay_model.specs.Cause.{cause, closed_why}
 use Rattle.relay_model.specs.Calls.{called_at, call, door_call, door_cut}
 use Rattle.relay_model.specs.Outcome.{outcome}
-use Rattle.relay_model.specs.Rest.{owed, goes, moves, may_read, may_write, must_pass, presses, AcceptTried, SessionRests, DoorRests, Rest, until_of}
+use Rattle.relay_model.specs.Rest.{owed, moves, may_read, may_write, must_pass, presses, AcceptTried, SessionRests, DoorRests, Rest, until_of}
 use Rattle.relay_model.specs.May.{MayAsk, MayRead, MayOffer, MayWrite, MayTryWrite, MayShut, MayOpen, MayAccept, MayClose, MayTurn, MayReap, DoorEnds, for_memory, for_stop, for_accept, Licensed, by_cause, by_refusal, by_service, by_door, by_memory, by_turns, BeginsWith, KeepsBorders, May, Legal}
 use Rattle.relay_model.specs.Audit.{implies, accept_tried, way_rests, session_rests, door_rests, rests, same_number, same_list, same_text, begins, begins_pieces, same_shut, opens, listens_to, accepts_for, accepts_at, closes, may_ask, may_take, may_offer, may_put, may_shut, door_ends, is_cause, may_close, timely, may_come, first_of_two, first_illegal}
-use Rattle.relay_laws.proofs.PlaceLemmas.{same_place_equal}
-use Rattle.relay_laws.proofs.Begun.{unbegun_holds, unbegun_live}
+use Rattle.legal_steps.proofs.PlaceLemmas.{same_place_equal}
+use Rattle.legal_steps.proofs.Begun.{unbegun_holds, unbegun_live}
+use Rattle.legal_steps.proofs.Resting.{silent}
 
 -- ---- small tests
 
@@ -192,31 +193,6 @@ session_is c past s e = record {
     ways : (w : Way) → WayRests c past s w
     ways LeftToRight = way_is c past s LeftToRight a2.1
     ways RightToLeft = way_is c past s RightToLeft a3.1
-
--- a session that isn't live and holds nothing rests
-not_running : (l r n : Bool) → l ≡ false → (l && r && n) ≡ false
-not_running true r n e = absurd (false≢true (sym e))
-not_running false r n e = refl
-
-stuck3 : (m a b d : Bool) → m ≡ false → (m && a && b && d) ≡ false
-stuck3 true a b d e = absurd (false≢true (sym e))
-stuck3 false a b d e = refl
-
-pub silent : (c : Config) (past : List Act) (s : ℕ) → live c past s ≡ false → holds c past s ≡ false → SessionRests c past s
-silent c past s dead empty = record {
-  ended = λ _. empty;
-  no_call = subst (λ k. presses k ≡ false) (sym no_call_there) refl;
-  read_tried = λ w h. refuted (sym (stuck3 (moves c past s w) (armed_to_read past (input c s w)) (not (over c past (input c s w))) (backlog c past s w == 0) (still w)) ∙ h);
-  write_tried = λ w h. refuted (sym (not_running (moves c past s w) (armed_to_write past (output c s w)) (nat_lt 0 (backlog c past s w)) (still w)) ∙ h);
-  passed_on = λ w. not_running (moves c past s w) (is_spent c past s w) (not (passed c past s w)) (still w);
-  accept_tried = subst (AcceptTried c past) (sym no_call_there) tt;
-}
-  where
-    no_call_there : call c past s ≡ Nothing
-    no_call_there = ap (λ l. cond (l && is_none (cause c past s)) (first_call c past (places c s)) Nothing) dead
-
-    still : (w : Way) → moves c past s w ≡ false
-    still w = and_right (goes c past s w) (running c past s) (not_running (live c past s) (ready c past s) (is_none (cause c past s)) dead)
 
 door_is : (c : Config) (past : List Act) → door_rests c past ≡ true → DoorRests c past
 door_is c past e =

@@ -61,10 +61,14 @@ at_most_left (Some most) count n = min n (most - count)
 abbrev pub read_size : ℕ → Option ℕ → ℕ → ℕ → ℕ
 read_size block readbytes count backlog = at_most_left readbytes count (min block ((2 * block - backlog) / 2))
 
--- the longest piece that is read for one packet: converted, it still fits a datagram of 65,507 bytes
+-- the most bytes that a UDP datagram carries over IPv4
+abbrev pub longest_packet : ℕ
+longest_packet = 65507
+
+-- the longest piece that is read for one packet: converted, it still fits a datagram
 abbrev pub packet_cap : Conv → ℕ
-packet_cap Plain = 65507
-packet_cap Cr = 65507
+packet_cap Plain = longest_packet
+packet_cap Cr = longest_packet
 packet_cap Crnl = 32753
 
 -- the same where each piece goes out as one packet: nothing is read while bytes wait

@@ -1,5 +1,5 @@
 -- The text of a dump.
-use Rattle.std.specs.Prelude.{ℕ, ◌+◌, ◌-◌, ◌/◌, ◌%◌, ◌^◌, ◌&&◌, ◌||◌, ◌==◌, nat_lt, nat_le, min, List, [], ◌∷◌, ◌++◌, length, codes, if◌then◌else◌}
+use Rattle.std.specs.Prelude.{ℕ, ◌+◌, ◌-◌, ◌/◌, ◌%◌, ◌&&◌, ◌||◌, ◌==◌, nat_lt, nat_le, List, [], ◌∷◌, ◌++◌, length, codes, if◌then◌else◌}
 use Rattle.std.specs.Fmt.{decimal}
 use Rattle.relay_model.specs.declared.commands.Dump.{Dump}
 use Rattle.relay_model.specs.declared.commands.Dump.TheVariants as dumps
@@ -9,9 +9,9 @@ use Rattle.relay_model.specs.declared.places.Way.TheVariants.{LeftToRight, Right
 abbrev pub newline : List ℕ
 newline = 10 ∷ []
 
--- the place of the last of `n` bytes, of which the first stands at `from`; it stops at the greatest count
+-- the place of the last of `n` bytes, of which the first stands at `from`
 abbrev pub last_place : ℕ → ℕ → ℕ
-last_place from n = min (from + n - 1) (2 ^ 64 - 1)
+last_place from n = from + n - 1
 
 abbrev pub arrow : Way → List ℕ
 arrow LeftToRight = codes "> "

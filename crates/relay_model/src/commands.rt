@@ -1,8 +1,13 @@
 // What a command line asks for: two addresses, their kinds and options, and how to relay between them.
 ghost use Rattle.std.specs.Prelude.{◌≡◌, IfOk};
+ghost use Rattle.relay_model.specs.Configs.{listens};
+ghost use Rattle.relay_model.specs.Conversions.{packet_cap};
 
 use crate::acts::{Peer, Shut};
 use crate::contents::{NoMemory, Text, Texts};
+
+/// The most bytes that a UDP datagram carries over IPv4 (RFC 768, RFC 791).
+pub const LONGEST_PACKET: u16 = 65_507;
 
 /// A conversion of line ends (socat(1), `cr` and `crnl`).
 #[derive(Clone, Copy, Debug, PartialEq, Eq)]
@@ -10,6 +15,18 @@ pub enum Conv {
     Plain,
     Cr,
     Crnl,
+}
+
+impl Conv {
+    /// The longest piece that is read for one packet, in bytes: written with this conversion, it still fits a packet.
+    pub fn packet_cap(self) -> u16
+        ensures { result ≡ packet_cap self }
+    {
+        match self {
+            Conv::Plain | Conv::Cr => LONGEST_PACKET,
+            Conv::Crnl => LONGEST_PACKET / 2,
+        }
+    }
 }
 
 /// A style of dump (socat(1), `-v` and `-x`; `Mixed` is both).
@@ -98,6 +115,19 @@ pub enum Target {
 }
 
 impl Target {
+    /// Whether the kind waits for a peer at a door.
+    pub fn listens(&self) -> bool
+        ensures { result ≡ listens self.now }
+    {
+        matches!(
+            self,
+            Target::TcpListen { .. }
+                | Target::UdpListen { .. }
+                | Target::UdpRecvfrom { .. }
+                | Target::UnixListen(_)
+        )
+    }
+
     /// A copy.
     pub fn copy(&self) -> Result<Target, NoMemory>
         ensures { IfOk result (λ target. target ≡ self.now) }

@@ -10,12 +10,11 @@ mod places;
 mod plain;
 mod readiness;
 mod refusals;
-#[cfg(test)]
-mod tests;
 
 pub use acts::{Act, ChildEnd, Peer, Shut, Why};
 pub use commands::{
-    Address, Bind, Config, Conv, Dump, Family, FileFlags, Options, Range, Single, Target, Ways,
+    Address, Bind, Config, Conv, Dump, Family, FileFlags, LONGEST_PACKET, Options, Range, Single,
+    Target, Ways,
 };
 pub use contents::{Bytes, NoMemory, Text, Texts};
 pub use journals::{Askings, Journal, Kept};

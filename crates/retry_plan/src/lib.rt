@@ -80,6 +80,3 @@ impl Plan {
         }
     }
 }
-
-#[cfg(test)]
-mod tests;

@@ -19,8 +19,8 @@ use Rattle.relay_model.specs.Transfers.{due, due_pieces, over, backlog, room, is
 use Rattle.relay_model.specs.Moments.{passed, broken}
 use Rattle.relay_model.specs.May.{BeginsWith, KeepsBorders, MayAsk, MayRead, MayOffer, MayWrite, MayTryWrite, MayShut}
 use Rattle.relay_model.specs.Rest.{moves, may_write, must_pass, way_work}
-use Rattle.relay_laws.proofs.PlaceLemmas.{same_place_self}
-use Rattle.relay_laws.proofs.Written.{shuts_when_spent}
+use Rattle.legal_steps.proofs.PlaceLemmas.{same_place_self}
+use Rattle.legal_steps.proofs.Permitted.{shuts_when_spent}
 use Rattle.relay_buffer.specs.declared.lanes.Lane.{Lane}
 use Rattle.relay_buffer.specs.Flows.{room_of, size_by, waiting}
 use Rattle.session_direction.specs.States.{DirectionState}
@@ -189,10 +189,10 @@ may_try : (c : Config) (past : List Act) (s : ℕ) (w : Way) → MayOffer c past
 may_try c past s LeftToRight may some = record { offers = may; waiting = some }
 may_try c past s RightToLeft may some = record { offers = may; waiting = some }
 
-pub wants_write : (c : Config) (past : List Act) (s : ℕ) (w : Way) (keeps : Bool) → may_write c past s w ≡ true → passed c past s w ≡ false → asked_to_write past (input c s w) (output c s w) ≡ false → keeps_borders c w ≡ keeps → WantsWrite c past s w keeps
-wants_write c past s w keeps may going unasked borders =
+pub wants_write : (c : Config) (past : List Act) (s : ℕ) (w : Way) (keeps : Bool) → may_write c past s w ≡ true → passed c past s w ≡ false → keeps_borders c w ≡ keeps → WantsWrite c past s w keeps
+wants_write c past s w keeps may going borders =
     let parts = three_parts (moves c past s w) (armed_to_write past (output c s w)) (nat_lt 0 (backlog c past s w)) may in
-    record { may = may_try c past s w (may_offer c past s w parts.0 going parts.1) (some_waits (backlog c past s w) parts.2); borders = borders; not_asked = unasked }
+    record { may = may_try c past s w (may_offer c past s w parts.0 going parts.1) (some_waits (backlog c past s w) parts.2); borders = borders }
 
 may_ask : (c : Config) (past : List Act) (s : ℕ) (w : Way) → moves c past s w ≡ true → passed c past s w ≡ false → over c past (input c s w) ≡ false → armed_to_read past (input c s w) ≡ true → MayAsk c past (input c s w)
 may_ask c past s LeftToRight moving going more armed = record { is_input = same_place_self (input c s LeftToRight); moving = moving; not_passed = going; not_over = more; armed = armed }
@@ -202,15 +202,14 @@ may_read_some : (c : Config) (past : List Act) (s : ℕ) (w : Way) (n : ℕ) →
 may_read_some c past s LeftToRight n may some within = record { asks = may; some_bytes = some; in_room = within }
 may_read_some c past s RightToLeft n may some within = record { asks = may; some_bytes = some; in_room = within }
 
-pub wants_read : (c : Config) (past : List Act) (s : ℕ) (w : Way) (n : ℕ) → formed c w ≡ true → running c past s ≡ true → broken c past s w ≡ false → passed c past s w ≡ false → (armed_to_read past (input c s w) && not (over c past (input c s w))) ≡ true → asked_to_read past (input c s w) ≡ false → 1 ≤ n → n ≡ room_of (terms_of c w) (got past (input c s w)) (put past (output c s w)) → WantsRead c past s w n
-wants_read c past s w n formed runs whole going worth unasked some is =
+pub wants_read : (c : Config) (past : List Act) (s : ℕ) (w : Way) (n : ℕ) → formed c w ≡ true → running c past s ≡ true → broken c past s w ≡ false → passed c past s w ≡ false → (armed_to_read past (input c s w) && not (over c past (input c s w))) ≡ true → 1 ≤ n → n ≡ room_of (terms_of c w) (got past (input c s w)) (put past (output c s w)) → WantsRead c past s w n
+wants_read c past s w n formed runs whole going worth some is =
     let parts = and_parts (armed_to_read past (input c s w)) (not (over c past (input c s w))) worth in
     let more = not_true (over c past (input c s w)) parts.1 in
     let size : n ≡ room c past s w = is ∙ room_is c past s w more in
     record {
       may = may_read_some c past s w n (may_ask c past s w (moves_is c past s w formed runs whole) going more parts.0) some (omega (arith, size));
       size = size;
-      not_asked = unasked;
     }
 
 -- nothing is to be read: then nothing is left, where the rest was tried

@@ -1,12 +1,13 @@
 -- What a direction stands for after a list of acts, and what its wants say of it.
-use Rattle.std.specs.Prelude.{◌≡◌, ℕ, ◌≤◌, Bool, true, false, not, ◌&&◌, ◌||◌, List, [], ◌∷◌, ◌++◌, is_some}
+use Rattle.std.specs.Prelude.{◌≡◌, ℕ, ◌≤◌, Bool, true, false, not, ◌&&◌, ◌||◌, List, [], ◌∷◌, ◌++◌, is_some, if◌then◌else◌}
 use Rattle.relay_model.specs.declared.places.Way.{Way}
+use Rattle.relay_model.specs.declared.places.Way.TheVariants.{LeftToRight, RightToLeft}
 use Rattle.relay_model.specs.declared.commands.Config.{Config}
 use Rattle.relay_model.specs.declared.acts.Act.{Act}
 use Rattle.relay_model.specs.declared.readiness.ReadyAt.{ReadyAt}
 use Rattle.relay_model.specs.Readiness.{Listed}
 use Rattle.relay_model.specs.Choices.{only_if}
-use Rattle.relay_model.specs.Configs.{input, output, formed, options_of, keeps_borders, how}
+use Rattle.relay_model.specs.Configs.{Medium, Standard, Storage, Program, Connection, Datagrams, input, output, formed, options_of, medium_of, keeps_borders, how}
 use Rattle.relay_model.specs.Conversions.{packet_cap}
 use Rattle.relay_model.specs.History.{got, put, sent, met_end, met_empty}
 use Rattle.relay_model.specs.Arming.{read_arming, armed_to_read, armed_to_write, asked_to_read, asked_to_write}
@@ -18,7 +19,7 @@ use Rattle.relay_buffer.specs.declared.lanes.Lane.{Lane}
 use Rattle.relay_buffer.specs.Flows.{IsFlow, room_in}
 use Rattle.session_direction.specs.declared.directions.Want.{Want}
 use Rattle.session_direction.specs.declared.directions.Want.TheVariants as wants
-use Rattle.session_direction.specs.States.{DirectionState}
+use Rattle.session_direction.specs.States.{DirectionState, can_read, can_write}
 
 -- how the direction passes bytes on; the options of a place are the same in each session
 abbrev pub terms_of : Config → Way → Lane
@@ -31,11 +32,23 @@ terms_of c w =
       packets = only_if (keeps_borders c w) (packet_cap (options_of c (output c 0 w)).conv);
     }
 
+-- bytes from such a medium come in small pieces, which are gathered up to a block before they are written
+abbrev pub is_gathered : Medium → Bool
+is_gathered Standard = true
+is_gathered Storage = true
+is_gathered Program = true
+is_gathered Connection = false
+is_gathered Datagrams = false
+
 -- an end that counts was met: one of the input, or an empty packet
 abbrev pub met_last : Config → List Act → ℕ → Way → Bool
 met_last c past s w =
     met_end past (input c s w) && not (options_of c (input c s w)).ignoreeof
     || met_empty past (input c s w) && (options_of c (input c s w)).null_eof
+
+-- how much a turn grants a direction for further asks: less where the session has two
+abbrev pub granted : Config → ℕ
+granted c = if formed c LeftToRight && formed c RightToLeft then 14 else 32
 
 -- the bytes as one piece, or no piece where there are none
 abbrev pub as_pieces : List ℕ → List (List ℕ)
@@ -47,7 +60,7 @@ pub record IsSpent (c : Config) (past : List Act) (s : ℕ) (w : Way) (d : Direc
   pub emptied : d.flow.backlog ≡ []
   pub is_over : over c past (input c s w) ≡ true
 
--- each field is what the list of acts says
+-- each field but `extra` is what the list of acts says
 pub record IsDirection (c : Config) (past : List Act) (s : ℕ) (w : Way) (d : DirectionState) : Type 0 where
   pub is_formed : formed c w ≡ true
   pub source_is : d.source ≡ input c s w
@@ -56,11 +69,14 @@ pub record IsDirection (c : Config) (past : List Act) (s : ℕ) (w : Way) (d : D
   pub ends_at_empty_is : d.ends_at_empty ≡ (options_of c (input c s w)).null_eof
   pub sloppy_is : d.sloppy ≡ c.sloppy
   pub how_is : d.how ≡ how c (output c s w)
+  pub gathers_is : d.gathers ≡ is_gathered (medium_of c (input c s w))
   pub flow_is : IsFlow (terms_of c w) (got past (input c s w)) (put past (output c s w)) d.flow
   pub arming_is : d.arming ≡ read_arming past (input c s w)
   pub armed_out_is : d.armed_out ≡ armed_to_write past (output c s w)
   pub asked_in_is : d.asked_in ≡ asked_to_read past (input c s w)
   pub asked_out_is : d.asked_out ≡ asked_to_write past (input c s w) (output c s w)
+  pub grant_is : d.grant ≡ granted c
+  pub extra_within : d.extra ≤ d.grant
   pub ended_is : d.ended ≡ met_last c past s w
   pub passed_is : d.passed_at ≡ passed_at c past s w
   pub broken_is : d.broken_at ≡ broken_at c past s w
@@ -73,17 +89,15 @@ listed entries = record { entries = entries; room = 0 }
 
 -- ---- wants
 
--- bytes may be offered to the output, which wasn't asked yet
+-- bytes may be offered to the output
 pub record WantsWrite (c : Config) (past : List Act) (s : ℕ) (w : Way) (keeps : Bool) : Type 0 where
   pub may : MayTryWrite c past (output c s w)
   pub borders : keeps_borders c w ≡ keeps
-  pub not_asked : asked_to_write past (input c s w) (output c s w) ≡ false
 
--- so many bytes may be read, as many as there is room for, from an input that wasn't asked yet
+-- so many bytes may be read, as many as there is room for
 pub record WantsRead (c : Config) (past : List Act) (s : ℕ) (w : Way) (n : ℕ) : Type 0 where
   pub may : MayRead c past (input c s w) n
   pub size : n ≡ room c past s w
-  pub not_asked : asked_to_read past (input c s w) ≡ false
 
 -- nothing is left to be done before the next turn
 pub record WantsNothing (c : Config) (past : List Act) (s : ℕ) (w : Way) : Type 0 where
@@ -98,6 +112,13 @@ Wants c past s w wants.Write = WantsWrite c past s w false
 Wants c past s w wants.Send = WantsWrite c past s w true
 Wants c past s w (wants.Read n) = WantsRead c past s w n
 Wants c past s w wants.Nothing = WantsNothing c past s w
+
+-- what is wanted wasn't asked since the last turn, or can be paid for
+abbrev pub Affords : DirectionState → Want → Type 0
+Affords d (wants.Read n) = can_read d ≡ true
+Affords d wants.Write = can_write d ≡ true
+Affords d wants.Send = can_write d ≡ true
+Affords d other = Unit {0}
 
 -- what is wanted to be read has room
 abbrev pub FitsRoom : DirectionState → Want → Type 0

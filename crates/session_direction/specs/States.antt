@@ -1,11 +1,12 @@
 -- What contracts see of a direction.
-use Rattle.std.specs.Prelude.{ℕ, ◌+◌, Bool, true, false, Option, is_some}
+use Rattle.std.specs.Prelude.{ℕ, ◌+◌, ◌-◌, Bool, true, false, not, ◌||◌, nat_le, Option, is_some, if◌then◌else◌}
 use Rattle.relay_model.specs.declared.places.Place.{Place}
 use Rattle.relay_model.specs.declared.acts.Shut.{Shut}
 use Rattle.relay_model.specs.Arming.{Arming}
 use Rattle.relay_buffer.specs.Flows.{Flowing}
 
--- its places and terms, its bytes, what is armed and was asked, and when it passed its end or was broken
+-- its places and terms, its bytes, what is armed and was asked, how much a turn grants for further asks and how much of it
+-- is left, and when it passed its end or was broken
 pub record DirectionState : Type 0 where
   pub source : Place
   pub sink : Place
@@ -13,11 +14,14 @@ pub record DirectionState : Type 0 where
   pub ends_at_empty : Bool
   pub sloppy : Bool
   pub how : Shut
+  pub gathers : Bool
   pub flow : Flowing
   pub arming : Arming
   pub armed_out : Bool
   pub asked_in : Bool
   pub asked_out : Bool
+  pub grant : ℕ
+  pub extra : ℕ
   pub ended : Bool
   pub passed_at : Option ℕ
   pub broken_at : Option ℕ
@@ -27,6 +31,30 @@ abbrev pub unless : Bool → ℕ → ℕ
 unless true steps = 0
 unless false steps = steps
 
+-- ---- further asks
+
+-- what a further write costs, and a further read: where the output was asked since the last read, its bytes may be
+-- written for nothing, which costs one more
+abbrev pub write_price : ℕ
+write_price = 1
+
+abbrev pub read_price : DirectionState → ℕ
+read_price d = if d.asked_out then 2 else 1
+
+-- a half that wasn't asked since the last turn costs nothing
+abbrev pub can_pay : (asked : Bool) (price extra : ℕ) → Bool
+can_pay asked price extra = not asked || nat_le price extra
+
+abbrev pub left_after : (asked : Bool) (price extra : ℕ) → ℕ
+left_after asked price extra = if asked then extra - price else extra
+
+-- the input may be asked before the next turn, and the output
+abbrev pub can_read : DirectionState → Bool
+can_read d = can_pay d.asked_in (read_price d) d.extra
+
+abbrev pub can_write : DirectionState → Bool
+can_write d = can_pay d.asked_out write_price d.extra
+
 -- how many steps a direction takes at most before the next turn: bytes that are read may be written at once
 abbrev pub steps_in : DirectionState → ℕ
-steps_in d = unless d.asked_in 2 + unless d.asked_out 1 + unless (is_some d.passed_at) 1
+steps_in d = unless d.asked_in 2 + unless d.asked_out 1 + d.extra + unless (is_some d.passed_at) 1

@@ -10,7 +10,6 @@ ghost use Rattle.relay_model.specs.declared.readiness.ReadyAt.{ReadyAt as Entry}
 ghost use Rattle.relay_model.specs.Readiness.{Listed};
 ghost use Rattle.relay_model.specs.Choices.{later};
 ghost use Rattle.relay_model.specs.Configs.{Fit, formed, input, output, keeps_borders};
-ghost use Rattle.relay_model.specs.Conversions.{packet_cap};
 ghost use Rattle.relay_model.specs.Cause.{running};
 ghost use Rattle.relay_model.specs.History.{now};
 ghost use Rattle.relay_model.specs.Moments.{broken, done_at, passed};
@@ -19,17 +18,31 @@ ghost use Rattle.relay_model.specs.Rest.{input_moment, may_write, way_work};
 ghost use Rattle.relay_model.specs.Transfers.{is_spent, over, room, backlog};
 ghost use Rattle.relay_model.specs.Arming.{armed_to_read, asked_to_write};
 ghost use Rattle.relay_buffer.specs.Flows.{room_in};
-ghost use Rattle.session_direction.specs.Directions.{IsDirection, Wants, FitsRoom, listed, terms_of};
-ghost use Rattle.session_direction.specs.States.{steps_in};
+ghost use Rattle.command_places.specs.Media.{as_medium};
+ghost use Rattle.session_direction.specs.Directions.{IsDirection, Wants, WantsRead, Affords, FitsRoom, granted, is_gathered, listed, terms_of};
+ghost use Rattle.session_direction.specs.declared.directions.Want.TheVariants as wants;
+ghost use Rattle.session_direction.specs.States.{can_read, can_write, left_after, read_price, steps_in};
 ghost use Rattle.session_direction.specs.Touches.{touches};
 
 use crate::armings::Arming;
-use command_places::{how, input, keeps_borders, options_of, output};
+use command_places::{Medium, formed, how, input, keeps_borders, medium_of, options_of, output};
 use line_ends::Convs;
 use relay_buffer::{Flow, Lane};
-use relay_model::{Config, Conv, Half, NoMemory, Place, ReadyAt, Shut, Way};
+use relay_model::{Config, Half, NoMemory, Place, ReadyAt, Shut, Way};
 use std::alloc::Global;
 use std::marker::Model;
+
+/// How much the only direction of a session may spend between two turns on asks beyond the first of each half.
+const ALONE: u8 = 32;
+
+/// How much each of two directions may.
+const BESIDE_ANOTHER: u8 = 14;
+
+/// What a further write costs, and a further read where the output wasn't asked since the last one.
+const PRICE: u8 = 1;
+
+/// What a further read costs where the output was asked since the last one: its bytes may be written for nothing.
+const GRANTING_PRICE: u8 = 2;
 
 /// What a direction wants to be done. `Send` is a write of one packet, and `Read` has the most bytes to ask for.
 #[derive(Clone, Copy, Debug, PartialEq, Eq)]
@@ -50,12 +63,17 @@ pub struct Direction {
     ends_at_empty: bool,
     sloppy: bool,
     how: Shut,
+    /// Whether small pieces are gathered up to a block before they are written.
+    gathers: bool,
     terms: Lane,
     flow: Flow,
     arming: Arming,
     armed_out: bool,
     asked_in: bool,
     asked_out: bool,
+    /// How much a turn grants for further asks, and how much of it is left.
+    grant: u8,
+    extra: u8,
     ended: bool,
     passed_at: Option<u64>,
     broken_at: Option<u64>,
@@ -68,7 +86,7 @@ impl Model for Direction {
 
     ghost Value = { DirectionState };
 
-    ghost view = { λ d. record { source = d.source; sink = d.sink; ignores_end = d.ignores_end; ends_at_empty = d.ends_at_empty; sloppy = d.sloppy; how = d.how; flow = d.flow; arming = as_arming d.arming; armed_out = d.armed_out; asked_in = d.asked_in; asked_out = d.asked_out; ended = d.ended; passed_at = d.passed_at; broken_at = d.broken_at } };
+    ghost view = { λ d. record { source = d.source; sink = d.sink; ignores_end = d.ignores_end; ends_at_empty = d.ends_at_empty; sloppy = d.sloppy; how = d.how; gathers = d.gathers; flow = d.flow; arming = as_arming d.arming; armed_out = d.armed_out; asked_in = d.asked_in; asked_out = d.asked_out; grant = d.grant; extra = d.extra; ended = d.ended; passed_at = d.passed_at; broken_at = d.broken_at } };
 
     ghost invariant = { λ d. d.flow.lane ≡ d.terms };
 }
@@ -83,6 +101,7 @@ impl Direction {
         let source = input(config, number, way);
         let sink = output(config, number, way);
         let options = options_of(config, source);
+        let grant = granted(config);
         let flow = Flow::new(alloc, terms)?;
         Ok(Direction {
             source,
@@ -91,12 +110,15 @@ impl Direction {
             ends_at_empty: options.null_eof,
             sloppy: config.sloppy,
             how: how(config, sink),
+            gathers: is_gathered(medium_of(config, source)),
             terms,
             flow,
             arming: Arming::Disarmed,
             armed_out: false,
             asked_in: false,
             asked_out: false,
+            grant,
+            extra: grant,
             ended: false,
             passed_at: None,
             broken_at: None,
@@ -202,9 +224,35 @@ impl Direction {
         self.armed_out && !self.flow.spent()
     }
 
+    /// Whether the input may be asked before the next turn.
+    fn can_read(&self) -> bool
+        ensures { result ≡ can_read self.now }
+    {
+        !self.asked_in || self.extra >= self.read_price()
+    }
+
+    /// What a further read costs.
+    fn read_price(&self) -> u8
+        ensures { result ≡ read_price self.now }
+    {
+        if self.asked_out {
+            GRANTING_PRICE
+        } else {
+            PRICE
+        }
+    }
+
+    /// Whether the output may be asked before the next turn.
+    fn can_write(&self) -> bool
+        ensures { result ≡ can_write self.now }
+    {
+        !self.asked_out || self.extra >= PRICE
+    }
+
     /// A write of the bytes that wait.
     fn want_to_write(&self) -> Want
-        ensures wants { (c : Command) (past : List Act) (s : ℕ) (w : WayOf) → IsDirection c past s w self.now → passed c past s w ≡ false → may_write c past s w ≡ true → asked_to_write past (input c s w) (output c s w) ≡ false → Wants c past s w result }
+        ensures wants { (c : Command) (past : List Act) (s : ℕ) (w : WayOf) → IsDirection c past s w self.now → passed c past s w ≡ false → may_write c past s w ≡ true → Wants c past s w result }
+        ensures affords { can_write self.now ≡ true → Affords self.now result }
         ensures fits { FitsRoom self.now result }
     {
         if self.terms.packets.is_some() {
@@ -217,6 +265,7 @@ impl Direction {
     /// What is to be done next while the session runs, where `at` is the moment of the last turn.
     pub fn want(&self, at: u64) -> Want
         ensures wants { (c : Command) (past : List Act) (s : ℕ) (w : WayOf) → IsDirection c past s w self.now → at ≡ now past → running c past s ≡ true → 1 ≤ c.block → Wants c past s w result }
+        ensures affords { Affords self.now result }
         ensures fits { FitsRoom self.now result }
     {
         if self.is_broken() {
@@ -228,10 +277,21 @@ impl Direction {
         if self.is_spent() {
             return Want::Shut(self.how);
         }
-        if self.may_write() && !self.asked_out {
+        let read = self.want_to_read(at);
+        if self.reads_on() {
+            if let Want::Read(room) = read {
+                return Want::Read(room);
+            }
+        }
+        if self.may_write() && self.can_write() {
             return self.want_to_write();
         }
-        self.want_to_read(at)
+        read
+    }
+
+    /// Whether it gathers, was asked since the last turn, and less than a block waits: then it is read before it is written.
+    fn reads_on(&self) -> bool {
+        self.gathers && self.asked_in && self.flow.waiting() < self.terms.block as usize
     }
 
     /// Whether the input is armed, and more of it counts.
@@ -244,9 +304,11 @@ impl Direction {
     /// A read, where the input is worth asking. While more than a block waits in one piece, nothing more is read.
     fn want_to_read(&self, at: u64) -> Want
         ensures wants { (c : Command) (past : List Act) (s : ℕ) (w : WayOf) → IsDirection c past s w self.now → at ≡ now past → running c past s ≡ true → 1 ≤ c.block → broken c past s w ≡ false → passed c past s w ≡ false → is_spent c past s w ≡ false → (may_write c past s w ≡ true → asked_to_write past (input c s w) (output c s w) ≡ true) → Wants c past s w result }
+        ensures reads { (c : Command) (past : List Act) (s : ℕ) (w : WayOf) (n : ℕ) → IsDirection c past s w self.now → at ≡ now past → running c past s ≡ true → broken c past s w ≡ false → passed c past s w ≡ false → result ≡ wants.Read n → WantsRead c past s w n }
+        ensures affords { Affords self.now result }
         ensures fits { FitsRoom self.now result }
     {
-        if self.asked_in {
+        if !self.can_read() {
             return Want::Nothing;
         }
         if !self.is_worth_asking(at) {
@@ -303,8 +365,9 @@ impl Direction {
     pub fn read(&mut self, bytes: &[u8])
         requires { length bytes.now ≤ room_in self.old.flow }
         ensures goes { (c : Command) (past : List Act) (s : ℕ) (w : WayOf) → IsDirection c past s w self.old → passed c past s w ≡ false → IsDirection c (acts.Read (input c s w) bytes.now ∷ past) s w self.new }
-        ensures fewer { self.old.asked_in ≡ false → steps_in self.new < steps_in self.old }
+        ensures fewer { can_read self.old ≡ true → steps_in self.new < steps_in self.old }
     {
+        self.extra = left_after(self.asked_in, self.read_price(), self.extra);
         self.asked_in = true;
         self.asked_out = false;
         self.flow.fill(bytes);
@@ -313,8 +376,9 @@ impl Direction {
     /// An empty packet was read.
     pub fn read_empty(&mut self)
         ensures goes { (c : Command) (past : List Act) (s : ℕ) (w : WayOf) → IsDirection c past s w self.old → IsDirection c (acts.ReadEmpty (input c s w) ∷ past) s w self.new }
-        ensures fewer { self.old.asked_in ≡ false → steps_in self.new < steps_in self.old }
+        ensures fewer { can_read self.old ≡ true → steps_in self.new < steps_in self.old }
     {
+        self.extra = left_after(self.asked_in, self.read_price(), self.extra);
         self.asked_in = true;
         self.ended = either(self.ends_at_empty, self.ended);
     }
@@ -322,8 +386,9 @@ impl Direction {
     /// The end of the input was read.
     pub fn ended(&mut self, at: u64)
         ensures goes { (c : Command) (past : List Act) (s : ℕ) (w : WayOf) → IsDirection c past s w self.old → at ≡ now past → IsDirection c (acts.ReadEnd (input c s w) ∷ past) s w self.new }
-        ensures fewer { self.old.asked_in ≡ false → steps_in self.new < steps_in self.old }
+        ensures fewer { can_read self.old ≡ true → steps_in self.new < steps_in self.old }
     {
+        self.extra = left_after(self.asked_in, self.read_price(), self.extra);
         self.asked_in = true;
         self.arming = Arming::AtEnd(at);
         self.ended = either(!self.ignores_end, self.ended);
@@ -332,8 +397,9 @@ impl Direction {
     /// A read found nothing yet.
     pub fn read_not_yet(&mut self)
         ensures goes { (c : Command) (past : List Act) (s : ℕ) (w : WayOf) → IsDirection c past s w self.old → IsDirection c (acts.ReadNotYet (input c s w) ∷ past) s w self.new }
-        ensures fewer { self.old.asked_in ≡ false → steps_in self.new < steps_in self.old }
+        ensures fewer { can_read self.old ≡ true → steps_in self.new < steps_in self.old }
     {
+        self.extra = left_after(self.asked_in, self.read_price(), self.extra);
         self.asked_in = true;
         self.arming = Arming::Disarmed;
     }
@@ -341,8 +407,9 @@ impl Direction {
     /// A read failed, which breaks a sloppy direction.
     pub fn read_failed(&mut self, at: u64)
         ensures goes { (c : Command) (past : List Act) (s : ℕ) (w : WayOf) → IsDirection c past s w self.old → at ≡ now past → IsDirection c (acts.ReadFault (input c s w) ∷ past) s w self.new }
-        ensures fewer { self.old.asked_in ≡ false → steps_in self.new < steps_in self.old }
+        ensures fewer { can_read self.old ≡ true → steps_in self.new < steps_in self.old }
     {
+        self.extra = left_after(self.asked_in, self.read_price(), self.extra);
         self.asked_in = true;
         self.broken_at = broken_by_fault(self.sloppy, at);
     }
@@ -353,8 +420,9 @@ impl Direction {
         requires whole { is_some self.old.flow.lane.packets ≡ true → count ≡ length self.old.flow.backlog }
         ensures goes { (c : Command) (past : List Act) (s : ℕ) (w : WayOf) → IsDirection c past s w self.old → 1 ≤ count → passed c past s w ≡ false → IsDirection c (acts.Wrote (output c s w) (take count self.old.flow.backlog) ∷ past) s w self.new }
         ensures may { (c : Command) (past : List Act) (s : ℕ) (w : WayOf) → IsDirection c past s w self.old → 1 ≤ count → MayOffer c past (output c s w) → MayWrite c past (output c s w) (take count self.old.flow.backlog) }
-        ensures fewer { self.old.asked_out ≡ false → steps_in self.new < steps_in self.old }
+        ensures fewer { can_write self.old ≡ true → steps_in self.new < steps_in self.old }
     {
+        self.extra = left_after(self.asked_out, PRICE, self.extra);
         self.asked_out = true;
         self.flow.took(count);
     }
@@ -362,8 +430,9 @@ impl Direction {
     /// The output takes nothing yet.
     pub fn write_not_yet(&mut self)
         ensures goes { (c : Command) (past : List Act) (s : ℕ) (w : WayOf) → IsDirection c past s w self.old → IsDirection c (acts.WriteNotYet (output c s w) ∷ past) s w self.new }
-        ensures fewer { self.old.asked_out ≡ false → steps_in self.new < steps_in self.old }
+        ensures fewer { can_write self.old ≡ true → steps_in self.new < steps_in self.old }
     {
+        self.extra = left_after(self.asked_out, PRICE, self.extra);
         self.asked_out = true;
         self.armed_out = false;
     }
@@ -371,8 +440,9 @@ impl Direction {
     /// A write failed, which breaks a sloppy direction.
     pub fn write_failed(&mut self, at: u64)
         ensures goes { (c : Command) (past : List Act) (s : ℕ) (w : WayOf) → IsDirection c past s w self.old → at ≡ now past → broken c past s w ≡ false → IsDirection c (acts.WriteFault (output c s w) ∷ past) s w self.new }
-        ensures fewer { self.old.asked_out ≡ false → steps_in self.new < steps_in self.old }
+        ensures fewer { can_write self.old ≡ true → steps_in self.new < steps_in self.old }
     {
+        self.extra = left_after(self.asked_out, PRICE, self.extra);
         self.asked_out = true;
         self.broken_at = broken_by_fault(self.sloppy, at);
     }
@@ -392,6 +462,7 @@ impl Direction {
     {
         self.asked_in = false;
         self.asked_out = false;
+        self.extra = self.grant;
     }
 
     /// The last turn names this half too, which may be one of the direction's.
@@ -419,7 +490,7 @@ fn terms_of(config: &Config, way: Way) -> Lane
     let read = options_of(config, input(config, 0, way));
     let written = options_of(config, output(config, 0, way));
     let packets = if keeps_borders(config, way) {
-        Some(packet_cap(written.conv))
+        Some(u32::from(written.conv.packet_cap()))
     } else {
         None
     };
@@ -435,13 +506,36 @@ fn terms_of(config: &Config, way: Way) -> Lane
     }
 }
 
-/// The longest piece that is read for one packet: converted, it still fits a UDP datagram over IPv4.
-fn packet_cap(conv: Conv) -> u32
-    ensures { result ≡ packet_cap conv }
+/// Whether bytes from there come in small pieces, which are gathered.
+fn is_gathered(medium: Medium) -> bool
+    ensures { result ≡ is_gathered (as_medium medium) }
 {
-    match conv {
-        Conv::Plain | Conv::Cr => 65_507,
-        Conv::Crnl => 32_753,
+    match medium {
+        Medium::Standard | Medium::Storage | Medium::Program => true,
+        Medium::Connection | Medium::Datagrams => false,
+    }
+}
+
+/// How much a turn grants a direction for further asks.
+fn granted(config: &Config) -> u8
+    ensures { result ≡ granted config.now }
+{
+    if formed(config, Way::LeftToRight) && formed(config, Way::RightToLeft) {
+        BESIDE_ANOTHER
+    } else {
+        ALONE
+    }
+}
+
+/// What is left to be spent after one more ask: the first of each half costs nothing.
+fn left_after(asked: bool, price: u8, extra: u8) -> u8
+    ensures left { result ≡ left_after asked price extra }
+    ensures within { result ≤ extra }
+{
+    if asked {
+        extra.saturating_sub(price)
+    } else {
+        extra
     }
 }
 

@@ -4,7 +4,5 @@
 
 mod armings;
 mod directions;
-#[cfg(test)]
-mod tests;
 
 pub use directions::{Direction, Want};

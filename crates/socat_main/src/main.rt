@@ -1,47 +1,73 @@
-// The program: it passes its arguments on as they are, and ends with the status of the run.
+// The program: rings on the standard streams, the maker and the poller, and the run of its arguments over them. It ends
+// with the status of the run.
 #![tactic(auto)]
 
-use relay_model::{NoMemory, Text, Texts};
-use socat_top::run_program;
-use std::alloc::Global;
-use std::env::{Env, FillError};
-use std::marker::Brand;
+mod parts;
+
+use journal_file::DiskJournal;
+use mio_poller::MioPoller;
+use parts::{FAILED, NO_MEMORY, made, wake};
+use port_desk::{Desk, Standard};
+use port_trait::{StdSink, StdSource, StdSpawner};
+use program_words::program_words;
+use real_maker::RealMaker;
+use socat_top::run_written;
 use std::process::ExitCode;
-use thin_desk::ThinDesk;
+use thread_rings::{RingReader, RingWriter};
+use told_sink::{Failures, ToldSink};
 use world_trait::Recorder;
 
-/// The longest argument that Linux passes to a program, in bytes.
-const LONGEST_ARGUMENT: usize = 131_072;
-
-/// The status where there is no memory for the arguments.
-const NO_MEMORY: u8 = 2;
-
-/// The arguments without the program's name. They may hold any bytes.
-fn words(alloc: Global, env: &impl Env) -> Result<Texts, NoMemory> {
-    let mut buffer = vec![in alloc; 0; LONGEST_ARGUMENT]?;
-    let mut words = Texts::new(alloc);
-    for i in 1..usize::MAX {
-        match env.arg(i, &mut buffer) {
-            Ok(length) => words.push(Text::of(alloc, &buffer[..length])?)?,
-            Err(FillError::NotPresent) => break,
-            Err(FillError::TooLong) => return Err(NoMemory),
-        }
-    }
-    Ok(words)
-}
-
+// All is made in one function: only here is the runtime a known one, and so what it makes may go to a thread.
 fn main(rt: HostRuntime) -> ExitCode {
     let alloc = rt.alloc();
-    let Ok(words) = words(alloc, &rt) else {
+    let Ok(words) = program_words(alloc, &rt) else {
         return ExitCode::from(NO_MEMORY);
     };
-    let desk = ThinDesk::<_, _, _, Brand>::new(
-        alloc,
-        rt.stdin(),
-        rt.stdout(),
-        rt.stderr(),
-        Recorder::Skip,
-    );
-    let thin = run_program(alloc, desk, words.as_slice(), u64::MAX);
-    ExitCode::from(thin.status)
+    let poller = match made(MioPoller::new(rt, alloc)) {
+        Ok(poller) => poller,
+        Err(status) => return ExitCode::from(status),
+    };
+    let maker = match made(RealMaker::on(rt, alloc, &poller)) {
+        Ok(maker) => maker,
+        Err(status) => return ExitCode::from(status),
+    };
+    let (reading, writing, noting) = match (wake(&poller), wake(&poller), wake(&poller)) {
+        (Ok(reading), Ok(writing), Ok(noting)) => (reading, writing, noting),
+        (Err(status), _, _) | (_, Err(status), _) | (_, _, Err(status)) => {
+            return ExitCode::from(status);
+        }
+    };
+    let mut spawner = StdSpawner::new(rt);
+    let Ok(stdin) = RingReader::new(alloc, StdSource::new(rt.stdin()), &mut spawner, reading) else {
+        return ExitCode::from(NO_MEMORY);
+    };
+    let Ok(failures) = Failures::none(alloc) else {
+        return ExitCode::from(NO_MEMORY);
+    };
+    let Ok(told) = failures.share() else {
+        return ExitCode::from(NO_MEMORY);
+    };
+    let sink = ToldSink::new(StdSink::new(rt.stdout()), told);
+    let Ok(stdout) = RingWriter::new(alloc, sink, &mut spawner, writing) else {
+        return ExitCode::from(NO_MEMORY);
+    };
+    let Ok(stderr) = RingWriter::new(alloc, StdSink::new(rt.stderr()), &mut spawner, noting) else {
+        return ExitCode::from(NO_MEMORY);
+    };
+    let standard = Standard {
+        stdin,
+        stdout,
+        stderr,
+    };
+    let Ok(desk) = Desk::new(alloc, standard, maker, poller, Recorder::Skip) else {
+        return ExitCode::from(NO_MEMORY);
+    };
+    let words = words.as_slice();
+    let mut journal = DiskJournal::new(rt);
+    let status = run_written(alloc, desk, words, u64::MAX, &mut journal).status;
+    if status == 0 && failures.any() {
+        let _ = eprintln!(rt; "socat: write failed on standard output");
+        return ExitCode::from(FAILED);
+    }
+    ExitCode::from(status)
 }

@@ -1,7 +1,7 @@
 -- Runs that end for want of memory.
-use Rattle.std.proofs.Common.{◌≡◌, ℕ, true, false, if◌then◌else◌, List, [], ◌∷◌, ◌++◌, Option, Some, refl, ap, subst, sym, ◌∙◌, inl, inr, ◌⊎◌}
+use Rattle.std.proofs.Common.{◌≡◌, ℕ, true, if◌then◌else◌, List, [], ◌∷◌, ◌++◌, Option, Some, refl, ap, subst, sym, ◌∙◌, inl, inr, ◌⊎◌}
 use Rattle.relay_model.specs.declared.commands.Config.{Config}
-use Rattle.relay_model.specs.Journals.{History, Asking}
+use Rattle.relay_model.specs.Journals.{History}
 use Rattle.exit_status.specs.declared.outcomes.Outcome.{Outcome}
 use Rattle.exit_status.specs.declared.outcomes.Outcome.TheVariants as outcomes
 use Rattle.exit_status.specs.Lines.{line}
@@ -13,8 +13,8 @@ use Rattle.relay_model.specs.declared.acts.Act.{Act}
 use Rattle.socat_top.specs.Notes.{Said, Tail}
 use Rattle.cmd_words.specs.declared.commands.Command.TheVariants as commands
 use Rattle.socat_top.specs.Built.{is_built}
-use Rattle.socat_top.specs.Tasks.{Task, Relaying, Telling, Refusing, Unread, not_built, command_task, unrelayed}
-use Rattle.socat_top.specs.Headline.{Headline, Leaves, Answers}
+use Rattle.socat_top.specs.Tasks.{Task, Relaying, Telling, Refusing, Unread, not_built, command_task}
+use Rattle.socat_top.specs.Headline.{Headline, Leaves, Answers, CompletesTask}
 
 pub either : {A : Type 0} → A ⊎ A → A
 either (inl a) = a
@@ -58,10 +58,6 @@ lacking_answers (Telling text) answer e = inr e
 lacking_answers (Refusing refused) answer e = inr e
 lacking_answers Unread answer e = e
 
--- a relay is refused, whether or not it can be run
-pub unrelayed_relay : (c : Config) → unrelayed (command_task (commands.Relay c)) ≡ Refusing not_built
-unrelayed_relay c = elim (is_built c) as (λ b. unrelayed (if b then Relaying c else Refusing not_built) ≡ Refusing not_built) [ true ↦ refl | false ↦ refl ]
-
 -- the answer that is given is that of the relay, or want of memory
 given : (c : Config) (n : ℕ) (acts : List Act) (answer given_answer : Outcome) → IsOutcome c n acts answer ⊎ (answer ≡ outcomes.Memory) → (given_answer ≡ answer) ⊎ (given_answer ≡ outcomes.Memory) → IsOutcome c n acts given_answer ⊎ (given_answer ≡ outcomes.Memory)
 given c n acts answer given_answer a (inl e) = let P : Outcome → Type 0 = λ x. IsOutcome c n acts x ⊎ (x ≡ outcomes.Memory) in subst P (sym e) a
@@ -80,3 +76,13 @@ concluded c n before told told' answer given_answer h tail same =
       answer_is = given c n h.acts answer given_answer h.outcome_is same;
       own = h.own;
     }
+
+pub lacking_completes : (task : Task) (n f f' w w' s s' : ℕ) (answer : Outcome) → answer ≡ outcomes.Memory → CompletesTask task n f f' w w' s s' answer
+lacking_completes (Relaying c) n f f' w w' s s' answer e = λ calm left quiet. ap relayed.is_undisturbed e
+lacking_completes (Telling text) n f f' w w' s s' answer e = tt
+lacking_completes (Refusing refused) n f f' w w' s s' answer e = tt
+lacking_completes Unread n f f' w w' s s' answer e = tt
+
+-- a relay that is offered is the task of its command
+pub offered_completes : (c : Config) (n f f' w w' s s' : ℕ) (answer : Outcome) → is_built c ≡ true → relayed.Completes n f f' w w' s s' answer → CompletesTask (command_task (commands.Relay c)) n f f' w w' s s' answer
+offered_completes c n f f' w w' s s' answer built h = subst (λ b. CompletesTask (if b then Relaying c else Refusing not_built) n f f' w w' s s' answer) (sym built) h

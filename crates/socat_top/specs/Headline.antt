@@ -10,6 +10,7 @@ use Rattle.relay_model.specs.History.{held}
 use Rattle.relay_model.specs.May.{Legal}
 use Rattle.exit_status.specs.Outcomes.{IsOutcome}
 use Rattle.event_loop.specs.Courses.{extend, OnlyOwn}
+use Rattle.event_loop.specs.Headline as relayed
 use Rattle.event_loop.specs.Headline.{is_relayed}
 use Rattle.socat_top.specs.Notes.{Said, Tail}
 use Rattle.socat_top.specs.Tasks.{Task, Relaying, Telling, Refusing, Unread}
@@ -42,3 +43,8 @@ Answers (Relaying c) answer = is_relayed answer ≡ true
 Answers (Telling text) answer = (answer ≡ outcomes.Told) ⊎ (answer ≡ outcomes.Memory)
 Answers (Refusing refused) answer = (answer ≡ outcomes.Refused refused) ⊎ (answer ≡ outcomes.Memory)
 Answers Unread answer = answer ≡ outcomes.Memory
+
+-- where no fault and no stop was counted, and fewer than n waits, a relay has ended, or memory was wanting
+abbrev pub CompletesTask : Task → ℕ → ℕ → ℕ → ℕ → ℕ → ℕ → ℕ → Outcome → Type 0
+CompletesTask (Relaying c) n faults faults' waits waits' stops stops' answer = relayed.Completes n faults faults' waits waits' stops stops' answer
+CompletesTask other n faults faults' waits waits' stops stops' answer = Unit {0}

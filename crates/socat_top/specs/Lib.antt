@@ -3,3 +3,4 @@ pub mod Headline
 pub mod Kept
 pub mod Notes
 pub mod Tasks
+pub mod Written

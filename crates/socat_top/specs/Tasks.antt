@@ -1,6 +1,5 @@
--- What a list of words asks of the program.
-use Rattle.std.specs.Prelude.{ℕ, Bool, List, [], ◌∷◌, Result, Ok, Err, codes, nat_eq, if◌then◌else◌}
-use Rattle.std.specs.List.{starts_with}
+-- What a list of words asks.
+use Rattle.std.specs.Prelude.{ℕ, List, Result, Ok, Err, if◌then◌else◌}
 use Rattle.relay_model.specs.declared.commands.Config.{Config}
 use Rattle.relay_model.specs.declared.refusals.Refused.{Refused}
 use Rattle.relay_model.specs.declared.refusals.Refusal.TheVariants.{NotBuilt}
@@ -36,21 +35,3 @@ task_of (Err faults.Memory) = Unread
 
 abbrev pub task : List (List ℕ) → Task
 task words = task_of (command words)
-
--- ---- the program
-
--- whether a word asks for a written journal
-abbrev pub asks_for_journal : List ℕ → Bool
-asks_for_journal word = starts_with nat_eq word (codes "--journal=")
-
--- a journal can't be written yet, so with it nothing is relayed
-abbrev pub unrelayed : Task → Task
-unrelayed (Relaying c) = Refusing not_built
-unrelayed (Telling text) = Telling text
-unrelayed (Refusing refused) = Refusing refused
-unrelayed Unread = Unread
-
--- the first word of the program may ask for a written journal; the others are numbered from behind it
-abbrev pub program_task : List (List ℕ) → Task
-program_task [] = task []
-program_task (word ∷ words) = if asks_for_journal word then unrelayed (task words) else task (word ∷ words)

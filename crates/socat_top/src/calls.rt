@@ -1,15 +1,15 @@
 // What a list of words asks for, done over any world.
-ghost use Rattle.std.specs.Prelude.{◌≡◌, ◌≤◌, ℕ, true, false, is_some, Some, Ok};
+ghost use Rattle.std.specs.Prelude.{◌≡◌, ◌≤◌, true, false, is_some, Some, Ok};
 ghost use Rattle.relay_model.specs.declared.places.Place.{Place as Spot};
 ghost use Rattle.relay_model.specs.Holding.{Free};
 ghost use Rattle.relay_model.specs.Journals.{History};
 ghost use Rattle.cmd_words.specs.Commands.{IsFit};
 ghost use Rattle.event_loop.specs.Courses.{Risen};
 ghost use Rattle.relay_model.specs.Configs.{Fit};
-ghost use Rattle.event_loop.specs.Headline.{StopCause, is_failure, is_relayed};
+ghost use Rattle.event_loop.specs.Headline.{Completes, StopCause, is_failure, is_relayed};
 ghost use Rattle.socat_top.specs.Built.{is_built};
-ghost use Rattle.socat_top.specs.Headline.{Answers, Headline, Leaves};
-ghost use Rattle.socat_top.specs.Tasks.{task, command_task, task_of, unrelayed, asks_for_journal, program_task};
+ghost use Rattle.socat_top.specs.Headline.{Answers, CompletesTask, Headline, Leaves};
+ghost use Rattle.socat_top.specs.Tasks.{task, command_task, task_of};
 
 use crate::built::can_run;
 use crate::notes::{conclude, print};
@@ -37,68 +37,12 @@ pub fn socat<W: World>(alloc: Global, world: &mut W, words: &[Text], turns: u64)
     ensures tells { is_some (W.told world.new) ≡ is_some (W.told world.old) }
     ensures failed { is_failure result ≡ true → Risen (W.faults world.old) (W.faults world.new) }
     ensures stopped { StopCause turns (W.waits world.old) (W.waits world.new) (W.stops world.old) (W.stops world.new) result }
+    ensures complete { CompletesTask (task words.now) turns (W.faults world.old) (W.faults world.new) (W.waits world.old) (W.waits world.new) (W.stops world.old) (W.stops world.new) result }
 {
     match command_of(alloc, words) {
         Ok(command) => obey(alloc, world, &command, turns),
         Err(CommandFault::Refused(refused)) => { conclude(alloc, world, Outcome::Refused(refused)) }
         Err(CommandFault::Memory) => conclude(alloc, world, Outcome::Memory),
-    }
-}
-
-/// Does what the words of the program ask, over any world, with at most `turns` waits. A first word `--journal=..`
-/// asks for a written journal, which can't be made yet: behind it nothing is relayed. Elsewhere it is an unknown flag.
-pub fn program<W: World>(alloc: Global, world: &mut W, words: &[Text], turns: u64) -> Outcome
-    requires free { (p : Spot) → W.held world.old p ≡ Free }
-    ensures free { (p : Spot) → W.held world.new p ≡ Free }
-    ensures headline { (before : History) → W.told world.old ≡ Some before → Leaves (program_task words.now) turns before (W.told world.new) result }
-    ensures answers { Answers (program_task words.now) result }
-    ensures tells { is_some (W.told world.new) ≡ is_some (W.told world.old) }
-    ensures failed { is_failure result ≡ true → Risen (W.faults world.old) (W.faults world.new) }
-    ensures stopped { StopCause turns (W.waits world.old) (W.waits world.new) (W.stops world.old) (W.stops world.new) result }
-{
-    match words {
-        [first, others @ ..] if is_journal_flag(first) => answer_unrelayed(alloc, world, others),
-        _ => socat(alloc, world, words, turns),
-    }
-}
-
-/// Whether the word asks for a written journal.
-fn is_journal_flag(word: &Text) -> bool
-    ensures { result ≡ asks_for_journal word.now }
-{
-    word.as_slice().starts_with(b"--journal=")
-}
-
-/// Answers the words, but relays nothing.
-fn answer_unrelayed<W: World>(alloc: Global, world: &mut W, words: &[Text]) -> Outcome
-    ensures held { (p : Spot) → W.held world.new p ≡ W.held world.old p }
-    ensures headline { (n : ℕ) (before : History) → W.told world.old ≡ Some before → Leaves (unrelayed (task words.now)) n before (W.told world.new) result }
-    ensures answers { Answers (unrelayed (task words.now)) result }
-    ensures tells { is_some (W.told world.new) ≡ is_some (W.told world.old) }
-    ensures calm { is_failure result ≡ false }
-    ensures unstopped { (n a b d e : ℕ) → StopCause n a b d e result }
-{
-    match command_of(alloc, words) {
-        Ok(command) => decline(alloc, world, &command),
-        Err(CommandFault::Refused(refused)) => conclude(alloc, world, Outcome::Refused(refused)),
-        Err(CommandFault::Memory) => conclude(alloc, world, Outcome::Memory),
-    }
-}
-
-/// Prints what a command asks for, and refuses one that asks for a relay.
-fn decline<W: World>(alloc: Global, world: &mut W, command: &Command) -> Outcome
-    ensures held { (p : Spot) → W.held world.new p ≡ W.held world.old p }
-    ensures headline { (n : ℕ) (before : History) → W.told world.old ≡ Some before → Leaves (unrelayed (command_task command.now)) n before (W.told world.new) result }
-    ensures answers { Answers (unrelayed (command_task command.now)) result }
-    ensures tells { is_some (W.told world.new) ≡ is_some (W.told world.old) }
-    ensures calm { is_failure result ≡ false }
-    ensures unstopped { (n a b d e : ℕ) → StopCause n a b d e result }
-{
-    match command {
-        Command::Relay(_config) => conclude(alloc, world, Outcome::Refused(NOT_BUILT)),
-        Command::Load(_number) => conclude(alloc, world, Outcome::Refused(NOT_BUILT)),
-        Command::Usage => print(alloc, world, usage_text(alloc)),
-        Command::Version => print(alloc, world, version_text(alloc)),
     }
 }
 
@@ -112,10 +56,15 @@ fn obey<W: World>(alloc: Global, world: &mut W, command: &Command, turns: u64) -
     ensures tells { is_some (W.told world.new) ≡ is_some (W.told world.old) }
     ensures failed { is_failure result ≡ true → Risen (W.faults world.old) (W.faults world.new) }
     ensures stopped { StopCause turns (W.waits world.old) (W.waits world.new) (W.stops world.old) (W.stops world.new) result }
+    ensures complete { CompletesTask (command_task command.now) turns (W.faults world.old) (W.faults world.new) (W.waits world.old) (W.waits world.new) (W.stops world.old) (W.stops world.new) result }
 {
     match command {
         Command::Relay(config) if can_run(config) => run_relay(alloc, world, config, turns),
-        _ => decline(alloc, world, command),
+        Command::Relay(_) | Command::Load(_) => {
+            conclude(alloc, world, Outcome::Refused(NOT_BUILT))
+        }
+        Command::Usage => print(alloc, world, usage_text(alloc)),
+        Command::Version => print(alloc, world, version_text(alloc)),
     }
 }
 
@@ -130,6 +79,7 @@ fn run_relay<W: World>(alloc: Global, world: &mut W, config: &Config, turns: u64
     ensures tells { is_some (W.told world.new) ≡ is_some (W.told world.old) }
     ensures failed { is_failure result ≡ true → Risen (W.faults world.old) (W.faults world.new) }
     ensures stopped { StopCause turns (W.waits world.old) (W.waits world.new) (W.stops world.old) (W.stops world.new) result }
+    ensures complete { Completes turns (W.faults world.old) (W.faults world.new) (W.waits world.old) (W.waits world.new) (W.stops world.old) (W.stops world.new) result }
 {
     let outcome = relay(alloc, world, config, turns);
     conclude(alloc, world, outcome)

@@ -4,11 +4,9 @@
 mod built;
 mod calls;
 mod notes;
-#[cfg(test)]
-mod run_tests;
 mod runs;
-#[cfg(test)]
-mod tests;
+mod written;
 
-pub use calls::{program, socat};
-pub use runs::{Thin, run, run_kept, run_program};
+pub use calls::socat;
+pub use runs::{Shipped, run};
+pub use written::{Saving, Written, run_written};

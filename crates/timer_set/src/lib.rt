@@ -7,6 +7,3 @@ mod timer;
 mod timers;
 
 pub use timers::TimerSet;
-
-#[cfg(test)]
-mod tests;

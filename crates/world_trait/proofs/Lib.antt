@@ -1,4 +1,1 @@
-pub mod HeldLemmas
-pub mod LineLemmas
-pub mod LookLemmas
 pub mod TableLemmas

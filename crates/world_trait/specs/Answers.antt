@@ -122,6 +122,22 @@ pub record Rose (before now : ℕ) (failed : Bool) : Type 0 where
   pub later : before ≤ now
   pub rose : failed ≡ true → min (before + 1) (2 ^ 64 - 1) ≤ now
 
+-- a count that is one more where it was raised, and the same where it wasn't; at its last value it stands still
+abbrev pub counted : Bool → ℕ → ℕ
+counted true n = min (n + 1) (2 ^ 64 - 1)
+counted false n = n
+
+-- an answer raises the count of faults where it is a failure and the count of stops where it is a stop, and neither
+-- count moves otherwise
+pub record RaisesCounts (faults faults' stops stops' : ℕ) (failed stopped : Bool) : Type 0 where
+  pub faults_is : faults' ≡ counted failed faults
+  pub stops_is : stops' ≡ counted stopped stops
+
+-- whether a turn answered a stop
+abbrev pub says_stop : Turned → Bool
+says_stop (turns.Turned at stop) = stop
+says_stop turns.Memory = false
+
 abbrev pub is_open_fault : OpenAnswer → Bool
 is_open_fault opens.Opened = false
 is_open_fault opens.Later = false

@@ -1,12 +1,4 @@
 pub mod Answers
 pub mod HoldTables
-pub mod Lines
-pub mod Looks
-pub mod Marks
-pub mod Peers
-pub mod Reads
 pub mod Recordings
 pub mod Runs
-pub mod Scripted
-pub mod Scripts
-pub mod Writes

@@ -2,6 +2,7 @@
 ghost use Rattle.std.specs.Prelude.{◌≡◌, ◌≤◌, ◌<◌, ℕ, Option, Bool, true, false, length};
 ghost use Rattle.relay_model.specs.declared.places.Place.{Place};
 ghost use Rattle.relay_model.specs.Journals.{History};
+ghost use Rattle.relay_model.specs.Conversions.{longest_packet};
 ghost use Rattle.relay_model.specs.Holding.{Hold, Free, Settling, Open, is_free, is_open};
 ghost use Rattle.world_trait.specs.Answers.{Answered, AnsweredAsking, Rose, OnlyHeldNamed, OnlyWhereTold, NotReaped, WaitCounts, ReadFits, WriteFits, wait_act, open_act, listen_act, accept_act, read_act, write_act, send_act, shut_act, close_act, note_act, reap_act, is_open_fault, is_listen_fault, is_accept_fault, is_read_fault, is_write_fault, is_send_fault, is_shut_fault, is_note_fault, wants_turn_memory, wants_read_memory, wants_write_memory, wants_send_memory, wants_shut_memory};
 
@@ -103,7 +104,7 @@ pub trait World {
     fn send(&mut self, place: Place, bytes: &[u8]) -> SendAnswer
         requires open { held self.old place ≡ Open }
         requires some { 0 < length bytes.now }
-        requires packet { length bytes.now ≤ 65507 }
+        requires packet { length bytes.now ≤ longest_packet }
         ensures act { Answered (told self.old) (told self.new) (held self.old) (held self.new) (send_act place bytes.now result) }
         ensures cause { Rose (faults self.old) (faults self.new) (is_send_fault result) }
         ensures waits { waits self.new ≡ waits self.old }

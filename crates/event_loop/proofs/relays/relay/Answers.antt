@@ -2,7 +2,7 @@ use Rattle.std.proofs.Common.{[], option_map, refl, ap, inr, ◌∙◌}
 use Rattle.event_loop.specs.Seen.{seen}
 use Rattle.event_loop.specs.Courses.{extend}
 use Rattle.event_loop.proofs.Going.{told_nothing, tells_on}
-use Rattle.event_loop.proofs.Ends.{all_free, ends_told, stop_of}
+use Rattle.event_loop.proofs.Ends.{all_free, completes_by, ends_told, stop_of}
 use Rattle.event_loop.proofs.relays.relay.Goals as goal
 
 pub run-why-requires-clause-course : goal.run-why-requires-clause-course
@@ -67,6 +67,15 @@ returns-in-Ok-clause-stopped g c =
     let w = c.run-why.ensures.done k n o.past o.course.stands o.course.legal c.requires.runnable.undumped in
     let ends = ends_told k n o.past c.run-why.result _ _ c.outcome.result c.requires.runnable.alone c.cause_is_told.ensures c.failure_is_blamed.ensures c.held_is_own.ensures c.stop_is_told.ensures o.course.legal w.0 o.course.fault o.course.turned (c.outcome.ensures k n o.past o.course.stands o.course.legal) in
     stop_of c.outcome.result n _ _ _ _ _ o.past ends.stopped o.course.turned o.course.stopped o.course.waited
+
+pub returns-in-Ok-clause-complete : goal.returns-in-Ok-clause-complete
+returns-in-Ok-clause-complete g c =
+    let k = c.args.config.now in
+    let n = c.args.turns in
+    let o = c.run-why.ensures.course (seen g.W.World.told g.W.World.held g.W.World.faults g.W.World.waits g.W.World.stops g.W.World.clock c.args.world.now) [] (c.in-Ok.ensures.2 n (seen g.W.World.told g.W.World.held g.W.World.faults g.W.World.waits g.W.World.stops g.W.World.clock c.args.world.now) c.requires.free) in
+    let w = c.run-why.ensures.done k n o.past o.course.stands o.course.legal c.requires.runnable.undumped in
+    let ends = ends_told k n o.past c.run-why.result _ _ c.outcome.result c.requires.runnable.alone c.cause_is_told.ensures c.failure_is_blamed.ensures c.held_is_own.ensures c.stop_is_told.ensures o.course.legal w.0 o.course.fault o.course.turned (c.outcome.ensures k n o.past o.course.stands o.course.legal) in
+    completes_by c.outcome.result n _ _ _ _ _ _ ends.relayed (λ h. o.course.blamed (ends.failed h)) (stop_of c.outcome.result n _ _ _ _ _ o.past ends.stopped o.course.turned o.course.stopped o.course.waited)
 
 pub returns-in-Err-clause-headline : goal.returns-in-Err-clause-headline
 returns-in-Err-clause-headline g c = λ before told. record {

@@ -1,6 +1,5 @@
-use Rattle.std.proofs.Common.{◌≡◌, ◌≤◌, arith}
-use Rattle.std.proofs.lemmas.Grind.{common_steps}
 use Rattle.socat_top.proofs.Offered.{offered_runs}
+use Rattle.event_loop.proofs.Ends.{completes_on}
 use Rattle.socat_top.proofs.Endings.{concluded}
 use Rattle.socat_top.proofs.calls.run_relay.Goals as goal
 
@@ -10,3 +9,7 @@ relay-outcome-requires-clause-runnable g c = offered_runs c.args.config.now c.re
 pub returns-clause-headline : goal.returns-clause-headline
 returns-clause-headline g c = λ before told.
     concluded c.args.config.now c.args.turns before (g.W.World.told c.relay-outcome.new.world) (g.W.World.told c.conclude.new.world) c.relay-outcome.result c.conclude.result (c.relay-outcome.ensures.headline before told) c.conclude.ensures.tail c.conclude.ensures.answer
+
+pub returns-clause-complete : goal.returns-clause-complete
+returns-clause-complete g c =
+    completes_on c.relay-outcome.result c.conclude.result _ _ _ _ _ _ _ _ _ _ c.relay-outcome.ensures.complete c.conclude.ensures.answer c.conclude.ensures.faults c.conclude.ensures.waits c.conclude.ensures.stops

@@ -3,8 +3,8 @@ use Rattle.std.proofs.lemmas.Grind.{common_steps}
 use Rattle.place_openings.proofs.Named.{woken_more, armed_more}
 use Rattle.place_openings.proofs.one_place.Opening.named.Goals as goal
 
-pub returns : goal.returns
-returns c = λ cfg past p until at names i.
+pub returns-clause-goes : goal.returns-clause-goes
+returns-clause-goes c = λ cfg past p until at names i.
     record {
       no_door = i.no_door;
       place_is = i.place_is;

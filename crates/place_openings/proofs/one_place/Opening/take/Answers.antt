@@ -1,4 +1,5 @@
-use Rattle.std.proofs.Common.{◌≡◌, List, ◌∷◌, ◌⊎◌, inl, inr}
+use Rattle.std.proofs.Common.{◌≡◌, sym, ◌∙◌, Bool, true, ◌||◌, List, ◌∷◌, ◌⊎◌, inl, inr}
+use Rattle.std.proofs.lemmas.Bool.{or_left}
 use Rattle.relay_model.specs.declared.places.Place.{Place}
 use Rattle.relay_model.specs.declared.commands.Config.{Config}
 use Rattle.relay_model.specs.declared.acts.ChildEnd.{ChildEnd}
@@ -19,8 +20,47 @@ returns-in-Reaped-clause-goes c = λ cfg past later p f i.
 
 pub returns-in-Woken-clause-goes : goal.returns-in-Woken-clause-goes
 returns-in-Woken-clause-goes c = λ cfg past later p f i.
-    let k = rw c.in-Woken.is at f in rw k.later_is (c.woken.ensures cfg past p k.until k.at i)
+    let k = rw c.in-Woken.is at f in rw k.later_is (c.woken.ensures.goes cfg past p k.until k.at i)
 
 pub returns-in-Named-clause-goes : goal.returns-in-Named-clause-goes
 returns-in-Named-clause-goes c = λ cfg past later p f i.
-    let k = rw c.in-Named.is at f in rw k.later_is (c.named.ensures cfg k.older p k.until k.at k.names (rw k.past_is at i))
+    let k = rw c.in-Named.is at f in rw k.later_is (c.named.ensures.goes cfg k.older p k.until k.at k.names (rw k.past_is at i))
+
+asked_before : (old new asks : Bool) → new ≡ old → new ≡ true → (old || asks) ≡ true
+asked_before old new asks same e = or_left old asks (sym same ∙ e)
+
+pub returns-in-Opened-clause-asked : goal.returns-in-Opened-clause-asked
+returns-in-Opened-clause-asked c = λ p e. asked_before _ _ _ (c.opened.ensures.asked p) e
+
+pub returns-in-OpenedLater-clause-asked : goal.returns-in-OpenedLater-clause-asked
+returns-in-OpenedLater-clause-asked c = λ p e. asked_before _ _ _ (c.opened_later.ensures.asked p) e
+
+pub returns-in-OpenFailed-clause-asked : goal.returns-in-OpenFailed-clause-asked
+returns-in-OpenFailed-clause-asked c = λ p e. asked_before _ _ _ (c.open_failed.ensures.asked p) e
+
+pub returns-in-Listening-clause-asked : goal.returns-in-Listening-clause-asked
+returns-in-Listening-clause-asked c = λ p e. asked_before _ _ _ (c.listening.ensures.asked p) e
+
+pub returns-in-ListenFailed-clause-asked : goal.returns-in-ListenFailed-clause-asked
+returns-in-ListenFailed-clause-asked c = λ p e. asked_before _ _ _ (c.listen_failed.ensures.asked p) e
+
+pub returns-in-Accepted-clause-asked : goal.returns-in-Accepted-clause-asked
+returns-in-Accepted-clause-asked c = λ p e. asked_before _ _ _ (c.accepted.ensures.asked p) e
+
+pub returns-in-NoPeer-clause-asked : goal.returns-in-NoPeer-clause-asked
+returns-in-NoPeer-clause-asked c = λ p e. asked_before _ _ _ (c.no_peer.ensures.asked p) e
+
+pub returns-in-AcceptFailed-clause-asked : goal.returns-in-AcceptFailed-clause-asked
+returns-in-AcceptFailed-clause-asked c = λ p e. asked_before _ _ _ (c.accept_failed.ensures.asked p) e
+
+pub returns-in-Closed-clause-asked : goal.returns-in-Closed-clause-asked
+returns-in-Closed-clause-asked c = λ p e. asked_before _ _ _ (c.closed.ensures.asked p) e
+
+pub returns-in-Woken-clause-asked : goal.returns-in-Woken-clause-asked
+returns-in-Woken-clause-asked c = λ p e. asked_before _ _ _ (c.woken.ensures.asked p) e
+
+pub returns-in-Named-clause-asked : goal.returns-in-Named-clause-asked
+returns-in-Named-clause-asked c = λ p e. asked_before _ _ _ (c.named.ensures.asked p) e
+
+pub returns-in-Reaped-clause-asked : goal.returns-in-Reaped-clause-asked
+returns-in-Reaped-clause-asked c = λ p e. rw c.in-Reaped.is (c.reaped.ensures.asked p e)

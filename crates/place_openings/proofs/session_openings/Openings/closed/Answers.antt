@@ -1,7 +1,7 @@
 use Rattle.std.proofs.Common.{refl}
 use Rattle.relay_model.specs.Openings as calls
 use Rattle.place_openings.specs.declared.steps.Step.TheVariants as steps
-use Rattle.place_openings.proofs.Lifting.{moved}
+use Rattle.place_openings.proofs.Lifting.{moved, asked_before}
 use Rattle.place_openings.proofs.Called.{answered, closed_held}
 use Rattle.place_openings.proofs.session_openings.Openings.closed.Goals as goal
 
@@ -16,3 +16,6 @@ returns-clause-fewer_refusing c = λ cfg past s are e. answered cfg past s (step
 
 pub returns-clause-fewer_serving : goal.returns-clause-fewer_serving
 returns-clause-fewer_serving c = λ cfg past s are e. answered cfg past s (steps.Closed c.args.thing c.args.why) (calls.Serve c.args.thing) _ _ are c.take.ensures e refl
+
+pub returns-clause-asked : goal.returns-clause-asked
+returns-clause-asked c = asked_before _ _ _ c.take.ensures (λ p. refl)

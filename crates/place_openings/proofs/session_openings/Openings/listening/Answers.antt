@@ -1,7 +1,7 @@
 use Rattle.std.proofs.Common.{refl}
 use Rattle.relay_model.specs.Openings as calls
 use Rattle.place_openings.specs.declared.steps.Step.TheVariants as steps
-use Rattle.place_openings.proofs.Lifting.{moved}
+use Rattle.place_openings.proofs.Lifting.{moved, asked_before}
 use Rattle.place_openings.proofs.Called.{answered}
 use Rattle.place_openings.proofs.session_openings.Openings.listening.Goals as goal
 
@@ -10,3 +10,6 @@ returns-clause-goes c = λ cfg past s are. moved (steps.Listening c.args.door) _
 
 pub returns-clause-fewer : goal.returns-clause-fewer
 returns-clause-fewer c = λ cfg past s are e. answered cfg past s (steps.Listening c.args.door) (calls.Listen c.args.door) _ _ are c.take.ensures e refl
+
+pub returns-clause-asked : goal.returns-clause-asked
+returns-clause-asked c = asked_before _ _ _ c.take.ensures (λ p. refl)

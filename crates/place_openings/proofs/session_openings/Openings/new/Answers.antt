@@ -9,6 +9,6 @@ pub of_places-requires-clause-no_doors : goal.of_places-requires-clause-no_doors
 of_places-requires-clause-no_doors c =
     subst (λ xs. All (λ (p : Place). p.door ≡ false) xs) (sym (c.as_slice.ensures ∙ c.places-list.ensures.places)) (no_doors c.args.config.now c.args.number)
 
-pub returns : goal.returns
-returns c =
-    record { each = subst (λ xs. Each c.args.config.now [] xs c.of_places.result) (c.as_slice.ensures ∙ c.places-list.ensures.places) c.of_places.ensures }
+pub returns-clause-stands : goal.returns-clause-stands
+returns-clause-stands c =
+    record { each = subst (λ xs. Each c.args.config.now [] xs c.of_places.result) (c.as_slice.ensures ∙ c.places-list.ensures.places) c.of_places.ensures.stands }

@@ -1,7 +1,7 @@
 use Rattle.std.proofs.Common.{refl}
 use Rattle.relay_model.specs.Openings as calls
 use Rattle.place_openings.specs.declared.steps.Step.TheVariants as steps
-use Rattle.place_openings.proofs.Lifting.{moved}
+use Rattle.place_openings.proofs.Lifting.{moved, asked_before}
 use Rattle.place_openings.proofs.Called.{answered}
 use Rattle.place_openings.proofs.session_openings.Openings.open_failed.Goals as goal
 
@@ -13,3 +13,6 @@ returns-clause-fewer_opening c = λ cfg past s are e. answered cfg past s (steps
 
 pub returns-clause-fewer_settling : goal.returns-clause-fewer_settling
 returns-clause-fewer_settling c = λ cfg past s are e. answered cfg past s (steps.OpenFailed c.args.place c.args.at) (calls.Settle c.args.place) _ _ are c.take.ensures e refl
+
+pub returns-clause-asked : goal.returns-clause-asked
+returns-clause-asked c = asked_before _ _ _ c.take.ensures (λ p. refl)

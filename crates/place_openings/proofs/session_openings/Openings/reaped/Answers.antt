@@ -1,6 +1,6 @@
 use Rattle.std.proofs.Common.{refl, inl, inr}
 use Rattle.place_openings.specs.declared.steps.Step.TheVariants as steps
-use Rattle.place_openings.proofs.Lifting.{moved}
+use Rattle.place_openings.proofs.Lifting.{moved, asked_each}
 use Rattle.place_openings.proofs.Called.{asked_child}
 use Rattle.place_openings.proofs.session_openings.Openings.reaped.Goals as goal
 
@@ -12,3 +12,6 @@ returns-clause-childless c = λ cfg past s are. moved (steps.Reaped c.args.place
 
 pub returns-clause-fewer : goal.returns-clause-fewer
 returns-clause-fewer c = λ e. asked_child c.args.place _ _ c.take.ensures e
+
+pub returns-clause-asked : goal.returns-clause-asked
+returns-clause-asked c = λ p e. asked_each (steps.Reaped c.args.place) _ _ c.take.ensures p e

@@ -1,3 +1,5 @@
+use Rattle.relay_core.proofs.Bounds.{steps_within}
+use Rattle.relay_core.proofs.Children.{done_asked}
 use Rattle.relay_core.proofs.Conditions.{goes_while, at_own}
 use Rattle.relay_core.proofs.Possible.{can_be_made, rests_asleep}
 use Rattle.relay_core.proofs.sessions.Session.wish.Goals as goal
@@ -13,3 +15,9 @@ returns-clause-can c = λ k n past s st legal. can_be_made k n past s c.args.sel
 
 pub returns-clause-rests : goal.returns-clause-rests
 returns-clause-rests c = λ k n past s until st legal silent e. rests_asleep k n past s c.args.self.now.state c.args.self.now.wish until st.fields st.allowed legal silent e
+
+pub returns-clause-left : goal.returns-clause-left
+returns-clause-left c = λ k n past s st. steps_within k past s c.args.self.now.state st.fields.ground
+
+pub returns-clause-children : goal.returns-clause-children
+returns-clause-children c = λ k n past s why st e. done_asked k n past s c.args.self.now.state c.args.self.now.wish why st.fields.ground.openings_are.each st.allowed e

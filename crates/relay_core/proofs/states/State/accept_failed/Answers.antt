@@ -4,8 +4,8 @@ use Rattle.relay_model.specs.Openings as calls
 use Rattle.relay_core.proofs.StepLemmas.{accept_ends, ending_step, own_of, called_there, first_of_call}
 use Rattle.relay_core.proofs.states.State.accept_failed.Goals as goal
 
-pub returns : goal.returns
-returns c = λ k n past s f a.
+pub returns-clause-goes : goal.returns-clause-goes
+returns-clause-goes c = λ k n past s f a.
     let own = own_of k n past s c.args.self.now (calls.Accept c.args.door c.args.place) f a.1 a.0.0 in
     ending_step k n past s _ c.args.self.now _ _ f refl
     (λ o. (o, (c.args.place, called_there k n past s c.args.self.now (calls.Accept c.args.door c.args.place) c.args.door f a.0.0 own.0.of)))

@@ -1,4 +1,5 @@
 use Rattle.std.proofs.Common.{ap, ◌∙◌, is_some}
+use Rattle.std.proofs.lemmas.Bool.{or_left}
 use Rattle.relay_core.proofs.states.State.hear.Goals as goal
 
 pub returns-in-NoChild-clause-childless : goal.returns-in-NoChild-clause-childless
@@ -8,4 +9,7 @@ pub returns-in-NoChild-clause-over : goal.returns-in-NoChild-clause-over
 returns-in-NoChild-clause-over c = λ k n past s a e. ap is_some c.without_child.ensures.same ∙ e
 
 pub returns-in-Woken-clause-woken : goal.returns-in-Woken-clause-woken
-returns-in-Woken-clause-woken c = λ k past s until g q e. c.woken.ensures k past s until g q
+returns-in-Woken-clause-woken c = λ k past s until g q e. c.woken.ensures.goes k past s until g q
+
+pub returns-in-Woken-clause-asked : goal.returns-in-Woken-clause-asked
+returns-in-Woken-clause-asked c = λ p e. or_left _ _ (c.woken.ensures.asked p e)

@@ -4,8 +4,8 @@ use Rattle.relay_model.specs.Openings as calls
 use Rattle.relay_core.proofs.StepLemmas.{opening_step, own_of, called_there, first_of_call}
 use Rattle.relay_core.proofs.states.State.listen_failed.Goals as goal
 
-pub returns : goal.returns
-returns c = λ k n past s f a.
+pub returns-clause-goes : goal.returns-clause-goes
+returns-clause-goes c = λ k n past s f a.
     let own = own_of k n past s c.args.self.now (calls.Listen c.args.door) f a.1 a.0 in
     opening_step k n past s _ c.args.self.now _ _ f a.1 refl refl
     (λ o. (o, called_there k n past s c.args.self.now (calls.Listen c.args.door) c.args.door f a.0 own.of))

@@ -1,5 +1,5 @@
 use Rattle.std.proofs.Common.{sym, ◌∙◌, ap, is_some}
-use Rattle.relay_laws.proofs.Apart.{each_place, among_own}
+use Rattle.legal_steps.proofs.OwnThings.{each_place, among_own}
 use Rattle.relay_model.specs.Configs.{places}
 use Rattle.relay_core.proofs.Plans.{ends_of}
 use Rattle.relay_core.proofs.states.State.plan_last.Goals as goal
@@ -10,4 +10,4 @@ returns-in-Some c = λ k n past s f e h.
     (record { own = (among_own k s c.in-Some.place (places k s) (each_place k s) r.3).0; may = record { is_child = r.0; closed = r.1; first = r.2 } }, (ap is_some e, sym c.child.ensures.state ∙ c.in-Some.is))
 
 pub returns-in-None : goal.returns-in-None
-returns-in-None c = λ k n past s f e h. (record { nothing_held = h; ends = ends_of k n past s c.args.self.now.ending c.args.why f.ending_is e }, e)
+returns-in-None c = λ k n past s f e h. (record { nothing_held = h; ends = ends_of k n past s c.args.self.now.ending c.args.why f.ending_is e }, (e, c.child.ensures.none c.in-None.is))

@@ -10,9 +10,9 @@ returns-then-not-is_ready c = λ k n past s f e h.
 pub returns-in-Some : goal.returns-in-Some
 returns-in-Some c = λ k n past s f e h.
     let runs = runs_of k n past s c.args.self.now f e (sym (c.is_ready.ensures k past s f.ground.openings_are) ∙ c.if-not-is_ready.false) in
-    wish_allowed k n past s c.args.self.now c.in-Some.wish (subst (LanesWish k past s) c.in-Some.is (c.wish.ensures k past s f.ground.lanes_are f.ground.clock_is runs f.ground.fit)) e
+    wish_allowed k n past s c.args.self.now c.in-Some.wish (subst (LanesWish k past s c.args.self.now.lanes) c.in-Some.is (c.wish.ensures k past s f.ground.lanes_are f.ground.clock_is runs f.ground.fit)) e
 
 pub returns-in-None : goal.returns-in-None
 returns-in-None c = λ k n past s f e h.
     let runs = runs_of k n past s c.args.self.now f e (sym (c.is_ready.ensures k past s f.ground.openings_are) ∙ c.if-not-is_ready.false) in
-    (sleeps_running k n past s c.args.self.now _ f e h (subst (LanesWish k past s) c.in-None.is (c.wish.ensures k past s f.ground.lanes_are f.ground.clock_is runs f.ground.fit)) (c.until.ensures k past s f.ground runs h), e)
+    (sleeps_running k n past s c.args.self.now _ f e h (subst (LanesWish k past s c.args.self.now.lanes) c.in-None.is (c.wish.ensures k past s f.ground.lanes_are f.ground.clock_is runs f.ground.fit)) (c.until.ensures k past s f.ground runs h), e)

@@ -3,8 +3,8 @@ use Rattle.relay_core.specs.Lanes.{waiting_at}
 use Rattle.relay_core.proofs.StepLemmas.{transfer_step, transfer_quiet, transfer_now, transfer_may, transfer_untouched, transfer_moved, transfer_faulted, write_at}
 use Rattle.relay_core.proofs.states.State.transferred.Goals as goal
 
-pub returns : goal.returns
-returns c = λ k n past s f e t.
+pub returns-clause-goes : goal.returns-clause-goes
+returns-clause-goes c = λ k n past s f e t.
     let waiting = waiting_at c.args.self.now.lanes c.args.place in
     transfer_step k n past s _ c.args.self.now _ _ f e (transfer_quiet c.args.place waiting c.args.transfer) (transfer_now past c.args.place waiting c.args.transfer)
     (transfer_may k n past c.args.place waiting c.args.transfer t.may (write_at k past s c.args.self.now.lanes c.args.place f.ground.lanes_are t.own))
@@ -16,4 +16,4 @@ returns c = λ k n past s f e t.
     (record { openings_same = refl; lanes_same = refl; clock_same = refl; moved_same = refl; faulted_same = refl; closing_same = refl; idle_same = refl; sloppy_same = refl })
     (λ g q. c.cause-self.ensures k _ s g q)
     refl
-    (c.hear.ensures.fewer k past s f.ground.lanes_are t.own t.may t.unasked)
+    (c.hear.ensures.fewer k past s f.ground.lanes_are t.own t.may t.affords)

@@ -5,10 +5,10 @@ use Rattle.relay_core.proofs.StepLemmas.{heeds_step}
 use Rattle.session_direction.specs.Directions.{listed}
 use Rattle.relay_core.proofs.states.State.woken.Goals as goal
 
-pub returns : goal.returns
-returns c = λ k past s until g q.
+pub returns-clause-goes : goal.returns-clause-goes
+returns-clause-goes c = λ k past s until g q.
     heeds_step k past (acts.Turn until c.args.at (listed []) false ∷ past) s c.args.self.now _ _ g
-    (c.woken.ensures k past s until c.args.at g.openings_are)
+    (c.woken.ensures.goes k past s until c.args.at g.openings_are)
     (c.woken-2.ensures k past s until c.args.at g.lanes_are)
     refl g.moved_is g.faulted_is refl refl refl
     (record { openings_same = refl; lanes_same = refl; clock_same = refl; moved_same = refl; faulted_same = refl; closing_same = refl; idle_same = refl; sloppy_same = refl })

@@ -1,0 +1,277 @@
+#!/usr/bin/env python3
+"""Measures relays between sockets of the loopback, two programs in turn, and prints medians of the rounds.
+
+sockets.py PROGRAM [SOCAT]    a line a measure: NAME ours socat ratio
+"""
+import os
+import re
+import select
+import signal
+import socket
+import subprocess
+import sys
+import tempfile
+import threading
+import time
+
+ROUNDS = int(os.environ.get("ROUNDS", 5))
+BYTES = int(os.environ.get("MIB", 256)) << 20
+TRIPS = int(os.environ.get("TRIPS", 3000))
+PACE = int(os.environ.get("PACE", 20000))
+DATAGRAMS = int(os.environ.get("DATAGRAMS", 20000))
+TRACED = 32 << 20
+BLOCK = 8192
+LIMIT = 120
+HERE = "127.0.0.1"
+zeros = memoryview(bytes(1 << 20))
+
+
+def free_port(how=socket.SOCK_STREAM):
+    with socket.socket(socket.AF_INET, how) as sock:
+        sock.bind((HERE, 0))
+        return sock.getsockname()[1]
+
+
+def reach(family, place):
+    """Connects to a relay that is about to listen."""
+    end = time.monotonic() + 10
+    while True:
+        sock = socket.socket(family)
+        try:
+            sock.connect(place)
+            sock.settimeout(LIMIT)
+            return sock
+        except (ConnectionRefusedError, FileNotFoundError):
+            sock.close()
+            if time.monotonic() > end:
+                sys.exit(f"nobody listens at {place}")
+            time.sleep(0.005)
+
+
+def start(command):
+    relay = subprocess.Popen(command, stdin=subprocess.DEVNULL, stdout=subprocess.DEVNULL)
+    signal.alarm(LIMIT)
+    return relay
+
+
+def processor_time(relay):
+    """Waits for its end, and says the seconds that it took of a processor."""
+    _, status, usage = os.wait4(relay.pid, 0)
+    relay.returncode = status
+    if status != 0:
+        sys.exit(f"{relay.args}: it ended with {status}")
+    return usage.ru_utime + usage.ru_stime
+
+
+class Ends:
+    """A relay with a connection at each end."""
+
+    def __init__(self, program, kind, before=()):
+        self.folder = tempfile.TemporaryDirectory()
+        if kind == "tcp":
+            family, far, near = socket.AF_INET, (HERE, 0), (HERE, free_port())
+        else:
+            family, far, near = socket.AF_UNIX, f"{self.folder.name}/far", f"{self.folder.name}/near"
+        server = socket.socket(family)
+        server.bind(far)
+        server.listen(1)
+        server.settimeout(LIMIT)
+        if kind == "tcp":
+            words = [f"TCP4-LISTEN:{near[1]}", f"TCP4:{HERE}:{server.getsockname()[1]}"]
+        else:
+            words = [f"UNIX-LISTEN:{near}", f"UNIX-CONNECT:{far}"]
+        self.relay = start([*before, program, "-t10", *words])
+        self.near = reach(family, near)
+        self.far = server.accept()[0]
+        self.far.settimeout(LIMIT)
+        server.close()
+
+    def end(self):
+        self.near.close()
+        self.far.close()
+        seconds = processor_time(self.relay)
+        self.folder.cleanup()
+        return seconds
+
+
+def give(sock, count):
+    while count > 0:
+        sock.sendall(zeros[:count])
+        count -= len(zeros)
+    sock.shutdown(socket.SHUT_WR)
+
+
+def take(sock, count):
+    into = bytearray(1 << 20)
+    while count > 0:
+        got = sock.recv_into(into)
+        if got == 0:
+            sys.exit(f"{count} bytes are missing")
+        count -= got
+
+
+def at_once(*works):
+    threads = [threading.Thread(target=work, args=words) for work, *words in works]
+    before = time.perf_counter()
+    for thread in threads:
+        thread.start()
+    for thread in threads:
+        thread.join()
+    return time.perf_counter() - before
+
+
+def flow(program, kind, ways, before=(), count=None):
+    """Megabytes a second, and seconds of a processor for a GiB, by the ways: right, left or both."""
+    count = count or BYTES
+    ends = Ends(program, kind, before)
+    right = [(give, ends.near, count), (take, ends.far, count)]
+    left = [(give, ends.far, count), (take, ends.near, count)]
+    works = {"right": right, "left": left, "both": right + left}[ways]
+    seconds = at_once(*works)
+    passed = count * len(works) // 2
+    spent = ends.end()
+    return passed / seconds / 1e6, spent * (1 << 30) / passed
+
+
+def echo(sock):
+    while data := sock.recv(4096):
+        sock.sendall(data)
+
+
+def trips(program, kind):
+    """The median of 64 bytes there and back, in microseconds."""
+    ends = Ends(program, kind)
+    child = os.fork()
+    if child == 0:
+        ends.near.close()
+        echo(ends.far)
+        os._exit(0)
+    ends.far.close()
+    times = []
+    for _ in range(TRIPS):
+        before = time.perf_counter_ns()
+        ends.near.sendall(bytes(64))
+        left = 64
+        while left > 0:
+            left -= len(ends.near.recv(left))
+        times.append(time.perf_counter_ns() - before)
+    ends.end()
+    os.waitpid(child, 0)
+    return (sorted(times)[len(times) // 2] / 1000,)
+
+
+def send_paced(sock, begun):
+    """Sends the datagrams at the pace, and catches up where it was late."""
+    sent = 0
+    while sent < DATAGRAMS:
+        due = min(DATAGRAMS, int((time.perf_counter() - begun) * PACE))
+        while sent < due:
+            sock.send(zeros[:1024])
+            sent += 1
+        time.sleep(0.0005)
+
+
+def lost(program, _kind):
+    """How many datagrams of 1024 bytes are lost at the pace, of all that were sent."""
+    sink = socket.socket(socket.AF_INET, socket.SOCK_DGRAM)
+    sink.setsockopt(socket.SOL_SOCKET, socket.SO_RCVBUF, 4 << 20)
+    sink.bind((HERE, 0))
+    port = free_port(socket.SOCK_DGRAM)
+    relay = start([program, "-u", f"UDP4-LISTEN:{port}", f"UDP4:{HERE}:{sink.getsockname()[1]}"])
+    source = socket.socket(socket.AF_INET, socket.SOCK_DGRAM)
+    source.connect((HERE, port))
+    knock(source, sink)
+    sender = threading.Thread(target=send_paced, args=(source, time.perf_counter()))
+    sender.start()
+    count = 0
+    while select.select([sink], [], [], 1)[0]:
+        sink.recv(2048)
+        count += 1
+    sender.join()
+    relay.terminate()
+    relay.wait()
+    return (DATAGRAMS - count,)
+
+
+def knock(source, sink):
+    """Sends until the first datagram comes through, and lets the others come."""
+    end = time.monotonic() + 10
+    while time.monotonic() < end:
+        try:
+            source.send(b"x")
+        except ConnectionRefusedError:
+            pass
+        if select.select([sink], [], [], 0.05)[0]:
+            while select.select([sink], [], [], 0.2)[0]:
+                sink.recv(2048)
+            return
+    sys.exit("no datagram comes through")
+
+
+def calls(program, kind):
+    """System calls for a block of 8192 bytes to the right."""
+    with tempfile.NamedTemporaryFile() as table:
+        flow(program, kind, "right", ["strace", "-c", "-f", "-o", table.name], TRACED)
+        rows = open(table.name).read()
+    total = re.search(r"^100\.00\s+\S+\s+\S+\s+(\d+)", rows, re.M)
+    return (int(total.group(1)) * BLOCK / TRACED,)
+
+
+def flows(title, kind, ways):
+    return [f"{title}, MB/s", f"{title}, processor s/GiB"], lambda program: flow(program, kind, ways)
+
+
+MEASURES = [
+    flows("TCP to the right", "tcp", "right"),
+    flows("TCP to the left", "tcp", "left"),
+    flows("TCP both ways", "tcp", "both"),
+    flows("Unix to the right", "unix", "right"),
+    flows("Unix both ways", "unix", "both"),
+    (["TCP 64 bytes there and back, us"], lambda program: trips(program, "tcp")),
+    (["Unix 64 bytes there and back, us"], lambda program: trips(program, "unix")),
+    ([f"UDP lost of {DATAGRAMS} at {PACE}/s"], lambda program: lost(program, "udp")),
+]
+TRACES = [
+    (["TCP system calls a block"], lambda program: calls(program, "tcp")),
+    (["Unix system calls a block"], lambda program: calls(program, "unix")),
+]
+
+
+def median(values):
+    return sorted(values)[(len(values) - 1) // 2]
+
+
+def row(name, ours, theirs):
+    ratio = f"{ours / theirs:.2f}" if theirs else "-"
+    print(f"{name:36} {ours:10.2f} {'-' if theirs is None else f'{theirs:.2f}':>10} {ratio:>8}", flush=True)
+
+
+def compare(names, measure, programs, rounds):
+    seen = [[] for _ in programs]
+    for _ in range(rounds):
+        for values, program in zip(seen, programs):
+            values.append(measure(program))
+    for at, name in enumerate(names):
+        medians = [median([values[at] for values in one]) for one in seen]
+        row(name, medians[0], medians[1] if len(medians) > 1 else None)
+
+
+def can_trace():
+    try:
+        return subprocess.run(["strace", "-c", "-o", os.devnull, "true"], stderr=subprocess.DEVNULL).returncode == 0
+    except FileNotFoundError:
+        return False
+
+
+def main(*programs):
+    print(f"{'median of ' + str(ROUNDS) + ' rounds':36} {'ours':>10} {'socat':>10} {'ratio':>8}", flush=True)
+    for names, measure in MEASURES:
+        compare(names, measure, programs, ROUNDS)
+    if not can_trace():
+        return print("system calls are skipped: strace can't be used")
+    for names, measure in TRACES:
+        compare(names, measure, programs, 1)
+
+
+if __name__ == "__main__":
+    main(*sys.argv[1:])

@@ -1,0 +1,88 @@
+// Children that hadn't ended when their ports were let go.
+use relay_model::{ChildEnd, NoMemory};
+use std::alloc::Global;
+use std::cell::Cell;
+use std::process::{Child, OpenProcess};
+use std::rc::Rc;
+
+/// Asks for the ends of the children whose ports are gone, so that none stays a zombie (wait(2)) while others are
+/// started. One that outlives the program is left alone.
+#[derive(Drop)]
+pub struct Nursery<P: OpenProcess + Drop> {
+    alloc: Global,
+    left: Rc<Cell<Vec<Child<P>>>, Global>,
+}
+
+impl<P: OpenProcess + Drop> Nursery<P> {
+    /// Without children.
+    pub fn new(alloc: Global) -> Result<Nursery<P>, NoMemory> {
+        Ok(Nursery {
+            alloc,
+            left: Rc::new(alloc, Cell::new(Vec::new(alloc)))?,
+        })
+    }
+
+    /// The ward of a child, which comes here where it hasn't ended when its ward is let go.
+    pub fn ward(&self, child: Child<P>) -> Result<Ward<P>, NoMemory> {
+        Ok(Ward {
+            alloc: self.alloc,
+            child: Some(child),
+            left: self.left.clone()?,
+        })
+    }
+
+    /// Asks each child once, and forgets those that have ended.
+    pub fn ask_all(&self) {
+        let mut children = self.left.replace(Vec::new(self.alloc));
+        children.retain_mut(|child| is_running(child));
+        self.left.set(children);
+    }
+}
+
+/// How the child stands. One that can't be asked counts as running.
+fn end_of<P: OpenProcess>(child: &mut Child<P>) -> ChildEnd {
+    match child.try_wait() {
+        Ok(Some(status)) => match status.code() {
+            Some(code) => ChildEnd::Ended(code),
+            None => ChildEnd::Killed,
+        },
+        Ok(None) | Err(_) => ChildEnd::Running,
+    }
+}
+
+fn is_running<P: OpenProcess>(child: &mut Child<P>) -> bool {
+    end_of(child) == ChildEnd::Running
+}
+
+/// A child and where it goes if it outlives its port.
+pub struct Ward<P: OpenProcess + Drop> {
+    alloc: Global,
+    child: Option<Child<P>>,
+    left: Rc<Cell<Vec<Child<P>>>, Global>,
+}
+
+impl<P: OpenProcess + Drop> Ward<P> {
+    /// Asks once, without waiting, how the child stands. One that was seen to have ended isn't asked again.
+    pub fn ask(&mut self) -> ChildEnd {
+        let Some(child) = &mut self.child else {
+            return ChildEnd::Running;
+        };
+        end_of(child)
+    }
+}
+
+impl<P: OpenProcess + Drop> Drop for Ward<P> {
+    /// A child that hasn't ended goes to the nursery. Where there is no memory for it, it is left alone.
+    fn drop(self) {
+        let Ward { alloc, child, left } = self;
+        let Some(mut child) = child else {
+            return;
+        };
+        if !is_running(&mut child) {
+            return;
+        }
+        let mut children = left.replace(Vec::new(alloc));
+        let _ = children.push(child);
+        left.set(children);
+    }
+}

@@ -1,0 +1,4 @@
+pub mod PlaceLemmas
+pub mod PortLemmas
+pub mod SoundLemmas
+pub mod StationLemmas

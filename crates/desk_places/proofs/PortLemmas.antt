@@ -1,0 +1,181 @@
+-- What calls on the ports of places say, by the place.
+use Rattle.std.proofs.Common.{◌<◌, ◌≤◌, arith, find, length, nat_lt, position, slice_get, slice_index_or, zero, suc, [], ◌≡◌, ◌≢◌, ℕ, Bool, true, false, ◌&&◌, List, ◌∷◌, Option, None, Some, IfSome, is_some, option_map, inr, ◌⊎◌, refl, sym, ap, subst, ◌∙◌, if◌then◌else◌}
+use Rattle.std.specs.List.{position_or_len}
+use Rattle.std.proofs.lemmas.Bool.Decides.{nat_tests}
+use Rattle.std.proofs.lemmas.Grind.{common_steps}
+use Rattle.std.proofs.lemmas.List.Folds.{find_at}
+use Rattle.std.proofs.lemmas.Option.{slice_get-get_or}
+use Rattle.slab.specs.Slab.{Slab, Updates, get}
+use Rattle.relay_model.specs.declared.places.Place.{Place}
+use Rattle.relay_model.specs.declared.acts.Shut.{Shut}
+use Rattle.relay_model.specs.declared.acts.Peer.{Peer}
+use Rattle.relay_model.specs.Places.{same_place}
+use Rattle.relay_model.specs.Holding.{Hold, Free, Settling, Open, ShutDown, is_free, is_open}
+use Rattle.port_trait.specs.Meanings.{join_answer}
+use Rattle.port_trait.specs.declared.answers.Shutting.{Shutting}
+use Rattle.port_trait.specs.declared.answers.Shutting.TheVariants as shuttings
+use Rattle.port_trait.specs.declared.answers.Settled.TheVariants as settles
+use Rattle.port_trait.specs.declared.answers.Joining.{Joining}
+use Rattle.world_trait.specs.Answers.{shut_act}
+use Rattle.world_trait.specs.HoldTables.{SetsHold}
+use Rattle.world_trait.specs.declared.answers.OpenAnswer.TheVariants as opens
+use Rattle.world_trait.specs.declared.answers.AcceptAnswer.{AcceptAnswer}
+use Rattle.world_trait.specs.declared.answers.AcceptAnswer.TheVariants as accepts
+use Rattle.desk_ports.specs.Bases.{key_of}
+use Rattle.desk_ports.specs.Harbors.{AtMade, MadeCall, giving_pier}
+use Rattle.desk_ports.specs.Ports.{PortSeen, BerthSeen, Settles}
+use Rattle.desk_ports.specs.declared.bases.Base.{Base}
+use Rattle.desk_ports.specs.declared.bases.Base.TheVariants as bases
+use Rattle.desk_places.specs.declared.stations.Station.{Station}
+use Rattle.desk_places.specs.Causes.{AcceptCause, WelcomeCause}
+use Rattle.desk_places.specs.Changes.{HeldAfter, KeptFor, LeavesParent, LeftSo, ReapsKept, SettlesMade, joined_answer, made_at, shut_answer}
+use Rattle.desk_places.specs.Stations.{SetsStation, station_at, base_at}
+use Rattle.desk_places.proofs.PlaceLemmas.{same_place-eq}
+
+-- a fact of the base that a place stands on
+pub at_base : (xs : List Station) (p : Place) (s : Station) (Fact : Base → Type 0) → station_at xs p ≡ Some s → Fact s.base → IfSome (base_at xs p) Fact
+at_base xs p s Fact e fact =
+    let At : Option Station → Type 0 = λ slot. IfSome (option_map (λ t. t.base) slot) Fact in
+    subst At (sym e) fact
+
+-- a fact of its station
+pub at_station : (xs : List Station) (p : Place) (s : Station) (Fact : Station → Type 0) → station_at xs p ≡ Some s → Fact s → IfSome (station_at xs p) Fact
+at_station xs p s Fact e fact = subst (λ slot. IfSome slot Fact) (sym e) fact
+
+-- two keys of one base
+one_key : (xs : List Station) (p : Place) (key other : ℕ) → base_at xs p ≡ Some (bases.Made key) → base_at xs p ≡ Some (bases.Made other) → other ≡ key
+one_key xs p key other e f = let g : Some (bases.Made key) ≡ Some (bases.Made other) = sym e ∙ f in cc
+
+-- the made port of a place that is let go is gone, and no other
+pub let_go_gone : (xs : List Station) (p : Place) (made made' : Slab BerthSeen) (key : ℕ) → base_at xs p ≡ Some (bases.Made key) → Updates made made' key None → (other : ℕ) → base_at xs p ≡ Some (bases.Made other) → get made' other ≡ None
+let_go_gone xs p made made' key based updates other e = ap (get made') (one_key xs p key other based e) ∙ updates.changed
+
+pub let_go_others : (xs : List Station) (p : Place) (made made' : Slab BerthSeen) (key : ℕ) → base_at xs p ≡ Some (bases.Made key) → Updates made made' key None → (other : ℕ) → (base_at xs p ≡ Some (bases.Made other) → ⊥) → get made' other ≡ get made other
+let_go_others xs p made made' key based updates other away =
+    updates.others other (λ same. away (based ∙ ap (λ k. Some (bases.Made k)) (sym same)))
+
+-- a base with a key is a made port, and one without isn't
+pub key_made : (base : Base) (key : ℕ) → key_of base ≡ Some key → base ≡ bases.Made key
+key_made (bases.Made other) key e = cc
+key_made bases.Input key e = absurd cc
+key_made bases.Output key e = absurd cc
+key_made bases.Both key e = absurd cc
+key_made bases.Errors key e = absurd cc
+
+pub not_made : (xs : List Station) (p : Place) (base : Base) → key_of base ≡ None → base_at xs p ≡ Some base → (key : ℕ) → base_at xs p ≡ Some (bases.Made key) → ⊥
+not_made xs p base none e key f =
+    let g : Some base ≡ Some (bases.Made key) = sym e ∙ f in
+    let is : base ≡ bases.Made key = cc in
+    let h : Some key ≡ None = ap key_of (sym is) ∙ none in
+    absurd cc
+
+pub none_made : (made : Slab BerthSeen) (base : Base) → key_of base ≡ None → made_at made base ≡ None
+none_made made (bases.Made key) e = absurd cc
+none_made made bases.Input e = refl
+none_made made bases.Output e = refl
+none_made made bases.Both e = refl
+none_made made bases.Errors e = refl
+
+based_slot : (slot : Option Station) (base : Base) → option_map (λ s. s.base) slot ≡ Some base → is_some slot ≡ true
+based_slot None base e = absurd cc
+based_slot (Some s) base e = refl
+
+pub based_some : (xs : List Station) (p : Place) (base : Base) → base_at xs p ≡ Some base → is_some (station_at xs p) ≡ true
+based_some xs p base e = based_slot (station_at xs p) base e
+
+-- a place that was shut is shut, whether that failed or not
+pub shut_holds : (answer : Shutting) (place : Place) (how : Shut) (before after : Place → Hold) → SetsHold place ShutDown before after → HeldAfter (shut_act place how (shut_answer answer)) before after
+shut_holds shuttings.Done place how before after sets = sets
+shut_holds shuttings.Failed place how before after sets = sets
+
+pub open_held : (hold : Hold) → is_open hold ≡ true → is_free hold ≡ false
+open_held Free e = absurd cc
+open_held Settling e = absurd cc
+open_held Open e = refl
+open_held ShutDown e = refl
+
+-- an accepting whose peer has come
+pub welcomed : (answer : AcceptAnswer) (peer : Peer) (faults faults' stalls stalls' : ℕ) (came : Option Peer) → came ≡ Some peer → WelcomeCause peer answer → AcceptCause faults faults' stalls stalls' came answer
+welcomed (accepts.Accepted other) peer faults faults' stalls stalls' came is same = is ∙ ap Some (sym same)
+welcomed accepts.NoPeer peer faults faults' stalls stalls' came is never = absurd never
+welcomed accepts.Failed peer faults faults' stalls stalls' came is dropped = inr dropped
+welcomed accepts.Memory peer faults faults' stalls stalls' came is nothing = tt
+
+-- a port that is let go was joined where that was to be, and is kept where it has a child
+kept_if : (b : Bool) (joined : Bool) (old new : BerthSeen) (before after : List BerthSeen) → new.place ≡ old.place → LeftSo joined old.port new.port → after ≡ (if b then new ∷ before else before) → KeptFor b joined old before after
+kept_if true joined old new before after place left e =
+    (new.port, left, e ∙ ap (λ p. record { place = p; port = new.port } ∷ before) place)
+kept_if false joined old new before after place left e = e
+
+left_child : (joined : Bool) (before now : PortSeen) → LeftSo joined before now → now.child ≡ before.child
+left_child true before now left = left.child
+left_child false before now left = ap (λ (p : PortSeen). p.child) left
+
+pub leaves_parent : (joined : Bool) (slot : Option BerthSeen) (old new : BerthSeen) (before after : List BerthSeen) → slot ≡ Some old → new.place ≡ old.place → LeftSo joined old.port new.port → after ≡ (if new.port.child then new ∷ before else before) → LeavesParent joined slot before after
+leaves_parent joined slot old new before after is place left e =
+    let f : after ≡ (if old.port.child then new ∷ before else before) = e ∙ ap (λ b. if b then new ∷ before else before) (left_child joined old.port new.port left) in
+    subst (λ x. LeavesParent joined x before after) (sym is) (kept_if old.port.child joined old new before after place left f)
+
+-- a settling that failed, on a made port that is gone since
+failed_slot : (old mid : Option BerthSeen) → IfSome old (λ o. IfSome mid (λ n. (n.place ≡ o.place) × Settles o.port n.port settles.Failed)) → is_some mid ≡ is_some old → IfSome old (λ o. (last : PortSeen) × Settles o.port last settles.Failed)
+failed_slot None mid call stands = tt
+failed_slot (Some o) None call stands = absurd cc
+failed_slot (Some o) (Some n) call stands = (n.port, call.1)
+
+pub settle_failed : (made mid made' : Slab BerthSeen) (key : ℕ) → MadeCall made mid key (λ old new. Settles old new settles.Failed) → get made' key ≡ None → ((other : ℕ) → other ≢ key → get made' other ≡ get mid other) → IfSome (get made key) (λ old. (last : PortSeen) × Settles old.port last settles.Failed) × (get made' key ≡ None) × ((other : ℕ) → other ≢ key → get made' other ≡ get made other)
+settle_failed made mid made' key call gone others =
+    (failed_slot (get made key) (get mid key) call.call call.stands, gone, λ other away. others other away ∙ call.others other away)
+
+-- a settling that failed left the place: its made port is gone, and else nothing of the made ports changed
+pub settle_left : (base : Base) (made mid made' : Slab BerthSeen) → AtMade (giving_pier base) (λ key. MadeCall made mid key (λ old new. Settles old new settles.Failed)) (mid ≡ made) → (key_of base ≡ None → made' ≡ mid) → ((key : ℕ) → base ≡ bases.Made key → get made' key ≡ None) → ((key : ℕ) → base ≡ bases.Made key → (other : ℕ) → other ≢ key → get made' other ≡ get mid other) → AtMade (giving_pier base) (λ key. SettlesMade made made' key opens.Failed) (made' ≡ made)
+settle_left (bases.Made key) made mid made' call same gone others = settle_failed made mid made' key call (gone key refl) (others key refl)
+settle_left bases.Input made mid made' call same gone others = same refl ∙ call
+settle_left bases.Output made mid made' call same gone others = same refl ∙ call
+settle_left bases.Both made mid made' call same gone others = same refl ∙ call
+settle_left bases.Errors made mid made' call same gone others = same refl ∙ call
+
+-- a place on a made port doesn't stand on another one
+pub on_another : (xs : List Station) (p : Place) (base : Base) (key other : ℕ) → base_at xs p ≡ Some base → base ≡ bases.Made key → other ≢ key → base_at xs p ≡ Some (bases.Made other) → ⊥
+on_another xs p base key other e is away f = away (one_key xs p key other (e ∙ ap Some is) f)
+
+failed_if : (b : Bool) (hold now : Hold) → now ≡ hold → (b ≡ true → hold ≡ Free) → now ≡ (if b then Free else hold)
+failed_if true hold now e free = e ∙ free refl
+failed_if false hold now e free = e
+
+-- a free place that isn't held after all
+pub stays_free : (before after : Place → Hold) (place : Place) → before place ≡ Free → ((p : Place) → after p ≡ before p) → (p : Place) → after p ≡ (if same_place place p then Free else before p)
+stays_free before after place free same p = failed_if (same_place place p) (before p) (after p) (same p) (λ e. ap before (sym (same_place-eq place p e)) ∙ free)
+
+-- a station that is changed in its place
+pub set_as : (xs ys : List Station) (place : Place) (s s' : Station) (f : Station → Station) → station_at xs place ≡ Some s → s' ≡ f s → s'.place ≡ place → SetsStation s'.place (Some s') (station_at xs) (station_at ys) → SetsStation place (option_map f (station_at xs place)) (station_at xs) (station_at ys)
+set_as xs ys place s s' f at is here sets =
+    let Sets : Place → Option Station → Type 0 = λ q slot. SetsStation q slot (station_at xs) (station_at ys) in
+    let slot : Some s' ≡ option_map f (station_at xs place) = ap Some is ∙ ap (option_map f) (sym at) in
+    subst (λ q. Sets q (option_map f (station_at xs place))) here (subst (Sets s'.place) slot sets)
+
+past_all : {X : Type 0} (xs : List X) (i : ℕ) → length xs ≤ i → slice_get xs i ≡ None
+past_all [] i le = refl
+past_all (x ∷ xs) zero le = absurd (omega (arith, le))
+past_all (x ∷ xs) (suc i) le = past_all xs i (omega (arith, le))
+
+nowhere : (b : Bool) (n : ℕ) → (if b then Some n else None) ≡ None → b ≡ false
+nowhere true n e = absurd cc
+nowhere false n e = refl
+
+somewhere : (b : Bool) (n i : ℕ) → (if b then Some n else None) ≡ Some i → n ≡ i
+somewhere true n i e = cc
+somewhere false n i e = absurd cc
+
+over : (a b : ℕ) → nat_lt a b ≡ false → b ≤ a
+over a b e = grind (arith, nat_tests)
+
+-- what is at no index isn't found
+pub found_nowhere : {X : Type 0} (p : X → Bool) (xs : List X) (found : Option ℕ) → found ≡ position p xs → found ≡ None → find p xs ≡ None
+found_nowhere p xs found is none =
+    find_at p xs ∙ past_all xs (position_or_len p xs) (over (position_or_len p xs) (length xs) (nowhere (nat_lt (position_or_len p xs) (length xs)) (position_or_len p xs) (sym is ∙ none)))
+
+-- what is at an index is found there
+pub found_at : {X : Type 0} (p : X → Bool) (xs : List X) (found : Option ℕ) (i : ℕ) (x : X) → found ≡ position p xs → found ≡ Some i → i < length xs → x ≡ slice_index_or xs i x → find p xs ≡ Some x
+found_at p xs found i x is at lt value =
+    let here : position_or_len p xs ≡ i = somewhere (nat_lt (position_or_len p xs) (length xs)) (position_or_len p xs) i (sym is ∙ at) in
+    find_at p xs ∙ (ap (slice_get xs) here ∙ (slice_get-get_or xs i x lt ∙ ap Some (sym value)))

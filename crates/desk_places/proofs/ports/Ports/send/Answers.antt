@@ -1,0 +1,35 @@
+use Rattle.std.proofs.Common.{Bool, option_map, subst, ap}
+use Rattle.relay_model.specs.declared.places.Half.TheVariants.{ToWrite}
+use Rattle.relay_model.specs.Holding.{is_free}
+use Rattle.desk_ports.specs.Harbors.{taking_pier}
+use Rattle.desk_places.specs.Stations.{SetsStation, station_at, with_half}
+use Rattle.desk_ports.specs.Ports.{Sends}
+use Rattle.desk_places.proofs.PortLemmas.{at_base}
+use Rattle.desk_places.proofs.SoundLemmas.{pier_stays, sound_on}
+use Rattle.desk_places.proofs.ports.Ports.send.Goals as goal
+
+pub held-station-requires : goal.held-station-requires
+held-station-requires g c = ap is_free c.requires.open
+
+pub returns-clause-input : goal.returns-clause-input
+returns-clause-input g c = at_base c.args.stations.now.entries c.args.place c.held-station.result _ c.held-station.ensures c.send-took.ensures.input
+
+pub returns-clause-output : goal.returns-clause-output
+returns-clause-output g c = at_base c.args.stations.now.entries c.args.place c.held-station.result _ c.held-station.ensures c.send-took.ensures.output
+
+pub returns-clause-errors : goal.returns-clause-errors
+returns-clause-errors g c = at_base c.args.stations.now.entries c.args.place c.held-station.result _ c.held-station.ensures c.send-took.ensures.errors
+
+pub returns-clause-made : goal.returns-clause-made
+returns-clause-made g c = at_base c.args.stations.now.entries c.args.place c.held-station.result _ c.held-station.ensures c.send-took.ensures.made
+
+pub returns-clause-marks : goal.returns-clause-marks
+returns-clause-marks g c =
+    let Set : Bool → Type 0 = λ b. SetsStation c.args.place (option_map (with_half ToWrite b) (station_at c.args.stations.now.entries c.args.place)) (station_at c.args.stations.now.entries) (station_at c.mark.new.self.entries) in
+    subst Set c.took_not_yet.ensures c.mark.ensures.set
+
+pub returns-clause-sound : goal.returns-clause-sound
+returns-clause-sound g c = λ sound.
+    sound_on c.args.stations.now.entries c.mark.new.self.entries c.args.self.now.harbor.made c.send-took.new.self.made c.mark.ensures.footing
+    (pier_stays (taking_pier c.held-station.result.base) c.args.self.now.harbor.made c.send-took.new.self.made _ (λ o n call. call.hinting) c.send-took.ensures.made)
+    sound

@@ -1,0 +1,54 @@
+use Rattle.desk_places.proofs.PortLemmas.{at_base, on_another, settle_left}
+use Rattle.std.proofs.Common.{Some, ◌∙◌}
+use Rattle.std.proofs.Common.{ap, arith, refl}
+use Rattle.relay_model.specs.Holding.{is_free}
+use Rattle.desk_ports.specs.Harbors.{giving_pier}
+use Rattle.desk_places.proofs.SoundLemmas.{pier_stays, sound_on}
+use Rattle.desk_places.proofs.StationLemmas.{found_base, found_footing}
+use Rattle.desk_places.proofs.ports.Ports.settle.Goals as goal
+
+pub held-station-requires : goal.held-station-requires
+held-station-requires g c = ap is_free c.requires.settling
+
+pub replace-requires : goal.replace-requires
+replace-requires g c = rw c.open.ensures (found_footing c.args.stations.now.entries c.args.place c.held-station.result c.held-station.ensures)
+
+pub replace-requires-in-NotYet : goal.replace-requires-in-NotYet
+replace-requires-in-NotYet g c = rw c.settling.ensures (found_footing c.args.stations.now.entries c.args.place c.held-station.result c.held-station.ensures)
+
+pub leave-requires-clause-based : goal.leave-requires-clause-based
+leave-requires-clause-based g c = found_base c.args.stations.now.entries c.args.place c.held-station.result c.held-station.ensures
+
+pub returns-in-Ready-clause-sound : goal.returns-in-Ready-clause-sound
+returns-in-Ready-clause-sound g c = λ sound.
+    sound_on c.args.stations.now.entries c.replace.new.self.entries c.args.self.now.harbor.made c.settle.new.self.made c.replace.ensures.footing
+    (pier_stays (giving_pier c.held-station.result.base) c.args.self.now.harbor.made c.settle.new.self.made _ (λ o n call. call.hinting) c.settle.ensures.made)
+    sound
+
+pub returns-in-Ready-clause-held : goal.returns-in-Ready-clause-held
+returns-in-Ready-clause-held g c = rw c.open.ensures at c.replace.ensures.held
+
+pub returns-in-NotYet-clause-sound : goal.returns-in-NotYet-clause-sound
+returns-in-NotYet-clause-sound g c = λ sound.
+    sound_on c.args.stations.now.entries c.replace-in-NotYet.new.self.entries c.args.self.now.harbor.made c.settle.new.self.made c.replace-in-NotYet.ensures.footing
+    (pier_stays (giving_pier c.held-station.result.base) c.args.self.now.harbor.made c.settle.new.self.made _ (λ o n call. call.hinting) c.settle.ensures.made)
+    sound
+
+pub returns-in-NotYet-clause-held : goal.returns-in-NotYet-clause-held
+returns-in-NotYet-clause-held g c = rw c.settling.ensures at c.replace-in-NotYet.ensures.held
+
+pub returns-in-Failed-clause-sound : goal.returns-in-Failed-clause-sound
+returns-in-Failed-clause-sound g c = λ sound.
+    c.leave.ensures.sound
+    (sound_on c.args.stations.now.entries c.args.stations.now.entries c.args.self.now.harbor.made c.settle.new.self.made (λ p. refl) (pier_stays (giving_pier c.held-station.result.base) c.args.self.now.harbor.made c.settle.new.self.made _ (λ o n call. call.hinting) c.settle.ensures.made) sound)
+
+pub returns-in-Failed-clause-held : goal.returns-in-Failed-clause-held
+returns-in-Failed-clause-held g c = c.leave.ensures.held
+
+pub returns-in-Failed-clause-made : goal.returns-in-Failed-clause-made
+returns-in-Failed-clause-made g c =
+    let based = found_base c.args.stations.now.entries c.args.place c.held-station.result c.held-station.ensures in
+    at_base c.args.stations.now.entries c.args.place c.held-station.result _ c.held-station.ensures
+    (settle_left c.held-station.result.base c.args.self.now.harbor.made c.settle.new.self.made c.leave.new.self.harbor.made c.in-Failed.ensures.made c.leave.ensures.standard
+    (λ key is. c.leave.ensures.gone key (based ∙ ap Some is))
+    (λ key is other away. c.leave.ensures.others other (on_another c.args.stations.now.entries c.args.place c.held-station.result.base key other based is away)))

@@ -1,0 +1,8 @@
+// The held places of a desk, and what they stand on. Each call on a place is one call on its port.
+#![tactic(auto)]
+
+mod ports;
+mod stations;
+
+pub use ports::Ports;
+pub use stations::{Station, Stations};

@@ -1,0 +1,623 @@
+// The ports that held places stand on, and those that closed places left. Each call on a place is one call on its port.
+ghost use Rattle.std.specs.Prelude.{◌≡◌, ℕ, None, ◌<◌, ◌≤◌, ◌+◌, ◌&&◌, ◌∷◌, [], Some, if◌then◌else◌, true, false, length, vec_len, vec_capacity, option_map, find, position, ◌⊎◌, IfSome, IfNone, OnOk, MatchOption};
+ghost use Rattle.std.specs.List.{remove};
+ghost use Rattle.slab.specs.Slab.{HasRoomFor, SameValues, Updates, get};
+ghost use Rattle.desk_ports.specs.declared.bases.Base.TheVariants as bases;
+ghost use Rattle.relay_model.specs.Holding.{Free, Open, Settling, is_free, is_open};
+ghost use Rattle.relay_model.specs.Places.{same_place};
+ghost use Rattle.relay_model.specs.declared.places.Place.{Place};
+ghost use Rattle.world_trait.specs.Answers.{accept_act, close_act, listen_act, open_act, shut_act};
+ghost use Rattle.relay_model.specs.declared.places.Half.TheVariants.{ToRead, ToWrite};
+ghost use Rattle.port_trait.specs.Counting.{Rose};
+ghost use Rattle.desk_places.specs.Causes.{AcceptCause, BeginCause, ListenCause, OpenCause, StandardCause, WelcomeCause};
+ghost use Rattle.desk_ports.specs.Ports.{JoinsSo, MovesNothing, Reads, Sends, Settles, Shuts, Writes, seen};
+ghost use Rattle.desk_ports.specs.Harbors.{AtErrors, AtInput, AtMade, AtOutput, MadeCall, giving_pier, taking_pier};
+ghost use Rattle.desk_ports.specs.Answers.{GotFits, SaidSo, TookFits, is_got_not_yet, is_took_not_yet, is_unsaid};
+ghost use Rattle.desk_places.specs.Changes.{HeldAfter, HeldSo, LeavesParent, LeftSo, ReapsKept, SettlesMade, SettlesSo, is_finished, joined_answer, made_at, shut_answer};
+ghost use Rattle.desk_places.specs.Footing.{IsSound};
+ghost use Rattle.desk_ports.specs.Bases.{IsStandard, key_of, standard_of};
+ghost use Rattle.port_trait.specs.Streams.{finishes};
+ghost use Rattle.desk_places.specs.Stations.{SameHold, SetsStation, base_at, hold_at, shut_down, station_at, with_half};
+
+use crate::stations::{Station, Stations};
+use desk_ports::{Base, Berth, Harbor, Standard, Stream, accept_at, is_final, standard_base};
+use port_trait::{
+    Begun, Got, Joining, MadePeer, Maker, Making, Port, PortReap, Settled, Shutting, Took,
+};
+use relay_model::{Half, NoMemory, Peer, Place, Shut, Single, Why};
+use std::alloc::Global;
+use world_trait::{AcceptAnswer, ListenAnswer, OpenAnswer, Standing};
+
+/// All ports, the maker of those that are made, and the ports with a child that closed places left, the last one first.
+#[derive(Drop)]
+pub struct Ports<M: Maker + Drop, I: Port, O: Port, E: Port> {
+    pub harbor: Harbor<M::Made, I, O, E>,
+    pub maker: M,
+    pub parents: Vec<Berth<M::Made>>,
+}
+
+impl<M: Maker + Drop, I: Port, O: Port, E: Port> Ports<M, I, O, E> {
+    /// The standard ports, and no made one; takes no memory.
+    pub fn new(alloc: Global, standard: Standard<I, O, E>, maker: M) -> Ports<M, I, O, E>
+        ensures made { result.harbor.made.slots ≡ [] }
+        ensures input { (result.harbor.input.port ≡ seen I.gave I.took I.hints I.hinting I.counts I.ended I.joins I.child standard.stdin) × (result.harbor.input.begun ≡ false) × (result.harbor.input.finished ≡ false) }
+        ensures output { (result.harbor.output.port ≡ seen O.gave O.took O.hints O.hinting O.counts O.ended O.joins O.child standard.stdout) × (result.harbor.output.begun ≡ false) × (result.harbor.output.finished ≡ false) }
+        ensures errors { (result.harbor.errors.port ≡ seen E.gave E.took E.hints E.hinting E.counts E.ended E.joins E.child standard.stderr) × (result.harbor.errors.begun ≡ false) × (result.harbor.errors.finished ≡ false) }
+        ensures parents { result.parents.items ≡ [] }
+        ensures maker { result.maker ≡ maker }
+    {
+        Ports {
+            harbor: Harbor::new(alloc, standard),
+            maker,
+            parents: Vec::new(alloc),
+        }
+    }
+
+    /// The streams, at the end.
+    pub fn into_streams(self) -> (Stream<I>, Stream<O>, Stream<E>)
+        ensures input { result.0 ≡ self.harbor.input }
+        ensures output { result.1 ≡ self.harbor.output }
+        ensures errors { result.2 ≡ self.harbor.errors }
+    {
+        let Ports {
+            harbor,
+            maker: _,
+            parents: _,
+        } = self;
+        harbor.into_streams()
+    }
+
+    /// Makes room for one further port, and for keeping this many made ports after their places.
+    pub fn reserve(&mut self, kept: usize) -> Result<(), NoMemory>
+        ensures made_room { OnOk result (HasRoomFor self.new.harbor.made 1) }
+        ensures parents_room { OnOk result (kept + vec_len self.new.parents ≤ vec_capacity self.new.parents) }
+        ensures streams { (self.new.harbor.input ≡ self.old.harbor.input) × (self.new.harbor.output ≡ self.old.harbor.output) × (self.new.harbor.errors ≡ self.old.harbor.errors) }
+        ensures made { SameValues self.old.harbor.made self.new.harbor.made }
+        ensures parents { self.new.parents.items ≡ self.old.parents.items }
+        ensures capacity { vec_capacity self.old.parents ≤ vec_capacity self.new.parents }
+        ensures maker { self.new.maker ≡ self.old.maker }
+    {
+        self.harbor.reserve()?;
+        self.parents.reserve(kept)?;
+        Ok(())
+    }
+
+    /// Begins the new port, which goes to its key, and holds the place. A port that doesn't begin is dropped.
+    fn moor(
+        &mut self,
+        stations: &mut Stations,
+        place: Place,
+        port: M::Made,
+        settling: bool,
+    ) -> Begun
+        requires free { hold_at stations.old.entries place ≡ Free }
+        requires stations_room { 0 < stations.old.spare }
+        requires made_room { HasRoomFor self.old.harbor.made 1 }
+        ensures cause { BeginCause result }
+        ensures streams { (self.new.harbor.input ≡ self.old.harbor.input) × (self.new.harbor.output ≡ self.old.harbor.output) × (self.new.harbor.errors ≡ self.old.harbor.errors) }
+        ensures sound { IsSound stations.old.entries self.old.harbor.made → IsSound stations.new.entries self.new.harbor.made }
+        ensures held { HeldSo result settling place (hold_at stations.old.entries) (hold_at stations.new.entries) }
+        ensures one_more { length stations.new.entries ≤ length stations.old.entries + 1 }
+        ensures maker { self.new.maker ≡ self.old.maker }
+        ensures parents { self.new.parents ≡ self.old.parents }
+    {
+        let mut berth = Berth::new(place, port);
+        match berth.begin() {
+            Begun::Begun => {}
+            Begun::Failed => return Begun::Failed,
+            Begun::Memory => return Begun::Memory,
+        }
+        let asked = berth.may_hint();
+        let base = Base::Made(self.harbor.moor(berth));
+        if settling {
+            stations.add(Station::settling(place, base, asked));
+            return Begun::Begun;
+        }
+        stations.add(Station::open(place, base, asked));
+        Begun::Begun
+    }
+
+    /// Opens the place. The room was made before.
+    pub fn open(
+        &mut self,
+        stations: &mut Stations,
+        place: Place,
+        single: &Single,
+        behind: Option<Peer>,
+    ) -> OpenAnswer
+        requires free { hold_at stations.old.entries place ≡ Free }
+        requires stations_room { 0 < stations.old.spare }
+        requires made_room { HasRoomFor self.old.harbor.made 1 }
+        ensures standard { IfSome (standard_of place single.now.target) (λ base. StandardCause (Rose self.old.harbor.input.port.counts.faults self.new.harbor.input.port.counts.faults
+            ⊎ (Rose self.old.harbor.output.port.counts.faults self.new.harbor.output.port.counts.faults
+            ⊎ Rose self.old.harbor.errors.port.counts.faults self.new.harbor.errors.port.counts.faults)) result) }
+        ensures made { IfNone (standard_of place single.now.target) (OpenCause (M.faults self.old.maker) (M.faults self.new.maker) (M.stalls self.old.maker) (M.stalls self.new.maker) result) }
+        ensures came { M.came self.new.maker ≡ M.came self.old.maker }
+        ensures input { MovesNothing self.old.harbor.input.port self.new.harbor.input.port }
+        ensures output { MovesNothing self.old.harbor.output.port self.new.harbor.output.port }
+        ensures errors { MovesNothing self.old.harbor.errors.port self.new.harbor.errors.port }
+        ensures sound { IsSound stations.old.entries self.old.harbor.made → IsSound stations.new.entries self.new.harbor.made }
+        ensures held { HeldAfter (open_act place result) (hold_at stations.old.entries) (hold_at stations.new.entries) }
+        ensures one_more { length stations.new.entries ≤ length stations.old.entries + 1 }
+        ensures parents { self.new.parents ≡ self.old.parents }
+    {
+        match standard_base(place, single) {
+            Some(base) => self.open_standard(stations, place, base),
+            None => self.open_made(stations, place, single, behind),
+        }
+    }
+
+    fn open_standard(&mut self, stations: &mut Stations, place: Place, base: Base) -> OpenAnswer
+        requires standard { IsStandard base }
+        requires free { hold_at stations.old.entries place ≡ Free }
+        requires stations_room { 0 < stations.old.spare }
+        ensures cause { StandardCause (Rose self.old.harbor.input.port.counts.faults self.new.harbor.input.port.counts.faults
+            ⊎ (Rose self.old.harbor.output.port.counts.faults self.new.harbor.output.port.counts.faults
+            ⊎ Rose self.old.harbor.errors.port.counts.faults self.new.harbor.errors.port.counts.faults)) result }
+        ensures maker { self.new.maker ≡ self.old.maker }
+        ensures input { MovesNothing self.old.harbor.input.port self.new.harbor.input.port }
+        ensures output { MovesNothing self.old.harbor.output.port self.new.harbor.output.port }
+        ensures errors { MovesNothing self.old.harbor.errors.port self.new.harbor.errors.port }
+        ensures sound { IsSound stations.old.entries self.old.harbor.made → IsSound stations.new.entries self.new.harbor.made }
+        ensures held { HeldAfter (open_act place result) (hold_at stations.old.entries) (hold_at stations.new.entries) }
+        ensures one_more { length stations.new.entries ≤ length stations.old.entries + 1 }
+        ensures parents { self.new.parents ≡ self.old.parents }
+    {
+        match self.harbor.begin(base) {
+            Begun::Begun => {
+                stations.add(Station::open(place, base, true));
+                OpenAnswer::Opened
+            }
+            Begun::Failed => OpenAnswer::Failed,
+            Begun::Memory => OpenAnswer::Memory,
+        }
+    }
+
+    fn open_made(
+        &mut self,
+        stations: &mut Stations,
+        place: Place,
+        single: &Single,
+        behind: Option<Peer>,
+    ) -> OpenAnswer
+        requires free { hold_at stations.old.entries place ≡ Free }
+        requires stations_room { 0 < stations.old.spare }
+        requires made_room { HasRoomFor self.old.harbor.made 1 }
+        ensures cause { OpenCause (M.faults self.old.maker) (M.faults self.new.maker) (M.stalls self.old.maker) (M.stalls self.new.maker) result }
+        ensures came { M.came self.new.maker ≡ M.came self.old.maker }
+        ensures streams { (self.new.harbor.input ≡ self.old.harbor.input) × (self.new.harbor.output ≡ self.old.harbor.output) × (self.new.harbor.errors ≡ self.old.harbor.errors) }
+        ensures sound { IsSound stations.old.entries self.old.harbor.made → IsSound stations.new.entries self.new.harbor.made }
+        ensures held { HeldAfter (open_act place result) (hold_at stations.old.entries) (hold_at stations.new.entries) }
+        ensures one_more { length stations.new.entries ≤ length stations.old.entries + 1 }
+        ensures parents { self.new.parents ≡ self.old.parents }
+    {
+        let key = self.harbor.next_key();
+        match self.maker.make(key, place, single, behind) {
+            Making::Made(port) => match self.moor(stations, place, port, false) {
+                Begun::Begun => OpenAnswer::Opened,
+                Begun::Failed => OpenAnswer::Failed,
+                Begun::Memory => OpenAnswer::Memory,
+            },
+            Making::Later(port) => match self.moor(stations, place, port, true) {
+                Begun::Begun => OpenAnswer::Later,
+                Begun::Failed => OpenAnswer::Failed,
+                Begun::Memory => OpenAnswer::Memory,
+            },
+            Making::Failed => OpenAnswer::Failed,
+            Making::Memory => OpenAnswer::Memory,
+        }
+    }
+
+    /// Goes on with the opening of the place. A made port whose opening failed is dropped, unless it has a child.
+    pub fn settle(&mut self, stations: &mut Stations, place: Place) -> OpenAnswer
+        requires settling { hold_at stations.old.entries place ≡ Settling }
+        requires parents_room { vec_len self.old.parents < vec_capacity self.old.parents }
+        ensures input { IfSome (base_at stations.old.entries place) (λ base. AtInput (giving_pier base)
+            (SettlesSo self.old.harbor.input.port self.new.harbor.input.port result)
+            (self.new.harbor.input ≡ self.old.harbor.input)) }
+        ensures output { IfSome (base_at stations.old.entries place) (λ base. AtOutput (giving_pier base)
+            (SettlesSo self.old.harbor.output.port self.new.harbor.output.port result)
+            (self.new.harbor.output ≡ self.old.harbor.output)) }
+        ensures errors { IfSome (base_at stations.old.entries place) (λ base. AtErrors (giving_pier base)
+            (SettlesSo self.old.harbor.errors.port self.new.harbor.errors.port result)
+            (self.new.harbor.errors ≡ self.old.harbor.errors)) }
+        ensures made { IfSome (base_at stations.old.entries place) (λ base. AtMade (giving_pier base)
+            (λ key. SettlesMade self.old.harbor.made self.new.harbor.made key result)
+            (self.new.harbor.made ≡ self.old.harbor.made)) }
+        ensures maker { self.new.maker ≡ self.old.maker }
+        ensures sound { IsSound stations.old.entries self.old.harbor.made → IsSound stations.new.entries self.new.harbor.made }
+        ensures held { HeldAfter (open_act place result) (hold_at stations.old.entries) (hold_at stations.new.entries) }
+        ensures no_more { length stations.new.entries ≤ length stations.old.entries }
+        ensures room { length stations.new.entries + vec_len self.new.parents ≤ length stations.old.entries + vec_len self.old.parents }
+        ensures capacity { vec_capacity self.new.parents ≡ vec_capacity self.old.parents }
+    {
+        let station = stations.held(place);
+        match self.harbor.settle(station.base) {
+            Settled::Ready => {
+                stations.replace(Station::open(place, station.base, station.asked));
+                OpenAnswer::Opened
+            }
+            Settled::NotYet => {
+                stations.replace(Station::settling(place, station.base, station.asked));
+                OpenAnswer::Later
+            }
+            Settled::Failed => {
+                self.leave(stations, place, station.base, false);
+                OpenAnswer::Failed
+            }
+        }
+    }
+
+    /// Listens at the door. The room was made before.
+    pub fn listen(&mut self, stations: &mut Stations, door: Place, single: &Single) -> ListenAnswer
+        requires free { hold_at stations.old.entries door ≡ Free }
+        requires stations_room { 0 < stations.old.spare }
+        requires made_room { HasRoomFor self.old.harbor.made 1 }
+        ensures cause { ListenCause (M.faults self.old.maker) (M.faults self.new.maker) result }
+        ensures came { M.came self.new.maker ≡ M.came self.old.maker }
+        ensures streams { (self.new.harbor.input ≡ self.old.harbor.input) × (self.new.harbor.output ≡ self.old.harbor.output) × (self.new.harbor.errors ≡ self.old.harbor.errors) }
+        ensures sound { IsSound stations.old.entries self.old.harbor.made → IsSound stations.new.entries self.new.harbor.made }
+        ensures held { HeldAfter (listen_act door result) (hold_at stations.old.entries) (hold_at stations.new.entries) }
+        ensures one_more { length stations.new.entries ≤ length stations.old.entries + 1 }
+        ensures parents { self.new.parents ≡ self.old.parents }
+    {
+        let key = self.harbor.next_key();
+        match self.maker.listen(key, single) {
+            Making::Made(port) => match self.moor(stations, door, port, false) {
+                Begun::Begun => ListenAnswer::Listening,
+                Begun::Failed => ListenAnswer::Failed,
+                Begun::Memory => ListenAnswer::Memory,
+            },
+            Making::Later(_) => unreachable!(),
+            Making::Failed => ListenAnswer::Failed,
+            Making::Memory => ListenAnswer::Memory,
+        }
+    }
+
+    /// Takes one peer at the door, and opens the place for it. The room was made before. Only a made port is a door:
+    /// on a standard stream there is no peer, and no memory for one either.
+    pub fn accept(&mut self, stations: &mut Stations, door: Place, place: Place) -> AcceptAnswer
+        requires door { hold_at stations.old.entries door ≡ Open }
+        requires free { hold_at stations.old.entries place ≡ Free }
+        requires stations_room { 0 < stations.old.spare }
+        requires made_room { HasRoomFor self.old.harbor.made 1 }
+        ensures cause { AcceptCause (M.faults self.old.maker) (M.faults self.new.maker) (M.stalls self.old.maker) (M.stalls self.new.maker) (M.came self.new.maker) result }
+        ensures streams { (self.new.harbor.input ≡ self.old.harbor.input) × (self.new.harbor.output ≡ self.old.harbor.output) × (self.new.harbor.errors ≡ self.old.harbor.errors) }
+        ensures sound { IsSound stations.old.entries self.old.harbor.made → IsSound stations.new.entries self.new.harbor.made }
+        ensures held { HeldAfter (accept_act door place result) (hold_at stations.old.entries) (hold_at stations.new.entries) }
+        ensures one_more { length stations.new.entries ≤ length stations.old.entries + 1 }
+        ensures parents { self.new.parents ≡ self.old.parents }
+    {
+        let station = stations.held(door);
+        let Some(door_key) = station.base.made_key() else {
+            return AcceptAnswer::Memory;
+        };
+        let key = self.harbor.next_key();
+        match accept_at(&mut self.harbor, &mut self.maker, door_key, key) {
+            MadePeer::Came(port, peer) => self.welcome(stations, door, place, port, peer),
+            MadePeer::NoPeer => {
+                stations.mark(door, Half::ToRead, true);
+                AcceptAnswer::NoPeer
+            }
+            MadePeer::Failed => {
+                stations.mark(door, Half::ToRead, false);
+                AcceptAnswer::Failed
+            }
+            MadePeer::Memory => AcceptAnswer::Memory,
+        }
+    }
+
+    /// Opens the place on the port of a peer that came to the door.
+    fn welcome(
+        &mut self,
+        stations: &mut Stations,
+        door: Place,
+        place: Place,
+        port: M::Made,
+        peer: Peer,
+    ) -> AcceptAnswer
+        requires free { hold_at stations.old.entries place ≡ Free }
+        requires stations_room { 0 < stations.old.spare }
+        requires made_room { HasRoomFor self.old.harbor.made 1 }
+        ensures cause { WelcomeCause peer result }
+        ensures maker { self.new.maker ≡ self.old.maker }
+        ensures streams { (self.new.harbor.input ≡ self.old.harbor.input) × (self.new.harbor.output ≡ self.old.harbor.output) × (self.new.harbor.errors ≡ self.old.harbor.errors) }
+        ensures sound { IsSound stations.old.entries self.old.harbor.made → IsSound stations.new.entries self.new.harbor.made }
+        ensures held { HeldAfter (accept_act door place result) (hold_at stations.old.entries) (hold_at stations.new.entries) }
+        ensures one_more { length stations.new.entries ≤ length stations.old.entries + 1 }
+        ensures parents { self.new.parents ≡ self.old.parents }
+    {
+        match self.moor(stations, place, port, false) {
+            Begun::Begun => {
+                stations.mark(door, Half::ToRead, false);
+                AcceptAnswer::Accepted(peer)
+            }
+            Begun::Failed => {
+                stations.mark(door, Half::ToRead, false);
+                AcceptAnswer::Failed
+            }
+            Begun::Memory => AcceptAnswer::Memory,
+        }
+    }
+
+    /// Reads at the place.
+    pub fn read(&mut self, stations: &mut Stations, place: Place, into: &mut [u8]) -> Got
+        requires open { is_open (hold_at stations.old.entries place) ≡ true }
+        requires some { 0 < length into.old }
+        ensures fits { GotFits (length into.new) result }
+        ensures input { IfSome (base_at stations.old.entries place) (λ base. AtInput (giving_pier base)
+            (Reads self.old.harbor.input.port self.new.harbor.input.port into.new result)
+            (self.new.harbor.input ≡ self.old.harbor.input)) }
+        ensures output { IfSome (base_at stations.old.entries place) (λ base. AtOutput (giving_pier base)
+            (Reads self.old.harbor.output.port self.new.harbor.output.port into.new result)
+            (self.new.harbor.output ≡ self.old.harbor.output)) }
+        ensures errors { IfSome (base_at stations.old.entries place) (λ base. AtErrors (giving_pier base)
+            (Reads self.old.harbor.errors.port self.new.harbor.errors.port into.new result)
+            (self.new.harbor.errors ≡ self.old.harbor.errors)) }
+        ensures made { IfSome (base_at stations.old.entries place) (λ base. AtMade (giving_pier base)
+            (λ key. MadeCall self.old.harbor.made self.new.harbor.made key (λ old new. Reads old new into.new result))
+            (self.new.harbor.made ≡ self.old.harbor.made)) }
+        ensures marks { SetsStation place (option_map (with_half ToRead (is_got_not_yet result)) (station_at stations.old.entries place)) (station_at stations.old.entries) (station_at stations.new.entries) }
+        ensures sound { IsSound stations.old.entries self.old.harbor.made → IsSound stations.new.entries self.new.harbor.made }
+        ensures held { SameHold (hold_at stations.old.entries) (hold_at stations.new.entries) }
+        ensures no_more { length stations.new.entries ≤ length stations.old.entries }
+        ensures parents { self.new.parents ≡ self.old.parents }
+    {
+        let station = stations.held(place);
+        let got = self.harbor.read(station.base, into);
+        stations.mark(place, Half::ToRead, gave_not_yet(got));
+        got
+    }
+
+    /// Writes at the place.
+    pub fn write(&mut self, stations: &mut Stations, place: Place, bytes: &[u8]) -> Took
+        requires open { hold_at stations.old.entries place ≡ Open }
+        requires some { 0 < length bytes.now }
+        ensures fits { TookFits (length bytes.now) result }
+        ensures input { IfSome (base_at stations.old.entries place) (λ base. AtInput (taking_pier base)
+            (Writes self.old.harbor.input.port self.new.harbor.input.port bytes.now result)
+            (self.new.harbor.input ≡ self.old.harbor.input)) }
+        ensures output { IfSome (base_at stations.old.entries place) (λ base. AtOutput (taking_pier base)
+            (Writes self.old.harbor.output.port self.new.harbor.output.port bytes.now result)
+            (self.new.harbor.output ≡ self.old.harbor.output)) }
+        ensures errors { IfSome (base_at stations.old.entries place) (λ base. AtErrors (taking_pier base)
+            (Writes self.old.harbor.errors.port self.new.harbor.errors.port bytes.now result)
+            (self.new.harbor.errors ≡ self.old.harbor.errors)) }
+        ensures made { IfSome (base_at stations.old.entries place) (λ base. AtMade (taking_pier base)
+            (λ key. MadeCall self.old.harbor.made self.new.harbor.made key (λ old new. Writes old new bytes.now result))
+            (self.new.harbor.made ≡ self.old.harbor.made)) }
+        ensures marks { SetsStation place (option_map (with_half ToWrite (is_took_not_yet result)) (station_at stations.old.entries place)) (station_at stations.old.entries) (station_at stations.new.entries) }
+        ensures sound { IsSound stations.old.entries self.old.harbor.made → IsSound stations.new.entries self.new.harbor.made }
+        ensures held { SameHold (hold_at stations.old.entries) (hold_at stations.new.entries) }
+        ensures no_more { length stations.new.entries ≤ length stations.old.entries }
+        ensures parents { self.new.parents ≡ self.old.parents }
+    {
+        let station = stations.held(place);
+        let took = self.harbor.write(station.base, bytes);
+        stations.mark(place, Half::ToWrite, took_not_yet(took));
+        took
+    }
+
+    /// Sends the bytes as one packet at the place.
+    pub fn send(&mut self, stations: &mut Stations, place: Place, bytes: &[u8]) -> Took
+        requires open { hold_at stations.old.entries place ≡ Open }
+        requires some { 0 < length bytes.now }
+        ensures input { IfSome (base_at stations.old.entries place) (λ base. AtInput (taking_pier base)
+            (Sends self.old.harbor.input.port self.new.harbor.input.port bytes.now result)
+            (self.new.harbor.input ≡ self.old.harbor.input)) }
+        ensures output { IfSome (base_at stations.old.entries place) (λ base. AtOutput (taking_pier base)
+            (Sends self.old.harbor.output.port self.new.harbor.output.port bytes.now result)
+            (self.new.harbor.output ≡ self.old.harbor.output)) }
+        ensures errors { IfSome (base_at stations.old.entries place) (λ base. AtErrors (taking_pier base)
+            (Sends self.old.harbor.errors.port self.new.harbor.errors.port bytes.now result)
+            (self.new.harbor.errors ≡ self.old.harbor.errors)) }
+        ensures made { IfSome (base_at stations.old.entries place) (λ base. AtMade (taking_pier base)
+            (λ key. MadeCall self.old.harbor.made self.new.harbor.made key (λ old new. Sends old new bytes.now result))
+            (self.new.harbor.made ≡ self.old.harbor.made)) }
+        ensures marks { SetsStation place (option_map (with_half ToWrite (is_took_not_yet result)) (station_at stations.old.entries place)) (station_at stations.old.entries) (station_at stations.new.entries) }
+        ensures sound { IsSound stations.old.entries self.old.harbor.made → IsSound stations.new.entries self.new.harbor.made }
+        ensures held { SameHold (hold_at stations.old.entries) (hold_at stations.new.entries) }
+        ensures no_more { length stations.new.entries ≤ length stations.old.entries }
+        ensures parents { self.new.parents ≡ self.old.parents }
+    {
+        let station = stations.held(place);
+        let took = self.harbor.send(station.base, bytes);
+        stations.mark(place, Half::ToWrite, took_not_yet(took));
+        took
+    }
+
+    /// Passes an end on at the place.
+    pub fn shut(&mut self, stations: &mut Stations, place: Place, how: Shut) -> Shutting
+        requires { hold_at stations.old.entries place ≡ Open }
+        ensures input { IfSome (base_at stations.old.entries place) (λ base. AtInput (taking_pier base)
+            (Shuts self.old.harbor.input.port self.new.harbor.input.port result)
+            (self.new.harbor.input ≡ self.old.harbor.input)) }
+        ensures output { IfSome (base_at stations.old.entries place) (λ base. AtOutput (taking_pier base)
+            (Shuts self.old.harbor.output.port self.new.harbor.output.port result)
+            (self.new.harbor.output ≡ self.old.harbor.output)) }
+        ensures errors { IfSome (base_at stations.old.entries place) (λ base. AtErrors (taking_pier base)
+            (Shuts self.old.harbor.errors.port self.new.harbor.errors.port result)
+            (self.new.harbor.errors ≡ self.old.harbor.errors)) }
+        ensures made { IfSome (base_at stations.old.entries place) (λ base. AtMade (taking_pier base)
+            (λ key. MadeCall self.old.harbor.made self.new.harbor.made key (λ old new. Shuts old new result))
+            (self.new.harbor.made ≡ self.old.harbor.made)) }
+        ensures sound { IsSound stations.old.entries self.old.harbor.made → IsSound stations.new.entries self.new.harbor.made }
+        ensures station { SetsStation place (option_map (shut_down (finishes how)) (station_at stations.old.entries place)) (station_at stations.old.entries) (station_at stations.new.entries) }
+        ensures held { HeldAfter (shut_act place how (shut_answer result)) (hold_at stations.old.entries) (hold_at stations.new.entries) }
+        ensures no_more { length stations.new.entries ≤ length stations.old.entries }
+        ensures parents { self.new.parents ≡ self.old.parents }
+    {
+        let station = stations.held(place);
+        let answer = self.harbor.shut(station.base, how);
+        stations.replace(Station {
+            place,
+            standing: Standing::ShutDown,
+            finished: is_final(how),
+            ..station
+        });
+        answer
+    }
+
+    /// Closes the place. A made port is joined first where its output was finished and the cause is `Finished`; this is
+    /// what the join answered.
+    pub fn close(&mut self, stations: &mut Stations, place: Place, why: Why) -> Option<Joining>
+        requires held { is_free (hold_at stations.old.entries place) ≡ false }
+        requires parents_room { vec_len self.old.parents < vec_capacity self.old.parents }
+        ensures streams { (self.new.harbor.input ≡ self.old.harbor.input) × (self.new.harbor.output ≡ self.old.harbor.output) × (self.new.harbor.errors ≡ self.old.harbor.errors) }
+        ensures gone { (key : ℕ) → base_at stations.old.entries place ≡ Some (bases.Made key) → get self.new.harbor.made key ≡ None }
+        ensures others { (key : ℕ) → (base_at stations.old.entries place ≡ Some (bases.Made key) → ⊥) → get self.new.harbor.made key ≡ get self.old.harbor.made key }
+        ensures maker { self.new.maker ≡ self.old.maker }
+        ensures sound { IsSound stations.old.entries self.old.harbor.made → IsSound stations.new.entries self.new.harbor.made }
+        ensures joined { IfSome (station_at stations.old.entries place) (λ s. result ≡ joined_answer (s.finished && is_finished why) (made_at self.old.harbor.made s.base)) }
+        ensures parents { IfSome (station_at stations.old.entries place) (λ s. LeavesParent (s.finished && is_finished why) (made_at self.old.harbor.made s.base) self.old.parents.items self.new.parents.items) }
+        ensures held { HeldAfter (close_act place why) (hold_at stations.old.entries) (hold_at stations.new.entries) }
+        ensures room { length stations.new.entries + vec_len self.new.parents ≤ length stations.old.entries + vec_len self.old.parents }
+        ensures fewer { length stations.new.entries + 1 ≤ length stations.old.entries }
+        ensures capacity { vec_capacity self.new.parents ≡ vec_capacity self.old.parents }
+    {
+        let station = stations.held(place);
+        let joined = station.finished && is_finished(why);
+        self.leave(stations, place, station.base, joined)
+    }
+
+    /// Frees the place, which stands on this base. Its made port is dropped, but kept where it has a child.
+    fn leave(
+        &mut self,
+        stations: &mut Stations,
+        place: Place,
+        base: Base,
+        joined: bool,
+    ) -> Option<Joining>
+        requires based { base_at stations.old.entries place ≡ Some base }
+        requires parents_room { vec_len self.old.parents < vec_capacity self.old.parents }
+        ensures streams { (self.new.harbor.input ≡ self.old.harbor.input) × (self.new.harbor.output ≡ self.old.harbor.output) × (self.new.harbor.errors ≡ self.old.harbor.errors) }
+        ensures gone { (key : ℕ) → base_at stations.old.entries place ≡ Some (bases.Made key) → get self.new.harbor.made key ≡ None }
+        ensures others { (key : ℕ) → (base_at stations.old.entries place ≡ Some (bases.Made key) → ⊥) → get self.new.harbor.made key ≡ get self.old.harbor.made key }
+        ensures standard { key_of base ≡ None → self.new.harbor.made ≡ self.old.harbor.made }
+        ensures maker { self.new.maker ≡ self.old.maker }
+        ensures sound { IsSound stations.old.entries self.old.harbor.made → IsSound stations.new.entries self.new.harbor.made }
+        ensures joined { result ≡ joined_answer joined (made_at self.old.harbor.made base) }
+        ensures parents { LeavesParent joined (made_at self.old.harbor.made base) self.old.parents.items self.new.parents.items }
+        ensures held { (p : Place) → hold_at stations.new.entries p ≡ (if same_place place p then Free else hold_at stations.old.entries p) }
+        ensures room { length stations.new.entries + vec_len self.new.parents ≤ length stations.old.entries + vec_len self.old.parents }
+        ensures fewer { length stations.new.entries + 1 ≤ length stations.old.entries }
+        ensures capacity { vec_capacity self.new.parents ≡ vec_capacity self.old.parents }
+    {
+        stations.remove(place);
+        match base.made_key() {
+            None => None,
+            Some(key) => self.let_go(key, joined),
+        }
+    }
+
+    /// Lets the made port of the key go.
+    fn let_go(&mut self, key: usize, joined: bool) -> Option<Joining>
+        requires parents_room { vec_len self.old.parents < vec_capacity self.old.parents }
+        ensures streams { (self.new.harbor.input ≡ self.old.harbor.input) × (self.new.harbor.output ≡ self.old.harbor.output) × (self.new.harbor.errors ≡ self.old.harbor.errors) }
+        ensures made { Updates self.old.harbor.made self.new.harbor.made key None }
+        ensures joined { result ≡ joined_answer joined (get self.old.harbor.made key) }
+        ensures parents { LeavesParent joined (get self.old.harbor.made key) self.old.parents.items self.new.parents.items }
+        ensures room { vec_len self.new.parents ≤ vec_len self.old.parents + 1 }
+        ensures capacity { vec_capacity self.new.parents ≡ vec_capacity self.old.parents }
+        ensures maker { self.new.maker ≡ self.old.maker }
+    {
+        match self.harbor.cast_off(key) {
+            None => None,
+            Some(mut berth) => {
+                let answer = join_if(&mut berth, joined);
+                keep_parent(&mut self.parents, berth);
+                answer
+            }
+        }
+    }
+
+    /// Asks the port that the closed place left, the last one, for its child, and drops the port. Without such a port
+    /// there is no child.
+    pub fn reap(&mut self, place: Place) -> PortReap
+        ensures streams { (self.new.harbor ≡ self.old.harbor) × (self.new.maker ≡ self.old.maker) }
+        ensures reaped { ReapsKept (find (λ b. same_place b.place place) self.old.parents.items) result }
+        ensures dropped { MatchOption (position (λ b. same_place b.place place) self.old.parents.items) (self.new.parents ≡ self.old.parents) (λ i. self.new.parents.items ≡ remove self.old.parents.items i) }
+        ensures room { vec_len self.new.parents ≤ vec_len self.old.parents }
+        ensures capacity { vec_capacity self.new.parents ≡ vec_capacity self.old.parents }
+    {
+        match parent_of(self.parents.as_slice(), place) {
+            None => PortReap::NoChild,
+            Some(i) => {
+                let mut berth = self.parents.remove(i);
+                berth.reap()
+            }
+        }
+    }
+
+    /// Writes the whole text to standard error, which is begun first. None where there is no memory to begin it.
+    pub fn note(&mut self, text: &[u8]) -> Option<Took>
+        ensures made { self.new.harbor.made ≡ self.old.harbor.made }
+        ensures parents { self.new.parents ≡ self.old.parents }
+        ensures streams { (self.new.harbor.input ≡ self.old.harbor.input) × (self.new.harbor.output ≡ self.old.harbor.output) }
+        ensures said { SaidSo result
+            self.old.harbor.errors.port.took
+            self.new.harbor.errors.port.took
+            text.now }
+        ensures cause { is_unsaid result ≡ true → Rose
+            self.old.harbor.errors.port.counts.faults
+            self.new.harbor.errors.port.counts.faults }
+        ensures maker { self.new.maker ≡ self.old.maker }
+    {
+        self.harbor.note(text)
+    }
+}
+
+/// Joins the port where that is to be done, and tells what that answered.
+fn join_if<T: Port>(berth: &mut Berth<T>, joined: bool) -> Option<Joining>
+    ensures answer { result ≡ joined_answer joined (Some berth.old) }
+    ensures left { LeftSo joined berth.old.port berth.new.port }
+    ensures place { berth.new.place ≡ berth.old.place }
+{
+    if joined {
+        return Some(berth.join());
+    }
+    None
+}
+
+/// Keeps the port before all others where it has a child, and drops it otherwise.
+fn keep_parent<T: Port>(parents: &mut Vec<Berth<T>>, berth: Berth<T>)
+    requires { vec_len parents.old < vec_capacity parents.old }
+    ensures kept { parents.new.items ≡ (if berth.port.child then berth ∷ parents.old.items else parents.old.items) }
+    ensures room { vec_len parents.new ≤ vec_len parents.old + 1 }
+    ensures capacity { vec_capacity parents.new ≡ vec_capacity parents.old }
+{
+    if berth.has_child() {
+        let Ok(()) = parents.insert(0, berth) else {
+            unreachable!()
+        };
+    }
+}
+
+/// The index of the first port of the place.
+fn parent_of<T: Port>(parents: &[Berth<T>], place: Place) -> Option<usize>
+    ensures is { result ≡ position (λ b. same_place b.place place) parents.now }
+    ensures within { IfSome result (λ i. i < length parents.now) }
+{
+    parents.iter().position(|berth| berth.place().is(place))
+}
+
+/// Whether the session came to its end by itself.
+fn is_finished(why: Why) -> bool
+    ensures { result ≡ is_finished why }
+{
+    matches!(why, Why::Finished)
+}
+
+/// Whether there was nothing to read yet.
+fn gave_not_yet(got: Got) -> bool
+    ensures { result ≡ is_got_not_yet got }
+{
+    matches!(got, Got::NotYet)
+}
+
+/// Whether there was no room yet.
+fn took_not_yet(took: Took) -> bool
+    ensures { result ≡ is_took_not_yet took }
+{
+    matches!(took, Took::NotYet)
+}

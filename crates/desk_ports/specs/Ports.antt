@@ -1,0 +1,126 @@
+-- What a port tells, and what each call on it does to that.
+use Rattle.std.specs.Prelude.{◌≡◌, ℕ, Bool, List, Option, IfSome, true}
+use Rattle.port_trait.specs.Counting.{Tallied}
+use Rattle.port_trait.specs.Hinting.{StaysHinting}
+use Rattle.relay_model.specs.declared.places.Place.{Place}
+use Rattle.port_trait.specs.Meanings.{Gives, Accepts, AcceptsWhole, AcceptsAll, ReapsChild, Behind, OnJoined, join_answer, begun_after, is_end, begin_event, settle_event, read_event, write_event, shut_event}
+use Rattle.port_trait.specs.declared.counts.Counts.{Counts}
+use Rattle.port_trait.specs.declared.answers.Hint.{Hint}
+use Rattle.port_trait.specs.declared.answers.Begun.{Begun as BeginAnswer}
+use Rattle.port_trait.specs.declared.answers.Settled.{Settled}
+use Rattle.port_trait.specs.declared.answers.Got.{Got}
+use Rattle.port_trait.specs.declared.answers.Took.{Took as WriteAnswer}
+use Rattle.port_trait.specs.declared.answers.Shutting.{Shutting}
+use Rattle.port_trait.specs.declared.answers.PortReap.{PortReap}
+use Rattle.port_trait.specs.declared.answers.Joining.{Joining}
+
+pub record PortSeen : Type 0 where
+  pub gave : Option (List ℕ)
+  pub took : Option (List ℕ)
+  pub hints : Option Hint
+  pub hinting : Bool
+  pub counts : Counts
+  pub ended : Bool
+  pub joins : Bool
+  pub child : Bool
+
+-- a made port, and the place that stands on it
+pub record BerthSeen : Type 0 where
+  pub place : Place
+  pub port : PortSeen
+
+-- a standard port, whether it has begun, and whether the end of its output was passed on
+pub record StreamSeen : Type 0 where
+  pub port : PortSeen
+  pub begun : Bool
+  pub finished : Bool
+
+-- no byte was given or taken
+pub record MovesNothing (before now : PortSeen) : Type 0 where
+  pub gave : now.gave ≡ before.gave
+  pub took : now.took ≡ before.took
+
+-- whether a port may hint is known for good
+abbrev pub StaysSo : PortSeen → PortSeen → Type 0
+StaysSo before now = StaysHinting before.hinting now.hinting now.hints
+
+-- an accepting moves no byte of the door
+pub record LetsIn (before now : PortSeen) : Type 0 where
+  pub still : MovesNothing before now
+  pub hinting : StaysSo before now
+
+pub record Begins (before now : PortSeen) (answer : BeginAnswer) : Type 0 where
+  pub ended : now.ended ≡ before.ended
+  pub still : MovesNothing before now
+  pub counts : Tallied (begin_event answer) before.counts now.counts
+
+pub record Settles (before now : PortSeen) (answer : Settled) : Type 0 where
+  pub hinting : StaysSo before now
+  pub ended : now.ended ≡ before.ended
+  pub still : MovesNothing before now
+  pub child : now.child ≡ before.child
+  pub counts : Tallied (settle_event answer) before.counts now.counts
+
+pub record Reads (before now : PortSeen) (into : List ℕ) (answer : Got) : Type 0 where
+  pub hinting : StaysSo before now
+  pub ended : now.ended ≡ is_end answer
+  pub gives : Gives before.gave now.gave into answer
+  pub took : now.took ≡ before.took
+  pub child : now.child ≡ before.child
+  pub counts : Tallied (read_event answer) before.counts now.counts
+
+pub record Writes (before now : PortSeen) (bytes : List ℕ) (answer : WriteAnswer) : Type 0 where
+  pub hinting : StaysSo before now
+  pub ended : now.ended ≡ before.ended
+  pub accepts : Accepts before.took now.took bytes answer
+  pub gave : now.gave ≡ before.gave
+  pub child : now.child ≡ before.child
+  pub counts : Tallied (write_event answer) before.counts now.counts
+
+pub record Sends (before now : PortSeen) (bytes : List ℕ) (answer : WriteAnswer) : Type 0 where
+  pub hinting : StaysSo before now
+  pub ended : now.ended ≡ before.ended
+  pub accepts : AcceptsWhole before.took now.took bytes answer
+  pub gave : now.gave ≡ before.gave
+  pub child : now.child ≡ before.child
+  pub counts : Tallied (write_event answer) before.counts now.counts
+
+pub record PutsAll (before now : PortSeen) (bytes : List ℕ) (answer : WriteAnswer) : Type 0 where
+  pub hinting : StaysSo before now
+  pub ended : now.ended ≡ before.ended
+  pub accepts : AcceptsAll before.took now.took bytes answer
+  pub gave : now.gave ≡ before.gave
+  pub child : now.child ≡ before.child
+  pub counts : Tallied (write_event answer) before.counts now.counts
+
+pub record Shuts (before now : PortSeen) (answer : Shutting) : Type 0 where
+  pub hinting : StaysSo before now
+  pub ended : now.ended ≡ before.ended
+  pub still : MovesNothing before now
+  pub child : now.child ≡ before.child
+  pub counts : Tallied (shut_event answer) before.counts now.counts
+
+-- where the port tells its hints, this is it; nothing changes
+pub record HintsSo (before now : PortSeen) (hint : Hint) : Type 0 where
+  pub hinted : IfSome before.hints (λ told. hint ≡ told)
+  pub same : now ≡ before
+
+pub record Reaps (before now : PortSeen) (answer : PortReap) : Type 0 where
+  pub hinting : StaysSo before now
+  pub ended : now.ended ≡ before.ended
+  pub reaped : ReapsChild before.child answer
+  pub still : MovesNothing before now
+  pub child : now.child ≡ before.child
+
+pub record JoinsSo (before now : PortSeen) (answer : Joining) : Type 0 where
+  pub hinting : StaysSo before now
+  pub ended : now.ended ≡ before.ended
+  pub joined : answer ≡ join_answer before.joins
+  pub joins : now.joins ≡ before.joins
+  pub still : MovesNothing before now
+  pub counts : now.counts ≡ before.counts
+  pub child : now.child ≡ before.child
+
+-- what a port tells, by its meanings
+abbrev pub seen : {S : Type 0} → (S → Option (List ℕ)) → (S → Option (List ℕ)) → (S → Option Hint) → (S → Bool) → (S → Counts) → (S → Bool) → (S → Bool) → (S → Bool) → S → PortSeen
+seen gave took hints hinting counts ended joins child port = record { gave = gave port; took = took port; hints = hints port; hinting = hinting port; counts = counts port; ended = ended port; joins = joins port; child = child port }

@@ -1,0 +1,391 @@
+// All ports of a desk, and the calls on them. Each call on a base is one call on one of its ports. No place stands on a
+// key that has no port; a call on such a key fails.
+ghost use Rattle.std.specs.Prelude.{◌≡◌, ◌<◌, ◌⊎◌, None, Some, true, false, length, [], IfSome, OnOk};
+ghost use Rattle.slab.specs.Slab.{HasRoomFor, SameValues, Updates, get};
+ghost use Rattle.port_trait.specs.Counting.{Counted, Rose};
+ghost use Rattle.port_trait.specs.declared.answers.Begun.TheVariants as begins;
+ghost use Rattle.port_trait.specs.Made.{peer_failed, peer_stalled, came_after};
+ghost use Rattle.desk_ports.specs.Answers.{GotFits, SaidSo, TookFits, is_unsaid};
+ghost use Rattle.desk_ports.specs.Ports.{LetsIn, MovesNothing, Settles, Reads, Writes, Sends, Shuts, seen};
+ghost use Rattle.desk_ports.specs.Harbors.{AtErrors, AtInput, AtMade, AtOutput, MadeCall, giving_pier, hint_told, hints_of, place_of, taking_pier};
+
+use crate::bases::Base;
+use crate::berths::{Berth, accept_by};
+use crate::streams::{Standard, Stream};
+use port_trait::{Begun, Got, Hint, MadePeer, Maker, Port, Settled, Shutting, Took};
+use relay_model::{NoMemory, Place, Shut};
+use slab::Slab;
+use std::alloc::Global;
+
+/// The standard streams, and the made ports by their keys.
+#[derive(Drop)]
+pub struct Harbor<T: Port, I: Port, O: Port, E: Port> {
+    pub input: Stream<I>,
+    pub output: Stream<O>,
+    pub errors: Stream<E>,
+    pub made: Slab<Berth<T>>,
+}
+
+impl<T: Port, I: Port, O: Port, E: Port> Harbor<T, I, O, E> {
+    /// The standard streams, and no made port; takes no memory.
+    pub fn new(alloc: Global, standard: Standard<I, O, E>) -> Harbor<T, I, O, E>
+        ensures made { result.made.slots ≡ [] }
+        ensures input { (result.input.port ≡ seen I.gave I.took I.hints I.hinting I.counts I.ended I.joins I.child standard.stdin) × (result.input.begun ≡ false) × (result.input.finished ≡ false) }
+        ensures output { (result.output.port ≡ seen O.gave O.took O.hints O.hinting O.counts O.ended O.joins O.child standard.stdout) × (result.output.begun ≡ false) × (result.output.finished ≡ false) }
+        ensures errors { (result.errors.port ≡ seen E.gave E.took E.hints E.hinting E.counts E.ended E.joins E.child standard.stderr) × (result.errors.begun ≡ false) × (result.errors.finished ≡ false) }
+    {
+        let Standard {
+            stdin,
+            stdout,
+            stderr,
+        } = standard;
+        Harbor {
+            input: Stream::new(stdin),
+            output: Stream::new(stdout),
+            errors: Stream::new(stderr),
+            made: Slab::new(alloc),
+        }
+    }
+
+    /// The streams, at the end.
+    pub fn into_streams(self) -> (Stream<I>, Stream<O>, Stream<E>)
+        ensures input { result.0 ≡ self.input }
+        ensures output { result.1 ≡ self.output }
+        ensures errors { result.2 ≡ self.errors }
+    {
+        let Harbor {
+            input,
+            output,
+            errors,
+            made: _,
+        } = self;
+        (input, output, errors)
+    }
+
+    /// Makes room for one further port.
+    pub fn reserve(&mut self) -> Result<(), NoMemory>
+        ensures room { OnOk result (HasRoomFor self.new.made 1) }
+        ensures streams { (self.new.input ≡ self.old.input) × (self.new.output ≡ self.old.output) × (self.new.errors ≡ self.old.errors) }
+        ensures made { SameValues self.old.made self.new.made }
+    {
+        self.made.reserve(1)?;
+        Ok(())
+    }
+
+    /// The key of the next port.
+    pub fn next_key(&self) -> usize
+        ensures { result ≡ self.now.made.vacant_key }
+    {
+        self.made.vacant_key()
+    }
+
+    /// Takes the port in, under the next key.
+    pub fn moor(&mut self, berth: Berth<T>) -> usize
+        requires { HasRoomFor self.old.made 1 }
+        ensures key { result ≡ self.old.made.vacant_key }
+        ensures vacant { get self.old.made result ≡ None }
+        ensures made { Updates self.old.made self.new.made result (Some berth) }
+        ensures streams { (self.new.input ≡ self.old.input) × (self.new.output ≡ self.old.output) × (self.new.errors ≡ self.old.errors) }
+    {
+        self.made.insert_reserved(berth)
+    }
+
+    /// The place that the port of the key was made for; none where there is no such port.
+    pub fn place_of(&self, key: usize) -> Option<Place>
+        ensures { result ≡ place_of (get self.now.made key) }
+    {
+        match self.made.get(key) {
+            Some(berth) => Some(berth.place()),
+            None => None,
+        }
+    }
+
+    /// Takes the port of the key out.
+    pub fn cast_off(&mut self, key: usize) -> Option<Berth<T>>
+        ensures berth { result ≡ get self.old.made key }
+        ensures made { Updates self.old.made self.new.made key None }
+        ensures streams { (self.new.input ≡ self.old.input) × (self.new.output ≡ self.old.output) × (self.new.errors ≡ self.old.errors) }
+    {
+        self.made.try_remove(key)
+    }
+
+    /// Begins the streams of the base, standard input first.
+    pub fn begin(&mut self, base: Base) -> Begun
+        ensures input { MovesNothing self.old.input.port self.new.input.port }
+        ensures output { MovesNothing self.old.output.port self.new.output.port }
+        ensures errors { MovesNothing self.old.errors.port self.new.errors.port }
+        ensures failed { result ≡ begins.Failed → (Rose self.old.input.port.counts.faults self.new.input.port.counts.faults
+            ⊎ (Rose self.old.output.port.counts.faults self.new.output.port.counts.faults
+            ⊎ Rose self.old.errors.port.counts.faults self.new.errors.port.counts.faults)) }
+        ensures made { self.new.made ≡ self.old.made }
+    {
+        match base {
+            Base::Input | Base::Made(_) => self.input.begin(),
+            Base::Output => self.output.begin(),
+            Base::Errors => self.errors.begin(),
+            Base::Both => match self.input.begin() {
+                Begun::Begun => self.output.begin(),
+                answer => answer,
+            },
+        }
+    }
+
+    fn settle_made(&mut self, key: usize) -> Settled
+        ensures made { MadeCall self.old.made self.new.made key (λ old new. Settles old new result) }
+        ensures streams { (self.new.input ≡ self.old.input) × (self.new.output ≡ self.old.output) × (self.new.errors ≡ self.old.errors) }
+    {
+        match self.made.get_mut(key) {
+            Some(berth) => berth.settle(),
+            None => Settled::Failed,
+        }
+    }
+
+    pub fn settle(&mut self, base: Base) -> Settled
+        ensures input { AtInput (giving_pier base)
+            (Settles self.old.input.port self.new.input.port result)
+            (self.new.input ≡ self.old.input) }
+        ensures output { AtOutput (giving_pier base)
+            (Settles self.old.output.port self.new.output.port result)
+            (self.new.output ≡ self.old.output) }
+        ensures errors { AtErrors (giving_pier base)
+            (Settles self.old.errors.port self.new.errors.port result)
+            (self.new.errors ≡ self.old.errors) }
+        ensures made { AtMade (giving_pier base)
+            (λ key. MadeCall self.old.made self.new.made key (λ old new. Settles old new result))
+            (self.new.made ≡ self.old.made) }
+    {
+        match base {
+            Base::Input | Base::Both => self.input.settle(),
+            Base::Output => self.output.settle(),
+            Base::Errors => self.errors.settle(),
+            Base::Made(key) => self.settle_made(key),
+        }
+    }
+
+    fn read_made(&mut self, key: usize, into: &mut [u8]) -> Got
+        requires some { 0 < length into.old }
+        ensures fits { GotFits (length into.new) result }
+        ensures made { MadeCall self.old.made self.new.made key (λ old new. Reads old new into.new result) }
+        ensures streams { (self.new.input ≡ self.old.input) × (self.new.output ≡ self.old.output) × (self.new.errors ≡ self.old.errors) }
+    {
+        match self.made.get_mut(key) {
+            Some(berth) => berth.read(into),
+            None => Got::Failed,
+        }
+    }
+
+    pub fn read(&mut self, base: Base, into: &mut [u8]) -> Got
+        requires some { 0 < length into.old }
+        ensures fits { GotFits (length into.new) result }
+        ensures input { AtInput (giving_pier base)
+            (Reads self.old.input.port self.new.input.port into.new result)
+            (self.new.input ≡ self.old.input) }
+        ensures output { AtOutput (giving_pier base)
+            (Reads self.old.output.port self.new.output.port into.new result)
+            (self.new.output ≡ self.old.output) }
+        ensures errors { AtErrors (giving_pier base)
+            (Reads self.old.errors.port self.new.errors.port into.new result)
+            (self.new.errors ≡ self.old.errors) }
+        ensures made { AtMade (giving_pier base)
+            (λ key. MadeCall self.old.made self.new.made key (λ old new. Reads old new into.new result))
+            (self.new.made ≡ self.old.made) }
+    {
+        match base {
+            Base::Input | Base::Both => self.input.read(into),
+            Base::Output => self.output.read(into),
+            Base::Errors => self.errors.read(into),
+            Base::Made(key) => self.read_made(key, into),
+        }
+    }
+
+    fn write_made(&mut self, key: usize, bytes: &[u8]) -> Took
+        requires some { 0 < length bytes.now }
+        ensures fits { TookFits (length bytes.now) result }
+        ensures made { MadeCall self.old.made self.new.made key (λ old new. Writes old new bytes.now result) }
+        ensures streams { (self.new.input ≡ self.old.input) × (self.new.output ≡ self.old.output) × (self.new.errors ≡ self.old.errors) }
+    {
+        match self.made.get_mut(key) {
+            Some(berth) => berth.write(bytes),
+            None => Took::Failed,
+        }
+    }
+
+    pub fn write(&mut self, base: Base, bytes: &[u8]) -> Took
+        requires some { 0 < length bytes.now }
+        ensures fits { TookFits (length bytes.now) result }
+        ensures input { AtInput (taking_pier base)
+            (Writes self.old.input.port self.new.input.port bytes.now result)
+            (self.new.input ≡ self.old.input) }
+        ensures output { AtOutput (taking_pier base)
+            (Writes self.old.output.port self.new.output.port bytes.now result)
+            (self.new.output ≡ self.old.output) }
+        ensures errors { AtErrors (taking_pier base)
+            (Writes self.old.errors.port self.new.errors.port bytes.now result)
+            (self.new.errors ≡ self.old.errors) }
+        ensures made { AtMade (taking_pier base)
+            (λ key. MadeCall self.old.made self.new.made key (λ old new. Writes old new bytes.now result))
+            (self.new.made ≡ self.old.made) }
+    {
+        match base {
+            Base::Input => self.input.write(bytes),
+            Base::Output | Base::Both => self.output.write(bytes),
+            Base::Errors => self.errors.write(bytes),
+            Base::Made(key) => self.write_made(key, bytes),
+        }
+    }
+
+    fn send_made(&mut self, key: usize, bytes: &[u8]) -> Took
+        requires some { 0 < length bytes.now }
+        ensures made { MadeCall self.old.made self.new.made key (λ old new. Sends old new bytes.now result) }
+        ensures streams { (self.new.input ≡ self.old.input) × (self.new.output ≡ self.old.output) × (self.new.errors ≡ self.old.errors) }
+    {
+        match self.made.get_mut(key) {
+            Some(berth) => berth.send(bytes),
+            None => Took::Failed,
+        }
+    }
+
+    pub fn send(&mut self, base: Base, bytes: &[u8]) -> Took
+        requires some { 0 < length bytes.now }
+        ensures input { AtInput (taking_pier base)
+            (Sends self.old.input.port self.new.input.port bytes.now result)
+            (self.new.input ≡ self.old.input) }
+        ensures output { AtOutput (taking_pier base)
+            (Sends self.old.output.port self.new.output.port bytes.now result)
+            (self.new.output ≡ self.old.output) }
+        ensures errors { AtErrors (taking_pier base)
+            (Sends self.old.errors.port self.new.errors.port bytes.now result)
+            (self.new.errors ≡ self.old.errors) }
+        ensures made { AtMade (taking_pier base)
+            (λ key. MadeCall self.old.made self.new.made key (λ old new. Sends old new bytes.now result))
+            (self.new.made ≡ self.old.made) }
+    {
+        match base {
+            Base::Input => self.input.send(bytes),
+            Base::Output | Base::Both => self.output.send(bytes),
+            Base::Errors => self.errors.send(bytes),
+            Base::Made(key) => self.send_made(key, bytes),
+        }
+    }
+
+    fn shut_made(&mut self, key: usize, how: Shut) -> Shutting
+        ensures made { MadeCall self.old.made self.new.made key (λ old new. Shuts old new result) }
+        ensures streams { (self.new.input ≡ self.old.input) × (self.new.output ≡ self.old.output) × (self.new.errors ≡ self.old.errors) }
+    {
+        match self.made.get_mut(key) {
+            Some(berth) => berth.shut(how),
+            None => Shutting::Failed,
+        }
+    }
+
+    pub fn shut(&mut self, base: Base, how: Shut) -> Shutting
+        ensures input { AtInput (taking_pier base)
+            (Shuts self.old.input.port self.new.input.port result)
+            (self.new.input ≡ self.old.input) }
+        ensures output { AtOutput (taking_pier base)
+            (Shuts self.old.output.port self.new.output.port result)
+            (self.new.output ≡ self.old.output) }
+        ensures errors { AtErrors (taking_pier base)
+            (Shuts self.old.errors.port self.new.errors.port result)
+            (self.new.errors ≡ self.old.errors) }
+        ensures made { AtMade (taking_pier base)
+            (λ key. MadeCall self.old.made self.new.made key (λ old new. Shuts old new result))
+            (self.new.made ≡ self.old.made) }
+    {
+        match base {
+            Base::Input => self.input.shut(how),
+            Base::Output | Base::Both => self.output.shut(how),
+            Base::Errors => self.errors.shut(how),
+            Base::Made(key) => self.shut_made(key, how),
+        }
+    }
+
+    /// Writes the whole text to standard error, which is begun first. None where there is no memory to begin it.
+    pub fn note(&mut self, text: &[u8]) -> Option<Took>
+        ensures made { self.new.made ≡ self.old.made }
+        ensures streams { (self.new.input ≡ self.old.input) × (self.new.output ≡ self.old.output) }
+        ensures said { SaidSo result
+            self.old.errors.port.took
+            self.new.errors.port.took
+            text.now }
+        ensures cause { is_unsaid result ≡ true → Rose
+            self.old.errors.port.counts.faults
+            self.new.errors.port.counts.faults }
+    {
+        match self.errors.begin() {
+            Begun::Begun => Some(self.errors.put_all(text)),
+            Begun::Failed => Some(Took::Failed),
+            Begun::Memory => None,
+        }
+    }
+
+    fn hint_made(&mut self, key: usize) -> Hint
+        ensures made { SameValues self.old.made self.new.made }
+        ensures streams { (self.new.input ≡ self.old.input) × (self.new.output ≡ self.old.output) × (self.new.errors ≡ self.old.errors) }
+        ensures hinted { IfSome (hints_of (get self.old.made key)) (λ hint. result ≡ hint) }
+    {
+        match self.made.get_mut(key) {
+            Some(berth) => berth.hint(),
+            None => Hint {
+                readable: false,
+                writable: false,
+            },
+        }
+    }
+
+    /// What the ports of the base know of their readiness.
+    pub fn hint(&mut self, base: Base) -> Hint
+        ensures input { self.new.input.port
+            ≡ self.old.input.port }
+        ensures output { self.new.output.port
+            ≡ self.old.output.port }
+        ensures errors { self.new.errors.port
+            ≡ self.old.errors.port }
+        ensures made { SameValues self.old.made self.new.made }
+        ensures readable { IfSome
+            (hint_told
+            self.old.input.port.hints
+            self.old.output.port.hints
+            self.old.errors.port.hints
+            self.old.made (giving_pier base))
+            (λ hint. result.readable ≡ hint.readable) }
+        ensures writable { IfSome
+            (hint_told
+            self.old.input.port.hints
+            self.old.output.port.hints
+            self.old.errors.port.hints
+            self.old.made (taking_pier base))
+            (λ hint. result.writable ≡ hint.writable) }
+    {
+        match base {
+            Base::Input => self.input.hint(),
+            Base::Output => self.output.hint(),
+            Base::Both => Hint {
+                readable: self.input.hint().readable,
+                writable: self.output.hint().writable,
+            },
+            Base::Errors => self.errors.hint(),
+            Base::Made(key) => self.hint_made(key),
+        }
+    }
+}
+
+/// Takes one peer at the door of the key.
+pub fn accept_at<M: Maker, I: Port, O: Port, E: Port>(
+    harbor: &mut Harbor<M::Made, I, O, E>,
+    maker: &mut M,
+    door: usize,
+    key: usize,
+) -> MadePeer<M::Made>
+    ensures door { MadeCall harbor.old.made harbor.new.made door LetsIn }
+    ensures room { HasRoomFor harbor.old.made 1 → HasRoomFor harbor.new.made 1 }
+    ensures streams { (harbor.new.input ≡ harbor.old.input) × (harbor.new.output ≡ harbor.old.output) × (harbor.new.errors ≡ harbor.old.errors) }
+    ensures came { M.came maker.new ≡ came_after (M.came maker.old) result }
+    ensures faults { Counted (peer_failed result) (M.faults maker.old) (M.faults maker.new) }
+    ensures stalls { Counted (peer_stalled result) (M.stalls maker.old) (M.stalls maker.new) }
+{
+    match harbor.made.get_mut(door) {
+        Some(berth) => accept_by(maker, berth, key),
+        None => MadePeer::Memory,
+    }
+}

@@ -1,0 +1,11 @@
+use Rattle.std.proofs.Common.{◌≡◌, length}
+use Rattle.std.proofs.Common.{◌+◌, ◌≤◌}
+use Rattle.relay_model.specs.History.{turns}
+use Rattle.history_facts.specs.Pasts.{acts}
+use Rattle.history_facts.proofs.history.turns.Given as goal
+
+abbrev pub invariant-loop-past : goal.invariant-loop-past
+invariant-loop-past l = (l.count + turns (acts l.past) ≡ turns (acts l.initial.past)) × (l.count + length l.past ≤ length l.initial.past)
+
+abbrev pub decreases-loop-past : goal.decreases-loop-past
+decreases-loop-past l = length l.past

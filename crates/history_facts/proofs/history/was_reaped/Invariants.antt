@@ -1,0 +1,10 @@
+use Rattle.std.proofs.Common.{◌≡◌, length}
+use Rattle.relay_model.specs.History.{was_reaped}
+use Rattle.history_facts.specs.Pasts.{acts}
+use Rattle.history_facts.proofs.history.was_reaped.Given as goal
+
+abbrev pub invariant-loop-past : goal.invariant-loop-past
+invariant-loop-past l = was_reaped (acts l.past) l.place ≡ was_reaped (acts l.initial.past) l.place
+
+abbrev pub decreases-loop-past : goal.decreases-loop-past
+decreases-loop-past l = length l.past

@@ -1,0 +1,24 @@
+// A sink that is a file of a name.
+ghost use Rattle.std.specs.Prelude.{◌≡◌, true, not};
+ghost use Rattle.port_trait.specs.Counting.{Counted};
+
+use port_objects::MemSink;
+use port_trait::Sink;
+
+/// A sink for a journal, whose file has to be made before it takes anything.
+pub trait JournalFile: Sink {
+    /// Makes the file of this name, and empties one that is there. False is a fault.
+    fn create(&mut self, name: &[u8]) -> bool
+        ensures kept { Self.took self.new ≡ Self.took self.old }
+        ensures faults { Counted (not result) (Self.faults self.old) (Self.faults self.new) };
+}
+
+impl JournalFile for MemSink {
+    /// Needs no file.
+    fn create(&mut self, _name: &[u8]) -> bool
+        ensures made { result ≡ true }
+        ensures kept { self.new ≡ self.old }
+    {
+        true
+    }
+}

@@ -1,0 +1,5 @@
+pub mod Counts
+pub mod Holding
+pub mod Implied
+pub mod Judged
+pub mod Pieces

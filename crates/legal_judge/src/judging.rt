@@ -1,0 +1,153 @@
+// Whether each act of a journal may come after the acts before it.
+ghost use Rattle.std.specs.Prelude.{◌≡◌, ◌<◌, ◌≤◌, ◌*◌, ◌^◌, ◌+◌, length, count_by, drop, IfOk, true};
+ghost use Rattle.relay_model.specs.History.{held};
+ghost use Rattle.relay_model.specs.Sessions.{admitted};
+ghost use Rattle.relay_model.specs.May.{Legal};
+ghost use Rattle.relay_model.specs.Audit.{held_count, first_illegal, may_come};
+ghost use Rattle.history_facts.specs.Pasts.{acts};
+ghost use Rattle.legal_judge.specs.Pasts.{reads_some, held_below, WrittenStands, OnePieceWaits};
+ghost use Rattle.legal_judge.specs.Judging.{Judges};
+
+use crate::may::may_come;
+use command_places::{has_fork, options_of, program_door, things};
+use history_facts::held;
+use relay_laws::{
+    admitted_is_bounded, one_test_is_right, packets_are_due, tests_are_right, written_is_due,
+};
+use relay_model::{Act, Config, Journal, NoMemory, Place};
+use session_facts::numbers;
+use std::alloc::Global;
+
+/// What is found of a journal.
+#[derive(Clone, Copy, Debug, PartialEq, Eq)]
+pub enum Judgement {
+    /// Each act may come, and so many places and doors are held after the last.
+    Legal { held: u64 },
+    /// The first act, counted from 1, that may not come after the acts before it.
+    Illegal { act: u64 },
+}
+
+// ---- what is held
+
+fn count_held(past: &[&Act], places: &[Place]) -> usize
+    ensures count { result ≡ count_by (held (acts past.now)) places.now }
+{
+    places.iter().filter(|place| held(past, **place)).count()
+}
+
+#[tactic(auto, using(crate::proofs::Holding::held_below_more))]
+fn held_in_sessions(config: &Config, past: &[&Act], count: u32) -> u64
+    ensures count { result ≡ held_below config.now (acts past.now) count }
+    ensures few { result ≤ 8 * count }
+{
+    let mut total: u64 = 0;
+    for session in 0..count {
+        total += count_held(past, things(config, session).as_slice()) as u64;
+    }
+    total
+}
+
+/// How many places and doors are held; those that are still settling count.
+#[tactic(auto, using(crate::proofs::Holding::held_count_is))]
+pub fn held_count(config: &Config, past: &[&Act]) -> u64
+    requires { admitted config.now (acts past.now) < 2 ^ 32 }
+    ensures { result ≡ held_count config.now (acts past.now) }
+{
+    let next = numbers(config, past);
+    let begun = held_in_sessions(config, past, next);
+    let coming = count_held(past, things(config, next).as_slice()) as u64;
+    let door = if has_fork(config) && held(past, program_door()) {
+        1
+    } else {
+        0
+    };
+    coming + begun + door
+}
+
+// ---- each act
+
+/// A legal history has no more sessions than numbers for them and no read of nothing, what was written begins what is
+/// due, and where borders are kept one piece at most waits.
+fn what_is_legal(config: &Config, limit: u64, past: &[&Act])
+    requires { Legal config.now limit (acts past.now) }
+    ensures few { admitted config.now (acts past.now) < 2 ^ 32 }
+    ensures some { reads_some (acts past.now) ≡ true }
+    ensures written { WrittenStands config.now (acts past.now) }
+    ensures one { OnePieceWaits config.now (acts past.now) }
+{
+    admitted_is_bounded();
+    packets_are_due();
+    written_is_due();
+    let _most = options_of(config, program_door()).stop_after;
+    let _last = past.len();
+}
+
+fn newest_first<'a>(alloc: Global, journal: &'a Journal) -> Result<Vec<&'a Act>, NoMemory>
+    ensures { IfOk result (λ past. acts past.items ≡ journal.now.acts) }
+{
+    let mut past = Vec::new(alloc);
+    let mut k = journal.len();
+    while k > 0 {
+        k -= 1;
+        past.push(journal.get(k))?;
+    }
+    Ok(past)
+}
+
+/// Whether the act may come after a legal history.
+fn may_follow(
+    alloc: Global,
+    config: &Config,
+    limit: u64,
+    past: &[&Act],
+    act: &Act,
+) -> Result<bool, NoMemory>
+    requires { first_illegal config.now limit (acts past.now) ≡ 0 }
+    ensures { IfOk result (λ may. may ≡ may_come config.now limit (acts past.now) act.now) }
+{
+    tests_are_right();
+    what_is_legal(config, limit, past);
+    may_come(alloc, config, limit, past, act)
+}
+
+fn judge_acts(
+    alloc: Global,
+    config: &Config,
+    past: &[&Act],
+    limit: u64,
+) -> Result<Judgement, NoMemory>
+    ensures { IfOk result (Judges config.now limit (acts past.now)) }
+{
+    tests_are_right();
+    one_test_is_right();
+    let mut k = past.len();
+    while k > 0 {
+        k -= 1;
+        let older = &past[k + 1..];
+        let act: &Act = past[k];
+        if !may_follow(alloc, config, limit, older, act)? {
+            return Ok(Judgement::Illegal {
+                act: (past.len() - k) as u64,
+            });
+        }
+    }
+    what_is_legal(config, limit, past);
+    Ok(Judgement::Legal {
+        held: held_count(config, past),
+    })
+}
+
+/// Whether the journal is a legal history of this command, in a run of so many turns at most. The acts of the
+/// journal are judged one by one, each by all that stands before it. So the time grows with the square of the journal's
+/// length, and with the number of its sessions.
+pub fn judge(
+    alloc: Global,
+    config: &Config,
+    journal: &Journal,
+    turns: u64,
+) -> Result<Judgement, NoMemory>
+    ensures { IfOk result (Judges config.now turns journal.now.acts) }
+{
+    let past = newest_first(alloc, journal)?;
+    judge_acts(alloc, config, past.as_slice(), turns)
+}

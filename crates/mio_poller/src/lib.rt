@@ -1,0 +1,6 @@
+// The poller that waits for sockets and wakes.
+#![tactic(auto)]
+
+mod poller;
+
+pub use poller::{MioPoller, MioWake};

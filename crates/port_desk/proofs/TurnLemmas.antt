@@ -1,0 +1,203 @@
+-- What a turn names by hints, and which halves it arms.
+use Rattle.std.proofs.Common.{◌≡◌, ◌≤◌, ◌<◌, ◌+◌, ◌⊎◌, inl, inr, ℕ, zero, suc, Bool, true, false, not, ◌&&◌, ◌||◌, List, [], ◌∷◌, length, take, slice_get, Option, Some, None, IfSome, option_map, refl, sym, ap, subst, ◌∙◌, add-one, arith, if◌then◌else◌}
+use Rattle.std.proofs.lemmas.List.{take_all}
+use Rattle.slab.specs.Slab.{Slab, SameValues, get}
+use Rattle.relay_model.specs.declared.places.Place.{Place}
+use Rattle.relay_model.specs.declared.places.Half.{Half}
+use Rattle.relay_model.specs.declared.places.Half.TheVariants.{ToRead, ToWrite}
+use Rattle.relay_model.specs.declared.readiness.ReadyAt.{ReadyAt}
+use Rattle.relay_model.specs.Places.{same_place, same_half}
+use Rattle.relay_model.specs.Readiness.{names}
+use Rattle.port_trait.specs.declared.answers.Hint.{Hint}
+use Rattle.desk_ports.specs.Ports.{BerthSeen}
+use Rattle.desk_ports.specs.Harbors.{Pier, Input, Output, Errors, Made, giving_pier, hint_told, hints_of, taking_pier}
+use Rattle.desk_ports.specs.declared.bases.Base.{Base}
+use Rattle.desk_ports.specs.declared.bases.Base.TheVariants as bases
+use Rattle.desk_places.specs.declared.stations.Station.{Station}
+use Rattle.desk_places.specs.Footing.{IsSound}
+use Rattle.desk_places.specs.Stations.{AreListed, SetsStation, half_disarmed, is_disarmed, station_at, with_half}
+use Rattle.desk_places.proofs.PlaceLemmas.{same_place-eq}
+use Rattle.desk_places.proofs.SoundLemmas.{IsMoored, StandsOn, StandsSo, so_is}
+use Rattle.desk_places.proofs.StationLemmas.{asked_index, found_place}
+use Rattle.port_desk.specs.Naming.{Grown, HintNamed, IsNamed, NamesHinting, StationNamed, half_pier, is_hinted}
+use Rattle.port_desk.proofs.NamingLemmas.{below_or_last, named_on, within}
+
+-- ---- hints
+
+reading_step : (slot : Option Hint) (hint : Hint) (Fact : Type 0) → IfSome slot (λ told. hint.readable ≡ told.readable) → (hint.readable ≡ true → Fact) → IfSome slot (λ told. told.readable ≡ true → Fact)
+reading_step None hint Fact same fact = tt
+reading_step (Some told) hint Fact same fact = λ ready. fact (same ∙ ready)
+
+writing_step : (slot : Option Hint) (hint : Hint) (Fact : Type 0) → IfSome slot (λ told. hint.writable ≡ told.writable) → (hint.writable ≡ true → Fact) → IfSome slot (λ told. told.writable ≡ true → Fact)
+writing_step None hint Fact same fact = tt
+writing_step (Some told) hint Fact same fact = λ ready. fact (same ∙ ready)
+
+-- the halves that the hint finds ready, by what the ports tell
+pub station_named : (told : Pier → Option Hint) (station : Station) (hint : Hint) (ready : List ReadyAt) → HintNamed station hint ready → IfSome (told (giving_pier station.base)) (λ h. hint.readable ≡ h.readable) → IfSome (told (taking_pier station.base)) (λ h. hint.writable ≡ h.writable) → StationNamed told station ready
+station_named told station hint ready named reading writing ToRead off = reading_step (told (giving_pier station.base)) hint (IsNamed ready station.place ToRead) reading (named ToRead off)
+station_named told station hint ready named reading writing ToWrite off = writing_step (told (taking_pier station.base)) hint (IsNamed ready station.place ToWrite) writing (named ToWrite off)
+
+-- a station without a disarmed half asks for nothing
+pub all_armed : (told : Pier → Option Hint) (station : Station) (ready : List ReadyAt) → station.reading_disarmed ≡ false → station.writing_disarmed ≡ false → StationNamed told station ready
+all_armed told station ready reading writing ToRead off = absurd (let f : true ≡ false = sym off ∙ reading in cc)
+all_armed told station ready reading writing ToWrite off = absurd (let f : true ≡ false = sym off ∙ writing in cc)
+
+hint_on : (slot : Option Hint) (half : Half) (place : Place) (xs ys : List ReadyAt) → Grown xs ys → IfSome slot (λ hint. is_hinted half hint ≡ true → IsNamed xs place half) → IfSome slot (λ hint. is_hinted half hint ≡ true → IsNamed ys place half)
+hint_on None half place xs ys grown h = tt
+hint_on (Some hint) half place xs ys grown h = λ ready. named_on xs ys place half grown (h ready)
+
+-- what was named stays named
+pub station_on : (told : Pier → Option Hint) (station : Station) (xs ys : List ReadyAt) → Grown xs ys → StationNamed told station xs → StationNamed told station ys
+station_on told station xs ys grown named = λ half off. hint_on (told (half_pier half station.base)) half station.place xs ys grown (named half off)
+
+-- ports that tell the same hints
+pub told_same : (input output errors input' output' errors' : Option Hint) (made made' : Slab BerthSeen) → input' ≡ input → output' ≡ output → errors' ≡ errors → SameValues made made' → (pier : Pier) → hint_told input' output' errors' made' pier ≡ hint_told input output errors made pier
+told_same input output errors input' output' errors' made made' i o e same Input = i
+told_same input output errors input' output' errors' made made' i o e same Output = o
+told_same input output errors input' output' errors' made made' i o e same Errors = e
+told_same input output errors input' output' errors' made made' i o e same (Made key) = ap hints_of (same key)
+
+pub station_told : (told told' : Pier → Option Hint) (station : Station) (ready : List ReadyAt) → ((pier : Pier) → told' pier ≡ told pier) → StationNamed told' station ready → StationNamed told station ready
+station_told told told' station ready same named = λ half off.
+    let Named : Option Hint → Type 0 = λ slot. IfSome slot (λ hint. is_hinted half hint ≡ true → IsNamed ready station.place half) in
+    subst Named (same (half_pier half station.base)) (named half off)
+
+slot_named : (slot : Option Station) (told told' : Pier → Option Hint) (ready : List ReadyAt) → ((pier : Pier) → told' pier ≡ told pier) → IfSome slot (λ station. StationNamed told' station ready) → IfSome slot (λ station. StationNamed told station ready)
+slot_named None told told' ready same named = tt
+slot_named (Some station) told told' ready same named = station_told told told' station ready same named
+
+pub hinting_told : (told told' : Pier → Option Hint) (stations : List Station) (ready : List ReadyAt) → ((pier : Pier) → told' pier ≡ told pier) → NamesHinting told' stations ready → NamesHinting told stations ready
+hinting_told told told' stations ready same named = λ p. slot_named (station_at stations p) told told' ready same (named p)
+
+slot_on : (slot : Option Station) (told : Pier → Option Hint) (xs ys : List ReadyAt) → Grown xs ys → IfSome slot (λ station. StationNamed told station xs) → IfSome slot (λ station. StationNamed told station ys)
+slot_on None told xs ys grown named = tt
+slot_on (Some station) told xs ys grown named = station_on told station xs ys grown named
+
+pub hinting_on : (told : Pier → Option Hint) (stations : List Station) (xs ys : List ReadyAt) → Grown xs ys → NamesHinting told stations xs → NamesHinting told stations ys
+hinting_on told stations xs ys grown named = λ p. slot_on (station_at stations p) told xs ys grown (named p)
+
+-- the place is gone through
+abbrev pub PlaceNamed : (Pier → Option Hint) → List Station → Place → List ReadyAt → Type 0
+PlaceNamed told stations p ready = IfSome (station_at stations p) (λ station. StationNamed told station ready)
+
+asked_step : (told : Pier → Option Hint) (stations : List Station) (places : List Place) (i j : ℕ) (last p : Place) (xs ys : List ReadyAt) → (j < i) ⊎ (j ≡ i) → slice_get places i ≡ Some last → slice_get places j ≡ Some p → Grown xs ys → (j < i → PlaceNamed told stations p xs) → PlaceNamed told stations last ys → PlaceNamed told stations p ys
+asked_step told stations places i j last p xs ys (inl below) at here grown before named = slot_on (station_at stations p) told xs ys grown (before below)
+asked_step told stations places i j last p xs ys (inr same) at here grown before named =
+    let f : Some last ≡ Some p = sym at ∙ (ap (slice_get places) (sym same) ∙ here) in
+    let is : last ≡ p = cc in
+    subst (λ x. PlaceNamed told stations x ys) is named
+
+-- one more place whose halves are named
+pub asked_more : (told : Pier → Option Hint) (stations : List Station) (places : List Place) (i : ℕ) (last : Place) (xs ys : List ReadyAt) → slice_get places i ≡ Some last → Grown xs ys → ((j : ℕ) (p : Place) → j < i → slice_get places j ≡ Some p → PlaceNamed told stations p xs) → PlaceNamed told stations last ys → (j : ℕ) (p : Place) → j < i + 1 → slice_get places j ≡ Some p → PlaceNamed told stations p ys
+asked_more told stations places i last xs ys at grown before named j p below here =
+    asked_step told stations places i j last p xs ys (below_or_last i j below) at here grown (λ b. before j p b here) named
+
+quiet_told : (p : Place) (slot : Option BerthSeen) → IsMoored p false slot → hints_of slot ≡ None
+quiet_told p None h = elim h [ ]
+quiet_told p (Some berth) h = (h.1 refl).1
+
+none_named : (slot : Option Hint) (half : Half) (place : Place) (ready : List ReadyAt) → slot ≡ None → IfSome slot (λ hint. is_hinted half hint ≡ true → IsNamed ready place half)
+none_named slot half place ready e = subst (λ x. IfSome x (λ hint. is_hinted half hint ≡ true → IsNamed ready place half)) (sym e) tt
+
+-- a port that never hints tells no half as ready
+quiet_named : (input output errors : Option Hint) (made : Slab BerthSeen) (p : Place) (station : Station) (base : Base) (half : Half) (ready : List ReadyAt) → StandsOn made p base false → IfSome (hint_told input output errors made (half_pier half base)) (λ hint. is_hinted half hint ≡ true → IsNamed ready station.place half)
+quiet_named input output errors made p station (bases.Made key) ToRead ready h = none_named (hints_of (get made key)) ToRead station.place ready (quiet_told p (get made key) h)
+quiet_named input output errors made p station (bases.Made key) ToWrite ready h = none_named (hints_of (get made key)) ToWrite station.place ready (quiet_told p (get made key) h)
+quiet_named input output errors made p station bases.Input half ready h = absurd cc
+quiet_named input output errors made p station bases.Output half ready h = absurd cc
+quiet_named input output errors made p station bases.Both half ready h = absurd cc
+quiet_named input output errors made p station bases.Errors half ready h = absurd cc
+
+either_named : (input output errors : Option Hint) (made : Slab BerthSeen) (p : Place) (station : Station) (asked : Bool) (ready : List ReadyAt) → station.asked ≡ asked → (asked ≡ true → StationNamed (hint_told input output errors made) station ready) → StandsOn made p station.base station.asked → StationNamed (hint_told input output errors made) station ready
+either_named input output errors made p station true ready e named stands = named refl
+either_named input output errors made p station false ready e named stands =
+    λ half off. quiet_named input output errors made p station station.base half ready (subst (λ b. StandsOn made p station.base b) e stands)
+
+asked_slot : (input output errors : Option Hint) (made : Slab BerthSeen) (stations : List Station) (places : List Place) (i : ℕ) (ready : List ReadyAt) → length places ≤ i → AreListed stations places → ((j : ℕ) (p : Place) → j < i → slice_get places j ≡ Some p → PlaceNamed (hint_told input output errors made) stations p ready) → (p : Place) (slot : Option Station) → station_at stations p ≡ slot → StandsSo made p slot → IfSome slot (λ station. StationNamed (hint_told input output errors made) station ready)
+asked_slot input output errors made stations places i ready past listed named p None e stands = tt
+asked_slot input output errors made stations places i ready past listed named p (Some s) e stands =
+    either_named input output errors made p s s.asked ready refl
+    (λ asked.
+    let index = asked_index stations places p s listed e asked in
+    let here = named index.0 p (omega (arith, within places index.0 p index.1, past)) index.1 in
+    subst (λ slot. IfSome slot (λ station. StationNamed (hint_told input output errors made) station ready)) e here)
+    stands
+
+-- every listed place was gone through, and no other one hints
+pub asked_all : (input output errors : Option Hint) (made : Slab BerthSeen) (stations : List Station) (places : List Place) (i : ℕ) (ready : List ReadyAt) → length places ≤ i → AreListed stations places → IsSound stations made → ((j : ℕ) (p : Place) → j < i → slice_get places j ≡ Some p → PlaceNamed (hint_told input output errors made) stations p ready) → NamesHinting (hint_told input output errors made) stations ready
+asked_all input output errors made stations places i ready past listed sound named p =
+    asked_slot input output errors made stations places i ready past listed named p (station_at stations p) refl (so_is made p (station_at stations p) (sound p))
+
+pub place_told : (told told' : Pier → Option Hint) (stations : List Station) (p : Place) (ready : List ReadyAt) → ((pier : Pier) → told' pier ≡ told pier) → PlaceNamed told' stations p ready → PlaceNamed told stations p ready
+place_told told told' stations p ready same named = slot_named (station_at stations p) told told' ready same named
+
+-- ---- arming
+
+and_false : (b : Bool) → (b && false) ≡ false
+and_false true = refl
+and_false false = refl
+
+and_true : (b : Bool) → (b && true) ≡ b
+and_true true = refl
+and_true false = refl
+
+or_false : (b : Bool) → (b || false) ≡ b
+or_false true = refl
+or_false false = refl
+
+or_assoc : (a b c : Bool) → (a || (b || c)) ≡ ((a || b) || c)
+or_assoc true b c = refl
+or_assoc false b c = refl
+
+and_not_or : (d n h : Bool) → ((d && not n) && not h) ≡ (d && not (n || h))
+and_not_or true true h = refl
+and_not_or true false h = refl
+and_not_or false n h = refl
+
+-- whether the entry is this half of this place
+abbrev is_hit : ReadyAt → Place → Half → Bool
+is_hit e p half = same_place e.place p && same_half e.half half
+
+names_next : (xs : List ReadyAt) (i : ℕ) (e : ReadyAt) (p : Place) (half : Half) → slice_get xs i ≡ Some e → names (take (suc i) xs) p half ≡ (names (take i xs) p half || is_hit e p half)
+names_next [] i e p half at = absurd cc
+names_next (x ∷ xs) zero e p half at =
+    let is : x ≡ e = cc in
+    or_false (is_hit x p half) ∙ ap (λ y. is_hit y p half) is
+names_next (x ∷ xs) (suc i) e p half at =
+    ap (λ b. is_hit x p half || b) (names_next xs i e p half at) ∙ or_assoc (is_hit x p half) (names (take i xs) p half) (is_hit e p half)
+
+half_arms : (slot : Option Station) (half h : Half) → half_disarmed h (option_map (with_half half false) slot) ≡ (half_disarmed h slot && not (same_half half h))
+half_arms None ToRead ToRead = refl
+half_arms None ToRead ToWrite = refl
+half_arms None ToWrite ToRead = refl
+half_arms None ToWrite ToWrite = refl
+half_arms (Some s) ToRead ToRead = sym (and_false s.reading_disarmed)
+half_arms (Some s) ToRead ToWrite = sym (and_true s.writing_disarmed)
+half_arms (Some s) ToWrite ToRead = sym (and_true s.reading_disarmed)
+half_arms (Some s) ToWrite ToWrite = sym (and_false s.writing_disarmed)
+
+arm_step : (b : Bool) (slot rest now : Option Station) (half h : Half) → now ≡ (if b then option_map (with_half half false) slot else rest) → (b ≡ true → slot ≡ rest) → half_disarmed h now ≡ (half_disarmed h rest && not (b && same_half half h))
+arm_step true slot rest now half h e same = ap (half_disarmed h) e ∙ (half_arms slot half h ∙ ap (λ s. half_disarmed h s && not (same_half half h)) (same refl))
+arm_step false slot rest now half h e same = ap (half_disarmed h) e ∙ sym (and_true (half_disarmed h rest))
+
+-- the half that is marked is armed, and no other
+mark_arms : (xs ys : List Station) (e : ReadyAt) → SetsStation e.place (option_map (with_half e.half false) (station_at xs e.place)) (station_at xs) (station_at ys) → (p : Place) (h : Half) → is_disarmed ys p h ≡ (is_disarmed xs p h && not (is_hit e p h))
+mark_arms xs ys e sets p h = arm_step (same_place e.place p) (station_at xs e.place) (station_at xs p) (station_at ys p) e.half h (sets p) (λ same. ap (station_at xs) (same_place-eq e.place p same))
+
+-- one more entry whose half is armed
+pub armed_more : (first xs ys : List Station) (ready : List ReadyAt) (i : ℕ) (e : ReadyAt) → slice_get ready i ≡ Some e → SetsStation e.place (option_map (with_half e.half false) (station_at xs e.place)) (station_at xs) (station_at ys) → ((p : Place) (h : Half) → is_disarmed xs p h ≡ (is_disarmed first p h && not (names (take i ready) p h))) → (p : Place) (h : Half) → is_disarmed ys p h ≡ (is_disarmed first p h && not (names (take (i + 1) ready) p h))
+armed_more first xs ys ready i e at sets before p h =
+    let next : names (take (i + 1) ready) p h ≡ (names (take i ready) p h || is_hit e p h) = rw add-one (names_next ready i e p h at) in
+    mark_arms xs ys e sets p h
+    ∙ (ap (λ b. b && not (is_hit e p h)) (before p h)
+    ∙ (and_not_or (is_disarmed first p h) (names (take i ready) p h) (is_hit e p h)
+    ∙ ap (λ b. is_disarmed first p h && not b) (sym next)))
+
+-- every entry was gone through
+pub armed_all : (first xs : List Station) (ready : List ReadyAt) (i : ℕ) → length ready ≤ i → ((p : Place) (h : Half) → is_disarmed xs p h ≡ (is_disarmed first p h && not (names (take i ready) p h))) → (p : Place) (h : Half) → is_disarmed xs p h ≡ (is_disarmed first p h && not (names ready p h))
+armed_all first xs ready i past armed p h = armed p h ∙ ap (λ es. is_disarmed first p h && not (names es p h)) (take_all i ready past)
+
+-- before the first entry
+pub armed_first : (first : List Station) (ready : List ReadyAt) (p : Place) (h : Half) → is_disarmed first p h ≡ (is_disarmed first p h && not (names (take 0 ready) p h))
+armed_first first [] p h = sym (and_true (is_disarmed first p h))
+armed_first first (e ∷ ready) p h = sym (and_true (is_disarmed first p h))

@@ -1,0 +1,10 @@
+use Rattle.std.proofs.Common.{rules}
+use Rattle.desk_places.specs.Stations.{hold_at}
+use Rattle.port_desk.proofs.NamingLemmas.{names_on}
+use Rattle.port_desk.proofs.worlds.DeskWorld.wait.Goals as goal
+
+pub returns-then-stop-clause-named : goal.returns-then-stop-clause-named
+returns-then-stop-clause-named g c = names_on (hold_at c.poll-polled.new.self.log.stations.entries) (hold_at c.arm_named.new.stations.entries) c.poll-polled.new.ready.entries (rw c.put_turn.ensures.stations at c.arm_named.ensures.held) c.poll-polled.ensures.named
+
+pub returns-else-stop-clause-named : goal.returns-else-stop-clause-named
+returns-else-stop-clause-named g c = names_on (hold_at c.poll-polled.new.self.log.stations.entries) (hold_at c.arm_named.new.stations.entries) c.poll-polled.new.ready.entries (rw c.put_turn.ensures.stations at c.arm_named.ensures.held) c.poll-polled.ensures.named

@@ -1,0 +1,47 @@
+-- The one call on a port that stands behind an answer of a desk. After `Memory` none was made.
+use Rattle.std.specs.Prelude.{◌≡◌, ℕ, List, ⊤}
+use Rattle.desk_ports.specs.Ports.{PortSeen, Reads, Writes, Sends, Shuts}
+use Rattle.port_trait.specs.declared.answers.Got.TheVariants as gots
+use Rattle.port_trait.specs.declared.answers.Took.TheVariants as tooks
+use Rattle.port_trait.specs.declared.answers.Shutting.TheVariants as shuttings
+use Rattle.world_trait.specs.declared.answers.Turned.{Turned}
+use Rattle.world_trait.specs.declared.answers.Turned.TheVariants as turns
+use Rattle.world_trait.specs.declared.answers.ReadAnswer.{ReadAnswer}
+use Rattle.world_trait.specs.declared.answers.ReadAnswer.TheVariants as reads
+use Rattle.world_trait.specs.declared.answers.WriteAnswer.{WriteAnswer}
+use Rattle.world_trait.specs.declared.answers.WriteAnswer.TheVariants as writes
+use Rattle.world_trait.specs.declared.answers.SendAnswer.{SendAnswer}
+use Rattle.world_trait.specs.declared.answers.SendAnswer.TheVariants as sends
+use Rattle.world_trait.specs.declared.answers.ShutAnswer.{ShutAnswer}
+use Rattle.world_trait.specs.declared.answers.ShutAnswer.TheVariants as shuts
+
+abbrev pub ReadsSo : List ℕ → ReadAnswer → PortSeen → PortSeen → Type 0
+ReadsSo into (reads.Bytes n) before now = Reads before now into (gots.Bytes n)
+ReadsSo into reads.Empty before now = Reads before now into gots.Empty
+ReadsSo into reads.End before now = Reads before now into gots.End
+ReadsSo into reads.NotYet before now = Reads before now into gots.NotYet
+ReadsSo into reads.Failed before now = Reads before now into gots.Failed
+ReadsSo into reads.Memory before now = now ≡ before
+
+abbrev pub WritesSo : List ℕ → WriteAnswer → PortSeen → PortSeen → Type 0
+WritesSo bytes (writes.Took n) before now = Writes before now bytes (tooks.Took n)
+WritesSo bytes writes.NotYet before now = Writes before now bytes tooks.NotYet
+WritesSo bytes writes.Failed before now = Writes before now bytes tooks.Failed
+WritesSo bytes writes.Memory before now = now ≡ before
+
+-- a packet is taken as a whole
+abbrev pub SendsSo : List ℕ → SendAnswer → PortSeen → PortSeen → Type 0
+SendsSo bytes sends.Sent before now = (n : ℕ) × Sends before now bytes (tooks.Took n)
+SendsSo bytes sends.NotYet before now = Sends before now bytes tooks.NotYet
+SendsSo bytes sends.Failed before now = Sends before now bytes tooks.Failed
+SendsSo bytes sends.Memory before now = now ≡ before
+
+abbrev pub ShutsSo : ShutAnswer → PortSeen → PortSeen → Type 0
+ShutsSo shuts.Done before now = Shuts before now shuttings.Done
+ShutsSo shuts.Failed before now = Shuts before now shuttings.Failed
+ShutsSo shuts.Memory before now = now ≡ before
+
+-- a fact of a wait that came to its end
+abbrev pub OnTurned : Turned → Type 0 → Type 0
+OnTurned (turns.Turned at stop) P = P
+OnTurned turns.Memory P = ⊤

@@ -1,0 +1,49 @@
+-- What a turn is to name: halves whose key a poller named, and disarmed ones whose port hints that they are ready.
+use Rattle.std.specs.Prelude.{◌≡◌, ◌≤◌, ◌⊎◌, ℕ, Bool, true, List, length, slice_get, Option, None, Some, IfSome}
+use Rattle.relay_model.specs.declared.places.Place.{Place}
+use Rattle.relay_model.specs.declared.places.Half.{Half}
+use Rattle.relay_model.specs.declared.places.Half.TheVariants.{ToRead, ToWrite}
+use Rattle.relay_model.specs.declared.readiness.ReadyAt.{ReadyAt}
+use Rattle.relay_model.specs.Readiness.{names}
+use Rattle.port_trait.specs.declared.answers.Hint.{Hint}
+use Rattle.desk_ports.specs.Harbors.{Pier, giving_pier, taking_pier}
+use Rattle.desk_ports.specs.declared.bases.Base.{Base}
+use Rattle.desk_ports.specs.declared.bases.Base.TheVariants as bases
+use Rattle.desk_places.specs.declared.stations.Station.{Station}
+use Rattle.desk_places.specs.Stations.{base_at, half_disarmed, station_at}
+
+-- the half is named, unless the list is full
+abbrev pub IsNamed : List ReadyAt → Place → Half → Type 0
+IsNamed ready p half = (names ready p half ≡ true) ⊎ (256 ≤ length ready)
+
+-- what was named stays so
+pub record Grown (before now : List ReadyAt) : Type 0 where
+  pub kept : (p : Place) (half : Half) → names before p half ≡ true → names now p half ≡ true
+  pub longer : length before ≤ length now
+
+-- each half whose key the poller named is named for the place that stands on that key
+abbrev pub KeyNamed : ℕ × Half → List Station → List ReadyAt → Type 0
+KeyNamed e stations ready = (p : Place) → base_at stations p ≡ Some (bases.Made e.0) → IsNamed ready p e.1
+
+abbrev pub NamesKeyed : List (ℕ × Half) → List Station → List ReadyAt → Type 0
+NamesKeyed entries stations ready = (i : ℕ) (e : ℕ × Half) → slice_get entries i ≡ Some e → KeyNamed e stations ready
+
+abbrev pub half_pier : Half → Base → Pier
+half_pier ToRead base = giving_pier base
+half_pier ToWrite base = taking_pier base
+
+abbrev pub is_hinted : Half → Hint → Bool
+is_hinted ToRead hint = hint.readable
+is_hinted ToWrite hint = hint.writable
+
+-- the disarmed halves of the station that the hint finds ready are named
+abbrev pub HintNamed : Station → Hint → List ReadyAt → Type 0
+HintNamed station hint ready = (half : Half) → half_disarmed half (Some station) ≡ true → is_hinted half hint ≡ true → IsNamed ready station.place half
+
+-- the disarmed halves of the station whose port tells that they are ready are named
+abbrev pub StationNamed : (Pier → Option Hint) → Station → List ReadyAt → Type 0
+StationNamed told station ready = (half : Half) → half_disarmed half (Some station) ≡ true → IfSome (told (half_pier half station.base)) (λ hint. is_hinted half hint ≡ true → IsNamed ready station.place half)
+
+-- each disarmed half whose port tells that it is ready is named
+abbrev pub NamesHinting : (Pier → Option Hint) → List Station → List ReadyAt → Type 0
+NamesHinting told stations ready = (p : Place) → IfSome (station_at stations p) (λ station. StationNamed told station ready)

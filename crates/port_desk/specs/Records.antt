@@ -1,0 +1,70 @@
+-- The acts by which a desk keeps what it did, and the answers that stand for those of a port.
+use Rattle.std.specs.Prelude.{◌≡◌, ℕ, ◌+◌, ◌-◌, ◌^◌, min, ◌≤◌, Bool, true, false, List, length, take, Option, None, Some, option_map, if◌then◌else◌}
+use Rattle.relay_model.specs.declared.acts.Act.{Act}
+use Rattle.relay_model.specs.Journals.{History, Asking}
+use Rattle.world_trait.specs.Recordings.{with_act, with_asking}
+use Rattle.port_trait.specs.Meanings.{Adds}
+use Rattle.port_trait.specs.declared.answers.Got.{Got}
+use Rattle.port_trait.specs.declared.answers.Got.TheVariants as gots
+use Rattle.port_trait.specs.declared.answers.Took.{Took}
+use Rattle.port_trait.specs.declared.answers.Took.TheVariants as tooks
+use Rattle.port_trait.specs.declared.answers.PortReap.{PortReap}
+use Rattle.port_trait.specs.declared.answers.PortReap.TheVariants as childs
+use Rattle.world_trait.specs.declared.answers.Turned.{Turned}
+use Rattle.world_trait.specs.declared.answers.Turned.TheVariants as turns
+use Rattle.world_trait.specs.declared.answers.ReadAnswer.{ReadAnswer}
+use Rattle.world_trait.specs.declared.answers.ReadAnswer.TheVariants as reads
+use Rattle.world_trait.specs.declared.answers.WriteAnswer.{WriteAnswer}
+use Rattle.world_trait.specs.declared.answers.WriteAnswer.TheVariants as writes
+use Rattle.world_trait.specs.declared.answers.SendAnswer.{SendAnswer}
+use Rattle.world_trait.specs.declared.answers.SendAnswer.TheVariants as sends
+use Rattle.world_trait.specs.declared.answers.NoteAnswer.{NoteAnswer}
+use Rattle.world_trait.specs.declared.answers.NoteAnswer.TheVariants as notes
+use Rattle.world_trait.specs.declared.answers.ReapAnswer.{ReapAnswer}
+use Rattle.world_trait.specs.declared.answers.ReapAnswer.TheVariants as reaps
+
+-- a count rises by one where something happened, and nowhere else; it stays at its last value
+abbrev pub CountsOnce : ℕ → ℕ → Bool → Type 0
+CountsOnce before now happened = now ≡ (if happened then min (before + 1) (2 ^ 64 - 1) else before)
+
+-- the count of stops over a wait
+abbrev pub CountsStop : ℕ → ℕ → Turned → Type 0
+CountsStop before now (turns.Turned at stop) = CountsOnce before now stop
+CountsStop before now turns.Memory = now ≡ before
+
+-- the act of an answer is told, where acts are told
+abbrev pub Tells : Option Act → Option History → Option History → Type 0
+Tells None told told' = told' ≡ told
+Tells (Some act) told told' = told' ≡ option_map (with_act act) told
+
+-- the same, and what was asked is told too
+abbrev pub TellsAsking : Asking → Option Act → Option History → Option History → Type 0
+TellsAsking asking None told told' = told' ≡ told
+TellsAsking asking (Some act) told told' = told' ≡ option_map (with_asking act asking) told
+
+abbrev pub read_answer : Got → ReadAnswer
+read_answer (gots.Bytes n) = reads.Bytes n
+read_answer gots.Empty = reads.Empty
+read_answer gots.End = reads.End
+read_answer gots.NotYet = reads.NotYet
+read_answer gots.Failed = reads.Failed
+
+abbrev pub write_answer : Took → WriteAnswer
+write_answer (tooks.Took n) = writes.Took n
+write_answer tooks.NotYet = writes.NotYet
+write_answer tooks.Failed = writes.Failed
+
+abbrev pub send_answer : Took → SendAnswer
+send_answer (tooks.Took n) = sends.Sent
+send_answer tooks.NotYet = sends.NotYet
+send_answer tooks.Failed = sends.Failed
+
+abbrev pub reap_answer : PortReap → ReapAnswer
+reap_answer (childs.Reaped end) = reaps.Reaped end
+reap_answer childs.NoChild = reaps.NoChild
+
+-- what standard error took of a note, by the answer
+abbrev pub NotedSo : NoteAnswer → Option (List ℕ) → Option (List ℕ) → List ℕ → Type 0
+NotedSo notes.Noted before now text = Adds before now text
+NotedSo notes.Failed before now text = (n : ℕ) × (n ≤ length text) × Adds before now (take n text)
+NotedSo notes.Memory before now text = now ≡ before

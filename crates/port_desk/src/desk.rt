@@ -1,0 +1,219 @@
+// The world of a relay between ports.
+ghost use Rattle.std.specs.Prelude.{◌≡◌, ◌≤◌, ◌<◌, ◌&&◌, ◌+◌, not, [], length, vec_len, vec_capacity, Some, true, false, is_some, IfOk, IfSome, MatchOption, None, OnOk};
+ghost use Rattle.slab.specs.Slab.{HasRoomFor, SameValues};
+ghost use Rattle.world_trait.specs.Answers.{NamesHeld};
+ghost use Rattle.world_trait.specs.HoldTables.{hold_found};
+ghost use Rattle.world_trait.specs.Recordings.{HasAskingRoom, HasRoom, KeepsNothing, told_by};
+ghost use Rattle.world_trait.specs.Runs.{IsFresh};
+ghost use Rattle.relay_model.specs.Holding.{Free};
+ghost use Rattle.relay_model.specs.declared.places.Place.{Place};
+ghost use Rattle.port_trait.specs.Meanings.{Behind};
+ghost use Rattle.desk_ports.specs.Endings.{EndsSo, OnJoinedBack, handed, is_left};
+ghost use Rattle.desk_ports.specs.Ports.{seen};
+ghost use Rattle.desk_ports.specs.Harbors.{hint_told};
+ghost use Rattle.desk_places.specs.Footing.{IsSound};
+ghost use Rattle.desk_places.specs.Stations.{hold_at};
+ghost use Rattle.port_desk.specs.Naming.{NamesHinting, NamesKeyed};
+
+use crate::clocks::Clock;
+use crate::endings::{Backs, Counts, Ended};
+use crate::naming::{name_hinting, name_keyed};
+use crate::records::Log;
+use desk_places::Ports;
+use desk_ports::Standard;
+use port_trait::{Maker, Polled, Poller, Port};
+use relay_model::{Kept, NoMemory, Place, ReadyList, Single};
+use std::alloc::Global;
+use world_trait::{Recorder, Standing, World};
+
+/// A world over ports: standard input, output and errors, and the ports of a maker for all other addresses. A poller
+/// waits for them. Each call on a place is one call on its port, and each failure of a call is a fault that it counts.
+#[derive(Drop)]
+pub struct Desk<M: Maker + Drop, P: Poller + Drop, I: Port, O: Port, E: Port> {
+    pub(crate) ports: Ports<M, I, O, E>,
+    pub(crate) clock: Clock<P>,
+    pub(crate) log: Log,
+    pub(crate) waits: u64,
+    pub(crate) stops: u64,
+    ghost sound: { IsSound log.stations.entries ports.harbor.made },
+    ghost parents_room: { length log.stations.entries + vec_len ports.parents ≤ vec_capacity ports.parents },
+}
+
+impl<M: Maker + Drop, P: Poller + Drop, I: Port, O: Port, E: Port> Desk<M, P, I, O, E> {
+    /// A desk at which nothing is held.
+    pub fn new(
+        alloc: Global,
+        standard: Standard<I, O, E>,
+        maker: M,
+        poller: P,
+        recorder: Recorder,
+    ) -> Result<Desk<M, P, I, O, E>, NoMemory>
+        ensures told { IfOk result (λ desk. ⟦<Desk<M, P, I, O, E> as World>⟧.told desk ≡ told_by recorder (record { acts = []; spare = 0 }) (record { pairs = []; spare = 0 })) }
+        ensures fresh { let w = ⟦<Desk<M, P, I, O, E> as World>⟧ in IfOk result (λ desk. IsFresh (w.held desk) (w.faults desk) (w.waits desk) (w.stops desk) (w.clock desk)) }
+        ensures untouched { IfOk result (λ desk. desk.log.acted ≡ false) }
+        ensures stdin { IfOk result (λ desk. (desk.ports.harbor.input.port ≡ seen I.gave I.took I.hints I.hinting I.counts I.ended I.joins I.child standard.stdin) × (desk.ports.harbor.input.begun ≡ false) × (desk.ports.harbor.input.finished ≡ false)) }
+        ensures stdout { IfOk result (λ desk. (desk.ports.harbor.output.port ≡ seen O.gave O.took O.hints O.hinting O.counts O.ended O.joins O.child standard.stdout) × (desk.ports.harbor.output.begun ≡ false) × (desk.ports.harbor.output.finished ≡ false)) }
+        ensures stderr { IfOk result (λ desk. (desk.ports.harbor.errors.port ≡ seen E.gave E.took E.hints E.hinting E.counts E.ended E.joins E.child standard.stderr) × (desk.ports.harbor.errors.begun ≡ false) × (desk.ports.harbor.errors.finished ≡ false)) }
+    {
+        Ok(Desk {
+            ports: Ports::new(alloc, standard, maker),
+            clock: Clock::new(alloc, poller)?,
+            log: Log::new(alloc, recorder),
+            waits: 0,
+            stops: 0,
+        })
+    }
+
+    /// Keeps the history from now on. No act was made before, and so nothing is held. Takes no memory.
+    pub fn keep(&mut self)
+        requires untouched { self.old.log.acted ≡ false }
+        requires free { self.old.log.stations.entries ≡ [] }
+        ensures told { ⟦<Desk<M, P, I, O, E> as World>⟧.told self.new ≡ Some (record { acts = []; asked = [] }) }
+        ensures untouched { self.new.log.acted ≡ false }
+        ensures ports { self.new.ports ≡ self.old.ports }
+        ensures stations { self.new.log.stations ≡ self.old.log.stations }
+        ensures faults { self.new.log.faults ≡ self.old.log.faults }
+        ensures waits { self.new.waits ≡ self.old.waits }
+        ensures stops { self.new.stops ≡ self.old.stops }
+        ensures clock { self.new.clock ≡ self.old.clock }
+    {
+        self.log.keep();
+    }
+
+    /// How the place stands; none where nothing is held there.
+    pub fn standing(&self, place: Place) -> Option<Standing>
+        ensures { hold_found result ≡ ⟦<Desk<M, P, I, O, E> as World>⟧.held self.now place }
+    {
+        match self.log.stations.find(place) {
+            None => None,
+            Some(station) => Some(station.standing),
+        }
+    }
+
+    /// What was kept; nothing by a desk that skips.
+    pub fn kept(&self) -> &Kept
+        ensures skipped { is_some (⟦<Desk<M, P, I, O, E> as World>⟧.told self.now) ≡ false → KeepsNothing result.now }
+        ensures told { let w = ⟦<Desk<M, P, I, O, E> as World>⟧ in is_some (w.told self.now) ≡ true → w.told self.now ≡ Some (record { acts = result.now.journal.acts; asked = result.now.asked.pairs }) }
+    {
+        self.log.recording.kept()
+    }
+
+    /// Ends the desk, at which nothing is held. Each standard port that has begun and wasn't told the end of its output
+    /// is shut with `Close`; then each is joined. Takes no memory.
+    pub fn end(self) -> Ended<I, O, E>
+        requires { (p : Place) → ⟦<Desk<M, P, I, O, E> as World>⟧.held self p ≡ Free }
+        ensures stdin { EndsSo (self.ports.harbor.input.begun && not self.ports.harbor.input.finished) self.ports.harbor.input.port (is_left result.standard.stdin) (seen I.gave I.took I.hints I.hinting I.counts I.ended I.joins I.child (handed result.standard.stdin)) }
+        ensures stdin_behind { OnJoinedBack (λ port. Behind (I.gave port) (I.took port) (I.behind_gave port) (I.behind_took port) (I.behind_left port) (I.behind_faults port) (I.ended port)) result.standard.stdin }
+        ensures stdout { EndsSo (self.ports.harbor.output.begun && not self.ports.harbor.output.finished) self.ports.harbor.output.port (is_left result.standard.stdout) (seen O.gave O.took O.hints O.hinting O.counts O.ended O.joins O.child (handed result.standard.stdout)) }
+        ensures stdout_behind { OnJoinedBack (λ port. Behind (O.gave port) (O.took port) (O.behind_gave port) (O.behind_took port) (O.behind_left port) (O.behind_faults port) (O.ended port)) result.standard.stdout }
+        ensures stderr { EndsSo (self.ports.harbor.errors.begun && not self.ports.harbor.errors.finished) self.ports.harbor.errors.port (is_left result.standard.stderr) (seen E.gave E.took E.hints E.hinting E.counts E.ended E.joins E.child (handed result.standard.stderr)) }
+        ensures stderr_behind { OnJoinedBack (λ port. Behind (E.gave port) (E.took port) (E.behind_gave port) (E.behind_took port) (E.behind_left port) (E.behind_faults port) (E.ended port)) result.standard.stderr }
+        ensures skipped { is_some (⟦<Desk<M, P, I, O, E> as World>⟧.told self) ≡ false → KeepsNothing result.kept }
+        ensures kept { let w = ⟦<Desk<M, P, I, O, E> as World>⟧ in is_some (w.told self) ≡ true → w.told self ≡ Some (record { acts = result.kept.journal.acts; asked = result.kept.asked.pairs }) }
+        ensures counts { let w = ⟦<Desk<M, P, I, O, E> as World>⟧ in result.counts ≡ record { faults = w.faults self; waits = w.waits self; stops = w.stops self } }
+    {
+        let counts = Counts::new(self.log.faults, self.waits, self.stops);
+        let Desk {
+            ports,
+            clock: _,
+            log,
+            waits: _,
+            stops: _,
+        } = self;
+        let (input, output, errors) = ports.into_streams();
+        Ended {
+            standard: Backs {
+                stdin: input.end(),
+                stdout: output.end(),
+                stderr: errors.end(),
+            },
+            kept: log.into_kept(),
+            counts,
+        }
+    }
+
+    /// Makes room for one further place, its port, its act and its closing.
+    pub(crate) fn prepare_port(&mut self) -> Result<(), NoMemory>
+        ensures acts_room { OnOk result (HasRoom (length self.new.log.stations.entries + 2) self.new.log.recording) }
+        ensures stations_room { OnOk result (0 < self.new.log.stations.spare) }
+        ensures made_room { OnOk result (HasRoomFor self.new.ports.harbor.made 1) }
+        ensures parents_room { OnOk result (length self.new.log.stations.entries + 1 + vec_len self.new.ports.parents ≤ vec_capacity self.new.ports.parents) }
+        ensures entries { self.new.log.stations.entries ≡ self.old.log.stations.entries }
+        ensures told { self.new.log.recording.told ≡ self.old.log.recording.told }
+        ensures faults { self.new.log.faults ≡ self.old.log.faults }
+        ensures streams { (self.new.ports.harbor.input ≡ self.old.ports.harbor.input) × (self.new.ports.harbor.output ≡ self.old.ports.harbor.output) × (self.new.ports.harbor.errors ≡ self.old.ports.harbor.errors) }
+        ensures made { SameValues self.old.ports.harbor.made self.new.ports.harbor.made }
+        ensures maker { self.new.ports.maker ≡ self.old.ports.maker }
+        ensures waits { self.new.waits ≡ self.old.waits }
+        ensures stops { self.new.stops ≡ self.old.stops }
+        ensures clock { self.new.clock ≡ self.old.clock }
+    {
+        self.log.reserve(2)?;
+        self.log.stations.reserve()?;
+        self.ports.reserve(self.log.stations.len() + 1)
+    }
+
+    /// The same for what is asked to be opened, and a copy of that where it is kept.
+    pub(crate) fn prepare_opening(&mut self, single: &Single) -> Result<Option<Single>, NoMemory>
+        ensures acts_room { OnOk result (HasRoom (length self.new.log.stations.entries + 2) self.new.log.recording) }
+        ensures asking_room { OnOk result (HasAskingRoom 1 self.new.log.recording) }
+        ensures copied { IfOk result (λ copy. MatchOption copy (self.new.log.recording.told ≡ None) (λ kept. kept ≡ single.now)) }
+        ensures stations_room { OnOk result (0 < self.new.log.stations.spare) }
+        ensures made_room { OnOk result (HasRoomFor self.new.ports.harbor.made 1) }
+        ensures parents_room { OnOk result (length self.new.log.stations.entries + 1 + vec_len self.new.ports.parents ≤ vec_capacity self.new.ports.parents) }
+        ensures entries { self.new.log.stations.entries ≡ self.old.log.stations.entries }
+        ensures told { self.new.log.recording.told ≡ self.old.log.recording.told }
+        ensures faults { self.new.log.faults ≡ self.old.log.faults }
+        ensures streams { (self.new.ports.harbor.input ≡ self.old.ports.harbor.input) × (self.new.ports.harbor.output ≡ self.old.ports.harbor.output) × (self.new.ports.harbor.errors ≡ self.old.ports.harbor.errors) }
+        ensures made { SameValues self.old.ports.harbor.made self.new.ports.harbor.made }
+        ensures maker { self.new.ports.maker ≡ self.old.ports.maker }
+        ensures waits { self.new.waits ≡ self.old.waits }
+        ensures stops { self.new.stops ≡ self.old.stops }
+        ensures clock { self.new.clock ≡ self.old.clock }
+    {
+        self.prepare_port()?;
+        self.log.copied_asking(single)
+    }
+
+    /// Names what is ready, and waits for it where nothing is ready yet.
+    pub(crate) fn poll(&mut self, until: Option<u64>, ready: &mut ReadyList) -> Polled
+        requires room { 256 ≤ ready.old.room }
+        requires empty { ready.old.entries ≡ [] }
+        ensures room { ready.new.room ≡ ready.old.room }
+        ensures named { NamesHeld (hold_at self.new.log.stations.entries) ready.new.entries }
+        ensures hinted { NamesHinting (hint_told
+            self.old.ports.harbor.input.port.hints
+            self.old.ports.harbor.output.port.hints
+            self.old.ports.harbor.errors.port.hints
+            self.old.ports.harbor.made) self.old.log.stations.entries ready.new.entries }
+        ensures keyed { IfSome self.new.clock.named (λ entries. NamesKeyed entries self.old.log.stations.entries ready.new.entries) }
+        ensures input { self.new.ports.harbor.input.port
+            ≡ self.old.ports.harbor.input.port }
+        ensures output { self.new.ports.harbor.output.port
+            ≡ self.old.ports.harbor.output.port }
+        ensures errors { self.new.ports.harbor.errors.port
+            ≡ self.old.ports.harbor.errors.port }
+        ensures made { SameValues self.old.ports.harbor.made self.new.ports.harbor.made }
+        ensures maker { self.new.ports.maker ≡ self.old.ports.maker }
+        ensures parents { self.new.ports.parents ≡ self.old.ports.parents }
+        ensures log { self.new.log ≡ self.old.log }
+        ensures waits { self.new.waits ≡ self.old.waits }
+        ensures stops { self.new.stops ≡ self.old.stops }
+        ensures last { self.new.clock.last ≡ self.old.clock.last }
+        ensures at { result.at ≡ self.new.clock.reached }
+        ensures later { self.old.clock.last ≤ result.at }
+    {
+        let log = &self.log;
+        name_hinting(&mut self.ports, &log.stations, ready);
+        if ready.len() > 0 {
+            let last = self.clock.last();
+            let polled = self.clock.poll(Some(last));
+            name_keyed(&self.ports, &log.stations, self.clock.keys(), ready);
+            return polled;
+        }
+        let polled = self.clock.poll(until);
+        name_keyed(&self.ports, &log.stations, self.clock.keys(), ready);
+        name_hinting(&mut self.ports, &log.stations, ready);
+        polled
+    }
+}

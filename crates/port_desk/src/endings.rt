@@ -1,0 +1,62 @@
+// What a desk leaves.
+ghost use Rattle.std.specs.Prelude.{◌≡◌};
+
+use desk_ports::Back;
+use relay_model::Kept;
+
+/// The three standard ports.
+#[derive(Drop)]
+pub struct Backs<I, O, E> {
+    pub stdin: Back<I>,
+    pub stdout: Back<O>,
+    pub stderr: Back<E>,
+}
+
+/// How often something failed, a turn was waited for, and a stop was answered, until the end of a desk.
+#[derive(Clone, Copy, Debug, PartialEq, Eq)]
+pub struct Counts {
+    faults: u64,
+    waits: u64,
+    stops: u64,
+}
+
+impl Counts {
+    pub fn new(faults: u64, waits: u64, stops: u64) -> Counts
+        ensures { result ≡ record { faults = faults; waits = waits; stops = stops } }
+    {
+        Counts {
+            faults,
+            waits,
+            stops,
+        }
+    }
+
+    /// How often something failed.
+    pub fn faults(&self) -> u64
+        ensures { result ≡ self.now.faults }
+    {
+        self.faults
+    }
+
+    /// How many turns were waited for.
+    pub fn waits(&self) -> u64
+        ensures { result ≡ self.now.waits }
+    {
+        self.waits
+    }
+
+    /// How often a stop was answered.
+    pub fn stops(&self) -> u64
+        ensures { result ≡ self.now.stops }
+    {
+        self.stops
+    }
+}
+
+/// What a desk leaves: the standard ports, what its recorder kept, and its counts.
+#[derive(Drop)]
+pub struct Ended<I, O, E> {
+    pub standard: Backs<I, O, E>,
+    pub kept: Kept,
+    pub counts: Counts,
+}

@@ -1,0 +1,411 @@
+// The calls of the relay on a desk.
+ghost use Rattle.std.specs.Prelude.{◌≡◌, ◌≤◌, ◌<◌, ◌&&◌, ℕ, None, Some, true, false, not, find, length, ◌⊎◌, IfSome, IfNone};
+ghost use Rattle.slab.specs.Slab.{get};
+ghost use Rattle.relay_model.specs.declared.places.Place.{Place};
+ghost use Rattle.relay_model.specs.declared.places.Half.{Half};
+ghost use Rattle.relay_model.specs.Holding.{Free, Open, Settling, is_free, is_open};
+ghost use Rattle.relay_model.specs.Places.{same_place};
+ghost use Rattle.relay_model.specs.Readiness.{names};
+ghost use Rattle.world_trait.specs.Answers.{Answered, AnsweredAsking, OnlyHeldNamed, NotReaped, OnlyWhereTold, ReadFits, Rose, WaitCounts, WriteFits, accept_act, close_act, is_accept_fault, is_listen_fault, is_note_fault, is_open_fault, is_read_fault, is_send_fault, is_shut_fault, is_write_fault, listen_act, note_act, open_act, read_act, reap_act, send_act, shut_act, wait_act, wants_read_memory, wants_send_memory, wants_shut_memory, wants_turn_memory, wants_write_memory, write_act};
+ghost use Rattle.port_desk.specs.Calls.{OnTurned, ReadsSo, SendsSo, ShutsSo, WritesSo};
+ghost use Rattle.desk_places.specs.Causes.{AcceptCause, ListenCause, OpenCause, StandardCause};
+ghost use Rattle.port_trait.specs.Counting.{Rose as Rises};
+ghost use Rattle.desk_ports.specs.Bases.{standard_of};
+ghost use Rattle.desk_ports.specs.Harbors.{AtErrors, AtInput, AtMade, AtOutput, MadeCall, giving_pier, hint_told, taking_pier};
+ghost use Rattle.desk_places.specs.Changes.{ReapsAnswered, SettlesMade, SettlesSo};
+ghost use Rattle.port_desk.specs.Naming.{NamesHinting, NamesKeyed};
+ghost use Rattle.desk_ports.specs.Ports.{MovesNothing, seen};
+ghost use Rattle.port_desk.specs.Records.{CountsOnce, CountsStop, NotedSo};
+ghost use Rattle.desk_places.specs.Stations.{base_at, hold_at, is_disarmed};
+ghost use Rattle.desk_ports.specs.declared.bases.Base.TheVariants as bases;
+
+use crate::desk::Desk;
+use crate::naming::arm_named;
+use port_trait::{Maker, Poller, Port, Took};
+use relay_model::{Act, Peer, Place, ReadyList, Shut, Single, Why};
+use world_trait::{
+    AcceptAnswer, ListenAnswer, NoteAnswer, OpenAnswer, ReadAnswer, ReapAnswer, SendAnswer,
+    ShutAnswer, Turned, World, WriteAnswer,
+};
+
+impl<M: Maker + Drop, P: Poller + Drop, I: Port, O: Port, E: Port> World for Desk<M, P, I, O, E> {
+    ghost told = { λ d. d.log.recording.told };
+
+    ghost held = { λ d. hold_at d.log.stations.entries };
+
+    ghost faults = { λ d. d.log.faults };
+
+    ghost waits = { λ d. d.waits };
+
+    ghost stops = { λ d. d.stops };
+
+    ghost clock = { λ d. d.clock.last };
+
+    /// Names the halves that hint, and those whose key the poller names. Where one hints, the poller doesn't wait.
+    fn wait(&mut self, until: Option<u64>, ready: &mut ReadyList) -> Turned
+        requires { 256 ≤ ready.old.room }
+        ensures room { 256 ≤ ready.new.room }
+        ensures act { Answered self.old.log.recording.told self.new.log.recording.told (hold_at self.old.log.stations.entries) (hold_at self.new.log.stations.entries) (wait_act until ready.new result) }
+        ensures counts { WaitCounts self.old.waits self.new.waits self.old.stops self.new.stops self.old.clock.last self.new.clock.last result }
+        ensures exact { self.new.log.faults ≡ self.old.log.faults }
+        ensures stopped { CountsStop self.old.stops self.new.stops result }
+        ensures faults { self.old.log.faults ≤ self.new.log.faults }
+        ensures named { OnlyHeldNamed (hold_at self.new.log.stations.entries) ready.new.entries result }
+        ensures memory { OnlyWhereTold self.old.log.recording.told (wants_turn_memory result) }
+        ensures keyed { OnTurned result (IfSome self.new.clock.named (λ entries. NamesKeyed entries self.old.log.stations.entries ready.new.entries)) }
+        ensures hinted { OnTurned result (NamesHinting
+            (hint_told
+            self.old.ports.harbor.input.port.hints
+            self.old.ports.harbor.output.port.hints
+            self.old.ports.harbor.errors.port.hints
+            self.old.ports.harbor.made)
+            self.old.log.stations.entries ready.new.entries) }
+        ensures armed { OnTurned result ((p : Place) (half : Half) → is_disarmed self.new.log.stations.entries p half ≡ (is_disarmed self.old.log.stations.entries p half && not (names ready.new.entries p half))) }
+        ensures input { self.new.ports.harbor.input.port
+            ≡ self.old.ports.harbor.input.port }
+        ensures output { self.new.ports.harbor.output.port
+            ≡ self.old.ports.harbor.output.port }
+        ensures errors { self.new.ports.harbor.errors.port
+            ≡ self.old.ports.harbor.errors.port }
+        ensures poller { OnTurned result (self.new.clock.last ≡ self.new.clock.reached) }
+    {
+        ready.clear();
+        let Ok(()) = self.log.reserve(1) else {
+            return Turned::Memory;
+        };
+        let polled = self.poll(until, ready);
+        let (at, stop) = (polled.at, polled.stop);
+        let Ok(()) = self.log.put_turn(until, at, ready, stop) else {
+            return Turned::Memory;
+        };
+        arm_named(&mut self.log.stations, ready);
+        self.clock.turn(at);
+        self.waits = self.waits.saturating_add(1);
+        if stop {
+            self.stops = self.stops.saturating_add(1);
+        }
+        Turned::Turned { at, stop }
+    }
+
+    fn open_place(&mut self, place: Place, single: &Single, behind: Option<Peer>) -> OpenAnswer
+        requires { hold_at self.old.log.stations.entries place ≡ Free }
+        ensures act { AnsweredAsking (place, single.now) self.old.log.recording.told self.new.log.recording.told (hold_at self.old.log.stations.entries) (hold_at self.new.log.stations.entries) (open_act place result) }
+        ensures cause { Rose self.old.log.faults self.new.log.faults (is_open_fault result) }
+        ensures exact { CountsOnce self.old.log.faults self.new.log.faults (is_open_fault result) }
+        ensures waits { self.new.waits ≡ self.old.waits }
+        ensures stops { self.old.stops ≤ self.new.stops }
+        ensures unstopped { self.new.stops ≡ self.old.stops }
+        ensures clock { self.new.clock.last ≡ self.old.clock.last }
+        ensures input { MovesNothing self.old.ports.harbor.input.port self.new.ports.harbor.input.port }
+        ensures output { MovesNothing self.old.ports.harbor.output.port self.new.ports.harbor.output.port }
+        ensures errors { MovesNothing self.old.ports.harbor.errors.port self.new.ports.harbor.errors.port }
+        ensures standard { IfSome (standard_of place single.now.target) (λ base. StandardCause (Rises self.old.ports.harbor.input.port.counts.faults self.new.ports.harbor.input.port.counts.faults
+            ⊎ (Rises self.old.ports.harbor.output.port.counts.faults self.new.ports.harbor.output.port.counts.faults
+            ⊎ Rises self.old.ports.harbor.errors.port.counts.faults self.new.ports.harbor.errors.port.counts.faults)) result) }
+        ensures made { IfNone (standard_of place single.now.target) (OpenCause (M.faults self.old.ports.maker) (M.faults self.new.ports.maker) (M.stalls self.old.ports.maker) (M.stalls self.new.ports.maker) result) }
+    {
+        let Ok(copied) = self.prepare_opening(single) else {
+            return OpenAnswer::Memory;
+        };
+        let answer = self
+            .ports
+            .open(&mut self.log.stations, place, single, behind);
+        self.log.keep_opening(place, answer, single, copied);
+        answer
+    }
+
+    fn settle(&mut self, place: Place) -> OpenAnswer
+        requires { hold_at self.old.log.stations.entries place ≡ Settling }
+        ensures act { Answered self.old.log.recording.told self.new.log.recording.told (hold_at self.old.log.stations.entries) (hold_at self.new.log.stations.entries) (open_act place result) }
+        ensures cause { Rose self.old.log.faults self.new.log.faults (is_open_fault result) }
+        ensures exact { CountsOnce self.old.log.faults self.new.log.faults (is_open_fault result) }
+        ensures waits { self.new.waits ≡ self.old.waits }
+        ensures stops { self.old.stops ≤ self.new.stops }
+        ensures unstopped { self.new.stops ≡ self.old.stops }
+        ensures clock { self.new.clock.last ≡ self.old.clock.last }
+        ensures input { IfSome (base_at self.old.log.stations.entries place) (λ base. AtInput (giving_pier base)
+            (SettlesSo self.old.ports.harbor.input.port self.new.ports.harbor.input.port result)
+            (self.new.ports.harbor.input ≡ self.old.ports.harbor.input)) }
+        ensures output { IfSome (base_at self.old.log.stations.entries place) (λ base. AtOutput (giving_pier base)
+            (SettlesSo self.old.ports.harbor.output.port self.new.ports.harbor.output.port result)
+            (self.new.ports.harbor.output ≡ self.old.ports.harbor.output)) }
+        ensures errors { IfSome (base_at self.old.log.stations.entries place) (λ base. AtErrors (giving_pier base)
+            (SettlesSo self.old.ports.harbor.errors.port self.new.ports.harbor.errors.port result)
+            (self.new.ports.harbor.errors ≡ self.old.ports.harbor.errors)) }
+        ensures made { IfSome (base_at self.old.log.stations.entries place) (λ base. AtMade (giving_pier base)
+            (λ key. SettlesMade self.old.ports.harbor.made self.new.ports.harbor.made key result)
+            (self.new.ports.harbor.made ≡ self.old.ports.harbor.made)) }
+    {
+        let Ok(()) = self.log.reserve(1) else {
+            return OpenAnswer::Memory;
+        };
+        let answer = self.ports.settle(&mut self.log.stations, place);
+        self.log.keep_settling(place, answer);
+        answer
+    }
+
+    fn listen(&mut self, door: Place, single: &Single) -> ListenAnswer
+        requires { hold_at self.old.log.stations.entries door ≡ Free }
+        ensures act { AnsweredAsking (door, single.now) self.old.log.recording.told self.new.log.recording.told (hold_at self.old.log.stations.entries) (hold_at self.new.log.stations.entries) (listen_act door result) }
+        ensures cause { Rose self.old.log.faults self.new.log.faults (is_listen_fault result) }
+        ensures exact { CountsOnce self.old.log.faults self.new.log.faults (is_listen_fault result) }
+        ensures waits { self.new.waits ≡ self.old.waits }
+        ensures stops { self.old.stops ≤ self.new.stops }
+        ensures unstopped { self.new.stops ≡ self.old.stops }
+        ensures clock { self.new.clock.last ≡ self.old.clock.last }
+        ensures streams { (self.new.ports.harbor.input ≡ self.old.ports.harbor.input) × (self.new.ports.harbor.output ≡ self.old.ports.harbor.output) × (self.new.ports.harbor.errors ≡ self.old.ports.harbor.errors) }
+        ensures made { ListenCause (M.faults self.old.ports.maker) (M.faults self.new.ports.maker) result }
+    {
+        let Ok(copied) = self.prepare_opening(single) else {
+            return ListenAnswer::Memory;
+        };
+        let answer = self.ports.listen(&mut self.log.stations, door, single);
+        self.log.keep_listening(door, answer, single, copied);
+        answer
+    }
+
+    fn accept(&mut self, door: Place, place: Place) -> AcceptAnswer
+        requires door { hold_at self.old.log.stations.entries door ≡ Open }
+        requires place { hold_at self.old.log.stations.entries place ≡ Free }
+        ensures act { Answered self.old.log.recording.told self.new.log.recording.told (hold_at self.old.log.stations.entries) (hold_at self.new.log.stations.entries) (accept_act door place result) }
+        ensures cause { Rose self.old.log.faults self.new.log.faults (is_accept_fault result) }
+        ensures exact { CountsOnce self.old.log.faults self.new.log.faults (is_accept_fault result) }
+        ensures waits { self.new.waits ≡ self.old.waits }
+        ensures stops { self.old.stops ≤ self.new.stops }
+        ensures unstopped { self.new.stops ≡ self.old.stops }
+        ensures clock { self.new.clock.last ≡ self.old.clock.last }
+        ensures streams { (self.new.ports.harbor.input ≡ self.old.ports.harbor.input) × (self.new.ports.harbor.output ≡ self.old.ports.harbor.output) × (self.new.ports.harbor.errors ≡ self.old.ports.harbor.errors) }
+        ensures made { AcceptCause (M.faults self.old.ports.maker) (M.faults self.new.ports.maker) (M.stalls self.old.ports.maker) (M.stalls self.new.ports.maker) (M.came self.new.ports.maker) result }
+    {
+        let Ok(()) = self.prepare_port() else {
+            return AcceptAnswer::Memory;
+        };
+        let answer = self.ports.accept(&mut self.log.stations, door, place);
+        self.log.keep_accepting(door, place, answer);
+        answer
+    }
+
+    fn read(&mut self, place: Place, into: &mut [u8]) -> ReadAnswer
+        requires open { is_open (hold_at self.old.log.stations.entries place) ≡ true }
+        requires room { 0 < length into.old }
+        ensures fits { ReadFits (length into.old) result }
+        ensures act { Answered self.old.log.recording.told self.new.log.recording.told (hold_at self.old.log.stations.entries) (hold_at self.new.log.stations.entries) (read_act place into.new result) }
+        ensures cause { Rose self.old.log.faults self.new.log.faults (is_read_fault result) }
+        ensures exact { CountsOnce self.old.log.faults self.new.log.faults (is_read_fault result) }
+        ensures waits { self.new.waits ≡ self.old.waits }
+        ensures stops { self.old.stops ≤ self.new.stops }
+        ensures unstopped { self.new.stops ≡ self.old.stops }
+        ensures clock { self.new.clock.last ≡ self.old.clock.last }
+        ensures memory { OnlyWhereTold self.old.log.recording.told (wants_read_memory result) }
+        ensures input { IfSome (base_at self.old.log.stations.entries place) (λ base. AtInput (giving_pier base)
+            (ReadsSo into.new result
+            self.old.ports.harbor.input.port
+            self.new.ports.harbor.input.port)
+            (self.new.ports.harbor.input ≡ self.old.ports.harbor.input)) }
+        ensures output { IfSome (base_at self.old.log.stations.entries place) (λ base. AtOutput (giving_pier base)
+            (ReadsSo into.new result
+            self.old.ports.harbor.output.port
+            self.new.ports.harbor.output.port)
+            (self.new.ports.harbor.output ≡ self.old.ports.harbor.output)) }
+        ensures errors { IfSome (base_at self.old.log.stations.entries place) (λ base. AtErrors (giving_pier base)
+            (ReadsSo into.new result
+            self.old.ports.harbor.errors.port
+            self.new.ports.harbor.errors.port)
+            (self.new.ports.harbor.errors ≡ self.old.ports.harbor.errors)) }
+        ensures made { IfSome (base_at self.old.log.stations.entries place) (λ base. AtMade (giving_pier base)
+            (λ key. MadeCall self.old.ports.harbor.made self.new.ports.harbor.made key (λ old new. ReadsSo into.new result old new))
+            (self.new.ports.harbor.made ≡ self.old.ports.harbor.made)) }
+    {
+        let Ok(copied) = self.log.prepare(into) else {
+            return ReadAnswer::Memory;
+        };
+        let got = self.ports.read(&mut self.log.stations, place, into);
+        self.log.keep_read(place, got, copied, into)
+    }
+
+    fn write(&mut self, place: Place, bytes: &[u8]) -> WriteAnswer
+        requires open { hold_at self.old.log.stations.entries place ≡ Open }
+        requires some { 0 < length bytes.now }
+        ensures fits { WriteFits (length bytes.now) result }
+        ensures act { Answered self.old.log.recording.told self.new.log.recording.told (hold_at self.old.log.stations.entries) (hold_at self.new.log.stations.entries) (write_act place bytes.now result) }
+        ensures cause { Rose self.old.log.faults self.new.log.faults (is_write_fault result) }
+        ensures exact { CountsOnce self.old.log.faults self.new.log.faults (is_write_fault result) }
+        ensures waits { self.new.waits ≡ self.old.waits }
+        ensures stops { self.old.stops ≤ self.new.stops }
+        ensures unstopped { self.new.stops ≡ self.old.stops }
+        ensures clock { self.new.clock.last ≡ self.old.clock.last }
+        ensures memory { OnlyWhereTold self.old.log.recording.told (wants_write_memory result) }
+        ensures input { IfSome (base_at self.old.log.stations.entries place) (λ base. AtInput (taking_pier base)
+            (WritesSo bytes.now result
+            self.old.ports.harbor.input.port
+            self.new.ports.harbor.input.port)
+            (self.new.ports.harbor.input ≡ self.old.ports.harbor.input)) }
+        ensures output { IfSome (base_at self.old.log.stations.entries place) (λ base. AtOutput (taking_pier base)
+            (WritesSo bytes.now result
+            self.old.ports.harbor.output.port
+            self.new.ports.harbor.output.port)
+            (self.new.ports.harbor.output ≡ self.old.ports.harbor.output)) }
+        ensures errors { IfSome (base_at self.old.log.stations.entries place) (λ base. AtErrors (taking_pier base)
+            (WritesSo bytes.now result
+            self.old.ports.harbor.errors.port
+            self.new.ports.harbor.errors.port)
+            (self.new.ports.harbor.errors ≡ self.old.ports.harbor.errors)) }
+        ensures made { IfSome (base_at self.old.log.stations.entries place) (λ base. AtMade (taking_pier base)
+            (λ key. MadeCall self.old.ports.harbor.made self.new.ports.harbor.made key (λ old new. WritesSo bytes.now result old new))
+            (self.new.ports.harbor.made ≡ self.old.ports.harbor.made)) }
+    {
+        let Ok(copied) = self.log.prepare(bytes) else {
+            return WriteAnswer::Memory;
+        };
+        let took = self.ports.write(&mut self.log.stations, place, bytes);
+        self.log.keep_write(place, took, copied, bytes)
+    }
+
+    fn send(&mut self, place: Place, bytes: &[u8]) -> SendAnswer
+        requires open { hold_at self.old.log.stations.entries place ≡ Open }
+        requires some { 0 < length bytes.now }
+        requires packet { length bytes.now ≤ 65507 }
+        ensures act { Answered self.old.log.recording.told self.new.log.recording.told (hold_at self.old.log.stations.entries) (hold_at self.new.log.stations.entries) (send_act place bytes.now result) }
+        ensures cause { Rose self.old.log.faults self.new.log.faults (is_send_fault result) }
+        ensures exact { CountsOnce self.old.log.faults self.new.log.faults (is_send_fault result) }
+        ensures waits { self.new.waits ≡ self.old.waits }
+        ensures stops { self.old.stops ≤ self.new.stops }
+        ensures unstopped { self.new.stops ≡ self.old.stops }
+        ensures clock { self.new.clock.last ≡ self.old.clock.last }
+        ensures memory { OnlyWhereTold self.old.log.recording.told (wants_send_memory result) }
+        ensures input { IfSome (base_at self.old.log.stations.entries place) (λ base. AtInput (taking_pier base)
+            (SendsSo bytes.now result
+            self.old.ports.harbor.input.port
+            self.new.ports.harbor.input.port)
+            (self.new.ports.harbor.input ≡ self.old.ports.harbor.input)) }
+        ensures output { IfSome (base_at self.old.log.stations.entries place) (λ base. AtOutput (taking_pier base)
+            (SendsSo bytes.now result
+            self.old.ports.harbor.output.port
+            self.new.ports.harbor.output.port)
+            (self.new.ports.harbor.output ≡ self.old.ports.harbor.output)) }
+        ensures errors { IfSome (base_at self.old.log.stations.entries place) (λ base. AtErrors (taking_pier base)
+            (SendsSo bytes.now result
+            self.old.ports.harbor.errors.port
+            self.new.ports.harbor.errors.port)
+            (self.new.ports.harbor.errors ≡ self.old.ports.harbor.errors)) }
+        ensures made { IfSome (base_at self.old.log.stations.entries place) (λ base. AtMade (taking_pier base)
+            (λ key. MadeCall self.old.ports.harbor.made self.new.ports.harbor.made key (λ old new. SendsSo bytes.now result old new))
+            (self.new.ports.harbor.made ≡ self.old.ports.harbor.made)) }
+    {
+        let Ok(copied) = self.log.prepare(bytes) else {
+            return SendAnswer::Memory;
+        };
+        let took = self.ports.send(&mut self.log.stations, place, bytes);
+        self.log.keep_send(place, took, copied, bytes)
+    }
+
+    fn shut(&mut self, place: Place, how: Shut) -> ShutAnswer
+        requires { hold_at self.old.log.stations.entries place ≡ Open }
+        ensures act { Answered self.old.log.recording.told self.new.log.recording.told (hold_at self.old.log.stations.entries) (hold_at self.new.log.stations.entries) (shut_act place how result) }
+        ensures cause { Rose self.old.log.faults self.new.log.faults (is_shut_fault result) }
+        ensures exact { CountsOnce self.old.log.faults self.new.log.faults (is_shut_fault result) }
+        ensures waits { self.new.waits ≡ self.old.waits }
+        ensures stops { self.old.stops ≤ self.new.stops }
+        ensures unstopped { self.new.stops ≡ self.old.stops }
+        ensures clock { self.new.clock.last ≡ self.old.clock.last }
+        ensures memory { OnlyWhereTold self.old.log.recording.told (wants_shut_memory result) }
+        ensures input { IfSome (base_at self.old.log.stations.entries place) (λ base. AtInput (taking_pier base)
+            (ShutsSo result
+            self.old.ports.harbor.input.port
+            self.new.ports.harbor.input.port)
+            (self.new.ports.harbor.input ≡ self.old.ports.harbor.input)) }
+        ensures output { IfSome (base_at self.old.log.stations.entries place) (λ base. AtOutput (taking_pier base)
+            (ShutsSo result
+            self.old.ports.harbor.output.port
+            self.new.ports.harbor.output.port)
+            (self.new.ports.harbor.output ≡ self.old.ports.harbor.output)) }
+        ensures errors { IfSome (base_at self.old.log.stations.entries place) (λ base. AtErrors (taking_pier base)
+            (ShutsSo result
+            self.old.ports.harbor.errors.port
+            self.new.ports.harbor.errors.port)
+            (self.new.ports.harbor.errors ≡ self.old.ports.harbor.errors)) }
+        ensures made { IfSome (base_at self.old.log.stations.entries place) (λ base. AtMade (taking_pier base)
+            (λ key. MadeCall self.old.ports.harbor.made self.new.ports.harbor.made key (λ old new. ShutsSo result old new))
+            (self.new.ports.harbor.made ≡ self.old.ports.harbor.made)) }
+    {
+        let Ok(()) = self.log.reserve(1) else {
+            return ShutAnswer::Memory;
+        };
+        let answer = self.ports.shut(&mut self.log.stations, place, how);
+        self.log.keep_shut(place, how, answer)
+    }
+
+    /// With the cause `Finished` it joins a made port whose output was finished, and may wait for that.
+    fn close(&mut self, place: Place, why: Why)
+        requires { is_free (hold_at self.old.log.stations.entries place) ≡ false }
+        ensures act { Answered self.old.log.recording.told self.new.log.recording.told (hold_at self.old.log.stations.entries) (hold_at self.new.log.stations.entries) (close_act place why) }
+        ensures exact { self.new.log.faults ≡ self.old.log.faults }
+        ensures faults { self.old.log.faults ≤ self.new.log.faults }
+        ensures waits { self.new.waits ≡ self.old.waits }
+        ensures stops { self.old.stops ≤ self.new.stops }
+        ensures unstopped { self.new.stops ≡ self.old.stops }
+        ensures clock { self.new.clock.last ≡ self.old.clock.last }
+        ensures streams { (self.new.ports.harbor.input ≡ self.old.ports.harbor.input) × (self.new.ports.harbor.output ≡ self.old.ports.harbor.output) × (self.new.ports.harbor.errors ≡ self.old.ports.harbor.errors) }
+        ensures gone { (key : ℕ) → base_at self.old.log.stations.entries place ≡ Some (bases.Made key) → get self.new.ports.harbor.made key ≡ None }
+        ensures others { (key : ℕ) → (base_at self.old.log.stations.entries place ≡ Some (bases.Made key) → ⊥) → get self.new.ports.harbor.made key ≡ get self.old.ports.harbor.made key }
+    {
+        let _joined = self.ports.close(&mut self.log.stations, place, why);
+        self.log.put(Act::Closed(place, why));
+    }
+
+    /// Writes the text to standard error, which is begun first.
+    fn note(&mut self, text: &[u8]) -> NoteAnswer
+        ensures act { Answered self.old.log.recording.told self.new.log.recording.told (hold_at self.old.log.stations.entries) (hold_at self.new.log.stations.entries) (note_act text.now result) }
+        ensures cause { Rose self.old.log.faults self.new.log.faults (is_note_fault result) }
+        ensures exact { CountsOnce self.old.log.faults self.new.log.faults (is_note_fault result) }
+        ensures waits { self.new.waits ≡ self.old.waits }
+        ensures stops { self.old.stops ≤ self.new.stops }
+        ensures unstopped { self.new.stops ≡ self.old.stops }
+        ensures clock { self.new.clock.last ≡ self.old.clock.last }
+        ensures streams { (self.new.ports.harbor.input ≡ self.old.ports.harbor.input) × (self.new.ports.harbor.output ≡ self.old.ports.harbor.output) × (self.new.ports.harbor.made ≡ self.old.ports.harbor.made) }
+        ensures said { NotedSo result
+            self.old.ports.harbor.errors.port.took
+            self.new.ports.harbor.errors.port.took
+            text.now }
+        ensures errors { is_note_fault result ≡ true → Rises
+            self.old.ports.harbor.errors.port.counts.faults
+            self.new.ports.harbor.errors.port.counts.faults }
+    {
+        let Ok(copied) = self.log.prepare(text) else {
+            return NoteAnswer::Memory;
+        };
+        match self.ports.note(text) {
+            None => NoteAnswer::Memory,
+            Some(Took::Took(_)) => {
+                self.log.put_note(text, copied);
+                NoteAnswer::Noted
+            }
+            Some(Took::Failed) => {
+                self.log.put_note_fault(text, copied);
+                NoteAnswer::Failed
+            }
+            Some(Took::NotYet) => unreachable!(),
+        }
+    }
+
+    /// Asks the port of the place, if it was kept for its child.
+    fn reap(&mut self, place: Place) -> ReapAnswer
+        requires free { hold_at self.old.log.stations.entries place ≡ Free }
+        requires once { NotReaped self.old.log.recording.told place }
+        ensures act { Answered self.old.log.recording.told self.new.log.recording.told (hold_at self.old.log.stations.entries) (hold_at self.new.log.stations.entries) (reap_act place result) }
+        ensures exact { self.new.log.faults ≡ self.old.log.faults }
+        ensures faults { self.old.log.faults ≤ self.new.log.faults }
+        ensures waits { self.new.waits ≡ self.old.waits }
+        ensures stops { self.old.stops ≤ self.new.stops }
+        ensures unstopped { self.new.stops ≡ self.old.stops }
+        ensures clock { self.new.clock.last ≡ self.old.clock.last }
+        ensures ports { (self.new.ports.harbor ≡ self.old.ports.harbor) × (self.new.ports.maker ≡ self.old.ports.maker) }
+        ensures reaped { ReapsAnswered (find (λ b. same_place b.place place) self.old.ports.parents.items) result }
+    {
+        let Ok(()) = self.log.reserve(1) else {
+            return ReapAnswer::Memory;
+        };
+        let answer = self.ports.reap(place);
+        self.log.keep_reap(place, answer)
+    }
+}

@@ -1,0 +1,40 @@
+// Which of the makers opens an address.
+use relay_model::{Single, Target};
+use std::fs::Files;
+use std::os::unix::fs::FileTypeExt;
+use std::str;
+
+/// What opens an address.
+#[derive(Clone, Copy, Debug, PartialEq)]
+pub(crate) enum Kind {
+    Echo,
+    File,
+    Socket,
+    Child,
+    /// A standard stream, or a kind whose ports aren't made here.
+    Other,
+}
+
+/// The kind of the address. A `GOPEN` whose entry is a socket is one (socat(1), `GOPEN`).
+pub(crate) fn kind_of<R: Files>(files: &R, single: &Single) -> Kind {
+    match &single.target {
+        Target::Echo => Kind::Echo,
+        Target::Create(_) | Target::FileAt(_) | Target::NamedPipe(_) => Kind::File,
+        Target::GenericOpen(name) if is_socket(files, name.as_slice()) => Kind::Socket,
+        Target::GenericOpen(_) => Kind::File,
+        Target::Tcp { .. } | Target::Udp { .. } | Target::UnixConnect(_) => Kind::Socket,
+        Target::Exec(_) | Target::System(_) => Kind::Child,
+        _ => Kind::Other,
+    }
+}
+
+/// Whether the entry of this name is a socket.
+fn is_socket<R: Files>(files: &R, name: &[u8]) -> bool {
+    let Ok(name) = str::from_utf8(name) else {
+        return false;
+    };
+    match files.metadata(name) {
+        Ok(found) => found.file_type().is_socket(),
+        Err(_) => false,
+    }
+}

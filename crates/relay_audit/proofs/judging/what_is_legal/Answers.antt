@@ -1,5 +1,0 @@
-use Rattle.relay_audit.specs.Pasts.{acts}
-use Rattle.relay_audit.proofs.judging.what_is_legal.Goals as goal
-
-pub returns-clause-written : goal.returns-clause-written
-returns-clause-written c = λ s w. c.written_is_due.ensures c.args.config.now c.args.limit (acts c.args.past.now) s w c.requires

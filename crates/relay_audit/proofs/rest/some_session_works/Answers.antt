@@ -1,9 +1,0 @@
-use Rattle.std.proofs.Common.{sym, ◌∙◌}
-use Rattle.relay_model.specs.Rest.{session_work}
-use Rattle.relay_audit.specs.Pasts.{acts}
-use Rattle.relay_audit.proofs.Below.{some_below_at}
-use Rattle.relay_audit.proofs.rest.some_session_works.Goals as goal
-
-pub returns-then-branch : goal.returns-then-branch
-returns-then-branch c =
-    sym (some_below_at (session_work c.args.config.now (acts c.args.past.now)) c.loop-session.session c.args.count (sym c.in_ok-session_work.ensures ∙ c.if-branch.true) c.loop-session-test.true)

@@ -1,0 +1,317 @@
+// The port of a sink that a thread writes to.
+ghost use Rattle.std.specs.Prelude.{◌≡◌, ◌≢◌, ◌<◌, ◌≤◌, ◌+◌, ◌-◌, ◌^◌, min, Bool, true, false, length, None, Some, IfOk, IfSome, IsSome};
+ghost use Rattle.port_trait.specs.Counting.{Rose, Tallied};
+ghost use Rattle.port_trait.specs.Streams.{finishes};
+ghost use Rattle.port_trait.specs.Serving.{IsCalled, Explained, is_begin_served};
+ghost use Rattle.port_trait.specs.Meanings.{Gives, Accepts, AcceptsWhole, AcceptsAll, Behind, FinishedBehind, OnJoined, join_answer, begun_after, is_end, begin_event, settle_event, read_event, write_event, shut_event};
+ghost use Rattle.port_trait.specs.declared.answers.Begun.TheVariants as begins;
+ghost use Rattle.port_trait.specs.declared.answers.Got.TheVariants as reads;
+ghost use Rattle.port_trait.specs.declared.answers.Took.TheVariants as writes;
+ghost use Rattle.port_trait.specs.declared.answers.Settled.TheVariants as settles;
+ghost use Rattle.port_trait.specs.declared.answers.Shutting.TheVariants as shuts;
+ghost use Rattle.port_trait.specs.declared.answers.PortReap.TheVariants as reaps;
+ghost use Rattle.ring_items.specs.Items.{bytes_of};
+ghost use Rattle.ring_writer.specs.WriterRing.{IsBehind, is_open, is_shut, may_join};
+ghost use Rattle.ring_writer.specs.Writers.{misused_writer, served_of, ends_behind, finished_behind, WriterBeginStep, WriterWrites, WriterPutsAll, fresh_writer, took_of, took_behind, faults_behind, line_after_shut};
+
+use crate::writer_outlet::Outlet;
+use crate::writer_puts::Putter;
+use crate::writer_stages::{Stage, start_thread};
+use crate::writer_thread::{GATHERED, WriterWork};
+use port_trait::{
+    Begun, Got, Hint, Joining, Port, PortReap, Settled, Shutting, Sink, Spawner, Took, Wake,
+};
+use relay_model::{NoMemory, Shut};
+use ring_items::{Hold, SinkFault, Tally, make_lines};
+use std::alloc::Global;
+use std::marker::Model;
+use std::mem;
+use std::snapshot::Snapshot;
+use std::sync::Wait;
+use std::thread::Threads;
+
+/// How many fault marks may lie untaken. Those that find no room are dropped, since the others tell the same.
+const MARKS: usize = 64;
+
+/// A ring whose thread writes to a sink that may block. Its other half fails.
+#[derive(Drop)]
+pub struct RingWriter<K, R>
+where
+    K: Sink + Drop,
+{
+    rt: R,
+    _hold: Hold<SinkFault>,
+    stage: Stage<K>,
+    tally: Tally,
+}
+
+impl<K, R> Model for RingWriter<K, R>
+where
+    K: Sink + Drop,
+{
+    ghost use Rattle.ring_writer.specs.Writers.{WriterState};
+
+    ghost Value = { WriterState };
+
+    ghost use Rattle.ring_writer.specs.WriterRing.{Stands, line_of};
+    ghost use Rattle.ring_items.specs.Tallies.{IsTallied};
+
+    ghost view = { λ w. record { line = line_of K.took K.faults K.finished w.stage; tally = w.tally } };
+
+    ghost invariant = { λ w. Stands K.took K.faults K.finished w.stage × IsTallied w.tally.misuses (line_of K.took K.faults K.finished w.stage).marks 0 w.tally.counts };
+}
+
+impl<K, R> RingWriter<K, R>
+where
+    K: Sink + Send + Drop + 'static,
+    R: Threads + Wait + Copy + Send + 'static,
+{
+    /// A ring that is to write to this sink. Its queue has room for 64 items of at most 512 bytes. The thread is
+    /// made here, as is all else that takes memory, and sleeps until something is put; where it can't be made, the
+    /// sink is dropped, and `begin` fails. Once the ring is dropped, the thread writes what was put, and ends.
+    pub fn new<P, W>(
+        alloc: Global,
+        sink: K,
+        spawner: &mut P,
+        wake: W,
+    ) -> Result<RingWriter<K, R>, NoMemory>
+    where
+        P: Spawner<Runtime = R>,
+        W: Wake + Send + Drop + 'static,
+        ensures grows { P.faults spawner.old ≤ P.faults spawner.new }
+        ensures fresh { IfOk result (λ ring. ring ≡ fresh_writer (K.took sink) ring.line.refused) }
+        ensures refused { IfOk result (λ ring. ring.line.refused ≡ true → Rose (P.faults spawner.old) (P.faults spawner.new)) }
+    {
+        let ends = make_lines::<SinkFault>(alloc, MARKS)?;
+        let buffer = Vec::with_capacity(alloc, GATHERED)?;
+        let putter = Putter::new(ends.port, ends.sending);
+        let begun = Snapshot::of(&sink);
+        let rt = *spawner.threads();
+        let work = WriterWork {
+            rt,
+            lines: ends.thread,
+            outlet: Outlet::new(sink),
+            wake,
+            taker: ends.taking.items,
+            sender: ends.taking.back,
+            spent: ends.taking.spent,
+            buffer,
+        };
+        let task = start_thread(spawner, work);
+        Ok(RingWriter {
+            rt,
+            _hold: ends.hold,
+            stage: Stage::of(putter, begun, task),
+            tally: Tally::new(),
+        })
+    }
+}
+
+impl<K, R> Port for RingWriter<K, R>
+where
+    K: Sink + Drop,
+    R: Threads + Wait + Copy,
+{
+    ghost took = { λ w. Some (took_of w) };
+
+    ghost behind_took = { λ w. took_behind w.line.behind };
+
+    ghost behind_faults = { λ w. faults_behind w.line.behind };
+
+    ghost behind_ends = { λ w. ends_behind w.line.behind };
+
+    ghost behind_finished = { λ w. finished_behind w.line.behind };
+
+    ghost served = { λ w. Some (served_of w) };
+
+    ghost counts = { λ w. w.tally.counts };
+
+    ghost begun = { λ w. w.line.begun };
+
+    ghost ended = { λ _. false };
+
+    ghost joins = { λ w. may_join w.line };
+
+    ghost child = { λ _. false };
+
+    /// Lets bytes be put. It fails exactly where no thread could be made.
+    fn begin(&mut self) -> Begun
+        ensures again { self.old.line.begun ≡ true → (result ≡ begins.Begun) × (self.new ≡ self.old) }
+        ensures step { WriterBeginStep self.old self.new result }
+        ensures begun { self.new.line.begun ≡ begun_after self.old.line.begun result }
+        ensures served { IsCalled (is_begin_served result) (served_of self.old) (served_of self.new) }
+        ensures misused { self.new.tally.misuses ≤ self.new.tally.counts.faults }
+        ensures kept { Some (took_of self.new) ≡ Some (took_of self.old) }
+        ensures counts { Tallied (begin_event result) self.old.tally.counts self.new.tally.counts }
+        ensures empties { self.new.tally.counts.empties ≡ self.old.tally.counts.empties }
+    {
+        match self.stage.begin() {
+            Begun::Begun => Begun::Begun,
+            Begun::Memory => Begun::Memory,
+            Begun::Failed => {
+                self.tally.count_misuse();
+                Begun::Failed
+            }
+        }
+    }
+
+    fn settle(&mut self) -> Settled
+        ensures ready { result ≡ settles.Ready }
+        ensures same { self.new ≡ self.old }
+        ensures kept { (Some (took_of self.new) ≡ Some (took_of self.old)) × (self.new.line.begun ≡ self.old.line.begun) }
+        ensures counts { Tallied (settle_event result) self.old.tally.counts self.new.tally.counts }
+    {
+        Settled::Ready
+    }
+
+    fn read(&mut self, into: &mut [u8]) -> Got
+        requires { 0 < length into.old }
+        ensures failed { result ≡ reads.Failed }
+        ensures misused { self.new ≡ misused_writer self.old }
+        ensures gives { Gives None None into.new result }
+        ensures ended { false ≡ is_end result }
+        ensures kept { (Some (took_of self.new) ≡ Some (took_of self.old)) × (self.new.line.begun ≡ self.old.line.begun) }
+        ensures counts { Tallied (read_event result) self.old.tally.counts self.new.tally.counts }
+    {
+        let _ = into;
+        self.tally.count_misuse();
+        Got::Failed
+    }
+
+    /// Puts one chunk of at most 512 bytes.
+    fn write(&mut self, bytes: &[u8]) -> Took
+        requires { 0 < length bytes.now }
+        ensures writes { WriterWrites (is_open self.old.line) self.old self.new bytes.now result }
+        ensures served { IsCalled (is_open self.old.line) (served_of self.old) (served_of self.new) }
+        ensures accepts { Accepts (Some (took_of self.old)) (Some (took_of self.new)) bytes.now result }
+        ensures kept { (self.new.line.begun ≡ self.old.line.begun) × (self.new.line.refused ≡ self.old.line.refused) }
+        ensures counts { Tallied (write_event result) self.old.tally.counts self.new.tally.counts }
+        ensures empties { self.new.tally.counts.empties ≡ self.old.tally.counts.empties }
+    {
+        if !self.stage.is_open() {
+            self.tally.count_misuse();
+            return Took::Failed;
+        }
+        let rt = self.rt;
+        match self.stage.put(&rt, bytes) {
+            Took::Took(count) => Took::Took(count),
+            Took::NotYet => {
+                self.tally.counts.count_stall();
+                Took::NotYet
+            }
+            Took::Failed => {
+                self.tally.counts.count_fault();
+                Took::Failed
+            }
+        }
+    }
+
+    fn send(&mut self, bytes: &[u8]) -> Took
+        requires { 0 < length bytes.now }
+        ensures failed { result ≡ writes.Failed }
+        ensures misused { self.new ≡ misused_writer self.old }
+        ensures accepts { AcceptsWhole (Some (took_of self.old)) (Some (took_of self.new)) bytes.now result }
+        ensures kept { (self.new.line.begun ≡ self.old.line.begun) × (self.new.line.refused ≡ self.old.line.refused) }
+        ensures counts { Tallied (write_event result) self.old.tally.counts self.new.tally.counts }
+        ensures empties { self.new.tally.counts.empties ≡ self.old.tally.counts.empties }
+    {
+        let _ = bytes;
+        self.tally.count_misuse();
+        Took::Failed
+    }
+
+    /// Puts all bytes in chunks, and waits for room.
+    fn put_all(&mut self, bytes: &[u8]) -> Took
+        ensures writes { WriterPutsAll (is_open self.old.line) self.old self.new bytes.now result }
+        ensures served { IsCalled (is_open self.old.line) (served_of self.old) (served_of self.new) }
+        ensures accepts { AcceptsAll (Some (took_of self.old)) (Some (took_of self.new)) bytes.now result }
+        ensures kept { (self.new.line.begun ≡ self.old.line.begun) × (self.new.line.refused ≡ self.old.line.refused) }
+        ensures counts { Tallied (write_event result) self.old.tally.counts self.new.tally.counts }
+        ensures empties { self.new.tally.counts.empties ≡ self.old.tally.counts.empties }
+    {
+        if !self.stage.is_open() {
+            self.tally.count_misuse();
+            return Took::Failed;
+        }
+        let rt = self.rt;
+        let (count, failed) = self.stage.put_all(&rt, bytes);
+        if failed {
+            self.tally.counts.count_fault();
+            return Took::Failed;
+        }
+        Took::Took(count)
+    }
+
+    /// Puts the end mark at the first `Down` or `Close` after the begin, and waits for room.
+    fn shut(&mut self, how: Shut) -> Shutting
+        ensures done { result ≡ shuts.Done }
+        ensures line { self.new.line ≡ line_after_shut (finishes how) self.old.line }
+        ensures same { self.new ≡ record self.old { line = self.new.line } }
+        ensures kept { (Some (took_of self.new) ≡ Some (took_of self.old)) × (self.new.line.begun ≡ self.old.line.begun) }
+        ensures counts { Tallied (shut_event result) self.old.tally.counts self.new.tally.counts }
+    {
+        match how {
+            Shut::Nothing | Shut::Null => Shutting::Done,
+            Shut::Down | Shut::Close => {
+                if self.stage.is_open() {
+                    let rt = self.rt;
+                    self.stage.end(&rt);
+                }
+                Shutting::Done
+            }
+        }
+    }
+
+    /// Writable where there is room, or where the next write tells of a fault.
+    fn hint(&mut self) -> Hint
+        ensures same { self.new ≡ self.old }
+        ensures kept { (Some (took_of self.new) ≡ Some (took_of self.old)) × (self.new.tally.counts ≡ self.old.tally.counts) × (self.new.line.begun ≡ self.old.line.begun) × (may_join self.new.line ≡ may_join self.old.line) }
+        ensures behind { (took_behind self.new.line.behind ≡ took_behind self.old.line.behind) × (faults_behind self.new.line.behind ≡ faults_behind self.old.line.behind) }
+    {
+        Hint {
+            readable: false,
+            writable: self.stage.is_ready(),
+        }
+    }
+
+    fn may_hint(&self) -> bool
+        ensures { result ≡ true }
+    {
+        true
+    }
+
+    fn has_child(&self) -> bool
+        ensures { result ≡ false }
+    {
+        false
+    }
+
+    fn reap(&mut self) -> PortReap
+        ensures reaped { result ≡ reaps.NoChild }
+        ensures same { self.new ≡ self.old }
+        ensures kept { (Some (took_of self.new) ≡ Some (took_of self.old)) × (self.new.line.begun ≡ self.old.line.begun) }
+        ensures counts { Tallied None self.old.tally.counts self.new.tally.counts }
+    {
+        PortReap::NoChild
+    }
+
+    /// Waits for the thread where the end mark was put.
+    fn join(&mut self) -> Joining
+        ensures joined { result ≡ join_answer (may_join self.old.line) }
+        ensures same { self.new ≡ record self.old { line = record self.old.line { behind = self.new.line.behind } } }
+        ensures knows { OnJoined result (self.new.line.begun ≡ true → IsSome self.new.line.behind) }
+        ensures shows { OnJoined result (IfSome self.new.line.behind (IsBehind self.new.line)) }
+        ensures no_ends { self.new.tally.counts.ends ≡ 0 }
+        ensures explained { OnJoined result (Explained (Some (served_of self.new)) self.new.tally.counts (faults_behind self.new.line.behind) (ends_behind self.new.line.behind)) }
+        ensures kept { (Some (took_of self.new) ≡ Some (took_of self.old)) × (self.new.tally.counts ≡ self.old.tally.counts) × (self.new.line.begun ≡ self.old.line.begun) × (may_join self.new.line ≡ may_join self.old.line) }
+        ensures behind { OnJoined result (Behind None (Some (took_of self.new)) None (took_behind self.new.line.behind) None (faults_behind self.new.line.behind) false) }
+        ensures finished { OnJoined result (FinishedBehind (faults_behind self.new.line.behind) (finished_behind self.new.line.behind)) }
+    {
+        if !self.stage.may_join() {
+            return Joining::Running;
+        }
+        let stage = mem::replace(&mut self.stage, Stage::Refused);
+        self.stage = stage.join(&self.rt);
+        Joining::Joined
+    }
+}

@@ -1,0 +1,16 @@
+// What a list of acts says of a session: whether it lives, what its opening calls for, its moments, and why it ends.
+#![tactic(auto)]
+
+mod calls;
+mod causes;
+mod moments;
+mod openings;
+mod outcome;
+mod sessions;
+
+pub use calls::{called_at, door_call, door_cut, known_call};
+pub use causes::{cause, closed_why, running};
+pub use moments::{broken, closing_moment, idle_moment, passed};
+pub use openings::{Call, ready};
+pub use outcome::{Outcome, has_outcome, outcome_of};
+pub use sessions::{holds, live, numbers};

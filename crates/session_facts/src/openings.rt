@@ -1,0 +1,190 @@
+// Which places are ready, and what the opening of one that isn't calls for.
+ghost use Rattle.std.specs.Prelude.{◌≡◌};
+ghost use Rattle.std.specs.List.{list_any, list_all};
+ghost use Rattle.relay_model.specs.Openings.{out_of_tries, when_due, try_again, is_ready, ready, opening_call, listening_call, peer_call, place_call, first_call};
+ghost use Rattle.history_facts.specs.Pasts.{acts};
+ghost use Rattle.history_facts.specs.Answers.{as_stage};
+ghost use Rattle.session_facts.specs.Answers.{as_call};
+
+use crate::sessions::permits;
+use command_places::{has_own_door, listens_at, options_of, places};
+use history_facts::{
+    Stage, armed_to_accept, failure_count, held, next_due, now, served, stage_of, woken,
+};
+use relay_model::{Act, Config, Place};
+
+/// What is called for.
+#[derive(Clone, Copy, Debug, PartialEq, Eq)]
+pub enum Call {
+    /// Nothing is called for.
+    Nothing,
+    /// A further try, and nothing before this moment, in milliseconds.
+    TryAt(u64),
+    /// The opening of a place.
+    Open(Place),
+    /// The further opening of a place whose opening is under way.
+    Settle(Place),
+    /// The listening of a door.
+    Listen(Place),
+    /// An accepting at the door, for the place.
+    Accept(Place, Place),
+    /// The closing of a place whose peer isn't permitted.
+    Refuse(Place),
+    /// The closing of a door that has served.
+    Serve(Place),
+}
+
+// ---- tries
+
+/// Whether more openings or listenings failed at the place or door than `retry` makes good.
+pub fn out_of_tries(config: &Config, past: &[&Act], place: Place) -> bool
+    ensures { result ≡ out_of_tries config.now (acts past.now) place }
+{
+    let options = options_of(config, place);
+    !options.forever
+        && options.retry != u64::MAX
+        && failure_count(past, place) as u64 > options.retry
+}
+
+/// The call, from the moment on at which it is due.
+fn when_due(at: u64, moment: Option<u64>, wanted: Call) -> Call
+    ensures { as_call result ≡ when_due at moment (as_call wanted) }
+{
+    match moment {
+        None => Call::Nothing,
+        Some(m) => { if m <= at { wanted } else { Call::TryAt(m) } }
+    }
+}
+
+/// A further try, while tries are left.
+fn try_again(config: &Config, past: &[&Act], place: Place, wanted: Call) -> Call
+    ensures { as_call result ≡ try_again config.now (acts past.now) place (as_call wanted) }
+{
+    if out_of_tries(config, past, place) {
+        Call::Nothing
+    } else {
+        let due = next_due(past, place, options_of(config, place).interval);
+        when_due(now(past), due, wanted)
+    }
+}
+
+// ---- ready places
+
+/// A place that doesn't listen is ready where it was opened, another one where it is held by a permitted peer and its
+/// own door has served.
+pub fn is_ready(config: &Config, past: &[&Act], place: Place) -> bool
+    ensures { result ≡ is_ready config.now (acts past.now) place }
+{
+    match stage_of(past, place) {
+        Stage::Usable => !listens_at(config, place),
+        Stage::Met(peer) => {
+            listens_at(config, place)
+                && permits(config, place, peer)
+                && (!has_own_door(config, place) || served(past, place.own_door()))
+        }
+        _ => false,
+    }
+}
+
+fn all_ready(config: &Config, past: &[&Act], places: &[Place]) -> bool
+    ensures { result ≡ list_all (is_ready config.now (acts past.now)) places.now }
+{
+    places.iter().all(|place| is_ready(config, past, *place))
+}
+
+/// Whether every place of the session is ready.
+pub fn ready(config: &Config, past: &[&Act], session: u32) -> bool
+    ensures { result ≡ ready config.now (acts past.now) session }
+{
+    all_ready(config, past, places(config, session).as_slice())
+}
+
+// ---- calls
+
+/// An opening, a settling once a turn named the place, or a further try.
+fn opening_call(config: &Config, past: &[&Act], place: Place, stage: Stage) -> Call
+    ensures { as_call result ≡ opening_call config.now (acts past.now) place (as_stage stage) }
+{
+    match stage {
+        Stage::Untried => Call::Open(place),
+        Stage::Unsettled => {
+            if woken(past, place) {
+                Call::Settle(place)
+            } else {
+                Call::Nothing
+            }
+        }
+        Stage::Failed => try_again(config, past, place, Call::Open(place)),
+        _ => Call::Nothing,
+    }
+}
+
+/// A listening, a further try of one, or an accepting where the door is armed.
+pub fn listening_call(
+    config: &Config,
+    past: &[&Act],
+    door: Place,
+    place: Place,
+    stage: Stage,
+) -> Call
+    ensures { as_call result ≡ listening_call config.now (acts past.now) door place (as_stage stage) }
+{
+    match stage {
+        Stage::Untried => Call::Listen(door),
+        Stage::Failed => try_again(config, past, door, Call::Listen(door)),
+        Stage::Waiting => {
+            if armed_to_accept(past, door) {
+                Call::Accept(door, place)
+            } else {
+                Call::Nothing
+            }
+        }
+        _ => Call::Nothing,
+    }
+}
+
+/// A peer that isn't permitted is refused; after a permitted one the own door has served.
+fn peer_call(config: &Config, past: &[&Act], place: Place, stage: Stage) -> Call
+    ensures { as_call result ≡ peer_call config.now (acts past.now) place (as_stage stage) }
+{
+    let door = place.own_door();
+    match stage {
+        Stage::Met(peer) => {
+            if !permits(config, place, peer) {
+                Call::Refuse(place)
+            } else if held(past, door) {
+                Call::Serve(door)
+            } else {
+                Call::Nothing
+            }
+        }
+        _ => listening_call(config, past, door, place, stage_of(past, door)),
+    }
+}
+
+/// What a place calls for by itself; with `fork` a left place calls for nothing, since its peer comes by the program
+/// door.
+fn place_call(config: &Config, past: &[&Act], place: Place) -> Call
+    ensures { as_call result ≡ place_call config.now (acts past.now) place }
+{
+    if has_own_door(config, place) {
+        peer_call(config, past, place, stage_of(past, place))
+    } else if listens_at(config, place) {
+        Call::Nothing
+    } else {
+        opening_call(config, past, place, stage_of(past, place))
+    }
+}
+
+/// What the first of these places that isn't ready calls for.
+pub fn first_call(config: &Config, past: &[&Act], mut places: &[Place]) -> Call
+    ensures { as_call result ≡ first_call config.now (acts past.now) places.entry.now }
+{
+    while let [place, rest @ ..] = places {
+        if !is_ready(config, past, *place) {
+            return place_call(config, past, *place);
+        }
+        places = rest;
+    }
+    Call::Nothing
+}

@@ -1,0 +1,204 @@
+// How a run ended, once nothing is held.
+ghost use Rattle.std.specs.Prelude.{◌≡◌, ◌<◌, ◌^◌, option_map, is_some, Some};
+ghost use Rattle.relay_model.specs.Choices.{or_else, some_below};
+ghost use Rattle.relay_model.specs.Sessions.{admitted, holds, live};
+ghost use Rattle.relay_model.specs.Outcome.{holds_something, program_doors, first_fault, failed_listening, failed_opening, outcome_by, outcome_of_sessions, outcome};
+ghost use Rattle.relay_model.specs.Outcome as outcomes;
+ghost use Rattle.history_facts.specs.Pasts.{acts};
+ghost use Rattle.session_facts.specs.Answers.{as_outcome};
+
+use crate::causes::{any_accept_failed, cause};
+use crate::openings::out_of_tries;
+use crate::sessions::{holds, live, numbers};
+use command_places::{PlaceList, has_fork, is_place_of, own_doors, places, program_door};
+use history_facts::{failure_count, held, memory_said, served, stop_said, turns};
+use relay_model::{Act, Config, Half, Place, Side, Why};
+
+/// How a run ended.
+#[derive(Clone, Copy, Debug, PartialEq, Eq)]
+pub enum Outcome {
+    /// Memory was wanting.
+    Memory,
+    /// It was stopped after so many turns.
+    Stopped(usize),
+    /// An accepting failed.
+    AcceptFailed,
+    /// No listening succeeded in so many tries.
+    ListenFailed(usize),
+    /// No opening of this side succeeded in so many tries.
+    OpenFailed(Side, usize),
+    /// The first read or write that failed was at this half of the place.
+    Faulted(Place, Half),
+    /// It ended for this reason.
+    Ended(Why),
+}
+
+#[tactic(auto, using(crate::proofs::Below::some_below_more))]
+fn some_holds(config: &Config, past: &[&Act], count: u32) -> bool
+    ensures { result ≡ some_below (holds config.now (acts past.now)) count }
+{
+    for session in 0..count {
+        if holds(config, past, session) {
+            return true;
+        }
+    }
+    false
+}
+
+#[tactic(auto, using(crate::proofs::Below::some_below_more))]
+fn some_lives(config: &Config, past: &[&Act], count: u32) -> bool
+    requires { admitted config.now (acts past.now) < 2 ^ 32 }
+    ensures { result ≡ some_below (live config.now (acts past.now)) count }
+{
+    for session in 0..count {
+        if live(config, past, session) {
+            return true;
+        }
+    }
+    false
+}
+
+/// Some session that has begun, or the peer that may become the next, holds something, or the program door is held.
+pub fn holds_something(config: &Config, past: &[&Act]) -> bool
+    requires { admitted config.now (acts past.now) < 2 ^ 32 }
+    ensures { result ≡ holds_something config.now (acts past.now) }
+{
+    let next = numbers(config, past);
+    holds(config, past, next)
+        || some_holds(config, past, next)
+        || has_fork(config) && held(past, program_door())
+}
+
+/// The doors whose failures are the program's.
+fn program_doors(config: &Config) -> PlaceList
+    ensures { result ≡ program_doors config.now }
+{
+    if has_fork(config) {
+        let mut doors = PlaceList::new();
+        doors.push(program_door());
+        doors
+    } else {
+        own_doors(config, 0)
+    }
+}
+
+/// The first read or write of the session that failed.
+#[tactic(auto, using(crate::proofs::Below::or_else_none, crate::proofs::Below::or_else_some))]
+fn first_fault(config: &Config, mut past: &[&Act], session: u32) -> Option<Outcome>
+    ensures { option_map as_outcome result ≡ first_fault config.now (acts past.entry.now) session }
+{
+    let mut found = None;
+    while let [act, older @ ..] = past {
+        match act {
+            Act::ReadFault(at) if is_place_of(config, session, *at) => {
+                found = Some(Outcome::Faulted(*at, Half::ToRead));
+            }
+            Act::WriteFault(at) if is_place_of(config, session, *at) => {
+                found = Some(Outcome::Faulted(*at, Half::ToWrite));
+            }
+            _ => {}
+        }
+        past = older;
+    }
+    found
+}
+
+/// The first of these doors that is out of tries.
+fn failed_listening(config: &Config, past: &[&Act], mut doors: &[Place]) -> Option<Outcome>
+    ensures { option_map as_outcome result ≡ failed_listening config.now (acts past.now) doors.entry.now }
+{
+    while let [door, rest @ ..] = doors {
+        if out_of_tries(config, past, *door) {
+            return Some(Outcome::ListenFailed(failure_count(past, *door)));
+        }
+        doors = rest;
+    }
+    None
+}
+
+/// The first of these places that is out of tries.
+fn failed_opening(config: &Config, past: &[&Act], mut places: &[Place]) -> Option<Outcome>
+    ensures { option_map as_outcome result ≡ failed_opening config.now (acts past.now) places.entry.now }
+{
+    while let [place, rest @ ..] = places {
+        if out_of_tries(config, past, *place) {
+            return Some(Outcome::OpenFailed(place.side, failure_count(past, *place)));
+        }
+        places = rest;
+    }
+    None
+}
+
+/// The first fault, or the reason where there was none.
+fn fault_or(config: &Config, past: &[&Act], why: Why) -> Option<Outcome>
+    ensures { option_map as_outcome result ≡ or_else (first_fault config.now (acts past.now) 0) (Some (outcomes.Ended why)) }
+{
+    match first_fault(config, past, 0) {
+        None => Some(Outcome::Ended(why)),
+        Some(fault) => Some(fault),
+    }
+}
+
+/// The outcome of a program of one session, by its cause.
+fn outcome_by(config: &Config, past: &[&Act], cause: Option<Why>) -> Option<Outcome>
+    ensures { option_map as_outcome result ≡ outcome_by config.now (acts past.now) cause }
+{
+    match cause {
+        None => None,
+        Some(why) => match why {
+            Why::OpenFailed => failed_opening(config, past, places(config, 0).as_slice()),
+            Why::Faulted | Why::ClosingTime | Why::Idle => fault_or(config, past, why),
+            _ => Some(Outcome::Ended(why)),
+        },
+    }
+}
+
+/// The outcome of a program of many: the door has served and no session lives.
+fn outcome_of_sessions(config: &Config, past: &[&Act]) -> Option<Outcome>
+    requires { admitted config.now (acts past.now) < 2 ^ 32 }
+    ensures { option_map as_outcome result ≡ outcome_of_sessions config.now (acts past.now) }
+{
+    if served(past, program_door()) && !some_lives(config, past, numbers(config, past)) {
+        Some(Outcome::Ended(Why::Served))
+    } else {
+        None
+    }
+}
+
+/// The outcome, but for that of turns that are used up.
+pub fn outcome_of(config: &Config, past: &[&Act]) -> Option<Outcome>
+    requires { admitted config.now (acts past.now) < 2 ^ 32 }
+    ensures { option_map as_outcome result ≡ outcome config.now (acts past.now) }
+{
+    if holds_something(config, past) {
+        return None;
+    }
+    if memory_said(past) {
+        return Some(Outcome::Memory);
+    }
+    if stop_said(past) {
+        return Some(Outcome::Stopped(turns(past)));
+    }
+    if any_accept_failed(past, program_doors(config).as_slice()) {
+        return Some(Outcome::AcceptFailed);
+    }
+    if let Some(failed) = failed_listening(config, past, program_doors(config).as_slice()) {
+        return Some(failed);
+    }
+    if has_fork(config) {
+        outcome_of_sessions(config, past)
+    } else {
+        outcome_by(config, past, cause(config, past, 0))
+    }
+}
+
+/// Whether the run has an outcome.
+pub fn has_outcome(config: &Config, past: &[&Act]) -> bool
+    requires { admitted config.now (acts past.now) < 2 ^ 32 }
+    ensures { result ≡ is_some (outcome config.now (acts past.now)) }
+{
+    match outcome_of(config, past) {
+        None => false,
+        Some(_) => true,
+    }
+}

@@ -1,0 +1,19 @@
+use Rattle.std.proofs.Common.{◌≡◌, Some, subst, sym, ◌∙◌}
+use Rattle.relay_model.specs.declared.places.Place.{Place}
+use Rattle.relay_model.specs.Holding.{Free}
+use Rattle.desk_places.specs.Stations.{StationTable, hold_at}
+use Rattle.socat_top.proofs.Unheld.{no_station}
+use Rattle.socat_top.proofs.written.run_written.Goals as goal
+
+pub keep-requires-clause-free : goal.keep-requires-clause-free
+keep-requires-clause-free g c = no_station c.args.desk.log.stations.entries c.requires.free
+
+pub run-shipped-requires : goal.run-shipped-requires
+run-shipped-requires g c =
+    let P : StationTable → Type 0 = λ stations. (p : Place) → hold_at stations.entries p ≡ Free in
+    record { free = subst P (sym c.keep.ensures.stations) c.requires.free }
+
+pub returns-clause-headline : goal.returns-clause-headline
+returns-clause-headline g c = λ before told.
+    let begun : c.keep.new.self.log.recording.told ≡ Some before = c.keep.ensures.told ∙ (rw c.in-Some.ensures.0 at told) in
+    rw (c.with_saving-2.ensures, c.in-Some.ensures.1) (c.run-shipped.ensures.headline before begun)

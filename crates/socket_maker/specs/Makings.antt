@@ -1,0 +1,38 @@
+-- Which sockets are made of which addresses.
+use Rattle.std.specs.Prelude.{Bool, true, false, Option, None, Some}
+use Rattle.relay_model.specs.declared.commands.Target.{Target}
+use Rattle.relay_model.specs.declared.commands.Target.TheVariants as targets
+use Rattle.port_trait.specs.declared.makers.Making.{Making}
+use Rattle.port_trait.specs.declared.makers.Making.TheVariants as makings
+use Rattle.socket_ports.specs.declared.any_socket.AnySocket.{AnySocket}
+use Rattle.socket_ports.specs.Sockets.{PortState}
+use Rattle.socket_ports.specs.Kinds.{Sort, Connected, Packets, sort_of}
+
+-- what is opened for an address that connects
+abbrev pub opened_sort : Target → Option Sort
+opened_sort (targets.Tcp family host port) = Some Connected
+opened_sort (targets.Udp family host port) = Some Packets
+opened_sort (targets.UnixConnect name) = Some Connected
+opened_sort (targets.GenericOpen name) = Some Connected
+opened_sort _ = None
+
+-- the kinds of sockets that are listened at
+abbrev pub listens : Target → Bool
+listens (targets.TcpListen family port) = true
+listens (targets.UdpListen family port) = true
+listens (targets.UnixListen name) = true
+listens _ = false
+
+-- the sort of the socket that was made
+abbrev pub socket_sort : Making AnySocket → Option Sort
+socket_sort (makings.Made socket) = Some (sort_of socket)
+socket_sort (makings.Later socket) = Some (sort_of socket)
+socket_sort makings.Failed = None
+socket_sort makings.Memory = None
+
+-- the sort of the socket whose port was made
+abbrev pub port_sort : Making (PortState AnySocket) → Option Sort
+port_sort (makings.Made port) = Some (sort_of port.socket)
+port_sort (makings.Later port) = Some (sort_of port.socket)
+port_sort makings.Failed = None
+port_sort makings.Memory = None

@@ -1,0 +1,288 @@
+// The port over a socket, which counts the answers.
+ghost use Rattle.std.specs.Prelude.{◌≡◌, ◌<◌, ◌≤◌, ◌++◌, true, false, length, take, is_some, option_map};
+ghost use Rattle.port_trait.specs.Counting.{Tallied};
+ghost use Rattle.port_trait.specs.Hinting.{StaysHinting};
+ghost use Rattle.port_trait.specs.Meanings.{Gives, Accepts, AcceptsWhole, AcceptsAll, is_end, settle_event, read_event, write_event, shut_event};
+ghost use Rattle.port_trait.specs.declared.answers.Begun.TheVariants as begins;
+ghost use Rattle.port_trait.specs.declared.answers.PortReap.TheVariants as reaps;
+ghost use Rattle.port_trait.specs.declared.answers.Joining.TheVariants as joining;
+ghost use Rattle.socket_ports.specs.Sockets.{fresh_port, noted, counted, hint_told};
+
+use crate::socket::Socket;
+use port_trait::{Begun, Counts, Got, Hint, Joining, Port, PortReap, Settled, Shutting, Took};
+use relay_model::Shut;
+use std::marker::Model;
+
+/// A socket whose answers are counted. What is kept is let go with the port.
+#[derive(Drop)]
+pub struct SocketPort<S, G> {
+    pub(crate) socket: S,
+    counts: Counts,
+    begun: bool,
+    ended: bool,
+    kept: G,
+}
+
+impl<S, G> Model for SocketPort<S, G> {
+    ghost use Rattle.socket_ports.specs.Sockets.{PortState};
+
+    ghost Value = { PortState S };
+
+    ghost view = { λ port. record { socket = port.socket; counts = port.counts; begun = port.begun; ended = port.ended } };
+}
+
+impl<S, G> SocketPort<S, G> {
+    /// The port of this socket.
+    pub fn new(socket: S, kept: G) -> SocketPort<S, G>
+        ensures { result ≡ fresh_port socket }
+    {
+        SocketPort {
+            socket,
+            counts: Counts::new(),
+            begun: false,
+            ended: false,
+            kept,
+        }
+    }
+
+    /// The socket.
+    pub fn socket(&self) -> &S
+        ensures { result.now ≡ self.now.socket }
+    {
+        &self.socket
+    }
+}
+
+impl<S: Socket, G: Drop> Port for SocketPort<S, G> {
+    ghost gave = { λ port. S.gave port.socket };
+
+    ghost took = { λ port. S.took port.socket };
+
+    ghost hints = { λ port. S.hints port.socket };
+
+    ghost hinting = { λ port. is_some (S.hints port.socket) };
+
+    ghost counts = { λ port. port.counts };
+
+    ghost begun = { λ port. port.begun };
+
+    ghost ended = { λ port. port.ended };
+
+    ghost joins = { λ _. true };
+
+    ghost child = { λ _. false };
+
+    /// The socket was opened by what made it.
+    #[tactic(auto, using(crate::proofs::Hintings::stays))]
+    fn begin(&mut self) -> Begun
+        ensures begun { result ≡ begins.Begun }
+        ensures kept { self.new ≡ record self.old { begun = true } }
+        ensures hinting { StaysHinting (is_some (S.hints self.old.socket)) (is_some (S.hints self.new.socket)) (S.hints self.new.socket) }
+    {
+        self.begun = true;
+        Begun::Begun
+    }
+
+    #[tactic(auto, using(crate::proofs::Hintings::stays))]
+    fn settle(&mut self) -> Settled
+        ensures kept { (S.gave self.new.socket ≡ S.gave self.old.socket) × (S.took self.new.socket ≡ S.took self.old.socket) × (self.new.begun ≡ self.old.begun) × (self.new.ended ≡ self.old.ended) }
+        ensures unshut { S.shuts self.new.socket ≡ S.shuts self.old.socket }
+        ensures hinting { StaysHinting (is_some (S.hints self.old.socket)) (is_some (S.hints self.new.socket)) (S.hints self.new.socket) }
+        ensures counted { self.new.counts ≡ counted (settle_event result) self.old.counts }
+        ensures counts { Tallied (settle_event result) self.old.counts self.new.counts }
+    {
+        let settled = self.socket.settle();
+        count_settling(&mut self.counts, settled);
+        settled
+    }
+
+    #[tactic(auto, using(crate::proofs::Hintings::stays))]
+    fn read(&mut self, into: &mut [u8]) -> Got
+        requires { 0 < length into.old }
+        ensures gives { Gives (S.gave self.old.socket) (S.gave self.new.socket) into.new result }
+        ensures ended { self.new.ended ≡ is_end result }
+        ensures kept { (S.took self.new.socket ≡ S.took self.old.socket) × (self.new.begun ≡ self.old.begun) }
+        ensures unshut { S.shuts self.new.socket ≡ S.shuts self.old.socket }
+        ensures hinting { StaysHinting (is_some (S.hints self.old.socket)) (is_some (S.hints self.new.socket)) (S.hints self.new.socket) }
+        ensures counted { self.new.counts ≡ counted (read_event result) self.old.counts }
+        ensures counts { Tallied (read_event result) self.old.counts self.new.counts }
+    {
+        let got = self.socket.receive(into);
+        self.ended = is_end(got);
+        count_reading(&mut self.counts, got);
+        got
+    }
+
+    #[tactic(auto, using(crate::proofs::Hintings::stays))]
+    fn write(&mut self, bytes: &[u8]) -> Took
+        requires { 0 < length bytes.now }
+        ensures accepts { Accepts (S.took self.old.socket) (S.took self.new.socket) bytes.now result }
+        ensures kept { (S.gave self.new.socket ≡ S.gave self.old.socket) × (self.new.begun ≡ self.old.begun) × (self.new.ended ≡ self.old.ended) }
+        ensures unshut { S.shuts self.new.socket ≡ S.shuts self.old.socket }
+        ensures hinting { StaysHinting (is_some (S.hints self.old.socket)) (is_some (S.hints self.new.socket)) (S.hints self.new.socket) }
+        ensures counted { self.new.counts ≡ counted (write_event result) self.old.counts }
+        ensures counts { Tallied (write_event result) self.old.counts self.new.counts }
+    {
+        let took = self.socket.transmit(bytes);
+        count_writing(&mut self.counts, took);
+        took
+    }
+
+    #[tactic(auto, using(crate::proofs::Hintings::stays))]
+    fn send(&mut self, bytes: &[u8]) -> Took
+        requires { 0 < length bytes.now }
+        ensures accepts { AcceptsWhole (S.took self.old.socket) (S.took self.new.socket) bytes.now result }
+        ensures kept { (S.gave self.new.socket ≡ S.gave self.old.socket) × (self.new.begun ≡ self.old.begun) × (self.new.ended ≡ self.old.ended) }
+        ensures unshut { S.shuts self.new.socket ≡ S.shuts self.old.socket }
+        ensures hinting { StaysHinting (is_some (S.hints self.old.socket)) (is_some (S.hints self.new.socket)) (S.hints self.new.socket) }
+        ensures counted { self.new.counts ≡ counted (write_event result) self.old.counts }
+        ensures counts { Tallied (write_event result) self.old.counts self.new.counts }
+    {
+        let took = self.socket.transmit_packet(bytes);
+        count_writing(&mut self.counts, took);
+        took
+    }
+
+    /// Writes until all is accepted. Where the socket would block it fails, since no call of a socket waits.
+    #[tactic(auto, using(crate::proofs::Hintings::stays))]
+    fn put_all(&mut self, bytes: &[u8]) -> Took
+        ensures accepts { AcceptsAll (S.took self.old.socket) (S.took self.new.socket) bytes.now result }
+        ensures kept { (S.gave self.new.socket ≡ S.gave self.old.socket) × (self.new.begun ≡ self.old.begun) × (self.new.ended ≡ self.old.ended) }
+        ensures unshut { S.shuts self.new.socket ≡ S.shuts self.old.socket }
+        ensures hinting { StaysHinting (is_some (S.hints self.old.socket)) (is_some (S.hints self.new.socket)) (S.hints self.new.socket) }
+        ensures counted { self.new.counts ≡ counted (write_event result) self.old.counts }
+        ensures counts { Tallied (write_event result) self.old.counts self.new.counts }
+    {
+        let (count, failed) = transmit_front(&mut self.socket, bytes);
+        if failed {
+            self.counts.count_fault();
+            return Took::Failed;
+        }
+        Took::Took(count)
+    }
+
+    #[tactic(auto, using(crate::proofs::Hintings::stays))]
+    fn shut(&mut self, how: Shut) -> Shutting
+        ensures told { S.shuts self.new.socket ≡ noted how (S.shuts self.old.socket) }
+        ensures kept { (S.gave self.new.socket ≡ S.gave self.old.socket) × (S.took self.new.socket ≡ S.took self.old.socket) × (self.new.begun ≡ self.old.begun) × (self.new.ended ≡ self.old.ended) }
+        ensures hinting { StaysHinting (is_some (S.hints self.old.socket)) (is_some (S.hints self.new.socket)) (S.hints self.new.socket) }
+        ensures counted { self.new.counts ≡ counted (shut_event result) self.old.counts }
+        ensures counts { Tallied (shut_event result) self.old.counts self.new.counts }
+    {
+        let shutting = self.socket.finish(how);
+        count_shutting(&mut self.counts, shutting);
+        shutting
+    }
+
+    /// What the socket knows by itself. What the system knows of it, the poller names.
+    #[tactic(auto, using(crate::proofs::Hintings::stays))]
+    fn hint(&mut self) -> Hint
+        ensures hinted { result ≡ hint_told (S.hints self.old.socket) }
+        ensures kept { self.new ≡ self.old }
+        ensures hinting { StaysHinting (is_some (S.hints self.old.socket)) (is_some (S.hints self.new.socket)) (S.hints self.new.socket) }
+    {
+        self.socket.hint()
+    }
+
+    fn may_hint(&self) -> bool
+        ensures { result ≡ is_some (S.hints self.now.socket) }
+    {
+        self.socket.may_hint()
+    }
+
+    fn has_child(&self) -> bool
+        ensures { result ≡ false }
+    {
+        false
+    }
+
+    #[tactic(auto, using(crate::proofs::Hintings::stays))]
+    fn reap(&mut self) -> PortReap
+        ensures none { result ≡ reaps.NoChild }
+        ensures kept { self.new ≡ self.old }
+        ensures hinting { StaysHinting (is_some (S.hints self.old.socket)) (is_some (S.hints self.new.socket)) (S.hints self.new.socket) }
+    {
+        PortReap::NoChild
+    }
+
+    #[tactic(auto, using(crate::proofs::Hintings::stays))]
+    fn join(&mut self) -> Joining
+        ensures joined { result ≡ joining.Joined }
+        ensures kept { self.new ≡ self.old }
+        ensures hinting { StaysHinting (is_some (S.hints self.old.socket)) (is_some (S.hints self.new.socket)) (S.hints self.new.socket) }
+    {
+        Joining::Joined
+    }
+}
+
+/// Transmits until all bytes are accepted or the socket accepts no more, and counts what it accepted.
+fn transmit_front<S: Socket>(socket: &mut S, bytes: &[u8]) -> (usize, bool)
+    ensures bound { result.0 ≤ length bytes.now }
+    ensures all { result.1 ≡ false → result.0 ≡ length bytes.now }
+    ensures took { S.took socket.new ≡ option_map (λ all. all ++ take result.0 bytes.now) (S.took socket.old) }
+    ensures hinting { is_some (S.hints socket.new) ≡ is_some (S.hints socket.old) }
+    ensures kept { (S.gave socket.new ≡ S.gave socket.old) × (S.shuts socket.new ≡ S.shuts socket.old) }
+{
+    let mut count = 0;
+    while count < bytes.len() {
+        match socket.transmit(&bytes[count..]) {
+            Took::Took(more) => count += more,
+            Took::NotYet | Took::Failed => return (count, true),
+        }
+    }
+    (count, false)
+}
+
+fn is_end(got: Got) -> bool
+    ensures { result ≡ is_end got }
+{
+    match got {
+        Got::End => true,
+        Got::Bytes(_) | Got::Empty | Got::NotYet | Got::Failed => false,
+    }
+}
+
+fn count_settling(counts: &mut Counts, settled: Settled)
+    ensures counted { counts.new ≡ counted (settle_event settled) counts.old }
+    ensures tallied { Tallied (settle_event settled) counts.old counts.new }
+{
+    match settled {
+        Settled::Ready => {}
+        Settled::NotYet => counts.count_stall(),
+        Settled::Failed => counts.count_fault(),
+    }
+}
+
+fn count_reading(counts: &mut Counts, got: Got)
+    ensures counted { counts.new ≡ counted (read_event got) counts.old }
+    ensures tallied { Tallied (read_event got) counts.old counts.new }
+{
+    match got {
+        Got::Bytes(_) => {}
+        Got::Empty => counts.count_empty(),
+        Got::End => counts.count_end(),
+        Got::NotYet => counts.count_stall(),
+        Got::Failed => counts.count_fault(),
+    }
+}
+
+fn count_writing(counts: &mut Counts, took: Took)
+    ensures counted { counts.new ≡ counted (write_event took) counts.old }
+    ensures tallied { Tallied (write_event took) counts.old counts.new }
+{
+    match took {
+        Took::Took(_) => {}
+        Took::NotYet => counts.count_stall(),
+        Took::Failed => counts.count_fault(),
+    }
+}
+
+fn count_shutting(counts: &mut Counts, shutting: Shutting)
+    ensures counted { counts.new ≡ counted (shut_event shutting) counts.old }
+    ensures tallied { Tallied (shut_event shutting) counts.old counts.new }
+{
+    match shutting {
+        Shutting::Done => {}
+        Shutting::Failed => counts.count_fault(),
+    }
+}

@@ -1,9 +1,0 @@
-pub mod BackLemmas
-pub mod Delivery
-pub mod Feedings
-pub mod ItemLists
-pub mod Putting
-pub mod Readings
-pub mod Servings
-pub mod Taking
-pub mod Truth

@@ -1,0 +1,95 @@
+// Options, their values, and the numbers, networks and names that these are made of. What is no value is `none`.
+use crate::answers::Answers;
+use crate::inputs::Inputs;
+use crate::places::{say_bind, say_range};
+use crate::rows::{Answered, RowFault};
+use option_table::{
+    Lookup, Value, has_port, ipv4_literal, ipv6_literal, lookup, read_bind, read_number,
+    read_range, read_short_number, read_time, read_value, same_name,
+};
+use std::alloc::Global;
+
+pub(crate) fn ask(
+    alloc: Global,
+    part: &str,
+    inputs: &mut Inputs<'_>,
+    answers: &mut Answers,
+) -> Answered {
+    let text = inputs.bytes(alloc)?;
+    let text = text.as_slice();
+    match part {
+        "lookup" => ask_lookup(alloc, text, answers),
+        "switch" => say_value(value_of(text, None)?, answers),
+        "value" => {
+            let value = inputs.bytes(alloc)?;
+            say_value(value_of(text, Some(value.as_slice()))?, answers)
+        }
+        "same-name" => {
+            let other = inputs.bytes(alloc)?;
+            answers.truth(same_name(text, other.as_slice()))
+        }
+        _ => ask_text(part, text, answers),
+    }
+}
+
+/// Asks what a text alone says.
+fn ask_text(part: &str, text: &[u8], answers: &mut Answers) -> Answered {
+    match part {
+        "number" => say_number(read_number(text), answers),
+        "digits" => say_number(read_short_number(text, 5, 65535), answers),
+        "time" => say_number(read_time(text), answers),
+        "range" => say_value(read_range(text).map(Value::Range), answers),
+        "bind" => say_value(read_bind(text).map(Value::Address), answers),
+        "has-port" => answers.truth(has_port(text)),
+        "ipv4" => match ipv4_literal(text) {
+            Some(octets) => answers.octets(4, &octets),
+            None => answers.word("none"),
+        },
+        "ipv6" => match ipv6_literal(text) {
+            Some(octets) => answers.octets(6, &octets),
+            None => answers.word("none"),
+        },
+        _ => Err(RowFault::NoRow),
+    }
+}
+
+/// What is known of an option: what it is, its group, its phase and its form.
+fn ask_lookup(alloc: Global, name: &[u8], answers: &mut Answers) -> Answered {
+    match lookup(name) {
+        Lookup::Known(row) => {
+            let (id, group, phase, form) = (row.id, row.group, row.phase, row.form);
+            let line = format!(in alloc; "{id:?} {group:?} {phase:?} {form:?}")?;
+            answers.word(line.as_str())
+        }
+        Lookup::LeftOut => answers.word("left-out"),
+        Lookup::Unknown => answers.word("unknown"),
+    }
+}
+
+/// What the value of this option says.
+fn value_of(name: &[u8], text: Option<&[u8]>) -> Result<Option<Value>, RowFault> {
+    match lookup(name) {
+        Lookup::Known(row) => Ok(read_value(row, text)),
+        _ => Err(RowFault::NoRow),
+    }
+}
+
+fn say_number(number: Option<u64>, answers: &mut Answers) -> Answered {
+    match number {
+        Some(number) => answers.number(number),
+        None => answers.word("none"),
+    }
+}
+
+fn say_value(value: Option<Value>, answers: &mut Answers) -> Answered {
+    match value {
+        None => answers.word("none"),
+        Some(Value::Bool(on)) => answers.truth(on),
+        Some(Value::Number(number)) => answers.counted("number", number),
+        Some(Value::Time(time)) => answers.counted("time", time),
+        Some(Value::Port(port)) => answers.counted("port", u64::from(port)),
+        Some(Value::Range(range)) => say_range(range, answers),
+        Some(Value::Address(bind)) => say_bind(bind, answers),
+        Some(Value::Text) => answers.word("text"),
+    }
+}

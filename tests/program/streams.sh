@@ -1,0 +1,172 @@
+# Standard input to standard output: plain inputs, and readers, writers and devices that fail.
+
+relay=(-u STDIN STDOUT)
+
+# --- inputs that end
+
+: >"$scratch/empty"
+passes "an empty input" "$scratch/empty"
+
+printf 'x' >"$scratch/one"
+passes "an input of 1 byte" "$scratch/one"
+
+seq 1 100000 | head -c 8191 >"$scratch/short_block"
+passes "an input of 8191 bytes" "$scratch/short_block"
+
+seq 1 100000 | head -c 8192 >"$scratch/block"
+passes "an input of 8192 bytes, one block" "$scratch/block"
+
+seq 1 100000 | head -c 8193 >"$scratch/long_block"
+passes "an input of 8193 bytes, a block and a byte" "$scratch/long_block"
+
+all_bytes >"$scratch/binary"
+passes "every byte value, NUL and FF included" "$scratch/binary"
+
+problem=''
+sums="$(large | timeout 120 "$program" "${relay[@]}" | cksum; echo "${PIPESTATUS[1]}")"
+if [ "${sums##*$'\n'}" != 0 ]; then
+    problem="status ${sums##*$'\n'}"
+elif [ "${sums%$'\n'*}" != "$(large | cksum)" ]; then
+    problem="other bytes came out"
+fi
+report "an input of 100 MB through two pipes" "$problem"
+
+for block in 1 3 0x10 1048576; do
+    problem=''
+    seq 1 2000 | timeout 60 "$program" "-b$block" "${relay[@]}" >"$scratch/out"
+    status="${PIPESTATUS[1]}"
+    if [ "$status" -ne 0 ]; then
+        problem="status $status"
+    elif [ "$(cksum <"$scratch/out")" != "$(seq 1 2000 | cksum)" ]; then
+        problem="other bytes came out"
+    fi
+    report "blocks of $block bytes" "$problem"
+done
+
+problem=''
+got="$( (printf a; sleep 0.2; printf b; sleep 0.2; printf c) | timeout 20 "$program" "${relay[@]}"
+    echo " ${PIPESTATUS[1]}")"
+[ "$got" = "abc 0" ] || problem="got '$got'"
+report "a writer that is slow and writes in pieces" "$problem"
+
+problem=''
+got="$(seq 1 300000 | timeout 20 "$program" "${relay[@]}" | (sleep 0.5; cksum); echo " ${PIPESTATUS[1]}")"
+[ "$got" = "$(seq 1 300000 | cksum)"$'\n'" 0" ] || problem="got '$got'"
+report "a reader that is slow" "$problem"
+
+# --- ends and failures from outside
+
+problem=''
+timeout 20 "$program" "${relay[@]}" </dev/zero 2>"$scratch/err" | head -c 10 >"$scratch/out"
+statuses=("${PIPESTATUS[@]}")
+if [ "${statuses[0]}" -ne 1 ]; then
+    problem="status ${statuses[0]}"
+elif ! said 'socat: write failed on the right'; then
+    problem="said $(cat "$scratch/err")"
+elif [ "$(size_of "$scratch/out")" -ne 10 ]; then
+    problem="the reader didn't get its 10 bytes"
+fi
+report "a reader that closes early, on an input without end" "$problem"
+
+if [ -c /dev/full ]; then
+    problem=''
+    printf 'abc' | timeout 20 "$program" "${relay[@]}" >/dev/full 2>"$scratch/err"
+    status="${PIPESTATUS[1]}"
+    [ "$status" -eq 1 ] || problem="status $status"
+    said_write_failed || problem="said $(cat "$scratch/err")"
+    report "a full device as the output" "$problem"
+else
+    echo "skipped a full device as the output: there is no /dev/full"
+fi
+
+# unreadable NAME: the relay of standard input, which can't be read, says so and writes nothing.
+unreadable() {
+    local problem='' status
+    timeout 20 "$program" "${relay[@]}" >"$scratch/out" 2>"$scratch/err"
+    status=$?
+    if [ "$status" -ne 1 ]; then
+        problem="status $status"
+    elif ! said 'socat: read failed on the left'; then
+        problem="said $(cat "$scratch/err")"
+    elif [ -s "$scratch/out" ]; then
+        problem="something was written"
+    fi
+    report "$1" "$problem"
+}
+
+# What can't be read is a failure, and so is what can't be written.
+unreadable "a directory as the input, which can't be read" </
+unreadable "standard input closed" <&-
+
+problem=''
+printf 'abc' | timeout 20 "$program" "${relay[@]}" >&- 2>"$scratch/err"
+status="${PIPESTATUS[1]}"
+[ "$status" -eq 1 ] || problem="status $status"
+said_write_failed || problem="said $(cat "$scratch/err")"
+report "standard output closed" "$problem"
+
+problem=''
+timeout 20 "$program" "${relay[@]}" </ >"$scratch/out" 2>&-
+status=$?
+[ "$status" -eq 1 ] || problem="status $status"
+report "a failure with standard error closed" "$problem"
+
+# --- memory and signals
+
+# The most memory that the process held so far, in kB.
+peak_of() {
+    local name value
+    while read -r name value _; do
+        if [ "$name" = VmHWM: ]; then
+            echo "$value"
+            return
+        fi
+    done <"/proc/$1/status"
+}
+
+# feed BYTES: relays so many zeros. `peak` is the most memory that the program held, and `problem` what went wrong.
+feed() {
+    local pid
+    "$program" "${relay[@]}" <"$scratch/feed" >/dev/null &
+    pid=$!
+    after 60 "$pid"
+    exec 3>"$scratch/feed"
+    head -c "$1" /dev/zero >&3
+    peak="$(peak_of "$pid" 2>/dev/null)"
+    exec 3>&-
+    finish "$pid" "$watch"
+    problem=''
+    if [ "$status" -ne 0 ]; then
+        problem="status $status"
+    elif [ -z "$peak" ]; then
+        problem="its memory couldn't be read"
+    fi
+}
+
+if [ -r /proc/self/status ]; then
+    mkfifo "$scratch/feed"
+    feed 1048576
+    short="$peak"
+    if [ -z "$problem" ]; then
+        feed 209715200
+    fi
+    if [ -z "$problem" ] && [ "$peak" -gt $((short + 1024)) ]; then
+        problem="it grew by $((peak - short)) kB"
+    fi
+    report "memory for 200 MB is at most 1 MB above that for 1 MB (${peak:-?} kB, ${short:-?} kB)" "$problem"
+else
+    echo "skipped memory: there is no /proc"
+fi
+
+problem=''
+mkfifo "$scratch/idle"
+exec 4<>"$scratch/idle"
+"$program" "${relay[@]}" <&4 >/dev/null 2>&1 &
+pid=$!
+after 20 "$pid"
+sleep 0.3
+kill -TERM "$pid" || problem="it ended before"
+finish "$pid" "$watch"
+exec 4<&-
+[ "$status" -eq 143 ] || problem="status $status"
+report "SIGTERM ends it while it waits for input" "$problem"

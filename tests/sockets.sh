@@ -1,0 +1,20 @@
+#!/usr/bin/env bash
+# Runs the built program on the sockets of this machine's loopback: against itself, against small Python peers and,
+# where it is installed, against another socat; each as client and as server. One line a case, and 'N passed, M failed'
+# at the end; the status is 1 where a case failed.
+# Usage: tests/sockets.sh [PROGRAM [PART..]]      (bin/socat where none is given, and all parts)
+# MANY is the number of short relays in a row (200).
+set -u
+
+. "$(dirname "${BASH_SOURCE[0]}")/common.sh"
+use_program "${1:-$here/bin/socat}"
+. "$here/tests/sockets/common.sh"
+
+parts=("${@:2}")
+[ "${#parts[@]}" -gt 0 ] || parts=(pairs streams ends opening filters udp unix many)
+for part in "${parts[@]}"; do
+    . "$here/tests/sockets/$part.sh"
+done
+
+echo "$passed passed, $failed failed"
+[ "$failed" -eq 0 ]
