@@ -52,6 +52,8 @@ impl Backlog {
         ensures store { IsSameStore self.old self.new }
     {
         match self {
+            // an emptied ring begins where it did, so whole blocks don't wrap round in it
+            Backlog::Stream(ring) if count == ring.len() => ring.clear(),
             Backlog::Stream(ring) => ring.truncate_front(ring.len() - count),
             Backlog::Packet(bytes) => bytes.clear(),
         }
