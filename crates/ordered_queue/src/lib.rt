@@ -4,8 +4,6 @@
 
 mod queues;
 mod roles;
-#[cfg(test)]
-mod tests;
 
 pub use queues::{OrderedPass, OrderedQueue, is_empty, is_full, ordered, put, settle, take};
 pub use roles::{InOrder, Item, View};

@@ -9,8 +9,6 @@ mod scripts;
 mod sinks;
 mod sources;
 mod spawners;
-#[cfg(test)]
-mod tests;
 
 pub use intake::Tap;
 pub use makers::{MakeItem, MemMaker};

@@ -87,24 +87,3 @@ impl KeyList {
         };
     }
 }
-
-#[cfg(test)]
-mod tests {
-    use super::*;
-    use std::test::Fail;
-
-    #[test]
-    fn entries_stand_in_order(rt: HostRuntime) -> Result<(), Fail> {
-        let mut keys = KeyList::new(rt.alloc())?;
-        let mut others = KeyList::new(rt.alloc())?;
-        assert!(rt; keys.push((7, Half::ToRead)));
-        assert!(rt; keys.push((3, Half::ToWrite)));
-        others.set(&keys);
-        keys.clear();
-        assert_eq!(rt; (keys.len(), others.len()), (0, 2));
-        if others.len() == 2 {
-            assert_eq!(rt; others.get(1), (3, Half::ToWrite));
-        }
-        Ok(())
-    }
-}

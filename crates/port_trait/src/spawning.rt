@@ -121,26 +121,3 @@ impl<R: Threads> Spawner for StdSpawner<R> {
 pub trait Wake {
     fn wake(&self);
 }
-
-#[cfg(test)]
-mod tests {
-    use super::*;
-    use std::test::Fail;
-
-    #[derive(Drop)]
-    struct Seven;
-
-    impl Promise<u64> for Seven {
-        ghost kept_by = { λ _ given. given ≡ 7 };
-    }
-
-    #[test]
-    fn a_work_runs_in_a_thread(rt: HostRuntime) -> Result<(), Fail> {
-        let mut spawner = StdSpawner::new(rt);
-        let Ok(task) = spawner.start(Seven, || 7u64) else {
-            return Err("refused")?;
-        };
-        assert_eq!(rt; task.join(&rt), 7);
-        Ok(())
-    }
-}

@@ -1,0 +1,80 @@
+// Rows of files are tried, and each is told.
+use crate::answers::Answers;
+use crate::inputs::Inputs;
+use crate::rows::{Answered, Row, RowFault, Tally};
+use std::alloc::Global;
+use std::env::Env;
+use std::process::ExitCode;
+use std::rt::Files;
+use std::{env, fs, io};
+
+/// Asks what stands in the rows of each file that the arguments name, and prints a line for each and at the end how many there were.
+/// The program ends with 1 where one differs. An empty line is no row, and one that begins with `#` isn't either.
+pub fn try_files<R, F>(rt: &R, ask: &F) -> io::Result<ExitCode>
+where
+    R: Env + Files + Print + AllocGlobal,
+    F: Fn(Global, &str, &mut Inputs<'_>, &mut Answers) -> Answered,
+    requires { F.IsAlwaysCallable ask.now }
+{
+    let mut tally = Tally::default();
+    for path in env::args(rt)?.skip(1) {
+        try_file(rt, ask, path.as_str(), &mut tally)?;
+    }
+    let (good, differing) = (tally.good, tally.differing);
+    println!(rt; "{good} ok, {differing} differ")?;
+    Ok(ExitCode::from(if differing == 0 { 0 } else { 1 }))
+}
+
+fn try_file<R, F>(rt: &R, ask: &F, path: &str, tally: &mut Tally) -> io::Result<()>
+where
+    R: Files + Print + AllocGlobal,
+    F: Fn(Global, &str, &mut Inputs<'_>, &mut Answers) -> Answered,
+    requires { F.IsAlwaysCallable ask.now }
+{
+    let text = fs::read_to_string(rt, path)?;
+    for line in text.as_str().lines() {
+        if !line.is_empty() && !line.starts_with('#') {
+            tally.add(try_row(rt, ask, line)?);
+        }
+    }
+    Ok(())
+}
+
+/// Tries one row, and prints how it went. False where it differs.
+fn try_row<R, F>(rt: &R, ask: &F, line: &str) -> io::Result<bool>
+where
+    R: Print + AllocGlobal,
+    F: Fn(Global, &str, &mut Inputs<'_>, &mut Answers) -> Answered,
+    requires { F.IsAlwaysCallable ask.now }
+{
+    let Some(row) = Row::of(line) else {
+        println!(rt; "DIFFERS {line}: no row")?;
+        return Ok(false);
+    };
+    let (name, want) = (row.name, row.want);
+    match answer(rt.alloc(), ask, &row) {
+        Ok(have) if have.as_str() == want => {
+            println!(rt; "ok {name}")?;
+            return Ok(true);
+        }
+        Ok(have) => {
+            let have = have.as_str();
+            println!(rt; "DIFFERS {name}: got {have}")?;
+        }
+        Err(fault) => println!(rt; "DIFFERS {name}: got {fault:?}")?,
+    }
+    Ok(false)
+}
+
+/// What the part answers, in the spelling of the rows. No word may be left.
+fn answer<F>(alloc: Global, ask: &F, row: &Row<'_>) -> Result<Answers, RowFault>
+where
+    F: Fn(Global, &str, &mut Inputs<'_>, &mut Answers) -> Answered,
+    requires { F.IsAlwaysCallable ask.now }
+{
+    let mut inputs = Inputs::new(row.inputs);
+    let mut answers = Answers::new(alloc);
+    ask(alloc, row.part, &mut inputs, &mut answers)?;
+    inputs.end()?;
+    Ok(answers)
+}
