@@ -1,6 +1,6 @@
 use Rattle.std.proofs.Common.{ℕ, ◌≤◌, ◌<◌, ◌-◌, length}
-use Rattle.timer_set.specs.Entries.{key_at}
-use Rattle.timer_set.proofs.key_map.place_of.Given as goal
+use Rattle.key_map.specs.Entries.{key_at}
+use Rattle.key_map.proofs.maps.place_of.Given as goal
 
 abbrev pub invariant-loop-low : goal.invariant-loop-low
 invariant-loop-low l = record {

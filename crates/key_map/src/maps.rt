@@ -1,14 +1,14 @@
 // A map from keys to numbers, in a vector in the order of the keys.
 ghost use Rattle.std.specs.Prelude.{◌≡◌, ℕ, ◌+◌, ◌-◌, ◌<◌, ◌≤◌, length, None, OnOk, IfOk, IfErr, if◌then◌else◌, vec_len, vec_capacity, insert};
 ghost use Rattle.std.specs.FinMap as map;
-ghost use Rattle.timer_set.specs.Entries.{IsRising, IsAt, IsGap, key_at};
+ghost use Rattle.key_map.specs.Entries.{IsRising, IsAt, IsGap, key_at};
 
 use relay_model::NoMemory;
 use std::alloc::Global;
 use std::marker::Model;
 
 #[derive(Debug, Drop)]
-pub(crate) struct KeyMap {
+pub struct KeyMap {
     pairs: Vec<(u32, usize)>,
 }
 
@@ -17,7 +17,7 @@ impl Model for KeyMap {
     ghost use Rattle.std.specs.Ordering.{nat_cmp};
     ghost use Rattle.std.specs.Coded.{Coded, coded×, coded_ℕ};
     ghost use Rattle.std.specs.FinMap as map;
-    ghost use Rattle.timer_set.specs.Entries.{Keyed, keyed_code, IsRising};
+    ghost use Rattle.key_map.specs.Entries.{Keyed, keyed_code, IsRising};
 
     ghost Value = { Keyed };
 
@@ -30,7 +30,7 @@ impl Model for KeyMap {
 
 impl KeyMap {
     /// No keys; takes no memory.
-    pub(crate) fn new(alloc: Global) -> KeyMap
+    pub fn new(alloc: Global) -> KeyMap
         ensures { result.values ≡ map.empty }
     {
         KeyMap {
@@ -39,7 +39,7 @@ impl KeyMap {
     }
 
     /// Makes room for `n` further keys.
-    pub(crate) fn reserve(&mut self, n: usize) -> Result<(), NoMemory>
+    pub fn reserve(&mut self, n: usize) -> Result<(), NoMemory>
         ensures room { OnOk result (n ≤ self.new.room) }
         ensures kept { self.old.room ≤ self.new.room }
         ensures values { self.new.values ≡ self.old.values }
@@ -49,7 +49,7 @@ impl KeyMap {
     }
 
     /// The value at this key.
-    pub(crate) fn get(&self, key: u32) -> Option<usize>
+    pub fn get(&self, key: u32) -> Option<usize>
         ensures { result ≡ map.get self.now.values key }
     {
         match search(&self.pairs, key) {
@@ -59,7 +59,7 @@ impl KeyMap {
     }
 
     /// Gives this key this value.
-    pub(crate) fn put(&mut self, key: u32, value: usize)
+    pub fn put(&mut self, key: u32, value: usize)
         requires { map.get self.old.values key ≡ None → 0 < self.old.room }
         ensures values { self.new.values ≡ map.insert self.old.values key value }
         ensures room { self.new.room ≡ (if map.contains_key self.old.values key then self.old.room else self.old.room - 1) }
@@ -71,7 +71,7 @@ impl KeyMap {
     }
 
     /// Takes this key out, where it is there, and answers its value.
-    pub(crate) fn remove(&mut self, key: u32) -> Option<usize>
+    pub fn remove(&mut self, key: u32) -> Option<usize>
         ensures value { result ≡ map.get self.old.values key }
         ensures values { self.new.values ≡ map.remove self.old.values key }
         ensures room { self.new.room ≡ (if map.contains_key self.old.values key then self.old.room + 1 else self.old.room) }

@@ -1,7 +1,7 @@
 use Rattle.std.proofs.Common.{◌≡◌, ◌-◌, ap, sym, subst, ◌∙◌, arith, vec_len, vec_capacity}
-use Rattle.timer_set.specs.Entries.{Keyed, IsRising}
-use Rattle.timer_set.proofs.Found.{got_at, got_none, put_at, put_gap, rising_insert, chosen_some, chosen_none}
-use Rattle.timer_set.proofs.key_map.KeyMap.put.Goals as goal
+use Rattle.key_map.specs.Entries.{Keyed, IsRising}
+use Rattle.key_map.proofs.Found.{got_at, got_none, put_at, put_gap, rising_insert, chosen_some, chosen_none}
+use Rattle.key_map.proofs.maps.KeyMap.put.Goals as goal
 
 pub insert_pair-requires-clause-room : goal.insert_pair-requires-clause-room
 insert_pair-requires-clause-room c =

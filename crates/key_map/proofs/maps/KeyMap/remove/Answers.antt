@@ -1,7 +1,7 @@
 use Rattle.std.proofs.Common.{◌≡◌, ◌+◌, ◌-◌, ap, sym, ◌∙◌, arith, vec_len, vec_capacity}
-use Rattle.timer_set.specs.Entries.{Keyed}
-use Rattle.timer_set.proofs.Found.{got_at, got_none, removed_at, removed_gap, chosen_some, chosen_none}
-use Rattle.timer_set.proofs.key_map.KeyMap.remove.Goals as goal
+use Rattle.key_map.specs.Entries.{Keyed}
+use Rattle.key_map.proofs.Found.{got_at, got_none, removed_at, removed_gap, chosen_some, chosen_none}
+use Rattle.key_map.proofs.maps.KeyMap.remove.Goals as goal
 
 pub returns-in-Ok-clause-values : goal.returns-in-Ok-clause-values
 returns-in-Ok-clause-values c =

@@ -9,7 +9,7 @@ use Rattle.std.specs.FinMap as map
 use Rattle.std.proofs.lemmas.Bool.{ltb-true, eq-eqb, ne_eqb, lt-ltb, le-ltb, cases_order}
 use Rattle.std.proofs.lemmas.List.{get_or_default}
 use Rattle.std.proofs.lemmas.List.Edits.{length-insert, get_or-insert_below, get_or-insert_at, get_or-insert_above}
-use Rattle.timer_set.specs.Entries.{key_at, IsRising, IsAt, IsGap}
+use Rattle.key_map.specs.Entries.{key_at, IsRising, IsAt, IsGap}
 
 pub test_same : (q k : ℕ) → q ≡ k → eq_by_cmp nat_cmp q k ≡ true
 test_same q k e = rw (le-ltb q k (omega arith), eq-eqb q k e)
