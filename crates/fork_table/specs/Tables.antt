@@ -1,7 +1,7 @@
 -- What contracts see of the sessions of a command with `fork`.
-use Rattle.std.specs.Prelude.{◌≡◌, ℕ, ◌<◌, ◌≤◌, Bool, ◌&&◌, nat_lt, Option, Some, None, is_some, refl}
+use Rattle.std.specs.Prelude.{◌≡◌, ◌≢◌, ℕ, ◌<◌, ◌≤◌, Bool, true, ◌&&◌, nat_lt, Option, Some, None, is_some, refl}
 use Rattle.std.specs.Coded.{Coded, code_by, coded×, coded_ℕ}
-use Rattle.slab.specs.Slab.{Slab, slab_code, get, ContainsKey, HasRoomFor}
+use Rattle.slab.specs.Slab.{Slab, slab_code, get, with_value, ContainsKey, HasRoomFor}
 use Rattle.key_map.specs.Entries.{Keyed, keyed_code}
 use Rattle.std.specs.FinMap as map
 use Rattle.relay_model.specs.Choices.{count}
@@ -45,3 +45,39 @@ module _ {T : Type 0} where
     pub own_row : (number other key : ℕ) → map.get t.numbers.values number ≡ Some key → map.get t.numbers.values other ≡ Some key → number ≡ other
     pub live_is : t.live ≡ live_in t
     pub few : t.live ≤ t.max_children
+
+  -- the table with this session under the number, where one lives
+  abbrev pub with_row : Table T → Option ℕ → T → Table T
+  with_row t None session = t
+  with_row t (Some key) session = record t { rows = with_value t.rows key session }
+
+  abbrev pub with_session : Table T → ℕ → T → Table T
+  with_session t number session = with_row t (map.get t.numbers.values number) session
+
+  -- fewer live than may, and fewer came than are served
+  abbrev pub may_accept_in : Table T → Bool
+  may_accept_in t = nat_lt (live_in t) t.max_children && nat_lt t.admitted t.stop_after
+
+  -- there is room for one further session
+  abbrev pub HasRoom : Table T → Type 0
+  HasRoom t = (0 < t.numbers.room) × HasRoomFor t.rows 1
+
+  -- each number has what it had
+  abbrev pub SameRows : Table T → Table T → Type 0
+  SameRows old new = (number : ℕ) → row_of new number ≡ row_of old number
+
+  -- as many may live and come
+  abbrev pub SameBounds : Table T → Table T → Type 0
+  SameBounds old new = (new.max_children ≡ old.max_children) × (new.stop_after ≡ old.stop_after)
+
+  -- the new table has this session under the number, and every other number has what it had
+  pub record Changes (old new : Table T) (number : ℕ) (session : T) : Type 0 where
+    pub row : row_of new number ≡ Some session
+    pub others : (other : ℕ) → other ≢ number → row_of new other ≡ row_of old other
+    pub admitted : new.admitted ≡ old.admitted
+    pub bounds : SameBounds old new
+
+  -- none lives from this number on; or this is the least that does
+  abbrev pub IsFirstLive : Table T → ℕ → Option ℕ → Type 0
+  IsFirstLive t number None = (other : ℕ) → number ≤ other → row_of t other ≡ None
+  IsFirstLive t number (Some first) = (number ≤ first) × (is_some (row_of t first) ≡ true) × ((other : ℕ) → number ≤ other → other < first → row_of t other ≡ None)

@@ -9,7 +9,7 @@ use Rattle.std.specs.FinMap as map
 use Rattle.std.proofs.lemmas.Bool.{ltb-true, eq-eqb, ne_eqb, lt-ltb, le-ltb, cases_order}
 use Rattle.std.proofs.lemmas.List.{get_or_default}
 use Rattle.std.proofs.lemmas.List.Edits.{length-insert, get_or-insert_below, get_or-insert_at, get_or-insert_above}
-use Rattle.key_map.specs.Entries.{key_at, IsRising, IsAt, IsGap}
+use Rattle.key_map.specs.Entries.{IsFirstFrom, key_at, IsRising, IsAt, IsGap}
 
 pub test_same : (q k : ℕ) → q ≡ k → eq_by_cmp nat_cmp q k ≡ true
 test_same q k e = rw (le-ltb q k (omega arith), eq-eqb q k e)
@@ -192,3 +192,31 @@ chosen_some o x a b e = ap (λ (o : Option ℕ). if is_some o then a else b) e
 
 pub chosen_none : (o : Option ℕ) (a b : ℕ) → o ≡ None → (if is_some o then a else b) ≡ b
 chosen_none o a b e = ap (λ (o : Option ℕ). if is_some o then a else b) e
+
+-- ---- the first key from some key on
+
+-- no key stands there that lies between two neighbours
+pub absent_between : (m : FinMap nat_cmp ℕ) (s : List (ℕ × ℕ)) (p key other : ℕ) → from_entries s ≡ m → ((i : ℕ) → i < p → key_at s i < key) → key ≤ other → ((i : ℕ) → p ≤ i → i < length s → other < key_at s i) → get m other ≡ None
+absent_between m s p key other is below from above =
+    get_scanned m s other is ∙ find_absent s other (λ i h same. elim (cases_order i p) [
+      | inl e ↦ let a = above i (omega (arith, e)) h in omega (arith, a, same)
+      | inr (inl less) ↦ let b = below i less in omega (arith, b, same, from)
+      | inr (inr more) ↦ let a = above i (omega (arith, more)) h in omega (arith, a, same)
+    ])
+
+pub none_from : (m : FinMap nat_cmp ℕ) (s : List (ℕ × ℕ)) (p key : ℕ) → from_entries s ≡ m → ((i : ℕ) → i < p → key_at s i < key) → length s ≤ p → IsFirstFrom m key None
+none_from m s p key is below past other from = absent_between m s p key other is below from (λ i l h. absurd (omega (arith, l, h, past)))
+
+pub first_at : (m : FinMap nat_cmp ℕ) (s : List (ℕ × ℕ)) (p key : ℕ) (x : ℕ × ℕ) → from_entries s ≡ m → IsRising s → p < length s → x ≡ get_or s p x → ((i : ℕ) → i < p → key_at s i < key) → ((i : ℕ) → p ≤ i → i < length s → key ≤ key_at s i) → IsFirstFrom m key (Some x.0)
+first_at m s p key x is rising within at below above =
+    let here : key_at s p ≡ x.0 = ap (λ (y : ℕ × ℕ). y.0) (get_or_default s p (0, 0) x within ∙ sym at) in
+    let found = got_at m s x.0 p x is (record { rising = rising; within = within; found = here }) at in
+    let lowest = above p (omega arith) within in (
+      omega (arith, lowest, here),
+      ap is_some found,
+      λ other from before. absent_between m s p key other is below from (λ i l h. elim (cases_order i p) [
+        | inl e ↦ let same = ap (key_at s) e in omega (arith, same, here, before)
+        | inr (inl less) ↦ absurd (omega (arith, l, less))
+        | inr (inr more) ↦ let r = rising p i more h in omega (arith, r, here, before)
+      ]),
+    )

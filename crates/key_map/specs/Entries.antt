@@ -1,7 +1,7 @@
 -- Pairs of a key and a value, in a list.
-use Rattle.std.specs.Prelude.{◌≡◌, ℕ, ◌<◌, ◌≤◌, List, length, slice_index_or, refl}
+use Rattle.std.specs.Prelude.{◌≡◌, ℕ, ◌<◌, ◌≤◌, true, List, length, Option, Some, None, is_some, slice_index_or, refl}
 use Rattle.std.specs.Ordering.{nat_cmp}
-use Rattle.std.specs.FinMap.{FinMap, code}
+use Rattle.std.specs.FinMap.{FinMap, code, get}
 use Rattle.std.specs.Coded.{Coded, code_by, coded×, coded_ℕ}
 
 -- a map from keys to values, and how many further keys it has room for
@@ -29,6 +29,11 @@ pub record IsGap (pairs : List (ℕ × ℕ)) (key place : ℕ) : Type 0 where
   pub within : place ≤ length pairs
   pub below : (i : ℕ) → i < place → key_at pairs i < key
   pub above : (i : ℕ) → place ≤ i → i < length pairs → key < key_at pairs i
+
+-- no key from this one on has a value; or this is the least that has
+abbrev pub IsFirstFrom : FinMap nat_cmp ℕ → ℕ → Option ℕ → Type 0
+IsFirstFrom values key None = (other : ℕ) → key ≤ other → get values other ≡ None
+IsFirstFrom values key (Some first) = (key ≤ first) × (is_some (get values first) ≡ true) × ((other : ℕ) → key ≤ other → other < first → get values other ≡ None)
 
 abbrev pub keyed_code : Coded Keyed
 keyed_code =

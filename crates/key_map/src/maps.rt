@@ -1,7 +1,7 @@
 // A map from keys to numbers, in a vector in the order of the keys.
 ghost use Rattle.std.specs.Prelude.{◌≡◌, ℕ, ◌+◌, ◌-◌, ◌<◌, ◌≤◌, length, None, OnOk, IfOk, IfErr, if◌then◌else◌, vec_len, vec_capacity, insert};
 ghost use Rattle.std.specs.FinMap as map;
-ghost use Rattle.key_map.specs.Entries.{IsRising, IsAt, IsGap, key_at};
+ghost use Rattle.key_map.specs.Entries.{IsFirstFrom, IsRising, IsAt, IsGap, key_at};
 
 use relay_model::NoMemory;
 use std::alloc::Global;
@@ -55,6 +55,18 @@ impl KeyMap {
         match search(&self.pairs, key) {
             Ok(place) => Some(self.pairs[place].1),
             Err(_) => None,
+        }
+    }
+
+    /// The least key from this one on.
+    pub fn first_from(&self, key: u32) -> Option<u32>
+        ensures { IsFirstFrom self.now.values key result }
+    {
+        let place = place_of(&self.pairs, key);
+        if place < self.pairs.len() {
+            Some(self.pairs[place].0)
+        } else {
+            None
         }
     }
 
