@@ -4,7 +4,6 @@ use Rattle.relay_model.specs.declared.acts.Act.{Act}
 use Rattle.relay_model.specs.declared.places.Place.{Place}
 use Rattle.relay_model.specs.declared.commands.Config.{Config}
 use Rattle.relay_model.specs.Journals.{History, Asking}
-use Rattle.relay_model.specs.declared.commands.Dump.TheVariants as dumps
 use Rattle.relay_model.specs.Holding.{Free, standing}
 use Rattle.relay_model.specs.History.{turns}
 use Rattle.relay_model.specs.Outcome.{first_fault}
@@ -101,4 +100,4 @@ Pauses c n past (Done why) = IsDone c n past 0 why × ((p : Place) → standing 
 
 -- so of every history that the session may stand for
 abbrev pub IsPause : Driver → Pause → Type 0
-IsPause r pause = (c : Config) (n : ℕ) (past : List Act) → Stands c n past 0 r.session → Legal c n past → c.dump ≡ dumps.Off → Pauses c n past pause
+IsPause r pause = (c : Config) (n : ℕ) (past : List Act) → Runnable c → Stands c n past 0 r.session → Legal c n past → Pauses c n past pause

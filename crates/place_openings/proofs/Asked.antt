@@ -143,7 +143,7 @@ child_at c past p o i e =
     let b = and_parts o.is_child o.closed a.0 in
     record {
       program_is = sym i.is_child_is ∙ b.0;
-      closed_is = sym i.closed_is ∙ b.1;
+      closed_is = sym (i.closed_is b.0) ∙ b.1;
       not_reaped = not_before o.asked_child (was_reaped past p) i.asked_child_is (not_true o.asked_child a.1);
     }
 

@@ -275,7 +275,7 @@ stays_Closed c past q why p o i a =
       tries_are = i.tries_are;
       tried_is = i.tried_is;
       untried = i.untried;
-      closed_is = same_or (same_place q p) (was_closed past p) o.closed a.no_place i.closed_is;
+      closed_is = λ k. same_or (same_place q p) (was_closed past p) o.closed a.no_place (i.closed_is k);
       asked_child_is = i.asked_child_is;
     }
 

@@ -32,7 +32,7 @@ pub record IsOpening (c : Config) (past : List Act) (p : Place) (o : OpeningStat
   pub tries_are : PlanIs (options_of c p).retry (options_of c p).forever (options_of c p).interval (failures past (tried_at o.has_door p)) o.plan
   pub tried_is : o.tried ≡ true → last_of (failures past (tried_at o.has_door p)) ≡ Some (now past)
   pub untried : o.listens ≡ true → failures past p ≡ []
-  pub closed_is : o.closed ≡ was_closed past p
+  pub closed_is : o.is_child ≡ true → o.closed ≡ was_closed past p
   pub asked_child_is : was_reaped past p ≡ true → o.asked_child ≡ true
 
 -- the openings of these places, in their order

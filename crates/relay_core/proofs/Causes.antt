@@ -59,10 +59,10 @@ call_of c past s e f g = rw (lives c past s e f, g) refl
 pub called_of : (c : Config) (past : List Act) (s : ℕ) (p : Place) → has_fork c ≡ false → p.session ≡ s → called_at c past p ≡ call c past s
 called_of c past s p e f = rw (and_false (is_left p) (has_fork c) e) (ap (call c past) f)
 
-pub licensed_by : (c : Config) (n : ℕ) (past : List Act) (s : ℕ) (q : Place) (why : Why) → has_fork c ≡ false → is_of c s q ≡ true → Ends c n past s why → Licensed c n past q why
-licensed_by c n past s q why alone own (inl e) = by_cause (no_program_door c q alone) (ap (cause c past) (own_session c s q own) ∙ e)
-licensed_by c n past s q why alone own (inr (inl e)) = by_memory e.0 (inr (ap (closed_why c past) (own_session c s q own) ∙ e.1))
-licensed_by c n past s q why alone own (inr (inr e)) = by_turns e.0 e.1 e.2
+pub licensed_by : (c : Config) (n : ℕ) (past : List Act) (s : ℕ) (q : Place) (why : Why) → is_of c s q ≡ true → Ends c n past s why → Licensed c n past q why
+licensed_by c n past s q why own (inl e) = by_cause (among_own c s q (things c s) (each_thing c s) own).1 (ap (cause c past) (own_session c s q own) ∙ e)
+licensed_by c n past s q why own (inr (inl e)) = by_memory e.0 (inr (ap (closed_why c past) (own_session c s q own) ∙ e.1))
+licensed_by c n past s q why own (inr (inr e)) = by_turns e.0 e.1 e.2
 
 -- ---- closings
 

@@ -1,5 +1,5 @@
 -- A session that is done has asked for each child that was closed.
-use Rattle.std.proofs.Common.{◌≡◌, refl, sym, ap, ◌∙◌, subst, ℕ, Bool, true, false, not, ◌&&◌, ◌||◌, List, [], ◌∷◌, Option, Some, None, ◌⊎◌, inl, inr}
+use Rattle.std.proofs.Common.{◌≡◌, refl, sym, ap, ◌∙◌, subst, ℕ, Bool, true, false, not, ◌&&◌, List, [], ◌∷◌, Option, Some, None, ◌⊎◌, inl, inr}
 use Rattle.std.specs.List.{list_any}
 use Rattle.std.proofs.lemmas.Bool.{false≢true, or_cases, or_left, or_right, and_from}
 use Rattle.relay_model.specs.declared.places.Place.{Place}
@@ -35,7 +35,7 @@ this_asked : (c : Config) (past : List Act) (p q : Place) (o : OpeningState) →
 this_asked c past p q o i none here program closed =
     let e = same_place_equal p q here in
     let child = i.is_child_is ∙ ap (λ x. is_program (medium_of c x)) (sym e) ∙ program in
-    let shut = i.closed_is ∙ ap (was_closed past) (sym e) ∙ closed in
+    let shut = i.closed_is child ∙ ap (was_closed past) (sym e) ∙ closed in
     and_from o.asked_child (same_place p o.place) (asked_by_now o.is_child o.closed o.asked_child o.place child shut none) (ap (same_place p) i.place_is ∙ here)
 
 each_asked : (c : Config) (past : List Act) (p : Place) (ps : List Place) (os : List OpeningState) → Each c past ps os → first_of child_by os ≡ None → list_any (same_place p) ps ≡ true → is_program (medium_of c p) ≡ true → was_closed past p ≡ true → has_asked os p ≡ true

@@ -1,5 +1,5 @@
 -- What a wish says in the words of a world, from what it says of the history.
-use Rattle.std.proofs.Common.{◌≡◌, refl, sym, ap, subst, ◌∙◌, ℕ, ◌<◌, ◌≤◌, Bool, true, false, ◌&&◌, List, [], ◌∷◌, length, None, is_some, arith}
+use Rattle.std.proofs.Common.{◌≡◌, refl, sym, ap, subst, ◌∙◌, ℕ, ◌<◌, ◌≤◌, Bool, true, false, ◌&&◌, List, [], ◌∷◌, length, None, is_some, is_none, cond, arith}
 use Rattle.std.specs.List.{list_all}
 use Rattle.std.proofs.lemmas.Bool.{false≢true}
 use Rattle.relay_model.specs.declared.places.Place.{Place}
@@ -8,8 +8,12 @@ use Rattle.relay_model.specs.declared.places.Way.TheVariants.{LeftToRight, Right
 use Rattle.relay_model.specs.declared.commands.Config.{Config}
 use Rattle.relay_model.specs.declared.acts.Act.{Act}
 use Rattle.relay_model.specs.Places.{same_place}
-use Rattle.relay_model.specs.Configs.{has_fork, places, input, output, formed, way_from, way_to, is_place_of, is_of}
+use Rattle.relay_model.specs.Configs.{places, input, output, formed, way_from, way_to, is_place_of}
 use Rattle.relay_model.specs.Transfers.{backlog}
+use Rattle.relay_model.specs.Sessions.{live}
+use Rattle.relay_model.specs.Openings.{Nothing, first_call}
+use Rattle.relay_model.specs.Cause.{cause}
+use Rattle.relay_model.specs.Calls.{call}
 use Rattle.relay_model.specs.Rest.{moves}
 use Rattle.legal_steps.proofs.PlaceLemmas.{same_place_equal}
 use Rattle.legal_steps.proofs.Holdings.{input_passes, output_passes, moves_formed}
@@ -24,8 +28,7 @@ use Rattle.relay_core.specs.Lanes.{IsLane, AreLanes, waiting_in, waiting_at, lan
 use Rattle.relay_core.specs.States.{Fields, Wished, Allowed, Stage}
 use Rattle.relay_core.specs.Steps.{waiting_for}
 use Rattle.relay_core.specs.Conditions.{is_course, is_writing, IsAtOwn}
-use Rattle.relay_core.proofs.Own.{NamesOwn, AllStand, all_stand}
-use Rattle.relay_core.proofs.Held.{call_own}
+use Rattle.relay_core.proofs.Own.{NamesOwn, names_own, AllStand, all_stand}
 
 -- ---- the course
 
@@ -72,13 +75,21 @@ output_own c past p same moving =
     subst (λ q. is_place_of c s q ≡ true) (sym (same_place_equal p (output c s w) same)) h
 
 -- bytes are wished for at places of the session
-pub at_own : (c : Config) (n : ℕ) (past : List Act) (s : ℕ) (wish : Wish) → has_fork c ≡ false → s ≡ 0 → Wished c n past s wish → IsAtOwn c s wish
-at_own c n past s (wishes.Open p) alone first h = subst (λ k. is_of c k p ≡ true) (sym first) (subst (NamesOwn c 0) h (call_own c past s alone)).0.of
-at_own c n past s (wishes.Listen d) alone first h = subst (λ k. is_of c k d ≡ true) (sym first) (subst (NamesOwn c 0) h (call_own c past s alone)).of
-at_own c n past s (wishes.Read p at_most) alone first h = subst (λ x. is_place_of c x p ≡ true) h.own (input_own c past p h.may.asks.is_input h.may.asks.moving)
-at_own c n past s (wishes.Write p) alone first h = subst (λ x. is_place_of c x p ≡ true) h.own (output_own c past p h.may.offers.is_output h.may.offers.moving)
-at_own c n past s (wishes.Send p) alone first h = subst (λ x. is_place_of c x p ≡ true) h.own (output_own c past p h.may.offers.is_output h.may.offers.moving)
-at_own c n past s wish alone first h = tt
+-- whatever a session calls for names things of its own
+pub call_names : (c : Config) (past : List Act) (s : ℕ) → NamesOwn c s (call c past s)
+call_names c past s = go (live c past s && is_none (cause c past s))
+  where
+    go : (b : Bool) → NamesOwn c s (cond b (first_call c past (places c s)) Nothing)
+    go true = names_own c past s
+    go false = tt
+
+pub at_own : (c : Config) (n : ℕ) (past : List Act) (s : ℕ) (wish : Wish) → Wished c n past s wish → IsAtOwn c s wish
+at_own c n past s (wishes.Open p) h = (subst (NamesOwn c s) h (call_names c past s)).0.of
+at_own c n past s (wishes.Listen d) h = (subst (NamesOwn c s) h (call_names c past s)).of
+at_own c n past s (wishes.Read p at_most) h = subst (λ x. is_place_of c x p ≡ true) h.own (input_own c past p h.may.asks.is_input h.may.asks.moving)
+at_own c n past s (wishes.Write p) h = subst (λ x. is_place_of c x p ≡ true) h.own (output_own c past p h.may.offers.is_output h.may.offers.moving)
+at_own c n past s (wishes.Send p) h = subst (λ x. is_place_of c x p ≡ true) h.own (output_own c past p h.may.offers.is_output h.may.offers.moving)
+at_own c n past s wish h = tt
 
 -- ---- what is offered
 

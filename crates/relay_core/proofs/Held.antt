@@ -95,7 +95,7 @@ held_own c n (Accepted q peer ∷ past) p alone legal h = let ih = held_own c n 
 held_own c n (Closed q why ∷ past) p alone legal h = held_own c n past p alone legal.1 (gone (same_place q p) (Gone why) (stage past p) refl h)
 held_own c n (act ∷ past) p alone legal h = held_own c n past p alone legal.1 h
 
-among : (test : Place → Bool) (q : Place) (ps : List Place) → list_any (same_place q) ps ≡ true → test q ≡ true → list_any test ps ≡ true
+pub among : (test : Place → Bool) (q : Place) (ps : List Place) → list_any (same_place q) ps ≡ true → test q ≡ true → list_any test ps ≡ true
 among test q [] e t = absurd (false≢true e)
 among test q (p ∷ ps) e t = go (or_cases (same_place q p) (list_any (same_place q) ps) e) (λ f. among test q ps f t)
   where

@@ -1,4 +1,5 @@
 pub mod Attempts
+pub mod Births
 pub mod Blames
 pub mod Bounds
 pub mod Causes
@@ -7,6 +8,7 @@ pub mod Conditions
 pub mod Ended
 pub mod Events
 pub mod Held
+pub mod Homes
 pub mod LaneLemmas
 pub mod Lives
 pub mod Own

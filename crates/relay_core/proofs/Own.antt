@@ -103,7 +103,7 @@ there : (a b : Bool) → b ≡ true → (a || b) ≡ true
 there true b e = refl
 there false b e = e
 
-of_places : (c : Config) (s : ℕ) (q : Place) → list_any (same_place q) (places c s) ≡ true → is_of c s q ≡ true
+pub of_places : (c : Config) (s : ℕ) (q : Place) → list_any (same_place q) (places c s) ≡ true → is_of c s q ≡ true
 of_places c s q e = list_any-append (same_place q) (places c s) (own_doors c s) ∙ here (list_any (same_place q) (places c s)) (list_any (same_place q) (own_doors c s)) e
 
 of_doors : (c : Config) (s : ℕ) (q : Place) → list_any (same_place q) (own_doors c s) ≡ true → is_of c s q ≡ true

@@ -1,5 +1,5 @@
 -- What a state wishes for, from what it tells of the history.
-use Rattle.std.proofs.Common.{◌≡◌, refl, sym, ap, subst, ◌∙◌, ℕ, Bool, true, false, cond, List, [], ◌∷◌, Option, Some, None, inl, inr}
+use Rattle.std.proofs.Common.{◌≡◌, refl, sym, ap, subst, ◌∙◌, ℕ, Bool, true, false, cond, List, [], ◌∷◌, Option, Some, None, is_none, ◌&&◌, inl, inr}
 use Rattle.std.proofs.lemmas.Bool.{false≢true}
 use Rattle.relay_model.specs.declared.places.Place.{Place}
 use Rattle.relay_model.specs.declared.places.Way.{Way}
@@ -13,7 +13,8 @@ use Rattle.relay_model.specs.History.{now}
 use Rattle.relay_model.specs.Arming.{asked_to_accept}
 use Rattle.relay_model.specs.Moments.{closing_moment, idle_moment}
 use Rattle.relay_model.specs.Openings.{Call, Nothing, TryAt, Accept, Refuse, Serve, first_call, ready}
-use Rattle.relay_model.specs.Cause.{cause, running}
+use Rattle.relay_model.specs.Cause.{cause, closed_why, running}
+use Rattle.relay_model.specs.Sessions.{live}
 use Rattle.relay_model.specs.Calls.{call}
 use Rattle.relay_model.specs.Rest.{timer_moment}
 use Rattle.relay_model.specs.Laws.{Tells}
@@ -26,8 +27,9 @@ use Rattle.relay_core.specs.declared.wishes.Wish.TheVariants as wishes
 use Rattle.relay_core.specs.Endings.{Quiet, giving_up, cause_when_tried, Ends, EndingIs}
 use Rattle.relay_core.specs.Timers.{session_until}
 use Rattle.relay_core.specs.Lanes.{LanesWish}
-use Rattle.relay_core.specs.States.{Fields, Closes, ClosesFor, Sleeps, Allowed}
-use Rattle.relay_core.proofs.Causes.{cause_of_quiet, call_of, called_of, lives, own_session}
+use Rattle.relay_core.specs.States.{Ground, Fields, Closes, ClosesFor, Sleeps, Allowed}
+use Rattle.relay_core.proofs.Causes.{cause_of_quiet, own_session}
+use Rattle.relay_core.proofs.Homes.{lives_at_home, called_here}
 use Rattle.relay_core.proofs.Own.{NamesOwn, names_own, ready_calls}
 use Rattle.relay_core.proofs.Rests.{running_of, not_running, rests_unready, rests_running, until_unready}
 
@@ -65,8 +67,16 @@ quiet_while c n past s e h f = subst (EndingIs c n past s) f h
 
 -- ---- what is called for
 
+-- a session of which nothing was closed that ends it lives
+pub lives_by : (c : Config) (past : List Act) (s : ℕ) (st : State) → Ground c past s st → closed_why c past s ≡ None → live c past s ≡ true
+lives_by c past s st g u = lives_at_home c past s g.begun (λ fork. g.home_held fork u)
+
 pub called : (c : Config) (n : ℕ) (past : List Act) (s : ℕ) (st : State) → Fields c n past s st → st.ending ≡ None → call c past s ≡ first_call c past (places c s)
-called c n past s st f e = call_of c past s f.ground.alone f.ground.first (quiet_while c n past s st.ending f.ending_is e).1
+called c n past s st f e =
+    let q = quiet_while c n past s st.ending f.ending_is e in
+    let l = lives_by c past s st f.ground q.0.unclosed in
+    let k = q.1 in
+    λ i. cond (l i && is_none (k i)) (first_call c past (places c s)) Nothing
 
 pub named : (c : Config) (past : List Act) (s : ℕ) (k : Call) → first_call c past (places c s) ≡ k → NamesOwn c s k
 named c past s k e = subst (NamesOwn c s) e (names_own c past s)
@@ -80,7 +90,7 @@ refused c n past s st p f e k =
       record {
         is_held = told c past s (Refuse p) k;
         own = own;
-        licensed = by_refusal refl (called_of c past s p f.ground.alone (own_session c s p own) ∙ k);
+        licensed = by_refusal refl (called_here c past s (Refuse p) p f.ground.fit k refl (own_session c s p own));
       },
       subst (λ x. ClosesFor c past s x p whys.Refused) (sym e) (inl (refl, k)),
     )
@@ -91,7 +101,7 @@ served c n past s st d f e k =
       record {
         is_held = told c past s (Serve d) k;
         own = own;
-        licensed = by_service refl (called_of c past s d f.ground.alone (own_session c s d own) ∙ k);
+        licensed = by_service refl (called_here c past s (Serve d) d f.ground.fit k refl (own_session c s d own));
       },
       subst (λ x. ClosesFor c past s x d whys.Served) (sym e) (inr (refl, k)),
     )
@@ -137,7 +147,7 @@ sleeps_unready c n past s st f e k r =
     }
 
 pub runs_of : (c : Config) (n : ℕ) (past : List Act) (s : ℕ) (st : State) → Fields c n past s st → st.ending ≡ None → ready c past s ≡ true → running c past s ≡ true
-runs_of c n past s st f e r = running_of c past s (lives c past s f.ground.alone f.ground.first) r (quiet_while c n past s st.ending f.ending_is e).1
+runs_of c n past s st f e r = let q = quiet_while c n past s st.ending f.ending_is e in running_of c past s (lives_by c past s st f.ground q.0.unclosed) r q.1
 
 pub sleeps_running : (c : Config) (n : ℕ) (past : List Act) (s : ℕ) (st : State) (until : Option ℕ) → Fields c n past s st → st.ending ≡ None → call c past s ≡ Nothing → ((w : Way) → WantsNothing c past s w) → until ≡ session_until c past s → Sleeps c past s until
 sleeps_running c n past s st until f e k want u =

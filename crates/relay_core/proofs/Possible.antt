@@ -1,6 +1,6 @@
 -- That a world can be asked for the call that is wished for.
 use Rattle.std.proofs.Common.{◌≡◌, refl, sym, ap, subst, ◌∙◌, ℕ, Bool, true, false, not, cond, ◌&&◌, ◌||◌, nat_le, List, [], ◌∷◌, ◌++◌, Option, Some, None, is_some, is_none, arith, inl, inr, ◌⊎◌}
-use Rattle.std.proofs.lemmas.Bool.{false≢true, true≢false, and_parts, or_parts, or_from, false_from_ne_true}
+use Rattle.std.proofs.lemmas.Bool.{false≢true, true≢false, and_parts, and_right, and_from, or_parts, or_from, false_from_ne_true}
 use Rattle.relay_model.specs.declared.places.Place.{Place}
 use Rattle.relay_model.specs.declared.commands.Config.{Config}
 use Rattle.relay_model.specs.declared.commands.Dump.TheVariants as dumps
@@ -12,7 +12,7 @@ use Rattle.relay_model.specs.declared.acts.Why.{Why}
 use Rattle.relay_model.specs.declared.acts.Why.TheVariants as whys
 use Rattle.relay_model.specs.Places.{same_place, door_of}
 use Rattle.relay_model.specs.Choices.{only_if, first_some}
-use Rattle.relay_model.specs.Configs.{input, output, places, way_from, way_to, options_of, has_fork, has_own_door, is_left, is_of, is_program, listens, listens_at, medium, medium_of, single}
+use Rattle.relay_model.specs.Configs.{input, output, places, things, Fit, program_door, is_program_door, way_from, way_to, options_of, has_fork, has_own_door, is_left, is_of, is_program, listens, listens_at, medium, medium_of, single}
 use Rattle.relay_model.specs.Holding.{Hold, Free, Settling, Open, ShutDown, standing, is_free, is_open}
 use Rattle.relay_model.specs.History.{now, Stage, Untried, Usable, Unsettled, Failed, Met, Waiting, Gone, stage, held, holds_at, woken, failures, shut_at, memory_said, stop_said, was_closed, was_reaped, reaped_since}
 use Rattle.relay_model.specs.Arming.{armed_to_accept}
@@ -22,9 +22,10 @@ use Rattle.relay_model.specs.Moments.{passed, closing_moment, idle_moment, reach
 use Rattle.relay_model.specs.Openings.{Call, Nothing, TryAt, Accept, Listen, Refuse, Serve, out_of_tries, when_due, try_again, is_ready, stands_ready, ready, opening_call, listening_call, peer_call, place_call, first_call}
 use Rattle.relay_model.specs.Openings as calls
 use Rattle.relay_model.specs.Cause.{cause, closed_why, is_end, accept_failed_for, listening_failed, opening_failed, faulted, finished}
-use Rattle.relay_model.specs.Calls.{call, called_at}
+use Rattle.relay_model.specs.Calls.{call, called_at, door_call}
 use Rattle.relay_model.specs.Rest.{moves, Rest, SessionRests, until_of}
-use Rattle.relay_model.specs.Laws.{Tells}
+use Rattle.relay_model.specs.Laws.{Tells, DoorTells}
+use Rattle.legal_steps.proofs.Admissions.{door_says}
 use Rattle.relay_model.specs.May.{Legal, Licensed, by_cause, by_refusal, by_service, by_door, by_memory, by_turns, MayOpen}
 use Rattle.legal_steps.proofs.PlaceLemmas.{same_place_equal}
 use Rattle.legal_steps.proofs.CallLemmas.{call_tells}
@@ -38,8 +39,10 @@ use Rattle.relay_core.specs.Timers.{session_until}
 use Rattle.relay_core.specs.States.{Fields, Wished, Allowed}
 use Rattle.relay_core.specs.Conditions.{CanBeMade}
 use Rattle.relay_core.proofs.Own.{NamesOwn}
-use Rattle.relay_core.proofs.Causes.{called_of, no_program_door, own_session, ends_at, plain_end}
-use Rattle.relay_core.proofs.Held.{call_own, called_own, listened_own, nothing_called, held_own, holds_held}
+use Rattle.relay_core.proofs.Homes.{is_called_out, unlistening_off}
+use Rattle.relay_core.proofs.Conditions.{call_names}
+use Rattle.relay_core.proofs.Causes.{ends_at, plain_end}
+use Rattle.relay_core.proofs.Held.{among, holds_held}
 use Rattle.relay_core.proofs.Waiting.{rest_of, until_alone}
 use Rattle.relay_core.proofs.Standings.{standing_of, standing_at, output_ready, open_where_unshut}
 
@@ -164,9 +167,6 @@ first c past (p ∷ ps) = let ih = first c past ps in choose c past (is_ready c 
 call_peered : (c : Config) (past : List Act) (s : ℕ) → Peered c past (call c past s)
 call_peered c past s = choose c past (live c past s && is_none (cause c past s)) (first_call c past (places c s)) Nothing (λ _. first c past (places c s)) (λ _. tt)
 
-called_peered : (c : Config) (past : List Act) (p : Place) → has_fork c ≡ false → Peered c past (called_at c past p)
-called_peered c past p alone = subst (Peered c past) (sym (called_of c past p.session p alone refl)) (call_peered c past p.session)
-
 -- ---- a place that listens is held by its peer alone
 
 abbrev by_peer : Stage → Bool
@@ -179,28 +179,43 @@ step : (b : Bool) (st old : Stage) → (b ≡ true → by_peer st ≡ true) → 
 step true st old now_so before = now_so refl
 step false st old now_so before = before
 
-opened_silent : (c : Config) (past : List Act) (q : Place) → has_fork c ≡ false → MayOpen c past q → listens_at c q ≡ false
-opened_silent c past q alone (inl e) = (subst (NamesOwn c 0) e (called_own c past q alone)).1
-opened_silent c past q alone (inr e) = (subst (NamesOwn c 0) e (called_own c past q alone)).1
+opened_silent : (c : Config) (past : List Act) (q : Place) → MayOpen c past q → listens_at c q ≡ false
+opened_silent c past q (inl e) = go (is_called_out c q) e
+  where
+    go : (b : Bool) → cond b (door_call c past) (call c past q.session) ≡ calls.Open q → listens_at c q ≡ false
+    go true x = absurd (subst (DoorTells c past) x (door_says c past))
+    go false x = (subst (NamesOwn c q.session) x (call_names c past q.session)).1
+opened_silent c past q (inr e) = go (is_called_out c q) e
+  where
+    go : (b : Bool) → cond b (door_call c past) (call c past q.session) ≡ calls.Settle q → listens_at c q ≡ false
+    go true x = absurd (subst (DoorTells c past) x (door_says c past))
+    go false x = (subst (NamesOwn c q.session) x (call_names c past q.session)).1
 
-opened_elsewhere : (c : Config) (past : List Act) (q p : Place) → has_fork c ≡ false → listens_at c p ≡ true → MayOpen c past q → same_place q p ≡ true → ⊥
-opened_elsewhere c past q p alone l may e = false≢true (sym (opened_silent c past q alone may) ∙ ap (listens_at c) (same_place_equal q p e) ∙ l)
+opened_elsewhere : (c : Config) (past : List Act) (q p : Place) → listens_at c p ≡ true → MayOpen c past q → same_place q p ≡ true → ⊥
+opened_elsewhere c past q p l may e = false≢true (sym (opened_silent c past q may) ∙ ap (listens_at c) (same_place_equal q p e) ∙ l)
 
-listened_elsewhere : (c : Config) (past : List Act) (d p : Place) → has_fork c ≡ false → p.door ≡ false → called_at c past d ≡ Listen d → same_place d p ≡ true → ⊥
-listened_elsewhere c past d p alone plain called e =
+listened_door : (c : Config) (past : List Act) (d : Place) → called_at c past d ≡ Listen d → d.door ≡ true
+listened_door c past d e = go (is_called_out c d) e
+  where
+    go : (b : Bool) → cond b (door_call c past) (call c past d.session) ≡ Listen d → d.door ≡ true
+    go true x = ap (λ (y : Place). y.door) (subst (DoorTells c past) x (door_says c past))
+    go false x = (subst (NamesOwn c d.session) x (call_names c past d.session)).door
+
+listened_elsewhere : (c : Config) (past : List Act) (d p : Place) → p.door ≡ false → called_at c past d ≡ Listen d → same_place d p ≡ true → ⊥
+listened_elsewhere c past d p plain called e =
     let equal : d.door ≡ p.door = ap (λ x. x.door) (same_place_equal d p e) in
-    false≢true (sym plain ∙ sym equal ∙ (listened_own c past d alone called).door)
+    false≢true (sym plain ∙ sym equal ∙ listened_door c past d called)
 
-listener : (c : Config) (n : ℕ) (past : List Act) (p : Place) → has_fork c ≡ false → listens_at c p ≡ true → p.door ≡ false → Legal c n past → by_peer (stage past p) ≡ true
-listener c n [] p alone l plain legal = refl
-listener c n (Opened q ∷ past) p alone l plain legal = let ih = listener c n past p alone l plain legal.1 in step (same_place q p) Usable (stage past p) (λ e. absurd (opened_elsewhere c past q p alone l legal.0.1 e)) ih
-listener c n (OpenLater q ∷ past) p alone l plain legal = let ih = listener c n past p alone l plain legal.1 in step (same_place q p) Unsettled (stage past p) (λ e. absurd (opened_elsewhere c past q p alone l legal.0.1 e)) ih
-listener c n (OpenFailed q ∷ past) p alone l plain legal = let ih = listener c n past p alone l plain legal.1 in step (same_place q p) Failed (stage past p) (λ e. refl) ih
-listener c n (Listening q ∷ past) p alone l plain legal = let ih = listener c n past p alone l plain legal.1 in step (same_place q p) Waiting (stage past p) (λ e. absurd (listened_elsewhere c past q p alone plain legal.0.1 e)) ih
-listener c n (ListenFailed q ∷ past) p alone l plain legal = let ih = listener c n past p alone l plain legal.1 in step (same_place q p) Failed (stage past p) (λ e. refl) ih
-listener c n (Accepted q visitor ∷ past) p alone l plain legal = let ih = listener c n past p alone l plain legal.1 in step (same_place q p) (Met visitor) (stage past p) (λ e. refl) ih
-listener c n (Closed q why ∷ past) p alone l plain legal = let ih = listener c n past p alone l plain legal.1 in step (same_place q p) (Gone why) (stage past p) (λ e. refl) ih
-listener c n (act ∷ past) p alone l plain legal = listener c n past p alone l plain legal.1
+listener : (c : Config) (n : ℕ) (past : List Act) (p : Place) → listens_at c p ≡ true → p.door ≡ false → Legal c n past → by_peer (stage past p) ≡ true
+listener c n [] p l plain legal = refl
+listener c n (Opened q ∷ past) p l plain legal = let ih = listener c n past p l plain legal.1 in step (same_place q p) Usable (stage past p) (λ e. absurd (opened_elsewhere c past q p l legal.0.1 e)) ih
+listener c n (OpenLater q ∷ past) p l plain legal = let ih = listener c n past p l plain legal.1 in step (same_place q p) Unsettled (stage past p) (λ e. absurd (opened_elsewhere c past q p l legal.0.1 e)) ih
+listener c n (OpenFailed q ∷ past) p l plain legal = let ih = listener c n past p l plain legal.1 in step (same_place q p) Failed (stage past p) (λ e. refl) ih
+listener c n (Listening q ∷ past) p l plain legal = let ih = listener c n past p l plain legal.1 in step (same_place q p) Waiting (stage past p) (λ e. absurd (listened_elsewhere c past q p plain legal.0.1 e)) ih
+listener c n (ListenFailed q ∷ past) p l plain legal = let ih = listener c n past p l plain legal.1 in step (same_place q p) Failed (stage past p) (λ e. refl) ih
+listener c n (Accepted q visitor ∷ past) p l plain legal = let ih = listener c n past p l plain legal.1 in step (same_place q p) (Met visitor) (stage past p) (λ e. refl) ih
+listener c n (Closed q why ∷ past) p l plain legal = let ih = listener c n past p l plain legal.1 in step (same_place q p) (Gone why) (stage past p) (λ e. refl) ih
+listener c n (act ∷ past) p l plain legal = listener c n past p l plain legal.1
 
 unmet : (st : Stage) → by_peer st ≡ true → is_met st ≡ false → holds_at st ≡ false
 unmet Untried b m = refl
@@ -212,13 +227,13 @@ unmet Waiting b m = absurd (false≢true b)
 unmet (Gone why) b m = refl
 
 -- where an accepting is called for, the door is open and the place is free
-accept_stands : (c : Config) (n : ℕ) (past : List Act) (s : ℕ) (d p : Place) → has_fork c ≡ false → Legal c n past → call c past s ≡ Accept d p → (standing past d ≡ Open) × (standing past p ≡ Free)
-accept_stands c n past s d p alone legal e =
-    let own = subst (NamesOwn c 0) e (call_own c past s alone) in
+accept_stands : (c : Config) (n : ℕ) (past : List Act) (s : ℕ) (d p : Place) → Legal c n past → call c past s ≡ Accept d p → (standing past d ≡ Open) × (standing past p ≡ Free)
+accept_stands c n past s d p legal e =
+    let own = subst (NamesOwn c s) e (call_names c past s) in
     let told = subst (Tells past) e (call_tells c past s) in
     let peered = subst (Peered c past) e (call_peered c past s) in (
       open_where_unshut past d (standing_at c n past d Waiting legal told.0) (door_unshut c n past d own.0.door legal),
-      unheld_free c n past p legal (unmet (stage past p) (listener c n past p alone peered.0 own.1.plain legal) peered.1),
+      unheld_free c n past p legal (unmet (stage past p) (listener c n past p peered.0 own.1.plain legal) peered.1),
     )
 
 -- ---- a closed child
@@ -228,19 +243,24 @@ no_listener (targets.Exec words) e = refl
 no_listener (targets.System command) e = refl
 no_listener target e = absurd (false≢true e)
 
--- the session was closed for a reason that ends it, and the place isn't held
+-- its session was closed for a reason that ends it, and the place isn't held
 pub record Over (c : Config) (past : List Act) (p : Place) : Type 0 where
-  pub closed : is_some (closed_why c past 0) ≡ true
+  pub closed : is_some (closed_why c past p.session) ≡ true
   pub free : held past p ≡ false
 
-some_first : (k : Option Why) (others : List (Option Why)) → is_some k ≡ true → is_some (first_some (k ∷ others)) ≡ true
+some_first : (k : Option Why) (others : List (Option Why)) → is_some k ≡ true → is_none (first_some (k ∷ others)) ≡ false
 some_first None others e = absurd (false≢true e)
 some_first (Some why) others e = refl
 
-silent : (c : Config) (past : List Act) (q : Place) → has_fork c ≡ false → is_some (closed_why c past 0) ≡ true → called_at c past q ≡ Nothing
-silent c past q alone e =
-    nothing_called c past q alone
-    (some_first (closed_why c past 0) (only_if (memory_said past) whys.Memory ∷ only_if (stop_said past) whys.Stopped ∷ only_if (accept_failed_for c past 0) whys.AcceptFailed ∷ only_if (listening_failed c past 0) whys.ListenFailed ∷ only_if (opening_failed c past 0) whys.OpenFailed ∷ only_if (faulted c past 0) whys.Faulted ∷ only_if (finished c past 0) whys.Finished ∷ only_if (ready c past 0 && reached (closing_moment c past 0) (now past)) whys.ClosingTime ∷ only_if (ready c past 0 && reached (idle_moment c past 0) (now past)) whys.Idle ∷ []) e)
+-- what is called for at a place of a program is the session's to call for
+called_inside : (c : Config) (past : List Act) (p : Place) → Fit c → is_program (medium_of c p) ≡ true → called_at c past p ≡ call c past p.session
+called_inside c past p fit program = ap (λ b. cond b (door_call c past) (call c past p.session)) (unlistening_off c p fit (no_listener (single c p).target program))
+
+silent : (c : Config) (past : List Act) (p : Place) → Fit c → is_program (medium_of c p) ≡ true → is_some (closed_why c past p.session) ≡ true → called_at c past p ≡ Nothing
+silent c past p fit program e =
+    let s = p.session in
+    let n : is_none (cause c past s) ≡ false = some_first (closed_why c past s) (only_if (memory_said past) whys.Memory ∷ only_if (stop_said past) whys.Stopped ∷ only_if (accept_failed_for c past s) whys.AcceptFailed ∷ only_if (listening_failed c past s) whys.ListenFailed ∷ only_if (opening_failed c past s) whys.OpenFailed ∷ only_if (faulted c past s) whys.Faulted ∷ only_if (finished c past s) whys.Finished ∷ only_if (ready c past s && reached (closing_moment c past s) (now past)) whys.ClosingTime ∷ only_if (ready c past s && reached (idle_moment c past s) (now past)) whys.Idle ∷ []) e in
+    called_inside c past p fit program ∙ ap (λ b. cond b (first_call c past (places c s)) Nothing) (and_right (live c past s) (is_none (cause c past s)) n)
 
 opens_not : (c : Config) (past : List Act) (q : Place) → called_at c past q ≡ Nothing → MayOpen c past q → ⊥
 opens_not c past q none (inl e) = let x : Nothing ≡ calls.Open q = sym none ∙ e in cc
@@ -252,18 +272,26 @@ listens_not c past q none e = let x : Nothing ≡ Listen q = sym none ∙ e in c
 accepts_not : (c : Config) (past : List Act) (q d : Place) → called_at c past q ≡ Nothing → called_at c past q ≡ Accept d q → ⊥
 accepts_not c past q d none e = let x : Nothing ≡ Accept d q = sym none ∙ e in cc
 
+-- the program door is no program
+child_inside : (c : Config) (p : Place) → Fit c → is_program (medium_of c p) ≡ true → is_program_door c p ≡ false
+child_inside c p fit program =
+    false_from_ne_true (is_program_door c p)
+    (λ d. let a = and_parts (same_place p program_door) (has_fork c) d in
+    let here : is_called_out c p ≡ true = and_from (is_left p) (has_fork c) (ap is_left (same_place_equal p program_door a.0)) a.1 in
+    true≢false (sym here ∙ unlistening_off c p fit (no_listener (single c p).target program)))
+
 -- a closing of a program ends its session, or this was closed before
-ends_session : (c : Config) (n : ℕ) (past : List Act) (q : Place) (why : Why) → has_fork c ≡ false → is_of c 0 q ≡ true → is_program (medium_of c q) ≡ true → Licensed c n past q why → (is_end q why ≡ true) ⊎ (is_some (closed_why c past 0) ≡ true)
-ends_session c n past q why alone own program (by_cause d e) = go (closed_why c past 0) refl (ap (cause c past) (sym (own_session c 0 q own)) ∙ e)
+ends_session : (c : Config) (n : ℕ) (past : List Act) (q : Place) (why : Why) → Fit c → is_program (medium_of c q) ≡ true → Licensed c n past q why → (is_end q why ≡ true) ⊎ (is_some (closed_why c past q.session) ≡ true)
+ends_session c n past q why fit program (by_cause d e) = go (closed_why c past q.session) refl e
   where
-    go : (k : Option Why) → closed_why c past 0 ≡ k → cause c past 0 ≡ Some why → (is_end q why ≡ true) ⊎ (is_some (closed_why c past 0) ≡ true)
+    go : (k : Option Why) → closed_why c past q.session ≡ k → cause c past q.session ≡ Some why → (is_end q why ≡ true) ⊎ (is_some (closed_why c past q.session) ≡ true)
     go (Some other) f caused = inr (ap is_some f)
-    go None f caused = inl (ends_at q (listening_failed c past 0) (opening_failed c past 0) (faulted c past 0) (finished c past 0) (ready c past 0 && reached (closing_moment c past 0) (now past)) (ready c past 0 && reached (idle_moment c past 0) (now past)) (memory_said past) (stop_said past) (accept_failed_for c past 0) why (rw f at caused))
-ends_session c n past q why alone own program (by_refusal e k) = absurd (false≢true (sym (no_listener (single c q).target program) ∙ subst (Peered c past) k (called_peered c past q alone)))
-ends_session c n past q why alone own program (by_service e k) = absurd (false≢true (sym (no_listener (single c q).target program) ∙ subst (Peered c past) k (called_peered c past q alone)))
-ends_session c n past q why alone own program (by_door d e) = absurd (false≢true (sym (no_program_door c q alone) ∙ d))
-ends_session c n past q why alone own program (by_memory e k) = inl (rw e (plain_end q.door))
-ends_session c n past q why alone own program (by_turns e t r) = inl (rw e (plain_end q.door))
+    go None f caused = inl (ends_at q (listening_failed c past q.session) (opening_failed c past q.session) (faulted c past q.session) (finished c past q.session) (ready c past q.session && reached (closing_moment c past q.session) (now past)) (ready c past q.session && reached (idle_moment c past q.session) (now past)) (memory_said past) (stop_said past) (accept_failed_for c past q.session) why (rw f at caused))
+ends_session c n past q why fit program (by_refusal e k) = absurd (false≢true (sym (no_listener (single c q).target program) ∙ subst (Peered c past) (sym (called_inside c past q fit program) ∙ k) (call_peered c past q.session)))
+ends_session c n past q why fit program (by_service e k) = absurd (false≢true (sym (no_listener (single c q).target program) ∙ subst (Peered c past) (sym (called_inside c past q fit program) ∙ k) (call_peered c past q.session)))
+ends_session c n past q why fit program (by_door d e) = absurd (false≢true (sym (child_inside c q fit program) ∙ d))
+ends_session c n past q why fit program (by_memory e k) = inl (rw e (plain_end q.door))
+ends_session c n past q why fit program (by_turns e t r) = inl (rw e (plain_end q.door))
 
 closed_here : (own ends : Bool) (why : Why) (before : Option Why) → own ≡ true → (ends ≡ true) ⊎ (is_some before ≡ true) → is_some (cond (own && ends) (Some why) before) ≡ true
 closed_here true true why before o h = refl
@@ -275,37 +303,57 @@ closed_before : (b : Bool) (why : Why) (before : Option Why) → is_some before 
 closed_before true why before e = refl
 closed_before false why before e = e
 
--- once a program was closed, it is held no more and the session is over
-child_over : (c : Config) (n : ℕ) (past : List Act) (p : Place) → has_fork c ≡ false → is_program (medium_of c p) ≡ true → Legal c n past → was_closed past p ≡ true → Over c past p
-child_over c n [] p alone program legal e = absurd (false≢true e)
-child_over c n (Opened q ∷ past) p alone program legal e = let ih = child_over c n past p alone program legal.1 e in absurd (opens_not c past q (silent c past q alone ih.closed) legal.0.1)
-child_over c n (OpenLater q ∷ past) p alone program legal e = let ih = child_over c n past p alone program legal.1 e in absurd (opens_not c past q (silent c past q alone ih.closed) legal.0.1)
-child_over c n (OpenFailed q ∷ past) p alone program legal e = let ih = child_over c n past p alone program legal.1 e in absurd (opens_not c past q (silent c past q alone ih.closed) legal.0.1)
-child_over c n (Listening q ∷ past) p alone program legal e = let ih = child_over c n past p alone program legal.1 e in absurd (listens_not c past q (silent c past q alone ih.closed) legal.0.1)
-child_over c n (ListenFailed q ∷ past) p alone program legal e = let ih = child_over c n past p alone program legal.1 e in absurd (listens_not c past q (silent c past q alone ih.closed) legal.0.1)
-child_over c n (Accepted q visitor ∷ past) p alone program legal e = let ih = child_over c n past p alone program legal.1 e in absurd (accepts_not c past q legal.0.1.0 (silent c past q alone ih.closed) legal.0.1.1)
-child_over c n (Closed q why ∷ past) p alone program legal e =
-    go (same_place q p) refl e (child_over c n past p alone program legal.1)
-  where
-    own : is_of c 0 q ≡ true
-    own = held_own c n past q alone legal.1 legal.0.is_held
+-- an act that opens something is elsewhere
+spared : (b : Bool) (st old : Stage) → (b ≡ true → ⊥) → holds_at old ≡ false → holds_at (cond b st old) ≡ false
+spared true st old never e = absurd (never refl)
+spared false st old never e = e
 
+failed : (b : Bool) (old : Stage) → holds_at old ≡ false → holds_at (cond b Failed old) ≡ false
+failed true old e = refl
+failed false old e = e
+
+-- once a program was closed, it is held no more and its session is over
+child_over : (c : Config) (n : ℕ) (past : List Act) (p : Place) → Fit c → is_of c p.session p ≡ true → is_program (medium_of c p) ≡ true → Legal c n past → was_closed past p ≡ true → Over c past p
+child_over c n [] p fit own program legal e = absurd (false≢true e)
+child_over c n (Opened q ∷ past) p fit own program legal e =
+    let ih = child_over c n past p fit own program legal.1 e in
+    record { closed = ih.closed; free = spared (same_place q p) Usable (stage past p) (λ s. opens_not c past p (silent c past p fit program ih.closed) (subst (MayOpen c past) (same_place_equal q p s) legal.0.1)) ih.free }
+child_over c n (OpenLater q ∷ past) p fit own program legal e =
+    let ih = child_over c n past p fit own program legal.1 e in
+    record { closed = ih.closed; free = spared (same_place q p) Unsettled (stage past p) (λ s. opens_not c past p (silent c past p fit program ih.closed) (subst (MayOpen c past) (same_place_equal q p s) legal.0.1)) ih.free }
+child_over c n (OpenFailed q ∷ past) p fit own program legal e =
+    let ih = child_over c n past p fit own program legal.1 e in
+    record { closed = ih.closed; free = failed (same_place q p) (stage past p) ih.free }
+child_over c n (Listening q ∷ past) p fit own program legal e =
+    let ih = child_over c n past p fit own program legal.1 e in
+    record { closed = ih.closed; free = spared (same_place q p) Waiting (stage past p) (λ s. listens_not c past p (silent c past p fit program ih.closed) (subst (λ (x : Place). called_at c past x ≡ Listen x) (same_place_equal q p s) legal.0.1)) ih.free }
+child_over c n (ListenFailed q ∷ past) p fit own program legal e =
+    let ih = child_over c n past p fit own program legal.1 e in
+    record { closed = ih.closed; free = failed (same_place q p) (stage past p) ih.free }
+child_over c n (Accepted q visitor ∷ past) p fit own program legal e =
+    let ih = child_over c n past p fit own program legal.1 e in
+    record { closed = ih.closed; free = spared (same_place q p) (Met visitor) (stage past p) (λ s. accepts_not c past p legal.0.1.0 (silent c past p fit program ih.closed) (subst (λ (x : Place). called_at c past x ≡ Accept legal.0.1.0 x) (same_place_equal q p s) legal.0.1.1)) ih.free }
+child_over c n (Closed q why ∷ past) p fit own program legal e =
+    go (same_place q p) refl e (child_over c n past p fit own program legal.1)
+  where
     go : (b : Bool) → same_place q p ≡ b → (b || was_closed past p) ≡ true → (was_closed past p ≡ true → Over c past p) → Over c (Closed q why ∷ past) p
     go true s w ih =
         let same = same_place_equal q p s in
         let child : is_program (medium_of c q) ≡ true = subst (λ x. is_program (medium_of c x) ≡ true) (sym same) program in
+        let mine : is_of c p.session q ≡ true = subst (λ x. is_of c p.session x ≡ true) (sym same) own in
+        let ends : (is_end q why ≡ true) ⊎ (is_some (closed_why c past p.session) ≡ true) = subst (λ (x : Place). (is_end q why ≡ true) ⊎ (is_some (closed_why c past x.session) ≡ true)) same (ends_session c n past q why fit child legal.0.licensed) in
         record {
-          closed = closed_here (is_of c 0 q) (is_end q why) why (closed_why c past 0) own (ends_session c n past q why alone own child legal.0.licensed);
+          closed = closed_here (is_of c p.session q) (is_end q why) why (closed_why c past p.session) mine ends;
           free = subst (λ b. holds_at (cond b (Gone why) (stage past p)) ≡ false) (sym s) refl;
         }
     go false s w ih =
         let over = ih w in
         record {
-          closed = closed_before (is_of c 0 q && is_end q why) why (closed_why c past 0) over.closed;
+          closed = closed_before (is_of c p.session q && is_end q why) why (closed_why c past p.session) over.closed;
           free = subst (λ b. holds_at (cond b (Gone why) (stage past p)) ≡ false) (sym s) over.free;
         }
-child_over c n (act ∷ past) p alone program legal e =
-    let over = child_over c n past p alone program legal.1 e in
+child_over c n (act ∷ past) p fit own program legal e =
+    let over = child_over c n past p fit own program legal.1 e in
     record { closed = over.closed; free = over.free }
 
 closing : (same closed since : Bool) → (same || closed) ≡ true → (closed ≡ true → since ≡ false) → (not same && since) ≡ false
@@ -323,34 +371,39 @@ unreaped (act ∷ past) older p closed reaped = unreaped past older p closed rea
 
 -- ---- all calls
 
-all_free : (c : Config) (n : ℕ) (past : List Act) (p : Place) → has_fork c ≡ false → Legal c n past → holds c past 0 ≡ false → standing past p ≡ Free
-all_free c n past p alone legal e =
-    unheld_free c n past p legal (false_from_ne_true (held past p) (λ h. false≢true (sym e ∙ holds_held c n past p alone legal h)))
+own_free : (c : Config) (n : ℕ) (past : List Act) (s : ℕ) (p : Place) → Legal c n past → holds c past s ≡ false → is_of c s p ≡ true → standing past p ≡ Free
+own_free c n past s p legal e own = unheld_free c n past p legal (false_from_ne_true (held past p) (λ h. false≢true (sym e ∙ among (held past) p (things c s) own h)))
 
 -- a world can be asked for what is wished for
-pub can_be_made : (c : Config) (n : ℕ) (past : List Act) (s : ℕ) (wish : Wish) → has_fork c ≡ false → s ≡ 0 → Legal c n past → Wished c n past s wish → CanBeMade past wish
-can_be_made c n past s (wishes.Open p) alone z legal h = unheld_free c n past p legal (subst (Tells past) h (call_tells c past s))
-can_be_made c n past s (wishes.Settle p) alone z legal h = standing_at c n past p Unsettled legal (subst (Tells past) h (call_tells c past s)).0
-can_be_made c n past s (wishes.Listen d) alone z legal h = unheld_free c n past d legal (subst (Tells past) h (call_tells c past s))
-can_be_made c n past s (wishes.Accept d p) alone z legal h = accept_stands c n past s d p alone legal h.0
-can_be_made c n past s (wishes.Read p at_most) alone z legal h = (open_where_ready c n past p legal (input_ready c past p h.may.asks.is_input h.may.asks.moving), let some = h.may.some_bytes in omega (arith, some))
-can_be_made c n past s (wishes.Write p) alone z legal h = output_open c n past p legal h.may.offers.is_output h.may.offers.moving h.may.offers.not_passed
-can_be_made c n past s (wishes.Send p) alone z legal h = output_open c n past p legal h.may.offers.is_output h.may.offers.moving h.may.offers.not_passed
-can_be_made c n past s (wishes.Shut p how) alone z legal h = output_open c n past p legal h.may.is_output h.may.moving h.may.not_passed
-can_be_made c n past s (wishes.Close q why) alone z legal h = held_taken c n past q legal h.is_held
-can_be_made c n past s (wishes.Reap p) alone z legal h =
-    (unheld_free c n past p legal (child_over c n past p alone h.may.is_child legal h.may.closed).free, λ older. unreaped past older p h.may.closed h.may.first)
-can_be_made c n past s (wishes.Sleep until) alone z legal h = tt
-can_be_made c n past s (wishes.Done why) alone z legal h = λ p. all_free c n past p alone legal (subst (λ x. holds c past x ≡ false) z h.nothing_held)
+pub can_be_made : (c : Config) (n : ℕ) (past : List Act) (s : ℕ) (wish : Wish) → Fit c → Legal c n past → Wished c n past s wish → CanBeMade c s past wish
+can_be_made c n past s (wishes.Open p) fit legal h = unheld_free c n past p legal (subst (Tells past) h (call_tells c past s))
+can_be_made c n past s (wishes.Settle p) fit legal h = standing_at c n past p Unsettled legal (subst (Tells past) h (call_tells c past s)).0
+can_be_made c n past s (wishes.Listen d) fit legal h = unheld_free c n past d legal (subst (Tells past) h (call_tells c past s))
+can_be_made c n past s (wishes.Accept d p) fit legal h = accept_stands c n past s d p legal h.0
+can_be_made c n past s (wishes.Read p at_most) fit legal h = (open_where_ready c n past p legal (input_ready c past p h.may.asks.is_input h.may.asks.moving), let some = h.may.some_bytes in omega (arith, some))
+can_be_made c n past s (wishes.Write p) fit legal h = output_open c n past p legal h.may.offers.is_output h.may.offers.moving h.may.offers.not_passed
+can_be_made c n past s (wishes.Send p) fit legal h = output_open c n past p legal h.may.offers.is_output h.may.offers.moving h.may.offers.not_passed
+can_be_made c n past s (wishes.Shut p how) fit legal h = output_open c n past p legal h.may.is_output h.may.moving h.may.not_passed
+can_be_made c n past s (wishes.Close q why) fit legal h = held_taken c n past q legal h.is_held
+can_be_made c n past s (wishes.Reap p) fit legal h =
+    (unheld_free c n past p legal (child_over c n past p fit (subst (λ (x : ℕ). is_of c x p ≡ true) (sym h.own) h.among) h.may.is_child legal h.may.closed).free, λ older. unreaped past older p h.may.closed h.may.first)
+can_be_made c n past s (wishes.Sleep until) fit legal h = tt
+can_be_made c n past s (wishes.Done why) fit legal h = λ p own. own_free c n past s p legal h.nothing_held own
+
+-- without fork nothing at all is held where the one session is done
+pub free_when_done : (c : Config) (n : ℕ) (past : List Act) (s : ℕ) (wish : Wish) (why : Why) → has_fork c ≡ false → s ≡ 0 → Legal c n past → Wished c n past s wish → wish ≡ wishes.Done why → (p : Place) → standing past p ≡ Free
+free_when_done c n past s wish why alone first legal wished e p =
+    let none_held : holds c past 0 ≡ false = subst (λ x. holds c past x ≡ false) first (subst (Wished c n past s) e wished).nothing_held in
+    unheld_free c n past p legal (false_from_ne_true (held past p) (λ h. false≢true (sym none_held ∙ holds_held c n past p alone legal h)))
 
 -- ---- rest
 
 -- a session without dump that sleeps does so at rest, and until the moment of the whole
-pub rests_asleep : (c : Config) (n : ℕ) (past : List Act) (s : ℕ) (st : State) (wish : Wish) (until : Option ℕ) → Fields c n past s st → Allowed c n past s st wish → Legal c n past → c.dump ≡ dumps.Off → wish ≡ wishes.Sleep until → Rest c past × (until ≡ until_of c past)
-rests_asleep c n past s st wish until f allowed legal silent_dump e =
+pub rests_asleep : (c : Config) (n : ℕ) (past : List Act) (s : ℕ) (st : State) (wish : Wish) (until : Option ℕ) → has_fork c ≡ false → s ≡ 0 → Fields c n past s st → Allowed c n past s st wish → Legal c n past → c.dump ≡ dumps.Off → wish ≡ wishes.Sleep until → Rest c past × (until ≡ until_of c past)
+rests_asleep c n past s st wish until alone first f allowed legal silent_dump e =
     let a = subst (Allowed c n past s st) e allowed in
     let quiet = (subst (EndingIs c n past s) a.1 f.ending_is).1 in
     let ground = f.ground in (
-      rest_of c n past ground.alone silent_dump legal (subst (λ x. cause c past x ≡ None) ground.first quiet) (subst (SessionRests c past) ground.first a.0.rests),
-      a.0.until_is ∙ ap (session_until c past) ground.first ∙ sym (until_alone c past ground.alone),
+      rest_of c n past alone silent_dump legal (subst (λ x. cause c past x ≡ None) first quiet) (subst (SessionRests c past) first a.0.rests),
+      a.0.until_is ∙ ap (session_until c past) first ∙ sym (until_alone c past alone),
     )

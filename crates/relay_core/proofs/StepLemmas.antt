@@ -1,6 +1,6 @@
 -- What each act makes of a state that heard it.
-use Rattle.std.proofs.Common.{◌≡◌, refl, sym, ap, subst, ◌∙◌, ℕ, ◌+◌, ◌<◌, ◌≤◌, Bool, true, false, not, cond, ◌&&◌, ◌||◌, List, [], ◌∷◌, length, take, Option, Some, None, is_some, inl, inr, arith}
-use Rattle.std.proofs.lemmas.Bool.{false≢true}
+use Rattle.std.proofs.Common.{◌≡◌, refl, sym, ap, subst, ◌∙◌, ℕ, ◌+◌, ◌<◌, ◌≤◌, Bool, true, false, not, cond, ◌&&◌, ◌||◌, ◌==◌, List, [], ◌∷◌, length, take, Option, Some, None, is_some, inl, inr, arith}
+use Rattle.std.proofs.lemmas.Bool.{false≢true, and_right, and_parts}
 use Rattle.std.specs.List.{list_any, list_all}
 use Rattle.relay_model.specs.declared.places.Place.{Place}
 use Rattle.relay_model.specs.declared.places.Way.{Way}
@@ -12,12 +12,16 @@ use Rattle.relay_model.specs.declared.acts.ChildEnd.{ChildEnd}
 use Rattle.relay_model.specs.declared.acts.Why.{Why}
 use Rattle.relay_model.specs.declared.acts.Why.TheVariants as whys
 use Rattle.relay_model.specs.declared.readiness.ReadyAt.{ReadyAt}
-use Rattle.relay_model.specs.Places.{same_place}
+use Rattle.relay_model.specs.Places.{same_place, same_side, same_part, same_bool}
 use Rattle.relay_model.specs.Configs.{places, is_of, is_place_of, has_fork, input, output, formed, way_from, way_to, own_doors, keeps_borders, program_door, Fit}
-use Rattle.relay_model.specs.History.{now, accept_failed, memory_said, stop_said}
-use Rattle.relay_model.specs.Moments.{moved}
-use Rattle.relay_model.specs.Openings.{Call, Accept, Serve, first_call}
-use Rattle.relay_model.specs.Cause.{cause, closed_why, fault_stands, accept_failed_for}
+use Rattle.relay_model.specs.History.{now, accept_failed, memory_said, stop_said, same_why, held, holds_at, stage, Gone}
+use Rattle.relay_model.specs.Sessions.{numbers}
+use Rattle.relay_model.specs.Choices.{only_if, first_some}
+use Rattle.relay_model.specs.declared.places.Side.TheVariants.{Left}
+use Rattle.relay_core.proofs.Homes.{begun_after, NamesThing, called_here, held_away}
+use Rattle.relay_model.specs.Moments.{moved, closing_moment, idle_moment, reached}
+use Rattle.relay_model.specs.Openings.{Call, Accept, Refuse, Serve, first_call, ready}
+use Rattle.relay_model.specs.Cause.{cause, closed_why, fault_stands, accept_failed_for, is_end, listening_failed, opening_failed, faulted, finished}
 use Rattle.relay_model.specs.Calls.{call, called_at}
 use Rattle.relay_model.specs.Rest.{owed, Rest}
 use Rattle.place_openings.specs.Touching.{touches}
@@ -37,14 +41,18 @@ use Rattle.relay_core.specs.declared.lanes.Lane.TheVariants.{Unformed, Formed}
 use Rattle.relay_core.specs.Lanes.{IsLane, AreLanes, Reads, Offers, lanes_steps, lane_at, waiting_in, waiting_at}
 use Rattle.session_direction.proofs.Wanted.{packets_are, may_write_some}
 use Rattle.relay_core.specs.Transfers.{transfer_act, MayTransfer, TakesFrom, moves_bytes, is_fault}
-use Rattle.relay_core.specs.States.{Ground, Fields, Closes, ClosesFor, steps_of}
+use Rattle.relay_core.specs.States.{Ground, Fields, Closes, ClosesFor, home, steps_of}
 use Rattle.relay_core.specs.Steps.{Absorbed, Heeds}
-use Rattle.relay_core.proofs.Causes.{ending_of, called_of, own_session, closed_cause}
+use Rattle.relay_core.proofs.Causes.{ending_of, own_session, closed_cause}
 use Rattle.relay_core.proofs.Own.{AllStand, NamesOwn, all_stand}
 use Rattle.relay_core.proofs.Plans.{called, named, quiet_while}
 use Rattle.relay_core.proofs.Quiet.{keeps_quiet, quiet_after, quiet_closed, quiet_at_first, read_fault_stands, write_fault_stands, faultless}
 
 -- ---- the fields after an act
+
+why_refused : (why : Why) → same_why why whys.Refused ≡ true → why ≡ whys.Refused
+why_refused whys.Refused e = refl
+why_refused why e = absurd (false≢true e)
 
 -- what no act changes
 pub record Steady (old new : State) : Type 0 where
@@ -53,12 +61,12 @@ pub record Steady (old new : State) : Type 0 where
   pub idle_same : new.idle ≡ old.idle
   pub sloppy_same : new.sloppy ≡ old.sloppy
 
-pub ground_after : (c : Config) (past later : List Act) (s : ℕ) (old new : State) → Ground c past s old → now later ≡ now past → Steady old new → AreOpenings c later s new.openings → AreLanes c later s new.lanes → new.moved ≡ moved c later s → new.faulted ≡ fault_stands c later s → Ground c later s new
-ground_after c past later s old new g at same openings lanes move fault =
+pub ground_after : (c : Config) (past later : List Act) (s : ℕ) (old new : State) → Ground c past s old → s < numbers c later → (has_fork c ≡ true → closed_why c later s ≡ None → held later (home c s) ≡ true) → now later ≡ now past → Steady old new → AreOpenings c later s new.openings → AreLanes c later s new.lanes → new.moved ≡ moved c later s → new.faulted ≡ fault_stands c later s → Ground c later s new
+ground_after c past later s old new g begun home_held at same openings lanes move fault =
     record {
       fit = g.fit;
-      alone = g.alone;
-      first = g.first;
+      begun = begun;
+      home_held = home_held;
       openings_are = openings;
       lanes_are = lanes;
       clock_is = same.clock_same ∙ (g.clock_is ∙ sym at);
@@ -84,8 +92,8 @@ pub ground_again : (c : Config) (past : List Act) (s : ℕ) (mid new : State) �
 ground_again c past s mid new g again =
     record {
       fit = g.fit;
-      alone = g.alone;
-      first = g.first;
+      begun = g.begun;
+      home_held = g.home_held;
       openings_are = subst (AreOpenings c past s) (sym again.openings_same) g.openings_are;
       lanes_are = subst (AreLanes c past s) (sym again.lanes_same) g.lanes_are;
       clock_is = again.clock_same ∙ g.clock_is;
@@ -107,7 +115,7 @@ heeded c n past s st h = fields_of c n past s st h.ground h.quiet h.ending_is
 
 pub at_first : (c : Config) (n : ℕ) (mid st : State) → Fit c → has_fork c ≡ false → AreOpenings c [] 0 mid.openings → AreLanes c [] 0 mid.lanes → mid.clock ≡ 0 → mid.moved ≡ 0 → mid.faulted ≡ false → mid.closing ≡ c.closing → mid.idle ≡ c.idle → mid.sloppy ≡ c.sloppy → EndsAs mid st → (Ground c [] 0 mid → Quiet c [] 0 → st.ending ≡ cause c [] 0) → Fields c n [] 0 st
 at_first c n mid st fit alone openings lanes clock move fault closing idle sloppy again ending =
-    let g : Ground c [] 0 mid = record { fit = fit; alone = alone; first = refl; openings_are = openings; lanes_are = lanes; clock_is = clock; moved_is = move; faulted_is = fault ∙ faultless c 0; closing_is = closing; idle_is = idle; sloppy_is = sloppy } in
+    let g : Ground c [] 0 mid = record { fit = fit; begun = subst (λ (b : Bool). 0 < cond b 0 1) (sym alone) (omega arith); home_held = λ fork e. absurd (false≢true (sym alone ∙ fork)); openings_are = openings; lanes_are = lanes; clock_is = clock; moved_is = move; faulted_is = fault ∙ faultless c 0; closing_is = closing; idle_is = idle; sloppy_is = sloppy } in
     fields_of c n [] 0 st (ground_again c [] 0 mid st g again) (quiet_at_first c 0) (ending g (quiet_at_first c 0))
 
 -- ---- an act that ends nothing from outside
@@ -121,36 +129,39 @@ less_right a a' b b' e h = omega (arith, h, e)
 steps_again : (mid new : State) → EndsAs mid new → steps_of new ≡ steps_of mid
 steps_again mid new again = λ i. steps_in (again.openings_same i) + lanes_steps (again.lanes_same i)
 
-pub opening_step : (c : Config) (n : ℕ) (past : List Act) (s : ℕ) (act : Act) (old mid new : State) → Fields c n past s old → old.ending ≡ None → keeps_quiet act ≡ true → now (act ∷ past) ≡ now past →
+home_after : (c : Config) (n : ℕ) (past : List Act) (s : ℕ) (act : Act) (old : State) → Fields c n past s old → old.ending ≡ None → (has_fork c ≡ true → held (act ∷ past) (home c s) ≡ held past (home c s)) → has_fork c ≡ true → closed_why c (act ∷ past) s ≡ None → held (act ∷ past) (home c s) ≡ true
+home_after c n past s act old f e away fork u = away fork ∙ f.ground.home_held fork (quiet_while c n past s old.ending f.ending_is e).0.unclosed
+
+pub opening_step : (c : Config) (n : ℕ) (past : List Act) (s : ℕ) (act : Act) (old mid new : State) → Fields c n past s old → old.ending ≡ None → (has_fork c ≡ true → held (act ∷ past) (home c s) ≡ held past (home c s)) → keeps_quiet act ≡ true → now (act ∷ past) ≡ now past →
     (owed c past ≡ None → May c n past act) → Steady old mid → AreOpenings c (act ∷ past) s mid.openings → AreLanes c (act ∷ past) s mid.lanes →
     mid.moved ≡ moved c (act ∷ past) s → mid.faulted ≡ fault_stands c (act ∷ past) s →
     EndsAs mid new → (Ground c (act ∷ past) s mid → Quiet c (act ∷ past) s → new.ending ≡ cause c (act ∷ past) s) →
     steps_in mid.openings < steps_in old.openings → lanes_steps mid.lanes ≡ lanes_steps old.lanes → Absorbed c n past s act old new
-opening_step c n past s act old mid new f e quiet at may same openings lanes move fault again ending fewer lanes_same =
-    let g = ground_after c past (act ∷ past) s old mid f.ground at same openings lanes move fault in
+opening_step c n past s act old mid new f e away quiet at may same openings lanes move fault again ending fewer lanes_same =
+    let g = ground_after c past (act ∷ past) s old mid f.ground (begun_after c act past s f.ground.begun) (home_after c n past s act old f e away) at same openings lanes move fault in
     let q = quiet_after c past s act quiet (quiet_while c n past s old.ending f.ending_is e).0 in
     record { may = may; fields = fields_of c n (act ∷ past) s new (ground_again c (act ∷ past) s mid new g again) q (ending g q); fewer = subst (λ k. k < steps_of old) (sym (steps_again mid new again)) (less_left (steps_in old.openings) (steps_in mid.openings) (lanes_steps old.lanes) (lanes_steps mid.lanes) fewer lanes_same) }
 
-pub transfer_step : (c : Config) (n : ℕ) (past : List Act) (s : ℕ) (act : Act) (old mid new : State) → Fields c n past s old → old.ending ≡ None → keeps_quiet act ≡ true → now (act ∷ past) ≡ now past →
+pub transfer_step : (c : Config) (n : ℕ) (past : List Act) (s : ℕ) (act : Act) (old mid new : State) → Fields c n past s old → old.ending ≡ None → (has_fork c ≡ true → held (act ∷ past) (home c s) ≡ held past (home c s)) → keeps_quiet act ≡ true → now (act ∷ past) ≡ now past →
     (owed c past ≡ None → May c n past act) → Steady old mid → AreOpenings c (act ∷ past) s mid.openings → AreLanes c (act ∷ past) s mid.lanes →
     mid.moved ≡ moved c (act ∷ past) s → mid.faulted ≡ fault_stands c (act ∷ past) s →
     EndsAs mid new → (Ground c (act ∷ past) s mid → Quiet c (act ∷ past) s → new.ending ≡ cause c (act ∷ past) s) →
     steps_in mid.openings ≡ steps_in old.openings → lanes_steps mid.lanes < lanes_steps old.lanes → Absorbed c n past s act old new
-transfer_step c n past s act old mid new f e quiet at may same openings lanes move fault again ending openings_same fewer =
-    let g = ground_after c past (act ∷ past) s old mid f.ground at same openings lanes move fault in
+transfer_step c n past s act old mid new f e away quiet at may same openings lanes move fault again ending openings_same fewer =
+    let g = ground_after c past (act ∷ past) s old mid f.ground (begun_after c act past s f.ground.begun) (home_after c n past s act old f e away) at same openings lanes move fault in
     let q = quiet_after c past s act quiet (quiet_while c n past s old.ending f.ending_is e).0 in
     record { may = may; fields = fields_of c n (act ∷ past) s new (ground_again c (act ∷ past) s mid new g again) q (ending g q); fewer = subst (λ k. k < steps_of old) (sym (steps_again mid new again)) (less_right (steps_in old.openings) (steps_in mid.openings) (lanes_steps old.lanes) (lanes_steps mid.lanes) openings_same fewer) }
 
 -- an act after which the session has ended for this reason
-pub ending_step : (c : Config) (n : ℕ) (past : List Act) (s : ℕ) (act : Act) (old new : State) (why : Why) → Fields c n past s old → now (act ∷ past) ≡ now past →
+pub ending_step : (c : Config) (n : ℕ) (past : List Act) (s : ℕ) (act : Act) (old new : State) (why : Why) → Fields c n past s old → old.ending ≡ None → (has_fork c ≡ true → held (act ∷ past) (home c s) ≡ held past (home c s)) → now (act ∷ past) ≡ now past →
     (owed c past ≡ None → May c n past act) → Steady old new → AreOpenings c (act ∷ past) s new.openings → AreLanes c (act ∷ past) s new.lanes →
     new.moved ≡ moved c (act ∷ past) s → new.faulted ≡ fault_stands c (act ∷ past) s →
     new.ending ≡ Some why → Ends c n (act ∷ past) s why →
     steps_in new.openings < steps_in old.openings → lanes_steps new.lanes ≡ lanes_steps old.lanes → Absorbed c n past s act old new
-ending_step c n past s act old new why f at may same openings lanes move fault ending ends fewer lanes_same =
+ending_step c n past s act old new why f e away at may same openings lanes move fault ending ends fewer lanes_same =
     record {
       may = may;
-      fields = record { ground = ground_after c past (act ∷ past) s old new f.ground at same openings lanes move fault; ending_is = subst (EndingIs c n (act ∷ past) s) (sym ending) ends };
+      fields = record { ground = ground_after c past (act ∷ past) s old new f.ground (begun_after c act past s f.ground.begun) (home_after c n past s act old f e away) at same openings lanes move fault; ending_is = subst (EndingIs c n (act ∷ past) s) (sym ending) ends };
       fewer = less_left (steps_in old.openings) (steps_in new.openings) (lanes_steps old.lanes) (lanes_steps new.lanes) fewer lanes_same;
     }
 
@@ -163,8 +174,8 @@ pub first_of_call : (c : Config) (n : ℕ) (past : List Act) (s : ℕ) (st : Sta
 first_of_call c n past s st k f e h = sym (called c n past s st f e) ∙ h
 
 -- it is called for at a thing of the session
-pub called_there : (c : Config) (n : ℕ) (past : List Act) (s : ℕ) (st : State) (k : Call) (q : Place) → Fields c n past s st → call c past s ≡ k → is_of c s q ≡ true → called_at c past q ≡ k
-called_there c n past s st k q f h own = called_of c past s q f.ground.alone (own_session c s q own) ∙ h
+pub called_there : (c : Config) (n : ℕ) (past : List Act) (s : ℕ) (st : State) (k : Call) (q : Place) → Fields c n past s st → call c past s ≡ k → NamesThing k q → is_of c s q ≡ true → called_at c past q ≡ k
+called_there c n past s st k q f h names own = called_here c past s k q f.ground.fit h names (own_session c s q own)
 
 pub noted : (b : Bool) (at x y : ℕ) → b ≡ true → x ≡ at → x ≡ cond b at y
 noted true at x y e h = h
@@ -221,6 +232,18 @@ transfer_quiet p waiting transfers.WriteNotYet = refl
 transfer_quiet p waiting transfers.WriteFailed = refl
 transfer_quiet p waiting (transfers.Shut how) = refl
 transfer_quiet p waiting (transfers.ShutFailed how) = refl
+
+pub transfer_away : (c : Config) (s : ℕ) (past : List Act) (p : Place) (waiting : List ℕ) (t : Transfer) → held (transfer_act p waiting t ∷ past) (home c s) ≡ held past (home c s)
+transfer_away c s past p waiting (transfers.Read bytes) = refl
+transfer_away c s past p waiting transfers.ReadEmpty = refl
+transfer_away c s past p waiting transfers.ReadEnd = refl
+transfer_away c s past p waiting transfers.ReadNotYet = refl
+transfer_away c s past p waiting transfers.ReadFailed = refl
+transfer_away c s past p waiting (transfers.Wrote count) = refl
+transfer_away c s past p waiting transfers.WriteNotYet = refl
+transfer_away c s past p waiting transfers.WriteFailed = refl
+transfer_away c s past p waiting (transfers.Shut how) = refl
+transfer_away c s past p waiting (transfers.ShutFailed how) = refl
 
 pub transfer_now : (past : List Act) (p : Place) (waiting : List ℕ) (t : Transfer) → now (transfer_act p waiting t ∷ past) ≡ now past
 transfer_now past p waiting (transfers.Read bytes) = refl
@@ -318,12 +341,70 @@ called_off : (c : Config) (n : ℕ) (past : List Act) (s : ℕ) (st : State) (q 
 called_off c n past s st q why f e (inl k) = rw k.0 (quiet_closed c past s q whys.Refused refl refl refl (quiet_while c n past s st.ending f.ending_is e).0)
 called_off c n past s st q why f e (inr k) = rw k.0 (quiet_closed c past s q whys.Served (ends_not q.door (own_of c n past s st (Serve q) f e k.1).door) refl refl (quiet_while c n past s st.ending f.ending_is e).0)
 
+-- what isn't closed for an end of the session isn't its home
+no_refusal : (a b d e g h i j k : Bool) → first_some (None ∷ only_if a whys.Memory ∷ only_if b whys.Stopped ∷ only_if d whys.AcceptFailed ∷ only_if e whys.ListenFailed ∷ only_if g whys.OpenFailed ∷ only_if h whys.Faulted ∷ only_if i whys.Finished ∷ only_if j whys.ClosingTime ∷ only_if k whys.Idle ∷ []) ≡ Some whys.Refused → ⊥
+no_refusal true b d e g h i j k x = cc
+no_refusal false true d e g h i j k x = cc
+no_refusal false false true e g h i j k x = cc
+no_refusal false false false true g h i j k x = cc
+no_refusal false false false false true h i j k x = cc
+no_refusal false false false false false true i j k x = cc
+no_refusal false false false false false false true j k x = cc
+no_refusal false false false false false false false true k x = cc
+no_refusal false false false false false false false false true x = cc
+no_refusal false false false false false false false false false x = cc
+
+never_refused : (c : Config) (past : List Act) (s : ℕ) → closed_why c past s ≡ None → cause c past s ≡ Some whys.Refused → ⊥
+never_refused c past s u e =
+    no_refusal (memory_said past) (stop_said past) (accept_failed_for c past s) (listening_failed c past s) (opening_failed c past s) (faulted c past s) (finished c past s) (ready c past s && reached (closing_moment c past s) (now past)) (ready c past s && reached (idle_moment c past s) (now past))
+    (subst (λ (k : Option Why). first_some (k ∷ only_if (memory_said past) whys.Memory ∷ only_if (stop_said past) whys.Stopped ∷ only_if (accept_failed_for c past s) whys.AcceptFailed ∷ only_if (listening_failed c past s) whys.ListenFailed ∷ only_if (opening_failed c past s) whys.OpenFailed ∷ only_if (faulted c past s) whys.Faulted ∷ only_if (finished c past s) whys.Finished ∷ only_if (ready c past s && reached (closing_moment c past s) (now past)) whys.ClosingTime ∷ only_if (ready c past s && reached (idle_moment c past s) (now past)) whys.Idle ∷ []) ≡ Some whys.Refused) u e)
+
+negated : (b : Bool) → not b ≡ false → b ≡ true
+negated true e = refl
+negated false e = absurd (false≢true (sym e))
+
+third : (a b d e : Bool) → d ≡ false → (a && b && d && e) ≡ false
+third a b true e h = absurd (false≢true (sym h))
+third a b false e h = ap (λ x. x && e) (and_right (a && b) false refl)
+
+door_apart : (c : Config) (s : ℕ) (q : Place) → q.door ≡ true → same_place q (home c s) ≡ false
+door_apart c s q e = third (same_side q.side Left) (same_part q.part (home c s).part) (same_bool q.door false) (q.session == s) (ap (λ b. same_bool b false) e)
+
+unclosed_before : (b : Bool) (why : Why) (before : Option Why) → cond b (Some why) before ≡ None → (b ≡ false) × (before ≡ None)
+unclosed_before true why before e = let x : ⊥ = cc in absurd x
+unclosed_before false why before e = (refl, e)
+
+home_closed : (c : Config) (n : ℕ) (past : List Act) (s : ℕ) (q : Place) (why : Why) (old : State) → Fields c n past s old → Closes c n past s q why → ClosesFor c past s old.ending q why → has_fork c ≡ true → closed_why c (acts.Closed q why ∷ past) s ≡ None → held (acts.Closed q why ∷ past) (home c s) ≡ true
+home_closed c n past s q why old f closes for fork u = go old.ending refl for
+  where
+    parts : ((is_of c s q && is_end q why) ≡ false) × (closed_why c past s ≡ None)
+    parts = unclosed_before (is_of c s q && is_end q why) why (closed_why c past s) u
+
+    before : held past (home c s) ≡ true
+    before = f.ground.home_held fork parts.1
+
+    unended : is_end q why ≡ false
+    unended = ap (λ (b : Bool). b && is_end q why) (sym closes.own) ∙ parts.0
+
+    go : (e : Option Why) → old.ending ≡ e → ClosesFor c past s e q why → held (acts.Closed q why ∷ past) (home c s) ≡ true
+    go None e (inl k) = held_away c past s (Refuse q) q (acts.Closed q why) f.ground.fit k.1 refl refl (λ p x. x) fork ∙ before
+    go None e (inr k) = held_away c past s (Serve q) q (acts.Closed q why) f.ground.fit k.1 refl refl (λ p x. x) fork ∙ before
+    go (Some w) e k =
+        let ends : Ends c n past s why = subst (Ends c n past s) k (subst (EndingIs c n past s) e f.ending_is) in
+        which (same_why why whys.Refused) refl (closed_cause c n past s q why closes.own ends)
+      where
+        which : (b : Bool) → same_why why whys.Refused ≡ b → cause c (acts.Closed q why ∷ past) s ≡ Some why → held (acts.Closed q why ∷ past) (home c s) ≡ true
+        which true r x = absurd (never_refused c (acts.Closed q why ∷ past) s u (x ∙ ap Some (why_refused why r)))
+        which false r x =
+            let t : (q.door && same_why why whys.Served) ≡ true = negated (q.door && same_why why whys.Served) (ap (λ (b : Bool). not b && not (q.door && same_why why whys.Served)) (sym r) ∙ unended) in
+            ap (λ (b : Bool). holds_at (cond b (Gone why) (stage past (home c s)))) (door_apart c s q (and_parts q.door (same_why why whys.Served) t).0) ∙ before
+
 pub closed_step : (c : Config) (n : ℕ) (past : List Act) (s : ℕ) (q : Place) (why : Why) (old mid new : State) → Fields c n past s old → Closes c n past s q why → ClosesFor c past s old.ending q why →
     Steady old mid → AreOpenings c (acts.Closed q why ∷ past) s mid.openings → AreLanes c (acts.Closed q why ∷ past) s mid.lanes → mid.moved ≡ old.moved → mid.faulted ≡ old.faulted → EndsAs mid new →
     ((w : Why) → old.ending ≡ Some w → new.ending ≡ Some w) → (old.ending ≡ None → Ground c (acts.Closed q why ∷ past) s mid → Quiet c (acts.Closed q why ∷ past) s → new.ending ≡ cause c (acts.Closed q why ∷ past) s) →
     steps_in mid.openings < steps_in old.openings → lanes_steps mid.lanes ≡ lanes_steps old.lanes → Absorbed c n past s (acts.Closed q why) old new
 closed_step c n past s q why old mid new f closes for same openings lanes move fault again ended going fewer lanes_same =
-    let g = ground_after c past (acts.Closed q why ∷ past) s old mid f.ground refl same openings lanes (move ∙ f.ground.moved_is) (fault ∙ f.ground.faulted_is) in
+    let g = ground_after c past (acts.Closed q why ∷ past) s old mid f.ground f.ground.begun (home_closed c n past s q why old f closes for) refl same openings lanes (move ∙ f.ground.moved_is) (fault ∙ f.ground.faulted_is) in
     record {
       may = λ o. record { is_held = closes.is_held; licensed = closes.licensed; timely = inl o };
       fields = record { ground = ground_again c (acts.Closed q why ∷ past) s mid new g again; ending_is = go old.ending refl g };
@@ -366,7 +447,7 @@ reaped_step c n past s p end old new f may h same openings lanes move fault endi
     record {
       may = may;
       fields = record {
-        ground = ground_after c past (acts.Reaped p end ∷ past) s old new f.ground refl same openings lanes (move ∙ f.ground.moved_is) (fault ∙ f.ground.faulted_is);
+        ground = ground_after c past (acts.Reaped p end ∷ past) s old new f.ground f.ground.begun f.ground.home_held refl same openings lanes (move ∙ f.ground.moved_is) (fault ∙ f.ground.faulted_is);
         ending_is = subst (EndingIs c n (acts.Reaped p end ∷ past) s) (sym ending) (reaped_ending c n past s p end old.ending h f.ending_is);
       };
       fewer = less_left (steps_in old.openings) (steps_in new.openings) (lanes_steps old.lanes) (lanes_steps new.lanes) fewer lanes_same;
@@ -377,7 +458,7 @@ pub childless_step : (c : Config) (n : ℕ) (past : List Act) (s : ℕ) (old new
     steps_in new.openings < steps_in old.openings → Fields c n past s new × (steps_of new < steps_of old)
 childless_step c n past s old new f same openings lanes move fault ending fewer = (
   record {
-    ground = ground_after c past past s old new f.ground refl same openings (subst (AreLanes c past s) (sym lanes) f.ground.lanes_are) (move ∙ f.ground.moved_is) (fault ∙ f.ground.faulted_is);
+    ground = ground_after c past past s old new f.ground f.ground.begun f.ground.home_held refl same openings (subst (AreLanes c past s) (sym lanes) f.ground.lanes_are) (move ∙ f.ground.moved_is) (fault ∙ f.ground.faulted_is);
     ending_is = subst (EndingIs c n past s) (sym ending) f.ending_is;
   },
   less_left (steps_in old.openings) (steps_in new.openings) (lanes_steps old.lanes) (lanes_steps new.lanes) fewer (ap lanes_steps lanes),
@@ -385,10 +466,10 @@ childless_step c n past s old new f same openings lanes move fault ending fewer 
 
 -- ---- turns
 
-pub heeds_step : (c : Config) (past later : List Act) (s : ℕ) (old mid new : State) → Ground c past s old → AreOpenings c later s mid.openings → AreLanes c later s mid.lanes → mid.clock ≡ now later → mid.moved ≡ moved c later s → mid.faulted ≡ fault_stands c later s →
+pub heeds_step : (c : Config) (past later : List Act) (s : ℕ) (old mid new : State) → Ground c past s old → s < numbers c later → (has_fork c ≡ true → closed_why c later s ≡ None → held later (home c s) ≡ true) → AreOpenings c later s mid.openings → AreLanes c later s mid.lanes → mid.clock ≡ now later → mid.moved ≡ moved c later s → mid.faulted ≡ fault_stands c later s →
     mid.closing ≡ old.closing → mid.idle ≡ old.idle → mid.sloppy ≡ old.sloppy → EndsAs mid new → Quiet c later s → (Ground c later s mid → Quiet c later s → new.ending ≡ cause c later s) → Heeds c later s new
-heeds_step c past later s old mid new o openings lanes clock move fault closing idle sloppy again q ending =
-    let g : Ground c later s mid = record { fit = o.fit; alone = o.alone; first = o.first; openings_are = openings; lanes_are = lanes; clock_is = clock; moved_is = move; faulted_is = fault; closing_is = closing ∙ o.closing_is; idle_is = idle ∙ o.idle_is; sloppy_is = sloppy ∙ o.sloppy_is } in
+heeds_step c past later s old mid new o begun home_held openings lanes clock move fault closing idle sloppy again q ending =
+    let g : Ground c later s mid = record { fit = o.fit; begun = begun; home_held = home_held; openings_are = openings; lanes_are = lanes; clock_is = clock; moved_is = move; faulted_is = fault; closing_is = closing ∙ o.closing_is; idle_is = idle ∙ o.idle_is; sloppy_is = sloppy ∙ o.sloppy_is } in
     record { ground = ground_again c later s mid new g again; quiet = q; ending_is = ending g q }
 
 -- a stop that the last turn tells of
@@ -397,7 +478,7 @@ pub stop_step : (c : Config) (n : ℕ) (past : List Act) (s : ℕ) (until : Opti
     Fields c n (acts.Turn until at (listed names) true ∷ past) s new
 stop_step c n past s until at names old new h openings lanes same move fault ending =
     record {
-      ground = ground_after c (acts.Turn until at (listed names) false ∷ past) (acts.Turn until at (listed names) true ∷ past) s old new h.ground refl same openings lanes (move ∙ h.ground.moved_is) (fault ∙ h.ground.faulted_is);
+      ground = ground_after c (acts.Turn until at (listed names) false ∷ past) (acts.Turn until at (listed names) true ∷ past) s old new h.ground h.ground.begun h.ground.home_held refl same openings lanes (move ∙ h.ground.moved_is) (fault ∙ h.ground.faulted_is);
       ending_is = subst (EndingIs c n (acts.Turn until at (listed names) true ∷ past) s) (sym ending) (inl (by_stop c (acts.Turn until at (listed names) true ∷ past) s h.quiet.unclosed h.quiet.remembered refl));
     }
 

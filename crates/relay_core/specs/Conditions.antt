@@ -14,19 +14,19 @@ abbrev pub NotReaped : List Act → Place → Type 0
 NotReaped past p = (older : List Act) → reaped_since (past ++ older) p ≡ false
 
 -- a world can be asked for the call that is wished for
-abbrev pub CanBeMade : List Act → Wish → Type 0
-CanBeMade past (wishes.Open p) = standing past p ≡ Free
-CanBeMade past (wishes.Settle p) = standing past p ≡ Settling
-CanBeMade past (wishes.Listen d) = standing past d ≡ Free
-CanBeMade past (wishes.Accept d p) = (standing past d ≡ Open) × (standing past p ≡ Free)
-CanBeMade past (wishes.Read p at_most) = (is_open (standing past p) ≡ true) × (0 < at_most)
-CanBeMade past (wishes.Write p) = standing past p ≡ Open
-CanBeMade past (wishes.Send p) = standing past p ≡ Open
-CanBeMade past (wishes.Shut p how) = standing past p ≡ Open
-CanBeMade past (wishes.Close q why) = is_free (standing past q) ≡ false
-CanBeMade past (wishes.Reap p) = (standing past p ≡ Free) × NotReaped past p
-CanBeMade past (wishes.Sleep until) = Unit {0}
-CanBeMade past (wishes.Done why) = (p : Place) → standing past p ≡ Free
+abbrev pub CanBeMade : Config → ℕ → List Act → Wish → Type 0
+CanBeMade c s past (wishes.Open p) = standing past p ≡ Free
+CanBeMade c s past (wishes.Settle p) = standing past p ≡ Settling
+CanBeMade c s past (wishes.Listen d) = standing past d ≡ Free
+CanBeMade c s past (wishes.Accept d p) = (standing past d ≡ Open) × (standing past p ≡ Free)
+CanBeMade c s past (wishes.Read p at_most) = (is_open (standing past p) ≡ true) × (0 < at_most)
+CanBeMade c s past (wishes.Write p) = standing past p ≡ Open
+CanBeMade c s past (wishes.Send p) = standing past p ≡ Open
+CanBeMade c s past (wishes.Shut p how) = standing past p ≡ Open
+CanBeMade c s past (wishes.Close q why) = is_free (standing past q) ≡ false
+CanBeMade c s past (wishes.Reap p) = (standing past p ≡ Free) × NotReaped past p
+CanBeMade c s past (wishes.Sleep until) = Unit {0}
+CanBeMade c s past (wishes.Done why) = (p : Place) → is_of c s p ≡ true → standing past p ≡ Free
 
 -- the wish is one of a session that nothing has ended: any but closing, reaping and being done
 abbrev pub is_course : Wish → Bool

@@ -1,3 +1,4 @@
+pub mod Births
 pub mod Blames
 pub mod Conditions
 pub mod Endings

@@ -10,13 +10,20 @@ use Rattle.relay_model.specs.Rest.{owed}
 use Rattle.relay_model.specs.May.{May}
 use Rattle.relay_core.specs.declared.sessions.Session.{Session}
 use Rattle.relay_core.specs.declared.wishes.Wish.{Wish}
-use Rattle.relay_core.specs.States.{Fields, Allowed, steps_of}
+use Rattle.relay_core.specs.declared.sessions.Unborn.{Unborn}
+use Rattle.relay_core.specs.Births.{IsNew}
+use Rattle.relay_core.specs.States.{Fields, Allowed, steps_of, home}
 use Rattle.relay_core.specs.Steps.{Heeds, waiting_for}
 
 -- the session stands for this history of a command of n turns
 pub record Stands (c : Config) (n : ℕ) (past : List Act) (s : ℕ) (session : Session) : Type 0 where
   pub fields : Fields c n past s session.state
   pub allowed : Allowed c n past s session.state session.wish
+
+-- the session with this number, before it begins
+pub record IsUnborn (c : Config) (s : ℕ) (unborn : Unborn) : Type 0 where
+  pub is_new : IsNew c s unborn.state
+  pub home_is : unborn.home ≡ home c s
 
 -- it does so while it hears the last turn, of which more may come
 pub record Hears (c : Config) (n : ℕ) (past : List Act) (s : ℕ) (session : Session) : Type 0 where

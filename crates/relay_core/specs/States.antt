@@ -1,19 +1,20 @@
 -- What the state of a session says of the history, and which calls the history allows.
-use Rattle.std.specs.Prelude.{◌≡◌, ◌⊎◌, ℕ, ◌+◌, true, false, List, Option, Some, None, is_some}
+use Rattle.std.specs.Prelude.{◌≡◌, ◌⊎◌, ℕ, ◌<◌, ◌+◌, true, false, List, Option, Some, None, is_some}
 use Rattle.relay_model.specs.declared.places.Place.{Place}
 use Rattle.relay_model.specs.declared.places.Way.{Way}
 use Rattle.relay_model.specs.declared.commands.Config.{Config}
 use Rattle.relay_model.specs.declared.acts.Act.{Act}
 use Rattle.relay_model.specs.declared.acts.Why.{Why}
 use Rattle.relay_model.specs.declared.acts.Why.TheVariants as whys
-use Rattle.relay_model.specs.Configs.{has_fork, is_of, Fit}
+use Rattle.relay_model.specs.declared.places.Side.TheVariants.{Left}
+use Rattle.relay_model.specs.Configs.{has_fork, is_of, parts, place_at, Fit}
 use Rattle.relay_model.specs.History.{now, held}
 use Rattle.relay_model.specs.Arming.{asked_to_accept}
-use Rattle.relay_model.specs.Sessions.{holds}
+use Rattle.relay_model.specs.Sessions.{holds, numbers, first_part}
 use Rattle.relay_model.specs.Moments.{moved}
 use Rattle.relay_model.specs.Openings.{Call}
 use Rattle.relay_model.specs.Openings as calls
-use Rattle.relay_model.specs.Cause.{fault_stands, running}
+use Rattle.relay_model.specs.Cause.{closed_why, fault_stands, running}
 use Rattle.relay_model.specs.Calls.{call}
 use Rattle.relay_model.specs.Rest.{SessionRests}
 use Rattle.relay_model.specs.May.{MayReap, Licensed}
@@ -28,11 +29,15 @@ use Rattle.relay_core.specs.Endings.{Ends, EndingIs}
 use Rattle.relay_core.specs.Timers.{session_until}
 use Rattle.relay_core.specs.Lanes.{AreLanes, Reads, Offers, Shuts, can_read_at, can_write_at, lanes_steps}
 
--- all fields but `ending` are what the history says
+-- with `fork` the place of the peer that a session was begun for
+abbrev pub home : Config → ℕ → Place
+home c s = place_at s Left (first_part (parts c Left))
+
+-- all fields but `ending` are what the history says; what began a session is held while nothing of it was closed
 pub record Ground (c : Config) (past : List Act) (s : ℕ) (st : State) : Type 0 where
   pub fit : Fit c
-  pub alone : has_fork c ≡ false
-  pub first : s ≡ 0
+  pub begun : s < numbers c past
+  pub home_held : has_fork c ≡ true → closed_why c past s ≡ None → held past (home c s) ≡ true
   pub openings_are : AreOpenings c past s st.openings
   pub lanes_are : AreLanes c past s st.lanes
   pub clock_is : st.clock ≡ now past
@@ -63,6 +68,7 @@ pub record Sleeps (c : Config) (past : List Act) (s : ℕ) (until : Option ℕ) 
 -- the child of a closed place, of which nothing is known yet
 pub record Reaps (c : Config) (past : List Act) (s : ℕ) (p : Place) : Type 0 where
   pub own : p.session ≡ s
+  pub among : is_of c s p ≡ true
   pub may : MayReap c past p
 
 pub record IsDone (c : Config) (n : ℕ) (past : List Act) (s : ℕ) (why : Why) : Type 0 where

@@ -43,13 +43,13 @@ pub enum Lane {
 impl Lane {
     ghost use Rattle.relay_core.specs.Lanes.{IsLane, waiting_in, keeps_pieces, lane_steps, LaneWishes};
 
-    /// A direction at the beginning; only one that is formed takes memory.
-    pub fn new(alloc: Global, config: &Config, way: Way) -> Result<Lane, NoMemory>
+    /// A direction of the session with this number, at the beginning; only one that is formed takes memory.
+    pub fn new(alloc: Global, config: &Config, number: u32, way: Way) -> Result<Lane, NoMemory>
         requires { Fit config.now }
-        ensures { IfOk result (λ lane. IsLane config.now [] 0 way lane) }
+        ensures { IfOk result (λ lane. IsLane config.now [] number way lane) }
     {
         if formed(config, way) {
-            Ok(Lane::Formed(Direction::new(alloc, config, 0, way)?))
+            Ok(Lane::Formed(Direction::new(alloc, config, number, way)?))
         } else {
             Ok(Lane::Unformed)
         }
@@ -220,13 +220,13 @@ pub struct Lanes {
 impl Lanes {
     ghost use Rattle.relay_core.specs.Lanes.{AreLanes, LanesWish, lanes_steps, waiting_at, keeps_at};
 
-    /// Both directions at the beginning.
-    pub fn new(alloc: Global, config: &Config) -> Result<Lanes, NoMemory>
+    /// Both directions of the session with this number, at the beginning.
+    pub fn new(alloc: Global, config: &Config, number: u32) -> Result<Lanes, NoMemory>
         requires { Fit config.now }
-        ensures { IfOk result (λ lanes. AreLanes config.now [] 0 lanes) }
+        ensures { IfOk result (λ lanes. AreLanes config.now [] number lanes) }
     {
-        let to_right = Lane::new(alloc, config, Way::LeftToRight)?;
-        let to_left = Lane::new(alloc, config, Way::RightToLeft)?;
+        let to_right = Lane::new(alloc, config, number, Way::LeftToRight)?;
+        let to_left = Lane::new(alloc, config, number, Way::RightToLeft)?;
         Ok(Lanes { to_right, to_left })
     }
 

@@ -2,6 +2,7 @@
 // read and not yet written. No call after `new` takes memory.
 #![tactic(auto)]
 
+mod first_places;
 mod lanes;
 mod laws;
 mod moments;
@@ -16,5 +17,5 @@ pub use laws::{
     tries_are_counted, unshut_is_open, until_is_of_one,
 };
 pub use place_openings::GivenUp;
-pub use sessions::Session;
+pub use sessions::{Session, Unborn};
 pub use wishes::{Answer, Wish};

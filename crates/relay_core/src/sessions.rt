@@ -10,24 +10,68 @@ ghost use Rattle.relay_model.specs.declared.places.Place.{Place as Location};
 ghost use Rattle.relay_model.specs.declared.readiness.ReadyAt.{ReadyAt as Entry};
 ghost use Rattle.relay_model.specs.Conversions.{longest_packet};
 ghost use Rattle.relay_model.specs.Configs.{Fit, has_fork, places, own_doors};
-ghost use Rattle.relay_model.specs.History.{turns};
-ghost use Rattle.relay_model.specs.May.{Legal};
+ghost use Rattle.relay_model.specs.Holding.{Free, standing};
+ghost use Rattle.relay_model.specs.History.{now as last_moment, turns};
+ghost use Rattle.relay_model.specs.May.{Legal, May};
 ghost use Rattle.relay_model.specs.Outcome.{failed_listening, failed_opening};
-ghost use Rattle.relay_model.specs.Rest.{Rest, until_of};
-ghost use Rattle.place_openings.specs.Queries.{peer_of_first};
+ghost use Rattle.relay_model.specs.Rest.{Rest, owed, until_of};
+ghost use Rattle.place_openings.specs.Queries.{peer_at, peer_of_first};
 ghost use Rattle.session_direction.specs.Directions.{listed};
 ghost use Rattle.relay_core.specs.declared.wishes.Wish.TheVariants as wishes;
 ghost use Rattle.relay_core.specs.declared.wishes.Answer.TheVariants as answers;
 ghost use Rattle.relay_core.specs.Wishes.{Fits, act_of, reaps_at};
-ghost use Rattle.relay_core.specs.States.{Wished};
+ghost use Rattle.relay_core.specs.States.{Wished, home};
+ghost use Rattle.relay_core.specs.Births.{Begins};
 ghost use Rattle.relay_core.specs.Conditions.{CanBeMade, is_course, is_writing, IsAtOwn};
 ghost use Rattle.relay_core.specs.Told.{told_listening, told_opening};
 
+use crate::first_places::home_of;
 use crate::states::State;
 use crate::wishes::{Answer, Wish};
 use place_openings::GivenUp;
-use relay_model::{Config, NoMemory, Peer, ReadyAt, Why};
+use relay_model::{Config, NoMemory, Peer, Place, ReadyAt, Why};
 use std::alloc::Global;
+
+/// The session of a peer of a command with `fork`, before that peer is asked for. It already has all its memory.
+#[derive(Drop)]
+pub struct Unborn {
+    state: State,
+    home: Place,
+}
+
+impl Unborn {
+    ghost use Rattle.relay_core.specs.Sessions.{IsUnborn, Stands, has_asked_at};
+
+    /// The session with this number, before it begins. It takes all the memory that it will use.
+    pub fn new(alloc: Global, config: &Config, number: u32) -> Result<Unborn, NoMemory>
+        requires { Fit config.now }
+        ensures { IfOk result (λ unborn. IsUnborn config.now number unborn) }
+    {
+        let state = State::unborn(alloc, config, number)?;
+        let home = home_of(config, number);
+        Ok(Unborn { state, home })
+    }
+
+    /// The place that its peer is accepted for.
+    pub fn home(&self) -> Place
+        ensures { (c : Command) (s : ℕ) → IsUnborn c s self.now → result ≡ home c s }
+    {
+        self.home
+    }
+
+    /// The session begins: this peer was accepted for it. `now` is the moment of the last turn.
+    pub fn accepted(self, now: u64, peer: Peer) -> Session
+        ensures may { (c : Command) (n : ℕ) (past : List Act) (s : ℕ) → Begins c n past s peer → owed c past ≡ None → May c n past (acts.Accepted (home c s) peer) }
+        ensures met { (c : Command) (n : ℕ) (past : List Act) (s : ℕ) → Begins c n past s peer → peer_at c (acts.Accepted (home c s) peer ∷ past) (home c s) ≡ Some peer }
+        ensures stands { (c : Command) (n : ℕ) (past : List Act) (s : ℕ) → IsUnborn c s self → Begins c n past s peer → now ≡ last_moment past → Stands c n (acts.Accepted (home c s) peer ∷ past) s result }
+        ensures unasked { (c : Command) (s : ℕ) (p : Location) → IsUnborn c s self → has_asked_at result p ≡ false }
+    {
+        let Unborn { mut state, home } = self;
+        state.born(now, home, peer);
+        let wish = state.plan();
+        Session { state, wish }
+    }
+}
 
 /// One relay between two addresses, as a machine without ports. Each wish is answered before the next one.
 #[derive(Drop)]
@@ -58,8 +102,9 @@ impl Session {
         ensures wished { (c : Command) (n : ℕ) (past : List Act) (s : ℕ) → Stands c n past s self.now → Wished c n past s result }
         ensures going { (c : Command) (n : ℕ) (past : List Act) (s : ℕ) → Stands c n past s self.now → is_course result ≡ true → has_ended self.now ≡ false }
         ensures own { (c : Command) (n : ℕ) (past : List Act) (s : ℕ) → Stands c n past s self.now → IsAtOwn c s result }
-        ensures can { (c : Command) (n : ℕ) (past : List Act) (s : ℕ) → Stands c n past s self.now → Legal c n past → CanBeMade past result }
-        ensures rests { (c : Command) (n : ℕ) (past : List Act) (s : ℕ) (until : Option ℕ) → Stands c n past s self.now → Legal c n past → c.dump ≡ dumps.Off → result ≡ wishes.Sleep until → Rest c past × (until ≡ until_of c past) }
+        ensures can { (c : Command) (n : ℕ) (past : List Act) (s : ℕ) → Stands c n past s self.now → Legal c n past → CanBeMade c s past result }
+        ensures rests { (c : Command) (n : ℕ) (past : List Act) (s : ℕ) (until : Option ℕ) → Stands c n past s self.now → has_fork c ≡ false → s ≡ 0 → Legal c n past → c.dump ≡ dumps.Off → result ≡ wishes.Sleep until → Rest c past × (until ≡ until_of c past) }
+        ensures free { (c : Command) (n : ℕ) (past : List Act) (s : ℕ) (why : Cause) → Stands c n past s self.now → has_fork c ≡ false → s ≡ 0 → Legal c n past → result ≡ wishes.Done why → (p : Location) → standing past p ≡ Free }
         ensures left { (c : Command) (n : ℕ) (past : List Act) (s : ℕ) → Stands c n past s self.now → left_of self.now ≤ 64 }
         ensures children { (c : Command) (n : ℕ) (past : List Act) (s : ℕ) (why : Cause) → Stands c n past s self.now → result ≡ wishes.Done why → AsksEach c past s self.now }
     {
@@ -112,9 +157,11 @@ impl Session {
         self.wish = self.state.plan();
     }
 
-    /// The permitted peer of its first place in opening order, while that is held by one.
+    /// The permitted peer of its first place in opening order, while that is held by one. With `fork` it is the peer that
+    /// the session was begun for.
     pub fn peer(&self) -> Option<Peer>
-        ensures { (c : Command) (n : ℕ) (past : List Act) (s : ℕ) → Stands c n past s self.now → result ≡ peer_of_first c past (places c s) }
+        ensures first { (c : Command) (n : ℕ) (past : List Act) (s : ℕ) → Stands c n past s self.now → result ≡ peer_of_first c past (places c s) }
+        ensures home { (c : Command) (n : ℕ) (past : List Act) (s : ℕ) → Stands c n past s self.now → result ≡ peer_at c past (home c s) }
     {
         self.state.openings.peer_of_first()
     }

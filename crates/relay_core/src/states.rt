@@ -1,6 +1,7 @@
 // The whole state of a session: how far its places have come, its two directions, its timers, and what ends it.
 ghost use Rattle.std.specs.Prelude.{◌≡◌, ℕ, ◌+◌, ◌<◌, ◌≤◌, ◌&&◌, ◌||◌, ◌∷◌, ◌++◌, [], not, List, Option, Some, None, is_some, length, take, true, false, IfOk};
 ghost use Rattle.relay_model.specs.declared.acts.Act.{Act};
+ghost use Rattle.relay_model.specs.declared.acts.Act.TheVariants as acts;
 ghost use Rattle.relay_model.specs.declared.commands.Config.{Config as Command};
 ghost use Rattle.relay_model.specs.declared.places.Place.{Place as Spot};
 ghost use Rattle.place_openings.specs.Steps.{has_asked};
@@ -20,7 +21,7 @@ use crate::lanes::Lanes;
 use crate::moments::{ahead, both, earlier, is_reached, later_by};
 use crate::wishes::Wish;
 use place_openings::{Call, Openings};
-use relay_model::{Config, NoMemory, Place, Why};
+use relay_model::{Config, NoMemory, Peer, Place, Why};
 use std::alloc::Global;
 
 #[derive(Drop)]
@@ -41,7 +42,8 @@ pub struct State {
 
 impl State {
     ghost use Rattle.relay_core.specs.Endings.{Quiet, cause_when_ready, cause_when_tried};
-    ghost use Rattle.relay_core.specs.States.{Ground, Fields, Allowed};
+    ghost use Rattle.relay_core.specs.States.{Ground, Fields, Allowed, home};
+    ghost use Rattle.relay_core.specs.Births.{IsNew, Begins};
     ghost use Rattle.relay_core.specs.Timers.{reachable, session_until};
     ghost use Rattle.place_openings.specs.Answers.{as_call};
     ghost use Rattle.relay_core.specs.Steps.{waiting_for, keeps_for};
@@ -53,19 +55,39 @@ impl State {
         ensures stands { IfOk result (λ st. (n : ℕ) → Fields config.now n [] 0 st) }
         ensures unasked { IfOk result (λ st. (p : Spot) → has_asked st.openings p ≡ false) }
     {
-        let mut state = State {
+        let mut state = State::unborn(alloc, config, 0)?;
+        state.ending = state.cause();
+        Ok(state)
+    }
+
+    /// The session with this number, before anything happened. It takes all the memory that it will use.
+    pub fn unborn(alloc: Global, config: &Config, number: u32) -> Result<State, NoMemory>
+        requires { Fit config.now }
+        ensures { IfOk result (λ st. IsNew config.now number st) }
+    {
+        Ok(State {
             closing: config.closing,
             idle: config.idle,
             sloppy: config.sloppy,
-            openings: Openings::new(config, 0),
-            lanes: Lanes::new(alloc, config)?,
+            openings: Openings::new(config, number),
+            lanes: Lanes::new(alloc, config, number)?,
             clock: 0,
             moved: 0,
             faulted: false,
             ending: None,
-        };
-        state.ending = state.cause();
-        Ok(state)
+        })
+    }
+
+    /// With `fork`: the peer that the session was made for was accepted for its first place.
+    pub fn born(&mut self, now: u64, place: Place, peer: Peer)
+        ensures begun { (c : Command) (n : ℕ) (past : List Act) (s : ℕ) → IsNew c s self.old → Begins c n past s peer → place ≡ home c s → now ≡ last_moment past → Fields c n (acts.Accepted place peer ∷ past) s self.new }
+        ensures asked { (p : Spot) → has_asked self.new.openings p ≡ true → has_asked self.old.openings p ≡ true }
+    {
+        self.openings.accepted(place, peer);
+        self.lanes.opened(place);
+        self.clock = now;
+        self.moved = now;
+        self.ending = self.cause();
     }
 
     // ---- what ends it

@@ -1,4 +1,3 @@
-pub mod Found
 pub mod Heaps
 pub mod Kept
 pub mod Told

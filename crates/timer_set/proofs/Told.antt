@@ -8,7 +8,7 @@ use Rattle.timer_set.specs.Order.{timer_at}
 use Rattle.timer_set.specs.Heaps.{HasPlaces, IsHeap, IsShuffled, IsWithout}
 use Rattle.timer_set.specs.Moments.{slot_of, at_of, moment_of, moments_of, Tells}
 use Rattle.timer_set.specs.Timers.{FallsDueFirst}
-use Rattle.timer_set.proofs.Found.{test_same, test_other}
+use Rattle.key_map.proofs.Found.{test_same, test_other}
 use Rattle.timer_set.proofs.Heaps.{no_timer, by_place, slots_apart, first_of_all}
 
 pub got_inserted : (m : FinMap nat_cmp ℕ) (k v q : ℕ) → q ≡ k → get (insert m k v) q ≡ Some v
@@ -168,13 +168,13 @@ leads es ps n key slot m has within told e =
 found_mapped : (f : ℕ → ℕ) (xs : List (ℕ × ℕ)) (q : ℕ) (x : ℕ) → find nat_cmp q xs ≡ Some x → find nat_cmp q (map (λ (e : ℕ × ℕ). (e.0, f e.1)) xs) ≡ Some (f x)
 found_mapped f [] q x h = not_none _ _ refl h
 found_mapped f (e ∷ xs) q x h =
-    Rattle.timer_set.proofs.Found.by_test q e.0 (λ b. cond b (Some e.1) (find nat_cmp q xs) ≡ Some x → cond b (Some (f e.1)) (find nat_cmp q (map (λ (e : ℕ × ℕ). (e.0, f e.1)) xs)) ≡ Some (f x))
+    Rattle.key_map.proofs.Found.by_test q e.0 (λ b. cond b (Some e.1) (find nat_cmp q xs) ≡ Some x → cond b (Some (f e.1)) (find nat_cmp q (map (λ (e : ℕ × ℕ). (e.0, f e.1)) xs)) ≡ Some (f x))
     (λ same is. ap (λ v. Some (f v)) (some_is _ _ is)) (λ off is. found_mapped f xs q x is) h
 
 missed_mapped : (f : ℕ → ℕ) (xs : List (ℕ × ℕ)) (q : ℕ) → find nat_cmp q xs ≡ None → find nat_cmp q (map (λ (e : ℕ × ℕ). (e.0, f e.1)) xs) ≡ None
 missed_mapped f [] q h = refl
 missed_mapped f (e ∷ xs) q h =
-    Rattle.timer_set.proofs.Found.by_test q e.0 (λ b. cond b (Some e.1) (find nat_cmp q xs) ≡ None → cond b (Some (f e.1)) (find nat_cmp q (map (λ (e : ℕ × ℕ). (e.0, f e.1)) xs)) ≡ None)
+    Rattle.key_map.proofs.Found.by_test q e.0 (λ b. cond b (Some e.1) (find nat_cmp q xs) ≡ None → cond b (Some (f e.1)) (find nat_cmp q (map (λ (e : ℕ × ℕ). (e.0, f e.1)) xs)) ≡ None)
     (λ same is. not_none _ _ is refl) (λ off is. missed_mapped f xs q is) h
 
 pub moment_got : (es : List Timer) (ps : List ℕ) (m : FinMap nat_cmp ℕ) (q slot : ℕ) → get m q ≡ Some slot → get (moments_of es ps m) q ≡ Some (moment_of es ps slot)

@@ -1,4 +1,3 @@
-pub mod Entries
 pub mod Heaps
 pub mod Moments
 pub mod Order

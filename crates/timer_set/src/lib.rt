@@ -2,7 +2,6 @@
 #![tactic(auto)]
 
 mod heap;
-mod key_map;
 mod timer;
 mod timers;
 

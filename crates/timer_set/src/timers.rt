@@ -6,7 +6,7 @@ ghost use Rattle.std.specs.FinMap as map;
 ghost use Rattle.timer_set.specs.Timers.{IsFirst, IsDue, TakenOut};
 
 use crate::heap::Heap;
-use crate::key_map::KeyMap;
+use key_map::KeyMap;
 use relay_model::NoMemory;
 use std::alloc::Global;
 use std::marker::Model;

@@ -13,7 +13,7 @@ returns-in-Ok-clause-tells g c =
     let k = c.args.config.now in
     let n = c.args.turns in
     let o = c.run-why.ensures.course (seen g.W.World.told g.W.World.held g.W.World.faults g.W.World.waits g.W.World.stops g.W.World.clock c.args.world.now) [] (c.in-Ok.ensures.2 n (seen g.W.World.told g.W.World.held g.W.World.faults g.W.World.waits g.W.World.stops g.W.World.clock c.args.world.now) c.requires.free) in
-    let w = c.run-why.ensures.done k n o.past o.course.stands o.course.legal c.requires.runnable.undumped in
+    let w = c.run-why.ensures.done k n o.past c.requires.runnable o.course.stands o.course.legal in
     tells_on (extend o.past o.course.pairs) (g.W.World.told c.args.world.now) (g.W.World.told c.run-why.new.world) o.course.told
 
 pub returns-in-Ok-clause-free : goal.returns-in-Ok-clause-free
@@ -21,7 +21,7 @@ returns-in-Ok-clause-free g c =
     let k = c.args.config.now in
     let n = c.args.turns in
     let o = c.run-why.ensures.course (seen g.W.World.told g.W.World.held g.W.World.faults g.W.World.waits g.W.World.stops g.W.World.clock c.args.world.now) [] (c.in-Ok.ensures.2 n (seen g.W.World.told g.W.World.held g.W.World.faults g.W.World.waits g.W.World.stops g.W.World.clock c.args.world.now) c.requires.free) in
-    let w = c.run-why.ensures.done k n o.past o.course.stands o.course.legal c.requires.runnable.undumped in
+    let w = c.run-why.ensures.done k n o.past c.requires.runnable o.course.stands o.course.legal in
     λ p. o.course.holds p ∙ w.1 p
 
 pub returns-in-Ok-clause-headline : goal.returns-in-Ok-clause-headline
@@ -29,7 +29,7 @@ returns-in-Ok-clause-headline g c =
     let k = c.args.config.now in
     let n = c.args.turns in
     let o = c.run-why.ensures.course (seen g.W.World.told g.W.World.held g.W.World.faults g.W.World.waits g.W.World.stops g.W.World.clock c.args.world.now) [] (c.in-Ok.ensures.2 n (seen g.W.World.told g.W.World.held g.W.World.faults g.W.World.waits g.W.World.stops g.W.World.clock c.args.world.now) c.requires.free) in
-    let w = c.run-why.ensures.done k n o.past o.course.stands o.course.legal c.requires.runnable.undumped in
+    let w = c.run-why.ensures.done k n o.past c.requires.runnable o.course.stands o.course.legal in
     let ends = ends_told k n o.past c.run-why.result _ _ c.outcome.result c.requires.runnable.alone c.cause_is_told.ensures c.failure_is_blamed.ensures c.held_is_own.ensures c.stop_is_told.ensures o.course.legal w.0 o.course.fault o.course.turned (c.outcome.ensures k n o.past o.course.stands o.course.legal) in
     λ before told. record {
       acts = o.past;
@@ -46,7 +46,7 @@ returns-in-Ok-clause-answers g c =
     let k = c.args.config.now in
     let n = c.args.turns in
     let o = c.run-why.ensures.course (seen g.W.World.told g.W.World.held g.W.World.faults g.W.World.waits g.W.World.stops g.W.World.clock c.args.world.now) [] (c.in-Ok.ensures.2 n (seen g.W.World.told g.W.World.held g.W.World.faults g.W.World.waits g.W.World.stops g.W.World.clock c.args.world.now) c.requires.free) in
-    let w = c.run-why.ensures.done k n o.past o.course.stands o.course.legal c.requires.runnable.undumped in
+    let w = c.run-why.ensures.done k n o.past c.requires.runnable o.course.stands o.course.legal in
     let ends = ends_told k n o.past c.run-why.result _ _ c.outcome.result c.requires.runnable.alone c.cause_is_told.ensures c.failure_is_blamed.ensures c.held_is_own.ensures c.stop_is_told.ensures o.course.legal w.0 o.course.fault o.course.turned (c.outcome.ensures k n o.past o.course.stands o.course.legal) in
     ends.relayed
 
@@ -55,7 +55,7 @@ returns-in-Ok-clause-failed g c =
     let k = c.args.config.now in
     let n = c.args.turns in
     let o = c.run-why.ensures.course (seen g.W.World.told g.W.World.held g.W.World.faults g.W.World.waits g.W.World.stops g.W.World.clock c.args.world.now) [] (c.in-Ok.ensures.2 n (seen g.W.World.told g.W.World.held g.W.World.faults g.W.World.waits g.W.World.stops g.W.World.clock c.args.world.now) c.requires.free) in
-    let w = c.run-why.ensures.done k n o.past o.course.stands o.course.legal c.requires.runnable.undumped in
+    let w = c.run-why.ensures.done k n o.past c.requires.runnable o.course.stands o.course.legal in
     let ends = ends_told k n o.past c.run-why.result _ _ c.outcome.result c.requires.runnable.alone c.cause_is_told.ensures c.failure_is_blamed.ensures c.held_is_own.ensures c.stop_is_told.ensures o.course.legal w.0 o.course.fault o.course.turned (c.outcome.ensures k n o.past o.course.stands o.course.legal) in
     λ h. o.course.blamed (ends.failed h)
 
@@ -64,7 +64,7 @@ returns-in-Ok-clause-stopped g c =
     let k = c.args.config.now in
     let n = c.args.turns in
     let o = c.run-why.ensures.course (seen g.W.World.told g.W.World.held g.W.World.faults g.W.World.waits g.W.World.stops g.W.World.clock c.args.world.now) [] (c.in-Ok.ensures.2 n (seen g.W.World.told g.W.World.held g.W.World.faults g.W.World.waits g.W.World.stops g.W.World.clock c.args.world.now) c.requires.free) in
-    let w = c.run-why.ensures.done k n o.past o.course.stands o.course.legal c.requires.runnable.undumped in
+    let w = c.run-why.ensures.done k n o.past c.requires.runnable o.course.stands o.course.legal in
     let ends = ends_told k n o.past c.run-why.result _ _ c.outcome.result c.requires.runnable.alone c.cause_is_told.ensures c.failure_is_blamed.ensures c.held_is_own.ensures c.stop_is_told.ensures o.course.legal w.0 o.course.fault o.course.turned (c.outcome.ensures k n o.past o.course.stands o.course.legal) in
     stop_of c.outcome.result n _ _ _ _ _ o.past ends.stopped o.course.turned o.course.stopped o.course.waited
 
@@ -73,7 +73,7 @@ returns-in-Ok-clause-complete g c =
     let k = c.args.config.now in
     let n = c.args.turns in
     let o = c.run-why.ensures.course (seen g.W.World.told g.W.World.held g.W.World.faults g.W.World.waits g.W.World.stops g.W.World.clock c.args.world.now) [] (c.in-Ok.ensures.2 n (seen g.W.World.told g.W.World.held g.W.World.faults g.W.World.waits g.W.World.stops g.W.World.clock c.args.world.now) c.requires.free) in
-    let w = c.run-why.ensures.done k n o.past o.course.stands o.course.legal c.requires.runnable.undumped in
+    let w = c.run-why.ensures.done k n o.past c.requires.runnable o.course.stands o.course.legal in
     let ends = ends_told k n o.past c.run-why.result _ _ c.outcome.result c.requires.runnable.alone c.cause_is_told.ensures c.failure_is_blamed.ensures c.held_is_own.ensures c.stop_is_told.ensures o.course.legal w.0 o.course.fault o.course.turned (c.outcome.ensures k n o.past o.course.stands o.course.legal) in
     completes_by c.outcome.result n _ _ _ _ _ _ ends.relayed (λ h. o.course.blamed (ends.failed h)) (stop_of c.outcome.result n _ _ _ _ _ o.past ends.stopped o.course.turned o.course.stopped o.course.waited)
 

@@ -17,7 +17,10 @@ pub send-requires-clause-own : goal.send-requires-clause-own
 send-requires-clause-own g c = λ k n past stands. c.in-Send.ensures.own k n past 0 stands
 
 pub returns-in-Sleep-clause-paused : goal.returns-in-Sleep-clause-paused
-returns-in-Sleep-clause-paused g c = λ k n past stands legal undumped. c.in-Sleep.ensures.rests k n past 0 _ stands legal undumped refl
+returns-in-Sleep-clause-paused g c = λ k n past runnable stands legal. c.in-Sleep.ensures.rests k n past 0 _ stands runnable.alone refl legal runnable.undumped refl
+
+pub returns-in-Done-clause-paused : goal.returns-in-Done-clause-paused
+returns-in-Done-clause-paused g c = λ k n past runnable stands legal. (c.in-Done.ensures.wished k n past 0 stands, c.in-Done.ensures.free k n past 0 _ stands runnable.alone refl legal refl)
 
 pub returns-in-Settle-clause-course : goal.returns-in-Settle-clause-course
 returns-in-Settle-clause-course g c = c.settle.ensures.course c.args.config.now

@@ -4,7 +4,7 @@ use Rattle.event_loop.proofs.drivers.Driver.wait.Goals as goal
 
 pub returns-in-Turned-clause-course : goal.returns-in-Turned-clause-course
 returns-in-Turned-clause-course g c = λ k start past on.
-    let w = c.requires.paused k c.args.turns past on.stands on.legal on.runnable.undumped in
+    let w = c.requires.paused k c.args.turns past on.runnable on.stands on.legal in
     turned_on k c.args.turns start _ _ c.args.self.now _ past c.args.until c.in-Turned.at _ c.in-Turned.stop on c.in-Turned.ensures.act (omega (arith, on.turned, c.requires.few)) w.0 w.1 (c.hear_turn.ensures k c.args.turns past c.args.until c.requires.pause.0 on.stands) refl refl c.in-Turned.ensures.faults c.in-Turned.ensures.counts
 
 pub returns-in-Memory-clause-course : goal.returns-in-Memory-clause-course

@@ -1,3 +1,4 @@
+use Rattle.relay_core.proofs.Homes.{held_away}
 use Rattle.std.proofs.Common.{refl}
 use Rattle.relay_model.specs.declared.acts.Act.TheVariants as acts
 use Rattle.relay_model.specs.Openings as calls
@@ -7,8 +8,10 @@ use Rattle.relay_core.proofs.states.State.listening.Goals as goal
 pub returns-clause-goes : goal.returns-clause-goes
 returns-clause-goes c = λ k n past s f a.
     let own = own_of k n past s c.args.self.now (calls.Listen c.args.door) f a.1 a.0 in
-    opening_step k n past s _ c.args.self.now _ _ f a.1 refl refl
-    (λ o. (o, called_there k n past s c.args.self.now (calls.Listen c.args.door) c.args.door f a.0 own.of))
+    opening_step k n past s _ c.args.self.now _ _ f a.1
+    (held_away k past s (calls.Listen c.args.door) c.args.door (acts.Listening c.args.door) f.ground.fit a.0 refl refl (λ p x. x))
+    refl refl
+    (λ o. (o, called_there k n past s c.args.self.now (calls.Listen c.args.door) c.args.door f a.0 refl own.of))
     (record { clock_same = refl; closing_same = refl; idle_same = refl; sloppy_same = refl })
     (c.listening.ensures.goes k past s f.ground.openings_are)
     (c.unmoved.ensures.untouched k past s (acts.Listening c.args.door) f.ground.lanes_are refl refl)

@@ -6,7 +6,7 @@ use Rattle.relay_core.proofs.states.State.named.Goals as goal
 
 pub returns-clause-goes : goal.returns-clause-goes
 returns-clause-goes c = λ k past s until at names h.
-    heeds_step k (acts.Turn until at (listed names) false ∷ past) (acts.Turn until at (listed (names ++ c.args.entry ∷ [])) false ∷ past) s c.args.self.now _ _ h.ground
+    heeds_step k (acts.Turn until at (listed names) false ∷ past) (acts.Turn until at (listed (names ++ c.args.entry ∷ [])) false ∷ past) s c.args.self.now _ _ h.ground h.ground.begun h.ground.home_held
     (c.named.ensures.goes k past s until at names h.ground.openings_are)
     (c.named-2.ensures k past s until at names h.ground.lanes_are)
     h.ground.clock_is h.ground.moved_is h.ground.faulted_is refl refl refl

@@ -1,3 +1,4 @@
+use Rattle.relay_core.proofs.Homes.{held_away}
 use Rattle.std.proofs.Common.{refl, inl, inr}
 use Rattle.relay_model.specs.declared.acts.Act.TheVariants as acts
 use Rattle.relay_model.specs.Openings as calls
@@ -7,8 +8,10 @@ use Rattle.relay_core.proofs.states.State.open_failed.Goals as goal
 pub returns-clause-goes : goal.returns-clause-goes
 returns-clause-goes c = λ k n past s f a.
     let own = own_of k n past s c.args.self.now (calls.Open c.args.place) f a.1 a.0 in
-    opening_step k n past s _ c.args.self.now _ _ f a.1 refl refl
-    (λ o. (o, inl (called_there k n past s c.args.self.now (calls.Open c.args.place) c.args.place f a.0 own.0.of)))
+    opening_step k n past s _ c.args.self.now _ _ f a.1
+    (held_away k past s (calls.Open c.args.place) c.args.place (acts.OpenFailed c.args.place) f.ground.fit a.0 refl refl (λ p x. x))
+    refl refl
+    (λ o. (o, inl (called_there k n past s c.args.self.now (calls.Open c.args.place) c.args.place f a.0 refl own.0.of)))
     (record { clock_same = refl; closing_same = refl; idle_same = refl; sloppy_same = refl })
     (c.open_failed.ensures.goes k past s f.ground.openings_are own.1 f.ground.clock_is)
     (c.unmoved.ensures.untouched k past s (acts.OpenFailed c.args.place) f.ground.lanes_are refl refl)
@@ -22,8 +25,10 @@ returns-clause-goes c = λ k n past s f a.
 pub returns-clause-settles : goal.returns-clause-settles
 returns-clause-settles c = λ k n past s f a.
     let own = own_of k n past s c.args.self.now (calls.Settle c.args.place) f a.1 a.0 in
-    opening_step k n past s _ c.args.self.now _ _ f a.1 refl refl
-    (λ o. (o, inr (called_there k n past s c.args.self.now (calls.Settle c.args.place) c.args.place f a.0 own.0.of)))
+    opening_step k n past s _ c.args.self.now _ _ f a.1
+    (held_away k past s (calls.Settle c.args.place) c.args.place (acts.OpenFailed c.args.place) f.ground.fit a.0 refl refl (λ p x. x))
+    refl refl
+    (λ o. (o, inr (called_there k n past s c.args.self.now (calls.Settle c.args.place) c.args.place f a.0 refl own.0.of)))
     (record { clock_same = refl; closing_same = refl; idle_same = refl; sloppy_same = refl })
     (c.open_failed.ensures.goes k past s f.ground.openings_are own.1 f.ground.clock_is)
     (c.unmoved.ensures.untouched k past s (acts.OpenFailed c.args.place) f.ground.lanes_are refl refl)

@@ -7,7 +7,7 @@ use Rattle.relay_core.proofs.states.State.woken.Goals as goal
 
 pub returns-clause-goes : goal.returns-clause-goes
 returns-clause-goes c = λ k past s until g q.
-    heeds_step k past (acts.Turn until c.args.at (listed []) false ∷ past) s c.args.self.now _ _ g
+    heeds_step k past (acts.Turn until c.args.at (listed []) false ∷ past) s c.args.self.now _ _ g g.begun g.home_held
     (c.woken.ensures.goes k past s until c.args.at g.openings_are)
     (c.woken-2.ensures k past s until c.args.at g.lanes_are)
     refl g.moved_is g.faulted_is refl refl refl

@@ -1,7 +1,7 @@
 use Rattle.std.proofs.Common.{◌≡◌, ◌≤◌, ◌+◌, ◌-◌, vec_len, length, ap, sym, ◌∙◌, arith}
 use Rattle.std.specs.FinMap.{get}
 use Rattle.timer_set.specs.Timers.{Timers}
-use Rattle.timer_set.proofs.Found.{chosen_some, chosen_none, same_without}
+use Rattle.key_map.proofs.Found.{chosen_some, chosen_none, same_without}
 use Rattle.timer_set.proofs.Told.{moment_got, moment_missed}
 use Rattle.timer_set.proofs.Kept.{slots_without, moments_without}
 use Rattle.timer_set.proofs.timers.TimerSet.clear.Goals as goal

@@ -1,7 +1,7 @@
 use Rattle.std.proofs.Common.{◌≡◌, ◌≤◌, ◌+◌, ◌-◌, vec_len, length, ap, sym, ◌∙◌, arith}
 use Rattle.std.specs.FinMap.{get}
 use Rattle.timer_set.specs.Timers.{Timers}
-use Rattle.timer_set.proofs.Found.{chosen_some, chosen_none}
+use Rattle.key_map.proofs.Found.{chosen_some, chosen_none}
 use Rattle.timer_set.proofs.Told.{moment_got, moment_missed}
 use Rattle.timer_set.proofs.Kept.{slots_changed, moments_changed, slots_more, moments_more}
 use Rattle.timer_set.proofs.timers.TimerSet.set.Goals as goal

@@ -1,0 +1,5 @@
+pub mod Beginnings
+pub mod Ending
+pub mod Grounds
+pub mod Kept
+pub mod Standing
