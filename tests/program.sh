@@ -1,11 +1,19 @@
 #!/usr/bin/env bash
-# Runs the built program on the standard streams, with readers, writers and devices that fail, and has it write journals.
-# One line a case, and 'N passed, M failed' at the end; the status is 1 where a case failed.
-# Usage: tests/program.sh [PROGRAM]      (bin/socat where none is given)
+# Runs the built program on the standard streams, files, named pipes and children, with readers, writers and devices that
+# fail, and has it write journals. One line a case, and 'N passed, M failed' at the end; the status is 1 where a case
+# failed.
+# Usage: tests/program.sh [PROGRAM [PART..]]      (bin/socat where none is given, and all parts)
 set -u
 
 . "$(dirname "${BASH_SOURCE[0]}")/common.sh"
 use_program "${1:-$here/bin/socat}"
+. "$here/tests/relays.sh"
+python=''
+if command -v python3 >/dev/null; then
+    . "$here/tests/sockets/common.sh"
+else
+    echo "skipped what talks to peers: there is no python3"
+fi
 
 # The bytes with the values 0 to 255, some times over.
 all_bytes() {
@@ -38,15 +46,11 @@ passes() {
     report "$1" "$problem"
 }
 
-# said LINE: standard error was just this line.
-said() {
-    printf '%s\n' "$1" | cmp -s - "$scratch/err"
-}
-
 # said_write_failed: standard error was one line on a failed write, which names the side where the run still heard of
 # it, and standard output where it was over.
 said_write_failed() {
-    said 'socat: write failed on the right' || said 'socat: write failed on standard output'
+    said "$scratch/err" 'socat: write failed on the right' ||
+        said "$scratch/err" 'socat: write failed on standard output'
 }
 
 # 100 MB of lines.
@@ -67,15 +71,17 @@ after() {
     watch=$!
 }
 
-# finish PID WATCH: waits for the process and ends its watch. Its status is `status`.
-finish() {
+# end_watched PID WATCH: waits for the process and ends its watch. Its status is `status`.
+end_watched() {
     wait "$1" 2>/dev/null
     status=$?
     kill "$2" 2>/dev/null
     wait "$2" 2>/dev/null
 }
 
-for part in streams journals; do
+parts=("${@:2}")
+[ "${#parts[@]}" -gt 0 ] || parts=(streams journals files options endings children)
+for part in "${parts[@]}"; do
     . "$here/tests/program/$part.sh"
 done
 
