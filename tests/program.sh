@@ -36,6 +36,7 @@ passes() {
     local problem='' status
     timeout 60 "$program" "${relay[@]}" <"$2" >"$scratch/out" 2>"$scratch/err"
     status=$?
+    keep_last "$status" "$2" "$scratch/out"
     if [ "$status" -ne 0 ]; then
         problem="status $status"
     elif [ -s "$scratch/err" ]; then
@@ -85,5 +86,6 @@ for part in "${parts[@]}"; do
     . "$here/tests/program/$part.sh"
 done
 
+judge_runs
 echo "$passed passed, $failed failed"
 [ "$failed" -eq 0 ]

@@ -35,9 +35,11 @@ nap() { read -rt "$1" -u 8 _; }
 
 begin() {
     name="$1"
+    audited_case "$name"
     problem=''
     left_out=''
     peers=0
+    begun="${EPOCHREALTIME/[.,]/}"
     rm -f socket called served
     given ''
 }
@@ -145,6 +147,7 @@ start() {
     "${using:-$program}" "$@" <"$input" >"$tag.out" 2>"$tag.err" 8<&- &
     pids[$tag]=$!
     begun="${EPOCHREALTIME/[.,]/}"
+    keep_input "${pids[$tag]}" "$input"
 }
 
 # await TAG: waits for its end. `status` is what it ended with, and `took` the milliseconds since the last start.
@@ -161,6 +164,7 @@ await() {
     wait "$pid" 2>/dev/null
     status=$?
     unset "pids[$1]"
+    keep_run "$pid" "$status" "$1.out"
 }
 
 # ended TAG STATUS OUTPUT LINE: waits for its end, and looks at its status, its output and its one line ('' for none).
@@ -189,6 +193,12 @@ wrong_if() { [ -z "$1" ] || wrong "$1"; }
 run() {
     start relay "${@:4}"
     ended relay "$1" "$2" "$3"
+}
+
+# run_to_end WORD..: a relay from its start to its end; `status` is what it ended with.
+run_to_end() {
+    start relay "$@"
+    await relay
 }
 
 # between LEAST MOST: the last relay took so many milliseconds.

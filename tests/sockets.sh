@@ -22,5 +22,6 @@ for part in "${parts[@]}"; do
     . "$here/tests/sockets/$part.sh"
 done
 
+judge_runs
 echo "$passed passed, $failed failed"
 [ "$failed" -eq 0 ]

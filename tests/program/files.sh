@@ -787,8 +787,7 @@ is_large() {
 # carries STATUS WORD..: the relay of the words ends so, with the 100 MB as its input.
 carries() {
     input=files/large
-    start relay "${@:2}"
-    await relay
+    unaudited run_to_end "${@:2}"
     [ "$status" -eq "$1" ] || wrong "status $status, said $(head -c 200 relay.err)"
     said relay.err '' || wrong "it said $(head -c 200 relay.err)"
 }
@@ -836,8 +835,7 @@ finish
 begin "100 MB there and back through two files at once"
 cp files/large files/other
 input=idle
-start relay -t60 'OPEN:files/large!!CREATE:files/copy' 'OPEN:files/other!!CREATE:files/more'
-await relay
+unaudited run_to_end -t60 'OPEN:files/large!!CREATE:files/copy' 'OPEN:files/other!!CREATE:files/more'
 [ "$status" -eq 0 ] || wrong "status $status, said $(head -c 200 relay.err)"
 is_large copy
 is_large more
