@@ -128,6 +128,19 @@ given_slowly() {
     input=slow
 }
 
+# given_by_hand: what `give` gives, up to `give_end`.
+given_by_hand() {
+    rm -f hand
+    mkfifo hand
+    exec 6<>hand
+    input=hand
+}
+
+give() { printf '%b' "$1" >&6; }
+
+# The relay has opened its input by then.
+give_end() { exec 6>&-; }
+
 write_slowly() {
     trap - EXIT
     while [ $# -gt 0 ]; do
@@ -144,7 +157,9 @@ start() {
     local tag="$1"
     shift
     rm -f "$tag.out" "$tag.err"
-    "${using:-$program}" "$@" <"$input" >"$tag.out" 2>"$tag.err" 8<&- &
+    # An input without end is no input for a journal.
+    [ "$input" != /dev/zero ] || local -x UNAUDITED=yes
+    "${using:-$program}" "$@" <"$input" >"$tag.out" 2>"$tag.err" 6<&- 7<&- 8<&- &
     pids[$tag]=$!
     begun="${EPOCHREALTIME/[.,]/}"
     keep_input "${pids[$tag]}" "$input"

@@ -106,15 +106,21 @@ finish
 begin "two children, both ways"
 with_files
 given_nothing
-run 0 '' '' -t10 'SYSTEM:echo from one; cat >files/one; mv files/one files/first' \
-    'SYSTEM:echo from two; cat >files/two; mv files/two files/second'
+run 0 '' '' -t10 'SYSTEM:echo from one; exec >files/one; cat; mv files/one files/first' \
+    'SYSTEM:echo from two; exec >files/two; cat; mv files/two files/second'
 soon_is first 'from two\n'
 soon_is second 'from one\n'
 finish
 
 # --- words
 
-begin "EXEC: runs of spaces part the words, at the front and the end too"
+begin "EXEC: runs of spaces part the words"
+given_nothing
+run 0 'a b\n' '' -u 'EXEC:echo   a    b' STDOUT
+finish
+
+# In socat(1) the name of the program is then empty.
+begin_own "EXEC: spaces at the front and the end"
 given_nothing
 run 0 'a b\n' '' -u 'EXEC:  echo   a    b  ' STDOUT
 finish
@@ -176,12 +182,28 @@ run 0 "a  value\n$PWD\n" '' -u 'SYSTEM:echo \"$SEEN_BY_CHILDREN\"; pwd' STDOUT
 unset SEEN_BY_CHILDREN
 finish
 
-# A child has its three streams and nothing else of the program's; `ls` itself opens one more.
-begin "a child has no other descriptors"
+# start_bare WORD..: a relay that has the three standard streams, and nothing else that this script holds.
+start_bare() {
+    rm -f relay.out relay.err
+    (
+        trap - EXIT
+        for held in "/proc/$BASHPID/fd/"*; do
+            held="${held##*/}"
+            [ "$held" -le 2 ] || [ "$held" -ge 255 ] || eval "exec $held>&-"
+        done
+        exec "$program" "$@"
+    ) <"$input" >relay.out 2>relay.err &
+    pids[relay]=$!
+}
+
+# A child has its three streams and nothing else of the program's, other than in socat(1); `ls` itself opens one more.
+begin_own "a child has no other descriptors"
 given_nothing
-run 0 '0\n1\n2\n3\n' '' -u 'EXEC:ls /proc/self/fd' STDOUT
+start_bare -u 'EXEC:ls /proc/self/fd' STDOUT
+ended relay 0 '0\n1\n2\n3\n' ''
 given ''
-run 0 '0\n1\n2\n3\n' '' -t10 STDIO 'EXEC:ls /proc/self/fd'
+start_bare -t10 STDIO 'EXEC:ls /proc/self/fd'
+ended relay 0 '0\n1\n2\n3\n' ''
 finish
 
 begin "in one-way use the other stream is the program's own"
@@ -192,18 +214,19 @@ finish
 
 # --- how children end
 
-begin "a child with another status than 0"
+# In socat(1) the status of a child becomes the relay's.
+begin_own "a child with another status than 0"
 given_nothing
 run 0 'hi\n' '' -u 'SYSTEM:echo hi; exit 3' STDOUT
 run 0 '' '' -u EXEC:false STDOUT
 finish
 
-begin "a child that is killed"
+begin_own "a child that is killed"
 given_nothing
 run 0 'hi\n' '' -u 'SYSTEM:echo hi; kill -9 $$' STDOUT
 finish
 
-begin "SYSTEM: a command that isn't there, and words that no shell reads"
+begin_own "SYSTEM: a command that isn't there, and words that no shell reads"
 given_nothing
 for command in none-of-these-commands 'echo hi; fi'; do
     start relay -u "SYSTEM:$command" STDOUT
@@ -239,7 +262,8 @@ run 0 'r\n' '' STDIO 'SYSTEM:echo r'
 between 0 8000
 finish
 
-begin "a child that closes its output and lives: one way"
+# socat(1) gives a child one socket for both streams, so one of them alone can't be closed.
+begin_own "a child that closes its output and lives: one way"
 with_files
 given_nothing
 run 0 '' '' -u 'SYSTEM:echo $$ >files/pid; exec sleep 30 >&-' STDOUT
@@ -247,7 +271,7 @@ between 0 8000
 kill_child pid
 finish
 
-begin "a child that closes its output and lives: the closing time ends it"
+begin_own "a child that closes its output and lives: the closing time ends it"
 with_files
 given_nothing
 run 0 '' '' -t0.5 STDIO 'SYSTEM:echo $$ >files/pid; exec sleep 30 >&-'
@@ -262,7 +286,7 @@ run 0 '' '' -t10 STDIO 'SYSTEM:exec >&-; cat >files/new; mv files/new files/done
 soon_is done ab
 finish
 
-begin "a child that closes its input and lives: what is written fails"
+begin_own "a child that closes its input and lives: what is written fails"
 with_files
 input=/dev/zero
 start relay -u STDIN 'SYSTEM:echo $$ >files/pid; exec sleep 30 <&-'
@@ -272,8 +296,8 @@ await relay
 kill_child pid
 finish
 
-# The end of a child isn't the end of its output.
-begin "a child that ends, and another that goes on with its output"
+# The end of a child isn't the end of its output, other than in socat(1).
+begin_own "a child that ends, and another that goes on with its output"
 given_nothing
 run 0 'first\nlate\n' '' -u 'SYSTEM:(sleep 1; echo late) & echo first' STDOUT
 between 950 10000
@@ -403,7 +427,7 @@ kill_child pid
 rm -f files/pid
 finish
 
-begin "a child that reads nothing and closes its output while 100 MB wait: -t ends it"
+begin_own "a child that reads nothing and closes its output while 100 MB wait: -t ends it"
 input=files/large
 unaudited run_to_end -t0.5 STDIO 'SYSTEM:echo $$ >files/pid; exec sleep 30 >&-'
 [ "$status" -eq 0 ] || wrong "status $status, said $(head -c 200 relay.err)"
@@ -498,9 +522,9 @@ if [ -n "$python" ]; then
     limit="$usual_limit"
     finish
 
-    begin "a child has no socket of the program"
+    begin_own "a child has no socket of the program"
     given_nothing
-    start relay -t10 TCP4-LISTEN:0 'EXEC:ls /proc/self/fd'
+    start_bare -t10 TCP4-LISTEN:0 'EXEC:ls /proc/self/fd'
     peer connect tcp4 "/@${pids[relay]}" shut read
     ended relay 0 '' ''
     told 1 '0\n1\n2\n3\n'

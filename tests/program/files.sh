@@ -184,10 +184,13 @@ finish
 
 begin "OPEN,append writes at the end also where the file has grown"
 with_files old abc
-given_slowly 1 0.5 2
+given_by_hand
 start relay -u STDIN OPEN:files/old,append
+give 1
 soon_is old abc1
 printf d >>files/old
+give 2
+give_end
 ended relay 0 '' ''
 file_is old abc1d2
 finish
@@ -350,10 +353,13 @@ finish
 
 begin "OPEN,unlink-close where the file has gone before"
 with_files old ''
-given_slowly '' 0.4 XY
+given_by_hand
 start relay -u STDIN OPEN:files/old,unlink-close
-nap 0.2
+give X
+soon_is old X
 mv files/old files/moved
+give Y
+give_end
 ended relay 0 '' ''
 file_is moved XY
 finish
