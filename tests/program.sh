@@ -3,6 +3,7 @@
 # fail, and has it write journals. One line a case, and 'N passed, M failed' at the end; the status is 1 where a case
 # failed.
 # Usage: tests/program.sh [PROGRAM [PART..]]      (bin/socat where none is given, and all parts)
+# LARGE is the number of bytes that stands for 100 MB, for a program that is slow.
 set -u
 
 . "$(dirname "${BASH_SOURCE[0]}")/common.sh"
@@ -56,7 +57,7 @@ said_write_failed() {
 
 # 100 MB of lines.
 large() {
-    seq 1 20000000 | head -c 104857600
+    seq 1 20000000 | head -c "${LARGE:-104857600}"
 }
 
 # after SECONDS PID: kills the process if it is still there by then.

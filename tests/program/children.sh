@@ -11,6 +11,14 @@ kill_child() {
     kill -KILL "$pid" 2>/dev/null || wrong "the child has gone"
 }
 
+# goes_on PID: it runs, and isn't just waited for.
+goes_on() {
+    local stat
+    stat="$(cat "/proc/$1/stat" 2>/dev/null)" || return 1
+    stat="${stat##*) }"
+    [ "${stat%% *}" != Z ]
+}
+
 # --- each way and both
 
 for kind in EXEC SYSTEM; do
@@ -317,8 +325,14 @@ given_nothing
 timeout "$limit" "$program" -u 'SYSTEM:echo $$ >files/pid; exec yes' STDOUT 2>relay.err 8<&- | head -c 10 >files/taken
 status="${PIPESTATUS[0]}"
 [ "$status" -eq 1 ] || wrong "status $status"
-nap 0.5
-! kill -KILL "$(pid_of pid)" 2>/dev/null || wrong "the child goes on"
+last=$((SECONDS + 5))
+while goes_on "$(pid_of pid)"; do
+    if [ "$SECONDS" -gt "$last" ]; then
+        wrong "the child goes on"
+        kill -KILL "$(pid_of pid)"
+    fi
+    nap 0.1
+done
 finish
 
 # --- programs that can't be run. socat(1) forks first, and hears of it by the child's end.

@@ -133,17 +133,11 @@ no_reader() {
     exec 7<>files/pipe
 }
 
-for row in 'TERM 143' 'INT 130' 'HUP 129'; do
+for row in 'TERM 143' 'HUP 129'; do
     begin "SIG${row% *} while bytes wait for a named pipe"
     no_reader
     input=/dev/zero
-    # What a shell starts in the background doesn't hear SIGINT, unless it asks for it.
-    rm -f relay.out relay.err
-    "$python" -c '
-import os, signal, sys
-signal.signal(signal.SIGINT, signal.SIG_DFL)
-os.execv(sys.argv[1], sys.argv[1:])' "$program" -u STDIN OPEN:files/pipe </dev/zero >relay.out 2>relay.err 8<&- &
-    pids[relay]=$!
+    start relay -u STDIN OPEN:files/pipe
     ends_by "${row% *}" "${row#* }"
     exec 7>&-
     finish
@@ -309,6 +303,16 @@ look_at() {
     looks="$(entries_of "/proc/$pid/fd") $(find "/proc/$pid/task" -mindepth 1 -maxdepth 1 2>/dev/null | wc -l) $(children_of "$pid")"
 }
 
+# settled TAG: looks until it holds the same for half a second.
+settled() {
+    local before='' last=$((SECONDS + limit))
+    until [ "${looks:-}" = "$before" ] && [ -n "$before" ] || [ "$SECONDS" -gt "$last" ]; do
+        before="${looks:-}"
+        nap 0.5
+        look_at "$1"
+    done
+}
+
 # looks_stay NAME: it holds so many descriptors, threads and children as before.
 looks_stay() {
     local before="$looks"
@@ -322,8 +326,9 @@ tries_cost_nothing() {
     given_nothing
     start relay -g "$@"
     nap 0.5
-    look_at relay
-    nap 0.8
+    looks=''
+    settled relay
+    nap 0.5
     looks_stay "$*"
     terminate relay
     await relay
@@ -346,11 +351,10 @@ if [ -d /proc/self/task ]; then
     exec 7<>files/pipe
     input=files/pipe
     start relay -t60 STDIO 'OPEN:files/old!!CREATE:files/new'
-    nap 0.3
     printf a >&7
-    nap 0.1
-    # The file may be closed by now or stay until the end; no piece adds anything.
-    look_at relay
+    soon_is new a
+    looks=''
+    settled relay
     for piece in b c d e f g h i j k; do
         printf '%s' "$piece" >&7
         nap 0.02

@@ -684,10 +684,13 @@ wrong_if "$(same relay.out "$scratch/binary")"
 finish
 
 begin "PIPE STDIO: pieces come back as they come"
-given_slowly a 0.3 b 0.3 c
+given_by_hand
 start relay -t5 PIPE STDIO
+give a
 until_there relay.out
 wrong_if "$(holds relay.out a)"
+give bc
+give_end
 ended relay 0 abc ''
 finish
 
