@@ -73,7 +73,7 @@ begin "50 Unix listeners in a row at one file"
 for round in {1..50}; do
     given "$round"
     start relay -t10 UNIX-LISTEN:served STDIO
-    start caller -t10 STDIO UNIX-CONNECT:served,retry=100,interval=0.01
+    start caller -t10 STDIO UNIX-CONNECT:served,retry=1000,interval=0.01
     ended caller 0 "$round" ''
     ended relay 0 "$round" ''
     [ ! -e served ] || wrong "the file is still there in round $round"
