@@ -4,6 +4,8 @@ here="$(cd "$(dirname "${BASH_SOURCE[0]}")/.." && pwd)"
 passed=0
 failed=0
 
+. "$here/tests/audits.sh"
+
 # use_program PROGRAM: takes this program, and makes the scratch folder, which goes out with the script.
 use_program() {
     program="$1"
@@ -18,6 +20,7 @@ use_program() {
     fi
     scratch="$(mktemp -d)" || exit 1
     trap 'rm -rf "$scratch"' EXIT
+    [ -z "${AUDITOR:-}" ] || audit_runs
 }
 
 # report NAME PROBLEM: a case passed where no problem is named.
@@ -36,8 +39,11 @@ report() {
 try() {
     local name="$1" wanted="$2" input="$3" output="$4" line="$5" status problem=''
     shift 5
-    printf '%b' "$input" | timeout 60 "$program" "$@" >"$scratch/out" 2>"$scratch/err"
+    printf '%b' "$input" >"$scratch/offered"
+    # shellcheck disable=SC2002
+    cat "$scratch/offered" | timeout 60 "$program" "$@" >"$scratch/out" 2>"$scratch/err"
     status="${PIPESTATUS[1]}"
+    keep_last "$status" "$scratch/offered" "$scratch/out"
     printf '%b' "$output" >"$scratch/wanted"
     [ -z "$line" ] || printf '%s\n' "$line" >"$scratch/line"
     [ -n "$line" ] || : >"$scratch/line"

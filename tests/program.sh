@@ -1,11 +1,20 @@
 #!/usr/bin/env bash
-# Runs the built program on the standard streams, with readers, writers and devices that fail, and has it write journals.
-# One line a case, and 'N passed, M failed' at the end; the status is 1 where a case failed.
-# Usage: tests/program.sh [PROGRAM]      (bin/socat where none is given)
+# Runs the built program on the standard streams, files, named pipes and children, with readers, writers and devices that
+# fail, and has it write journals. One line a case, and 'N passed, M failed' at the end; the status is 1 where a case
+# failed.
+# Usage: tests/program.sh [PROGRAM [PART..]]      (bin/socat where none is given, and all parts)
+# LARGE is the number of bytes that stands for 100 MB, for a program that is slow.
 set -u
 
 . "$(dirname "${BASH_SOURCE[0]}")/common.sh"
 use_program "${1:-$here/bin/socat}"
+. "$here/tests/relays.sh"
+python=''
+if command -v python3 >/dev/null; then
+    . "$here/tests/sockets/common.sh"
+else
+    echo "skipped what talks to peers: there is no python3"
+fi
 
 # The bytes with the values 0 to 255, some times over.
 all_bytes() {
@@ -28,6 +37,7 @@ passes() {
     local problem='' status
     timeout 60 "$program" "${relay[@]}" <"$2" >"$scratch/out" 2>"$scratch/err"
     status=$?
+    keep_last "$status" "$2" "$scratch/out"
     if [ "$status" -ne 0 ]; then
         problem="status $status"
     elif [ -s "$scratch/err" ]; then
@@ -38,20 +48,16 @@ passes() {
     report "$1" "$problem"
 }
 
-# said LINE: standard error was just this line.
-said() {
-    printf '%s\n' "$1" | cmp -s - "$scratch/err"
-}
-
 # said_write_failed: standard error was one line on a failed write, which names the side where the run still heard of
 # it, and standard output where it was over.
 said_write_failed() {
-    said 'socat: write failed on the right' || said 'socat: write failed on standard output'
+    said "$scratch/err" 'socat: write failed on the right' ||
+        said "$scratch/err" 'socat: write failed on standard output'
 }
 
 # 100 MB of lines.
 large() {
-    seq 1 20000000 | head -c 104857600
+    seq 1 20000000 | head -c "${LARGE:-104857600}"
 }
 
 # after SECONDS PID: kills the process if it is still there by then.
@@ -67,17 +73,20 @@ after() {
     watch=$!
 }
 
-# finish PID WATCH: waits for the process and ends its watch. Its status is `status`.
-finish() {
+# end_watched PID WATCH: waits for the process and ends its watch. Its status is `status`.
+end_watched() {
     wait "$1" 2>/dev/null
     status=$?
     kill "$2" 2>/dev/null
     wait "$2" 2>/dev/null
 }
 
-for part in streams journals; do
+parts=("${@:2}")
+[ "${#parts[@]}" -gt 0 ] || parts=(streams journals files options endings children)
+for part in "${parts[@]}"; do
     . "$here/tests/program/$part.sh"
 done
 
+judge_runs
 echo "$passed passed, $failed failed"
 [ "$failed" -eq 0 ]

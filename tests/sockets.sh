@@ -8,6 +8,12 @@ set -u
 
 . "$(dirname "${BASH_SOURCE[0]}")/common.sh"
 use_program "${1:-$here/bin/socat}"
+if ! command -v python3 >/dev/null; then
+    echo "skipped all: there is no python3"
+    echo "0 passed, 0 failed"
+    exit 0
+fi
+. "$here/tests/relays.sh"
 . "$here/tests/sockets/common.sh"
 
 parts=("${@:2}")
@@ -16,5 +22,6 @@ for part in "${parts[@]}"; do
     . "$here/tests/sockets/$part.sh"
 done
 
+judge_runs
 echo "$passed passed, $failed failed"
 [ "$failed" -eq 0 ]

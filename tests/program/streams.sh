@@ -61,7 +61,7 @@ timeout 20 "$program" "${relay[@]}" </dev/zero 2>"$scratch/err" | head -c 10 >"$
 statuses=("${PIPESTATUS[@]}")
 if [ "${statuses[0]}" -ne 1 ]; then
     problem="status ${statuses[0]}"
-elif ! said 'socat: write failed on the right'; then
+elif ! said "$scratch/err" 'socat: write failed on the right'; then
     problem="said $(cat "$scratch/err")"
 elif [ "$(size_of "$scratch/out")" -ne 10 ]; then
     problem="the reader didn't get its 10 bytes"
@@ -86,7 +86,7 @@ unreadable() {
     status=$?
     if [ "$status" -ne 1 ]; then
         problem="status $status"
-    elif ! said 'socat: read failed on the left'; then
+    elif ! said "$scratch/err" 'socat: read failed on the left'; then
         problem="said $(cat "$scratch/err")"
     elif [ -s "$scratch/out" ]; then
         problem="something was written"
@@ -134,7 +134,7 @@ feed() {
     head -c "$1" /dev/zero >&3
     peak="$(peak_of "$pid" 2>/dev/null)"
     exec 3>&-
-    finish "$pid" "$watch"
+    end_watched "$pid" "$watch"
     problem=''
     if [ "$status" -ne 0 ]; then
         problem="status $status"
@@ -159,14 +159,14 @@ else
 fi
 
 problem=''
-mkfifo "$scratch/idle"
-exec 4<>"$scratch/idle"
+mkfifo "$scratch/waiting"
+exec 4<>"$scratch/waiting"
 "$program" "${relay[@]}" <&4 >/dev/null 2>&1 &
 pid=$!
 after 20 "$pid"
 sleep 0.3
 kill -TERM "$pid" || problem="it ended before"
-finish "$pid" "$watch"
+end_watched "$pid" "$watch"
 exec 4<&-
 [ "$status" -eq 143 ] || problem="status $status"
 report "SIGTERM ends it while it waits for input" "$problem"

@@ -1,6 +1,7 @@
 # What is left behind after many relays, and what one costs that waits.
 
 many="${MANY:-200}"
+[ -z "$audits" ] || many=10
 
 # --- many in a row
 
@@ -72,7 +73,7 @@ begin "50 Unix listeners in a row at one file"
 for round in {1..50}; do
     given "$round"
     start relay -t10 UNIX-LISTEN:served STDIO
-    start caller -t10 STDIO UNIX-CONNECT:served,retry=100,interval=0.01
+    start caller -t10 STDIO UNIX-CONNECT:served,retry=1000,interval=0.01
     ended caller 0 "$round" ''
     ended relay 0 "$round" ''
     [ ! -e served ] || wrong "the file is still there in round $round"
@@ -140,10 +141,12 @@ for tag in "${waiting[@]}"; do
 done
 finish
 
-begin "5,000 trips don't add descriptors"
+trips=5000
+[ -z "$audits" ] || trips=50
+begin "$trips trips don't add descriptors"
 peer listen tcp4 echo
 start relay -t10 TCP4-LISTEN:0 "TCP4:127.0.0.1:$port"
-peer connect tcp4 "/@${pids[relay]}" trips=100 make=warm wait=go trips=5000 make=finished wait=over
+peer connect tcp4 "/@${pids[relay]}" trips=100 make=warm wait=go "trips=$trips" make=finished wait=over
 until_there warm
 look relay
 descriptors_then="$descriptors"

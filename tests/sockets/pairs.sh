@@ -82,6 +82,8 @@ if [ -n "$theirs" ]; then
     unix_kinds own theirs
     ip_kinds theirs own
     unix_kinds theirs own
+else
+    echo "skipped the pairs with another socat: none is installed"
 fi
 
 begin "a name with a slash is a Unix socket where one listens"

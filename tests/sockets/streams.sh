@@ -118,6 +118,9 @@ shut_options() {
     finish
 }
 
+trips=2000
+[ -z "$audits" ] || trips=50
+
 relaying_options() {
     begin "$kind: readbytes ends the input while the peer stays"
     given_nothing
@@ -143,19 +146,21 @@ relaying_options() {
     told 1 ''
     finish
 
-    begin "$kind: 2,000 trips of 64 bytes, there and back"
+    begin "$kind: $trips trips of 64 bytes, there and back"
     a_server echo
     given_nothing
     start relay -t10 "$served" "$called"
-    a_client trips=2000
+    a_client "trips=$trips"
     ended relay 0 '' ''
     told 2 ''
     told 1 ''
     finish
 }
 
-# much BYTES BLOCK: so many bytes each way at once, with slow readers at both ends.
+# much BYTES BLOCK: so many bytes each way at once, with slow readers at both ends. A run with a journal passes fewer.
 much() {
+    [ -z "$audits" ] || [ "$1" -le 100000 ] || set -- 100000 "$2"
+    [ -z "$audits" ] || [ "$2" -gt 1 ] || set -- 200 "$2"
     begin "$kind: $1 bytes each way at once, slow readers, blocks of $2"
     a_server "both=$1"
     start relay -t20 "-b$2" "$served" "$called"

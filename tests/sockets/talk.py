@@ -44,11 +44,55 @@ def unescaped(text):
     return text.encode().decode("unicode_escape").encode("latin-1")
 
 
+class Kept:
+    """A socket of which all that is sent and got is kept, for the audit of runs."""
+
+    def __init__(self, sock, folder):
+        self.sock = sock
+        os.makedirs(folder)
+        with open(f"{folder}/case", "w") as out:
+            out.write(os.environ["AUDITED_CASE"])
+        self.sent = open(f"{folder}/sent", "wb", buffering=0)
+        self.got = open(f"{folder}/got", "wb", buffering=0)
+
+    def __getattr__(self, name):
+        return getattr(self.sock, name)
+
+    def send(self, data):
+        self.sent.write(data)
+        return self.sock.send(data)
+
+    def sendall(self, data):
+        self.sent.write(data)
+        self.sock.sendall(data)
+
+    def sendto(self, data, partner):
+        self.sent.write(data)
+        return self.sock.sendto(data, partner)
+
+    def recv(self, count):
+        data = self.sock.recv(count)
+        self.got.write(data)
+        return data
+
+    def recvfrom(self, count):
+        data, sender = self.sock.recvfrom(count)
+        self.got.write(data)
+        return data, sender
+
+
+def kept(sock):
+    folder = os.environ.get("AUDITS")
+    if not folder:
+        return sock
+    return Kept(sock, f"{folder}/peers/peer-{os.getpid()}-{time.monotonic_ns()}")
+
+
 class Talk:
     """The steps that streams and datagrams have."""
 
     def __init__(self, sock):
-        self.sock = sock
+        self.sock = kept(sock)
 
     def sleep(self, seconds):
         time.sleep(float(seconds))
