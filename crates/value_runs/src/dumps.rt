@@ -1,17 +1,11 @@
 // Dumps of bytes that were read: the direction, the style, the place of the first byte, the bytes.
-use crate::answers::Answers;
-use crate::inputs::Inputs;
-use crate::rows::RowFault;
 use crate::spellings::{style_of, way_of};
+use case_rows::{Answered, Answers, Inputs, RowFault};
 use dump_format::dump_text;
 use relay_model::Dump;
 use std::alloc::Global;
 
-pub(crate) fn ask(
-    alloc: Global,
-    inputs: &mut Inputs<'_>,
-    answers: &mut Answers,
-) -> Result<(), RowFault> {
+pub(crate) fn ask(alloc: Global, inputs: &mut Inputs<'_>, answers: &mut Answers) -> Answered {
     let way = way_of(inputs.word()?)?;
     let style = style_of(inputs.word()?)?;
     let from = inputs.number()?;
@@ -20,5 +14,5 @@ pub(crate) fn ask(
         return Err(RowFault::NoRow);
     }
     let text = dump_text(alloc, way, style, from, bytes.as_slice())?;
-    Ok(answers.bytes(text.as_slice())?)
+    answers.bytes(text.as_slice())
 }

@@ -3,20 +3,14 @@
 ghost use Rattle.std.specs.Prelude.{◌≡◌, IfOk, IfSome};
 ghost use Rattle.relay_model.specs.Conversions.{packet_cap};
 
-use crate::answers::Answers;
-use crate::inputs::{Inputs, bytes_of, step_parts};
-use crate::rows::RowFault;
 use crate::spellings::conv_of;
+use case_rows::{Answered, Answers, Inputs, RowFault, bytes_of, step_parts};
 use line_ends::Convs;
 use relay_buffer::{Flow, Lane};
 use relay_model::Conv;
 use std::alloc::Global;
 
-pub(crate) fn ask(
-    alloc: Global,
-    inputs: &mut Inputs<'_>,
-    answers: &mut Answers,
-) -> Result<(), RowFault> {
+pub(crate) fn ask(alloc: Global, inputs: &mut Inputs<'_>, answers: &mut Answers) -> Answered {
     let lane = lane_of(inputs)?;
     let flow = Flow::new(alloc, lane)?;
     let mut tried = Tried { lane, flow };
@@ -81,12 +75,7 @@ fn longest_packet(word: &str, write: Conv) -> Result<Option<u32>, RowFault>
 }
 
 impl Tried {
-    fn make_step(
-        &mut self,
-        alloc: Global,
-        step: &str,
-        answers: &mut Answers,
-    ) -> Result<(), RowFault> {
+    fn make_step(&mut self, alloc: Global, step: &str, answers: &mut Answers) -> Answered {
         let (name, value) = step_parts(step);
         match name {
             "fill" => self.fill(bytes_of(alloc, value)?.as_slice())?,
@@ -103,7 +92,7 @@ impl Tried {
     }
 
     /// Fills the bytes in, for which there has to be room.
-    fn fill(&mut self, bytes: &[u8]) -> Result<(), RowFault> {
+    fn fill(&mut self, bytes: &[u8]) -> Answered {
         if bytes.len() > self.flow.room() {
             return Err(RowFault::NoRow);
         }
@@ -124,7 +113,7 @@ impl Tried {
     }
 
     /// Lets so many bytes go, of a packet all.
-    fn took(&mut self, count: usize) -> Result<(), RowFault> {
+    fn took(&mut self, count: usize) -> Answered {
         let waiting = self.flow.waiting();
         if count > waiting || (self.lane.packets.is_some() && count != waiting) {
             return Err(RowFault::NoRow);

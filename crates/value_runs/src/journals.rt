@@ -1,15 +1,9 @@
 // Journals that are read and written again: the number of acts where the text comes back, or the bad line.
-use crate::answers::Answers;
-use crate::inputs::Inputs;
-use crate::rows::RowFault;
+use case_rows::{Answered, Answers, Inputs, RowFault};
 use journal_text::{JournalFault, one_bad_line, one_journal, read_journal, write_journal};
 use std::alloc::Global;
 
-pub(crate) fn ask(
-    alloc: Global,
-    inputs: &mut Inputs<'_>,
-    answers: &mut Answers,
-) -> Result<(), RowFault> {
+pub(crate) fn ask(alloc: Global, inputs: &mut Inputs<'_>, answers: &mut Answers) -> Answered {
     let text = inputs.lines(alloc)?;
     one_journal();
     one_bad_line();
@@ -17,11 +11,11 @@ pub(crate) fn ask(
         Ok(journal) => {
             let again = write_journal(alloc, &journal)?;
             if again.as_slice() != text.as_slice() {
-                return Ok(answers.bytes(again.as_slice())?);
+                return answers.bytes(again.as_slice());
             }
-            Ok(answers.counted("acts", journal.len() as u64)?)
+            answers.counted("acts", journal.len() as u64)
         }
-        Err(JournalFault::Line { number }) => Ok(answers.counted("line", number)?),
+        Err(JournalFault::Line { number }) => answers.counted("line", number),
         Err(JournalFault::Memory) => Err(RowFault::NoMemory),
     }
 }

@@ -1,37 +1,27 @@
 // How a run ended: the exit status, and the line that is said.
-use crate::answers::Answers;
-use crate::inputs::Inputs;
-use crate::rows::RowFault;
 use crate::spellings::side_of;
+use case_rows::{Answered, Answers, Inputs, RowFault};
 use exit_status::{
     EndWhy, Op, Outcome, line_of, one_answer_fits, status, usage_text, version_text,
 };
 use relay_model::{Part, Place, Refusal, Refused};
 use std::alloc::Global;
 
-pub(crate) fn ask(
-    alloc: Global,
-    inputs: &mut Inputs<'_>,
-    answers: &mut Answers,
-) -> Result<(), RowFault> {
+pub(crate) fn ask(alloc: Global, inputs: &mut Inputs<'_>, answers: &mut Answers) -> Answered {
     let outcome = outcome_of(inputs)?;
     one_answer_fits();
     answers.number(u64::from(status(&outcome)))?;
-    Ok(answers.bytes(line_of(alloc, &outcome)?.as_slice())?)
+    answers.bytes(line_of(alloc, &outcome)?.as_slice())
 }
 
 /// A text that is asked for.
-pub(crate) fn ask_text(
-    alloc: Global,
-    inputs: &mut Inputs<'_>,
-    answers: &mut Answers,
-) -> Result<(), RowFault> {
+pub(crate) fn ask_text(alloc: Global, inputs: &mut Inputs<'_>, answers: &mut Answers) -> Answered {
     let text = match inputs.word()? {
         "usage" => usage_text(alloc)?,
         "version" => version_text(alloc)?,
         _ => return Err(RowFault::NoRow),
     };
-    Ok(answers.bytes(text.as_slice())?)
+    answers.bytes(text.as_slice())
 }
 
 fn outcome_of(inputs: &mut Inputs<'_>) -> Result<Outcome, RowFault> {

@@ -1,17 +1,11 @@
 // Peers at a listening address: its options, and then the peers that come, written as in `bind`, or `local`.
-use crate::answers::Answers;
-use crate::inputs::Inputs;
-use crate::rows::RowFault;
+use case_rows::{Answered, Answers, Inputs, RowFault};
 use option_table::{read_bind, read_range};
 use peer_filter::Filter;
 use relay_model::{Options, Peer};
 use std::alloc::Global;
 
-pub(crate) fn ask(
-    alloc: Global,
-    inputs: &mut Inputs<'_>,
-    answers: &mut Answers,
-) -> Result<(), RowFault> {
+pub(crate) fn ask(alloc: Global, inputs: &mut Inputs<'_>, answers: &mut Answers) -> Answered {
     let mut options = Options::defaults(alloc)?;
     for _ in 0..u64::MAX {
         let Some(word) = inputs.step() else {
@@ -22,7 +16,7 @@ pub(crate) fn ask(
     Ok(())
 }
 
-fn make_step(options: &mut Options, word: &str, answers: &mut Answers) -> Result<(), RowFault> {
+fn make_step(options: &mut Options, word: &str, answers: &mut Answers) -> Answered {
     if word == "lowport" {
         options.lowport = true;
     } else if let Some(text) = word.strip_prefix("range=") {

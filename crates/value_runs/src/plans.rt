@@ -1,10 +1,8 @@
 // Failed tries at a place: the number of retries, `forever` or `-`, the interval, and then the steps.
-use crate::answers::Answers;
-use crate::inputs::{Inputs, step_parts};
-use crate::rows::RowFault;
+use case_rows::{Answered, Answers, Inputs, RowFault, step_parts};
 use retry_plan::{NextTry, Plan};
 
-pub(crate) fn ask(inputs: &mut Inputs<'_>, answers: &mut Answers) -> Result<(), RowFault> {
+pub(crate) fn ask(inputs: &mut Inputs<'_>, answers: &mut Answers) -> Answered {
     let retry = inputs.number()?;
     let is_endless = inputs.word()? == "forever";
     let interval = inputs.number()?;
@@ -18,7 +16,7 @@ pub(crate) fn ask(inputs: &mut Inputs<'_>, answers: &mut Answers) -> Result<(), 
     Ok(())
 }
 
-fn make_step(plan: &mut Plan, step: &str, answers: &mut Answers) -> Result<(), RowFault> {
+fn make_step(plan: &mut Plan, step: &str, answers: &mut Answers) -> Answered {
     let (name, value) = step_parts(step);
     match name {
         "failed" => {
@@ -30,12 +28,11 @@ fn make_step(plan: &mut Plan, step: &str, answers: &mut Answers) -> Result<(), R
     }
 }
 
-fn say_next(next: NextTry, answers: &mut Answers) -> Result<(), RowFault> {
+fn say_next(next: NextTry, answers: &mut Answers) -> Answered {
     match next {
-        NextTry::Now => answers.word("now")?,
-        NextTry::At(at) => answers.number(at)?,
-        NextTry::Never => answers.word("never")?,
-        NextTry::GiveUp { attempts } => answers.counted("given-up", attempts)?,
+        NextTry::Now => answers.word("now"),
+        NextTry::At(at) => answers.number(at),
+        NextTry::Never => answers.word("never"),
+        NextTry::GiveUp { attempts } => answers.counted("given-up", attempts),
     }
-    Ok(())
 }

@@ -1,5 +1,5 @@
 // Words of the rows that stand for values of the model.
-use crate::rows::RowFault;
+use case_rows::RowFault;
 use relay_model::{Conv, Dump, Side, Way};
 
 pub(crate) fn conv_of(word: &str) -> Result<Conv, RowFault> {

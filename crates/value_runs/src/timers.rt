@@ -1,15 +1,9 @@
 // Timers that are set, cleared and taken out step by step. Moments are milliseconds.
-use crate::answers::Answers;
-use crate::inputs::{Inputs, step_parts};
-use crate::rows::RowFault;
+use case_rows::{Answered, Answers, Inputs, RowFault, step_parts};
 use std::alloc::Global;
 use timer_set::TimerSet;
 
-pub(crate) fn ask(
-    alloc: Global,
-    inputs: &mut Inputs<'_>,
-    answers: &mut Answers,
-) -> Result<(), RowFault> {
+pub(crate) fn ask(alloc: Global, inputs: &mut Inputs<'_>, answers: &mut Answers) -> Answered {
     let mut timers = TimerSet::new(alloc);
     for _ in 0..u64::MAX {
         let Some(step) = inputs.step() else {
@@ -20,7 +14,7 @@ pub(crate) fn ask(
     Ok(())
 }
 
-fn make_step(timers: &mut TimerSet, step: &str, answers: &mut Answers) -> Result<(), RowFault> {
+fn make_step(timers: &mut TimerSet, step: &str, answers: &mut Answers) -> Answered {
     let (name, value) = step_parts(step);
     match name {
         "set" => set(timers, value),
@@ -35,7 +29,7 @@ fn make_step(timers: &mut TimerSet, step: &str, answers: &mut Answers) -> Result
 }
 
 /// Sets a timer, written as its key, a colon and its moment.
-fn set(timers: &mut TimerSet, value: &str) -> Result<(), RowFault> {
+fn set(timers: &mut TimerSet, value: &str) -> Answered {
     let (key, at) = step_parts(value);
     let key = key.parse::<u32>()?;
     let at = at.parse::<u64>()?;
@@ -44,16 +38,16 @@ fn set(timers: &mut TimerSet, value: &str) -> Result<(), RowFault> {
     Ok(())
 }
 
-fn say_first(first: Option<(u64, u32)>, answers: &mut Answers) -> Result<(), RowFault> {
+fn say_first(first: Option<(u64, u32)>, answers: &mut Answers) -> Answered {
     match first {
-        None => Ok(answers.word("none")?),
-        Some((at, key)) => Ok(answers.pair(u64::from(key), at)?),
+        None => answers.word("none"),
+        Some((at, key)) => answers.pair(u64::from(key), at),
     }
 }
 
-fn say_due(due: Option<u32>, answers: &mut Answers) -> Result<(), RowFault> {
+fn say_due(due: Option<u32>, answers: &mut Answers) -> Answered {
     match due {
-        None => Ok(answers.word("none")?),
-        Some(key) => Ok(answers.number(u64::from(key))?),
+        None => answers.word("none"),
+        Some(key) => answers.number(u64::from(key)),
     }
 }

@@ -1,12 +1,10 @@
 // Addresses as they are written. An answer for the keyword, with the parameters as parts; one for each option, with its
 // offset, its name and its value as parts. Those of two halves stand behind `reading` and `writing`.
-use crate::answers::Answers;
-use crate::inputs::Inputs;
-use crate::rows::{Answered, RowFault};
 use addr_grammar::{
     GrammarFault, RawAddress, RawOption, RawSingle, addresses_are_told, one_address, parse_address,
     print_address,
 };
+use case_rows::{Answered, Answers, Inputs, RowFault};
 use relay_model::Bytes;
 use std::alloc::Global;
 

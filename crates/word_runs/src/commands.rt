@@ -1,9 +1,7 @@
 // What words ask for. A relay: the block, the two times, the ways, the dump, and what stands on the left and on the
 // right. A refusal: its line.
-use crate::answers::Answers;
-use crate::inputs::Inputs;
 use crate::places::say_address;
-use crate::rows::{Answered, RowFault};
+use case_rows::{Answered, Answers, Inputs, RowFault};
 use cmd_words::{Command, CommandFault, command_is_told, command_of};
 use exit_status::{Outcome, line_of};
 use relay_model::{Config, Dump, Refused, Ways};

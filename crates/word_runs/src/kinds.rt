@@ -1,10 +1,8 @@
 // What an address asks for, or what is wrong with it: the use, and the address.
-use crate::answers::Answers;
-use crate::inputs::Inputs;
 use crate::places::say_single;
-use crate::rows::{Answered, RowFault};
 use addr_grammar::{RawAddress, parse_address};
 use addr_kinds::{Asked, KindFault, resolutions_are_told, resolve};
+use case_rows::{Answered, Answers, Inputs, RowFault};
 use std::alloc::Global;
 
 pub(crate) fn ask(alloc: Global, inputs: &mut Inputs<'_>, answers: &mut Answers) -> Answered {

@@ -1,8 +1,7 @@
 // What an address asks for: its target, and an answer for each option that isn't at its default. Those of two halves
 // stand behind `reading` and `writing`.
-use crate::answers::Answers;
-use crate::rows::Answered;
 use crate::targets::say_target;
+use case_rows::{Answered, Answers};
 use relay_model::{Address, Bind, Conv, Options, Peer, Range, Shut, Single};
 
 pub(crate) fn say_address(address: &Address, answers: &mut Answers) -> Answered {

@@ -1,6 +1,5 @@
 // What an address stands for: one answer, with the parameters as parts.
-use crate::answers::Answers;
-use crate::rows::Answered;
+use case_rows::{Answered, Answers};
 use relay_model::{Family, Target, Text, Texts};
 
 pub(crate) fn say_target(target: &Target, answers: &mut Answers) -> Answered {

@@ -1,8 +1,6 @@
 // The tokens of a text: a byte, `colon`, `comma`, `dual` or `equals`, and where it stands; and bytes as they are written.
-use crate::answers::Answers;
-use crate::inputs::Inputs;
-use crate::rows::{Answered, RowFault};
 use addr_words::{Token, TokenKind, WordFault, spans_cover, tokens_are_told, words_of, write_word};
+use case_rows::{Answered, Answers, Inputs, RowFault};
 use std::alloc::Global;
 
 pub(crate) fn ask(alloc: Global, inputs: &mut Inputs<'_>, answers: &mut Answers) -> Answered {

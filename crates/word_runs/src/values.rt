@@ -1,8 +1,6 @@
 // Options, their values, and the numbers, networks and names that these are made of. What is no value is `none`.
-use crate::answers::Answers;
-use crate::inputs::Inputs;
 use crate::places::{say_bind, say_range};
-use crate::rows::{Answered, RowFault};
+use case_rows::{Answered, Answers, Inputs, RowFault};
 use option_table::{
     Lookup, Value, has_port, ipv4_literal, ipv6_literal, lookup, read_bind, read_number,
     read_range, read_short_number, read_time, read_value, same_name,
