@@ -107,8 +107,8 @@ done
 begin "two children, one behind the other"
 with_files
 given_nothing
-run 0 '' '' -u 'SYSTEM:seq 1 100000' 'SYSTEM:cksum >files/sum; mv files/sum files/done'
-soon_is done "$(seq 1 100000 | cksum)\n"
+run 0 '' '' -u 'SYSTEM:seq 1 5000' 'SYSTEM:cksum >files/sum; mv files/sum files/done'
+soon_is done "$(seq 1 5000 | cksum)\n"
 finish
 
 begin "two children, both ways"

@@ -53,7 +53,7 @@ for streams in 0 1 2 '0 1' '0 2' '1 2' '0 1 2'; do
     if [ -c /dev/full ]; then
         run_without "$streams" 1 -u OPEN:/dev/zero OPEN:/dev/full
         given_nothing
-        run_without "$streams" 1 'OPEN:/dev/zero!!CREATE:files/two' 'OPEN:files/one!!OPEN:/dev/full'
+        run_without "$streams" 1 -t20 'OPEN:/dev/zero!!CREATE:files/two' 'OPEN:files/one!!OPEN:/dev/full'
         case "$(<files/two)" in
             '' | 'a text') ;;
             *) wrong "two holds $(head -c 200 files/two)" ;;
