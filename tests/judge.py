@@ -14,7 +14,7 @@ import subprocess
 import sys
 
 # A journal of more acts isn't judged: the auditor goes over all of them for each.
-MOST_ACTS = int(os.environ.get("MOST_ACTS", "3000"))
+MOST_ACTS = int(os.environ.get("MOST_ACTS", "1000"))
 MOST_BYTES = 16 << 20
 
 
