@@ -36,6 +36,7 @@ test: bin/socat bin/socat-audit
 	tests/sockets.sh bin/socat
 	tests/words.sh bin/socat
 	tests/audit.sh bin/socat-audit
+	tests/audited.sh bin/socat bin/socat-audit
 
 install: bin/socat bin/socat-audit
 	install -d "$(DESTDIR)$(PREFIX)/bin"

@@ -53,7 +53,7 @@ for streams in 0 1 2 '0 1' '0 2' '1 2' '0 1 2'; do
     if [ -c /dev/full ]; then
         run_without "$streams" 1 -u OPEN:/dev/zero OPEN:/dev/full
         given_nothing
-        run_without "$streams" 1 'OPEN:/dev/zero!!CREATE:files/two' 'OPEN:files/one!!OPEN:/dev/full'
+        run_without "$streams" 1 -t20 'OPEN:/dev/zero!!CREATE:files/two' 'OPEN:files/one!!OPEN:/dev/full'
         case "$(<files/two)" in
             '' | 'a text') ;;
             *) wrong "two holds $(head -c 200 files/two)" ;;
@@ -295,12 +295,16 @@ children_of() {
 }
 
 # entries_of FOLDER: how many entries it has.
-entries_of() { find "$1" -mindepth 1 2>/dev/null | wc -l; }
+entries_of() { find "$1" -mindepth 1 -maxdepth 1 2>/dev/null | wc -l; }
 
-# look_at TAG: `looks` are its descriptors, threads and children.
+# look_at TAG: `looks` are its descriptors, threads and children. Of some looks the least counts, since an opening that is
+# under way holds more for a moment.
 look_at() {
-    local pid="${pids[$1]}"
-    looks="$(entries_of "/proc/$pid/fd") $(find "/proc/$pid/task" -mindepth 1 -maxdepth 1 2>/dev/null | wc -l) $(children_of "$pid")"
+    local pid="${pids[$1]}" look
+    looks="$(for look in 1 2 3 4 5 6; do
+        echo "$(entries_of "/proc/$pid/fd") $(entries_of "/proc/$pid/task") $(children_of "$pid")"
+        nap 0.02
+    done | sort -n | head -n 1)"
 }
 
 # settled TAG: looks until it holds the same for half a second.
@@ -369,8 +373,12 @@ if [ -d /proc/self/task ]; then
     with_files
     given_nothing
     start relay -t60 STDIO EXEC:cat
-    nap 0.5
-    [ "$(children_of "${pids[relay]}")" -eq 1 ] || wrong "it has $(children_of "${pids[relay]}") children"
+    looks=''
+    until [ "${looks##* }" = 1 ] || [ "${EPOCHREALTIME/[.,]/}" -gt "$((begun + limit * 1000000))" ]; do
+        look_at relay
+    done
+    [ "${looks##* }" = 1 ] || wrong "it has ${looks##* } children"
+    looks_stay "a child"
     terminate relay
     await relay
     finish

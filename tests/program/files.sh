@@ -571,6 +571,15 @@ ended relay 0 '' ''
 file_is taken 'a text'
 finish
 
+begin "an empty input to a named pipe: its reader sees the end"
+a_pipe pipe
+given ''
+behind reader take_out pipe taken
+run 0 '' '' -u STDIN PIPE:files/pipe,unlink-close=0
+await reader
+file_is taken ''
+finish
+
 begin "PIPE is read as long as there is a writer"
 a_pipe pipe
 given_nothing

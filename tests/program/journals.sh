@@ -9,7 +9,7 @@ saves() {
     shift 3
     rm -f "$journal"
     try "$name" 0 "$input" "$output" '' "--journal=$journal" "$@"
-    said="$("$here/bin/socat-audit" "$journal" "$@")"
+    said="$("${AUDITOR:-$here/bin/socat-audit}" "$journal" "$@")"
     case "$said" in
         yes:*' 0 held') report "$name, audited" '' ;;
         *) report "$name, audited" "the auditor said $said" ;;

@@ -303,10 +303,10 @@ finish
 
 begin "many newlines, written as crnl"
 with_files
-yes '' | head -n 100000 >files/old
+yes '' | head -n 20000 >files/old
 given_nothing
 run 0 '' '' -u OPEN:files/old CREATE:files/new,crnl
-[ "$(cksum <files/new)" = "$(yes $'\r' | head -n 100000 | cksum)" ] || wrong "other bytes came out"
+[ "$(cksum <files/new)" = "$(yes $'\r' | head -n 20000 | cksum)" ] || wrong "other bytes came out"
 finish
 
 # socat(1) converts nothing where both name the same one, and else by a table of its own.
@@ -516,7 +516,7 @@ begin_own "options of files that are left out"
 with_files old 'a text'
 for option in mode=600 perm=600 user=0 group=0 seek=1 lock=l end-close nonblock; do
     given XY
-    run 1 '' 'socat: E09 word 2 half 1: left-out option 1' -u STDIN "OPEN:files/old,$option"
+    run 1 '' 'socat: E09 word 3 half 1: left-out option 1' -u STDIN "OPEN:files/old,$option"
     file_is old 'a text'
 done
 finish

@@ -161,6 +161,7 @@ relaying_options() {
 much() {
     [ -z "$audits" ] || [ "$1" -le 100000 ] || set -- 100000 "$2"
     [ -z "$audits" ] || [ "$2" -gt 1 ] || set -- 200 "$2"
+    [ -z "$audits" ] || [ "$2" -le 65536 ] || set -- "$1" 65536
     begin "$kind: $1 bytes each way at once, slow readers, blocks of $2"
     a_server "both=$1"
     start relay -t20 "-b$2" "$served" "$called"

@@ -159,11 +159,13 @@ finish
 
 begin "a long input goes out in datagrams of at most 65507 bytes"
 long=200000
-[ -z "$audits" ] || long=70000
+block=1048576
+# A journal keeps the room of each read.
+[ -z "$audits" ] || long=70000 block=65536
 peer listen udp4 "gather=$long" quiet=0.2
 peer_py bytes "$long" >long
 input=long
-run 0 '' '' -b1048576 -u STDIN "UDP4:127.0.0.1:$port"
+run 0 '' '' "-b$block" -u STDIN "UDP4:127.0.0.1:$port"
 told 1 "$long $(sum_of "$long")\nquiet\n"
 finish
 
