@@ -1,6 +1,7 @@
 // The texts of a peer, as a child is told of it.
 use relay_model::{NoMemory, Peer};
 use std::alloc::Global;
+use std::net::Ipv6Addr;
 
 /// The address and the port of a peer that has them.
 #[derive(Drop)]
@@ -35,25 +36,8 @@ fn v4_text(alloc: Global, addr: [u8; 4]) -> Result<String, NoMemory> {
     Ok(format!(in alloc; "{a}.{b}.{c}.{d}")?)
 }
 
-/// Eight groups of four hexadecimal digits in brackets.
+/// The text of RFC 5952 in brackets.
 fn v6_text(alloc: Global, addr: [u8; 16]) -> Result<String, NoMemory> {
-    let mut text = String::from_str(alloc, "[")?;
-    for i in 0..16 {
-        if i > 0 && i % 2 == 0 {
-            text.push(':')?;
-        }
-        text.push(digit(addr[i] / 16))?;
-        text.push(digit(addr[i] % 16))?;
-    }
-    text.push(']')?;
-    Ok(text)
-}
-
-/// The lower-case hexadecimal digit of a number below 16.
-fn digit(value: u8) -> char {
-    match value {
-        0..=9 => (b'0' + value) as char,
-        10..=15 => (b'a' + (value - 10)) as char,
-        _ => '0',
-    }
+    let addr = Ipv6Addr::from(addr);
+    Ok(format!(in alloc; "[{addr}]")?)
 }

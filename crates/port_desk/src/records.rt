@@ -270,11 +270,10 @@ impl Log {
         ensures faults { self.new.faults ≡ self.old.faults }
     {
         self.acted = true;
-        let Some(mut copy) = copied else {
+        let Some(copy) = copied else {
             return;
         };
-        copy.set(bytes);
-        self.recording.put(Act::Read(place, copy));
+        self.recording.put(Act::Read(place, fitted(self.alloc, copy, bytes)));
     }
 
     /// Keeps a write of these bytes, in the copy that was made for it.
@@ -286,11 +285,10 @@ impl Log {
         ensures faults { self.new.faults ≡ self.old.faults }
     {
         self.acted = true;
-        let Some(mut copy) = copied else {
+        let Some(copy) = copied else {
             return;
         };
-        copy.set(bytes);
-        self.recording.put(Act::Wrote(place, copy));
+        self.recording.put(Act::Wrote(place, fitted(self.alloc, copy, bytes)));
     }
 
     /// The answer of a read, whose act it keeps.
@@ -497,4 +495,19 @@ impl Log {
         });
         Ok(())
     }
+}
+
+/// These bytes, in no more memory than they need where there is some, else in the copy.
+fn fitted(alloc: Global, copy: Bytes, bytes: &[u8]) -> Bytes
+    requires { length bytes.now ≤ length copy }
+    ensures { result ≡ bytes.now }
+{
+    let mut copy = copy;
+    if bytes.len() < copy.len() {
+        if let Ok(exact) = Bytes::of(alloc, bytes) {
+            return exact;
+        }
+    }
+    copy.set(bytes);
+    copy
 }

@@ -6,7 +6,7 @@ mod parts;
 
 use journal_file::DiskJournal;
 use mio_poller::MioPoller;
-use parts::{FAILED, NO_MEMORY, made, wake};
+use parts::{NO_MEMORY, closed_streams, concluded, made, told, wakes};
 use port_desk::{Desk, Standard};
 use port_trait::{StdSink, StdSource, StdSpawner};
 use program_words::program_words;
@@ -14,11 +14,11 @@ use real_maker::RealMaker;
 use socat_top::run_written;
 use std::process::ExitCode;
 use thread_rings::{RingReader, RingWriter};
-use told_sink::{Failures, ToldSink};
 use world_trait::Recorder;
 
 // All is made in one function: only here is the runtime a known one, and so what it makes may go to a thread.
 fn main(rt: HostRuntime) -> ExitCode {
+    let _closed = closed_streams(&rt);
     let alloc = rt.alloc();
     let Ok(words) = program_words(alloc, &rt) else {
         return ExitCode::from(NO_MEMORY);
@@ -31,23 +31,16 @@ fn main(rt: HostRuntime) -> ExitCode {
         Ok(maker) => maker,
         Err(status) => return ExitCode::from(status),
     };
-    let (reading, writing, noting) = match (wake(&poller), wake(&poller), wake(&poller)) {
-        (Ok(reading), Ok(writing), Ok(noting)) => (reading, writing, noting),
-        (Err(status), _, _) | (_, Err(status), _) | (_, _, Err(status)) => {
-            return ExitCode::from(status);
-        }
+    let (Ok((reading, writing)), Ok((noting, _))) = (wakes(&poller), wakes(&poller)) else {
+        return ExitCode::from(NO_MEMORY);
     };
     let mut spawner = StdSpawner::new(rt);
     let Ok(stdin) = RingReader::new(alloc, StdSource::new(rt.stdin()), &mut spawner, reading) else {
         return ExitCode::from(NO_MEMORY);
     };
-    let Ok(failures) = Failures::none(alloc) else {
+    let Ok((sink, failures)) = told(alloc, StdSink::new(rt.stdout())) else {
         return ExitCode::from(NO_MEMORY);
     };
-    let Ok(told) = failures.share() else {
-        return ExitCode::from(NO_MEMORY);
-    };
-    let sink = ToldSink::new(StdSink::new(rt.stdout()), told);
     let Ok(stdout) = RingWriter::new(alloc, sink, &mut spawner, writing) else {
         return ExitCode::from(NO_MEMORY);
     };
@@ -65,9 +58,5 @@ fn main(rt: HostRuntime) -> ExitCode {
     let words = words.as_slice();
     let mut journal = DiskJournal::new(rt);
     let status = run_written(alloc, desk, words, u64::MAX, &mut journal).status;
-    if status == 0 && failures.any() {
-        let _ = eprintln!(rt; "socat: write failed on standard output");
-        return ExitCode::from(FAILED);
-    }
-    ExitCode::from(status)
+    concluded(&rt, status, &failures)
 }

@@ -1,18 +1,47 @@
-// Steps of a beginning, each with the status where it couldn't be made.
+// Steps of a beginning, each with the status where it couldn't be made, and the end.
 use mio_poller::{MioPoller, MioWake};
-use port_trait::Making;
+use port_trait::{Making, Sink};
+use relay_model::NoMemory;
+use std::alloc::Global;
+use std::fs::{Files, OpenOptions};
+use std::io::Eprint;
 use std::net::Net;
+use std::os::fd::AsRawFd;
+use std::process::ExitCode;
 use std::time::Clock;
+use told_sink::{Failures, ToldSink};
 
 /// The status where the system refuses the poller or what is registered with it, and where output failed after the run.
-pub const FAILED: u8 = 1;
+const FAILED: u8 = 1;
 
 /// The status where there is no memory to begin with.
 pub const NO_MEMORY: u8 = 2;
 
-/// A wake for the thread of a ring.
-pub fn wake<R: Net + Clock + Drop>(poller: &MioPoller<R>) -> Result<MioWake, u8> {
-    made(poller.wake())
+/// A wake for the thread of each of two rings.
+pub fn wakes<R: Net + Clock + Drop>(poller: &MioPoller<R>) -> Result<(MioWake, MioWake), u8> {
+    Ok((made(poller.wake())?, made(poller.wake())?))
+}
+
+/// What stands on the descriptor of a standard stream that was closed when the program began, so that nothing else
+/// gets it. A directory is neither read nor written: a call on the stream fails, as on a closed one.
+fn occupied<R: Files>(files: &R) -> Option<R::File>
+where
+    R::File: AsRawFd,
+{
+    let mut options = OpenOptions::new();
+    options.read(true);
+    match files.open_file(&options, "/") {
+        Ok(folder) if folder.as_raw_fd() <= 2 => Some(folder),
+        Ok(_) | Err(_) => None,
+    }
+}
+
+/// Keeps the descriptors of the standard streams from what is opened later.
+pub fn closed_streams<R: Files>(files: &R) -> [Option<R::File>; 3]
+where
+    R::File: AsRawFd,
+{
+    [occupied(files), occupied(files), occupied(files)]
 }
 
 /// What was made, or the status where it wasn't.
@@ -22,4 +51,20 @@ pub fn made<T: Drop>(making: Making<T>) -> Result<T, u8> {
         Making::Later(_) | Making::Failed => Err(FAILED),
         Making::Memory => Err(NO_MEMORY),
     }
+}
+
+/// The sink with what tells its failures.
+pub fn told<K: Sink + Drop>(alloc: Global, sink: K) -> Result<(ToldSink<K>, Failures), NoMemory> {
+    let failures = Failures::none(alloc)?;
+    let told = ToldSink::new(sink, failures.share()?);
+    Ok((told, failures))
+}
+
+/// The status of the run, or that of a failure where output failed after its last act, which is told.
+pub fn concluded<R: Eprint>(rt: &R, status: u8, failures: &Failures) -> ExitCode {
+    if status == 0 && failures.any() {
+        let _ = eprintln!(rt; "socat: write failed on standard output");
+        return ExitCode::from(FAILED);
+    }
+    ExitCode::from(status)
 }
