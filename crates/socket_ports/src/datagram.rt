@@ -222,6 +222,7 @@ impl DatagramSocket {
     fn fetch(&mut self) -> Fetched
         ensures held { is_some self.new.rest ≡ is_datagram result }
         ensures left_off { IsTrue self.new.cut_short → result ≡ fetches.Others }
+        ensures looks_again { result ≡ fetches.Others → IsTrue self.new.cut_short }
     {
         let fetched = self.fetch_past_others();
         self.cut_short = fetched == Fetched::Others;
