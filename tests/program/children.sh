@@ -111,7 +111,8 @@ run 0 '' '' -u 'SYSTEM:seq 1 5000' 'SYSTEM:cksum >files/sum; mv files/sum files/
 soon_is done "$(seq 1 5000 | cksum)\n"
 finish
 
-begin "two children, both ways"
+# socat(1) gives a child one socket for both streams, so one of them alone can't be closed.
+begin_own "two children, both ways"
 with_files
 given_nothing
 run 0 '' '' -t10 'SYSTEM:echo from one; exec >files/one; cat; mv files/one files/first' \
@@ -270,7 +271,6 @@ run 0 'r\n' '' STDIO 'SYSTEM:echo r'
 between 0 8000
 finish
 
-# socat(1) gives a child one socket for both streams, so one of them alone can't be closed.
 begin_own "a child that closes its output and lives: one way"
 with_files
 given_nothing

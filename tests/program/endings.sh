@@ -62,6 +62,28 @@ for streams in 0 1 2 '0 1' '0 2' '1 2' '0 1 2'; do
     finish
 done
 
+for streams in 2 '0 2' '1 2' '0 1 2'; do
+    begin_own "without the streams $streams: no file stands where lines are written"
+    with_files
+    mkfifo files/pipe
+    exec 7<>files/pipe
+    given_nothing
+    start_without "$streams" -u OPEN:files/pipe CREATE:files/new
+    last=$((SECONDS + limit))
+    until [ -e files/new ] || [ "$SECONDS" -gt "$last" ]; do
+        nap 0.05
+    done
+    nap 0.2
+    lives relay
+    case "$(readlink "/proc/${pids[relay]}/fd/2")" in
+        */files/*) wrong "its second descriptor is the file" ;;
+    esac
+    terminate relay
+    await relay
+    exec 7>&-
+    finish
+done
+
 # In socat(1) what is opened next takes the place of the stream.
 for streams in 0 '0 2'; do
     begin_own "without the streams $streams: standard input can't be read"
