@@ -32,11 +32,11 @@ check:
 
 # The checks of the built programs alone, without the proofs' gate.
 test: bin/socat bin/socat-audit
-	tests/program.sh bin/socat
+	tests/program.sh bin/socat streams journals
 	tests/sockets.sh bin/socat
 	tests/words.sh bin/socat
 	tests/audit.sh bin/socat-audit
-	tests/audited.sh bin/socat bin/socat-audit
+	tests/audited.sh bin/socat bin/socat-audit streams journals
 
 install: bin/socat bin/socat-audit
 	install -d "$(DESTDIR)$(PREFIX)/bin"

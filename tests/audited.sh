@@ -3,7 +3,8 @@
 # the journals: each is in order and holds nothing, names the bytes that passed, and each of three changes of it is found.
 # Where much passes there is no journal, or less passes. One line a case, and 'N passed, M failed' at the end of each
 # script; the status is 1 where a case failed.
-# Usage: tests/audited.sh [PROGRAM [AUDITOR]]      (bin/socat and bin/socat-audit where none is given)
+# Usage: tests/audited.sh [PROGRAM [AUDITOR [PART..]]]      (bin/socat and bin/socat-audit where none is given; the parts
+# are those of tests/program.sh)
 set -u
 
 here="$(cd "$(dirname "${BASH_SOURCE[0]}")/.." && pwd)"
@@ -14,7 +15,7 @@ if [ ! -x "$AUDITOR" ]; then
     echo "no auditor at $AUDITOR: run make first"
     exit 1
 fi
-"$here/tests/program.sh" "$program"
+"$here/tests/program.sh" "$program" "${@:3}"
 one=$?
 "$here/tests/sockets.sh" "$program"
 two=$?
