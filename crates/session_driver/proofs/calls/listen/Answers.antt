@@ -1,0 +1,54 @@
+use Rattle.std.proofs.Common.{refl, true, false, Some}
+use Rattle.std.proofs.lemmas.Bool.{true≢false}
+use Rattle.relay_model.specs.declared.acts.Act.TheVariants as acts
+use Rattle.session_driver.proofs.Hearing.{heard_as}
+use Rattle.session_driver.proofs.calls.listen.Goals as goal
+
+pub returns-in-Listening : goal.returns-in-Listening
+returns-in-Listening g c = (
+  acts.Listening c.args.door,
+  λ past s. refl,
+  record {
+    asked = Some (c.args.door, c.single.result.now);
+    failed = false;
+    did = c.in-Listening.ensures.act;
+    heard = λ n past s st. heard_as _ n past s _ _ _ _ c.requires.wish (c.heard.ensures.act c.args.config.now n past s st);
+    own = λ n past s st. (c.requires.own n past s st, c.single.ensures);
+    no_turn = record { turns_same = λ past. refl; stops_same = λ past. refl };
+    rose = c.in-Listening.ensures.cause;
+    blameless = λ e past. refl;
+    waitless = record { waits = c.in-Listening.ensures.waits; stops = c.in-Listening.ensures.stops; clock = c.in-Listening.ensures.clock };
+    over = λ n past s st e. c.heard.ensures.over c.args.config.now n past s st e;
+  },
+)
+
+pub returns-in-Failed : goal.returns-in-Failed
+returns-in-Failed g c = (
+  acts.ListenFailed c.args.door,
+  λ past s. refl,
+  record {
+    asked = Some (c.args.door, c.single.result.now);
+    failed = true;
+    did = c.in-Failed.ensures.act;
+    heard = λ n past s st. heard_as _ n past s _ _ _ _ c.requires.wish (c.heard-in-Failed.ensures.act c.args.config.now n past s st);
+    own = λ n past s st. (c.requires.own n past s st, c.single.ensures);
+    no_turn = record { turns_same = λ past. refl; stops_same = λ past. refl };
+    rose = c.in-Failed.ensures.cause;
+    blameless = λ e past. absurd (true≢false e);
+    waitless = record { waits = c.in-Failed.ensures.waits; stops = c.in-Failed.ensures.stops; clock = c.in-Failed.ensures.clock };
+    over = λ n past s st e. c.heard-in-Failed.ensures.over c.args.config.now n past s st e;
+  },
+)
+
+pub returns-in-Memory : goal.returns-in-Memory
+returns-in-Memory g c = rw c.want.ensures.memory (
+  record {
+    did = c.in-Memory.ensures.act;
+    stands = λ n past s st. c.want.ensures.cut.stands c.args.config.now n past s st c.requires.going;
+    rose = c.in-Memory.ensures.cause;
+    waitless = record { waits = c.in-Memory.ensures.waits; stops = c.in-Memory.ensures.stops; clock = c.in-Memory.ensures.clock };
+  },
+  c.requires.going,
+  c.want.ensures.cut.over,
+  c.want.ensures.cut.left,
+)

@@ -1,0 +1,84 @@
+use Rattle.std.proofs.Common.{refl, ap, true, false, length, None}
+use Rattle.std.proofs.lemmas.Bool.{true≢false}
+use Rattle.relay_model.specs.declared.acts.Act.TheVariants as acts
+use Rattle.relay_core.specs.Conditions.{is_writing}
+use Rattle.session_driver.proofs.Hearing.{heard_as, heard_bytes, fits_as}
+use Rattle.session_driver.proofs.calls.send.Goals as goal
+
+pub returns-in-Sent : goal.returns-in-Sent
+returns-in-Sent g c = (
+  _,
+  λ past s. refl,
+  record {
+    asked = None;
+    failed = false;
+    did = c.in-Sent.ensures.act;
+    heard = λ n past s st. heard_bytes _ n past s c.args.place _ _ _ _ c.pending-packet.ensures.front (heard_as _ n past s _ _ _ _ c.requires.wish (c.heard.ensures.act c.args.config.now n past s st));
+    own = λ n past s st. tt;
+    no_turn = record { turns_same = λ past. refl; stops_same = λ past. refl };
+    rose = c.in-Sent.ensures.cause;
+    blameless = λ e past. refl;
+    waitless = record { waits = c.in-Sent.ensures.waits; stops = c.in-Sent.ensures.stops; clock = c.in-Sent.ensures.clock };
+    over = λ n past s st e. c.heard.ensures.over c.args.config.now n past s st e;
+  },
+)
+
+pub returns-in-NotYet : goal.returns-in-NotYet
+returns-in-NotYet g c = (
+  acts.WriteNotYet c.args.place,
+  λ past s. refl,
+  record {
+    asked = None;
+    failed = false;
+    did = c.in-NotYet.ensures.act;
+    heard = λ n past s st. heard_as _ n past s _ _ _ _ c.requires.wish (c.heard-in-NotYet.ensures.act c.args.config.now n past s st);
+    own = λ n past s st. tt;
+    no_turn = record { turns_same = λ past. refl; stops_same = λ past. refl };
+    rose = c.in-NotYet.ensures.cause;
+    blameless = λ e past. refl;
+    waitless = record { waits = c.in-NotYet.ensures.waits; stops = c.in-NotYet.ensures.stops; clock = c.in-NotYet.ensures.clock };
+    over = λ n past s st e. c.heard-in-NotYet.ensures.over c.args.config.now n past s st e;
+  },
+)
+
+pub returns-in-Failed : goal.returns-in-Failed
+returns-in-Failed g c = (
+  c.requires.own,
+  record {
+    asked = None;
+    failed = true;
+    did = c.in-Failed.ensures.act;
+    heard = λ n past s st. heard_as _ n past s _ _ _ _ c.requires.wish (c.heard-in-Failed.ensures.act c.args.config.now n past s st);
+    own = λ n past s st. tt;
+    no_turn = record { turns_same = λ past. refl; stops_same = λ past. refl };
+    rose = c.in-Failed.ensures.cause;
+    blameless = λ e past. absurd (true≢false e);
+    waitless = record { waits = c.in-Failed.ensures.waits; stops = c.in-Failed.ensures.stops; clock = c.in-Failed.ensures.clock };
+    over = λ n past s st e. c.heard-in-Failed.ensures.over c.args.config.now n past s st e;
+  },
+)
+
+pub returns-in-Memory : goal.returns-in-Memory
+returns-in-Memory g c = rw c.want.ensures.memory (
+  record {
+    did = c.in-Memory.ensures.act;
+    stands = λ n past s st. c.want.ensures.cut.stands c.args.config.now n past s st c.requires.going;
+    rose = c.in-Memory.ensures.cause;
+    waitless = record { waits = c.in-Memory.ensures.waits; stops = c.in-Memory.ensures.stops; clock = c.in-Memory.ensures.clock };
+  },
+  c.requires.going,
+  c.want.ensures.cut.over,
+  c.want.ensures.cut.left,
+)
+
+pub send-requires-clause-some : goal.send-requires-clause-some
+send-requires-clause-some g c = let at = c.requires.meets in c.pending-packet.ensures.offers c.args.config.now at.n at.past at.s at.stands (ap is_writing c.requires.wish)
+
+pub send-requires-clause-packet : goal.send-requires-clause-packet
+send-requires-clause-packet g c = let at = c.requires.meets in (c.pending-packet.ensures.packet c.args.config.now at.n at.past at.s c.args.place at.stands at.legal c.requires.wish).1
+
+pub heard-requires : goal.heard-requires
+heard-requires g c =
+    let at = c.requires.meets in
+    let whole = (c.pending-packet.ensures.packet c.args.config.now at.n at.past at.s c.args.place at.stands at.legal c.requires.wish).0 in
+    fits_as _ _ c.args.session.now c.requires.wish (c.pending-packet.ensures.offers c.args.config.now at.n at.past at.s at.stands (ap is_writing c.requires.wish), ap length whole)

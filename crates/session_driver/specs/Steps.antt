@@ -1,0 +1,102 @@
+-- What a step makes of a world and of the session that it is for.
+use Rattle.std.specs.Prelude.{◌≡◌, ℕ, ◌<◌, ◌≤◌, Bool, true, false, List, ◌∷◌, ◌++◌, Option, Some, None, option_map}
+use Rattle.relay_model.specs.declared.acts.Act.{Act}
+use Rattle.relay_model.specs.declared.acts.Act.TheVariants.{ReadFault, WriteFault}
+use Rattle.relay_model.specs.declared.places.Place.{Place}
+use Rattle.relay_model.specs.declared.commands.Config.{Config}
+use Rattle.relay_model.specs.Configs.{is_of, is_place_of, single}
+use Rattle.relay_model.specs.Holding.{standing}
+use Rattle.relay_model.specs.History.{turns}
+use Rattle.relay_model.specs.Journals.{History, Asking}
+use Rattle.relay_model.specs.May.{Legal}
+use Rattle.relay_model.specs.Outcome.{first_fault}
+use Rattle.world_trait.specs.Answers.{Answered, AnsweredAsking, DidNothing, Rose}
+use Rattle.relay_core.specs.declared.sessions.Session.{Session}
+use Rattle.relay_core.specs.declared.wishes.Wish.TheVariants as wishes
+use Rattle.relay_core.specs.Sessions.{Stands, Heard, wish_of, left_of, has_ended}
+use Rattle.relay_core.specs.Blames.{is_blamed}
+use Rattle.relay_core.specs.Told.{stop_turned}
+use Rattle.session_driver.specs.Seen.{Seen}
+use Rattle.session_driver.specs.declared.stepped.Stepped.{Stepped}
+use Rattle.session_driver.specs.declared.stepped.Stepped.TheVariants as steps
+
+-- the acts of a run, newest first, and what it asked for, behind what a world had told before
+abbrev pub extend : List Act → List Asking → History → History
+extend past pairs h = record { acts = past ++ h.acts; asked = h.asked ++ pairs }
+
+-- the session, whatever its number, stands for some legal history of the command that this world stands for
+pub record Meets (c : Config) (now : Seen) (session : Session) : Type 0 where
+  pub n : ℕ
+  pub past : List Act
+  pub s : ℕ
+  pub legal : Legal c n past
+  pub stands : Stands c n past s session
+  pub start : Option History
+  pub pairs : List Asking
+  pub told : now.told ≡ option_map (extend past pairs) start
+  pub holds : (p : Place) → now.held p ≡ standing past p
+
+-- no count of waits, and no clock, moves by a call that is no wait
+pub record Waitless (old new : Seen) : Type 0 where
+  pub waits : new.waits ≡ old.waits
+  pub stops : old.stops ≤ new.stops
+  pub clock : new.clock ≡ old.clock
+
+-- what a call did, which asked for something or for nothing
+abbrev pub DidFor : Option Asking → Seen → Seen → Act → Type 0
+DidFor None old new act = Answered old.told new.told old.held new.held (Some act)
+DidFor (Some asking) old new act = AnsweredAsking asking old.told new.told old.held new.held (Some act)
+
+-- what it asked for is the session's own, with its address
+abbrev pub OwnAsking : Config → ℕ → Option Asking → Type 0
+OwnAsking c s None = Unit {0}
+OwnAsking c s (Some asking) = (is_of c s asking.0 ≡ true) × (asking.1 ≡ single c asking.0)
+
+-- the act is no turn
+pub record NoTurn (act : Act) : Type 0 where
+  pub turns_same : (past : List Act) → turns (act ∷ past) ≡ turns past
+  pub stops_same : (past : List Act) → stop_turned (act ∷ past) ≡ stop_turned past
+
+-- the world did this act, and whatever the session stands for it has heard it
+pub record Acts (c : Config) (old new : Seen) (before after : Session) (act : Act) : Type 0 where
+  pub asked : Option Asking
+  pub failed : Bool
+  pub did : DidFor asked old new act
+  pub heard : (n : ℕ) (past : List Act) (s : ℕ) → Stands c n past s before → Heard c n past s act before after
+  pub own : (n : ℕ) (past : List Act) (s : ℕ) → Stands c n past s before → OwnAsking c s asked
+  pub no_turn : NoTurn act
+  pub rose : Rose old.faults new.faults failed
+  pub blameless : failed ≡ false → (past : List Act) → is_blamed (act ∷ past) ≡ is_blamed past
+  pub waitless : Waitless old new
+  pub over : (n : ℕ) (past : List Act) (s : ℕ) → Stands c n past s before → has_ended before ≡ true → has_ended after ≡ true
+
+-- the act is no read and no write that failed
+abbrev pub IsFaultless : Config → Act → Type 0
+IsFaultless c act = (past : List Act) (s : ℕ) → first_fault c (act ∷ past) s ≡ first_fault c past s
+
+-- the place is one of the session's
+abbrev pub IsOwn : Config → Session → Place → Type 0
+IsOwn c session p = (n : ℕ) (past : List Act) (s : ℕ) → Stands c n past s session → is_place_of c s p ≡ true
+
+-- nothing was done, and the session stands for what it stood for
+pub record Idles (c : Config) (old new : Seen) (before after : Session) : Type 0 where
+  pub did : DidNothing old.told new.told old.held new.held
+  pub stands : (n : ℕ) (past : List Act) (s : ℕ) → Stands c n past s before → Stands c n past s after
+  pub rose : Rose old.faults new.faults false
+  pub waitless : Waitless old new
+
+-- the session was cut for want of memory, whatever it stands for
+pub record IsCut (before after : Session) : Type 0 where
+  pub stands : (c : Config) (n : ℕ) (past : List Act) (s : ℕ) → Stands c n past s before → has_ended before ≡ false → Stands c n past s after
+  pub over : has_ended after ≡ true
+  pub left : left_of after ≡ left_of before
+
+abbrev pub StepIs : Config → Seen → Seen → Session → Session → Stepped → Type 0
+StepIs c old new before after steps.Acted = (act : Act) × IsFaultless c act × Acts c old new before after act
+StepIs c old new before after (steps.ReadFailed p) = IsOwn c before p × Acts c old new before after (ReadFault p)
+StepIs c old new before after (steps.WriteFailed p) = IsOwn c before p × Acts c old new before after (WriteFault p)
+StepIs c old new before after steps.Childless =
+    Idles c old new before after × ((n : ℕ) (past : List Act) (s : ℕ) → Stands c n past s before → (left_of after < left_of before) × (has_ended before ≡ true → has_ended after ≡ true))
+StepIs c old new before after steps.Memory = Idles c old new before after × (has_ended before ≡ false) × (has_ended after ≡ true) × (left_of after ≡ left_of before)
+StepIs c old new before after (steps.Sleep until) = (new ≡ old) × (after ≡ before) × (wish_of before ≡ wishes.Sleep until)
+StepIs c old new before after (steps.Done why) = (new ≡ old) × (after ≡ before) × (wish_of before ≡ wishes.Done why)

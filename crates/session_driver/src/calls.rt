@@ -1,0 +1,322 @@
+// The calls that a session wishes for, each made on a world.
+ghost use Rattle.std.specs.Prelude.{◌≡◌, ℕ, ◌<◌, List, length, true, false};
+ghost use Rattle.relay_model.specs.declared.acts.Act.{Act};
+ghost use Rattle.relay_model.specs.Configs.{is_of, is_place_of};
+ghost use Rattle.relay_model.specs.Holding.{Free, Settling, Open, is_free, is_open};
+ghost use Rattle.world_trait.specs.Answers.{NotReaped};
+ghost use Rattle.relay_core.specs.declared.wishes.Wish.TheVariants as wishes;
+ghost use Rattle.relay_core.specs.Sessions.{Stands, wish_of, has_ended};
+ghost use Rattle.session_driver.specs.Seen.{seen};
+ghost use Rattle.session_driver.specs.Steps.{IsCut, IsOwn, Meets, StepIs};
+ghost use Rattle.session_driver.specs.declared.stepped.Stepped.TheVariants as steps;
+
+use crate::stepped::Stepped;
+use command_places::single;
+use relay_core::{Answer, Session};
+use relay_model::{Config, Place, Shut, Why};
+use world_trait::{
+    AcceptAnswer, ListenAnswer, OpenAnswer, ReadAnswer, ReapAnswer, SendAnswer, ShutAnswer, World,
+    WriteAnswer,
+};
+
+/// Cuts the session since memory was wanting.
+fn want(session: &mut Session) -> Stepped
+    ensures cut { IsCut session.old session.new }
+    ensures memory { result ≡ steps.Memory }
+{
+    session.cut(Why::Memory);
+    Stepped::Memory
+}
+
+/// Makes an opening.
+pub fn open<W: World>(
+    session: &mut Session,
+    world: &mut W,
+    config: &Config,
+    place: Place,
+) -> Stepped
+    requires wish { wish_of session.old ≡ wishes.Open place }
+    requires free { W.held world.old place ≡ Free }
+    requires own { (n : ℕ) (past : List Act) (s : ℕ) → Stands config.now n past s session.old → is_of config.now s place ≡ true }
+    requires going { has_ended session.old ≡ false }
+    ensures { StepIs config.now (seen W.told W.held W.faults W.waits W.stops W.clock world.old) (seen W.told W.held W.faults W.waits W.stops W.clock world.new) session.old session.new result }
+{
+    let behind = session.peer();
+    match world.open_place(place, single(config, place), behind) {
+        OpenAnswer::Opened => {
+            session.heard(0, Answer::Opened);
+            Stepped::Acted
+        }
+        OpenAnswer::Later => {
+            session.heard(0, Answer::Later);
+            Stepped::Acted
+        }
+        OpenAnswer::Failed => {
+            session.heard(0, Answer::Failed);
+            Stepped::Acted
+        }
+        OpenAnswer::Memory => want(session),
+    }
+}
+
+/// Looks again at an opening that is under way.
+pub fn settle<W: World>(
+    session: &mut Session,
+    world: &mut W,
+    config: &Config,
+    place: Place,
+) -> Stepped
+    requires wish { wish_of session.old ≡ wishes.Settle place }
+    requires settling { W.held world.old place ≡ Settling }
+    requires going { has_ended session.old ≡ false }
+    ensures { StepIs config.now (seen W.told W.held W.faults W.waits W.stops W.clock world.old) (seen W.told W.held W.faults W.waits W.stops W.clock world.new) session.old session.new result }
+{
+    match world.settle(place) {
+        OpenAnswer::Opened => {
+            session.heard(0, Answer::Opened);
+            Stepped::Acted
+        }
+        OpenAnswer::Later => {
+            session.heard(0, Answer::Later);
+            Stepped::Acted
+        }
+        OpenAnswer::Failed => {
+            session.heard(0, Answer::Failed);
+            Stepped::Acted
+        }
+        OpenAnswer::Memory => want(session),
+    }
+}
+
+/// Listens at a door.
+pub fn listen<W: World>(
+    session: &mut Session,
+    world: &mut W,
+    config: &Config,
+    door: Place,
+) -> Stepped
+    requires wish { wish_of session.old ≡ wishes.Listen door }
+    requires free { W.held world.old door ≡ Free }
+    requires own { (n : ℕ) (past : List Act) (s : ℕ) → Stands config.now n past s session.old → is_of config.now s door ≡ true }
+    requires going { has_ended session.old ≡ false }
+    ensures { StepIs config.now (seen W.told W.held W.faults W.waits W.stops W.clock world.old) (seen W.told W.held W.faults W.waits W.stops W.clock world.new) session.old session.new result }
+{
+    match world.listen(door, single(config, door)) {
+        ListenAnswer::Listening => {
+            session.heard(0, Answer::Listening);
+            Stepped::Acted
+        }
+        ListenAnswer::Failed => {
+            session.heard(0, Answer::Failed);
+            Stepped::Acted
+        }
+        ListenAnswer::Memory => want(session),
+    }
+}
+
+/// Asks for the next peer at a door.
+pub fn accept<W: World>(
+    session: &mut Session,
+    world: &mut W,
+    config: &Config,
+    door: Place,
+    place: Place,
+) -> Stepped
+    requires wish { wish_of session.old ≡ wishes.Accept door place }
+    requires door { W.held world.old door ≡ Open }
+    requires place { W.held world.old place ≡ Free }
+    requires going { has_ended session.old ≡ false }
+    ensures { StepIs config.now (seen W.told W.held W.faults W.waits W.stops W.clock world.old) (seen W.told W.held W.faults W.waits W.stops W.clock world.new) session.old session.new result }
+{
+    match world.accept(door, place) {
+        AcceptAnswer::Accepted(peer) => {
+            session.heard(0, Answer::Accepted(peer));
+            Stepped::Acted
+        }
+        AcceptAnswer::NoPeer => {
+            session.heard(0, Answer::NoPeer);
+            Stepped::Acted
+        }
+        AcceptAnswer::Failed => {
+            session.heard(0, Answer::Failed);
+            Stepped::Acted
+        }
+        AcceptAnswer::Memory => want(session),
+    }
+}
+
+/// Reads at most so many bytes.
+pub fn read<W: World>(
+    session: &mut Session,
+    world: &mut W,
+    config: &Config,
+    scratch: &mut [u8],
+    place: Place,
+    at_most: usize,
+) -> Stepped
+    requires wish { wish_of session.old ≡ wishes.Read place at_most }
+    requires open { is_open (W.held world.old place) ≡ true }
+    requires some { 0 < at_most }
+    requires own { IsOwn config.now session.old place }
+    requires scratch { 0 < length scratch.old }
+    requires going { has_ended session.old ≡ false }
+    ensures step { StepIs config.now (seen W.told W.held W.faults W.waits W.stops W.clock world.old) (seen W.told W.held W.faults W.waits W.stops W.clock world.new) session.old session.new result }
+    ensures scratch { length scratch.new ≡ length scratch.old }
+{
+    let most = at_most.min(scratch.len());
+    let into = &mut scratch[..most];
+    match world.read(place, into) {
+        ReadAnswer::Bytes(count) => {
+            session.heard(0, Answer::Bytes(&into[..count]));
+            Stepped::Acted
+        }
+        ReadAnswer::Empty => {
+            session.heard(0, Answer::Empty);
+            Stepped::Acted
+        }
+        ReadAnswer::End => {
+            session.heard(0, Answer::End);
+            Stepped::Acted
+        }
+        ReadAnswer::NotYet => {
+            session.heard(0, Answer::NotYet);
+            Stepped::Acted
+        }
+        ReadAnswer::Failed => {
+            session.heard(0, Answer::Failed);
+            Stepped::ReadFailed(place)
+        }
+        ReadAnswer::Memory => want(session),
+    }
+}
+
+/// Writes from the front of what waits.
+pub fn write<W: World>(
+    session: &mut Session,
+    world: &mut W,
+    config: &Config,
+    place: Place,
+) -> Stepped
+    requires wish { wish_of session.old ≡ wishes.Write place }
+    requires open { W.held world.old place ≡ Open }
+    requires own { IsOwn config.now session.old place }
+    requires going { has_ended session.old ≡ false }
+    requires meets { Meets config.now (seen W.told W.held W.faults W.waits W.stops W.clock world.old) session.old }
+    ensures { StepIs config.now (seen W.told W.held W.faults W.waits W.stops W.clock world.old) (seen W.told W.held W.faults W.waits W.stops W.clock world.new) session.old session.new result }
+{
+    match world.write(place, session.pending()) {
+        WriteAnswer::Took(count) => {
+            session.heard(0, Answer::Took(count));
+            Stepped::Acted
+        }
+        WriteAnswer::NotYet => {
+            session.heard(0, Answer::NotYet);
+            Stepped::Acted
+        }
+        WriteAnswer::Failed => {
+            session.heard(0, Answer::Failed);
+            Stepped::WriteFailed(place)
+        }
+        WriteAnswer::Memory => want(session),
+    }
+}
+
+/// Sends what waits as one packet.
+pub fn send<W: World>(
+    session: &mut Session,
+    world: &mut W,
+    config: &Config,
+    place: Place,
+) -> Stepped
+    requires wish { wish_of session.old ≡ wishes.Send place }
+    requires open { W.held world.old place ≡ Open }
+    requires own { IsOwn config.now session.old place }
+    requires going { has_ended session.old ≡ false }
+    requires meets { Meets config.now (seen W.told W.held W.faults W.waits W.stops W.clock world.old) session.old }
+    ensures { StepIs config.now (seen W.told W.held W.faults W.waits W.stops W.clock world.old) (seen W.told W.held W.faults W.waits W.stops W.clock world.new) session.old session.new result }
+{
+    let packet = session.pending();
+    let count = packet.len();
+    match world.send(place, packet) {
+        SendAnswer::Sent => {
+            session.heard(0, Answer::Took(count));
+            Stepped::Acted
+        }
+        SendAnswer::NotYet => {
+            session.heard(0, Answer::NotYet);
+            Stepped::Acted
+        }
+        SendAnswer::Failed => {
+            session.heard(0, Answer::Failed);
+            Stepped::WriteFailed(place)
+        }
+        SendAnswer::Memory => want(session),
+    }
+}
+
+/// Passes an end on.
+pub fn shut<W: World>(
+    session: &mut Session,
+    world: &mut W,
+    config: &Config,
+    place: Place,
+    how: Shut,
+) -> Stepped
+    requires wish { wish_of session.old ≡ wishes.Shut place how }
+    requires open { W.held world.old place ≡ Open }
+    requires going { has_ended session.old ≡ false }
+    ensures { StepIs config.now (seen W.told W.held W.faults W.waits W.stops W.clock world.old) (seen W.told W.held W.faults W.waits W.stops W.clock world.new) session.old session.new result }
+{
+    match world.shut(place, how) {
+        ShutAnswer::Done => {
+            session.heard(0, Answer::Done);
+            Stepped::Acted
+        }
+        ShutAnswer::Failed => {
+            session.heard(0, Answer::Failed);
+            Stepped::Acted
+        }
+        ShutAnswer::Memory => want(session),
+    }
+}
+
+/// Closes what is held.
+pub fn close<W: World>(
+    session: &mut Session,
+    world: &mut W,
+    config: &Config,
+    place: Place,
+    why: Why,
+) -> Stepped
+    requires wish { wish_of session.old ≡ wishes.Close place why }
+    requires held { is_free (W.held world.old place) ≡ false }
+    ensures { StepIs config.now (seen W.told W.held W.faults W.waits W.stops W.clock world.old) (seen W.told W.held W.faults W.waits W.stops W.clock world.new) session.old session.new result }
+{
+    world.close(place, why);
+    session.heard(0, Answer::Done);
+    Stepped::Acted
+}
+
+/// Asks what became of a child. Where memory is wanting nothing becomes known of it.
+pub fn reap<W: World>(
+    session: &mut Session,
+    world: &mut W,
+    config: &Config,
+    place: Place,
+) -> Stepped
+    requires wish { wish_of session.old ≡ wishes.Reap place }
+    requires free { W.held world.old place ≡ Free }
+    requires once { NotReaped (W.told world.old) place }
+    ensures { StepIs config.now (seen W.told W.held W.faults W.waits W.stops W.clock world.old) (seen W.told W.held W.faults W.waits W.stops W.clock world.new) session.old session.new result }
+{
+    match world.reap(place) {
+        ReapAnswer::Reaped(end) => {
+            session.heard(0, Answer::Reaped(end));
+            Stepped::Acted
+        }
+        ReapAnswer::NoChild | ReapAnswer::Memory => {
+            session.heard(0, Answer::NoChild);
+            Stepped::Childless
+        }
+    }
+}

@@ -1,0 +1,38 @@
+// The next step of a session.
+ghost use Rattle.std.specs.Prelude.{◌≡◌, ◌<◌, length};
+ghost use Rattle.session_driver.specs.Seen.{seen};
+ghost use Rattle.session_driver.specs.Steps.{Meets, StepIs};
+
+use crate::calls::{accept, close, listen, open, read, reap, send, settle, shut, write};
+use crate::stepped::Stepped;
+use relay_core::{Session, Wish};
+use relay_model::Config;
+use world_trait::World;
+
+/// Makes the next call that the session wishes for, and has it hear the answer.
+pub fn step<W: World>(
+    session: &mut Session,
+    world: &mut W,
+    config: &Config,
+    scratch: &mut [u8],
+) -> Stepped
+    requires scratch { 0 < length scratch.old }
+    requires meets { Meets config.now (seen W.told W.held W.faults W.waits W.stops W.clock world.old) session.old }
+    ensures step { StepIs config.now (seen W.told W.held W.faults W.waits W.stops W.clock world.old) (seen W.told W.held W.faults W.waits W.stops W.clock world.new) session.old session.new result }
+    ensures scratch { length scratch.new ≡ length scratch.old }
+{
+    match session.wish() {
+        Wish::Open(place) => open(session, world, config, place),
+        Wish::Settle(place) => settle(session, world, config, place),
+        Wish::Listen(door) => listen(session, world, config, door),
+        Wish::Accept { door, place } => accept(session, world, config, door, place),
+        Wish::Read { place, at_most } => read(session, world, config, scratch, place, at_most),
+        Wish::Write(place) => write(session, world, config, place),
+        Wish::Send(place) => send(session, world, config, place),
+        Wish::Shut(place, how) => shut(session, world, config, place, how),
+        Wish::Close(place, why) => close(session, world, config, place, why),
+        Wish::Reap(place) => reap(session, world, config, place),
+        Wish::Sleep { until } => Stepped::Sleep(until),
+        Wish::Done(why) => Stepped::Done(why),
+    }
+}
