@@ -339,12 +339,17 @@ settled() {
     done
 }
 
-# looks_stay NAME: it holds so many descriptors, threads and children as before.
+# looks_stay NAME: it holds no more descriptors, threads and children than before.
 looks_stay() {
-    local before="$looks"
+    local before now at
+    read -ra before <<<"$looks"
     lives relay
     look_at relay
-    [ "$looks" = "$before" ] || wrong "$1: $before, then $looks descriptors, threads and children"
+    read -ra now <<<"$looks"
+    for at in 0 1 2; do
+        [ "${now[at]}" -le "${before[at]}" ] ||
+            wrong "$1: ${before[*]}, then ${now[*]} descriptors, threads and children"
+    done
 }
 
 # tries_cost_nothing WORD..: the relay of these words tries to open an address again and again.
