@@ -60,6 +60,9 @@ keep_run() {
     return 0
 }
 
+# forget_last: of the runs up to here none is the last.
+forget_last() { [ -z "$audits" ] || rm -f "$audits/last"; }
+
 # keep_last STATUS INPUT OUTPUT: the same for the last run that began.
 keep_last() {
     local last

@@ -39,6 +39,7 @@ report() {
 try() {
     local name="$1" wanted="$2" input="$3" output="$4" line="$5" status problem=''
     shift 5
+    forget_last
     printf '%b' "$input" >"$scratch/offered"
     # shellcheck disable=SC2002
     cat "$scratch/offered" | timeout 60 "$program" "$@" >"$scratch/out" 2>"$scratch/err"

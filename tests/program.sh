@@ -35,6 +35,7 @@ size_of() {
 # passes NAME FILE: the relay of the file gives the same bytes and status 0.
 passes() {
     local problem='' status
+    forget_last
     timeout 60 "$program" "${relay[@]}" <"$2" >"$scratch/out" 2>"$scratch/err"
     status=$?
     keep_last "$status" "$2" "$scratch/out"

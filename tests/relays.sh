@@ -21,7 +21,8 @@ end_all() {
     done
     pids=()
 }
-trap 'end_all; rm -rf "$scratch"' EXIT
+# A process that a signal ends before it has become a relay is a copy of this script, and leaves all as it is.
+trap '[ "$BASHPID" -ne "$$" ] || { end_all; rm -rf "$scratch"; }' EXIT
 cd "$scratch" || exit 1
 
 # Nobody writes here, so a reader waits.
