@@ -1,13 +1,10 @@
 // A run as the program makes one: over a desk whose standard streams and whose file of the journal are in memory.
-use crate::faults::RowFault;
-use crate::rows::{Line, Row};
-use crate::runs::{Ran, part};
-use crate::spelling::{act_of, unquoted};
 use port_desk::{Desk, Standard};
 use port_objects::{MemMaker, MemPoller, MemPort, MemSink, PortItem};
 use relay_model::{Act, NoMemory, Side, Text};
 use socat_top::{Written, run_written};
 use std::alloc::Global;
+use worked_rows::{Line, Ran, Row, RowFault, act_of, part, unquoted};
 use world_trait::Recorder;
 
 /// For how many bytes each standard stream has room.
@@ -48,7 +45,7 @@ fn stdin_of(alloc: Global, script: &[Line<'_>]) -> Result<MemPort, RowFault> {
 }
 
 /// Runs the words of the row over a desk, which keeps its history only where they ask for that.
-pub fn run_over_desk(alloc: Global, row: &Row<'_>, words: &[Text]) -> Result<Ran, RowFault> {
+pub(crate) fn run(alloc: Global, row: &Row<'_>, words: &[Text]) -> Result<Ran, RowFault> {
     let stderr = MemPort::new(alloc, ROOM)?;
     let mut file = MemSink::new(alloc, row.room)?;
     let (said, saved) = (stderr.tap(), file.tap());

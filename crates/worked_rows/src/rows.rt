@@ -10,18 +10,10 @@ pub struct Line<'a> {
     pub text: &'a str,
 }
 
-/// Over what the words of a row are run: a scripted world, or a desk as the program has one, with ports in memory.
-#[derive(Clone, Copy, Debug, PartialEq, Eq)]
-pub enum Runner {
-    World,
-    Desk,
-}
-
 /// One worked run.
 #[derive(Drop)]
 pub struct Row<'a> {
     pub head: Line<'a>,
-    pub runner: Runner,
     pub words: Option<&'a str>,
     /// A byte and how often it stands in a word in front of the others.
     pub long: Option<(u8, u32)>,
@@ -55,7 +47,6 @@ impl<'a> Row<'a> {
     fn new(alloc: Global, head: Line<'a>) -> Row<'a> {
         Row {
             head,
-            runner: Runner::World,
             words: None,
             long: None,
             turns: u64::MAX,
@@ -73,7 +64,6 @@ impl<'a> Row<'a> {
         match key {
             "words" if self.words.is_none() => self.words = Some(rest),
             "long" => self.long = Some(long_of(rest).ok_or(line.fault())?),
-            "by" => self.runner = runner_of(rest).ok_or(line.fault())?,
             "turns" => self.turns = rest.parse().map_err(|_| line.fault())?,
             "room" => self.room = rest.parse().map_err(|_| line.fault())?,
             _ => return self.take_list(line, key, rest),
@@ -102,13 +92,6 @@ impl<'a> Row<'a> {
         let line = self.words.ok_or(self.head.fault())?;
         add_words(alloc, &mut words, line)?;
         Ok(words)
-    }
-}
-
-fn runner_of(name: &str) -> Option<Runner> {
-    match name {
-        "desk" => Some(Runner::Desk),
-        _ => None,
     }
 }
 

@@ -34,7 +34,7 @@ fn first_word(text: &str) -> (&str, &str) {
 }
 
 /// Whether the line begins with these words.
-pub fn begins(line: &str, words: &str) -> bool {
+pub(crate) fn begins(line: &str, words: &str) -> bool {
     match line.strip_prefix(words) {
         Some(rest) => rest.is_empty() || rest.starts_with(' '),
         None => false,
@@ -49,7 +49,7 @@ fn moved<'a>(line: &'a str, kind: &str, place: &str) -> Option<&'a str> {
 }
 
 /// A place, and all bytes that were moved there. Rows can't ask for no bytes: no place is needed for these.
-pub fn joined(
+pub(crate) fn joined(
     alloc: Global,
     lines: &[&str],
     kind: &str,
@@ -69,7 +69,11 @@ pub fn joined(
 }
 
 /// A place, and what was asked for where all bytes that were written there begin it; else these.
-pub fn within(alloc: Global, lines: &[&str], asked: &str) -> Result<Option<String>, AllocError> {
+pub(crate) fn within(
+    alloc: Global,
+    lines: &[&str],
+    asked: &str,
+) -> Result<Option<String>, AllocError> {
     match joined(alloc, lines, "wrote ", asked)? {
         Some(text) if asked.starts_with(text.as_str()) => Ok(Some(String::from_str(alloc, asked)?)),
         other => Ok(other),
@@ -77,7 +81,11 @@ pub fn within(alloc: Global, lines: &[&str], asked: &str) -> Result<Option<Strin
 }
 
 /// A place, and the bytes of each write there.
-pub fn parted(alloc: Global, lines: &[&str], asked: &str) -> Result<Option<String>, AllocError> {
+pub(crate) fn parted(
+    alloc: Global,
+    lines: &[&str],
+    asked: &str,
+) -> Result<Option<String>, AllocError> {
     let (place, _pieces) = first_word(asked);
     let mut text = String::from_str(alloc, place)?;
     for line in lines {
@@ -90,7 +98,11 @@ pub fn parted(alloc: Global, lines: &[&str], asked: &str) -> Result<Option<Strin
 }
 
 /// How many lines begin with these words, and the words.
-pub fn count(alloc: Global, lines: &[&str], asked: &str) -> Result<Option<String>, AllocError> {
+pub(crate) fn count(
+    alloc: Global,
+    lines: &[&str],
+    asked: &str,
+) -> Result<Option<String>, AllocError> {
     let (_number, words) = first_word(asked);
     let (kind, _rest) = first_word(words);
     if !KINDS.contains(&kind) {
@@ -113,7 +125,11 @@ fn numbered(
 }
 
 /// The line with this number, counted from 1.
-pub fn line_at(alloc: Global, lines: &[&str], asked: &str) -> Result<Option<String>, AllocError> {
+pub(crate) fn line_at(
+    alloc: Global,
+    lines: &[&str],
+    asked: &str,
+) -> Result<Option<String>, AllocError> {
     let (number, words) = first_word(asked);
     match number.parse::<usize>() {
         Ok(index) if index > 0 => {
@@ -125,7 +141,11 @@ pub fn line_at(alloc: Global, lines: &[&str], asked: &str) -> Result<Option<Stri
 }
 
 /// The line with this number, counted from 1 at the end.
-pub fn back(alloc: Global, lines: &[&str], asked: &str) -> Result<Option<String>, AllocError> {
+pub(crate) fn back(
+    alloc: Global,
+    lines: &[&str],
+    asked: &str,
+) -> Result<Option<String>, AllocError> {
     let (number, words) = first_word(asked);
     match number.parse::<usize>() {
         Ok(index) if index > 0 => {
@@ -145,7 +165,11 @@ fn turned_at(line: &str) -> Option<&str> {
 }
 
 /// The moment at which the line first stands there, and the line.
-pub fn moment(alloc: Global, lines: &[&str], asked: &str) -> Result<Option<String>, AllocError> {
+pub(crate) fn moment(
+    alloc: Global,
+    lines: &[&str],
+    asked: &str,
+) -> Result<Option<String>, AllocError> {
     let (_moment, wanted) = first_word(asked);
     let mut now = "0";
     for line in lines {
@@ -158,7 +182,7 @@ pub fn moment(alloc: Global, lines: &[&str], asked: &str) -> Result<Option<Strin
 }
 
 /// The line that is asked for, where it stands from this one on; the next search begins behind it.
-pub fn search(
+pub(crate) fn search(
     alloc: Global,
     lines: &[&str],
     asked: &str,

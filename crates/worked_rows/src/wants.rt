@@ -8,22 +8,22 @@ use std::alloc::{AllocError, Global};
 
 /// What is seen of a run.
 #[derive(Drop)]
-pub struct Seen<'a> {
-    pub outcome: Outcome,
-    pub status: u8,
-    pub said: &'a str,
-    pub verdict: Verdict,
-    pub saving: Saving,
+pub(crate) struct Seen<'a> {
+    pub(crate) outcome: Outcome,
+    pub(crate) status: u8,
+    pub(crate) said: &'a str,
+    pub(crate) verdict: Verdict,
+    pub(crate) saving: Saving,
     /// What the file of the journal took, and the journal.
-    pub saved: &'a [u8],
-    pub journal: &'a [u8],
+    pub(crate) saved: &'a [u8],
+    pub(crate) journal: &'a [u8],
     /// The lines of the journal.
-    pub lines: Vec<&'a str>,
+    pub(crate) lines: Vec<&'a str>,
 }
 
 /// The answer to a row that asks for this: it fits exactly where it is the same text. None where rows can't ask so.
 /// `from` is the first line of the journal at which `then` looks.
-pub fn answer(
+pub(crate) fn answer(
     alloc: Global,
     seen: &Seen<'_>,
     key: &str,
@@ -97,7 +97,7 @@ fn ending(alloc: Global, outcome: &Outcome, asked: &str) -> Result<String, Alloc
 }
 
 /// The lines of a text in one, without the last newline.
-pub fn one_line(alloc: Global, text: &str) -> Result<String, AllocError> {
+pub(crate) fn one_line(alloc: Global, text: &str) -> Result<String, AllocError> {
     let mut line = String::new(alloc);
     for part in text.lines() {
         if !line.is_empty() {
@@ -109,7 +109,7 @@ pub fn one_line(alloc: Global, text: &str) -> Result<String, AllocError> {
 }
 
 /// What the auditor says.
-pub fn verdict_text(alloc: Global, verdict: Verdict) -> Result<String, AllocError> {
+pub(crate) fn verdict_text(alloc: Global, verdict: Verdict) -> Result<String, AllocError> {
     match verdict {
         Verdict::Yes { acts, held } => format!(in alloc; "yes: {acts} acts, {held} held"),
         Verdict::BadLine { number } => format!(in alloc; "no: line {number}"),

@@ -51,7 +51,7 @@ fn fault_text(alloc: Global, place: Place, op: Op) -> Result<String, AllocError>
 }
 
 /// How the run ended, as rows spell it.
-pub fn outcome_text(alloc: Global, outcome: &Outcome) -> Result<String, AllocError> {
+pub(crate) fn outcome_text(alloc: Global, outcome: &Outcome) -> Result<String, AllocError> {
     match outcome {
         Outcome::Ended(why) => String::from_str(alloc, end_word(*why)),
         Outcome::Told => String::from_str(alloc, "told"),

@@ -1,7 +1,7 @@
 // The check of each row, and the report of all.
 use crate::faults::RowFault;
 use crate::rows::{Line, Row, read_rows};
-use crate::runs::{Ran, run};
+use crate::runs::Ran;
 use crate::spelling::unquoted;
 use crate::told::check_told;
 use crate::wants::{Seen, answer, verdict_text};
@@ -13,15 +13,15 @@ use std::str;
 
 /// What was found so far.
 #[derive(Drop)]
-pub struct Report {
-    pub text: String,
+pub(crate) struct Report {
+    text: String,
     rows: u32,
     failed: u32,
 }
 
 impl Report {
     /// No rows yet; takes no memory.
-    pub fn new(alloc: Global) -> Report {
+    pub(crate) fn new(alloc: Global) -> Report {
         Report {
             text: String::new(alloc),
             rows: 0,
@@ -29,13 +29,17 @@ impl Report {
         }
     }
 
+    pub(crate) fn text(&self) -> &str {
+        self.text.as_str()
+    }
+
     /// Whether there are rows and each fits.
-    pub fn is_good(&self) -> bool {
+    pub(crate) fn is_good(&self) -> bool {
         self.rows > 0 && self.failed == 0
     }
 
     /// Says how many rows there are.
-    pub fn conclude(&mut self) -> Result<(), AllocError> {
+    pub(crate) fn conclude(&mut self) -> Result<(), AllocError> {
         let rows = self.rows;
         let failed = self.failed;
         writeln!(self.text, "{rows} rows, {failed} failed")
@@ -57,7 +61,7 @@ impl Report {
     }
 
     /// Says that what a row asks for is otherwise.
-    pub fn differ(&mut self, line: Line<'_>, have: &str) -> Result<(), AllocError> {
+    pub(crate) fn differ(&mut self, line: Line<'_>, have: &str) -> Result<(), AllocError> {
         let number = line.number;
         let want = line.text;
         writeln!(self.text, "FAILED line {number}: want {want}, have {have}")
@@ -65,13 +69,18 @@ impl Report {
 }
 
 /// Checks the rows of a file. Those behind a line that isn't understood aren't checked.
-pub fn check_file(
+pub(crate) fn check_file<F>(
     alloc: Global,
     report: &mut Report,
+    run: &F,
     name: &str,
     text: &str,
-) -> Result<(), AllocError> {
-    match check_rows(alloc, report, text) {
+) -> Result<(), AllocError>
+where
+    F: Fn(Global, &Row<'_>, &[Text]) -> Result<Ran, RowFault>,
+    requires { F.IsAlwaysCallable run.now }
+{
+    match check_rows(alloc, report, run, text) {
         Ok(()) => Ok(()),
         Err(RowFault::Memory) => Err(AllocError),
         Err(RowFault::Line(number)) => {
@@ -81,18 +90,26 @@ pub fn check_file(
     }
 }
 
-fn check_rows(alloc: Global, report: &mut Report, text: &str) -> Result<(), RowFault> {
+fn check_rows<F>(alloc: Global, report: &mut Report, run: &F, text: &str) -> Result<(), RowFault>
+where
+    F: Fn(Global, &Row<'_>, &[Text]) -> Result<Ran, RowFault>,
+    requires { F.IsAlwaysCallable run.now }
+{
     let rows = read_rows(alloc, text)?;
     for row in rows.as_slice() {
-        check_row(alloc, report, row)?;
+        check_row(alloc, report, run, row)?;
     }
     Ok(())
 }
 
-fn check_row(alloc: Global, report: &mut Report, row: &Row<'_>) -> Result<(), RowFault> {
+fn check_row<F>(alloc: Global, report: &mut Report, run: &F, row: &Row<'_>) -> Result<(), RowFault>
+where
+    F: Fn(Global, &Row<'_>, &[Text]) -> Result<Ran, RowFault>,
+    requires { F.IsAlwaysCallable run.now }
+{
     let words = row.words(alloc)?;
     let fits = if row.past.is_empty() {
-        check_run(alloc, report, row, words.as_slice())?
+        check_run(alloc, report, run, row, words.as_slice())?
     } else {
         check_told(alloc, report, row, words.as_slice())?
     };
@@ -101,12 +118,17 @@ fn check_row(alloc: Global, report: &mut Report, row: &Row<'_>) -> Result<(), Ro
 }
 
 /// Whether the run of the words is as the row says.
-fn check_run(
+fn check_run<F>(
     alloc: Global,
     report: &mut Report,
+    run: &F,
     row: &Row<'_>,
     words: &[Text],
-) -> Result<bool, RowFault> {
+) -> Result<bool, RowFault>
+where
+    F: Fn(Global, &Row<'_>, &[Text]) -> Result<Ran, RowFault>,
+    requires { F.IsAlwaysCallable run.now }
+{
     if !has_end(row) {
         return Err(row.head.fault());
     }

@@ -52,7 +52,7 @@ fn answer(alloc: Global, audited: &Audited, line: Line<'_>) -> Result<Option<Str
 }
 
 /// Whether the auditor says of the journal what the row says.
-pub fn check_told(
+pub(crate) fn check_told(
     alloc: Global,
     report: &mut Report,
     row: &Row<'_>,
