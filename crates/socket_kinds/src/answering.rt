@@ -1,6 +1,6 @@
 // What the system's answers mean to a port.
 ghost use Rattle.std.specs.Prelude.{◌≡◌};
-ghost use Rattle.socket_ports.specs.Answering.{IsReceived, IsAccepted, IsShutDown, connection_of, settling_of};
+ghost use Rattle.socket_kinds.specs.Answering.{IsReceived, IsAccepted, IsShutDown, connection_of, settling_of};
 
 use port_trait::{Got, Settled, Shutting, Took};
 use std::io;

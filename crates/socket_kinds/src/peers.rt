@@ -1,5 +1,5 @@
 // Addresses of peers, as the system and as the relay have them.
-ghost use Rattle.socket_ports.specs.Peers.{IsPeer, IsAddress};
+ghost use Rattle.socket_kinds.specs.Peers.{IsPeer, IsAddress};
 
 use relay_model::Peer;
 use std::net::{IpAddr, Ipv4Addr, Ipv6Addr, SocketAddr};

@@ -11,8 +11,8 @@ use Rattle.port_trait.specs.declared.answers.Took.{Took as WriteAnswer}
 use Rattle.port_trait.specs.declared.answers.Took.TheVariants as writes
 use Rattle.port_trait.specs.declared.answers.Shutting.{Shutting}
 use Rattle.port_trait.specs.declared.answers.Shutting.TheVariants as shuts
-use Rattle.socket_ports.specs.declared.answering.Connection.{Connection}
-use Rattle.socket_ports.specs.declared.answering.Connection.TheVariants as connections
+use Rattle.socket_kinds.specs.declared.answering.Connection.{Connection}
+use Rattle.socket_kinds.specs.declared.answering.Connection.TheVariants as connections
 
 -- a read of a stream: no bytes are its end
 abbrev pub IsReceived : Result ℕ Error → Got → Type 0

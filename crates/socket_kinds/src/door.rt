@@ -4,7 +4,7 @@ ghost use Rattle.port_trait.specs.declared.answers.Settled.TheVariants as settle
 ghost use Rattle.port_trait.specs.declared.answers.Got.TheVariants as reads;
 ghost use Rattle.port_trait.specs.declared.answers.Took.TheVariants as writes;
 ghost use Rattle.port_trait.specs.declared.answers.Shutting.TheVariants as shuts;
-ghost use Rattle.socket_ports.specs.Doors.{door_hint, IsDeclined, IsNobody, IsOne};
+ghost use Rattle.socket_kinds.specs.Doors.{door_hint, IsDeclined, IsNobody, IsOne};
 
 use crate::enrolled::EnrolledUdp;
 use crate::peers::peer_of;

@@ -6,8 +6,8 @@ use Rattle.std.specs.IoError.{error_kind}
 use Rattle.port_trait.specs.declared.answers.Hint.{Hint}
 use Rattle.port_trait.specs.declared.answers.Got.{Got}
 use Rattle.port_trait.specs.declared.answers.Got.TheVariants as reads
-use Rattle.socket_ports.specs.declared.datagram.Fetched.{Fetched}
-use Rattle.socket_ports.specs.declared.datagram.Fetched.TheVariants as fetches
+use Rattle.socket_kinds.specs.declared.datagram.Fetched.{Fetched}
+use Rattle.socket_kinds.specs.declared.datagram.Fetched.TheVariants as fetches
 
 -- the bytes of the last datagram that weren't handed out, and whether others' datagrams may still stand before the
 -- next of the partner's

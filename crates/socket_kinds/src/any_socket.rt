@@ -1,8 +1,8 @@
 // Any of the sockets.
 ghost use Rattle.std.specs.Prelude.{◌≡◌, ◌<◌, length, None, is_some};
 ghost use Rattle.port_trait.specs.Meanings.{Gives, Accepts, AcceptsWhole};
-ghost use Rattle.socket_ports.specs.Kinds.{hint_of};
-ghost use Rattle.socket_ports.specs.Sockets.{hint_told};
+ghost use Rattle.socket_kinds.specs.Kinds.{hint_of};
+ghost use Rattle.socket_kinds.specs.Sockets.{hint_told};
 
 use crate::datagram::DatagramSocket;
 use crate::door::Door;

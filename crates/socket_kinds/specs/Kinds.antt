@@ -1,10 +1,10 @@
 -- What contracts see of any socket.
 use Rattle.std.specs.Prelude.{Bool, true, false, Option, None, Some}
 use Rattle.port_trait.specs.declared.answers.Hint.{Hint}
-use Rattle.socket_ports.specs.Datagrams.{datagram_hint}
-use Rattle.socket_ports.specs.Doors.{door_hint}
-use Rattle.socket_ports.specs.declared.any_socket.AnySocket.{AnySocket}
-use Rattle.socket_ports.specs.declared.any_socket.AnySocket.TheVariants as sockets
+use Rattle.socket_kinds.specs.Datagrams.{datagram_hint}
+use Rattle.socket_kinds.specs.Doors.{door_hint}
+use Rattle.socket_kinds.specs.declared.any_socket.AnySocket.{AnySocket}
+use Rattle.socket_kinds.specs.declared.any_socket.AnySocket.TheVariants as sockets
 
 -- what it knows of its readiness by itself: a stream knows nothing
 abbrev pub hint_of : AnySocket → Option Hint

@@ -6,9 +6,9 @@ ghost use Rattle.port_trait.specs.declared.answers.Took.TheVariants as writes;
 ghost use Rattle.port_trait.specs.declared.answers.Got.TheVariants as reads;
 ghost use Rattle.port_trait.specs.declared.answers.Shutting.TheVariants as shuts;
 ghost use Rattle.port_trait.specs.Hinting.{no_hint};
-ghost use Rattle.socket_ports.specs.Answering.{settling_of};
+ghost use Rattle.socket_kinds.specs.Answering.{settling_of};
 ghost use Rattle.port_trait.specs.Streams.{finishes};
-ghost use Rattle.socket_ports.specs.declared.answering.Connection.TheVariants as connections;
+ghost use Rattle.socket_kinds.specs.declared.answering.Connection.TheVariants as connections;
 
 use crate::answering::{Connection, accepted, received, shut_down};
 use crate::socket::Socket;
@@ -95,7 +95,7 @@ pub struct StreamSocket {
 }
 
 impl Model for StreamSocket {
-    ghost use Rattle.socket_ports.specs.declared.answering.Connection.{Connection};
+    ghost use Rattle.socket_kinds.specs.declared.answering.Connection.{Connection};
 
     ghost Value = { Connection };
 

@@ -4,8 +4,8 @@ use Rattle.std.specs.declared.io.Error.{Error}
 use Rattle.std.specs.declared.io.ErrorKind.TheVariants.{WouldBlock, ConnectionAborted}
 use Rattle.std.specs.IoError.{error_kind}
 use Rattle.port_trait.specs.declared.answers.Hint.{Hint}
-use Rattle.socket_ports.specs.declared.door.Arrival.{Arrival}
-use Rattle.socket_ports.specs.declared.door.Arrival.TheVariants as arrivals
+use Rattle.socket_kinds.specs.declared.door.Arrival.{Arrival}
+use Rattle.socket_kinds.specs.declared.door.Arrival.TheVariants as arrivals
 
 -- a door that left off hints that peers may wait
 abbrev pub door_hint : Bool → Hint

@@ -1,15 +1,15 @@
 // Sockets of datagrams (udp(7)).
 ghost use Rattle.std.specs.Prelude.{◌≡◌, ◌≢◌, ◌<◌, ◌≤◌, length, take, drop, min, vec_len, is_some, true, false, None, Some, IfSome, IfOk, IsTrue};
 ghost use Rattle.port_trait.specs.Made.{IsAtOnce};
-ghost use Rattle.socket_ports.specs.Accepting.{OnPort};
+ghost use Rattle.socket_kinds.specs.Accepting.{OnPort};
 ghost use Rattle.std.specs.Io.{WritesAtMost};
 ghost use Rattle.port_trait.specs.Meanings.{Gives, Accepts, AcceptsWhole};
 ghost use Rattle.port_trait.specs.declared.answers.Settled.TheVariants as settles;
 ghost use Rattle.port_trait.specs.declared.answers.Got.TheVariants as reads;
 ghost use Rattle.port_trait.specs.declared.answers.Shutting.TheVariants as shuts;
 ghost use Rattle.relay_model.specs.declared.acts.Shut.TheVariants as ways;
-ghost use Rattle.socket_ports.specs.Datagrams.{IsGiven, IsRefused, datagram_hint, is_datagram, gives_none};
-ghost use Rattle.socket_ports.specs.declared.datagram.Fetched.TheVariants as fetches;
+ghost use Rattle.socket_kinds.specs.Datagrams.{IsGiven, IsRefused, datagram_hint, is_datagram, gives_none};
+ghost use Rattle.socket_kinds.specs.declared.datagram.Fetched.TheVariants as fetches;
 
 use crate::answering::accepted;
 use crate::enrolled::EnrolledUdp;
@@ -142,7 +142,7 @@ pub struct DatagramSocket {
 
 impl Model for DatagramSocket {
     ghost use Rattle.std.specs.Prelude.{Some, None, if◌then◌else◌};
-    ghost use Rattle.socket_ports.specs.Datagrams.{DatagramState};
+    ghost use Rattle.socket_kinds.specs.Datagrams.{DatagramState};
 
     ghost Value = { DatagramState };
 
