@@ -3,8 +3,9 @@ use crate::ports::RealPort;
 use file_ports::EchoPort;
 use port_trait::Making;
 use relay_model::NoMemory;
+use socket_kinds::AnySocket;
 use socket_maker::Removal;
-use socket_ports::{AnySocket, SocketPort};
+use socket_ports::SocketPort;
 use std::alloc::Global;
 use std::fs::Files;
 

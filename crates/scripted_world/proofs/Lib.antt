@@ -1,3 +1,1 @@
 pub mod HeldLemmas
-pub mod LineLemmas
-pub mod LookLemmas

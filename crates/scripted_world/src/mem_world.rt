@@ -4,25 +4,23 @@ ghost use Rattle.relay_model.specs.Conversions.{longest_packet};
 ghost use Rattle.relay_model.specs.Holding.{Free, Open, Settling, is_free, is_open};
 ghost use Rattle.world_trait.specs.Answers.{Answered, AnsweredAsking, Rose, RaisesCounts, says_stop, OnlyHeldNamed, OnlyWhereTold, NotReaped, WaitCounts, ReadFits, WriteFits, wait_act, open_act, listen_act, accept_act, read_act, write_act, send_act, shut_act, close_act, note_act, reap_act, is_open_fault, is_listen_fault, is_accept_fault, is_read_fault, is_write_fault, is_send_fault, is_shut_fault, is_note_fault, wants_turn_memory, wants_read_memory, wants_write_memory, wants_send_memory, wants_shut_memory};
 ghost use Rattle.world_trait.specs.HoldTables.{hold_found, lookup};
-ghost use Rattle.scripted_world.specs.Looks.{LooksAtHeld};
-ghost use Rattle.scripted_world.specs.Reads.{HasBytes, reading_of};
+ghost use Rattle.world_scripts.specs.Looks.{LooksAtHeld};
+ghost use Rattle.world_scripts.specs.Reads.{HasBytes, reading_of};
 ghost use Rattle.world_trait.specs.Recordings.{told_kept};
 ghost use Rattle.world_trait.specs.Runs.{IsFresh, SameRun};
 ghost use Rattle.scripted_world.specs.Scripted.{TurnScripted, OpenScripted, ListenScripted, AcceptScripted, ReadScripted, WriteScripted, SendScripted, ShutScripted, CloseScripted, ReapScripted};
-ghost use Rattle.scripted_world.specs.Scripts.{OpensSo, empty_script};
-ghost use Rattle.scripted_world.specs.Writes.{HasCount, writing_of};
+ghost use Rattle.world_scripts.specs.Scripts.{OpensSo, empty_script};
+ghost use Rattle.world_scripts.specs.Writes.{HasCount, writing_of};
 
-use crate::accepting::{Coming, DuePeer, who_comes};
-use crate::items::{OpenItem, PeerItem, ReadItem, WriteItem};
-use crate::looking::Watch;
-use crate::reading::{DueRead, Given, Reading, look, use_bytes};
-use crate::script::Script;
-use crate::writing::{DueWrite, Taken, Writing, room, use_write};
 use relay_model::{
     Act, Askings, Bytes, ChildEnd, Journal, Kept, NoMemory, Peer, Place, ReadyList, Shut, Single,
     Why,
 };
 use std::alloc::Global;
+use world_scripts::{
+    Coming, DuePeer, DueRead, DueWrite, Given, OpenItem, PeerItem, ReadItem, Reading, Script,
+    Taken, Watch, WriteItem, Writing, look, room, use_bytes, use_write, who_comes,
+};
 use world_trait::{
     AcceptAnswer, Holdings, ListenAnswer, NoteAnswer, OpenAnswer, ReadAnswer, ReapAnswer,
     SendAnswer, ShutAnswer, Standing, Turned, World, WriteAnswer,

@@ -4,9 +4,9 @@ use Rattle.relay_model.specs.declared.commands.Target.{Target}
 use Rattle.relay_model.specs.declared.commands.Target.TheVariants as targets
 use Rattle.port_trait.specs.declared.makers.Making.{Making}
 use Rattle.port_trait.specs.declared.makers.Making.TheVariants as makings
-use Rattle.socket_ports.specs.declared.any_socket.AnySocket.{AnySocket}
+use Rattle.socket_kinds.specs.declared.any_socket.AnySocket.{AnySocket}
 use Rattle.socket_ports.specs.Sockets.{PortState}
-use Rattle.socket_ports.specs.Kinds.{Sort, Connected, Packets, sort_of}
+use Rattle.socket_kinds.specs.Kinds.{Sort, Connected, Packets, sort_of}
 
 -- what is opened for an address that connects
 abbrev pub opened_sort : Target → Option Sort

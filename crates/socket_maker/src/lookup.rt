@@ -5,7 +5,7 @@ ghost use Rattle.std.specs.Net.Socket.{socket_port};
 ghost use Rattle.socket_maker.specs.Lookups.{chosen, has_ipv4, has_ipv6};
 
 use relay_model::{Bind, Family, Text};
-use socket_ports::address_of;
+use socket_kinds::address_of;
 use std::net::{IpAddr, Ipv4Addr, Ipv6Addr, Net, SocketAddr};
 use std::str;
 

@@ -2,9 +2,10 @@
 ghost use Rattle.std.specs.Prelude.{◌≡◌, false, None, Some, IfSome};
 ghost use Rattle.port_trait.specs.declared.makers.Making.TheVariants as makings;
 ghost use Rattle.port_trait.specs.Made.{IsAtOnce};
-ghost use Rattle.socket_ports.specs.Accepting.{OnPort, IsFresh};
+ghost use Rattle.socket_kinds.specs.Accepting.{OnPort};
+ghost use Rattle.socket_ports.specs.Accepting.{IsFresh};
 ghost use Rattle.socket_maker.specs.Makings.{opened_sort, listens, socket_sort, port_sort};
-ghost use Rattle.socket_ports.specs.Kinds.{Connected, Packets, Listening};
+ghost use Rattle.socket_kinds.specs.Kinds.{Connected, Packets, Listening};
 
 use crate::lookup::{door_address, local_address, look_up};
 use crate::removal::Removal;
@@ -12,10 +13,10 @@ use mio::net::{TcpListener, TcpStream, UnixListener, UnixStream};
 use mio::{Interest, Registry, Token};
 use port_trait::{Making, Settled};
 use relay_model::{Bind, Options, Single, Target, Text};
-use socket_ports::{
-    AnySocket, DatagramSocket, Door, EnrolledUdp, Listener, Socket, SocketPort, Stream,
-    StreamSocket,
+use socket_kinds::{
+    AnySocket, DatagramSocket, Door, EnrolledUdp, Listener, Socket, Stream, StreamSocket,
 };
+use socket_ports::SocketPort;
 use std::alloc::Global;
 use std::fs::Files;
 use std::net::{Net, SocketAddr, UdpSocket};

@@ -1,12 +1,5 @@
--- What is accepted at a door.
-use Rattle.std.specs.Prelude.{◌≡◌, ◌≢◌, false}
-use Rattle.std.specs.declared.io.Error.{Error}
-use Rattle.std.specs.declared.io.ErrorKind.TheVariants.{WouldBlock}
-use Rattle.std.specs.IoError.{error_kind}
-use Rattle.port_trait.specs.declared.makers.Making.{Making}
-use Rattle.port_trait.specs.declared.makers.Making.TheVariants as makings
-use Rattle.port_trait.specs.declared.makers.MadePeer.{MadePeer}
-use Rattle.port_trait.specs.declared.makers.MadePeer.TheVariants as peers
+-- The port of a peer that was accepted.
+use Rattle.std.specs.Prelude.{◌≡◌, false}
 use Rattle.socket_ports.specs.Sockets.{PortState, no_counts}
 
 -- nothing was asked of the port yet
@@ -14,20 +7,3 @@ pub record IsFresh {S : Type 0} (port : PortState S) : Type 0 where
   pub counts : port.counts ≡ no_counts
   pub begun : port.begun ≡ false
   pub ended : port.ended ≡ false
-
--- a fact of the port, where one was made
-abbrev pub OnPort : {T : Type 0} → (T → Type 0) → Making T → Type 0
-OnPort P (makings.Made port) = P port
-OnPort P (makings.Later port) = P port
-OnPort P makings.Failed = Unit {0}
-OnPort P makings.Memory = Unit {0}
-
-abbrev pub OnPeer : {T : Type 0} → (T → Type 0) → MadePeer T → Type 0
-OnPeer P (peers.Came port peer) = P port
-OnPeer P peers.NoPeer = Unit {0}
-OnPeer P peers.Failed = Unit {0}
-OnPeer P peers.Memory = Unit {0}
-
--- where a call would block nobody has sent; any other error is a fault
-abbrev pub IsNoPartner : {T : Type 0} → Error → MadePeer T → Type 0
-IsNoPartner error made = (error_kind error ≡ WouldBlock → made ≡ peers.NoPeer) × (error_kind error ≢ WouldBlock → made ≡ peers.Failed)

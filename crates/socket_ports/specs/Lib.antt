@@ -1,7 +1,2 @@
 pub mod Accepting
-pub mod Answering
-pub mod Datagrams
-pub mod Doors
-pub mod Kinds
-pub mod Peers
 pub mod Sockets

@@ -1,14 +1,7 @@
--- What contracts see of a socket and of the port over it.
-use Rattle.std.specs.Prelude.{ℕ, ◌+◌, ◌-◌, ◌^◌, min, Bool, false, List, [], ◌∷◌, ◌++◌, Option, None, Some, option_map}
-use Rattle.relay_model.specs.declared.acts.Shut.{Shut}
+-- What contracts see of the port over a socket.
+use Rattle.std.specs.Prelude.{ℕ, ◌+◌, ◌-◌, ◌^◌, min, Bool, false, Option, None, Some}
 use Rattle.port_trait.specs.Counting.{Event, Fault, End, Empty, Stall}
-use Rattle.port_trait.specs.Hinting.{no_hint}
-use Rattle.port_trait.specs.declared.answers.Hint.{Hint}
 use Rattle.port_trait.specs.declared.counts.Counts.{Counts}
-
--- one way more
-abbrev pub noted : Shut → Option (List Shut) → Option (List Shut)
-noted how before = option_map (λ all. all ++ how ∷ []) before
 
 abbrev pub no_counts : Counts
 no_counts = record { faults = 0; ends = 0; empties = 0; stalls = 0 }
@@ -24,11 +17,6 @@ counted (Some Fault) counts = record counts { faults = risen counts.faults }
 counted (Some End) counts = record counts { ends = risen counts.ends }
 counted (Some Empty) counts = record counts { empties = risen counts.empties }
 counted (Some Stall) counts = record counts { stalls = risen counts.stalls }
-
--- the hint of a socket that may hint, and none of another
-abbrev pub hint_told : Option Hint → Hint
-hint_told None = no_hint
-hint_told (Some hint) = hint
 
 -- the socket, what was counted, whether a begin came, and whether the last read answered the end
 pub record PortState (S : Type 0) : Type 0 where

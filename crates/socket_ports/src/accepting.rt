@@ -2,21 +2,15 @@
 ghost use Rattle.std.specs.Prelude.{◌≡◌, false, true, is_some};
 ghost use Rattle.port_trait.specs.Hinting.{StaysHinting};
 ghost use Rattle.port_trait.specs.declared.makers.MadePeer.TheVariants as peers;
-ghost use Rattle.socket_ports.specs.Accepting.{OnPeer, IsFresh, IsNoPartner};
-ghost use Rattle.socket_ports.specs.Kinds.{is_door, has_left_off, hint_of};
+ghost use Rattle.socket_kinds.specs.Accepting.{OnPeer};
+ghost use Rattle.socket_kinds.specs.Kinds.{is_door, has_left_off, hint_of};
+ghost use Rattle.socket_ports.specs.Accepting.{IsFresh};
 
-use crate::any_socket::AnySocket;
-use crate::datagram::DatagramSocket;
-use crate::door::{Arrival, Door, Listener};
-use crate::peers::peer_of;
 use crate::port::SocketPort;
-use crate::stream::{Stream, StreamSocket};
 use mio::Registry;
-use port_trait::{MadePeer, Making};
-use relay_model::Peer;
+use port_trait::MadePeer;
+use socket_kinds::AnySocket;
 use std::alloc::Global;
-use std::io::{Error, ErrorKind};
-use std::net::UdpSocket;
 use std::sync::Arc;
 
 impl<G: Drop> SocketPort<AnySocket, G> {
@@ -38,97 +32,11 @@ impl<G: Drop> SocketPort<AnySocket, G> {
         ensures hinting { StaysHinting (is_some (hint_of self.old.socket)) (is_some (hint_of self.new.socket)) (hint_of self.new.socket) }
         ensures kept { (self.new.counts ≡ self.old.counts) × (self.new.begun ≡ self.old.begun) × (self.new.ended ≡ self.old.ended) }
     {
-        match &mut self.socket {
-            AnySocket::Door(door) => match accept_at(alloc, registry, door, key) {
-                MadePeer::Came(socket, peer) => {
-                    MadePeer::Came(SocketPort::new(socket, kept), peer)
-                }
-                MadePeer::NoPeer => MadePeer::NoPeer,
-                MadePeer::Failed => MadePeer::Failed,
-                MadePeer::Memory => MadePeer::Memory,
-            },
-            AnySocket::Stream(_) | AnySocket::Datagrams(_) => MadePeer::Failed,
+        match self.socket.accept(alloc, registry, key) {
+            MadePeer::Came(socket, peer) => MadePeer::Came(SocketPort::new(socket, kept), peer),
+            MadePeer::NoPeer => MadePeer::NoPeer,
+            MadePeer::Failed => MadePeer::Failed,
+            MadePeer::Memory => MadePeer::Memory,
         }
     }
-}
-
-fn accept_at(
-    alloc: Global,
-    registry: &Arc<Registry, Global>,
-    door: &mut Door,
-    key: usize,
-) -> MadePeer<AnySocket>
-    ensures sort { OnPeer (λ socket. is_door socket ≡ false) result }
-    ensures left_off { door.new ≡ true → result ≡ peers.NoPeer }
-{
-    door.cut_short = false;
-    if let Listener::Udp(enrolled) = &door.listener {
-        return accept_partner(alloc, registry, &enrolled.socket, key);
-    }
-    let nodelay = door.nodelay;
-    match door.accept_stream() {
-        Arrival::Came(stream, peer) => stand(registry, stream, peer, nodelay, key),
-        Arrival::Aborted | Arrival::Nobody => MadePeer::NoPeer,
-        Arrival::Failed => MadePeer::Failed,
-    }
-}
-
-/// The socket of a connection that was accepted.
-fn stand(
-    registry: &Registry,
-    mut stream: Stream,
-    peer: Peer,
-    nodelay: bool,
-    key: usize,
-) -> MadePeer<AnySocket>
-    ensures { OnPeer (λ socket. is_door socket ≡ false) result }
-{
-    if nodelay {
-        stream.dont_delay();
-    }
-    if !stream.enroll(registry, key) {
-        return MadePeer::Failed;
-    }
-    MadePeer::Came(AnySocket::Stream(StreamSocket::connected(stream)), peer)
-}
-
-/// Shares the door's socket. The datagram is taken from it only once the new port stands.
-fn accept_partner(
-    alloc: Global,
-    registry: &Arc<Registry, Global>,
-    door: &UdpSocket,
-    key: usize,
-) -> MadePeer<AnySocket>
-    ensures { OnPeer (λ socket. is_door socket ≡ false) result }
-{
-    if let Err(error) = door.peek_from(&mut [0u8; 1]) {
-        return no_partner(&error);
-    }
-    let Ok(socket) = door.try_clone() else {
-        return MadePeer::Failed;
-    };
-    match DatagramSocket::new(alloc, registry, socket, key) {
-        Making::Made(socket) => hold_first(socket),
-        Making::Later(_) | Making::Failed => MadePeer::Failed,
-        Making::Memory => MadePeer::Memory,
-    }
-}
-
-fn hold_first(mut socket: DatagramSocket) -> MadePeer<AnySocket>
-    ensures { OnPeer (λ socket. is_door socket ≡ false) result }
-{
-    match socket.take_first() {
-        Ok(sender) => MadePeer::Came(AnySocket::Datagrams(socket), peer_of(sender)),
-        Err(error) => no_partner(&error),
-    }
-}
-
-fn no_partner(error: &Error) -> MadePeer<AnySocket>
-    ensures answer { IsNoPartner error.now result }
-    ensures nobody { OnPeer (λ socket. is_door socket ≡ false) result }
-{
-    if error.kind() == ErrorKind::WouldBlock {
-        return MadePeer::NoPeer;
-    }
-    MadePeer::Failed
 }

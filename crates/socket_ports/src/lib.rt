@@ -2,21 +2,6 @@
 #![tactic(auto)]
 
 mod accepting;
-mod answering;
-mod any_socket;
-mod datagram;
-mod door;
-mod enrolled;
-mod peers;
 mod port;
-mod socket;
-mod stream;
 
-pub use any_socket::AnySocket;
-pub use datagram::DatagramSocket;
-pub use door::{Door, Listener};
-pub use enrolled::EnrolledUdp;
-pub use peers::{address_of, peer_of};
 pub use port::SocketPort;
-pub use socket::Socket;
-pub use stream::{Stream, StreamSocket};

@@ -6,11 +6,12 @@ ghost use Rattle.port_trait.specs.Meanings.{Gives, Accepts, AcceptsWhole, Accept
 ghost use Rattle.port_trait.specs.declared.answers.Begun.TheVariants as begins;
 ghost use Rattle.port_trait.specs.declared.answers.PortReap.TheVariants as reaps;
 ghost use Rattle.port_trait.specs.declared.answers.Joining.TheVariants as joining;
-ghost use Rattle.socket_ports.specs.Sockets.{fresh_port, noted, counted, hint_told};
+ghost use Rattle.socket_kinds.specs.Sockets.{noted, hint_told};
+ghost use Rattle.socket_ports.specs.Sockets.{fresh_port, counted};
 
-use crate::socket::Socket;
 use port_trait::{Begun, Counts, Got, Hint, Joining, Port, PortReap, Settled, Shutting, Took};
 use relay_model::Shut;
+use socket_kinds::Socket;
 use std::marker::Model;
 
 /// A socket whose answers are counted. What is kept is let go with the port.

@@ -3,12 +3,10 @@ ghost use Rattle.std.specs.Prelude.{◌≡◌, IfOk};
 ghost use Rattle.relay_model.specs.declared.places.Place.{Place as Spot};
 ghost use Rattle.relay_model.specs.Holding.{Free};
 
-use crate::faults::RowFault;
-use crate::rows::Line;
-use crate::spelling::{act_of, place_of, unquoted};
 use relay_model::{Act, NoMemory};
 use scripted_world::{MemWorld, OpenItem, PeerItem, ReadItem, WriteItem};
 use std::alloc::Global;
+use worked_rows::{Line, RowFault, act_of, place_of, unquoted};
 use world_trait::World;
 
 fn empty(alloc: Global) -> MemWorld

@@ -3,39 +3,32 @@
 // doesn't fit or isn't understood.
 #![tactic(auto)]
 
-mod checks;
-mod desks;
-mod faults;
 mod items;
-mod lines;
-mod outcomes;
-mod rows;
-mod runs;
-mod spelling;
-mod told;
-mod wants;
 
-use crate::checks::{Report, check_file};
+use exit_status::status;
+use items::world_of;
+use relay_model::{Bytes, Text};
+use socat_top::{Saving, socat};
+use std::alloc::Global;
+use std::io;
 use std::process::ExitCode;
-use std::{env, fs, io};
+use worked_rows::{Ran, Row, RowFault, check_files, part};
 
-/// Checks the rows of each file that is named, and prints what was found.
-fn check_all(rt: &HostRuntime) -> io::Result<bool> {
-    let mut report = Report::new(rt.alloc());
-    for name in env::args(rt)?.skip(1) {
-        let text = fs::read_to_string(rt, name.as_str())?;
-        check_file(rt.alloc(), &mut report, name.as_str(), text.as_str())?;
-    }
-    report.conclude()?;
-    rt.print(report.text.as_str())?;
-    Ok(report.is_good())
+/// Runs the words of the row over its scripted world.
+fn run(alloc: Global, row: &Row<'_>, words: &[Text]) -> Result<Ran, RowFault> {
+    let mut world = world_of(alloc, row.script.as_slice())?;
+    let outcome = socat(alloc, &mut world, words, row.turns);
+    let parted = part(alloc, &world.journal().copy()?)?;
+    Ok(Ran {
+        outcome,
+        status: status(&outcome),
+        said: parted.note,
+        journal: parted.journal,
+        saving: Saving::NotAsked,
+        saved: Bytes::of(alloc, b"")?,
+    })
 }
 
 fn main(rt: HostRuntime) -> io::Result<ExitCode> {
-    let good = check_all(&rt)?;
-    Ok(if good {
-        ExitCode::SUCCESS
-    } else {
-        ExitCode::FAILURE
-    })
+    check_files(&rt, &run)
 }

@@ -1,0 +1,7 @@
+pub mod Accepting
+pub mod Answering
+pub mod Datagrams
+pub mod Doors
+pub mod Kinds
+pub mod Peers
+pub mod Sockets

@@ -1,0 +1,121 @@
+// Peers are accepted at doors.
+ghost use Rattle.std.specs.Prelude.{◌≡◌, false, true, is_some};
+ghost use Rattle.port_trait.specs.declared.makers.MadePeer.TheVariants as peers;
+ghost use Rattle.socket_kinds.specs.Accepting.{OnPeer, IsNoPartner};
+ghost use Rattle.socket_kinds.specs.Kinds.{is_door, has_left_off, hint_of};
+
+use crate::any_socket::AnySocket;
+use crate::datagram::DatagramSocket;
+use crate::door::{Arrival, Door, Listener};
+use crate::peers::peer_of;
+use crate::stream::{Stream, StreamSocket};
+use mio::Registry;
+use port_trait::{MadePeer, Making};
+use relay_model::Peer;
+use std::alloc::Global;
+use std::io::{Error, ErrorKind};
+use std::net::UdpSocket;
+use std::sync::Arc;
+
+impl AnySocket {
+    /// Accepts a peer, whose socket the registry reports under `key`. It answers `NoPeer` where none waits, and where 64
+    /// connections in a row were aborted before they were accepted; `Failed` where this is no door, and where the system
+    /// refuses. At a door of datagrams the first one is the peer's, and stays to be read.
+    pub fn accept(
+        &mut self,
+        alloc: Global,
+        registry: &Arc<Registry, Global>,
+        key: usize,
+    ) -> MadePeer<AnySocket>
+        ensures sort { OnPeer (λ socket. is_door socket ≡ false) result }
+        ensures no_door { is_door self.old ≡ false → result ≡ peers.Failed }
+        ensures left_off { has_left_off self.new ≡ true → result ≡ peers.NoPeer }
+        ensures hinting { is_some (hint_of self.new) ≡ is_some (hint_of self.old) }
+    {
+        match self {
+            AnySocket::Door(door) => accept_at(alloc, registry, door, key),
+            AnySocket::Stream(_) | AnySocket::Datagrams(_) => MadePeer::Failed,
+        }
+    }
+}
+
+fn accept_at(
+    alloc: Global,
+    registry: &Arc<Registry, Global>,
+    door: &mut Door,
+    key: usize,
+) -> MadePeer<AnySocket>
+    ensures sort { OnPeer (λ socket. is_door socket ≡ false) result }
+    ensures left_off { door.new ≡ true → result ≡ peers.NoPeer }
+{
+    door.cut_short = false;
+    if let Listener::Udp(enrolled) = &door.listener {
+        return accept_partner(alloc, registry, &enrolled.socket, key);
+    }
+    let nodelay = door.nodelay;
+    match door.accept_stream() {
+        Arrival::Came(stream, peer) => stand(registry, stream, peer, nodelay, key),
+        Arrival::Aborted | Arrival::Nobody => MadePeer::NoPeer,
+        Arrival::Failed => MadePeer::Failed,
+    }
+}
+
+/// The socket of a connection that was accepted.
+fn stand(
+    registry: &Registry,
+    mut stream: Stream,
+    peer: Peer,
+    nodelay: bool,
+    key: usize,
+) -> MadePeer<AnySocket>
+    ensures { OnPeer (λ socket. is_door socket ≡ false) result }
+{
+    if nodelay {
+        stream.dont_delay();
+    }
+    if !stream.enroll(registry, key) {
+        return MadePeer::Failed;
+    }
+    MadePeer::Came(AnySocket::Stream(StreamSocket::connected(stream)), peer)
+}
+
+/// Shares the door's socket. The datagram is taken from it only once the new port stands.
+fn accept_partner(
+    alloc: Global,
+    registry: &Arc<Registry, Global>,
+    door: &UdpSocket,
+    key: usize,
+) -> MadePeer<AnySocket>
+    ensures { OnPeer (λ socket. is_door socket ≡ false) result }
+{
+    if let Err(error) = door.peek_from(&mut [0u8; 1]) {
+        return no_partner(&error);
+    }
+    let Ok(socket) = door.try_clone() else {
+        return MadePeer::Failed;
+    };
+    match DatagramSocket::new(alloc, registry, socket, key) {
+        Making::Made(socket) => hold_first(socket),
+        Making::Later(_) | Making::Failed => MadePeer::Failed,
+        Making::Memory => MadePeer::Memory,
+    }
+}
+
+fn hold_first(mut socket: DatagramSocket) -> MadePeer<AnySocket>
+    ensures { OnPeer (λ socket. is_door socket ≡ false) result }
+{
+    match socket.take_first() {
+        Ok(sender) => MadePeer::Came(AnySocket::Datagrams(socket), peer_of(sender)),
+        Err(error) => no_partner(&error),
+    }
+}
+
+fn no_partner(error: &Error) -> MadePeer<AnySocket>
+    ensures answer { IsNoPartner error.now result }
+    ensures nobody { OnPeer (λ socket. is_door socket ≡ false) result }
+{
+    if error.kind() == ErrorKind::WouldBlock {
+        return MadePeer::NoPeer;
+    }
+    MadePeer::Failed
+}

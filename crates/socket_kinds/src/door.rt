@@ -1,0 +1,187 @@
+// Doors: sockets that listen for peers.
+ghost use Rattle.std.specs.Prelude.{◌≡◌, true, false, Some, IsTrue};
+ghost use Rattle.port_trait.specs.declared.answers.Settled.TheVariants as settles;
+ghost use Rattle.port_trait.specs.declared.answers.Got.TheVariants as reads;
+ghost use Rattle.port_trait.specs.declared.answers.Took.TheVariants as writes;
+ghost use Rattle.port_trait.specs.declared.answers.Shutting.TheVariants as shuts;
+ghost use Rattle.socket_kinds.specs.Doors.{door_hint, IsDeclined, IsNobody, IsOne};
+
+use crate::enrolled::EnrolledUdp;
+use crate::peers::peer_of;
+use crate::socket::Socket;
+use crate::stream::Stream;
+use mio::net::{TcpListener, UnixListener};
+use port_trait::{Got, Hint, Settled, Shutting, Took};
+use relay_model::{Peer, Shut};
+use std::io::{Error, ErrorKind};
+use std::marker::Model;
+
+/// How many aborted connections one accepting passes over at most.
+const MOST_ABORTED: usize = 64;
+
+/// What listens.
+#[derive(Drop)]
+pub enum Listener {
+    Tcp(TcpListener),
+    Unix(UnixListener),
+    Udp(EnrolledUdp),
+}
+
+/// What an accepting came to.
+#[derive(Drop)]
+pub(crate) enum Arrival {
+    Came(Stream, Peer),
+    /// The connection was aborted before it was accepted.
+    Aborted,
+    Nobody,
+    Failed,
+}
+
+impl Listener {
+    /// Accepts once. A socket of datagrams has no connections.
+    fn accept_one(&self) -> Arrival {
+        match self {
+            Listener::Tcp(listener) => match listener.accept() {
+                Ok((stream, addr)) => Arrival::Came(Stream::Tcp(stream), peer_of(addr)),
+                Err(error) => declined(&error),
+            },
+            Listener::Unix(listener) => match listener.accept() {
+                Ok((stream, _)) => Arrival::Came(Stream::Unix(stream), Peer::Local),
+                Err(error) => declined(&error),
+            },
+            Listener::Udp(_) => Arrival::Failed,
+        }
+    }
+}
+
+/// Why the system gave no connection (accept(2), `EAGAIN` and `ECONNABORTED`).
+fn declined(error: &Error) -> Arrival
+    ensures { IsDeclined error.now result }
+{
+    if error.kind() == ErrorKind::WouldBlock {
+        return Arrival::Nobody;
+    }
+    if error.kind() == ErrorKind::ConnectionAborted {
+        return Arrival::Aborted;
+    }
+    Arrival::Failed
+}
+
+/// A socket that listens. It neither gives nor takes bytes.
+#[derive(Drop)]
+pub struct Door {
+    pub(crate) listener: Listener,
+    pub(crate) nodelay: bool,
+    // whether the last accepting left off with connections that may wait
+    pub(crate) cut_short: bool,
+}
+
+impl Model for Door {
+    ghost use Rattle.std.specs.Prelude.{Bool};
+
+    ghost Value = { Bool };
+
+    ghost view = { λ door. door.cut_short };
+}
+
+impl Door {
+    /// The door of this listener. With `nodelay` the TCP connections that it accepts don't wait to fill a segment.
+    pub fn new(listener: Listener, nodelay: bool) -> Door
+        ensures { result ≡ false }
+    {
+        Door {
+            listener,
+            nodelay,
+            cut_short: false,
+        }
+    }
+
+    /// Accepts a connection, and passes over those that were aborted. After 64 of these it leaves off, and hints
+    /// that there may be more.
+    pub(crate) fn accept_stream(&mut self) -> Arrival
+        ensures one { IsOne result }
+        ensures left_off { IsTrue self.new → IsNobody result }
+    {
+        self.cut_short = false;
+        for _ in 0..MOST_ABORTED {
+            match self.listener.accept_one() {
+                Arrival::Came(stream, peer) => return Arrival::Came(stream, peer),
+                Arrival::Aborted => {}
+                Arrival::Nobody => return Arrival::Nobody,
+                Arrival::Failed => return Arrival::Failed,
+            }
+        }
+        self.cut_short = true;
+        Arrival::Nobody
+    }
+}
+
+impl Door {
+    /// The port at which it listens, as the system chose it. `None` where it has none.
+    pub fn local_port(&self) -> Option<u16> {
+        let addr = match &self.listener {
+            Listener::Tcp(listener) => listener.local_addr(),
+            Listener::Udp(enrolled) => enrolled.socket.local_addr(),
+            Listener::Unix(_) => return None,
+        };
+        match addr {
+            Ok(addr) => Some(addr.port()),
+            Err(_) => None,
+        }
+    }
+}
+
+impl Socket for Door {
+    ghost hints = { λ door. Some (door_hint door) };
+
+    fn settle(&mut self) -> Settled
+        ensures ready { result ≡ settles.Ready }
+        ensures kept { self.new ≡ self.old }
+    {
+        Settled::Ready
+    }
+
+    fn receive(&mut self, _into: &mut [u8]) -> Got
+        ensures failed { result ≡ reads.Failed }
+        ensures kept { self.new ≡ self.old }
+    {
+        Got::Failed
+    }
+
+    fn transmit(&mut self, _bytes: &[u8]) -> Took
+        ensures failed { result ≡ writes.Failed }
+        ensures kept { self.new ≡ self.old }
+    {
+        Took::Failed
+    }
+
+    fn transmit_packet(&mut self, _bytes: &[u8]) -> Took
+        ensures failed { result ≡ writes.Failed }
+        ensures kept { self.new ≡ self.old }
+    {
+        Took::Failed
+    }
+
+    fn finish(&mut self, _how: Shut) -> Shutting
+        ensures done { result ≡ shuts.Done }
+        ensures kept { self.new ≡ self.old }
+    {
+        Shutting::Done
+    }
+
+    /// Peers may wait that the system won't tell of again.
+    fn hint(&self) -> Hint
+        ensures { result ≡ door_hint self.now }
+    {
+        Hint {
+            readable: self.cut_short,
+            writable: false,
+        }
+    }
+
+    fn may_hint(&self) -> bool
+        ensures { result ≡ true }
+    {
+        true
+    }
+}

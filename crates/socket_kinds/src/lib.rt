@@ -1,0 +1,20 @@
+// Sockets of each kind: connections, partners of datagrams, and doors that accept them.
+#![tactic(auto)]
+
+mod accepting;
+mod answering;
+mod any_socket;
+mod datagram;
+mod door;
+mod enrolled;
+mod peers;
+mod socket;
+mod stream;
+
+pub use any_socket::AnySocket;
+pub use datagram::DatagramSocket;
+pub use door::{Door, Listener};
+pub use enrolled::EnrolledUdp;
+pub use peers::{address_of, peer_of};
+pub use socket::Socket;
+pub use stream::{Stream, StreamSocket};

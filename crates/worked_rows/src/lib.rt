@@ -1,0 +1,19 @@
+// Rows of worked runs: how they are spelt, what they ask of a run and of its journal, and the report of all.
+#![tactic(auto)]
+
+mod checks;
+mod faults;
+mod files;
+mod lines;
+mod outcomes;
+mod rows;
+mod runs;
+mod spelling;
+mod told;
+mod wants;
+
+pub use faults::RowFault;
+pub use files::check_files;
+pub use rows::{Line, Row};
+pub use runs::{Parted, Ran, part};
+pub use spelling::{act_of, place_of, unquoted};
