@@ -1,6 +1,6 @@
 -- How the loop's facts go on from act to act.
-use Rattle.std.proofs.Common.{◌≡◌, ◌⊎◌, inl, inr, ℕ, suc, subst, ◌+◌, ◌-◌, ◌*◌, ◌^◌, ◌<◌, ◌≤◌, Bool, true, false, not, ◌||◌, slice_get, take, length, List, [], ◌∷◌, ◌++◌, append_assoc, Option, Some, None, option_map, is_some, min, refl, ap, sym, ◌∙◌, arith}
-use Rattle.std.proofs.lemmas.List.{take_more, take-take}
+use Rattle.std.proofs.Common.{◌≡◌, ℕ, suc, subst, ◌+◌, ◌-◌, ◌*◌, ◌^◌, ◌<◌, ◌≤◌, Bool, true, false, not, ◌||◌, slice_get, take, List, [], ◌∷◌, ◌++◌, append_assoc, Option, Some, None, option_map, is_some, min, refl, ap, sym, ◌∙◌, arith}
+use Rattle.std.proofs.lemmas.List.{take_more}
 use Rattle.std.proofs.lemmas.Option.{slice_get_within, get_or_from_slice_get}
 use Rattle.relay_model.specs.declared.acts.Act.{Act}
 use Rattle.relay_model.specs.declared.acts.Act.TheVariants as acts
@@ -9,7 +9,6 @@ use Rattle.relay_model.specs.Holding as holds
 use Rattle.relay_model.specs.declared.places.Place.{Place}
 use Rattle.relay_model.specs.declared.places.Half.{Half}
 use Rattle.relay_model.specs.declared.commands.Config.{Config}
-use Rattle.relay_model.specs.declared.commands.Single.{Single}
 use Rattle.relay_model.specs.declared.commands.Dump.TheVariants as dumps
 use Rattle.relay_model.specs.Journals.{History, Asking}
 use Rattle.relay_model.specs.Holding.{Hold, hold_after, standing}
@@ -19,22 +18,17 @@ use Rattle.relay_model.specs.Outcome as whole
 use Rattle.relay_model.specs.Outcome.{first_fault}
 use Rattle.relay_model.specs.Rest.{Rest, owed, until_of}
 use Rattle.world_trait.specs.Recordings.{with_act, with_asking}
-use Rattle.world_trait.specs.declared.answers.ReapAnswer.{ReapAnswer}
-use Rattle.world_trait.specs.declared.answers.ReapAnswer.TheVariants as reaps
-use Rattle.world_trait.specs.Answers.{Answered, reap_act, Did, DidAsking, DidNothing, Rose, TurnCounts}
-use Rattle.relay_core.specs.declared.sessions.Session.{Session}
-use Rattle.relay_core.specs.declared.wishes.Wish.{Wish}
-use Rattle.relay_core.specs.declared.wishes.Answer.{Answer}
-use Rattle.relay_core.specs.Wishes.{Fits, act_of}
-use Rattle.relay_core.specs.Sessions.{Stands, Heard, HeardBy, wish_of, waiting_of}
+use Rattle.world_trait.specs.Answers.{Did, DidNothing, Rose, TurnCounts}
+use Rattle.relay_core.specs.Sessions.{Stands, Heard}
 use Rattle.relay_core.specs.Blames.{is_blamed}
 use Rattle.relay_core.specs.Told.{stop_turned}
-use Rattle.event_loop.specs.Seen.{Seen}
+use Rattle.session_driver.specs.Seen.{Seen}
 use Rattle.relay_model.specs.Configs.{is_of, single}
 use Rattle.event_loop.specs.Commands.{Runnable}
 use Rattle.event_loop.specs.Answers.{told_fault}
 use Rattle.event_loop.specs.declared.drivers.Driver.{Driver}
-use Rattle.event_loop.specs.Courses.{Course, Somewhere, SomewhereFor, Onward, KeepsFor, TurnsFor, OnlyOwn, extend, Risen, unit_of}
+use Rattle.event_loop.specs.Courses.{Course, Somewhere, SomewhereFor, Onward, KeepsFor, TurnsFor, OnlyOwn, Risen, unit_of}
+use Rattle.session_driver.specs.Steps.{extend, Acts, DidFor, Meets, OwnAsking}
 
 -- what a world tells goes on by the act
 told_act : (act : Act) (past : List Act) (pairs : List Asking) (start : Option History) → option_map (with_act act) (option_map (extend past pairs) start) ≡ option_map (extend (act ∷ past) pairs) start
@@ -94,25 +88,6 @@ rank_heard left left' t t' h = omega (arith, unit_small t')
 pub rank_cut : (left left' : ℕ) (t t' : Bool) → left' ≡ left → t ≡ false → t' ≡ true → 2 * left' + unit_of (not t') < 2 * left + unit_of (not t)
 rank_cut left left' t t' e f g = rw (e, f, g) (omega arith)
 
--- an answer, heard as one to the wish that there was
-pub heard_as : (c : Config) (n : ℕ) (past : List Act) (wish : Wish) (answer : Answer) (old new : Session) → wish_of old ≡ wish → HeardBy c n past 0 (act_of (wish_of old) (waiting_of old) answer) old new → HeardBy c n past 0 (act_of wish (waiting_of old) answer) old new
-heard_as c n past wish answer old new e heard = let P : Wish → Type 0 = λ x. HeardBy c n past 0 (act_of x (waiting_of old) answer) old new in subst P e heard
-
-pub fits_as : (wish : Wish) (answer : Answer) (old : Session) → wish_of old ≡ wish → Fits wish (waiting_of old) answer → Fits (wish_of old) (waiting_of old) answer
-fits_as wish answer old e fits = let P : Wish → Type 0 = λ x. Fits x (waiting_of old) answer in subst P (sym e) fits
-
--- the bytes that were taken from the front of what waits
-pub front_taken : (offered waiting : List ℕ) (count : ℕ) → offered ≡ take (length offered) waiting → count ≤ length offered → take count offered ≡ take count waiting
-front_taken offered waiting count e h = ap (take count) e ∙ take-take count (length offered) waiting h
-
-pub heard_bytes : (c : Config) (n : ℕ) (past : List Act) (p : Place) (bytes others : List ℕ) (old new : Session) → bytes ≡ others → Heard c n past 0 (acts.Wrote p others) old new → Heard c n past 0 (acts.Wrote p bytes) old new
-heard_bytes c n past p bytes others old new e heard = let P : List ℕ → Type 0 = λ x. Heard c n past 0 (acts.Wrote p x) old new in subst P (sym e) heard
-
--- where no child is known of, nothing was done
-pub unreaped : (place : Place) (answer : ReapAnswer) (told told' : Option History) (held held' : Place → Hold) → (answer ≡ reaps.NoChild) ⊎ (answer ≡ reaps.Memory) → Answered told told' held held' (reap_act place answer) → DidNothing told told' held held'
-unreaped place answer told told' held held' (inl e) did = let P : ReapAnswer → Type 0 = λ x. Answered told told' held held' (reap_act place x) in subst P e did
-unreaped place answer told told' held held' (inr e) did = let P : ReapAnswer → Type 0 = λ x. Answered told told' held held' (reap_act place x) in subst P e did
-
 next_turn : (a b k : ℕ) → a ≡ b → k ≡ b + 1 → suc a ≡ k
 next_turn a b k e f = omega (arith, e, f)
 
@@ -139,28 +114,22 @@ went_on c n start old new r r' past act pairs on told own held heard et es em fa
       };
     }
 
--- an act that is no turn and no failure
-pub went : (c : Config) (n : ℕ) (start old new : Seen) (r r' : Driver) (past : List Act) (act : Act) → Course c n start old r past → Did old.told new.told old.held new.held act → Heard c n past 0 act r.session r'.session → turns (act ∷ past) ≡ turns past → stop_turned (act ∷ past) ≡ stop_turned past → first_fault c (act ∷ past) 0 ≡ first_fault c past 0 → is_blamed (act ∷ past) ≡ is_blamed past → r'.made ≡ r.made → r'.fault ≡ r.fault → old.faults ≤ new.faults → new.waits ≡ old.waits → old.stops ≤ new.stops → Onward c n start new r'
-went c n start old new r r' past act on did heard et es ef eb em er faults waits stops =
-    went_on c n start old new r r' past act on.pairs on (did.told ∙ (ap (option_map (with_act act)) on.told ∙ told_act act past on.pairs start.told)) on.own did.held heard et es em
-    (ap told_fault er ∙ (on.fault ∙ sym ef)) (rw eb (λ h. risen_kept start.faults old.faults new.faults faults (on.blamed h))) faults waits stops
+blame_risen : (c : Config) (n : ℕ) (start old new : Seen) (r : Driver) (past : List Act) (act : Act) (failed : Bool) → Course c n start old r past → Rose old.faults new.faults failed → (failed ≡ false → is_blamed (act ∷ past) ≡ is_blamed past) → is_blamed (act ∷ past) ≡ true → Risen start.faults new.faults
+blame_risen c n start old new r past act true on rose blameless h = risen_later start.faults old.faults new.faults on.later (rose.rose refl)
+blame_risen c n start old new r past act false on rose blameless h = risen_kept start.faults old.faults new.faults rose.later (on.blamed (sym (blameless refl) ∙ h))
 
--- an act that is a failure
-pub went_wrong : (c : Config) (n : ℕ) (start old new : Seen) (r r' : Driver) (past : List Act) (act : Act) → Course c n start old r past → Did old.told new.told old.held new.held act → Heard c n past 0 act r.session r'.session → turns (act ∷ past) ≡ turns past → stop_turned (act ∷ past) ≡ stop_turned past → told_fault r'.fault ≡ first_fault c (act ∷ past) 0 → r'.made ≡ r.made → Rose old.faults new.faults true → new.waits ≡ old.waits → old.stops ≤ new.stops → Onward c n start new r'
-went_wrong c n start old new r r' past act on did heard et es ef em rose waits stops =
-    went_on c n start old new r r' past act on.pairs on (did.told ∙ (ap (option_map (with_act act)) on.told ∙ told_act act past on.pairs start.told)) on.own did.held heard et es em
-    ef (λ h. risen_later start.faults old.faults new.faults on.later (rose.rose refl)) rose.later waits stops
+-- a step that was an act
+pub acted_on : (c : Config) (n : ℕ) (start old new : Seen) (r r' : Driver) (past : List Act) (act : Act) → Course c n start old r past → Acts c old new r.session r'.session act → r'.made ≡ r.made → told_fault r'.fault ≡ first_fault c (act ∷ past) 0 → Onward c n start new r'
+acted_on c n start old new r r' past act on a em ef = go a.asked a.did (a.own n past 0 on.stands)
+  where
+    on_with : (pairs : List Asking) → new.told ≡ option_map (extend (act ∷ past) pairs) start.told → OnlyOwn c pairs → ((p : Place) → new.held p ≡ hold_after act p (old.held p)) → Onward c n start new r'
+    on_with pairs told own held =
+        went_on c n start old new r r' past act pairs on told own held (a.heard n past 0 on.stands) (a.no_turn.turns_same past) (a.no_turn.stops_same past) em ef
+        (blame_risen c n start old new r past act a.failed on a.rose (λ e. a.blameless e past)) a.rose.later a.waitless.waits a.waitless.stops
 
--- an opening or a listening asks for its own address
-pub asked : (c : Config) (n : ℕ) (start old new : Seen) (r r' : Driver) (past : List Act) (act : Act) (p : Place) (found : Single) → is_of c 0 p ≡ true → found ≡ single c p → Course c n start old r past → DidAsking (p, found) old.told new.told old.held new.held act → Heard c n past 0 act r.session r'.session → turns (act ∷ past) ≡ turns past → stop_turned (act ∷ past) ≡ stop_turned past → first_fault c (act ∷ past) 0 ≡ first_fault c past 0 → is_blamed (act ∷ past) ≡ is_blamed past → r'.made ≡ r.made → r'.fault ≡ r.fault → old.faults ≤ new.faults → new.waits ≡ old.waits → old.stops ≤ new.stops → Onward c n start new r'
-asked c n start old new r r' past act p found of own on did heard et es ef eb em er faults waits stops =
-    went_on c n start old new r r' past act (on.pairs ++ (p, found) ∷ []) on (did.told ∙ (ap (option_map (with_asking act (p, found))) on.told ∙ told_asking act (p, found) past on.pairs start.told)) (own_more c on.pairs (p, found) on.own of own) did.held heard et es em
-    (ap told_fault er ∙ (on.fault ∙ sym ef)) (rw eb (λ h. risen_kept start.faults old.faults new.faults faults (on.blamed h))) faults waits stops
-
-pub asked_in_vain : (c : Config) (n : ℕ) (start old new : Seen) (r r' : Driver) (past : List Act) (act : Act) (p : Place) (found : Single) → is_of c 0 p ≡ true → found ≡ single c p → Course c n start old r past → DidAsking (p, found) old.told new.told old.held new.held act → Heard c n past 0 act r.session r'.session → turns (act ∷ past) ≡ turns past → stop_turned (act ∷ past) ≡ stop_turned past → first_fault c (act ∷ past) 0 ≡ first_fault c past 0 → r'.made ≡ r.made → r'.fault ≡ r.fault → Rose old.faults new.faults true → new.waits ≡ old.waits → old.stops ≤ new.stops → Onward c n start new r'
-asked_in_vain c n start old new r r' past act p found of own on did heard et es ef em er rose waits stops =
-    went_on c n start old new r r' past act (on.pairs ++ (p, found) ∷ []) on (did.told ∙ (ap (option_map (with_asking act (p, found))) on.told ∙ told_asking act (p, found) past on.pairs start.told)) (own_more c on.pairs (p, found) on.own of own) did.held heard et es em
-    (ap told_fault er ∙ (on.fault ∙ sym ef)) (λ h. risen_later start.faults old.faults new.faults on.later (rose.rose refl)) rose.later waits stops
+    go : (asked : Option Asking) → DidFor asked old new act → OwnAsking c 0 asked → Onward c n start new r'
+    go None did own = on_with on.pairs (did.told ∙ (ap (option_map (with_act act)) on.told ∙ told_act act past on.pairs start.told)) on.own did.held
+    go (Some asking) did own = on_with (on.pairs ++ asking ∷ []) (did.told ∙ (ap (option_map (with_asking act asking)) on.told ∙ told_asking act asking past on.pairs start.told)) (own_more c on.pairs asking on.own own.0 own.1) did.held
 
 -- nothing was done, and the session stands for the same acts
 pub idled : (c : Config) (n : ℕ) (start old new : Seen) (r r' : Driver) (past : List Act) → Course c n start old r past → DidNothing old.told new.told old.held new.held → Stands c n past 0 r'.session → r'.made ≡ r.made → r'.fault ≡ r.fault → old.faults ≤ new.faults → new.waits ≡ old.waits → old.stops ≤ new.stops → Onward c n start new r'
@@ -284,3 +253,12 @@ tells_on f (Some h) n e = rw e refl
 -- the first fault, after a fault at a place of the session
 pub faulted_on : (c : Config) (past : List Act) (o o' : Option whole.Outcome) (q : Place) (half : Half) (t : Bool) → o ≡ first_fault c past 0 → o' ≡ or_else o (Some (whole.Faulted q half)) → t ≡ true → o' ≡ or_else (first_fault c past 0) (only_if t (whole.Faulted q half))
 faulted_on c past o o' q half t e f g = rw g (rw (sym e) f)
+
+-- a world and a session that are as they were
+pub unmoved : (c : Config) (n : ℕ) (start old new : Seen) (r r' : Driver) (past : List Act) → Course c n start old r past → new ≡ old → r'.session ≡ r.session → r'.made ≡ r.made → r'.fault ≡ r.fault → Onward c n start new r'
+unmoved c n start old new r r' past on e f em er =
+    record { past = past; course = subst (λ (x : Seen). Course c n start x r' past) (sym e) (recut c n start old r r' past on (subst (Stands c n past 0) (sym f) on.stands) em er) }
+
+-- the session of the loop stands for a history that the world stands for
+pub meets : (c : Config) (n : ℕ) (now : Seen) (r : Driver) → SomewhereFor c n now r → Meets c now r.session
+meets c n now r at = record { n = n; past = at.past; s = 0; legal = at.course.legal; stands = at.course.stands; start = at.start.told; pairs = at.course.pairs; told = at.course.told; holds = at.course.holds }

@@ -1,9 +1,9 @@
 -- What the loop keeps true, of some history that its session stands for.
-use Rattle.std.specs.Prelude.{◌≡◌, ℕ, ◌+◌, ◌-◌, ◌*◌, ◌^◌, ◌≤◌, Bool, true, false, not, List, [], ◌∷◌, ◌++◌, option_map, min}
+use Rattle.std.specs.Prelude.{◌≡◌, ℕ, ◌+◌, ◌-◌, ◌*◌, ◌^◌, ◌≤◌, Bool, true, false, not, List, [], ◌∷◌, option_map, min}
 use Rattle.relay_model.specs.declared.acts.Act.{Act}
 use Rattle.relay_model.specs.declared.places.Place.{Place}
 use Rattle.relay_model.specs.declared.commands.Config.{Config}
-use Rattle.relay_model.specs.Journals.{History, Asking}
+use Rattle.relay_model.specs.Journals.{Asking}
 use Rattle.relay_model.specs.Holding.{Free, standing}
 use Rattle.relay_model.specs.History.{turns}
 use Rattle.relay_model.specs.Outcome.{first_fault}
@@ -14,17 +14,14 @@ use Rattle.relay_core.specs.States.{IsDone}
 use Rattle.relay_core.specs.Blames.{is_blamed}
 use Rattle.relay_core.specs.Told.{stop_turned}
 use Rattle.relay_core.specs.declared.wishes.Wish.TheVariants as wishes
-use Rattle.event_loop.specs.Seen.{Seen}
+use Rattle.session_driver.specs.Seen.{Seen}
+use Rattle.session_driver.specs.Steps.{extend}
 use Rattle.relay_model.specs.Configs.{is_of, single}
 use Rattle.event_loop.specs.Commands.{Runnable}
 use Rattle.event_loop.specs.Answers.{told_fault}
 use Rattle.event_loop.specs.declared.drivers.Driver.{Driver}
 use Rattle.event_loop.specs.declared.drivers.Pause.{Pause}
 use Rattle.event_loop.specs.declared.drivers.Pause.TheVariants.{Sleep, Done}
-
--- the acts of a run, newest first, and what it asked for, behind what a world had told before
-abbrev pub extend : List Act → List Asking → History → History
-extend past pairs h = record { acts = past ++ h.acts; asked = h.asked ++ pairs }
 
 -- each pair is a place or door of the command with its address
 abbrev pub OnlyOwn : Config → List Asking → Type 0

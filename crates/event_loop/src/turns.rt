@@ -8,7 +8,7 @@ ghost use Rattle.relay_model.specs.May.{Legal};
 ghost use Rattle.relay_core.specs.declared.wishes.Wish.TheVariants as wishes;
 ghost use Rattle.relay_core.specs.Sessions.{Stands, Hears, wish_of, has_ended};
 ghost use Rattle.session_direction.specs.Directions.{listed};
-ghost use Rattle.event_loop.specs.Seen.{Seen, seen};
+ghost use Rattle.session_driver.specs.Seen.{Seen, seen};
 ghost use Rattle.event_loop.specs.Answers.{AnswerTells};
 ghost use Rattle.event_loop.specs.declared.drivers.Pause.TheVariants as pauses;
 

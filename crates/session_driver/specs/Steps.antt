@@ -98,5 +98,5 @@ StepIs c old new before after (steps.WriteFailed p) = IsOwn c before p × Acts c
 StepIs c old new before after steps.Childless =
     Idles c old new before after × ((n : ℕ) (past : List Act) (s : ℕ) → Stands c n past s before → (left_of after < left_of before) × (has_ended before ≡ true → has_ended after ≡ true))
 StepIs c old new before after steps.Memory = Idles c old new before after × (has_ended before ≡ false) × (has_ended after ≡ true) × (left_of after ≡ left_of before)
-StepIs c old new before after (steps.Sleep until) = (new ≡ old) × (after ≡ before) × (wish_of before ≡ wishes.Sleep until)
+StepIs c old new before after (steps.Sleep until) = (new ≡ old) × (after ≡ before) × (wish_of before ≡ wishes.Sleep until) × (has_ended before ≡ false)
 StepIs c old new before after (steps.Done why) = (new ≡ old) × (after ≡ before) × (wish_of before ≡ wishes.Done why)

@@ -1,7 +1,7 @@
 // The calls that a session wishes for, each made on a world.
 ghost use Rattle.std.specs.Prelude.{◌≡◌, ℕ, ◌<◌, List, length, true, false};
 ghost use Rattle.relay_model.specs.declared.acts.Act.{Act};
-ghost use Rattle.relay_model.specs.Configs.{is_of, is_place_of};
+ghost use Rattle.relay_model.specs.Configs.{is_of};
 ghost use Rattle.relay_model.specs.Holding.{Free, Settling, Open, is_free, is_open};
 ghost use Rattle.world_trait.specs.Answers.{NotReaped};
 ghost use Rattle.relay_core.specs.declared.wishes.Wish.TheVariants as wishes;

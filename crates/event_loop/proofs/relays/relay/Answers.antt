@@ -1,6 +1,6 @@
 use Rattle.std.proofs.Common.{[], option_map, refl, ap, inr, ◌∙◌}
-use Rattle.event_loop.specs.Seen.{seen}
-use Rattle.event_loop.specs.Courses.{extend}
+use Rattle.session_driver.specs.Seen.{seen}
+use Rattle.session_driver.specs.Steps.{extend}
 use Rattle.event_loop.proofs.Going.{told_nothing, tells_on}
 use Rattle.event_loop.proofs.Ends.{all_free, completes_by, ends_told, stop_of}
 use Rattle.event_loop.proofs.relays.relay.Goals as goal

@@ -118,7 +118,7 @@ pub reap-requires-clause-once : goal.reap-requires-clause-once
 reap-requires-clause-once g c = let at = c.requires.meets in unreaped_told at.past at.pairs c.in-Reap.place at.start _ at.told (c.in-Reap.ensures.can c.args.config.now at.n at.past at.s at.stands at.legal).1
 
 pub returns-in-Sleep-clause-step : goal.returns-in-Sleep-clause-step
-returns-in-Sleep-clause-step g c = (refl, refl, sym c.in-Sleep.ensures.wish)
+returns-in-Sleep-clause-step g c = let at = c.requires.meets in (refl, refl, sym c.in-Sleep.ensures.wish, c.in-Sleep.ensures.going c.args.config.now at.n at.past at.s at.stands refl)
 
 pub returns-in-Done-clause-step : goal.returns-in-Done-clause-step
 returns-in-Done-clause-step g c = (refl, refl, sym c.in-Done.ensures.wish)

@@ -1,6 +1,6 @@
 use Rattle.std.proofs.Common.{◌≡◌, ◌<◌, ◌≤◌, length, false}
 use Rattle.relay_core.specs.Sessions.{has_ended}
-use Rattle.event_loop.specs.Seen.{seen}
+use Rattle.session_driver.specs.Seen.{seen}
 use Rattle.event_loop.specs.Courses.{TurnsFor}
 use Rattle.event_loop.proofs.drivers.Driver.run.Given as goal
 
