@@ -1,1 +1,5 @@
+pub mod Asked
+pub mod Failures
 pub mod Lists
+pub mod Named
+pub mod Own

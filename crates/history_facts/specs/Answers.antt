@@ -1,12 +1,12 @@
 -- What the enums of the code stand for among the definitions.
 use Rattle.relay_model.specs.History.{Stage}
 use Rattle.relay_model.specs.History as stages
+use Rattle.history_facts.specs.declared.openings.Stage.{Stage as AtStage}
+use Rattle.history_facts.specs.declared.openings.Stage.TheVariants as at
 use Rattle.relay_model.specs.Arming.{Arming}
 use Rattle.relay_model.specs.Arming as armings
-use Rattle.history_facts.specs.declared.history.Stage.{Stage as AtStage}
-use Rattle.history_facts.specs.declared.history.Stage.TheVariants as at
-use Rattle.history_facts.specs.declared.arming.Arming.{Arming as ByArming}
-use Rattle.history_facts.specs.declared.arming.Arming.TheVariants as by
+use Rattle.history_facts.specs.declared.armings.Arming.{Arming as ByArming}
+use Rattle.history_facts.specs.declared.armings.Arming.TheVariants as by
 
 abbrev pub as_stage : AtStage → Stage
 as_stage at.Untried = stages.Untried

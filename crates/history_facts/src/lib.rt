@@ -1,19 +1,31 @@
-// What a list of acts says of a place: how it stands, what it took and gave, what is armed, and which bytes are due.
+// What the acts of a history say of its places and sessions: how they stand, what they took and gave, what is armed,
+// and which bytes are due. The answers are kept beside the acts.
 #![tactic(auto)]
 
 mod arming;
+mod armings;
 mod choices;
+mod clock;
 mod history;
-mod transfers;
+mod naming;
+mod openings;
+mod past;
+mod sessions;
+mod traffic;
 
 pub use arming::{
-    Arming, armed_to_accept, armed_to_read, armed_to_write, arming_moment, asked_to_accept,
-    asked_to_read, asked_to_write, read_arming,
+    armed_to_accept, armed_to_read, armed_to_write, arming_moment, asked_to_accept, asked_to_read,
+    asked_to_write, read_arming,
 };
+pub use armings::{Arming, Armings};
 pub use choices::{earlier, later, or_else};
+pub use clock::Clock;
 pub use history::{
-    Stage, accept_failed, failure_count, got_length, held, memory_said, next_due, now, put_length,
-    read_fault_at, served, shut_at, stage_of, stop_said, turns, was_closed, was_reaped, woken,
-    write_fault_at,
+    accept_failed, admitted, closed_why, failure_count, got_length, held, memory_said, met_empty,
+    met_end, moved, next_due, now, put_length, read_fault_at, served, shut_at, stage_of, stop_said,
+    turns, was_closed, was_reaped, woken, write_fault_at,
 };
-pub use transfers::{backlog, due_after, is_spent, over, room};
+pub use openings::{Openings, Stage};
+pub use past::Past;
+pub use sessions::{Sessions, permits};
+pub use traffic::Traffic;

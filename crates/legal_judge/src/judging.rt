@@ -1,6 +1,7 @@
 // Whether each act of a journal may come after the acts before it.
 ghost use Rattle.std.specs.Prelude.{◌≡◌, ◌<◌, ◌≤◌, ◌*◌, ◌^◌, ◌+◌, length, count_by, drop, IfOk, true};
 ghost use Rattle.relay_model.specs.History.{held};
+ghost use Rattle.relay_model.specs.Configs.{things};
 ghost use Rattle.relay_model.specs.Sessions.{admitted};
 ghost use Rattle.relay_model.specs.May.{Legal};
 ghost use Rattle.relay_model.specs.Audit.{held_count, first_illegal, may_come};
@@ -17,6 +18,7 @@ use relay_laws::{
 use relay_model::{Act, Config, Journal, NoMemory, Place};
 use session_facts::numbers;
 use std::alloc::Global;
+use transfer_facts::Ledger;
 
 /// What is found of a journal.
 #[derive(Clone, Copy, Debug, PartialEq, Eq)]
@@ -29,34 +31,47 @@ pub enum Judgement {
 
 // ---- what is held
 
-fn count_held(past: &[&Act], places: &[Place]) -> usize
-    ensures count { result ≡ count_by (held (acts past.now)) places.now }
+fn count_held(past: &Ledger, places: &[Place]) -> usize
+    ensures count { result ≡ count_by (held past.now.acts) places.now }
 {
-    places.iter().filter(|place| held(past, **place)).count()
+    places
+        .iter()
+        .filter(|place| held(past.facts(), **place))
+        .count()
+}
+
+/// How many places and doors the session holds.
+fn held_in_session(past: &Ledger, session: u32) -> usize
+    ensures count { result ≡ count_by (held past.now.acts) (things past.now.config session) }
+    ensures few { result ≤ 8 }
+{
+    let config = past.facts().config();
+    count_held(past, things(config, session).as_slice())
 }
 
 #[tactic(auto, using(crate::proofs::Holding::held_below_more))]
-fn held_in_sessions(config: &Config, past: &[&Act], count: u32) -> u64
-    ensures count { result ≡ held_below config.now (acts past.now) count }
+fn held_in_sessions(past: &Ledger, count: u32) -> u64
+    ensures count { result ≡ held_below past.now.config past.now.acts count }
     ensures few { result ≤ 8 * count }
 {
     let mut total: u64 = 0;
     for session in 0..count {
-        total += count_held(past, things(config, session).as_slice()) as u64;
+        total += held_in_session(past, session) as u64;
     }
     total
 }
 
 /// How many places and doors are held; those that are still settling count.
 #[tactic(auto, using(crate::proofs::Holding::held_count_is))]
-pub fn held_count(config: &Config, past: &[&Act]) -> u64
-    requires { admitted config.now (acts past.now) < 2 ^ 32 }
-    ensures { result ≡ held_count config.now (acts past.now) }
+pub fn held_count(past: &Ledger) -> u64
+    requires { admitted past.now.config past.now.acts < 2 ^ 32 }
+    ensures { result ≡ held_count past.now.config past.now.acts }
 {
-    let next = numbers(config, past);
-    let begun = held_in_sessions(config, past, next);
-    let coming = count_held(past, things(config, next).as_slice()) as u64;
-    let door = if has_fork(config) && held(past, program_door()) {
+    let config = past.facts().config();
+    let next = numbers(past.facts());
+    let begun = held_in_sessions(past, next);
+    let coming = held_in_session(past, next) as u64;
+    let door = if has_fork(config) && held(past.facts(), program_door()) {
         1
     } else {
         0
@@ -68,18 +83,18 @@ pub fn held_count(config: &Config, past: &[&Act]) -> u64
 
 /// A legal history has no more sessions than numbers for them and no read of nothing, what was written begins what is
 /// due, and where borders are kept one piece at most waits.
-fn what_is_legal(config: &Config, limit: u64, past: &[&Act])
-    requires { Legal config.now limit (acts past.now) }
-    ensures few { admitted config.now (acts past.now) < 2 ^ 32 }
-    ensures some { reads_some (acts past.now) ≡ true }
-    ensures written { WrittenStands config.now (acts past.now) }
-    ensures one { OnePieceWaits config.now (acts past.now) }
+fn what_is_legal(limit: u64, past: &Ledger)
+    requires { Legal past.now.config limit past.now.acts }
+    ensures few { admitted past.now.config past.now.acts < 2 ^ 32 }
+    ensures some { reads_some past.now.acts ≡ true }
+    ensures written { WrittenStands past.now.config past.now.acts }
+    ensures one { OnePieceWaits past.now.config past.now.acts }
 {
     admitted_is_bounded();
     packets_are_due();
     written_is_due();
-    let _most = options_of(config, program_door()).stop_after;
-    let _last = past.len();
+    let _most = options_of(past.facts().config(), program_door()).stop_after;
+    let _last = past.facts().acts().len();
 }
 
 fn newest_first<'a>(alloc: Global, journal: &'a Journal) -> Result<Vec<&'a Act>, NoMemory>
@@ -95,51 +110,45 @@ fn newest_first<'a>(alloc: Global, journal: &'a Journal) -> Result<Vec<&'a Act>,
 }
 
 /// Whether the act may come after a legal history.
-fn may_follow(
-    alloc: Global,
-    config: &Config,
-    limit: u64,
-    past: &[&Act],
-    act: &Act,
-) -> Result<bool, NoMemory>
-    requires { first_illegal config.now limit (acts past.now) ≡ 0 }
-    ensures { IfOk result (λ may. may ≡ may_come config.now limit (acts past.now) act.now) }
+fn may_follow(alloc: Global, limit: u64, past: &Ledger, act: &Act) -> Result<bool, NoMemory>
+    requires { first_illegal past.now.config limit past.now.acts ≡ 0 }
+    ensures { IfOk result (λ may. may ≡ may_come past.now.config limit past.now.acts act.now) }
 {
     tests_are_right();
-    what_is_legal(config, limit, past);
-    may_come(alloc, config, limit, past, act)
+    what_is_legal(limit, past);
+    may_come(alloc, limit, past, act)
 }
 
-fn judge_acts(
+fn judge_acts<'a>(
     alloc: Global,
-    config: &Config,
-    past: &[&Act],
+    config: &'a Config,
+    all: &'a [&'a Act],
     limit: u64,
 ) -> Result<Judgement, NoMemory>
-    ensures { IfOk result (Judges config.now limit (acts past.now)) }
+    ensures { IfOk result (Judges config.now limit (acts all.now)) }
 {
     tests_are_right();
     one_test_is_right();
-    let mut k = past.len();
+    let mut past = Ledger::new(alloc, config);
+    let mut k = all.len();
     while k > 0 {
         k -= 1;
-        let older = &past[k + 1..];
-        let act: &Act = past[k];
-        if !may_follow(alloc, config, limit, older, act)? {
+        let act: &Act = all[k];
+        if !may_follow(alloc, limit, &past, act)? {
             return Ok(Judgement::Illegal {
-                act: (past.len() - k) as u64,
+                act: (all.len() - k) as u64,
             });
         }
+        past = past.with(alloc, act, &all[k..])?;
     }
-    what_is_legal(config, limit, past);
+    what_is_legal(limit, &past);
     Ok(Judgement::Legal {
-        held: held_count(config, past),
+        held: held_count(&past),
     })
 }
 
 /// Whether the journal is a legal history of this command, in a run of so many turns at most. The acts of the
-/// journal are judged one by one, each by all that stands before it. So the time grows with the square of the journal's
-/// length, and with the number of its sessions.
+/// journal are judged one by one, by answers that are kept up with each act.
 pub fn judge(
     alloc: Global,
     config: &Config,

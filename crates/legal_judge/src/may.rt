@@ -1,16 +1,19 @@
 // What may come and what rests, as tests that compute.
-ghost use Rattle.std.specs.Prelude.{◌≡◌, ◌≢◌, ◌<◌, ◌≤◌, ◌^◌, ◌&&◌, ◌||◌, ◌==◌, not, nat_lt, nat_le, [], ◌∷◌, ◌++◌, length, drop, IfOk, is_none, true};
+ghost use Rattle.std.specs.Prelude.{List, ◌≡◌, ◌≢◌, ◌<◌, ◌≤◌, ◌^◌, ◌&&◌, ◌||◌, ◌==◌, not, nat_lt, nat_le, [], ◌∷◌, ◌++◌, length, drop, IfOk, is_none, true};
+ghost use Rattle.relay_model.specs.declared.acts.Act.{Act};
+ghost use Rattle.relay_model.specs.declared.acts.Act.TheVariants.{Read};
 ghost use Rattle.relay_model.specs.Dumps.{dump_of};
 ghost use Rattle.relay_model.specs.Choices.{each_below};
+ghost use Rattle.relay_model.specs.Places.{same_place};
+ghost use Rattle.relay_model.specs.Moments.{passed};
 ghost use Rattle.relay_model.specs.History.{turns, got, put, sent, was_closed, was_reaped, same_why};
 ghost use Rattle.relay_model.specs.Arming.{asked_to_read, asked_to_write};
 ghost use Rattle.relay_model.specs.Sessions.{admitted, live};
 ghost use Rattle.relay_model.specs.Cause.{cause, running};
 ghost use Rattle.relay_model.specs.Configs.{input, output, way_to, medium_of, is_program, keeps_borders};
-ghost use Rattle.relay_model.specs.Transfers.{due, due_pieces, backlog};
-ghost use Rattle.relay_model.specs.Rest.{owed, may_read, may_write, until_of};
+ghost use Rattle.relay_model.specs.Transfers.{due, due_pieces, backlog, is_spent};
+ghost use Rattle.relay_model.specs.Rest.{owed, moves, may_read, may_write, until_of};
 ghost use Rattle.relay_model.specs.Audit.{implies, accept_tried, way_rests, session_rests, door_rests, rests, same_number, same_list, same_text, begins, begins_pieces, same_shut, opens, listens_to, accepts_for, accepts_at, closes, may_ask, may_take, may_offer, may_put, may_shut, door_ends, is_cause, may_close, may_come};
-ghost use Rattle.history_facts.specs.Pasts.{acts};
 ghost use Rattle.legal_judge.specs.Pasts.{reads_some, awaits_dump, may_end, WrittenStands, OnePieceWaits};
 ghost use Rattle.session_facts.specs.Answers.{as_call};
 
@@ -24,159 +27,128 @@ use command_places::{
 use dump_format::dump_text;
 use history_facts::{
     accept_failed, armed_to_read, armed_to_write, asked_to_accept, asked_to_read, asked_to_write,
-    backlog, due_after, got_length, held, is_spent, memory_said, over, put_length, room, stop_said,
-    turns, was_closed, was_reaped,
+    closed_why, got_length, held, memory_said, put_length, stop_said, turns, was_closed,
+    was_reaped,
 };
-use relay_model::{Act, Config, Dump, NoMemory, Place, Shut, Way, Why};
+use relay_model::{Act, Dump, NoMemory, Place, Shut, Way, Why};
 use session_facts::{
-    Call, called_at, cause, closed_why, door_call, door_cut, has_outcome, holds, known_call, live,
-    numbers, passed, running,
+    Call, called_at, cause, door_call, door_cut, has_outcome, holds, known_call, live, numbers,
+    passed, running,
 };
 use std::alloc::Global;
+use transfer_facts::{Ledger, backlog, due_after, is_spent, over, room};
 
 // ---- rest
 
-fn accept_tried(config: &Config, past: &[&Act], call: Call) -> bool
-    ensures { result ≡ accept_tried config.now (acts past.now) (as_call call) }
+fn accept_tried(past: &Ledger, call: Call) -> bool
+    ensures { result ≡ accept_tried past.now.config past.now.acts (as_call call) }
 {
     match call {
-        Call::Accept(door, _) => asked_to_accept(config, past, door),
+        Call::Accept(door, _) => asked_to_accept(past.facts(), door),
         _ => true,
     }
 }
 
 /// Whether a read that may come was tried since the last turn.
 #[tactic(auto, using(crate::proofs::Implied::implies_met, crate::proofs::Implied::implies_unmet))]
-fn reading_rests(
-    alloc: Global,
-    config: &Config,
-    past: &[&Act],
-    session: u32,
-    way: Way,
-    runs: bool,
-) -> Result<bool, NoMemory>
-    requires { runs ≡ running config.now (acts past.now) session }
-    ensures { IfOk result (λ quiet. quiet ≡ implies (may_read config.now (acts past.now) session way) (asked_to_read (acts past.now) (input config.now session way))) }
+fn reading_rests(past: &Ledger, session: u32, way: Way, runs: bool) -> bool
+    requires { runs ≡ running past.now.config past.now.acts session }
+    ensures { result ≡ implies (may_read past.now.config past.now.acts session way) (asked_to_read past.now.acts (input past.now.config session way)) }
 {
-    if asked_to_read(past, input(config, session, way)) {
-        return Ok(true);
+    let config = past.facts().config();
+    if asked_to_read(past.facts(), input(config, session, way)) {
+        return true;
     }
-    Ok(!may_read(alloc, config, past, session, way, runs)?)
+    !may_read(past, session, way, runs)
 }
 
 /// Whether a write that may come was tried since the last turn and the last read.
 #[tactic(auto, using(crate::proofs::Implied::implies_met, crate::proofs::Implied::implies_unmet))]
-fn writing_rests(
-    alloc: Global,
-    config: &Config,
-    past: &[&Act],
-    session: u32,
-    way: Way,
-    runs: bool,
-) -> Result<bool, NoMemory>
-    requires { runs ≡ running config.now (acts past.now) session }
-    ensures { IfOk result (λ quiet. quiet ≡ implies (may_write config.now (acts past.now) session way) (asked_to_write (acts past.now) (input config.now session way) (output config.now session way))) }
+fn writing_rests(past: &Ledger, session: u32, way: Way, runs: bool) -> bool
+    requires { runs ≡ running past.now.config past.now.acts session }
+    ensures { result ≡ implies (may_write past.now.config past.now.acts session way) (asked_to_write past.now.acts (input past.now.config session way) (output past.now.config session way)) }
 {
-    if asked_to_write(
-        past,
-        input(config, session, way),
-        output(config, session, way),
-    ) {
-        return Ok(true);
+    let config = past.facts().config();
+    if asked_to_write(past.facts(), session, way) {
+        return true;
     }
-    Ok(!may_write(alloc, config, past, session, way, runs)?)
+    !may_write(past, session, way, runs)
 }
 
-fn way_rests(
-    alloc: Global,
-    config: &Config,
-    past: &[&Act],
-    session: u32,
-    way: Way,
-    runs: bool,
-) -> Result<bool, NoMemory>
-    requires { runs ≡ running config.now (acts past.now) session }
-    ensures { IfOk result (λ quiet. quiet ≡ way_rests config.now (acts past.now) session way) }
+fn way_rests(past: &Ledger, session: u32, way: Way, runs: bool) -> bool
+    requires { runs ≡ running past.now.config past.now.acts session }
+    ensures { result ≡ way_rests past.now.config past.now.acts session way }
 {
-    if !reading_rests(alloc, config, past, session, way, runs)? {
-        return Ok(false);
+    if !reading_rests(past, session, way, runs) {
+        return false;
     }
-    if !writing_rests(alloc, config, past, session, way, runs)? {
-        return Ok(false);
+    if !writing_rests(past, session, way, runs) {
+        return false;
     }
-    Ok(!must_pass(alloc, config, past, session, way, runs)?)
+    !must_pass(past, session, way, runs)
 }
 
-fn session_rests(
-    alloc: Global,
-    config: &Config,
-    past: &[&Act],
-    session: u32,
-) -> Result<bool, NoMemory>
-    requires { admitted config.now (acts past.now) < 2 ^ 32 }
-    ensures { IfOk result (λ quiet. quiet ≡ session_rests config.now (acts past.now) session) }
+fn session_rests(past: &Ledger, session: u32) -> bool
+    requires { admitted past.now.config past.now.acts < 2 ^ 32 }
+    ensures { result ≡ session_rests past.now.config past.now.acts session }
 {
-    let lives = live(config, past, session);
-    let why = cause(config, past, session);
-    let call = known_call(config, past, session, lives, why);
-    if why.is_some() && holds(config, past, session) {
-        return Ok(false);
+    let lives = live(past.facts(), session);
+    let why = cause(past.facts(), session);
+    let call = known_call(past.facts(), session, lives, why);
+    if why.is_some() && holds(past.facts(), session) {
+        return false;
     }
     if presses(call) {
-        return Ok(false);
+        return false;
     }
-    let runs = known_running(config, past, session, lives, why);
-    if !way_rests(alloc, config, past, session, Way::LeftToRight, runs)? {
-        return Ok(false);
+    let runs = known_running(past, session, lives, why);
+    if !way_rests(past, session, Way::LeftToRight, runs) {
+        return false;
     }
-    if !way_rests(alloc, config, past, session, Way::RightToLeft, runs)? {
-        return Ok(false);
+    if !way_rests(past, session, Way::RightToLeft, runs) {
+        return false;
     }
-    Ok(accept_tried(config, past, call))
+    accept_tried(past, call)
 }
 
-fn door_rests(config: &Config, past: &[&Act]) -> bool
-    requires { admitted config.now (acts past.now) < 2 ^ 32 }
-    ensures { result ≡ door_rests config.now (acts past.now) }
+fn door_rests(past: &Ledger) -> bool
+    requires { admitted past.now.config past.now.acts < 2 ^ 32 }
+    ensures { result ≡ door_rests past.now.config past.now.acts }
 {
-    let call = door_call(config, past);
-    (!(has_fork(config) && door_cut(past)) || !held(past, program_door()))
+    let config = past.facts().config();
+    let call = door_call(past.facts());
+    (!(has_fork(config) && door_cut(past.facts())) || !held(past.facts(), program_door()))
         && !presses(call)
-        && accept_tried(config, past, call)
+        && accept_tried(past, call)
 }
 
 #[tactic(auto, using(session_facts::proofs::Below::each_below_more))]
-fn all_sessions_rest(
-    alloc: Global,
-    config: &Config,
-    past: &[&Act],
-    count: u32,
-) -> Result<bool, NoMemory>
-    requires { admitted config.now (acts past.now) < 2 ^ 32 }
-    ensures { IfOk result (λ quiet. quiet ≡ each_below (session_rests config.now (acts past.now)) count) }
+fn all_sessions_rest(past: &Ledger, count: u32) -> bool
+    requires { admitted past.now.config past.now.acts < 2 ^ 32 }
+    ensures { result ≡ each_below (session_rests past.now.config past.now.acts) count }
 {
     for session in 0..count {
-        let quiet = session_rests(alloc, config, past, session)?;
+        let quiet = session_rests(past, session);
         if !quiet {
-            return Ok(false);
+            return false;
         }
     }
-    Ok(true)
+    true
 }
 
 /// Whether a wait is in order.
-pub fn rests(alloc: Global, config: &Config, past: &[&Act]) -> Result<bool, NoMemory>
-    requires { admitted config.now (acts past.now) < 2 ^ 32 }
-    ensures { IfOk result (λ quiet. quiet ≡ rests config.now (acts past.now)) }
+pub fn rests(past: &Ledger) -> bool
+    requires { admitted past.now.config past.now.acts < 2 ^ 32 }
+    ensures { result ≡ rests past.now.config past.now.acts }
 {
-    if has_outcome(config, past) || !owes_nothing(config, past) || !door_rests(config, past) {
-        return Ok(false);
+    if has_outcome(past.facts()) || !owes_nothing(past) || !door_rests(past) {
+        return false;
     }
-    let next = numbers(config, past);
-    if !session_rests(alloc, config, past, next)? {
-        return Ok(false);
+    let next = numbers(past.facts());
+    if !session_rests(past, next) {
+        return false;
     }
-    all_sessions_rest(alloc, config, past, next)
+    all_sessions_rest(past, next)
 }
 
 // ---- small tests
@@ -321,167 +293,137 @@ fn closes(call: Call, place: Place, why: Why) -> bool
 
 // ---- reads and writes
 
-fn may_ask(alloc: Global, config: &Config, past: &[&Act], place: Place) -> Result<bool, NoMemory>
-    requires { admitted config.now (acts past.now) < 2 ^ 32 }
-    ensures { IfOk result (λ may. may ≡ may_ask config.now (acts past.now) place) }
+fn may_ask(past: &Ledger, place: Place) -> bool
+    requires { admitted past.now.config past.now.acts < 2 ^ 32 }
+    ensures { result ≡ may_ask past.now.config past.now.acts place }
 {
+    let config = past.facts().config();
     let session = place.session;
     let way = way_from(place.side);
     if !place.is(input(config, session, way)) {
-        return Ok(false);
+        return false;
     }
-    let runs = running(config, past, session);
-    if !moves(config, past, session, way, runs) || passed(config, past, session, way) {
-        return Ok(false);
+    let runs = running(past.facts(), session);
+    if !moves(past, session, way, runs) || passed(past.facts(), session, way) {
+        return false;
     }
-    if over(alloc, config, past, place)? {
-        return Ok(false);
+    if over(past, place) {
+        return false;
     }
-    Ok(armed_to_read(past, place))
+    armed_to_read(past.facts(), place)
 }
 
 /// Whether so many bytes may be read there, of as many as there is room for.
-fn may_take(
-    alloc: Global,
-    config: &Config,
-    past: &[&Act],
-    place: Place,
-    count: usize,
-) -> Result<bool, NoMemory>
-    requires { admitted config.now (acts past.now) < 2 ^ 32 }
-    ensures { IfOk result (λ may. may ≡ may_take config.now (acts past.now) place count) }
+fn may_take(past: &Ledger, place: Place, count: usize) -> bool
+    requires { admitted past.now.config past.now.acts < 2 ^ 32 }
+    ensures { result ≡ may_take past.now.config past.now.acts place count }
 {
-    if !may_ask(alloc, config, past, place)? {
-        return Ok(false);
+    if !may_ask(past, place) {
+        return false;
     }
-    let most = room(alloc, config, past, place.session, way_from(place.side))?;
-    Ok(count >= 1 && count as u64 <= most)
+    let most = room(past, place.session, way_from(place.side));
+    count >= 1 && count as u64 <= most
 }
 
-fn may_offer(config: &Config, past: &[&Act], place: Place) -> bool
-    requires { admitted config.now (acts past.now) < 2 ^ 32 }
-    ensures { result ≡ may_offer config.now (acts past.now) place }
+fn may_offer(past: &Ledger, place: Place) -> bool
+    requires { admitted past.now.config past.now.acts < 2 ^ 32 }
+    ensures { result ≡ may_offer past.now.config past.now.acts place }
 {
+    let config = past.facts().config();
     let session = place.session;
     let way = way_to(place.side);
     place.is(output(config, session, way))
-        && moves(config, past, session, way, running(config, past, session))
-        && !passed(config, past, session, way)
-        && armed_to_write(past, place)
+        && moves(past, session, way, running(past.facts(), session))
+        && !passed(past.facts(), session, way)
+        && armed_to_write(past.facts(), place)
 }
 
-fn may_try_write(
-    alloc: Global,
-    config: &Config,
-    past: &[&Act],
-    place: Place,
-) -> Result<bool, NoMemory>
-    requires { admitted config.now (acts past.now) < 2 ^ 32 }
-    ensures { IfOk result (λ may. may ≡ (may_offer config.now (acts past.now) place && nat_le 1 (backlog config.now (acts past.now) place.session (way_to place.side)))) }
+fn may_try_write(past: &Ledger, place: Place) -> bool
+    requires { admitted past.now.config past.now.acts < 2 ^ 32 }
+    ensures { result ≡ (may_offer past.now.config past.now.acts place && nat_le 1 (backlog past.now.config past.now.acts place.session (way_to place.side))) }
 {
-    if !may_offer(config, past, place) {
-        return Ok(false);
+    if !may_offer(past, place) {
+        return false;
     }
-    Ok(backlog(alloc, config, past, place.session, way_to(place.side))? >= 1)
+    backlog(past, place.session, way_to(place.side)) >= 1
 }
 
 /// Whether the bytes go on where those that were written at the place end, of all that are due there. Those that were
 /// written are a beginning of it.
 #[tactic(auto, using(crate::proofs::Pieces::next_bytes))]
-fn is_due_next(
-    alloc: Global,
-    config: &Config,
-    past: &[&Act],
-    place: Place,
-    bytes: &[u8],
-) -> Result<bool, NoMemory>
-    requires written { WrittenStands config.now (acts past.now) }
-    requires offered { may_offer config.now (acts past.now) place ≡ true }
-    ensures { IfOk result (λ next. next ≡ begins (put (acts past.now) place ++ bytes.now) (due config.now (way_to place.side) (got (acts past.now) (input config.now place.session (way_to place.side))))) }
+fn is_due_next(past: &Ledger, place: Place, bytes: &[u8]) -> bool
+    requires written { WrittenStands past.now.config past.now.acts }
+    requires offered { may_offer past.now.config past.now.acts place ≡ true }
+    ensures { result ≡ begins (put past.now.acts place ++ bytes.now) (due past.now.config (way_to place.side) (got past.now.acts (input past.now.config place.session (way_to place.side)))) }
 {
-    let owed = due_after(alloc, config, past, place.session, way_to(place.side))?;
-    let written = put_length(past, place)?;
-    Ok(begins(bytes, after_first(owed.as_slice(), written)))
+    let owed = due_after(past, place.session, way_to(place.side));
+    let written = put_length(past.facts(), place);
+    begins(bytes, after_first(owed, written))
 }
 
 /// Whether the piece is the next of those that are due at the place: one at most waits, so it is all that waits.
 #[tactic(auto, using(crate::proofs::Pieces::piece_is_next))]
-fn is_piece_due(
-    alloc: Global,
-    config: &Config,
-    past: &[&Act],
-    place: Place,
-    bytes: &[u8],
-) -> Result<bool, NoMemory>
-    requires one { OnePieceWaits config.now (acts past.now) }
-    requires kept { keeps_borders config.now (way_to place.side) ≡ true }
-    requires offered { may_offer config.now (acts past.now) place ≡ true }
+fn is_piece_due(past: &Ledger, place: Place, bytes: &[u8]) -> bool
+    requires one { OnePieceWaits past.now.config past.now.acts }
+    requires kept { keeps_borders past.now.config (way_to place.side) ≡ true }
+    requires offered { may_offer past.now.config past.now.acts place ≡ true }
     requires some { 1 ≤ length bytes.now }
-    requires due { begins (put (acts past.now) place ++ bytes.now) (due config.now (way_to place.side) (got (acts past.now) (input config.now place.session (way_to place.side)))) ≡ true }
-    ensures { IfOk result (λ next. next ≡ begins_pieces (sent (acts past.now) place ++ bytes.now ∷ []) (due_pieces config.now (acts past.now) place.session (way_to place.side))) }
+    requires due { begins (put past.now.acts place ++ bytes.now) (due past.now.config (way_to place.side) (got past.now.acts (input past.now.config place.session (way_to place.side)))) ≡ true }
+    ensures { result ≡ begins_pieces (sent past.now.acts place ++ bytes.now ∷ []) (due_pieces past.now.config past.now.acts place.session (way_to place.side)) }
 {
-    let waiting = backlog(alloc, config, past, place.session, way_to(place.side))?;
-    Ok(waiting == bytes.len())
+    let waiting = backlog(past, place.session, way_to(place.side));
+    waiting == bytes.len()
 }
 
-fn may_put(
-    alloc: Global,
-    config: &Config,
-    past: &[&Act],
-    place: Place,
-    bytes: &[u8],
-) -> Result<bool, NoMemory>
-    requires few { admitted config.now (acts past.now) < 2 ^ 32 }
-    requires written { WrittenStands config.now (acts past.now) }
-    requires one { OnePieceWaits config.now (acts past.now) }
-    ensures { IfOk result (λ may. may ≡ may_put config.now (acts past.now) place bytes.now) }
+fn may_put(past: &Ledger, place: Place, bytes: &[u8]) -> bool
+    requires few { admitted past.now.config past.now.acts < 2 ^ 32 }
+    requires written { WrittenStands past.now.config past.now.acts }
+    requires one { OnePieceWaits past.now.config past.now.acts }
+    ensures { result ≡ may_put past.now.config past.now.acts place bytes.now }
 {
-    if !may_offer(config, past, place) || bytes.len() < 1 {
-        return Ok(false);
+    let config = past.facts().config();
+    if !may_offer(past, place) || bytes.len() < 1 {
+        return false;
     }
-    if !is_due_next(alloc, config, past, place, bytes)? {
-        return Ok(false);
+    if !is_due_next(past, place, bytes) {
+        return false;
     }
     if !keeps_borders(config, way_to(place.side)) {
-        return Ok(true);
+        return true;
     }
-    is_piece_due(alloc, config, past, place, bytes)
+    is_piece_due(past, place, bytes)
 }
 
-fn may_shut(
-    alloc: Global,
-    config: &Config,
-    past: &[&Act],
-    place: Place,
-    shut: Shut,
-) -> Result<bool, NoMemory>
-    requires { admitted config.now (acts past.now) < 2 ^ 32 }
-    ensures { IfOk result (λ may. may ≡ may_shut config.now (acts past.now) place shut) }
+/// Whether the end of a direction may be passed on at the place.
+fn may_pass(past: &Ledger, place: Place) -> bool
+    requires { admitted past.now.config past.now.acts < 2 ^ 32 }
+    ensures { result ≡ (same_place place (output past.now.config place.session (way_to place.side)) && moves past.now.config past.now.acts place.session (way_to place.side) && is_spent past.now.config past.now.acts place.session (way_to place.side) && not (passed past.now.config past.now.acts place.session (way_to place.side))) }
 {
     let session = place.session;
     let way = way_to(place.side);
-    if !place.is(output(config, session, way)) {
-        return Ok(false);
-    }
-    if !moves(config, past, session, way, running(config, past, session)) {
-        return Ok(false);
-    }
-    if !is_spent(alloc, config, past, session, way)? {
-        return Ok(false);
-    }
-    Ok(!passed(config, past, session, way) && same_shut(shut, how(config, place)))
+    place.is(output(past.facts().config(), session, way))
+        && moves(past, session, way, running(past.facts(), session))
+        && is_spent(past, session, way)
+        && !passed(past.facts(), session, way)
+}
+
+fn may_shut(past: &Ledger, place: Place, shut: Shut) -> bool
+    requires { admitted past.now.config past.now.acts < 2 ^ 32 }
+    ensures { result ≡ may_shut past.now.config past.now.acts place shut }
+{
+    may_pass(past, place) && same_shut(shut, how(past.facts().config(), place))
 }
 
 // ---- closings
 
 /// Why the program door of `fork` has to end.
-fn door_ends(past: &[&Act], why: Why) -> bool
-    ensures { result ≡ door_ends (acts past.now) why }
+fn door_ends(past: &Ledger, why: Why) -> bool
+    ensures { result ≡ door_ends past.now.acts why }
 {
     match why {
-        Why::Memory => memory_said(past),
-        Why::Stopped => stop_said(past),
-        Why::AcceptFailed => accept_failed(past, program_door()),
+        Why::Memory => memory_said(past.facts()),
+        Why::Stopped => stop_said(past.facts()),
+        Why::AcceptFailed => accept_failed(past.facts(), program_door()),
         _ => false,
     }
 }
@@ -496,55 +438,42 @@ fn is_cause(cause: Option<Why>, why: Why) -> bool
 }
 
 /// Whether a closing is licensed by itself, but for that of turns that are used up.
-fn may_end(config: &Config, past: &[&Act], place: Place, why: Why) -> bool
-    requires { admitted config.now (acts past.now) < 2 ^ 32 }
-    ensures { result ≡ may_end config.now (acts past.now) place why }
+fn may_end(past: &Ledger, place: Place, why: Why) -> bool
+    requires { admitted past.now.config past.now.acts < 2 ^ 32 }
+    ensures { result ≡ may_end past.now.config past.now.acts place why }
 {
+    let config = past.facts().config();
     let is_door = is_program_door(config, place);
-    !is_door && is_cause(cause(config, past, place.session), why)
-        || closes(called_at(config, past, place), place, why)
+    !is_door && is_cause(cause(past.facts(), place.session), why)
+        || closes(called_at(past.facts(), place), place, why)
         || is_door && door_ends(past, why)
         || same_why(why, Why::Memory)
-            && (is_door || closed_why(config, past, place.session).is_none())
+            && (is_door || closed_why(past.facts(), place.session).is_none())
 }
 
 /// Whether a closing is licensed.
-fn is_licensed(
-    alloc: Global,
-    config: &Config,
-    limit: u64,
-    past: &[&Act],
-    place: Place,
-    why: Why,
-) -> Result<bool, NoMemory>
-    requires { admitted config.now (acts past.now) < 2 ^ 32 }
-    ensures { IfOk result (λ may. may ≡ (may_end config.now (acts past.now) place why || same_why why Why.Stopped && turns (acts past.now) == limit && rests config.now (acts past.now))) }
+fn is_licensed(limit: u64, past: &Ledger, place: Place, why: Why) -> bool
+    requires { admitted past.now.config past.now.acts < 2 ^ 32 }
+    ensures { result ≡ (may_end past.now.config past.now.acts place why || same_why why Why.Stopped && turns past.now.acts == limit && rests past.now.config past.now.acts) }
 {
-    if may_end(config, past, place, why) {
-        return Ok(true);
+    if may_end(past, place, why) {
+        return true;
     }
-    if !same_why(why, Why::Stopped) || turns(past) as u64 != limit {
-        return Ok(false);
+    if !same_why(why, Why::Stopped) || turns(past.facts()) as u64 != limit {
+        return false;
     }
-    rests(alloc, config, past)
+    rests(past)
 }
 
-fn may_close(
-    alloc: Global,
-    config: &Config,
-    limit: u64,
-    past: &[&Act],
-    place: Place,
-    why: Why,
-) -> Result<bool, NoMemory>
-    requires { admitted config.now (acts past.now) < 2 ^ 32 }
-    ensures { IfOk result (λ may. may ≡ may_close config.now limit (acts past.now) place why) }
+fn may_close(limit: u64, past: &Ledger, place: Place, why: Why) -> bool
+    requires { admitted past.now.config past.now.acts < 2 ^ 32 }
+    ensures { result ≡ may_close past.now.config limit past.now.acts place why }
 {
-    if !held(past, place) {
-        return Ok(false);
+    if !held(past.facts(), place) {
+        return false;
     }
-    let licensed = is_licensed(alloc, config, limit, past, place, why)?;
-    Ok(licensed && (owes_nothing(config, past) || same_why(why, Why::Memory)))
+    let licensed = is_licensed(limit, past, place, why);
+    licensed && (owes_nothing(past) || same_why(why, Why::Memory))
 }
 
 // ---- notes
@@ -565,19 +494,28 @@ fn is_dump(
     Ok(same_list(dump.as_slice(), text))
 }
 
+/// How many bytes were read at the place before these, which are those of the last act.
+#[tactic(auto, using(crate::proofs::Counts::read_before))]
+fn count_before(past: &Ledger, place: Place, bytes: &[u8]) -> usize
+    ensures { (older : List Act) → past.now.acts ≡ Read place bytes.now ∷ older → result ≡ length (got older place) }
+{
+    got_length(past.facts(), place).saturating_sub(bytes.len())
+}
+
 /// Whether this is the text that is owed.
 #[tactic(auto, using(crate::proofs::Counts::count_in_word))]
-fn is_owed(alloc: Global, config: &Config, past: &[&Act], text: &[u8]) -> Result<bool, NoMemory>
-    requires { reads_some (acts past.now) ≡ true }
-    ensures { IfOk result (λ is. is ≡ same_text (owed config.now (acts past.now)) text.now) }
+fn is_owed(alloc: Global, past: &Ledger, text: &[u8]) -> Result<bool, NoMemory>
+    requires { reads_some past.now.acts ≡ true }
+    ensures { IfOk result (λ is. is ≡ same_text (owed past.now.config past.now.acts) text.now) }
 {
-    match past {
+    let config = past.facts().config();
+    match past.facts().acts() {
         [] => Ok(false),
-        [act, older @ ..] => match act {
+        [act, ..] => match act {
             Act::Read(place, bytes) => {
                 let way = way_from(place.side);
-                let from = got_length(older, *place)? as u64;
                 let bytes = bytes.as_slice();
+                let from = count_before(past, *place, bytes) as u64;
                 match config.dump {
                     Dump::Off => Ok(false),
                     Dump::Text => is_dump(alloc, way, Dump::Text, from, bytes, text),
@@ -592,95 +530,76 @@ fn is_owed(alloc: Global, config: &Config, past: &[&Act], text: &[u8]) -> Result
 
 // ---- all acts
 
-fn may_turn(
-    alloc: Global,
-    config: &Config,
-    limit: u64,
-    past: &[&Act],
-    until: Option<u64>,
-) -> Result<bool, NoMemory>
-    requires { admitted config.now (acts past.now) < 2 ^ 32 }
-    ensures { IfOk result (λ may. may ≡ (nat_lt (turns (acts past.now)) limit && rests config.now (acts past.now) && same_number until (until_of config.now (acts past.now)))) }
+fn may_turn(limit: u64, past: &Ledger, until: Option<u64>) -> bool
+    requires { admitted past.now.config past.now.acts < 2 ^ 32 }
+    ensures { result ≡ (nat_lt (turns past.now.acts) limit && rests past.now.config past.now.acts && same_number until (until_of past.now.config past.now.acts)) }
 {
-    if turns(past) as u64 >= limit {
-        return Ok(false);
+    if turns(past.facts()) as u64 >= limit {
+        return false;
     }
-    if !rests(alloc, config, past)? {
-        return Ok(false);
+    if !rests(past) {
+        return false;
     }
-    Ok(same_number(until, until_of(alloc, config, past)?))
+    same_number(until, until_of(past))
 }
 
-fn may_reap(config: &Config, past: &[&Act], place: Place) -> bool
-    ensures { result ≡ (is_program (medium_of config.now place) && was_closed (acts past.now) place && not (was_reaped (acts past.now) place)) }
+fn may_reap(past: &Ledger, place: Place) -> bool
+    ensures { result ≡ (is_program (medium_of past.now.config place) && was_closed past.now.acts place && not (was_reaped past.now.acts place)) }
 {
-    is_program(medium_of(config, place)) && was_closed(past, place) && !was_reaped(past, place)
+    let config = past.facts().config();
+    is_program(medium_of(config, place))
+        && was_closed(past.facts(), place)
+        && !was_reaped(past.facts(), place)
 }
 
 /// Whether the act may come after these, while no dump is owed.
-fn may_go_on(
-    alloc: Global,
-    config: &Config,
-    limit: u64,
-    past: &[&Act],
-    act: &Act,
-) -> Result<bool, NoMemory>
-    requires few { admitted config.now (acts past.now) < 2 ^ 32 }
-    requires written { WrittenStands config.now (acts past.now) }
-    requires one { OnePieceWaits config.now (acts past.now) }
-    requires free { is_none (owed config.now (acts past.now)) ≡ true }
+fn may_go_on(limit: u64, past: &Ledger, act: &Act) -> bool
+    requires few { admitted past.now.config past.now.acts < 2 ^ 32 }
+    requires written { WrittenStands past.now.config past.now.acts }
+    requires one { OnePieceWaits past.now.config past.now.acts }
+    requires free { is_none (owed past.now.config past.now.acts) ≡ true }
     requires kind { awaits_dump act.now ≡ true }
-    ensures { IfOk result (λ may. may ≡ may_come config.now limit (acts past.now) act.now) }
+    ensures { result ≡ may_come past.now.config limit past.now.acts act.now }
 {
     match act {
-        Act::Turn { until, .. } => may_turn(alloc, config, limit, past, *until),
+        Act::Turn { until, .. } => may_turn(limit, past, *until),
         Act::Opened(place) | Act::OpenLater(place) | Act::OpenFailed(place) => {
-            Ok(opens(called_at(config, past, *place), *place))
+            opens(called_at(past.facts(), *place), *place)
         }
         Act::Listening(door) | Act::ListenFailed(door) => {
-            Ok(listens_to(called_at(config, past, *door), *door))
+            listens_to(called_at(past.facts(), *door), *door)
         }
-        Act::Accepted(place, _) => Ok(accepts_for(called_at(config, past, *place), *place)),
+        Act::Accepted(place, _) => accepts_for(called_at(past.facts(), *place), *place),
         Act::NoPeer(door) | Act::AcceptFailed(door) => {
-            Ok(accepts_at(called_at(config, past, *door), *door))
+            accepts_at(called_at(past.facts(), *door), *door)
         }
-        Act::Read(place, bytes) => may_take(alloc, config, past, *place, bytes.len()),
+        Act::Read(place, bytes) => may_take(past, *place, bytes.len()),
         Act::ReadEmpty(place)
         | Act::ReadEnd(place)
         | Act::ReadNotYet(place)
-        | Act::ReadFault(place) => may_take(alloc, config, past, *place, 1),
-        Act::Wrote(place, bytes) => may_put(alloc, config, past, *place, bytes.as_slice()),
-        Act::WriteNotYet(place) | Act::WriteFault(place) => {
-            may_try_write(alloc, config, past, *place)
-        }
-        Act::Shut(place, way) | Act::ShutFault(place, way) => {
-            may_shut(alloc, config, past, *place, *way)
-        }
-        Act::Reaped(place, _) => Ok(may_reap(config, past, *place)),
-        Act::Closed(_, _) | Act::Note(_) | Act::NoteFault(_) => Ok(false),
+        | Act::ReadFault(place) => may_take(past, *place, 1),
+        Act::Wrote(place, bytes) => may_put(past, *place, bytes.as_slice()),
+        Act::WriteNotYet(place) | Act::WriteFault(place) => { may_try_write(past, *place) }
+        Act::Shut(place, way) | Act::ShutFault(place, way) => { may_shut(past, *place, *way) }
+        Act::Reaped(place, _) => may_reap(past, *place),
+        Act::Closed(_, _) | Act::Note(_) | Act::NoteFault(_) => false,
     }
 }
 
 /// Whether the act may come after these.
-pub fn may_come(
-    alloc: Global,
-    config: &Config,
-    limit: u64,
-    past: &[&Act],
-    act: &Act,
-) -> Result<bool, NoMemory>
-    requires few { admitted config.now (acts past.now) < 2 ^ 32 }
-    requires some { reads_some (acts past.now) ≡ true }
-    requires written { WrittenStands config.now (acts past.now) }
-    requires one { OnePieceWaits config.now (acts past.now) }
-    ensures { IfOk result (λ may. may ≡ may_come config.now limit (acts past.now) act.now) }
+pub fn may_come(alloc: Global, limit: u64, past: &Ledger, act: &Act) -> Result<bool, NoMemory>
+    requires few { admitted past.now.config past.now.acts < 2 ^ 32 }
+    requires some { reads_some past.now.acts ≡ true }
+    requires written { WrittenStands past.now.config past.now.acts }
+    requires one { OnePieceWaits past.now.config past.now.acts }
+    ensures { IfOk result (λ may. may ≡ may_come past.now.config limit past.now.acts act.now) }
 {
     match act {
-        Act::Closed(place, why) => may_close(alloc, config, limit, past, *place, *why),
-        Act::Note(text) | Act::NoteFault(text) => is_owed(alloc, config, past, text.as_slice()),
+        Act::Closed(place, why) => Ok(may_close(limit, past, *place, *why)),
+        Act::Note(text) | Act::NoteFault(text) => is_owed(alloc, past, text.as_slice()),
         _ => {
-            if owes_nothing(config, past) {
-                may_go_on(alloc, config, limit, past, act)
+            if owes_nothing(past) {
+                Ok(may_go_on(limit, past, act))
             } else {
                 Ok(false)
             }

@@ -4,26 +4,26 @@ ghost use Rattle.relay_model.specs.Choices.{some_below, least_below};
 ghost use Rattle.relay_model.specs.Sessions.{admitted, live};
 ghost use Rattle.relay_model.specs.Cause.{cause, running};
 ghost use Rattle.relay_model.specs.Rest.{owed, goes, moves, may_read, may_write, must_pass, accepts, presses, way_work, session_work, try_moment, input_moment, timer_moment, session_moment, door_moment, until_of};
-ghost use Rattle.history_facts.specs.Pasts.{acts};
 ghost use Rattle.session_facts.specs.Answers.{as_call};
 
 use command_places::{formed, input, output};
 use history_facts::{
-    armed_to_read, armed_to_write, arming_moment, backlog, earlier, is_spent, later, now, over,
-    read_arming,
+    armed_to_read, armed_to_write, arming_moment, earlier, later, now, read_arming,
 };
-use relay_model::{Act, Config, Dump, NoMemory, Way, Why};
+use relay_model::{Act, Dump, NoMemory, Way, Why};
 use session_facts::{
     Call, broken, cause, closing_moment, door_call, idle_moment, known_call, live, numbers, passed,
     ready,
 };
 use std::alloc::Global;
+use transfer_facts::{Ledger, backlog, is_spent, over};
 
 /// Whether no dump is owed: the last act was no read, or none is dumped.
-pub fn owes_nothing(config: &Config, past: &[&Act]) -> bool
-    ensures { result ≡ is_none (owed config.now (acts past.now)) }
+pub fn owes_nothing(past: &Ledger) -> bool
+    ensures { result ≡ is_none (owed past.now.config past.now.acts) }
 {
-    match past {
+    let config = past.facts().config();
+    match past.facts().acts() {
         [] => true,
         [act, ..] => match act {
             Act::Read(_, _) => config.dump == Dump::Off,
@@ -35,80 +35,62 @@ pub fn owes_nothing(config: &Config, past: &[&Act]) -> bool
 // ---- work
 
 /// A formed direction that no fault has broken goes.
-fn goes(config: &Config, past: &[&Act], session: u32, way: Way) -> bool
-    ensures { result ≡ goes config.now (acts past.now) session way }
+fn goes(past: &Ledger, session: u32, way: Way) -> bool
+    ensures { result ≡ goes past.now.config past.now.acts session way }
 {
-    formed(config, way) && !broken(config, past, session, way)
+    let config = past.facts().config();
+    formed(config, way) && !broken(past.facts(), session, way)
 }
 
 /// A direction that goes, where it is known whether its session runs.
-pub fn moves(config: &Config, past: &[&Act], session: u32, way: Way, runs: bool) -> bool
-    requires { runs ≡ running config.now (acts past.now) session }
-    ensures { result ≡ moves config.now (acts past.now) session way }
+pub fn moves(past: &Ledger, session: u32, way: Way, runs: bool) -> bool
+    requires { runs ≡ running past.now.config past.now.acts session }
+    ensures { result ≡ moves past.now.config past.now.acts session way }
 {
-    goes(config, past, session, way) && runs
+    goes(past, session, way) && runs
 }
 
 /// An armed input that may bring more, where nothing waits to be written.
-pub fn may_read(
-    alloc: Global,
-    config: &Config,
-    past: &[&Act],
-    session: u32,
-    way: Way,
-    runs: bool,
-) -> Result<bool, NoMemory>
-    requires { runs ≡ running config.now (acts past.now) session }
-    ensures { IfOk result (λ may. may ≡ may_read config.now (acts past.now) session way) }
+pub fn may_read(past: &Ledger, session: u32, way: Way, runs: bool) -> bool
+    requires { runs ≡ running past.now.config past.now.acts session }
+    ensures { result ≡ may_read past.now.config past.now.acts session way }
 {
+    let config = past.facts().config();
     let place = input(config, session, way);
-    if !moves(config, past, session, way, runs) || !armed_to_read(past, place) {
-        return Ok(false);
+    if !moves(past, session, way, runs) || !armed_to_read(past.facts(), place) {
+        return false;
     }
-    if over(alloc, config, past, place)? {
-        return Ok(false);
+    if over(past, place) {
+        return false;
     }
-    Ok(backlog(alloc, config, past, session, way)? == 0)
+    backlog(past, session, way) == 0
 }
 
 /// An armed output for which bytes wait.
-pub fn may_write(
-    alloc: Global,
-    config: &Config,
-    past: &[&Act],
-    session: u32,
-    way: Way,
-    runs: bool,
-) -> Result<bool, NoMemory>
-    requires { runs ≡ running config.now (acts past.now) session }
-    ensures { IfOk result (λ may. may ≡ may_write config.now (acts past.now) session way) }
+pub fn may_write(past: &Ledger, session: u32, way: Way, runs: bool) -> bool
+    requires { runs ≡ running past.now.config past.now.acts session }
+    ensures { result ≡ may_write past.now.config past.now.acts session way }
 {
+    let config = past.facts().config();
     let place = output(config, session, way);
-    if !moves(config, past, session, way, runs) || !armed_to_write(past, place) {
-        return Ok(false);
+    if !moves(past, session, way, runs) || !armed_to_write(past.facts(), place) {
+        return false;
     }
-    Ok(backlog(alloc, config, past, session, way)? > 0)
+    backlog(past, session, way) > 0
 }
 
 /// The end is to be passed on.
-pub fn must_pass(
-    alloc: Global,
-    config: &Config,
-    past: &[&Act],
-    session: u32,
-    way: Way,
-    runs: bool,
-) -> Result<bool, NoMemory>
-    requires { runs ≡ running config.now (acts past.now) session }
-    ensures { IfOk result (λ must. must ≡ must_pass config.now (acts past.now) session way) }
+pub fn must_pass(past: &Ledger, session: u32, way: Way, runs: bool) -> bool
+    requires { runs ≡ running past.now.config past.now.acts session }
+    ensures { result ≡ must_pass past.now.config past.now.acts session way }
 {
-    if !moves(config, past, session, way, runs) {
-        return Ok(false);
+    if !moves(past, session, way, runs) {
+        return false;
     }
-    if !is_spent(alloc, config, past, session, way)? {
-        return Ok(false);
+    if !is_spent(past, session, way) {
+        return false;
     }
-    Ok(!passed(config, past, session, way))
+    !passed(past.facts(), session, way)
 }
 
 /// An accepting is called for.
@@ -135,58 +117,40 @@ pub fn presses(call: Call) -> bool
 
 // ---- until
 
-fn way_work(
-    alloc: Global,
-    config: &Config,
-    past: &[&Act],
-    session: u32,
-    way: Way,
-    runs: bool,
-) -> Result<bool, NoMemory>
-    requires { runs ≡ running config.now (acts past.now) session }
-    ensures { IfOk result (λ works. works ≡ way_work config.now (acts past.now) session way) }
+fn way_work(past: &Ledger, session: u32, way: Way, runs: bool) -> bool
+    requires { runs ≡ running past.now.config past.now.acts session }
+    ensures { result ≡ way_work past.now.config past.now.acts session way }
 {
-    if may_read(alloc, config, past, session, way, runs)? {
-        return Ok(true);
+    if may_read(past, session, way, runs) {
+        return true;
     }
-    may_write(alloc, config, past, session, way, runs)
+    may_write(past, session, way, runs)
 }
 
 /// Whether the session runs, where it is known whether it lives and why it has to end.
-pub fn known_running(
-    config: &Config,
-    past: &[&Act],
-    session: u32,
-    lives: bool,
-    why: Option<Why>,
-) -> bool
-    requires lives { lives ≡ live config.now (acts past.now) session }
-    requires why { why ≡ cause config.now (acts past.now) session }
-    ensures { result ≡ running config.now (acts past.now) session }
+pub fn known_running(past: &Ledger, session: u32, lives: bool, why: Option<Why>) -> bool
+    requires lives { lives ≡ live past.now.config past.now.acts session }
+    requires why { why ≡ cause past.now.config past.now.acts session }
+    ensures { result ≡ running past.now.config past.now.acts session }
 {
-    lives && ready(config, past, session) && why.is_none()
+    lives && ready(past.facts(), session) && why.is_none()
 }
 
 /// Armed work is left in the session.
-fn session_work(
-    alloc: Global,
-    config: &Config,
-    past: &[&Act],
-    session: u32,
-) -> Result<bool, NoMemory>
-    requires { admitted config.now (acts past.now) < 2 ^ 32 }
-    ensures { IfOk result (λ works. works ≡ session_work config.now (acts past.now) session) }
+fn session_work(past: &Ledger, session: u32) -> bool
+    requires { admitted past.now.config past.now.acts < 2 ^ 32 }
+    ensures { result ≡ session_work past.now.config past.now.acts session }
 {
-    let lives = live(config, past, session);
-    let why = cause(config, past, session);
-    let runs = known_running(config, past, session, lives, why);
-    if way_work(alloc, config, past, session, Way::LeftToRight, runs)? {
-        return Ok(true);
+    let lives = live(past.facts(), session);
+    let why = cause(past.facts(), session);
+    let runs = known_running(past, session, lives, why);
+    if way_work(past, session, Way::LeftToRight, runs) {
+        return true;
     }
-    if way_work(alloc, config, past, session, Way::RightToLeft, runs)? {
-        return Ok(true);
+    if way_work(past, session, Way::RightToLeft, runs) {
+        return true;
     }
-    Ok(accepts(known_call(config, past, session, lives, why)))
+    accepts(known_call(past.facts(), session, lives, why))
 }
 
 /// The moment of a try that isn't due yet.
@@ -200,36 +164,30 @@ fn try_moment(call: Call) -> Option<u64>
 }
 
 /// The moment at which an input that met an end is tried again.
-fn input_moment(
-    alloc: Global,
-    config: &Config,
-    past: &[&Act],
-    session: u32,
-    way: Way,
-    runs: bool,
-) -> Result<Option<u128>, NoMemory>
-    requires { runs ≡ running config.now (acts past.now) session }
-    ensures { IfOk result (λ moment. moment ≡ input_moment config.now (acts past.now) session way) }
+fn input_moment(past: &Ledger, session: u32, way: Way, runs: bool) -> Option<u128>
+    requires { runs ≡ running past.now.config past.now.acts session }
+    ensures { result ≡ input_moment past.now.config past.now.acts session way }
 {
+    let config = past.facts().config();
     let place = input(config, session, way);
-    if !moves(config, past, session, way, runs) {
-        return Ok(None);
+    if !moves(past, session, way, runs) {
+        return None;
     }
-    if over(alloc, config, past, place)? {
-        return Ok(None);
+    if over(past, place) {
+        return None;
     }
-    Ok(arming_moment(read_arming(past, place)))
+    arming_moment(read_arming(past.facts(), place))
 }
 
-fn timer_moment(config: &Config, past: &[&Act], session: u32, runs: bool) -> Option<u64>
-    requires { runs ≡ running config.now (acts past.now) session }
-    ensures { result ≡ timer_moment config.now (acts past.now) session }
+fn timer_moment(past: &Ledger, session: u32, runs: bool) -> Option<u64>
+    requires { runs ≡ running past.now.config past.now.acts session }
+    ensures { result ≡ timer_moment past.now.config past.now.acts session }
 {
     if runs {
-        let at = now(past);
+        let at = now(past.facts());
         earlier(
-            later(at, closing_moment(config, past, session)),
-            later(at, idle_moment(config, past, session)),
+            later(at, closing_moment(past.facts(), session)),
+            later(at, idle_moment(past.facts(), session)),
         )
     } else {
         None
@@ -246,87 +204,66 @@ fn wide(moment: Option<u64>) -> Option<u128>
 }
 
 /// The least moment, later than now, at which something of the session falls due.
-fn session_moment(
-    alloc: Global,
-    config: &Config,
-    past: &[&Act],
-    session: u32,
-) -> Result<Option<u64>, NoMemory>
-    requires { admitted config.now (acts past.now) < 2 ^ 32 }
-    ensures { IfOk result (λ moment. moment ≡ session_moment config.now (acts past.now) session) }
+fn session_moment(past: &Ledger, session: u32) -> Option<u64>
+    requires { admitted past.now.config past.now.acts < 2 ^ 32 }
+    ensures { result ≡ session_moment past.now.config past.now.acts session }
 {
-    let at = now(past);
-    let lives = live(config, past, session);
-    let why = cause(config, past, session);
-    let runs = known_running(config, past, session, lives, why);
-    let timer = timer_moment(config, past, session, runs);
-    let right = later(
-        at,
-        input_moment(alloc, config, past, session, Way::LeftToRight, runs)?,
-    );
-    let left = later(
-        at,
-        input_moment(alloc, config, past, session, Way::RightToLeft, runs)?,
-    );
-    let wanted = try_moment(known_call(config, past, session, lives, why));
+    let at = now(past.facts());
+    let lives = live(past.facts(), session);
+    let why = cause(past.facts(), session);
+    let runs = known_running(past, session, lives, why);
+    let timer = timer_moment(past, session, runs);
+    let right = later(at, input_moment(past, session, Way::LeftToRight, runs));
+    let left = later(at, input_moment(past, session, Way::RightToLeft, runs));
+    let wanted = try_moment(known_call(past.facts(), session, lives, why));
     let tried = later(at, wide(wanted));
-    Ok(earlier(timer, earlier(earlier(right, left), tried)))
+    earlier(timer, earlier(earlier(right, left), tried))
 }
 
-fn door_moment(config: &Config, past: &[&Act]) -> Option<u64>
-    requires { admitted config.now (acts past.now) < 2 ^ 32 }
-    ensures { result ≡ door_moment config.now (acts past.now) }
+fn door_moment(past: &Ledger) -> Option<u64>
+    requires { admitted past.now.config past.now.acts < 2 ^ 32 }
+    ensures { result ≡ door_moment past.now.config past.now.acts }
 {
-    later(now(past), wide(try_moment(door_call(config, past))))
+    later(now(past.facts()), wide(try_moment(door_call(past.facts()))))
 }
 
 #[tactic(auto, using(session_facts::proofs::Below::some_below_more))]
-fn some_session_works(
-    alloc: Global,
-    config: &Config,
-    past: &[&Act],
-    count: u32,
-) -> Result<bool, NoMemory>
-    requires { admitted config.now (acts past.now) < 2 ^ 32 }
-    ensures { IfOk result (λ works. works ≡ some_below (session_work config.now (acts past.now)) count) }
+fn some_session_works(past: &Ledger, count: u32) -> bool
+    requires { admitted past.now.config past.now.acts < 2 ^ 32 }
+    ensures { result ≡ some_below (session_work past.now.config past.now.acts) count }
 {
     for session in 0..count {
-        if session_work(alloc, config, past, session)? {
-            return Ok(true);
+        if session_work(past, session) {
+            return true;
         }
     }
-    Ok(false)
+    false
 }
 
 #[tactic(auto, using(session_facts::proofs::Below::least_below_more))]
-fn least_session_moment(
-    alloc: Global,
-    config: &Config,
-    past: &[&Act],
-    count: u32,
-) -> Result<Option<u64>, NoMemory>
-    requires { admitted config.now (acts past.now) < 2 ^ 32 }
-    ensures { IfOk result (λ moment. moment ≡ least_below (session_moment config.now (acts past.now)) count) }
+fn least_session_moment(past: &Ledger, count: u32) -> Option<u64>
+    requires { admitted past.now.config past.now.acts < 2 ^ 32 }
+    ensures { result ≡ least_below (session_moment past.now.config past.now.acts) count }
 {
     let mut least = None;
     for session in 0..count {
-        least = earlier(session_moment(alloc, config, past, session)?, least);
+        least = earlier(session_moment(past, session), least);
     }
-    Ok(least)
+    least
 }
 
 /// Until when the next wait may last: now where armed work is left, else the least moment ahead.
-pub fn until_of(alloc: Global, config: &Config, past: &[&Act]) -> Result<Option<u64>, NoMemory>
-    requires { admitted config.now (acts past.now) < 2 ^ 32 }
-    ensures { IfOk result (λ until. until ≡ until_of config.now (acts past.now)) }
+pub fn until_of(past: &Ledger) -> Option<u64>
+    requires { admitted past.now.config past.now.acts < 2 ^ 32 }
+    ensures { result ≡ until_of past.now.config past.now.acts }
 {
-    let count = numbers(config, past);
-    if accepts(door_call(config, past)) {
-        return Ok(Some(now(past)));
+    let count = numbers(past.facts());
+    if accepts(door_call(past.facts())) {
+        return Some(now(past.facts()));
     }
-    if some_session_works(alloc, config, past, count)? {
-        return Ok(Some(now(past)));
+    if some_session_works(past, count) {
+        return Some(now(past.facts()));
     }
-    let least = least_session_moment(alloc, config, past, count)?;
-    Ok(earlier(door_moment(config, past), least))
+    let least = least_session_moment(past, count);
+    earlier(door_moment(past), least)
 }

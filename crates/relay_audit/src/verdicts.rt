@@ -81,7 +81,7 @@ fn verdict_by(
 }
 
 /// Whether the text is the journal of a run that this command may have, with so many turns at most. The time grows
-/// with the square of the text's length, and with the number of sessions in it.
+/// with the text's length, and for each turn with the number of sessions that have begun.
 pub fn audit(alloc: Global, text: &[u8], words: &[Text], turns: u64) -> Result<Verdict, NoMemory>
     ensures { IfOk result (IsVerdictOf words.now turns text.now) }
 {

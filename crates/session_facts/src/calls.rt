@@ -3,114 +3,112 @@ ghost use Rattle.std.specs.Prelude.{◌≡◌, ◌<◌, ◌^◌};
 ghost use Rattle.relay_model.specs.Sessions.{admitted, live};
 ghost use Rattle.relay_model.specs.Cause.{cause};
 ghost use Rattle.relay_model.specs.Calls.{call, door_cut, enough, full, program_door_call, door_call, called_at};
-ghost use Rattle.history_facts.specs.Pasts.{acts};
 ghost use Rattle.history_facts.specs.Answers.{as_stage};
 ghost use Rattle.session_facts.specs.Answers.{as_call};
 
 use crate::causes::cause;
 use crate::openings::{Call, first_call, listening_call};
-use crate::sessions::{admitted, live, live_count, next_place};
+use crate::sessions::{live, live_count, next_place};
 use command_places::{has_fork, is_left, options_of, places, program_door};
-use history_facts::{Stage, accept_failed, held, memory_said, stage_of, stop_said};
-use relay_model::{Act, Config, Place, Why};
+use history_facts::{Past, Stage, accept_failed, admitted, held, memory_said, stage_of, stop_said};
+use relay_model::{Place, Why};
 
 /// What the opening of a session calls for, where it is known whether the session lives and why it has to end.
-pub fn known_call(
-    config: &Config,
-    past: &[&Act],
-    session: u32,
-    lives: bool,
-    why: Option<Why>,
-) -> Call
-    requires lives { lives ≡ live config.now (acts past.now) session }
-    requires why { why ≡ cause config.now (acts past.now) session }
-    ensures { as_call result ≡ call config.now (acts past.now) session }
+pub fn known_call(past: &Past, session: u32, lives: bool, why: Option<Why>) -> Call
+    requires lives { lives ≡ live past.now.config past.now.acts session }
+    requires why { why ≡ cause past.now.config past.now.acts session }
+    ensures { as_call result ≡ call past.now.config past.now.acts session }
 {
+    let config = past.config();
     if lives && why.is_none() {
-        first_call(config, past, places(config, session).as_slice())
+        first_call(past, places(config, session).as_slice())
     } else {
         Call::Nothing
     }
 }
 
 /// What the opening of a session calls for.
-pub fn opening_of(config: &Config, past: &[&Act], session: u32) -> Call
-    requires { admitted config.now (acts past.now) < 2 ^ 32 }
-    ensures { as_call result ≡ call config.now (acts past.now) session }
+pub fn opening_of(past: &Past, session: u32) -> Call
+    requires { admitted past.now.config past.now.acts < 2 ^ 32 }
+    ensures { as_call result ≡ call past.now.config past.now.acts session }
 {
-    let lives = live(config, past, session);
-    let why = cause(config, past, session);
-    known_call(config, past, session, lives, why)
+    let lives = live(past, session);
+    let why = cause(past, session);
+    known_call(past, session, lives, why)
 }
 
 /// A stop, want of memory or a failed accepting ends the program door.
-pub fn door_cut(past: &[&Act]) -> bool
-    ensures { result ≡ door_cut (acts past.now) }
+pub fn door_cut(past: &Past) -> bool
+    ensures { result ≡ door_cut past.now.acts }
 {
     memory_said(past) || stop_said(past) || accept_failed(past, program_door())
 }
 
 /// As many peers were permitted as are to be served.
-fn enough(config: &Config, past: &[&Act]) -> bool
-    requires { admitted config.now (acts past.now) < 2 ^ 32 }
-    ensures { result ≡ enough config.now (acts past.now) }
+fn enough(past: &Past) -> bool
+    requires { admitted past.now.config past.now.acts < 2 ^ 32 }
+    ensures { result ≡ enough past.now.config past.now.acts }
 {
-    options_of(config, program_door()).stop_after <= admitted(config, past)
+    let config = past.config();
+    options_of(config, program_door()).stop_after <= admitted(past)
 }
 
 /// As many sessions live as may.
-fn full(config: &Config, past: &[&Act]) -> bool
-    requires { admitted config.now (acts past.now) < 2 ^ 32 }
-    ensures { result ≡ full config.now (acts past.now) }
+fn full(past: &Past) -> bool
+    requires { admitted past.now.config past.now.acts < 2 ^ 32 }
+    ensures { result ≡ full past.now.config past.now.acts }
 {
-    options_of(config, program_door()).max_children <= live_count(config, past)
+    let config = past.config();
+    options_of(config, program_door()).max_children <= live_count(past)
 }
 
 /// A door that is held has served, or accepts the next peer while there is room for its session.
-fn program_door_call(config: &Config, past: &[&Act], stage: Stage) -> Call
-    requires { admitted config.now (acts past.now) < 2 ^ 32 }
-    ensures { as_call result ≡ program_door_call config.now (acts past.now) (as_stage stage) }
+fn program_door_call(past: &Past, stage: Stage) -> Call
+    requires { admitted past.now.config past.now.acts < 2 ^ 32 }
+    ensures { as_call result ≡ program_door_call past.now.config past.now.acts (as_stage stage) }
 {
     let door = program_door();
-    let place = next_place(config, past);
+    let place = next_place(past);
     match stage {
         Stage::Waiting => {
-            if enough(config, past) {
+            if enough(past) {
                 Call::Serve(door)
-            } else if full(config, past) {
+            } else if full(past) {
                 Call::Nothing
             } else {
-                listening_call(config, past, door, place, stage)
+                listening_call(past, door, place, stage)
             }
         }
-        _ => listening_call(config, past, door, place, stage),
+        _ => listening_call(past, door, place, stage),
     }
 }
 
 /// What the program door of `fork` calls for; a peer that isn't permitted stands at the place of the next session.
-pub fn door_call(config: &Config, past: &[&Act]) -> Call
-    requires { admitted config.now (acts past.now) < 2 ^ 32 }
-    ensures { as_call result ≡ door_call config.now (acts past.now) }
+pub fn door_call(past: &Past) -> Call
+    requires { admitted past.now.config past.now.acts < 2 ^ 32 }
+    ensures { as_call result ≡ door_call past.now.config past.now.acts }
 {
+    let config = past.config();
     if !has_fork(config) || door_cut(past) {
         return Call::Nothing;
     }
-    let place = next_place(config, past);
+    let place = next_place(past);
     if held(past, place) {
         Call::Refuse(place)
     } else {
-        program_door_call(config, past, stage_of(past, program_door()))
+        program_door_call(past, stage_of(past, program_door()))
     }
 }
 
 /// What is called for at a place or door: with `fork` the left side is the program door's.
-pub fn called_at(config: &Config, past: &[&Act], place: Place) -> Call
-    requires { admitted config.now (acts past.now) < 2 ^ 32 }
-    ensures { as_call result ≡ called_at config.now (acts past.now) place }
+pub fn called_at(past: &Past, place: Place) -> Call
+    requires { admitted past.now.config past.now.acts < 2 ^ 32 }
+    ensures { as_call result ≡ called_at past.now.config past.now.acts place }
 {
+    let config = past.config();
     if is_left(place) && has_fork(config) {
-        door_call(config, past)
+        door_call(past)
     } else {
-        opening_of(config, past, place.session)
+        opening_of(past, place.session)
     }
 }

@@ -9,7 +9,7 @@ mod outcome;
 mod sessions;
 
 pub use calls::{called_at, door_call, door_cut, known_call};
-pub use causes::{cause, closed_why, running};
+pub use causes::{cause, running};
 pub use moments::{broken, closing_moment, idle_moment, passed};
 pub use openings::{Call, ready};
 pub use outcome::{Outcome, has_outcome, outcome_of};

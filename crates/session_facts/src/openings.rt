@@ -2,16 +2,15 @@
 ghost use Rattle.std.specs.Prelude.{◌≡◌};
 ghost use Rattle.std.specs.List.{list_any, list_all};
 ghost use Rattle.relay_model.specs.Openings.{out_of_tries, when_due, try_again, is_ready, ready, opening_call, listening_call, peer_call, place_call, first_call};
-ghost use Rattle.history_facts.specs.Pasts.{acts};
 ghost use Rattle.history_facts.specs.Answers.{as_stage};
 ghost use Rattle.session_facts.specs.Answers.{as_call};
 
-use crate::sessions::permits;
 use command_places::{has_own_door, listens_at, options_of, places};
 use history_facts::{
-    Stage, armed_to_accept, failure_count, held, next_due, now, served, stage_of, woken,
+    Past, Stage, armed_to_accept, failure_count, held, next_due, now, permits, served, stage_of,
+    woken,
 };
-use relay_model::{Act, Config, Place};
+use relay_model::Place;
 
 /// What is called for.
 #[derive(Clone, Copy, Debug, PartialEq, Eq)]
@@ -37,9 +36,10 @@ pub enum Call {
 // ---- tries
 
 /// Whether more openings or listenings failed at the place or door than `retry` makes good.
-pub fn out_of_tries(config: &Config, past: &[&Act], place: Place) -> bool
-    ensures { result ≡ out_of_tries config.now (acts past.now) place }
+pub fn out_of_tries(past: &Past, place: Place) -> bool
+    ensures { result ≡ out_of_tries past.now.config past.now.acts place }
 {
+    let config = past.config();
     let options = options_of(config, place);
     !options.forever
         && options.retry != u64::MAX
@@ -57,10 +57,11 @@ fn when_due(at: u64, moment: Option<u64>, wanted: Call) -> Call
 }
 
 /// A further try, while tries are left.
-fn try_again(config: &Config, past: &[&Act], place: Place, wanted: Call) -> Call
-    ensures { as_call result ≡ try_again config.now (acts past.now) place (as_call wanted) }
+fn try_again(past: &Past, place: Place, wanted: Call) -> Call
+    ensures { as_call result ≡ try_again past.now.config past.now.acts place (as_call wanted) }
 {
-    if out_of_tries(config, past, place) {
+    let config = past.config();
+    if out_of_tries(past, place) {
         Call::Nothing
     } else {
         let due = next_due(past, place, options_of(config, place).interval);
@@ -72,9 +73,10 @@ fn try_again(config: &Config, past: &[&Act], place: Place, wanted: Call) -> Call
 
 /// A place that doesn't listen is ready where it was opened, another one where it is held by a permitted peer and its
 /// own door has served.
-pub fn is_ready(config: &Config, past: &[&Act], place: Place) -> bool
-    ensures { result ≡ is_ready config.now (acts past.now) place }
+pub fn is_ready(past: &Past, place: Place) -> bool
+    ensures { result ≡ is_ready past.now.config past.now.acts place }
 {
+    let config = past.config();
     match stage_of(past, place) {
         Stage::Usable => !listens_at(config, place),
         Stage::Met(peer) => {
@@ -86,24 +88,25 @@ pub fn is_ready(config: &Config, past: &[&Act], place: Place) -> bool
     }
 }
 
-fn all_ready(config: &Config, past: &[&Act], places: &[Place]) -> bool
-    ensures { result ≡ list_all (is_ready config.now (acts past.now)) places.now }
+fn all_ready(past: &Past, places: &[Place]) -> bool
+    ensures { result ≡ list_all (is_ready past.now.config past.now.acts) places.now }
 {
-    places.iter().all(|place| is_ready(config, past, *place))
+    places.iter().all(|place| is_ready(past, *place))
 }
 
 /// Whether every place of the session is ready.
-pub fn ready(config: &Config, past: &[&Act], session: u32) -> bool
-    ensures { result ≡ ready config.now (acts past.now) session }
+pub fn ready(past: &Past, session: u32) -> bool
+    ensures { result ≡ ready past.now.config past.now.acts session }
 {
-    all_ready(config, past, places(config, session).as_slice())
+    let config = past.config();
+    all_ready(past, places(config, session).as_slice())
 }
 
 // ---- calls
 
 /// An opening, a settling once a turn named the place, or a further try.
-fn opening_call(config: &Config, past: &[&Act], place: Place, stage: Stage) -> Call
-    ensures { as_call result ≡ opening_call config.now (acts past.now) place (as_stage stage) }
+fn opening_call(past: &Past, place: Place, stage: Stage) -> Call
+    ensures { as_call result ≡ opening_call past.now.config past.now.acts place (as_stage stage) }
 {
     match stage {
         Stage::Untried => Call::Open(place),
@@ -114,24 +117,18 @@ fn opening_call(config: &Config, past: &[&Act], place: Place, stage: Stage) -> C
                 Call::Nothing
             }
         }
-        Stage::Failed => try_again(config, past, place, Call::Open(place)),
+        Stage::Failed => try_again(past, place, Call::Open(place)),
         _ => Call::Nothing,
     }
 }
 
 /// A listening, a further try of one, or an accepting where the door is armed.
-pub fn listening_call(
-    config: &Config,
-    past: &[&Act],
-    door: Place,
-    place: Place,
-    stage: Stage,
-) -> Call
-    ensures { as_call result ≡ listening_call config.now (acts past.now) door place (as_stage stage) }
+pub fn listening_call(past: &Past, door: Place, place: Place, stage: Stage) -> Call
+    ensures { as_call result ≡ listening_call past.now.config past.now.acts door place (as_stage stage) }
 {
     match stage {
         Stage::Untried => Call::Listen(door),
-        Stage::Failed => try_again(config, past, door, Call::Listen(door)),
+        Stage::Failed => try_again(past, door, Call::Listen(door)),
         Stage::Waiting => {
             if armed_to_accept(past, door) {
                 Call::Accept(door, place)
@@ -144,9 +141,10 @@ pub fn listening_call(
 }
 
 /// A peer that isn't permitted is refused; after a permitted one the own door has served.
-fn peer_call(config: &Config, past: &[&Act], place: Place, stage: Stage) -> Call
-    ensures { as_call result ≡ peer_call config.now (acts past.now) place (as_stage stage) }
+fn peer_call(past: &Past, place: Place, stage: Stage) -> Call
+    ensures { as_call result ≡ peer_call past.now.config past.now.acts place (as_stage stage) }
 {
+    let config = past.config();
     let door = place.own_door();
     match stage {
         Stage::Met(peer) => {
@@ -158,31 +156,32 @@ fn peer_call(config: &Config, past: &[&Act], place: Place, stage: Stage) -> Call
                 Call::Nothing
             }
         }
-        _ => listening_call(config, past, door, place, stage_of(past, door)),
+        _ => listening_call(past, door, place, stage_of(past, door)),
     }
 }
 
 /// What a place calls for by itself; with `fork` a left place calls for nothing, since its peer comes by the program
 /// door.
-fn place_call(config: &Config, past: &[&Act], place: Place) -> Call
-    ensures { as_call result ≡ place_call config.now (acts past.now) place }
+fn place_call(past: &Past, place: Place) -> Call
+    ensures { as_call result ≡ place_call past.now.config past.now.acts place }
 {
+    let config = past.config();
     if has_own_door(config, place) {
-        peer_call(config, past, place, stage_of(past, place))
+        peer_call(past, place, stage_of(past, place))
     } else if listens_at(config, place) {
         Call::Nothing
     } else {
-        opening_call(config, past, place, stage_of(past, place))
+        opening_call(past, place, stage_of(past, place))
     }
 }
 
 /// What the first of these places that isn't ready calls for.
-pub fn first_call(config: &Config, past: &[&Act], mut places: &[Place]) -> Call
-    ensures { as_call result ≡ first_call config.now (acts past.now) places.entry.now }
+pub fn first_call(past: &Past, mut places: &[Place]) -> Call
+    ensures { as_call result ≡ first_call past.now.config past.now.acts places.entry.now }
 {
     while let [place, rest @ ..] = places {
-        if !is_ready(config, past, *place) {
-            return place_call(config, past, *place);
+        if !is_ready(past, *place) {
+            return place_call(past, *place);
         }
         places = rest;
     }

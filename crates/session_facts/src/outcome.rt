@@ -11,7 +11,7 @@ use crate::causes::{any_accept_failed, cause};
 use crate::openings::out_of_tries;
 use crate::sessions::{holds, live, numbers};
 use command_places::{PlaceList, has_fork, is_place_of, own_doors, places, program_door};
-use history_facts::{failure_count, held, memory_said, served, stop_said, turns};
+use history_facts::{Past, failure_count, held, memory_said, served, stop_said, turns};
 use relay_model::{Act, Config, Half, Place, Side, Why};
 
 /// How a run ended.
@@ -34,11 +34,11 @@ pub enum Outcome {
 }
 
 #[tactic(auto, using(crate::proofs::Below::some_below_more))]
-fn some_holds(config: &Config, past: &[&Act], count: u32) -> bool
-    ensures { result ≡ some_below (holds config.now (acts past.now)) count }
+fn some_holds(past: &Past, count: u32) -> bool
+    ensures { result ≡ some_below (holds past.now.config past.now.acts) count }
 {
     for session in 0..count {
-        if holds(config, past, session) {
+        if holds(past, session) {
             return true;
         }
     }
@@ -46,12 +46,12 @@ fn some_holds(config: &Config, past: &[&Act], count: u32) -> bool
 }
 
 #[tactic(auto, using(crate::proofs::Below::some_below_more))]
-fn some_lives(config: &Config, past: &[&Act], count: u32) -> bool
-    requires { admitted config.now (acts past.now) < 2 ^ 32 }
-    ensures { result ≡ some_below (live config.now (acts past.now)) count }
+fn some_lives(past: &Past, count: u32) -> bool
+    requires { admitted past.now.config past.now.acts < 2 ^ 32 }
+    ensures { result ≡ some_below (live past.now.config past.now.acts) count }
 {
     for session in 0..count {
-        if live(config, past, session) {
+        if live(past, session) {
             return true;
         }
     }
@@ -59,14 +59,13 @@ fn some_lives(config: &Config, past: &[&Act], count: u32) -> bool
 }
 
 /// Some session that has begun, or the peer that may become the next, holds something, or the program door is held.
-pub fn holds_something(config: &Config, past: &[&Act]) -> bool
-    requires { admitted config.now (acts past.now) < 2 ^ 32 }
-    ensures { result ≡ holds_something config.now (acts past.now) }
+pub fn holds_something(past: &Past) -> bool
+    requires { admitted past.now.config past.now.acts < 2 ^ 32 }
+    ensures { result ≡ holds_something past.now.config past.now.acts }
 {
-    let next = numbers(config, past);
-    holds(config, past, next)
-        || some_holds(config, past, next)
-        || has_fork(config) && held(past, program_door())
+    let config = past.config();
+    let next = numbers(past);
+    holds(past, next) || some_holds(past, next) || has_fork(config) && held(past, program_door())
 }
 
 /// The doors whose failures are the program's.
@@ -104,11 +103,11 @@ fn first_fault(config: &Config, mut past: &[&Act], session: u32) -> Option<Outco
 }
 
 /// The first of these doors that is out of tries.
-fn failed_listening(config: &Config, past: &[&Act], mut doors: &[Place]) -> Option<Outcome>
-    ensures { option_map as_outcome result ≡ failed_listening config.now (acts past.now) doors.entry.now }
+fn failed_listening(past: &Past, mut doors: &[Place]) -> Option<Outcome>
+    ensures { option_map as_outcome result ≡ failed_listening past.now.config past.now.acts doors.entry.now }
 {
     while let [door, rest @ ..] = doors {
-        if out_of_tries(config, past, *door) {
+        if out_of_tries(past, *door) {
             return Some(Outcome::ListenFailed(failure_count(past, *door)));
         }
         doors = rest;
@@ -117,11 +116,11 @@ fn failed_listening(config: &Config, past: &[&Act], mut doors: &[Place]) -> Opti
 }
 
 /// The first of these places that is out of tries.
-fn failed_opening(config: &Config, past: &[&Act], mut places: &[Place]) -> Option<Outcome>
-    ensures { option_map as_outcome result ≡ failed_opening config.now (acts past.now) places.entry.now }
+fn failed_opening(past: &Past, mut places: &[Place]) -> Option<Outcome>
+    ensures { option_map as_outcome result ≡ failed_opening past.now.config past.now.acts places.entry.now }
 {
     while let [place, rest @ ..] = places {
-        if out_of_tries(config, past, *place) {
+        if out_of_tries(past, *place) {
             return Some(Outcome::OpenFailed(place.side, failure_count(past, *place)));
         }
         places = rest;
@@ -130,35 +129,37 @@ fn failed_opening(config: &Config, past: &[&Act], mut places: &[Place]) -> Optio
 }
 
 /// The first fault, or the reason where there was none.
-fn fault_or(config: &Config, past: &[&Act], why: Why) -> Option<Outcome>
-    ensures { option_map as_outcome result ≡ or_else (first_fault config.now (acts past.now) 0) (Some (outcomes.Ended why)) }
+fn fault_or(past: &Past, why: Why) -> Option<Outcome>
+    ensures { option_map as_outcome result ≡ or_else (first_fault past.now.config past.now.acts 0) (Some (outcomes.Ended why)) }
 {
-    match first_fault(config, past, 0) {
+    let config = past.config();
+    match first_fault(config, past.acts(), 0) {
         None => Some(Outcome::Ended(why)),
         Some(fault) => Some(fault),
     }
 }
 
 /// The outcome of a program of one session, by its cause.
-fn outcome_by(config: &Config, past: &[&Act], cause: Option<Why>) -> Option<Outcome>
-    ensures { option_map as_outcome result ≡ outcome_by config.now (acts past.now) cause }
+fn outcome_by(past: &Past, cause: Option<Why>) -> Option<Outcome>
+    ensures { option_map as_outcome result ≡ outcome_by past.now.config past.now.acts cause }
 {
+    let config = past.config();
     match cause {
         None => None,
         Some(why) => match why {
-            Why::OpenFailed => failed_opening(config, past, places(config, 0).as_slice()),
-            Why::Faulted | Why::ClosingTime | Why::Idle => fault_or(config, past, why),
+            Why::OpenFailed => failed_opening(past, places(config, 0).as_slice()),
+            Why::Faulted | Why::ClosingTime | Why::Idle => fault_or(past, why),
             _ => Some(Outcome::Ended(why)),
         },
     }
 }
 
 /// The outcome of a program of many: the door has served and no session lives.
-fn outcome_of_sessions(config: &Config, past: &[&Act]) -> Option<Outcome>
-    requires { admitted config.now (acts past.now) < 2 ^ 32 }
-    ensures { option_map as_outcome result ≡ outcome_of_sessions config.now (acts past.now) }
+fn outcome_of_sessions(past: &Past) -> Option<Outcome>
+    requires { admitted past.now.config past.now.acts < 2 ^ 32 }
+    ensures { option_map as_outcome result ≡ outcome_of_sessions past.now.config past.now.acts }
 {
-    if served(past, program_door()) && !some_lives(config, past, numbers(config, past)) {
+    if served(past, program_door()) && !some_lives(past, numbers(past)) {
         Some(Outcome::Ended(Why::Served))
     } else {
         None
@@ -166,11 +167,12 @@ fn outcome_of_sessions(config: &Config, past: &[&Act]) -> Option<Outcome>
 }
 
 /// The outcome, but for that of turns that are used up.
-pub fn outcome_of(config: &Config, past: &[&Act]) -> Option<Outcome>
-    requires { admitted config.now (acts past.now) < 2 ^ 32 }
-    ensures { option_map as_outcome result ≡ outcome config.now (acts past.now) }
+pub fn outcome_of(past: &Past) -> Option<Outcome>
+    requires { admitted past.now.config past.now.acts < 2 ^ 32 }
+    ensures { option_map as_outcome result ≡ outcome past.now.config past.now.acts }
 {
-    if holds_something(config, past) {
+    let config = past.config();
+    if holds_something(past) {
         return None;
     }
     if memory_said(past) {
@@ -182,22 +184,22 @@ pub fn outcome_of(config: &Config, past: &[&Act]) -> Option<Outcome>
     if any_accept_failed(past, program_doors(config).as_slice()) {
         return Some(Outcome::AcceptFailed);
     }
-    if let Some(failed) = failed_listening(config, past, program_doors(config).as_slice()) {
+    if let Some(failed) = failed_listening(past, program_doors(config).as_slice()) {
         return Some(failed);
     }
     if has_fork(config) {
-        outcome_of_sessions(config, past)
+        outcome_of_sessions(past)
     } else {
-        outcome_by(config, past, cause(config, past, 0))
+        outcome_by(past, cause(past, 0))
     }
 }
 
 /// Whether the run has an outcome.
-pub fn has_outcome(config: &Config, past: &[&Act]) -> bool
-    requires { admitted config.now (acts past.now) < 2 ^ 32 }
-    ensures { result ≡ is_some (outcome config.now (acts past.now)) }
+pub fn has_outcome(past: &Past) -> bool
+    requires { admitted past.now.config past.now.acts < 2 ^ 32 }
+    ensures { result ≡ is_some (outcome past.now.config past.now.acts) }
 {
-    match outcome_of(config, past) {
+    match outcome_of(past) {
         None => false,
         Some(_) => true,
     }

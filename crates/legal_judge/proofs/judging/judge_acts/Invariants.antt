@@ -5,7 +5,7 @@ use Rattle.history_facts.specs.Pasts.{acts}
 use Rattle.legal_judge.proofs.judging.judge_acts.Given as goal
 
 abbrev pub invariant-loop-k : goal.invariant-loop-k
-invariant-loop-k l = (first_illegal l.config l.limit (acts (drop l.k l.past)) ≡ 0) × (l.k ≤ length l.past)
+invariant-loop-k l = (first_illegal l.config l.limit l.past.acts ≡ 0) × (l.past.acts ≡ acts (drop l.k l.all)) × (l.past.config ≡ l.config) × (l.k ≤ length l.all)
 
 abbrev pub decreases-loop-k : goal.decreases-loop-k
 decreases-loop-k l = l.k

@@ -1,8 +1,7 @@
 use Rattle.std.proofs.Common.{◌≡◌}
 use Rattle.relay_model.specs.Choices.{least_below}
 use Rattle.relay_model.specs.Rest.{session_moment}
-use Rattle.history_facts.specs.Pasts.{acts}
 use Rattle.legal_judge.proofs.rest.least_session_moment.Given as goal
 
 abbrev pub invariant-loop-session : goal.invariant-loop-session
-invariant-loop-session l = l.least ≡ least_below (session_moment l.config (acts l.past)) l.session
+invariant-loop-session l = l.least ≡ least_below (session_moment l.past.config l.past.acts) l.session

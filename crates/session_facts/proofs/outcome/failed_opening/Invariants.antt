@@ -1,10 +1,9 @@
 use Rattle.std.proofs.Common.{◌≡◌, length}
 use Rattle.relay_model.specs.Outcome.{failed_opening}
-use Rattle.history_facts.specs.Pasts.{acts}
 use Rattle.session_facts.proofs.outcome.failed_opening.Given as goal
 
 abbrev pub invariant-loop-places : goal.invariant-loop-places
-invariant-loop-places l = failed_opening l.config (acts l.past) l.places ≡ failed_opening l.config (acts l.past) l.initial.places
+invariant-loop-places l = failed_opening l.past.config l.past.acts l.places ≡ failed_opening l.past.config l.past.acts l.initial.places
 
 abbrev pub decreases-loop-places : goal.decreases-loop-places
 decreases-loop-places l = length l.places

@@ -2,8 +2,7 @@ use Rattle.std.proofs.Common.{◌≡◌}
 use Rattle.std.proofs.Common.{false}
 use Rattle.relay_model.specs.Choices.{some_below}
 use Rattle.relay_model.specs.Sessions.{holds}
-use Rattle.history_facts.specs.Pasts.{acts}
 use Rattle.session_facts.proofs.outcome.some_holds.Given as goal
 
 abbrev pub invariant-loop-session : goal.invariant-loop-session
-invariant-loop-session l = some_below (holds l.config (acts l.past)) l.session ≡ false
+invariant-loop-session l = some_below (holds l.past.config l.past.acts) l.session ≡ false

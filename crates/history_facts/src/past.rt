@@ -1,0 +1,101 @@
+// The acts so far, with all that is asked of them kept beside them.
+ghost use Rattle.std.specs.Prelude.{◌≡◌, ◌∷◌, [], IfOk};
+ghost use Rattle.history_facts.specs.Pasts.{acts};
+
+use crate::armings::Armings;
+use crate::clock::Clock;
+use crate::openings::Openings;
+use crate::sessions::Sessions;
+use crate::traffic::Traffic;
+use relay_model::{Act, Config, NoMemory};
+use std::alloc::Global;
+use std::marker::Model;
+
+/// The acts so far, newest first, and the command that they are judged by. What is asked of them stands in tables,
+/// so that an answer doesn't walk through them. Contracts see the command and the acts.
+#[derive(Drop)]
+pub struct Past<'a> {
+    config: &'a Config,
+    acts: &'a [&'a Act],
+    pub(crate) clock: Clock,
+    pub(crate) openings: Openings,
+    pub(crate) armings: Armings,
+    pub(crate) traffic: Traffic,
+    pub(crate) sessions: Sessions,
+}
+
+impl<'a> Model for Past<'a> {
+    ghost use Rattle.history_facts.specs.Pasts.{Chronicle, seen};
+
+    ghost Value = { Chronicle };
+
+    ghost use Rattle.history_facts.specs.Told.{AllTold};
+
+    ghost view = { λ past. seen past.config.now past.acts.now };
+
+    ghost invariant = { λ past. AllTold (seen past.config.now past.acts.now) past.clock past.openings past.armings past.traffic past.sessions };
+}
+
+impl<'a> Past<'a> {
+    /// No acts yet.
+    pub fn new(alloc: Global, config: &'a Config) -> Past<'a>
+        ensures config { result.config ≡ config.now }
+        ensures acts { result.acts ≡ [] }
+    {
+        Past {
+            config,
+            acts: &[],
+            clock: Clock::new(),
+            openings: Openings::new(alloc),
+            armings: Armings::new(alloc),
+            traffic: Traffic::new(alloc),
+            sessions: Sessions::new(alloc),
+        }
+    }
+
+    /// The command.
+    pub fn config(&self) -> &'a Config
+        ensures { result.now ≡ self.now.config }
+    {
+        self.config
+    }
+
+    /// The acts, newest first.
+    pub fn acts(&self) -> &'a [&'a Act]
+        ensures { acts result.now ≡ self.now.acts }
+    {
+        self.acts
+    }
+
+    /// The same with one more act: these acts are that one and all before it.
+    pub fn with(self, act: &Act, grown: &'a [&'a Act]) -> Result<Past<'a>, NoMemory>
+        requires { acts grown.now ≡ act.now ∷ self.acts }
+        ensures config { IfOk result (λ past. past.config ≡ self.entry.config) }
+        ensures acts { IfOk result (λ past. past.acts ≡ act.now ∷ self.entry.acts) }
+    {
+        let Past {
+            config,
+            acts: _,
+            mut clock,
+            mut openings,
+            mut armings,
+            mut traffic,
+            mut sessions,
+        } = self;
+        let at = clock.now;
+        openings.note(act, at)?;
+        armings.note(config, act, at, clock.turn)?;
+        traffic.note(act, at)?;
+        sessions.note(config, act, at)?;
+        clock.note(act)?;
+        Ok(Past {
+            config,
+            acts: grown,
+            clock,
+            openings,
+            armings,
+            traffic,
+            sessions,
+        })
+    }
+}
