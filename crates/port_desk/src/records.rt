@@ -273,7 +273,8 @@ impl Log {
         let Some(copy) = copied else {
             return;
         };
-        self.recording.put(Act::Read(place, fitted(self.alloc, copy, bytes)));
+        self.recording
+            .put(Act::Read(place, fitted(self.alloc, copy, bytes)));
     }
 
     /// Keeps a write of these bytes, in the copy that was made for it.
@@ -288,7 +289,8 @@ impl Log {
         let Some(copy) = copied else {
             return;
         };
-        self.recording.put(Act::Wrote(place, fitted(self.alloc, copy, bytes)));
+        self.recording
+            .put(Act::Wrote(place, fitted(self.alloc, copy, bytes)));
     }
 
     /// The answer of a read, whose act it keeps.
