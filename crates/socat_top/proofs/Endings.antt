@@ -5,7 +5,7 @@ use Rattle.relay_model.specs.Journals.{History}
 use Rattle.exit_status.specs.declared.outcomes.Outcome.{Outcome}
 use Rattle.exit_status.specs.declared.outcomes.Outcome.TheVariants as outcomes
 use Rattle.exit_status.specs.Lines.{line}
-use Rattle.event_loop.specs.Courses.{extend}
+use Rattle.session_driver.specs.Steps.{extend}
 use Rattle.event_loop.specs.Headline as relayed
 use Rattle.event_loop.specs.Headline.{is_relayed}
 use Rattle.exit_status.specs.Outcomes.{IsOutcome}

@@ -9,7 +9,8 @@ use Rattle.exit_status.specs.declared.outcomes.Outcome.TheVariants as outcomes
 use Rattle.relay_model.specs.History.{held}
 use Rattle.relay_model.specs.May.{Legal}
 use Rattle.exit_status.specs.Outcomes.{IsOutcome}
-use Rattle.event_loop.specs.Courses.{extend, OnlyOwn}
+use Rattle.event_loop.specs.Courses.{OnlyOwn}
+use Rattle.session_driver.specs.Steps.{extend}
 use Rattle.event_loop.specs.Headline as relayed
 use Rattle.event_loop.specs.Headline.{is_relayed}
 use Rattle.socat_top.specs.Notes.{Said, Tail}
