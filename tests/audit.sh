@@ -67,22 +67,24 @@ run_cases() {
     fi
 }
 
-# The journal of a run of 2,000 acts: a door of `fork` serves ten sessions. 481 turns name one session each, in order,
-# which passes one byte on; then one session passes two bytes on, one by one, and all of them end.
-two_thousand_acts() {
-    local sessions=(0 1 2 3 4 5 6 7 8 9) s moment named
+# acts_of_sessions SESSIONS TURNS: the journal of a run in which a door of `fork` serves so many sessions. So many turns
+# name one session each, in order, which passes one byte on; then one session passes two bytes on, one by one, and all of
+# them end.
+acts_of_sessions() {
+    local sessions s moment named
+    mapfile -t sessions < <(seq 0 $(($1 - 1)))
     echo 'listening 0LBd'
     for s in "${sessions[@]}"; do
         printf 'accepted %sLI- 4:0a000001:%s\nopened %sRO-\n' "$s" $((4000 + s)) "$s"
     done
     echo 'closed 0LBd served'
     printf 'readnotyet %sLI-\n' "${sessions[@]}"
-    for ((moment = 0; moment < 481; moment++)); do
-        s=$((moment % 10))
+    for ((moment = 0; moment < $2; moment++)); do
+        s=$((moment % $1))
         printf 'turn - %s %sLI-r 0\nread %sLI- x61\nwrote %sRO- x61\nreadnotyet %sLI-\n' "$moment" "$s" "$s" "$s" "$s"
     done
     named="$(printf ',%sLI-r' "${sessions[@]}")"
-    printf 'turn - 481 %s 0\nread 0LI- x6262\nwrote 0RO- x62\nwrote 0RO- x62\n' "${named#,}"
+    printf 'turn - %s %s 0\nread 0LI- x6262\nwrote 0RO- x62\nwrote 0RO- x62\n' "$2" "${named#,}"
     for s in "${sessions[@]}"; do
         printf 'end %sLI-\nshut %sRO- close\nclosed %sLI- finished\nclosed %sRO- finished\n' "$s" "$s" "$s" "$s"
     done
@@ -98,12 +100,19 @@ two_thousand_packets() {
     done
 }
 
-# run_long_journal NAME LINE FILE WORDS..: the auditor says this line of a journal of 2,000 acts within 5 seconds.
+# short_acts: a journal of one plain session near the limit of 16 MiB, in which single bytes are passed on.
+short_acts() {
+    printf 'opened 0LI-\nopened 0RO-\n'
+    yes $'read 0LI- x61\nwrote 0RO- x61' | head -n 1156000
+}
+
+# run_long_journal NAME SECONDS LINE FILE WORDS..: the auditor says this line of the journal within these seconds, or
+# within PATIENCE times as many on a slow machine.
 run_long_journal() {
-    local name="$1" line="$2" file="$3" said begun ended
-    shift 3
+    local name="$1" limit=$(($2 * ${PATIENCE:-1})) line="$3" file="$4" said begun ended
+    shift 4
     begun="$(date +%s%N)"
-    said="$(timeout 5 "$program" "$file" "$@")"
+    said="$(timeout "$limit" "$program" "$file" "$@")"
     ended="$(date +%s%N)"
     if [ "$said" = "$line" ]; then
         passed=$((passed + 1))
@@ -117,12 +126,17 @@ run_long_journal() {
 run_cases journals.txt
 run_cases journals_by_hand.txt
 
-two_thousand_acts >"$scratch/many"
-run_long_journal "2000 acts" 'yes: 2000 acts, 0 held' "$scratch/many" \
+acts_of_sessions 10 481 >"$scratch/many"
+run_long_journal "2000 acts" 5 'yes: 2000 acts, 0 held' "$scratch/many" \
     -u TCP-LISTEN:80,fork,max-children=10,stop-after=10 CREATE:f
 two_thousand_packets >"$scratch/packets"
-run_long_journal "2000 acts with packets" 'yes: 2000 acts, 2 held' "$scratch/packets" \
+run_long_journal "2000 acts with packets" 5 'yes: 2000 acts, 2 held' "$scratch/packets" \
     -u UDP-RECV:9 UDP-SENDTO:127.0.0.1:9
+acts_of_sessions 200 4649 >"$scratch/many"
+run_long_journal "20002 acts of 200 sessions" 60 'yes: 20002 acts, 0 held' "$scratch/many" \
+    -u TCP-LISTEN:80,fork,max-children=200,stop-after=200 CREATE:f
+short_acts >"$scratch/short"
+run_long_journal "1156002 short acts" 10 'yes: 1156002 acts, 2 held' "$scratch/short" -u STDIN STDOUT
 
 : >"$scratch/empty"
 printf 'opened 0LI-\nopened 0RO' >"$scratch/cut"
