@@ -71,8 +71,10 @@ run_cases() {
 # name one session each, in order, which passes one byte on; then one session passes two bytes on, one by one, and all of
 # them end.
 acts_of_sessions() {
-    local sessions s moment named
-    mapfile -t sessions < <(seq 0 $(($1 - 1)))
+    local sessions=() s moment named
+    for ((s = 0; s < $1; s++)); do
+        sessions+=("$s")
+    done
     echo 'listening 0LBd'
     for s in "${sessions[@]}"; do
         printf 'accepted %sLI- 4:0a000001:%s\nopened %sRO-\n' "$s" $((4000 + s)) "$s"
