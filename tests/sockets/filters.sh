@@ -16,6 +16,19 @@ takes_second() {
     told 2 pong
 }
 
+# keeps_out NAME LISTENER: a peer over IPv6 is closed, and the listener stays.
+keeps_out() {
+    begin "$1"
+    given_nothing
+    start relay -t10 "$2" STDIO
+    peer connect tcp6 "/@${pids[relay]}" gone
+    told 1 'gone\n'
+    lives relay
+    terminate relay
+    ended relay 143 '' ''
+    finish
+}
+
 begin "a range takes its peer after it refused another"
 takes_second range=127.0.0.1/32 127.0.0.2 127.0.0.1
 finish
@@ -52,25 +65,8 @@ finish
 if [ -n "$ipv6" ]; then
     lets_in "an IPv6 range that the peer is in" 'TCP6-LISTEN:0,range=[::1/128]' tcp6 /
 
-    begin "an IPv6 range that the peer isn't in, and the listener stays"
-    given_nothing
-    start relay -t10 'TCP6-LISTEN:0,range=[fd12::/16]' STDIO
-    peer connect tcp6 "/@${pids[relay]}" gone
-    told 1 'gone\n'
-    lives relay
-    terminate relay
-    ended relay 143 '' ''
-    finish
-
-    begin "an IPv4 range takes no IPv6 peer"
-    given_nothing
-    start relay -t10 TCP6-LISTEN:0,range=0.0.0.0/0 STDIO
-    peer connect tcp6 "/@${pids[relay]}" gone
-    told 1 'gone\n'
-    lives relay
-    terminate relay
-    ended relay 143 '' ''
-    finish
+    keeps_out "an IPv6 range that the peer isn't in, and the listener stays" 'TCP6-LISTEN:0,range=[fd12::/16]'
+    keeps_out "an IPv4 range takes no IPv6 peer" TCP6-LISTEN:0,range=0.0.0.0/0
 fi
 
 begin "UDP: a range drops the datagrams of another, and takes the first of its peer"
