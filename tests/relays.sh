@@ -51,6 +51,43 @@ begin_own() {
     [ -n "$own" ] || left_out=yes
 }
 
+# files_here: the files of this folder and of those in it, but for what is kept for the audit.
+files_here() { find . -maxdepth 2 -not -path './audits*' | sort; }
+
+# processes_here: what runs in this folder, but for this script and the peers and relays of the case.
+processes_here() {
+    local folder
+    for folder in /proc/[0-9]*; do
+        [ "$(readlink "$folder/cwd" 2>/dev/null)" = "$scratch" ] || continue
+        [ "$(readlink "$folder/exe" 2>/dev/null)" != "$(readlink /proc/$$/exe)" ] || continue
+        case " ${pids[*]} " in *" ${folder#/proc/} "*) continue ;; esac
+        echo "${folder#/proc/} $(tr '\0' ' ' <"$folder/cmdline" 2>/dev/null)"
+    done
+}
+
+# leaves_nothing COUNT OUTPUT INPUT WORD..: so many relays in a row with this input and output and status 0 leave no file
+# and no process.
+leaves_nothing() {
+    local number before now left
+    mkdir -p temporary
+    : >relay.out
+    : >relay.err
+    before="$(files_here)"
+    for ((number = 1; number <= $1; number++)); do
+        TMPDIR="$scratch/temporary" timeout "$limit" "$program" "${@:4}" <"$3" >relay.out 2>relay.err 8<&-
+        status=$?
+        if [ "$status" -ne 0 ] || [ -s relay.err ] || [ "$(<relay.out)" != "$2" ]; then
+            wrong "relay $number: status $status, got $(<relay.out), said $(<relay.err)"
+            return
+        fi
+    done
+    now="$(files_here)"
+    [ "$now" = "$before" ] || wrong "new files: $(diff <(echo "$before") <(echo "$now") | head -3)"
+    nap 0.3
+    left="$(processes_here)"
+    [ -z "$left" ] || wrong "processes are left: ${left%%$'\n'*}"
+}
+
 # until_there FILE: waits until the file is there, and isn't empty.
 until_there() {
     local last=$((SECONDS + limit))

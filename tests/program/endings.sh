@@ -417,46 +417,14 @@ else
     echo "skipped descriptors, threads and children: there is no /proc"
 fi
 
-# leaves_nothing COUNT OUTPUT WORD..: so many relays in a row leave no file and no process.
-leaves_nothing() {
-    local number before now left
-    mkdir -p temporary
-    : >relay.out
-    : >relay.err
-    before="$(find . -maxdepth 2 -not -path './audits*' | sort)"
-    for ((number = 1; number <= $1; number++)); do
-        TMPDIR="$scratch/temporary" timeout "$limit" "$program" "${@:3}" </dev/null >relay.out 2>relay.err 8<&-
-        status=$?
-        if [ "$status" -ne 0 ] || [ -s relay.err ] || [ "$(<relay.out)" != "$2" ]; then
-            wrong "relay $number: status $status, got $(<relay.out), said $(<relay.err)"
-            return
-        fi
-    done
-    now="$(find . -maxdepth 2 -not -path './audits*' | sort)"
-    [ "$now" = "$before" ] || wrong "new files: $(diff <(echo "$before") <(echo "$now") | head -3)"
-    nap 0.3
-    left="$(left_of_program)"
-    [ -z "$left" ] || wrong "processes are left: $left"
-}
-
-# left_of_program: what still runs in this folder, but for this script.
-left_of_program() {
-    local folder
-    for folder in /proc/[0-9]*; do
-        [ "$(readlink "$folder/cwd" 2>/dev/null)" = "$scratch" ] || continue
-        [ "$(readlink "$folder/exe" 2>/dev/null)" != "$(readlink /proc/$$/exe)" ] || continue
-        echo "${folder#/proc/} $(tr '\0' ' ' <"$folder/cmdline" 2>/dev/null)"
-    done
-}
-
 begin "30 relays of a file in a row leave nothing behind"
 with_files old text
-leaves_nothing 30 text -u OPEN:files/old STDOUT
+leaves_nothing 30 text /dev/null -u OPEN:files/old STDOUT
 finish
 
 begin "30 children in a row leave nothing behind"
 with_files
-leaves_nothing 30 text -u 'EXEC:echo text' STDOUT
-leaves_nothing 30 text -u 'SYSTEM:echo text' STDOUT
+leaves_nothing 30 text /dev/null -u 'EXEC:echo text' STDOUT
+leaves_nothing 30 text /dev/null -u 'SYSTEM:echo text' STDOUT
 finish
 rm -rf files

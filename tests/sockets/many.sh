@@ -6,43 +6,6 @@ many="${MANY:-200}"
 # --- many in a row
 
 # A short relay may leave no file, no process, and no connection at its peer.
-rm -rf temporary
-mkdir temporary
-
-# in_a_row COUNT OUTPUT WORD..: so many relays with this output and status 0.
-in_a_row() {
-    local number
-    for ((number = 1; number <= $1; number++)); do
-        TMPDIR="$scratch/temporary" timeout "$limit" "$program" "${@:3}" <idle >out 2>err 8<&-
-        status=$?
-        if [ "$status" -ne 0 ] || [ -s err ] || [ "$(<out)" != "$2" ]; then
-            wrong "relay $number: status $status, got $(<out), said $(<err)"
-            return
-        fi
-    done
-}
-
-# no_trace: no file came, and no process of the program is left.
-no_trace() {
-    local left now
-    left="$(find temporary -mindepth 1 | head -3)"
-    [ -z "$left" ] || wrong "left $left"
-    now="$(find . -maxdepth 1 | sort)"
-    [ "$now" = "$before" ] || wrong "new files: $(diff <(echo "$before") <(echo "$now") | head -3)"
-    left="$(children_of_none | head -3)"
-    [ -z "$left" ] || wrong "processes are left: $left"
-}
-
-# children_of_none: what still runs of the program in this folder.
-children_of_none() {
-    local folder
-    for folder in /proc/[0-9]*; do
-        [ "$(readlink "$folder/cwd" 2>/dev/null)" = "$scratch" ] || continue
-        [ "$(readlink "$folder/exe" 2>/dev/null)" = "$program_file" ] || continue
-        echo "${folder#/proc/}"
-    done
-}
-program_file="$(readlink -f "$program")"
 
 # held_by PEER: how many descriptors the peer has.
 held_by() { find "/proc/${pids[$1]}/fd" -mindepth 1 2>/dev/null | wc -l; }
@@ -50,11 +13,7 @@ held_by() { find "/proc/${pids[$1]}/fd" -mindepth 1 2>/dev/null | wc -l; }
 # row_of KIND ADDRESS: connects so many times to one peer, which sends a text and closes.
 row_of() {
     held="$(held_by peer1)"
-    : >out
-    : >err
-    before="$(find . -maxdepth 1 | sort)"
-    in_a_row "$many" text -u "$1" STDOUT
-    no_trace
+    leaves_nothing "$many" text idle -u "$1" STDOUT
     now="$(held_by peer1)"
     [ "$now" -le "$held" ] || wrong "the peer had $held descriptors, and now $now"
 }
