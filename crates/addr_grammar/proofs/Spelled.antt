@@ -21,7 +21,7 @@ use Rattle.addr_grammar.specs.Spelling.{byte_in, bytes_in, Free, PartAt, SpellsT
 use Rattle.addr_grammar.proofs.Pieces.{pieces_cut}
 use Rattle.addr_grammar.proofs.Keywords.{bind_ok, ok_is}
 use Rattle.addr_grammar.proofs.Again.{option_from, header_again}
-use Rattle.addr_grammar.proofs.Stands.{kinds_of, rest_stands, kinds_read}
+use Rattle.addr_words.proofs.Stands.{kinds_of, rest_stands, kinds_read}
 
 -- the kind of the token that is a mark
 abbrev kind_of : Mark → TokenKind

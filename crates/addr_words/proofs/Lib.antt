@@ -1,5 +1,9 @@
 pub mod Openings
 pub mod Steps
 pub mod RoundTrip
-pub mod Told
 pub mod Lies
+pub mod Stands
+pub mod Fronts
+pub mod Told
+pub mod Unclosed
+pub mod FirstFaults

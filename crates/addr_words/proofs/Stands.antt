@@ -14,7 +14,7 @@ use Rattle.addr_words.specs.declared.faults.WordFault.TheVariants as faults
 use Rattle.addr_words.specs.Reading.{is_quote, begun_by, is_ended_by, is_bracket, innermost, outermost, opened, escapes, is_dual, mark, meaning, token, single, open_after, after_front, over_at, tokens_from}
 use Rattle.addr_words.proofs.Steps.{escape_read, dual_read, lone_read, last_read, next_read, at_end}
 use Rattle.addr_words.proofs.Lies.{after_ok}
-use Rattle.addr_grammar.specs.Spelling.{IsQuoteMark, IsBracketPair, in_quotes, in_single_quotes, is_one_of, special_in, parts_halves, SpellsKinds, over, escaped, quote_begins, quote_ends, bracket_begins, bracket_ends, colon, comma, equals, dual, itself}
+use Rattle.addr_words.specs.Spelling.{IsQuoteMark, IsBracketPair, in_quotes, in_single_quotes, is_one_of, special_in, parts_halves, SpellsKinds, over, escaped, quote_begins, quote_ends, bracket_begins, bracket_ends, colon, comma, equals, dual, itself}
 
 -- the byte that closes a quote or a bracket
 abbrev pub closing_of : Enclosure → ℕ
@@ -68,7 +68,7 @@ opened_fit b at around fit = one (b == 34) (b == 39) (b == 40) (b == 91) (b == 1
     one false false false false true = (apart_curly, fit)
     one false false false false false = fit
 
-after_fit : (around : List Opening) (at b : ℕ) → Fit around → Fit (open_after around at b)
+pub after_fit : (around : List Opening) (at b : ℕ) → Fit around → Fit (open_after around at b)
 after_fit [] at b fit = opened_fit b at [] fit
 after_fit (o ∷ around) at b fit = one (is_ended_by o.what b) (is_bracket o.what)
   where
@@ -168,11 +168,11 @@ byte_stands : (around : List Opening) (at b : ℕ) (bytes : List ℕ) (kinds : L
 byte_stands [] at b bytes kinds fit escaping halves s = outside at b bytes kinds escaping halves s
 byte_stands (o ∷ around) at b bytes kinds fit escaping halves s = inside o.what around (o ∷ around) at b bytes kinds refl fit.0 escaping s
 
-alone : (around : List Opening) (b : ℕ) → parts_halves (closings around) b [] ≡ false
+pub alone : (around : List Opening) (b : ℕ) → parts_halves (closings around) b [] ≡ false
 alone [] b = refl
 alone (o ∷ around) b = refl
 
-dual_halves : (around : List Opening) (b c : ℕ) (bytes : List ℕ) → is_dual (innermost around) b c ≡ false → parts_halves (closings around) b (c ∷ bytes) ≡ false
+pub dual_halves : (around : List Opening) (b c : ℕ) (bytes : List ℕ) → is_dual (innermost around) b c ≡ false → parts_halves (closings around) b (c ∷ bytes) ≡ false
 dual_halves [] b c bytes e = e
 dual_halves (o ∷ around) b c bytes e = refl
 
@@ -180,12 +180,12 @@ halves_dual : (around : List Opening) (b c : ℕ) (bytes : List ℕ) → parts_h
 halves_dual [] b c bytes e = e
 halves_dual (o ∷ around) b c bytes e = refl
 
-whole_byte : (around : List Opening) (b : ℕ) (bytes : List ℕ) → (b == 33) ≡ false → parts_halves (closings around) b bytes ≡ false
+pub whole_byte : (around : List Opening) (b : ℕ) (bytes : List ℕ) → (b == 33) ≡ false → parts_halves (closings around) b bytes ≡ false
 whole_byte [] b [] e = refl
 whole_byte [] b (c ∷ bytes) e = ap (λ (x : Bool). x && (c == 33)) e
 whole_byte (o ∷ around) b bytes e = refl
 
-backslash : (place : Option Enclosure) (b : ℕ) → escapes place b ≡ true → b ≡ 92
+pub backslash : (place : Option Enclosure) (b : ℕ) → escapes place b ≡ true → b ≡ 92
 backslash None b e = eqb-true b 92 e
 backslash (Some DoubleQuote) b e = eqb-true b 92 e
 backslash (Some SingleQuote) b e = absurd cc
@@ -203,7 +203,7 @@ not_single (o ∷ around) b fit e = one o.what fit.0 e
 abbrev RestStands : List Opening → ℕ → List ℕ → Type 0
 RestStands around at bytes = (tokens : List Token) → tokens_from around at bytes ≡ Ok tokens → SpellsKinds (closings around) bytes (kinds_of tokens)
 
-still_open : (o : Opening) (around : List Opening) (tokens : List Token) → over_at (outermost (o ∷ around)) ≡ Ok tokens → ⊥
+pub still_open : (o : Opening) (around : List Opening) (tokens : List Token) → over_at (outermost (o ∷ around)) ≡ Ok tokens → ⊥
 still_open o [] tokens e = absurd cc
 still_open o (p ∷ around) tokens e = still_open p around tokens e
 
@@ -258,7 +258,7 @@ rest_stands around at (b ∷ c ∷ bytes) fit tokens e =
 abbrev pub ReadsAs : List Opening → ℕ → List ℕ → List TokenKind → Type 0
 ReadsAs around at bytes kinds = (tokens : List Token) × (tokens_from around at bytes ≡ Ok tokens) × (kinds_of tokens ≡ kinds)
 
-single_read : (around : List Opening) (at b : ℕ) (bytes : List ℕ) → escapes (innermost around) b ≡ false → parts_halves (closings around) b bytes ≡ false
+pub single_read : (around : List Opening) (at b : ℕ) (bytes : List ℕ) → escapes (innermost around) b ≡ false → parts_halves (closings around) b bytes ≡ false
     → tokens_from around at (b ∷ bytes) ≡ after_front (single (meaning (innermost around) b) at) (tokens_from (open_after around at b) (at + 1) bytes)
 single_read around at b [] escaping halves = last_read around at b escaping
 single_read around at b (c ∷ bytes) escaping halves = next_read around at b c bytes escaping (halves_dual around b c bytes halves)
@@ -274,7 +274,7 @@ byte_reads around at b bytes kinds m next escaping halves means opens r =
     ∙ ap (after_front (single m at)) r.1 in
     (single m at ++ r.0, read, lead_single m at r.0 ∙ ap (lead m) r.2)
 
-no_escape_at : (place : Option Enclosure) (b : ℕ) → (b == 92) ≡ false → escapes place b ≡ false
+pub no_escape_at : (place : Option Enclosure) (b : ℕ) → (b == 92) ≡ false → escapes place b ≡ false
 no_escape_at None b e = e
 no_escape_at (Some DoubleQuote) b e = e
 no_escape_at (Some SingleQuote) b e = refl
