@@ -3,4 +3,7 @@ pub mod OptionRuns
 pub mod Keywords
 pub mod Again
 pub mod Spelled
+pub mod Places
+pub mod Faulty
 pub mod Told
+pub mod FirstFaults

@@ -2,3 +2,4 @@ pub mod Addresses
 pub mod Grammar
 pub mod Printing
 pub mod Spelling
+pub mod FirstFaults

@@ -1,8 +1,9 @@
 // Reading an address.
-ghost use Rattle.std.specs.Prelude.{◌≡◌, IfOk, map, option_map, ◌∷◌, []};
+ghost use Rattle.std.specs.Prelude.{◌≡◌, IfOk, IfErr, map, option_map, ◌∷◌, []};
 ghost use Rattle.addr_grammar.specs.Addresses.{IsSingle, HaveNames, is_empty, is_dash, has_slash, named};
 ghost use Rattle.addr_grammar.specs.Grammar.{decoded, byte_of, pieces, texts, later, header, head_of, option_of, options_of, single_of, address_of, value_of, two_of, gopen, reading, Reads};
 ghost use Rattle.addr_grammar.specs.Spelling.{Spells, ReadsSpelled, SpellsAtMostOne};
+ghost use Rattle.addr_grammar.specs.FirstFaults.{IsFaultOf};
 
 use crate::addresses::{RawAddress, RawSingle};
 use crate::cutting::{Mark, cut_at};
@@ -215,7 +216,9 @@ pub fn parse_address(alloc: Global, text: &[u8]) -> Result<RawAddress, GrammarFa
     ensures spells { IfOk result (λ address. Spells text.now address) }
     // What is spelled so is read, unless memory runs out.
     ensures only { ReadsSpelled text.now result }
-    // Which fault it is.
+    // A fault is one that the text has by itself.
+    ensures fault { IfErr result (IsFaultOf text.now) }
+    // Which address or fault it is.
     ensures exact { Reads (λ address. address) result (reading text.now) }
 {
     read_address(alloc, text)

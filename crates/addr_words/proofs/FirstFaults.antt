@@ -54,7 +54,7 @@ limit_fault : (text : List ℕ) (fault : WordFault) (long : Bool) → nat_lt 655
 limit_fault text fault true h e = inl (ltb-true 65536 (length text) h, failed_is fault faults.TooLong _ e refl)
 limit_fault text fault false h e = inr (ltb-false 65536 (length text) h, e)
 
-told_fault : (text : List ℕ) (fault : WordFault) → tokens_of text ≡ Err fault → IsFaultOf text fault
+pub told_fault : (text : List ℕ) (fault : WordFault) → tokens_of text ≡ Err fault → IsFaultOf text fault
 told_fault text fault e = one fault (limit_fault text fault (nat_lt 65536 (length text)) refl e)
   where
     one : (f : WordFault) → ((65536 < length text) × (faults.TooLong ≡ f)) ⊎ ((length text ≤ 65536) × (tokens_from [] 0 text ≡ Err f)) → IsFaultOf text f

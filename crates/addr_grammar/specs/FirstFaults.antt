@@ -1,0 +1,41 @@
+-- Which fault a text has, by what texts spell alone. Nothing here says how a text is read.
+use Rattle.std.specs.Prelude.{◌≡◌, ℕ, ◌+◌, ◌≤◌, ◌⊎◌, List, [], ◌∷◌, ◌++◌, length, take, Some}
+use Rattle.addr_words.specs.declared.token_list.TokenKind.{TokenKind}
+use Rattle.addr_words.specs.declared.token_list.TokenKind.TheVariants.{Byte, Comma, Dual}
+use Rattle.addr_words.specs.declared.faults.WordFault.TheVariants as words
+use Rattle.addr_words.specs.Spelling.{SpellsKinds}
+use Rattle.addr_words.specs.FirstFaults as faulty
+use Rattle.addr_grammar.specs.declared.faults.GrammarFault.{GrammarFault}
+use Rattle.addr_grammar.specs.declared.faults.GrammarFault.TheVariants.{Unclosed, LoneBackslash, TooLong, Empty, TooManyDuals, EmptyOption, Memory}
+use Rattle.addr_grammar.specs.Spelling.{Free, PartAt}
+
+-- The second `!!` of a text: with its first byte alone one `!!` stands in the text so far, with both bytes two do.
+pub record IsSecondDual (text : List ℕ) (at : ℕ) : Type 0 where
+  pub left : List TokenKind
+  pub middle : List TokenKind
+  pub left_free : Free Dual left
+  pub middle_free : Free Dual middle
+  pub one : SpellsKinds [] (take (at + 1) text) (left ++ Dual ∷ (middle ++ Byte 33 ∷ []))
+  pub both : SpellsKinds [] (take (at + 2) text) (left ++ Dual ∷ (middle ++ Dual ∷ []))
+
+-- where an option's text begins: just behind a comma that parts
+abbrev pub IsOptionPlace : List ℕ → ℕ → Type 0
+IsOptionPlace text at = (kinds : List TokenKind) × SpellsKinds [] (take at text) (kinds ++ Comma ∷ [])
+
+-- one address, or two around one `!!`
+abbrev pub HasFewDuals : List TokenKind → Type 0
+HasFewDuals kinds = Free Dual kinds ⊎ ((left : List TokenKind) × (right : List TokenKind) × PartAt Dual kinds left (Some right) × Free Dual right)
+
+abbrev pub IsParted : List ℕ → Type 0
+IsParted text = (kinds : List TokenKind) × SpellsKinds [] text kinds × HasFewDuals kinds
+
+-- The faults of words come first, then a second `!!`, then those of its parts. Want of memory is a call's alone,
+-- whatever the text is.
+abbrev pub IsFaultOf : List ℕ → GrammarFault → Type 0
+IsFaultOf text (Unclosed at) = faulty.IsFaultOf text (words.Unclosed at)
+IsFaultOf text (LoneBackslash at) = faulty.IsFaultOf text (words.LoneBackslash at)
+IsFaultOf text TooLong = faulty.IsFaultOf text words.TooLong
+IsFaultOf text (TooManyDuals at) = (length text ≤ 65536) × faulty.IsClosed text × IsSecondDual text at
+IsFaultOf text Empty = (length text ≤ 65536) × IsParted text
+IsFaultOf text (EmptyOption at) = (length text ≤ 65536) × IsParted text × IsOptionPlace text at
+IsFaultOf text Memory = Unit {0}
