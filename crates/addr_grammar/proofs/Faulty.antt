@@ -3,13 +3,12 @@ use Rattle.std.proofs.Common.{◌≡◌, ℕ, Bool, true, false, cond, List, [],
 use Rattle.std.specs.List.{AllByRecursion}
 use Rattle.addr_words.specs.declared.token_list.Token.{Token}
 use Rattle.addr_grammar.specs.declared.cutting.Mark.{Mark}
-use Rattle.addr_grammar.specs.declared.cutting.Mark.TheVariants.{Colon, Comma, Dual, Equals}
+use Rattle.addr_grammar.specs.declared.cutting.Mark.TheVariants.{Colon, Comma, Equals}
 use Rattle.addr_grammar.specs.declared.faults.GrammarFault.{GrammarFault}
-use Rattle.addr_grammar.specs.declared.faults.GrammarFault.TheVariants.{Empty, TooManyDuals, EmptyOption}
-use Rattle.addr_grammar.specs.declared.addresses.RawAddress.{RawAddress}
+use Rattle.addr_grammar.specs.declared.faults.GrammarFault.TheVariants.{Empty, EmptyOption}
 use Rattle.addr_grammar.specs.declared.addresses.RawAddress.TheVariants.{One, Two}
 use Rattle.addr_grammar.specs.Addresses.{Named, Parts, is_empty, is_dash, has_slash}
-use Rattle.addr_grammar.specs.Grammar.{◌>>=◌, is_mark, before, after, Piece, with_first, pieces, later, decoded, Header, gopen, stdio, header, texts, head_of, value_of, option_of, options_of, single_of, two_of, second_half, halves, address_of}
+use Rattle.addr_grammar.specs.Grammar.{◌>>=◌, is_mark, before, after, Piece, with_first, pieces, later, decoded, Header, gopen, stdio, header, texts, head_of, value_of, option_of, options_of, single_of, two_of}
 
 -- each fault of an answer is of this sort
 abbrev pub Faults : {A : Type 0} → (GrammarFault → Type 0) → Result A GrammarFault → Type 0

@@ -1,24 +1,24 @@
 -- A text's fault as it is read is the one that it has by what it spells.
-use Rattle.std.proofs.Common.{◌≡◌, ℕ, ◌+◌, ◌≤◌, Bool, true, false, List, [], ◌∷◌, ◌++◌, length, take, Option, Some, None, Result, Ok, Err, refl, sym, ap, subst, ◌∙◌, inl, inr, nat_lt, arith, append_assoc}
-use Rattle.std.specs.Prelude.{IfErr, ◌⊎◌}
+use Rattle.std.proofs.Common.{◌≡◌, ℕ, ◌+◌, ◌≤◌, true, List, [], ◌∷◌, ◌++◌, length, take, Option, Some, None, Result, Ok, Err, refl, sym, ap, subst, ◌∙◌, inl, inr, nat_lt, arith, append_assoc}
+use Rattle.std.specs.Prelude.{IfErr}
+use Rattle.std.specs.List.{AllByRecursion}
 use Rattle.std.proofs.lemmas.Bool.{ltb-false}
 use Rattle.addr_words.specs.declared.token_list.Token.{Token}
 use Rattle.addr_words.specs.declared.token_list.TokenKind.{TokenKind}
 use Rattle.addr_words.specs.declared.token_list.TokenKind.TheVariants as kinds
 use Rattle.addr_words.specs.declared.faults.WordFault.{WordFault}
 use Rattle.addr_words.specs.declared.faults.WordFault.TheVariants as words
-use Rattle.addr_words.specs.Reading.{token, tokens_from, tokens_of}
+use Rattle.addr_words.specs.Reading.{tokens_from, tokens_of}
 use Rattle.addr_words.specs.Spelling.{SpellsKinds}
-use Rattle.addr_words.specs.FirstFaults.{IsClosed}
 use Rattle.addr_words.proofs.Stands.{kinds_of, rest_stands}
 use Rattle.addr_words.proofs.FirstFaults.{told_fault}
 use Rattle.addr_grammar.specs.declared.cutting.Mark.TheVariants.{Comma, Dual}
 use Rattle.addr_grammar.specs.declared.faults.GrammarFault.{GrammarFault}
 use Rattle.addr_grammar.specs.declared.faults.GrammarFault.TheVariants.{Unclosed, LoneBackslash, TooLong, Empty, TooManyDuals, EmptyOption, Memory}
 use Rattle.addr_grammar.specs.declared.addresses.RawAddress.{RawAddress}
-use Rattle.addr_grammar.specs.Grammar.{is_mark, before, after, second_half, halves, address_of, widen, reading, Reports, Reads}
-use Rattle.addr_grammar.specs.Spelling.{Free, PartAt}
-use Rattle.addr_grammar.specs.FirstFaults.{IsSecondDual, IsOptionPlace, HasFewDuals, IsFaultOf}
+use Rattle.addr_grammar.specs.Grammar.{is_mark, before, after, Piece, later, begins_of, second_half, halves, address_of, widen, reading, Reports, Reads}
+use Rattle.addr_grammar.specs.Spelling.{PartAt}
+use Rattle.addr_grammar.specs.FirstFaults.{IsSecondDual, IsOptionPlace, HasFewDuals, OptionsBeginBehindCommas, IsFaultOf}
 use Rattle.addr_grammar.proofs.Spelled.{kinds_after, mark_is, cut_parts, free_of_dual, limit_ok}
 use Rattle.addr_grammar.proofs.Places.{ReadTo, Ending, whole, half, rest_ends, at_comma, behind_dual, in_dual}
 use Rattle.addr_grammar.proofs.Faulty.{Faults, OptionsAt, err_faults, then_faults, one_faults, two_faults, parted_after, options_places}
@@ -50,6 +50,17 @@ place_is text tokens read front t back is marks =
 abbrev PartsAt : List Token → Option (Token × List Token) → Type 0
 PartsAt tokens back = PartAt kinds.Dual (kinds_of tokens) (kinds_of (before Dual tokens)) (kinds_after back)
 
+all_begin : (Q : ℕ → Type 0) (ps : List Piece) → AllByRecursion (λ p. Q p.at) ps → AllByRecursion Q (begins_of ps)
+all_begin Q [] all = tt
+all_begin Q (p ∷ ps) all = (all.0, all_begin Q ps all.1)
+
+pub options_begin : OptionsBeginBehindCommas
+options_begin text tokens front side back e is =
+    let read = limit_ok (nat_lt 65536 (length text)) (tokens_from [] 0 text) tokens e in
+    all_begin (IsOptionPlace text) (later Comma (after Comma side)) (options_places (IsOptionPlace text) side (λ before t behind same marks.
+    place_is text tokens read.1 (front ++ before) t (behind ++ back)
+    (is ∙ ap (λ (ts : List Token). front ++ (ts ++ back)) same ∙ ap (λ (ts : List Token). front ++ ts) (append_assoc before (t ∷ behind) back) ∙ sym (append_assoc front before (t ∷ (behind ++ back)))) marks))
+
 -- the two `!!` of tokens that have one behind another
 second_is : (text : List ℕ) (tokens : List Token) → tokens_from [] 0 text ≡ Ok tokens → (right : List Token) (t u : Token) (more : List Token) → after Dual tokens ≡ Some (t, right) → after Dual right ≡ Some (u, more) → IsSecondDual text u.from
 second_is text tokens read right t u more first second =
@@ -59,8 +70,8 @@ second_is text tokens read right t u more first second =
     let is : tokens ≡ front ++ u ∷ more = p.0 ∙ ap (λ (ts : List Token). before Dual tokens ++ t ∷ ts) q.0 ∙ sym (append_assoc (before Dual tokens) (t ∷ before Dual right) (u ∷ more)) in
     let dual : u.kind ≡ kinds.Dual = mark_is Dual u.kind q.1 in
     let in_front : (last : List TokenKind) → kinds_of front ++ last ≡ kinds_of (before Dual tokens) ++ kinds.Dual ∷ (kinds_of (before Dual right) ++ last) = λ last.
-        ap (λ (ks : List TokenKind). ks ++ last) (kinds_joined (before Dual tokens) (t ∷ before Dual right)) ∙ append_assoc (kinds_of (before Dual tokens)) (t.kind ∷ kinds_of (before Dual right)) last
-        ∙ ap (λ (kind : TokenKind). kinds_of (before Dual tokens) ++ kind ∷ (kinds_of (before Dual right) ++ last)) (mark_is Dual t.kind p.1) in
+    ap (λ (ks : List TokenKind). ks ++ last) (kinds_joined (before Dual tokens) (t ∷ before Dual right)) ∙ append_assoc (kinds_of (before Dual tokens)) (t.kind ∷ kinds_of (before Dual right)) last
+    ∙ ap (λ (kind : TokenKind). kinds_of (before Dual tokens) ++ kind ∷ (kinds_of (before Dual right) ++ last)) (mark_is Dual t.kind p.1) in
     record {
       left = kinds_of (before Dual tokens);
       middle = kinds_of (before Dual right);
@@ -78,8 +89,8 @@ side_places : (text : List ℕ) (side : List Token) → length text ≤ 65536 �
     → ((front : List Token) (t : Token) (back : List Token) → side ≡ front ++ t ∷ back → (more : List Token) × (rest : List Token) × (tokens ≡ more ++ t ∷ rest)) → OptionsAt (IsFaultOf text) side
 side_places text side short tokens read few within =
     options_places (λ at. IsFaultOf text (EmptyOption at)) side (λ front t back is marks.
-        let w = within front t back is in
-        (short, (kinds_of tokens, rest_stands [] 0 text tt tokens read, few), place_is text tokens read w.0 t w.1 w.2 marks))
+    let w = within front t back is in
+    (short, (kinds_of tokens, rest_stands [] 0 text tt tokens read, few), place_is text tokens read w.0 t w.1 w.2 marks))
 
 halves_fault : (text : List ℕ) → length text ≤ 65536 → (tokens : List Token) → tokens_from [] 0 text ≡ Ok tokens → (back : Option (Token × List Token)) → after Dual tokens ≡ back → Faults (IsFaultOf text) (halves tokens back)
 halves_fault text short tokens read None is =
@@ -95,9 +106,9 @@ halves_fault text short tokens read (Some (t, right)) is = second (after Dual ri
         let few : HaveFewDuals tokens = inr (kinds_of (before Dual tokens), kinds_of right, parts, free_of_dual right next) in
         two_faults (IsFaultOf text) (before Dual tokens) right (short, (kinds_of tokens, rest_stands [] 0 text tt tokens read, few))
         (side_places text (before Dual tokens) short tokens read few (λ front u back same.
-            (front, back ++ t ∷ right, p.0 ∙ ap (λ (ts : List Token). ts ++ t ∷ right) same ∙ append_assoc front (u ∷ back) (t ∷ right))))
+        (front, back ++ t ∷ right, p.0 ∙ ap (λ (ts : List Token). ts ++ t ∷ right) same ∙ append_assoc front (u ∷ back) (t ∷ right))))
         (side_places text right short tokens read few (λ front u back same.
-            (before Dual tokens ++ t ∷ front, back, p.0 ∙ ap (λ (ts : List Token). before Dual tokens ++ t ∷ ts) same ∙ sym (append_assoc (before Dual tokens) (t ∷ front) (u ∷ back)))))
+        (before Dual tokens ++ t ∷ front, back, p.0 ∙ ap (λ (ts : List Token). before Dual tokens ++ t ∷ ts) same ∙ sym (append_assoc (before Dual tokens) (t ∷ front) (u ∷ back)))))
 
 widen_fault : (text : List ℕ) (r : Result (List Token) WordFault) → tokens_of text ≡ r → Faults (IsFaultOf text) (widen r)
 widen_fault text (Ok tokens) is fault e = absurd cc
@@ -113,8 +124,8 @@ widen_ok (Err f) tokens e = absurd cc
 reading_fault : (text : List ℕ) → Faults (IsFaultOf text) (reading text)
 reading_fault text =
     then_faults (IsFaultOf text) (widen (tokens_of text)) address_of (widen_fault text (tokens_of text) refl) (λ tokens e.
-        let read = limit_ok (nat_lt 65536 (length text)) (tokens_from [] 0 text) tokens (widen_ok (tokens_of text) tokens e) in
-        halves_fault text (ltb-false 65536 (length text) read.0) tokens read.1 (after Dual tokens) refl)
+    let read = limit_ok (nat_lt 65536 (length text)) (tokens_from [] 0 text) tokens (widen_ok (tokens_of text) tokens e) in
+    halves_fault text (ltb-false 65536 (length text) read.0) tokens read.1 (after Dual tokens) refl)
 
 fault_stands : (text : List ℕ) (fault : GrammarFault) → Reports fault (reading text) → IsFaultOf text fault
 fault_stands text Memory e = tt

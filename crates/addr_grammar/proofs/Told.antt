@@ -8,7 +8,7 @@ use Rattle.addr_words.specs.Reading.{tokens_of}
 use Rattle.addr_words.proofs.Told.{text_told}
 use Rattle.addr_grammar.specs.declared.cutting.Mark.TheVariants.{Comma, Dual}
 use Rattle.addr_grammar.specs.declared.faults.GrammarFault.{GrammarFault}
-use Rattle.addr_grammar.specs.declared.faults.GrammarFault.TheVariants.{Unclosed, LoneBackslash, TooLong, Empty, TooManyDuals, EmptyOption, Memory}
+use Rattle.addr_grammar.specs.declared.faults.GrammarFault.TheVariants.{Unclosed, LoneBackslash, TooLong, TooManyDuals, EmptyOption, Memory}
 use Rattle.addr_grammar.specs.Grammar.{before, after, Piece, later, head_of, options_of, single_of, second_half, halves, address_of, widen, reading}
 use Rattle.addr_grammar.proofs.Faulty.{Faults, err_faults, then_faults, head_faults, options_faults, single_faults, one_faults, two_faults}
 

@@ -1,12 +1,17 @@
 -- Which fault a text has, by what texts spell alone. Nothing here says how a text is read.
-use Rattle.std.specs.Prelude.{◌≡◌, ℕ, ◌+◌, ◌≤◌, ◌⊎◌, List, [], ◌∷◌, ◌++◌, length, take, Some}
+use Rattle.std.specs.Prelude.{◌≡◌, ℕ, ◌+◌, ◌≤◌, ◌⊎◌, List, [], ◌∷◌, ◌++◌, length, take, Some, Ok}
+use Rattle.std.specs.List.{AllByRecursion}
+use Rattle.addr_words.specs.declared.token_list.Token.{Token}
 use Rattle.addr_words.specs.declared.token_list.TokenKind.{TokenKind}
 use Rattle.addr_words.specs.declared.token_list.TokenKind.TheVariants.{Byte, Comma, Dual}
 use Rattle.addr_words.specs.declared.faults.WordFault.TheVariants as words
+use Rattle.addr_words.specs.Reading.{tokens_of}
 use Rattle.addr_words.specs.Spelling.{SpellsKinds}
 use Rattle.addr_words.specs.FirstFaults as faulty
 use Rattle.addr_grammar.specs.declared.faults.GrammarFault.{GrammarFault}
 use Rattle.addr_grammar.specs.declared.faults.GrammarFault.TheVariants.{Unclosed, LoneBackslash, TooLong, Empty, TooManyDuals, EmptyOption, Memory}
+use Rattle.addr_grammar.specs.declared.cutting.Mark.TheVariants as Mark
+use Rattle.addr_grammar.specs.Grammar.{after, later, begins_of}
 use Rattle.addr_grammar.specs.Spelling.{Free, PartAt}
 
 -- The second `!!` of a text: with its first byte alone one `!!` stands in the text so far, with both bytes two do.
@@ -21,6 +26,11 @@ pub record IsSecondDual (text : List ℕ) (at : ℕ) : Type 0 where
 -- where an option's text begins: just behind a comma that parts
 abbrev pub IsOptionPlace : List ℕ → ℕ → Type 0
 IsOptionPlace text at = (kinds : List TokenKind) × SpellsKinds [] (take at text) (kinds ++ Comma ∷ [])
+
+-- The options of an address begin at such places: side are the tokens of the address, or of one half of it.
+abbrev pub OptionsBeginBehindCommas : Type 0
+OptionsBeginBehindCommas =
+    (text : List ℕ) (tokens front side back : List Token) → tokens_of text ≡ Ok tokens → tokens ≡ front ++ (side ++ back) → AllByRecursion (IsOptionPlace text) (begins_of (later Mark.Comma (after Mark.Comma side)))
 
 -- one address, or two around one `!!`
 abbrev pub HasFewDuals : List TokenKind → Type 0

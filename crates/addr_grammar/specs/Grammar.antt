@@ -52,6 +52,10 @@ abbrev pub later : Mark → Option (Token × List Token) → List Piece
 later mark None = []
 later mark (Some (t, tokens)) = pieces mark t.to tokens
 
+-- where the texts of the parts begin
+abbrev pub begins_of : List Piece → List ℕ
+begins_of ps = map (λ p. p.at) ps
+
 -- the byte that a token stands for where it parts nothing
 abbrev pub byte_of : TokenKind → ℕ
 byte_of (kinds.Byte b) = b

@@ -1,7 +1,7 @@
 // Reading an address.
 ghost use Rattle.std.specs.Prelude.{◌≡◌, IfOk, IfErr, map, option_map, ◌∷◌, []};
 ghost use Rattle.addr_grammar.specs.Addresses.{IsSingle, HaveNames, is_empty, is_dash, has_slash, named};
-ghost use Rattle.addr_grammar.specs.Grammar.{decoded, byte_of, pieces, texts, later, header, head_of, option_of, options_of, single_of, address_of, value_of, two_of, gopen, reading, Reads};
+ghost use Rattle.addr_grammar.specs.Grammar.{decoded, byte_of, pieces, begins_of, texts, later, header, head_of, option_of, options_of, single_of, address_of, value_of, two_of, gopen, reading, Reads};
 ghost use Rattle.addr_grammar.specs.Spelling.{Spells, ReadsSpelled, SpellsAtMostOne};
 ghost use Rattle.addr_grammar.specs.FirstFaults.{IsFaultOf};
 
@@ -80,7 +80,8 @@ fn texts_of(alloc: Global, tokens: &[Token], at: u32) -> Result<Vec<Bytes>, NoMe
 }
 
 fn option_of(alloc: Global, tokens: &[Token], at: u32) -> Result<RawOption, GrammarFault>
-    ensures { Reads named result (option_of (record { at = at; tokens = tokens.now })) }
+    ensures exact { Reads named result (option_of (record { at = at; tokens = tokens.now })) }
+    ensures begins { IfOk result (λ option. option.at ≡ at) }
 {
     let cut = cut_at(tokens, Mark::Equals);
     let name = decoded(alloc, cut.front)?;
@@ -96,7 +97,9 @@ fn option_of(alloc: Global, tokens: &[Token], at: u32) -> Result<RawOption, Gram
 
 /// The options between the commas, the first of which begins at this offset.
 fn options_of(alloc: Global, tokens: &[Token], at: u32) -> Result<Vec<RawOption>, GrammarFault>
-    ensures { Reads (λ found. map named found.items) result (options_of (pieces Mark.Comma at tokens.now)) }
+    ensures exact { Reads (λ found. map named found.items) result (options_of (pieces Mark.Comma at tokens.now)) }
+    // Each tells where its text begins.
+    ensures begins { IfOk result (λ found. map (λ option. option.at) found.items ≡ begins_of (pieces Mark.Comma at tokens.now)) }
 {
     let mut found = Vec::new(alloc);
     let mut rest = tokens;
@@ -164,7 +167,8 @@ fn later_options(
     alloc: Global,
     back: Option<(Token, &[Token])>,
 ) -> Result<Vec<RawOption>, GrammarFault>
-    ensures { Reads (λ found. map named found.items) result (options_of (later Mark.Comma (option_map (λ b. (b.0, b.1.now)) back.entry))) }
+    ensures exact { Reads (λ found. map named found.items) result (options_of (later Mark.Comma (option_map (λ b. (b.0, b.1.now)) back.entry))) }
+    ensures begins { IfOk result (λ found. map (λ option. option.at) found.items ≡ begins_of (later Mark.Comma (option_map (λ b. (b.0, b.1.now)) back.entry))) }
 {
     match back {
         Some((comma, after)) => options_of(alloc, after, comma.to),
