@@ -1,3 +1,4 @@
 pub mod Fitting
 pub mod FlagLemmas
 pub mod Told
+pub mod Blames
