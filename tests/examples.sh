@@ -30,7 +30,7 @@ blocks() {
             nth = same == title ? nth + 1 : 1
             same = title
             name = sprintf("%s%s.%03d", out, base, count)
-            printf "%s: %s%s\n", document, title, nth > 1 ? ", block " nth : "" >(name ".title")
+            printf "%s: %s%s\n", document, title, (nth > 1 ? ", block " nth : "") >(name ".title")
             printf "%s", needs >(name ".needs")
             printf "" >(name ".run")
             printf "" >(name ".want")
