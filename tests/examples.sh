@@ -1,5 +1,5 @@
 #!/usr/bin/env bash
-# Runs every example of README.md, docs/EXAMPLES.md and the manual pages as it is written: what stands behind '$ ' is typed
+# Runs every example of README.md, docs/ and the manual pages as it is written: what stands behind '$ ' is typed
 # into one shell, and all that it prints has to be the rest of the block. An example that needs what the program doesn't
 # run yet is marked so in front of it; it is skipped, and the reason is printed. EVERY=1 tries these too.
 # 'N passed, M failed' at the end; the status is 1 where one failed.
@@ -79,7 +79,7 @@ example() {
     report "$title" "$problem"
 }
 
-for document in "$here/README.md" "$here/docs/EXAMPLES.md" "$here"/man/*.1; do
+for document in "$here"/README.md "$here"/docs/EXAMPLES.md "$here"/docs/COMING_FROM_SOCAT.md "$here"/man/*.1; do
     blocks "$document"
 done
 for name in "$scratch"/blocks/*.run; do

@@ -1,5 +1,6 @@
-"""Compares the manual pages and the bash completion with the program's own tables: flags, kinds, options, refusals and the
-lines of a journal. Whatever stands in one and not in the other is an error."""
+"""Compares the manual pages and the bash completion with the program's own tables: flags, kinds, options, refusals and
+the lines of a journal. Whatever stands in one and not in the other is an error. docs/COMING_FROM_SOCAT.md has to name each
+flag, kind and option in its tables."""
 
 import re
 import subprocess
@@ -274,6 +275,24 @@ def check_completion():
         compare(f"completion, options of {group}", groups.get(group, []), want)
 
 
+# --- what those who know another socat are told
+
+
+def check_comparison():
+    named = {}
+    for part in (TOP / "docs/COMING_FROM_SOCAT.md").read_text().split("\n## "):
+        title = part.split("\n")[0]
+        first = [line.split("|")[1] for line in part.split("\n") if line.startswith("|")]
+        named[title] = [word for cell in first for word in re.findall(r"`([^`]+)`", cell)]
+    missing = set(code_flags()) - {word.rstrip("=") for word in named["Flags"]}
+    report.note(f"COMING_FROM_SOCAT, flags: missing {', '.join(sorted(missing))}" if missing else "")
+    told = set(named["Kinds"])
+    for keywords, _, _ in code_kinds():
+        report.note("" if told & set(keywords) else f"COMING_FROM_SOCAT, kinds: missing {keywords[0]}")
+    compare("COMING_FROM_SOCAT, options", named["Options"], [name for name, _, _, _ in code_options()])
+
+
 check_manual()
 check_completion()
+check_comparison()
 sys.exit(report.end())
