@@ -79,7 +79,7 @@ def types(crate):
 def comment_above(lines, at):
     """The comment that ends right above a line, as one text."""
     text = []
-    while at > 0 and lines[at - 1].lstrip().startswith("--"):
+    while at > 0 and lines[at - 1].lstrip().startswith("--") and not lines[at - 1].startswith("-- ----"):
         at -= 1
         text.insert(0, lines[at].strip().lstrip("- "))
     return " ".join(text)
