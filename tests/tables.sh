@@ -9,7 +9,7 @@ status=0
 
 if command -v man >/dev/null && command -v groff >/dev/null; then
     for page in "$here"/man/*.1; do
-        warnings="$(LC_ALL=C.UTF-8 MANWIDTH=100 man -l --warnings "$page" 2>&1 >/dev/null)"
+        warnings="$(LC_ALL=C MANWIDTH=100 man -l --warnings "$page" 2>&1 >/dev/null)"
         if [ -n "$warnings" ]; then
             echo "FAILED  ${page#"$here"/}: $warnings"
             status=1

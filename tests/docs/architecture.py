@@ -1,5 +1,5 @@
-"""Compares docs/ARCHITECTURE.md with crates.txt: each crate stands in one row, and its last column has what the crate stands
-on directly. The files that the page names have to be there."""
+"""Compares docs/ARCHITECTURE.md with crates.txt: each crate stands in one row, and its last column has what the crate
+stands on directly. The files that the page names have to be there."""
 
 import re
 import sys

@@ -92,7 +92,7 @@ def known_words():
 
 def look_at_prose(report, where, text, known):
     for name in quoted(text):
-        if re.match(r"^[\w./-]+/[\w./*-]+$", name):
+        if re.match(r"^(?!/|bin/)[\w./-]+/[\w./*-]+$", name):
             there = bool(list(TOP.glob(name)))
             report.note("" if there else f"{where}: no file {name}")
         elif re.match(r"^[A-Za-z_]+::[A-Za-z_]+$", name) or re.match(r"^[a-z]+(_[a-z]+)+$", name):

@@ -7,6 +7,10 @@ import sys
 from sources import TOP, Report, crates, definitions, functions, prose, quoted, types
 
 
+# A name of the page that has to be one of a definition: with a capital in front, or of several words.
+DEFINED = re.compile(r"^(?:[A-Z][a-z]\w*|[a-z]+(?:_[a-z]+)+)$")
+
+
 def listed(crate):
     """The definitions of a crate, file by file."""
     by_file = {}
@@ -39,13 +43,12 @@ def check():
         names |= {function.name for function in functions(crate)} | types(crate) | {crate}
     for number, line in prose("docs/DEFINITIONS.md"):
         for name in quoted(line):
-            if re.match(r"^[A-Za-z]{2,}(_[a-z]+)*$", name) and ("_" in name or re.search(r"[a-z]", name[1:]) and name[0].isupper()):
-                known = name in names or name in constructors
-                report.note("" if known else f"docs/DEFINITIONS.md:{number}: nothing is named {name}")
+            if DEFINED.match(name):
+                report.note("" if name in names or name in cases else f"docs/DEFINITIONS.md:{number}: nothing is named {name}")
     return report.end()
 
 
-def constructors_of():
+def cases_of():
     """The cases of the model's kinds of values, as the code and the definitions spell them."""
     found = set()
     for path in (TOP / "crates/relay_model").glob("s*/*"):
@@ -56,7 +59,7 @@ def constructors_of():
     return found
 
 
-constructors = constructors_of()
+cases = cases_of()
 if sys.argv[1:2] == ["list"]:
     print_list(sys.argv[2:])
 else:

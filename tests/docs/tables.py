@@ -1,6 +1,6 @@
 """Compares the manual pages and the bash completion with the program's own tables: flags, kinds, options, refusals and
-the lines of a journal. Whatever stands in one and not in the other is an error. docs/COMING_FROM_SOCAT.md has to name each
-flag, kind and option in its tables."""
+the lines of a journal. Whatever stands in one and not in the other is an error. docs/COMING_FROM_SOCAT.md has to name
+each flag, kind and option in its tables."""
 
 import re
 import subprocess
