@@ -2,6 +2,8 @@
 # Runs every example of README.md, docs/ and the manual pages as it is written: what stands behind '$ ' is typed
 # into one shell, and all that it prints has to be the rest of the block. An example that needs what the program doesn't
 # run yet is marked so in front of it; it is skipped, and the reason is printed. EVERY=1 tries these too.
+# The examples count on half a second for an answer, as a user does. A busy machine may need more, so an example that
+# fails is tried again, up to three times in all.
 # 'N passed, M failed' at the end; the status is 1 where one failed.
 # Usage: tests/examples.sh [PROGRAM [AUDITOR]]      (those of bin/ where none is given)
 set -u
@@ -56,14 +58,9 @@ blocks() {
     ' "$1"
 }
 
-# example NAME: runs one block in a folder of its own.
-example() {
-    local name="$1" folder title problem='' status
-    title="$(cat "$name.title")"
-    if [ -s "$name.needs" ] && [ -z "${EVERY:-}" ]; then
-        echo "skipped $title: it needs $(cat "$name.needs")"
-        return
-    fi
+# run_once NAME: runs one block in a folder of its own, and says what is wrong.
+run_once() {
+    local name="$1" folder status
     folder="$(mktemp -d "$scratch/run.XXXXXX")"
     ln -s "$scratch/bin" "$folder/bin"
     (
@@ -72,10 +69,25 @@ example() {
     ) </dev/null >"$folder.got" 2>&1
     status=$?
     if [ "$status" -eq 124 ]; then
-        problem="it didn't end"
+        echo "it didn't end"
     elif ! cmp -s "$folder.got" "$name.want"; then
-        problem="it printed: $(head -c 300 "$folder.got")"
+        echo "it printed: $(head -c 300 "$folder.got")"
     fi
+}
+
+# example NAME: tries one block, unless it is marked.
+example() {
+    local name="$1" title problem='' try
+    title="$(cat "$name.title")"
+    if [ -s "$name.needs" ] && [ -z "${EVERY:-}" ]; then
+        echo "skipped $title: it needs $(cat "$name.needs")"
+        return
+    fi
+    for try in 1 2 3; do
+        problem="$(run_once "$name")"
+        [ -n "$problem" ] || break
+    done
+    [ "$try" -eq 1 ] || title="$title (try $try)"
     report "$title" "$problem"
 }
 
