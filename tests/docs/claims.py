@@ -3,7 +3,7 @@
 import re
 import sys
 
-from sources import CRATES, TOP, Report, cells, crates, definitions, functions, prose, quoted, sources, types
+from sources import TOP, Report, cells, crates, definitions, functions, prose, quoted, sources, types
 
 DOCUMENTS = ["README.md", "docs/PROOFS.md"]
 HEAD = ["Crate", "Function", "Clauses"]
