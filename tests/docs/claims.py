@@ -7,7 +7,6 @@ from sources import TOP, Report, cells, crates, definitions, functions, prose, q
 
 DOCUMENTS = ["README.md", "docs/PROOFS.md"]
 HEAD = ["Crate", "Function", "Clauses"]
-NAME = re.compile(r"^[A-Za-z_][A-Za-z_0-9]*(::[A-Za-z_][A-Za-z_0-9]*)?$")
 ONLY = "its only one"
 
 every = {crate: functions(crate) for crate in crates()}

@@ -9,7 +9,7 @@ CRATES = TOP / "crates"
 
 FUNCTION = re.compile(r"^( *)(?:pub(?:\([a-z]+\))? )?(?:const |ghost )*fn ([a-z_0-9]+)")
 BLOCK = re.compile(r"^(?:pub )?(?:unsafe )?(impl|trait)\b(.*)")
-CLAUSE = re.compile(r"^\s*(?:ensures|requires)\*? +([a-z_0-9]+) *\{")
+CLAUSE = re.compile(r"^\s*ensures\*? +([a-z_0-9]+) *\{")
 DEFINITION = re.compile(r"^ *(?:(?:abbrev|unfoldable|foldable) pub|pub (record|data|syntax)) ([^\s:]+)")
 
 
