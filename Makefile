@@ -65,9 +65,11 @@ install: bin/socat bin/socat-audit
 	install -m 644 man/socat.1 "$(MAN)/socat.1"
 	install -m 644 man/socat-audit.1 "$(MAN)/socat-audit.1"
 	install -m 644 completion/socat "$(COMPLETION)/socat"
+	ln -sf socat "$(COMPLETION)/socat-audit"
 
 uninstall:
-	rm -f "$(BIN)/socat" "$(BIN)/socat-audit" "$(MAN)/socat.1" "$(MAN)/socat-audit.1" "$(COMPLETION)/socat"
+	rm -f "$(BIN)/socat" "$(BIN)/socat-audit" "$(MAN)/socat.1" "$(MAN)/socat-audit.1"
+	rm -f "$(COMPLETION)/socat" "$(COMPLETION)/socat-audit"
 
 bench: bin/socat
 	bench/throughput.sh bin/socat
