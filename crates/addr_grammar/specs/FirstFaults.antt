@@ -36,6 +36,7 @@ OptionsBeginBehindCommas =
 abbrev pub HasFewDuals : List TokenKind → Type 0
 HasFewDuals kinds = Free Dual kinds ⊎ ((left : List TokenKind) × (right : List TokenKind) × PartAt Dual kinds left (Some right) × Free Dual right)
 
+-- the text is closed, and is one address or two
 abbrev pub IsParted : List ℕ → Type 0
 IsParted text = (kinds : List TokenKind) × SpellsKinds [] text kinds × HasFewDuals kinds
 

@@ -18,6 +18,7 @@ byte_in Comma = 44
 byte_in Dual = 33
 byte_in Equals = 61
 
+-- the bytes that kinds of tokens stand for
 abbrev pub bytes_in : List TokenKind → List ℕ
 bytes_in = map byte_in
 
@@ -44,6 +45,7 @@ SpellsKeyword first back whole keyword params =
     ⊎ (((has_slash first ≡ false) × (is_dash first ≡ true) × (keyword ≡ 83 ∷ 84 ∷ 68 ∷ 73 ∷ 79 ∷ []) × SpellsTexts back params)
     ⊎ (FitsKeyword first × (keyword ≡ first) × SpellsTexts back params))
 
+-- what stands before the first comma spells this keyword and these parameters
 abbrev pub SpellsHead : List TokenKind → List ℕ → List (List ℕ) → Type 0
 SpellsHead kinds keyword params =
     (front : List TokenKind) × (back : Option (List TokenKind)) × PartAt Colon kinds front back × SpellsKeyword (bytes_in front) back (bytes_in kinds) keyword params
@@ -64,6 +66,7 @@ SpellsOptions None (o ∷ options) = ⊥
 SpellsOptions (Some kinds) [] = ⊥
 SpellsOptions (Some kinds) (o ∷ options) = (front : List TokenKind) × (back : Option (List TokenKind)) × PartAt Comma kinds front back × SpellsOption front o × SpellsOptions back options
 
+-- kinds of tokens spell a single address: its head, and its options behind commas
 pub record SpellsSingle (kinds : List TokenKind) (single : Parts) : Type 0 where
   pub front : List TokenKind
   pub back : Option (List TokenKind)
@@ -71,11 +74,13 @@ pub record SpellsSingle (kinds : List TokenKind) (single : Parts) : Type 0 where
   pub head : SpellsHead front single.keyword single.params
   pub options : SpellsOptions back single.options
 
+-- kinds of tokens spell this address, single or dual
 abbrev pub SpellsAddress : List TokenKind → RawAddress → Type 0
 SpellsAddress kinds (One single) = Free Dual kinds × SpellsSingle kinds single
 SpellsAddress kinds (Two reading writing) =
     (left : List TokenKind) × (right : List TokenKind) × PartAt Dual kinds left (Some right) × Free Dual right × SpellsSingle left reading × SpellsSingle right writing
 
+-- a text of at most 65,536 bytes spells this address
 pub record Spells (text : List ℕ) (address : RawAddress) : Type 0 where
   pub kinds : List TokenKind
   pub short : length text ≤ 65536
@@ -86,5 +91,6 @@ pub record Spells (text : List ℕ) (address : RawAddress) : Type 0 where
 abbrev pub ReadsSpelled : List ℕ → Result RawAddress GrammarFault → Type 0
 ReadsSpelled text result = (address : RawAddress) → Spells text address → Reads (λ read. read) result (Ok address)
 
+-- no text spells two addresses
 abbrev pub SpellsAtMostOne : Type 0
 SpellsAtMostOne = (text : List ℕ) (one other : RawAddress) → Spells text one → Spells text other → one ≡ other

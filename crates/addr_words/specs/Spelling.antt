@@ -16,10 +16,12 @@ abbrev pub in_quotes : List ℕ → Bool
 in_quotes [] = false
 in_quotes (e ∷ ends) = (e == 34) || (e == 39)
 
+-- the innermost open thing is a single quote
 abbrev pub in_single_quotes : List ℕ → Bool
 in_single_quotes [] = false
 in_single_quotes (e ∷ ends) = e == 39
 
+-- the byte is among these
 abbrev pub is_one_of : List ℕ → ℕ → Bool
 is_one_of [] b = false
 is_one_of (s ∷ specials) b = (b == s) || is_one_of specials b

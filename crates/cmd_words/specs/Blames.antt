@@ -17,6 +17,7 @@ BlamesText word (refusals.TooManyDuals at) = IsFaultOf word (texts.TooManyDuals 
 BlamesText word (refusals.EmptyOption at) = IsFaultOf word (texts.EmptyOption at)
 BlamesText word why = Unit {0}
 
+-- the same of a refusal; want of memory blames no text
 abbrev pub IsBlamed : List ℕ → CommandFault → Type 0
 IsBlamed word (faults.Refused refused) = BlamesText word refused.why
 IsBlamed word faults.Memory = Unit {0}

@@ -18,6 +18,7 @@ pub record Dropped : Type 0 where
   pub failed : PortSeen
   pub rose : Rose made.counts.faults failed.counts.faults
 
+-- why the beginning of a port answered so
 abbrev pub BeginCause : Begun → Type 0
 BeginCause begins.Begun = ⊤
 BeginCause begins.Failed = Dropped
@@ -30,6 +31,7 @@ OpenCause faults faults' stalls stalls' opens.Later = Rose stalls stalls'
 OpenCause faults faults' stalls stalls' opens.Failed = Rose faults faults' ⊎ Dropped
 OpenCause faults faults' stalls stalls' opens.Memory = ⊤
 
+-- why a listening answered so
 abbrev pub ListenCause : ℕ → ℕ → ListenAnswer → Type 0
 ListenCause faults faults' listens.Listening = ⊤
 ListenCause faults faults' listens.Failed = Rose faults faults' ⊎ Dropped

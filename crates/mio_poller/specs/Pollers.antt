@@ -27,5 +27,6 @@ half_key ready key half = if ready then (key, half) ∷ [] else []
 abbrev pub event_keys : Event → List (ℕ × Half)
 event_keys event = if (event_token event).0 == 2 ^ 64 - 1 then [] else half_key (to_read event) (event_token event).0 halves.ToRead ++ half_key (to_write event) (event_token event).0 halves.ToWrite
 
+-- the keys and halves that events name
 abbrev pub named : List Event → List (ℕ × Half)
 named events = flat_map event_keys events

@@ -25,13 +25,16 @@ pub record Grown (before now : List ReadyAt) : Type 0 where
 abbrev pub KeyNamed : ℕ × Half → List Station → List ReadyAt → Type 0
 KeyNamed e stations ready = (p : Place) → base_at stations p ≡ Some (bases.Made e.0) → IsNamed ready p e.1
 
+-- each half whose key was named stands in the list
 abbrev pub NamesKeyed : List (ℕ × Half) → List Station → List ReadyAt → Type 0
 NamesKeyed entries stations ready = (i : ℕ) (e : ℕ × Half) → slice_get entries i ≡ Some e → KeyNamed e stations ready
 
+-- the port of a half of a place
 abbrev pub half_pier : Half → Base → Pier
 half_pier ToRead base = giving_pier base
 half_pier ToWrite base = taking_pier base
 
+-- the hint tells of this half
 abbrev pub is_hinted : Half → Hint → Bool
 is_hinted ToRead hint = hint.readable
 is_hinted ToWrite hint = hint.writable

@@ -9,12 +9,14 @@ use Rattle.port_objects.specs.declared.makers.MakeItem.{MakeItem}
 use Rattle.port_objects.specs.declared.makers.MakeItem.TheVariants as items
 use Rattle.port_objects.specs.Ports.{PortState}
 
+-- what contracts see of a maker in memory
 pub record MakerState : Type 0 where
   pub items : List MakeItem
   pub came : Option PeerAddress
   pub faults : ℕ
   pub stalls : ℕ
 
+-- a maker without items
 abbrev pub fresh_maker : MakerState
 fresh_maker = record { items = []; came = None; faults = 0; stalls = 0 }
 
@@ -25,6 +27,7 @@ scripted_make (items.Port port ∷ rest) = makings.Made port
 scripted_make (items.Peer peer port ∷ rest) = makings.Failed
 scripted_make (items.Fault ∷ rest) = makings.Failed
 
+-- the items after one was made of them
 abbrev pub items_after_make : List MakeItem → List MakeItem
 items_after_make [] = []
 items_after_make (item ∷ rest) = rest
@@ -36,6 +39,7 @@ scripted_accept (items.Port port ∷ rest) = peers.NoPeer
 scripted_accept (items.Peer peer port ∷ rest) = peers.Came port peer
 scripted_accept (items.Fault ∷ rest) = peers.Failed
 
+-- the items after a peer was asked for
 abbrev pub items_after_accept : List MakeItem → List MakeItem
 items_after_accept [] = []
 items_after_accept (items.Port port ∷ rest) = items.Port port ∷ rest

@@ -6,12 +6,14 @@ use Rattle.port_trait.specs.declared.makers.Making.TheVariants as makings
 use Rattle.port_trait.specs.declared.makers.MadePeer.{MadePeer}
 use Rattle.port_trait.specs.declared.makers.MadePeer.TheVariants as peers
 
+-- a making failed
 abbrev pub making_failed : {T : Type 0} → Making T → Bool
 making_failed (makings.Made port) = false
 making_failed (makings.Later port) = false
 making_failed makings.Failed = true
 making_failed makings.Memory = false
 
+-- a making is still under way
 abbrev pub making_stalled : {T : Type 0} → Making T → Bool
 making_stalled (makings.Made port) = false
 making_stalled (makings.Later port) = true
@@ -22,12 +24,14 @@ making_stalled makings.Memory = false
 abbrev pub IsAtOnce : {T : Type 0} → Making T → Type 0
 IsAtOnce making = making_stalled making ≡ false
 
+-- an accepting failed
 abbrev pub peer_failed : {T : Type 0} → MadePeer T → Bool
 peer_failed (peers.Came port peer) = false
 peer_failed peers.NoPeer = false
 peer_failed peers.Failed = true
 peer_failed peers.Memory = false
 
+-- no peer was there
 abbrev pub peer_stalled : {T : Type 0} → MadePeer T → Bool
 peer_stalled (peers.Came port peer) = false
 peer_stalled peers.NoPeer = true

@@ -30,6 +30,7 @@ pub record Hears (c : Config) (n : ℕ) (past : List Act) (s : ℕ) (session : S
   pub stands : Stands c n past s session
   pub heeds : Heeds c past s session.state
 
+-- what a session wishes for
 abbrev pub wish_of : Session → Wish
 wish_of session = session.wish
 
@@ -51,6 +52,7 @@ pub record Heard (c : Config) (n : ℕ) (past : List Act) (s : ℕ) (act : Act) 
   pub stands : Stands c n (act ∷ past) s new
   pub fewer : left_of new < left_of old
 
+-- of an answer that makes an act, that the session has heard it; of another nothing
 abbrev pub HeardBy : Config → ℕ → List Act → ℕ → Option Act → Session → Session → Type 0
 HeardBy c n past s (Some act) old new = Heard c n past s act old new
 HeardBy c n past s None old new = Unit {0}

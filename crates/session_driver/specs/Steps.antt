@@ -91,6 +91,7 @@ pub record IsCut (before after : Session) : Type 0 where
   pub over : has_ended after ≡ true
   pub left : left_of after ≡ left_of before
 
+-- what one step was: an act, no child, want of memory, a sleep or the end
 abbrev pub StepIs : Config → Seen → Seen → Session → Session → Stepped → Type 0
 StepIs c old new before after steps.Acted = (act : Act) × IsFaultless c act × Acts c old new before after act
 StepIs c old new before after (steps.ReadFailed p) = IsOwn c before p × Acts c old new before after (ReadFault p)

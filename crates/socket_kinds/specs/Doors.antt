@@ -17,6 +17,7 @@ pub record IsDeclined (error : Error) (arrival : Arrival) : Type 0 where
   pub aborted : error_kind error ≡ ConnectionAborted → arrival ≡ arrivals.Aborted
   pub failed : error_kind error ≢ WouldBlock → error_kind error ≢ ConnectionAborted → arrival ≡ arrivals.Failed
 
+-- nobody was at the door
 abbrev pub IsNobody : Arrival → Type 0
 IsNobody (arrivals.Came stream peer) = ⊥
 IsNobody arrivals.Aborted = ⊥

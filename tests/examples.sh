@@ -1,0 +1,105 @@
+#!/usr/bin/env bash
+# Runs every example of README.md, docs/ and the manual pages as it is written: what stands behind '$ ' is typed
+# into one shell, and all that it prints has to be the rest of the block. An example that needs what the program doesn't
+# run yet is marked so in front of it; it is skipped, and the reason is printed. EVERY=1 tries these too.
+# The examples count on half a second for an answer, as a user does. A busy machine may need more, so an example that
+# fails is tried again, up to three times in all.
+# 'N passed, M failed' at the end; the status is 1 where one failed.
+# Usage: tests/examples.sh [PROGRAM [AUDITOR]]      (those of bin/ where none is given)
+set -u
+
+. "$(dirname "${BASH_SOURCE[0]}")/common.sh"
+use_program "${1:-$here/bin/socat}"
+auditor="$(realpath "${2:-$here/bin/socat-audit}")"
+mkdir "$scratch/bin" "$scratch/blocks"
+ln -s "$program" "$scratch/bin/socat"
+ln -s "$auditor" "$scratch/bin/socat-audit"
+
+# blocks FILE: takes the examples of a document apart, into NAME.title, .needs, .run and .want. In a manual page a block
+# stands between .EX and .EE, and its text is unescaped.
+blocks() {
+    awk -v out="$scratch/blocks/" -v document="${1#"$here"/}" '
+        function plain(text) {
+            gsub(/\\-/, "-", text)
+            gsub(/\\\(aq/, "\047", text)
+            gsub(/\\\(ti/, "~", text)
+            gsub(/\\&/, "", text)
+            gsub(/\\e/, "\\", text)
+            return text
+        }
+        function begin() {
+            count += 1
+            nth = same == title ? nth + 1 : 1
+            same = title
+            name = sprintf("%s%s.%03d", out, base, count)
+            printf "%s: %s%s\n", document, title, (nth > 1 ? ", block " nth : "") >(name ".title")
+            printf "%s", needs >(name ".needs")
+            printf "" >(name ".run")
+            printf "" >(name ".want")
+            inside = 1
+            needs = ""
+        }
+        function end() {
+            close(name ".title"); close(name ".needs"); close(name ".run"); close(name ".want")
+            inside = 0
+        }
+        BEGIN { base = document; gsub(/\//, "_", base); manual = document ~ /\.1$/ }
+        !inside && /^##+ / { title = $0; sub(/^#+ /, "", title) }
+        !inside && /^\.(SH|SS) / { title = plain($0); sub(/^\.S[HS] /, "", title) }
+        !inside && /^<!-- needs: .* -->$/ { needs = $3; next }
+        !inside && /^\.\\" needs: / { needs = $3; next }
+        !inside && (/^```console$/ || /^\.EX$/) { begin(); next }
+        inside && (/^```$/ || /^\.EE$/) { end(); next }
+        inside {
+            line = manual ? plain($0) : $0
+            if (line ~ /^\$ / || line ~ /^> /) print substr(line, 3) >(name ".run")
+            else print line >(name ".want")
+        }
+    ' "$1"
+}
+
+# run_once NAME: runs one block in a folder of its own, and says what is wrong.
+run_once() {
+    local name="$1" folder status
+    folder="$(mktemp -d "$scratch/run.XXXXXX")"
+    ln -s "$scratch/bin" "$folder/bin"
+    (
+        cd "$folder" || exit 1
+        PATH="$scratch/bin:$PATH" timeout 60 bash -c "$(cat "$name.run")"$'\nwait'
+    ) </dev/null >"$folder.got" 2>&1
+    status=$?
+    if [ "$status" -eq 124 ]; then
+        echo "it didn't end"
+    elif ! cmp -s "$folder.got" "$name.want"; then
+        echo "it printed: $(head -c 300 "$folder.got")"
+    fi
+}
+
+# example NAME: tries one block, unless it is marked.
+example() {
+    local name="$1" title problem='' try
+    title="$(cat "$name.title")"
+    if [ -s "$name.needs" ] && [ -z "${EVERY:-}" ]; then
+        echo "skipped $title: it needs $(cat "$name.needs")"
+        return
+    fi
+    for try in 1 2 3; do
+        problem="$(run_once "$name")"
+        [ -n "$problem" ] || break
+    done
+    [ "$try" -eq 1 ] || title="$title (try $try)"
+    report "$title" "$problem"
+}
+
+for document in "$here"/README.md "$here"/docs/EXAMPLES.md "$here"/docs/COMING_FROM_SOCAT.md "$here"/man/*.1; do
+    blocks "$document"
+done
+for name in "$scratch"/blocks/*.run; do
+    example "${name%.run}"
+done
+wanted=25
+tasks="$(grep -c '^### [0-9]' "$here/docs/EXAMPLES.md")"
+[ "$tasks" -eq "$wanted" ] || report "docs/EXAMPLES.md" "it has $tasks tasks, want $wanted"
+
+echo "$passed passed, $failed failed"
+[ "$failed" -eq 0 ]
