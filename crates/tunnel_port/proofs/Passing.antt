@@ -8,7 +8,7 @@ use Rattle.port_trait.specs.declared.answers.Got.TheVariants as reads
 use Rattle.port_trait.specs.declared.answers.Took.{Took as WriteAnswer}
 use Rattle.port_trait.specs.declared.answers.Took.TheVariants as writes
 use Rattle.tunnel_port.specs.declared.stage.Stage.{Stage}
-use Rattle.tunnel_port.specs.Talks.{is_passed, Begins, Told, InTalk, behind_talk, rest_behind}
+use Rattle.tunnel_port.specs.Talks.{is_passed, Follows, Begins, Told, InTalk, behind_talk, rest_behind}
 use Rattle.tunnel_port.proofs.Fronts.{begins_adds}
 
 begins_given : (part into : List ℕ) (got : Got) (before now : Option (List ℕ)) → Begins part before → Gives before now into got → Begins part now × Gives (rest_behind part before) (rest_behind part now) into got
@@ -64,3 +64,12 @@ talk_accepted_all before now gave asks heard said stage bytes took is talk accep
 -- a call that puts nothing through
 pub talk_kept : (took gave took_now gave_now : Option (List ℕ)) (asks heard : List ℕ) (said : ℕ) (stage : Stage) → InTalk took gave asks heard said stage → took_now ≡ took → gave_now ≡ gave → InTalk took_now gave_now asks heard said stage
 talk_kept took gave took_now gave_now asks heard said stage talk same_took same_gave = record { within = talk.within; whole = talk.whole; asked = subst (Told (is_passed stage) (take said asks)) (sym same_took) talk.asked; answered = subst (Told (is_passed stage) heard) (sym same_gave) talk.answered }
+
+-- once the request is granted, what was written follows the request, and what was read the reply
+told_follows : (passed : Bool) (part : List ℕ) (told : Option (List ℕ)) → passed ≡ true → Told passed part told → Follows part told (behind_talk passed part told)
+told_follows true part told is begins = begins
+told_follows false part told is begins = absurd (cc is)
+
+pub talk_follows : (took gave : Option (List ℕ)) (asks heard : List ℕ) (said : ℕ) (stage : Stage) → is_passed stage ≡ true → InTalk took gave asks heard said stage → Follows asks took (behind_talk (is_passed stage) asks took) × Follows heard gave (behind_talk (is_passed stage) heard gave)
+talk_follows took gave asks heard said stage is talk =
+    (subst (λ part. Follows part took (behind_talk (is_passed stage) part took)) (whole_request asks said (talk.whole is)) (told_follows (is_passed stage) (take said asks) took is talk.asked), told_follows (is_passed stage) heard gave is talk.answered)

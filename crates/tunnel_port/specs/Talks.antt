@@ -63,9 +63,13 @@ IsOnly part told = told ≡ option_map (λ _. part) told
 abbrev pub rest_behind : List ℕ → Option (List ℕ) → Option (List ℕ)
 rest_behind part told = option_map (λ all. drop (length part) all) told
 
+-- what is told is this part and then the rest
+abbrev pub Follows : List ℕ → Option (List ℕ) → Option (List ℕ) → Type 0
+Follows part told rest = told ≡ option_map (λ bytes. part ++ bytes) rest
+
 -- what is told begins so
 abbrev pub Begins : List ℕ → Option (List ℕ) → Type 0
-Begins part told = told ≡ option_map (λ rest. part ++ rest) (rest_behind part told)
+Begins part told = Follows part told (rest_behind part told)
 
 -- as long as the talk goes on what is told is its part of it, and then it begins with that
 abbrev pub Told : Bool → List ℕ → Option (List ℕ) → Type 0
