@@ -110,7 +110,7 @@ impl<P: Port> Port for SocksPort<P> {
     fn read(&mut self, into: &mut [u8]) -> Got
         requires { 0 < length into.old }
         ensures barred { is_passed self.old.stage ≡ false → (result ≡ read_at self.old.stage) × (self.new ≡ record self.old { counts = self.new.counts; ended = false }) }
-        ensures beneath { is_passed self.old.stage ≡ true → Gives (P.gave self.old.inner) (P.gave self.new.inner) into.new result }
+        ensures beneath { is_passed self.old.stage ≡ true → Gives (P.gave self.old.inner) (P.gave self.new.inner) into.new result × Tallied (read_event result) (P.counts self.old.inner) (P.counts self.new.inner) }
         ensures follows { is_passed self.new.stage ≡ true → Follows self.new.talk.request (P.took self.new.inner) (behind_talk (is_passed self.new.stage) self.new.talk.request (P.took self.new.inner)) × Follows self.new.talk.heard (P.gave self.new.inner) (behind_talk (is_passed self.new.stage) self.new.talk.heard (P.gave self.new.inner)) }
         ensures gives { Gives (behind_talk (is_passed self.old.stage) self.old.talk.heard (P.gave self.old.inner)) (behind_talk (is_passed self.new.stage) self.new.talk.heard (P.gave self.new.inner)) into.new result }
         ensures ended { self.new.ended ≡ is_end result }
@@ -128,7 +128,7 @@ impl<P: Port> Port for SocksPort<P> {
     fn write(&mut self, bytes: &[u8]) -> Took
         requires { 0 < length bytes.now }
         ensures barred { is_passed self.old.stage ≡ false → (result ≡ write_at self.old.stage) × (self.new ≡ record self.old { counts = self.new.counts }) }
-        ensures beneath { is_passed self.old.stage ≡ true → Accepts (P.took self.old.inner) (P.took self.new.inner) bytes.now result }
+        ensures beneath { is_passed self.old.stage ≡ true → Accepts (P.took self.old.inner) (P.took self.new.inner) bytes.now result × Tallied (write_event result) (P.counts self.old.inner) (P.counts self.new.inner) }
         ensures follows { is_passed self.new.stage ≡ true → Follows self.new.talk.request (P.took self.new.inner) (behind_talk (is_passed self.new.stage) self.new.talk.request (P.took self.new.inner)) × Follows self.new.talk.heard (P.gave self.new.inner) (behind_talk (is_passed self.new.stage) self.new.talk.heard (P.gave self.new.inner)) }
         ensures accepts { Accepts (behind_talk (is_passed self.old.stage) self.old.talk.request (P.took self.old.inner)) (behind_talk (is_passed self.new.stage) self.new.talk.request (P.took self.new.inner)) bytes.now result }
         ensures kept { self.new ≡ record self.old { inner = self.new.inner; counts = self.new.counts } }
@@ -155,7 +155,7 @@ impl<P: Port> Port for SocksPort<P> {
     #[tactic(auto, using(tunnel_port::proofs::Passing::talk_follows))]
     fn put_all(&mut self, bytes: &[u8]) -> Took
         ensures barred { is_passed self.old.stage ≡ false → (result ≡ writes.Failed) × (self.new ≡ record self.old { counts = self.new.counts }) }
-        ensures beneath { is_passed self.old.stage ≡ true → AcceptsAll (P.took self.old.inner) (P.took self.new.inner) bytes.now result }
+        ensures beneath { is_passed self.old.stage ≡ true → AcceptsAll (P.took self.old.inner) (P.took self.new.inner) bytes.now result × Tallied (write_event result) (P.counts self.old.inner) (P.counts self.new.inner) }
         ensures follows { is_passed self.new.stage ≡ true → Follows self.new.talk.request (P.took self.new.inner) (behind_talk (is_passed self.new.stage) self.new.talk.request (P.took self.new.inner)) × Follows self.new.talk.heard (P.gave self.new.inner) (behind_talk (is_passed self.new.stage) self.new.talk.heard (P.gave self.new.inner)) }
         ensures accepts { AcceptsAll (behind_talk (is_passed self.old.stage) self.old.talk.request (P.took self.old.inner)) (behind_talk (is_passed self.new.stage) self.new.talk.request (P.took self.new.inner)) bytes.now result }
         ensures kept { self.new ≡ record self.old { inner = self.new.inner; counts = self.new.counts } }
