@@ -1,12 +1,12 @@
 -- What a parsed head says of the bytes as a whole.
-use Rattle.std.proofs.Common.{◌≡◌, ℕ, ◌≤◌, List, [], ◌++◌, length, take, drop, map, sym, ap, ◌∙◌, subst, append-nil, arith}
+use Rattle.std.proofs.Common.{◌≡◌, ℕ, ◌≤◌, List, [], length, take, drop, sym, ap, ◌∙◌, subst, append-nil, arith}
 use Rattle.std.proofs.lemmas.List.{length-map, length-take-le}
 use Rattle.std.proofs.Math.Seq.{drop-length}
 use Rattle.httparse.specs.declared.spans.HeaderSpan.{HeaderSpan}
 use Rattle.httparse.specs.declared.spans.ResponseSpans.{ResponseSpans}
 use Rattle.httparse.specs.Grammar.{ResponseHead, ReadsResponse, print_response, status_code}
 use Rattle.httparse.specs.Spans.{IsResponseAt, IsResponseOf, IsResponseWithin, header_bytes, name_and_value}
-use Rattle.connect_port.specs.Replies.{HasHead, HasNoHead}
+use Rattle.connect_port.specs.Replies.{HasHead}
 
 -- spans that reach to the end are those of a head that is the whole
 pub found_head : (bytes : List ℕ) (headers : List HeaderSpan) (spans : ResponseSpans) → length headers ≡ 64 → spans.len ≡ length bytes → IsResponseWithin bytes headers spans → IsResponseOf bytes headers spans → HasHead bytes (λ h. status_code h ≡ spans.code)

@@ -1,6 +1,6 @@
 // What the first bytes of a proxy's reply say.
-ghost use Rattle.std.specs.Prelude.{◌≡◌, ◌≤◌, [], length, IfSome, None};
-ghost use Rattle.httparse.specs.Grammar.{ResponseHead, ReadsResponse, status_code};
+ghost use Rattle.std.specs.Prelude.{◌≡◌, ◌≤◌, length, IfSome, None};
+ghost use Rattle.httparse.specs.Grammar.{status_code};
 ghost use Rattle.connect_port.specs.Replies.{is_ended, HasHead, HasNoHead, Means};
 
 use crate::refusal::ConnectEnd;

@@ -19,7 +19,7 @@ pub struct ConnectTalk {
 }
 
 impl Model for ConnectTalk {
-    ghost use Rattle.std.specs.Prelude.{◌≤◌, vec_len, vec_capacity};
+    ghost use Rattle.std.specs.Prelude.{◌≤◌, vec_capacity};
     ghost use Rattle.connect_port.specs.Replies.{ConnectState};
 
     ghost Value = { ConnectState };

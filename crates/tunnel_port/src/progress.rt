@@ -1,9 +1,9 @@
 // How a talk goes on over the port beneath, as far as that lets it.
-ghost use Rattle.std.specs.Prelude.{◌≡◌, ◌<◌, ◌≤◌, ◌+◌, ◌⊎◌, Bool, true, false, [], length, take, option_map, None, IfSome, is_some};
-ghost use Rattle.port_trait.specs.Counting.{Grew, Rose};
+ghost use Rattle.std.specs.Prelude.{◌≡◌, ◌<◌, ◌≤◌, ◌+◌, true, false, length, take, None, IfSome};
+ghost use Rattle.port_trait.specs.Counting.{Grew};
 ghost use Rattle.port_trait.specs.declared.answers.Settled.TheVariants as settles;
 ghost use Rattle.tunnel_port.specs.declared.stage.Stage.TheVariants as stages;
-ghost use Rattle.tunnel_port.specs.Talks.{is_passed, is_over, IsOnly, Told, behind_talk, InTalk, IsJudged, HasCause, StillHears, Paused, nothing_of};
+ghost use Rattle.tunnel_port.specs.Talks.{is_passed, is_over, IsOnly, behind_talk, InTalk, IsJudged, HasCause, StillHears, Paused, nothing_of};
 
 use crate::stage::Stage;
 use crate::talk::{Heard, Talk};
