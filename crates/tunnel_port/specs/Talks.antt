@@ -1,0 +1,122 @@
+-- How far a talk at the front of a port has come, and what the port beneath gave and took of it.
+use Rattle.std.specs.Prelude.{◌≡◌, ℕ, ◌<◌, ◌≤◌, ◌⊎◌, Bool, true, false, List, [], ◌++◌, length, take, drop, Option, option_map}
+use Rattle.port_trait.specs.declared.answers.Settled.{Settled}
+use Rattle.port_trait.specs.declared.answers.Settled.TheVariants as settles
+use Rattle.port_trait.specs.declared.answers.Got.{Got}
+use Rattle.port_trait.specs.declared.answers.Got.TheVariants as reads
+use Rattle.port_trait.specs.declared.answers.Took.{Took as WriteAnswer}
+use Rattle.port_trait.specs.declared.answers.Took.TheVariants as writes
+use Rattle.port_trait.specs.declared.counts.Counts.{Counts}
+use Rattle.port_trait.specs.Counting.{Rose}
+use Rattle.tunnel_port.specs.declared.stage.Stage.{Stage}
+use Rattle.tunnel_port.specs.declared.stage.Stage.TheVariants as stages
+use Rattle.tunnel_port.specs.declared.talk.Heard.{Heard}
+use Rattle.tunnel_port.specs.declared.talk.Heard.TheVariants as hearing
+
+abbrev pub is_passed : Stage → Bool
+is_passed stages.Joining = false
+is_passed stages.Talking = false
+is_passed stages.Passed = true
+is_passed stages.Faulted = false
+is_passed stages.Refused = false
+is_passed stages.Cut = false
+
+-- whether the talk has come to an end, well or badly
+abbrev pub is_over : Stage → Bool
+is_over stages.Joining = false
+is_over stages.Talking = false
+is_over stages.Passed = true
+is_over stages.Faulted = true
+is_over stages.Refused = true
+is_over stages.Cut = true
+
+abbrev pub settled_at : Stage → Settled
+settled_at stages.Joining = settles.NotYet
+settled_at stages.Talking = settles.NotYet
+settled_at stages.Passed = settles.Ready
+settled_at stages.Faulted = settles.Failed
+settled_at stages.Refused = settles.Failed
+settled_at stages.Cut = settles.Failed
+
+-- what a read and a write answer that come before the request is granted
+abbrev pub read_at : Stage → Got
+read_at stages.Joining = reads.NotYet
+read_at stages.Talking = reads.NotYet
+read_at stages.Passed = reads.NotYet
+read_at stages.Faulted = reads.Failed
+read_at stages.Refused = reads.Failed
+read_at stages.Cut = reads.Failed
+
+abbrev pub write_at : Stage → WriteAnswer
+write_at stages.Joining = writes.NotYet
+write_at stages.Talking = writes.NotYet
+write_at stages.Passed = writes.NotYet
+write_at stages.Faulted = writes.Failed
+write_at stages.Refused = writes.Failed
+write_at stages.Cut = writes.Failed
+
+-- what is told is this and nothing else
+abbrev pub IsOnly : List ℕ → Option (List ℕ) → Type 0
+IsOnly part told = told ≡ option_map (λ _. part) told
+
+-- what is told behind its first bytes, of which there are as many as here
+abbrev pub rest_behind : List ℕ → Option (List ℕ) → Option (List ℕ)
+rest_behind part told = option_map (λ all. drop (length part) all) told
+
+-- what is told is this part and then the rest
+abbrev pub Follows : List ℕ → Option (List ℕ) → Option (List ℕ) → Type 0
+Follows part told rest = told ≡ option_map (λ bytes. part ++ bytes) rest
+
+-- what is told begins so
+abbrev pub Begins : List ℕ → Option (List ℕ) → Type 0
+Begins part told = Follows part told (rest_behind part told)
+
+-- as long as the talk goes on what is told is its part of it, and then it begins with that
+abbrev pub Told : Bool → List ℕ → Option (List ℕ) → Type 0
+Told true part told = Begins part told
+Told false part told = IsOnly part told
+
+-- what is told, without its bytes
+abbrev pub nothing_of : Option (List ℕ) → Option (List ℕ)
+nothing_of told = option_map (λ _. []) told
+
+-- what was given or taken of what follows the talk
+abbrev pub behind_talk : Bool → List ℕ → Option (List ℕ) → Option (List ℕ)
+behind_talk true part told = rest_behind part told
+behind_talk false part told = nothing_of told
+
+-- the port beneath took the first bytes of the request, and gave the bytes that were heard. Nothing else went
+-- through it before the request was granted
+pub record InTalk (took gave : Option (List ℕ)) (asks heard : List ℕ) (said : ℕ) (stage : Stage) : Type 0 where
+  pub within : said ≤ length asks
+  pub whole : is_passed stage ≡ true → said ≡ length asks
+  pub asked : Told (is_passed stage) (take said asks) took
+  pub answered : Told (is_passed stage) heard gave
+
+-- the reply goes on, and has fewer bytes than it may have
+abbrev pub StillHears : (Heard → Type 0) → List ℕ → ℕ → Type 0
+StillHears judges heard limit = (length heard < limit) × ((heard ≡ []) ⊎ judges hearing.More)
+
+-- what stands by the bytes that were heard
+abbrev pub IsJudged : (Heard → Type 0) → List ℕ → ℕ → Stage → Type 0
+IsJudged judges heard limit stages.Passed = judges hearing.Granted
+IsJudged judges heard limit stages.Refused = judges hearing.Refused
+IsJudged judges heard limit stages.Joining = StillHears judges heard limit
+IsJudged judges heard limit stages.Talking = StillHears judges heard limit
+IsJudged judges heard limit stages.Faulted = StillHears judges heard limit
+IsJudged judges heard limit stages.Cut = StillHears judges heard limit
+
+-- the cause of each stage that a settling came to, by the counts of the port beneath
+abbrev pub HasCause : Stage → Counts → Counts → Type 0
+HasCause stages.Joining before now = Rose before.stalls now.stalls
+HasCause stages.Talking before now = Rose before.stalls now.stalls
+HasCause stages.Passed before now = Unit {0}
+HasCause stages.Faulted before now = Rose before.faults now.faults
+HasCause stages.Refused before now = Unit {0}
+HasCause stages.Cut before now = Rose before.ends now.ends ⊎ Rose before.empties now.empties
+
+-- what kept the request from being written
+abbrev pub Paused : Settled → Counts → Counts → Type 0
+Paused settles.Ready before now = Unit {0}
+Paused settles.NotYet before now = Rose before.stalls now.stalls
+Paused settles.Failed before now = Rose before.faults now.faults

@@ -1,0 +1,294 @@
+// The port behind a talk.
+ghost use Rattle.std.specs.Prelude.{◌≡◌, ◌<◌, true, false, [], length, IfSome};
+ghost use Rattle.port_trait.specs.Counting.{Tallied};
+ghost use Rattle.port_trait.specs.Hinting.{StaysHinting, no_hint};
+ghost use Rattle.port_trait.specs.Meanings.{Gives, Accepts, AcceptsAll, ReapsChild, begun_after, is_end, begin_event, settle_event, read_event, write_event, shut_event, join_answer};
+ghost use Rattle.port_trait.specs.declared.answers.Begun.TheVariants as begins;
+ghost use Rattle.port_trait.specs.declared.answers.Took.TheVariants as writes;
+ghost use Rattle.tunnel_port.specs.Talks.{is_passed, is_over, settled_at, read_at, write_at, IsOnly, behind_talk, InTalk, IsJudged, HasCause};
+ghost use Rattle.tunnel_port.specs.Tunnels.{fresh_tunnel, counted, hints_told};
+
+use crate::counting::{
+    count_beginning, count_reading, count_settling, count_shutting, count_writing, is_end,
+};
+use crate::progress::go_on;
+use crate::stage::Stage;
+use crate::talk::Talk;
+use port_trait::{Begun, Counts, Got, Hint, Joining, Port, PortReap, Settled, Shutting, Took};
+use relay_model::Shut;
+use std::marker::Model;
+
+/// A port whose first bytes are a talk over the port beneath. Until the reply has granted the request nothing
+/// else goes through; then each call is that call on the port beneath. Each answer is counted here, once.
+#[derive(Drop)]
+pub struct TunnelPort<P: Port, T: Talk> {
+    inner: P,
+    talk: T,
+    said: usize,
+    stage: Stage,
+    counts: Counts,
+    ended: bool,
+}
+
+impl<P: Port, T: Talk> Model for TunnelPort<P, T> {
+    ghost use Rattle.tunnel_port.specs.Tunnels.{TunnelState};
+
+    ghost Value = { TunnelState P T };
+
+    ghost use Rattle.tunnel_port.specs.Talks.{InTalk, IsJudged};
+
+    ghost view = { λ port. record { inner = port.inner; talk = port.talk; said = port.said; stage = port.stage; counts = port.counts; ended = port.ended } };
+
+    ghost invariant = { λ port. InTalk (P.took port.inner) (P.gave port.inner) (T.asks port.talk) (T.heard port.talk) port.said port.stage × IsJudged (T.judges port.talk) (T.heard port.talk) T.limit port.stage };
+}
+
+impl<P: Port, T: Talk> TunnelPort<P, T> {
+    /// The port behind this talk, of which nothing was said or heard yet. Nothing went through the port beneath.
+    pub fn new(inner: P, talk: T) -> TunnelPort<P, T>
+        requires untaken { IsOnly [] (P.took inner) }
+        requires ungiven { IsOnly [] (P.gave inner) }
+        requires unheard { T.heard talk ≡ [] }
+        requires room { 0 < T.limit }
+        ensures { result ≡ fresh_tunnel inner talk }
+    {
+        TunnelPort {
+            inner,
+            talk,
+            said: 0,
+            stage: Stage::Joining,
+            counts: Counts::new(),
+            ended: false,
+        }
+    }
+
+    /// How far the talk has come.
+    pub fn stage(&self) -> Stage
+        ensures stage { result ≡ self.now.stage }
+        ensures talk { InTalk (P.took self.now.inner) (P.gave self.now.inner) (T.asks self.now.talk) (T.heard self.now.talk) self.now.said self.now.stage }
+        ensures judged { IsJudged (T.judges self.now.talk) (T.heard self.now.talk) T.limit self.now.stage }
+    {
+        self.stage
+    }
+
+    /// The talk.
+    pub fn talk(&self) -> &T
+        ensures { result.now ≡ self.now.talk }
+    {
+        &self.talk
+    }
+
+    /// The port beneath.
+    pub fn inner(&self) -> &P
+        ensures { result.now ≡ self.now.inner }
+    {
+        &self.inner
+    }
+}
+
+impl<P: Port, T: Talk> Port for TunnelPort<P, T> {
+    ghost gave = { λ port. behind_talk (is_passed port.stage) (T.heard port.talk) (P.gave port.inner) };
+
+    ghost took = { λ port. behind_talk (is_passed port.stage) (T.asks port.talk) (P.took port.inner) };
+
+    ghost hints = { λ port. hints_told (P.hinting port.inner) (P.hints port.inner) };
+
+    ghost hinting = { λ port. P.hinting port.inner };
+
+    ghost counts = { λ port. port.counts };
+
+    ghost begun = { λ port. P.begun port.inner };
+
+    ghost ended = { λ port. port.ended };
+
+    ghost joins = { λ port. P.joins port.inner };
+
+    ghost child = { λ port. P.child port.inner };
+
+    /// Begins the port beneath.
+    #[tactic(auto, using(crate::proofs::Passing::talk_kept, crate::proofs::Hints::stays))]
+    fn begin(&mut self) -> Begun
+        ensures again { P.begun self.old.inner ≡ true → (result ≡ begins.Begun) × (self.new ≡ self.old) }
+        ensures begun { P.begun self.new.inner ≡ begun_after (P.begun self.old.inner) result }
+        ensures beneath { (P.gave self.new.inner ≡ P.gave self.old.inner) × (P.took self.new.inner ≡ P.took self.old.inner) }
+        ensures kept { self.new ≡ record self.old { inner = self.new.inner; counts = self.new.counts } }
+        ensures hinting { StaysHinting (P.hinting self.old.inner) (P.hinting self.new.inner) (hints_told (P.hinting self.new.inner) (P.hints self.new.inner)) }
+        ensures counted { self.new.counts ≡ counted (begin_event result) self.old.counts }
+        ensures counts { Tallied (begin_event result) self.old.counts self.new.counts }
+    {
+        let begun = self.inner.begin();
+        count_beginning(&mut self.counts, begun);
+        begun
+    }
+
+    /// Settles the port beneath, and then goes on with the talk as far as that port lets it. It is ready once the
+    /// reply has granted the request; after a failure each further call fails.
+    #[tactic(auto, using(crate::proofs::Hints::stays))]
+    fn settle(&mut self) -> Settled
+        ensures answer { result ≡ settled_at self.new.stage }
+        ensures cause { is_over self.old.stage ≡ false → HasCause self.new.stage (P.counts self.old.inner) (P.counts self.new.inner) }
+        ensures over { is_over self.old.stage ≡ true → self.new ≡ record self.old { counts = self.new.counts } }
+        ensures talk { InTalk (P.took self.new.inner) (P.gave self.new.inner) (T.asks self.new.talk) (T.heard self.new.talk) self.new.said self.new.stage }
+        ensures judged { IsJudged (T.judges self.new.talk) (T.heard self.new.talk) T.limit self.new.stage }
+        ensures asks { T.asks self.new.talk ≡ T.asks self.old.talk }
+        ensures took { behind_talk (is_passed self.new.stage) (T.asks self.new.talk) (P.took self.new.inner) ≡ behind_talk (is_passed self.old.stage) (T.asks self.old.talk) (P.took self.old.inner) }
+        ensures gave { behind_talk (is_passed self.new.stage) (T.heard self.new.talk) (P.gave self.new.inner) ≡ behind_talk (is_passed self.old.stage) (T.heard self.old.talk) (P.gave self.old.inner) }
+        ensures kept { (P.begun self.new.inner ≡ P.begun self.old.inner) × (P.child self.new.inner ≡ P.child self.old.inner) × (self.new.ended ≡ self.old.ended) }
+        ensures hinting { StaysHinting (P.hinting self.old.inner) (P.hinting self.new.inner) (hints_told (P.hinting self.new.inner) (P.hints self.new.inner)) }
+        ensures counted { self.new.counts ≡ counted (settle_event result) self.old.counts }
+        ensures counts { Tallied (settle_event result) self.old.counts self.new.counts }
+    {
+        self.stage = go_on(&mut self.inner, &mut self.talk, &mut self.said, self.stage);
+        let settled = self.stage.settled();
+        count_settling(&mut self.counts, settled);
+        settled
+    }
+
+    /// Reads what lies behind the reply.
+    #[tactic(auto, using(crate::proofs::Passing::talk_given, crate::proofs::Hints::stays))]
+    fn read(&mut self, into: &mut [u8]) -> Got
+        requires { 0 < length into.old }
+        ensures barred { is_passed self.old.stage ≡ false → (result ≡ read_at self.old.stage) × (self.new ≡ record self.old { counts = self.new.counts; ended = false }) }
+        ensures beneath { is_passed self.old.stage ≡ true → Gives (P.gave self.old.inner) (P.gave self.new.inner) into.new result × Tallied (read_event result) (P.counts self.old.inner) (P.counts self.new.inner) }
+        ensures talk { InTalk (P.took self.new.inner) (P.gave self.new.inner) (T.asks self.new.talk) (T.heard self.new.talk) self.new.said self.new.stage }
+        ensures gives { Gives (behind_talk (is_passed self.old.stage) (T.heard self.old.talk) (P.gave self.old.inner)) (behind_talk (is_passed self.new.stage) (T.heard self.new.talk) (P.gave self.new.inner)) into.new result }
+        ensures ended { self.new.ended ≡ is_end result }
+        ensures kept { self.new ≡ record self.old { inner = self.new.inner; counts = self.new.counts; ended = self.new.ended } }
+        ensures same { (P.took self.new.inner ≡ P.took self.old.inner) × (P.begun self.new.inner ≡ P.begun self.old.inner) × (P.child self.new.inner ≡ P.child self.old.inner) }
+        ensures hinting { StaysHinting (P.hinting self.old.inner) (P.hinting self.new.inner) (hints_told (P.hinting self.new.inner) (P.hints self.new.inner)) }
+        ensures counted { self.new.counts ≡ counted (read_event result) self.old.counts }
+        ensures counts { Tallied (read_event result) self.old.counts self.new.counts }
+    {
+        if !self.stage.is_passed() {
+            let got = self.stage.barred_read();
+            self.ended = false;
+            count_reading(&mut self.counts, got);
+            return got;
+        }
+        let got = self.inner.read(into);
+        self.ended = is_end(got);
+        count_reading(&mut self.counts, got);
+        got
+    }
+
+    /// Writes behind the request.
+    #[tactic(auto, using(crate::proofs::Passing::talk_accepted, crate::proofs::Hints::stays))]
+    fn write(&mut self, bytes: &[u8]) -> Took
+        requires { 0 < length bytes.now }
+        ensures barred { is_passed self.old.stage ≡ false → (result ≡ write_at self.old.stage) × (self.new ≡ record self.old { counts = self.new.counts }) }
+        ensures beneath { is_passed self.old.stage ≡ true → Accepts (P.took self.old.inner) (P.took self.new.inner) bytes.now result × Tallied (write_event result) (P.counts self.old.inner) (P.counts self.new.inner) }
+        ensures talk { InTalk (P.took self.new.inner) (P.gave self.new.inner) (T.asks self.new.talk) (T.heard self.new.talk) self.new.said self.new.stage }
+        ensures accepts { Accepts (behind_talk (is_passed self.old.stage) (T.asks self.old.talk) (P.took self.old.inner)) (behind_talk (is_passed self.new.stage) (T.asks self.new.talk) (P.took self.new.inner)) bytes.now result }
+        ensures kept { self.new ≡ record self.old { inner = self.new.inner; counts = self.new.counts } }
+        ensures same { (P.gave self.new.inner ≡ P.gave self.old.inner) × (P.begun self.new.inner ≡ P.begun self.old.inner) × (P.child self.new.inner ≡ P.child self.old.inner) }
+        ensures hinting { StaysHinting (P.hinting self.old.inner) (P.hinting self.new.inner) (hints_told (P.hinting self.new.inner) (P.hints self.new.inner)) }
+        ensures counted { self.new.counts ≡ counted (write_event result) self.old.counts }
+        ensures counts { Tallied (write_event result) self.old.counts self.new.counts }
+    {
+        if !self.stage.is_passed() {
+            let took = self.stage.barred_write();
+            count_writing(&mut self.counts, took);
+            return took;
+        }
+        let took = self.inner.write(bytes);
+        count_writing(&mut self.counts, took);
+        took
+    }
+
+    /// There are no packets behind a talk.
+    #[tactic(auto, using(crate::proofs::Hints::stays))]
+    fn send(&mut self, _bytes: &[u8]) -> Took
+        ensures failed { result ≡ writes.Failed }
+        ensures kept { self.new ≡ record self.old { counts = self.new.counts } }
+        ensures counted { self.new.counts ≡ counted (write_event result) self.old.counts }
+        ensures hinting { StaysHinting (P.hinting self.old.inner) (P.hinting self.new.inner) (hints_told (P.hinting self.new.inner) (P.hints self.new.inner)) }
+        ensures counts { Tallied (write_event result) self.old.counts self.new.counts }
+    {
+        let took = Took::Failed;
+        count_writing(&mut self.counts, took);
+        took
+    }
+
+    /// Writes all bytes behind the request. It fails before the request is granted.
+    #[tactic(auto, using(crate::proofs::Passing::talk_accepted_all, crate::proofs::Hints::stays))]
+    fn put_all(&mut self, bytes: &[u8]) -> Took
+        ensures barred { is_passed self.old.stage ≡ false → (result ≡ writes.Failed) × (self.new ≡ record self.old { counts = self.new.counts }) }
+        ensures beneath { is_passed self.old.stage ≡ true → AcceptsAll (P.took self.old.inner) (P.took self.new.inner) bytes.now result × Tallied (write_event result) (P.counts self.old.inner) (P.counts self.new.inner) }
+        ensures talk { InTalk (P.took self.new.inner) (P.gave self.new.inner) (T.asks self.new.talk) (T.heard self.new.talk) self.new.said self.new.stage }
+        ensures accepts { AcceptsAll (behind_talk (is_passed self.old.stage) (T.asks self.old.talk) (P.took self.old.inner)) (behind_talk (is_passed self.new.stage) (T.asks self.new.talk) (P.took self.new.inner)) bytes.now result }
+        ensures kept { self.new ≡ record self.old { inner = self.new.inner; counts = self.new.counts } }
+        ensures same { (P.gave self.new.inner ≡ P.gave self.old.inner) × (P.begun self.new.inner ≡ P.begun self.old.inner) × (P.child self.new.inner ≡ P.child self.old.inner) }
+        ensures hinting { StaysHinting (P.hinting self.old.inner) (P.hinting self.new.inner) (hints_told (P.hinting self.new.inner) (P.hints self.new.inner)) }
+        ensures counted { self.new.counts ≡ counted (write_event result) self.old.counts }
+        ensures counts { Tallied (write_event result) self.old.counts self.new.counts }
+    {
+        if !self.stage.is_passed() {
+            let took = Took::Failed;
+            count_writing(&mut self.counts, took);
+            return took;
+        }
+        let took = self.inner.put_all(bytes);
+        count_writing(&mut self.counts, took);
+        took
+    }
+
+    /// Shuts the port beneath.
+    #[tactic(auto, using(crate::proofs::Passing::talk_kept, crate::proofs::Hints::stays))]
+    fn shut(&mut self, how: Shut) -> Shutting
+        ensures beneath { Tallied (shut_event result) (P.counts self.old.inner) (P.counts self.new.inner) }
+        ensures kept { self.new ≡ record self.old { inner = self.new.inner; counts = self.new.counts } }
+        ensures same { (P.gave self.new.inner ≡ P.gave self.old.inner) × (P.took self.new.inner ≡ P.took self.old.inner) × (P.begun self.new.inner ≡ P.begun self.old.inner) × (P.child self.new.inner ≡ P.child self.old.inner) }
+        ensures hinting { StaysHinting (P.hinting self.old.inner) (P.hinting self.new.inner) (hints_told (P.hinting self.new.inner) (P.hints self.new.inner)) }
+        ensures counted { self.new.counts ≡ counted (shut_event result) self.old.counts }
+        ensures counts { Tallied (shut_event result) self.old.counts self.new.counts }
+    {
+        let shutting = self.inner.shut(how);
+        count_shutting(&mut self.counts, shutting);
+        shutting
+    }
+
+    /// What the port beneath hints.
+    #[tactic(auto, using(crate::proofs::Passing::talk_kept, crate::proofs::Hints::stays))]
+    fn hint(&mut self) -> Hint
+        ensures hinted { IfSome (P.hints self.old.inner) (λ hint. result ≡ hint) }
+        ensures unready { P.hinting self.old.inner ≡ false → result ≡ no_hint }
+        ensures kept { self.new ≡ record self.old { inner = self.new.inner } }
+        ensures same { (P.gave self.new.inner ≡ P.gave self.old.inner) × (P.took self.new.inner ≡ P.took self.old.inner) × (P.hints self.new.inner ≡ P.hints self.old.inner) × (P.counts self.new.inner ≡ P.counts self.old.inner) × (P.begun self.new.inner ≡ P.begun self.old.inner) × (P.joins self.new.inner ≡ P.joins self.old.inner) × (P.child self.new.inner ≡ P.child self.old.inner) }
+        ensures hinting { StaysHinting (P.hinting self.old.inner) (P.hinting self.new.inner) (hints_told (P.hinting self.new.inner) (P.hints self.new.inner)) }
+    {
+        self.inner.hint()
+    }
+
+    fn may_hint(&self) -> bool
+        ensures { result ≡ P.hinting self.now.inner }
+    {
+        self.inner.may_hint()
+    }
+
+    fn has_child(&self) -> bool
+        ensures { result ≡ P.child self.now.inner }
+    {
+        self.inner.has_child()
+    }
+
+    /// Reaps the child of the port beneath.
+    #[tactic(auto, using(crate::proofs::Passing::talk_kept, crate::proofs::Hints::stays))]
+    fn reap(&mut self) -> PortReap
+        ensures reaped { ReapsChild (P.child self.old.inner) result }
+        ensures kept { self.new ≡ record self.old { inner = self.new.inner } }
+        ensures same { (P.gave self.new.inner ≡ P.gave self.old.inner) × (P.took self.new.inner ≡ P.took self.old.inner) × (P.begun self.new.inner ≡ P.begun self.old.inner) × (P.child self.new.inner ≡ P.child self.old.inner) }
+        ensures hinting { StaysHinting (P.hinting self.old.inner) (P.hinting self.new.inner) (hints_told (P.hinting self.new.inner) (P.hints self.new.inner)) }
+    {
+        self.inner.reap()
+    }
+
+    /// Joins the port beneath.
+    #[tactic(auto, using(crate::proofs::Passing::talk_kept, crate::proofs::Hints::stays))]
+    fn join(&mut self) -> Joining
+        ensures joined { result ≡ join_answer (P.joins self.old.inner) }
+        ensures kept { self.new ≡ record self.old { inner = self.new.inner } }
+        ensures same { (P.gave self.new.inner ≡ P.gave self.old.inner) × (P.took self.new.inner ≡ P.took self.old.inner) × (P.begun self.new.inner ≡ P.begun self.old.inner) × (P.joins self.new.inner ≡ P.joins self.old.inner) × (P.child self.new.inner ≡ P.child self.old.inner) }
+        ensures hinting { StaysHinting (P.hinting self.old.inner) (P.hinting self.new.inner) (hints_told (P.hinting self.new.inner) (P.hints self.new.inner)) }
+    {
+        self.inner.join()
+    }
+}
