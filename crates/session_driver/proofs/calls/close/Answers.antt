@@ -16,7 +16,7 @@ returns g c = (
     heard = λ n past s st. heard_as _ n past s _ _ _ _ c.requires.wish (c.heard.ensures.act c.args.config.now n past s st);
     own = λ n past s st. tt;
     here = λ n past s st. at_own _ s c.args.place _ (λ p. refl) refl (own_by _ n past s _ _ st c.requires.wish);
-    closes = closes_as _ _ _ c.requires.wish refl;
+    closes = closes_as _ _ c.args.session.now c.requires.wish refl;
     no_turn = record { turns_same = λ past. refl; stops_same = λ past. refl };
     rose = record { later = c.close.ensures.faults; rose = λ e. absurd (false≢true e) };
     blameless = λ e past. refl;
