@@ -22,7 +22,7 @@ pub fn listen<W: World>(
     config: &Config,
     now: u64,
 ) -> DoorStepped
-    requires free { W.held world.old the_door ≡ Free }
+    requires { W.held world.old the_door ≡ Free }
     ensures { DoorStepIs config.now (λ n past. WishFor config.now n past now wishes.Listen door.old) (seen W.told W.held W.faults W.waits W.stops W.clock world.old) (seen W.told W.held W.faults W.waits W.stops W.clock world.new) door.old door.new result }
 {
     let place = program_door();

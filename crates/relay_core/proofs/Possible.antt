@@ -313,7 +313,7 @@ failed true old e = refl
 failed false old e = e
 
 -- once a program was closed, it is held no more and its session is over
-child_over : (c : Config) (n : ℕ) (past : List Act) (p : Place) → Fit c → is_of c p.session p ≡ true → is_program (medium_of c p) ≡ true → Legal c n past → was_closed past p ≡ true → Over c past p
+pub child_over : (c : Config) (n : ℕ) (past : List Act) (p : Place) → Fit c → is_of c p.session p ≡ true → is_program (medium_of c p) ≡ true → Legal c n past → was_closed past p ≡ true → Over c past p
 child_over c n [] p fit own program legal e = absurd (false≢true e)
 child_over c n (Opened q ∷ past) p fit own program legal e =
     let ih = child_over c n past p fit own program legal.1 e in
