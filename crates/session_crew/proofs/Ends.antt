@@ -9,14 +9,14 @@ use Rattle.relay_model.specs.declared.acts.Act.{Act}
 use Rattle.relay_model.specs.declared.acts.Act.TheVariants as acts
 use Rattle.relay_model.specs.Places.{same_place}
 use Rattle.std.specs.List.{list_any}
-use Rattle.relay_model.specs.Choices.{only_if, first_some, some_below}
-use Rattle.relay_model.specs.Configs.{has_fork, program_door, is_program_door}
+use Rattle.relay_model.specs.Choices.{only_if, or_else, first_some, some_below}
+use Rattle.relay_model.specs.Configs.{has_fork, program_door, is_program_door, own_doors}
 use Rattle.relay_model.specs.History.{turns, memory_said, stop_said, same_why, is_gone_with, accept_failed, stage, held, served, failures, Stage, Usable, Unsettled, Failed, Met, Waiting, Gone}
 use Rattle.relay_model.specs.Sessions.{admitted, holds, live, numbers, next_place}
 use Rattle.relay_model.specs.Openings.{Refuse, out_of_tries}
 use Rattle.relay_model.specs.Cause.{cause}
 use Rattle.relay_model.specs.Calls.{called_at, door_cut}
-use Rattle.relay_model.specs.Outcome.{Outcome, Memory, Stopped, AcceptFailed, outcome, outcome_by, outcome_of_sessions, program_doors, failed_listening, holds_something}
+use Rattle.relay_model.specs.Outcome.{Outcome, Memory, Stopped, AcceptFailed, ListenFailed, Ended, outcome, outcome_by, outcome_of_sessions, program_doors, failed_listening, holds_something}
 use Rattle.relay_model.specs.May.{Legal, Licensed, by_cause, by_refusal, by_service, by_door, by_memory, by_turns, DoorEnds, for_memory, for_stop, for_accept}
 use Rattle.relay_model.specs.Laws.{DoorTells}
 use Rattle.legal_steps.proofs.PlaceLemmas.{same_place_equal}
@@ -150,4 +150,11 @@ told_outcome c n past answer legal fork done none told =
         let v = is_served c n past legal fork done u k.0 in
         let d = none_live c past fork none in
         let o = k.0 in let e = k.1 in
-        rw (em, et, fork, ea, o, v, d, e) refl
+        let last : outcome_of_sessions c past ≡ Some (Ended whys.Served) = λ i. only_if (v i && not (d i)) (Ended whys.Served) in
+        let ma : only_if (memory_said past) Memory ≡ None = ap (λ b. only_if b Memory) em in
+        let st : only_if (stop_said past) (Stopped (turns past)) ≡ None = ap (λ b. only_if b (Stopped (turns past))) et in
+        let ac : only_if (list_any (accept_failed past) (program_doors c)) AcceptFailed ≡ None = (λ i. only_if (list_any (accept_failed past) (cond (fork i) (program_door ∷ []) (own_doors c 0))) AcceptFailed) ∙ ap (λ b. only_if (b || false) AcceptFailed) ea in
+        let li : failed_listening c past (program_doors c) ≡ None =
+            (λ i. failed_listening c past (cond (fork i) (program_door ∷ []) (own_doors c 0)))
+            ∙ ap (λ b. or_else (only_if b (ListenFailed (length (failures past program_door)))) None) o in
+        (λ i. first_some (ma i ∷ st i ∷ ac i ∷ li i ∷ cond (fork i) (last i) (outcome_by c past (cause c past 0)) ∷ [])) ∙ ap Some (sym e)

@@ -62,22 +62,19 @@ no_wait_before c past m (inr w) = not_before (session_work c past w.0) (now past
 -- the number below the bound of which the test holds
 found : (test : ℕ → Bool) (k : ℕ) → some_below test k ≡ true → (s : ℕ) × (s < k) × (test s ≡ true)
 found test zero e = let x : ⊥ = cc in absurd x
-found test (suc k) e = go (test k) refl e
+found test (suc k) e = go (test k) refl e (found test k)
   where
-    go : (b : Bool) → test k ≡ b → (b || some_below test k) ≡ true → (s : ℕ) × (s < suc k) × (test s ≡ true)
-    go true h f = (k, omega arith, h)
-    go false h f = let r = found test k f in let below = r.1 in (r.0, omega (arith, below), r.2)
+    go : (b : Bool) → test k ≡ b → (b || some_below test k) ≡ true → (some_below test k ≡ true → (s : ℕ) × (s < k) × (test s ≡ true)) → (s : ℕ) × (s < suc k) × (test s ≡ true)
+    go true h f ih = (k, omega arith, h)
+    go false h f ih = let r = ih f in let below = r.1 in (r.0, omega (arith, below), r.2)
 
 none_found : (test : ℕ → Bool) (k : ℕ) → some_below test k ≡ false → (s : ℕ) → s < k → test s ≡ false
 none_found test zero e s h = absurd (omega (arith, h))
-none_found test (suc k) e s h = go (cases_lt s k)
+none_found test (suc k) e s h = let parts = or_parts (test k) (some_below test k) e in go (cases_lt s k) parts.0 (none_found test k parts.1 s)
   where
-    parts : (test k ≡ false) × (some_below test k ≡ false)
-    parts = or_parts (test k) (some_below test k) e
-
-    go : (s < k) ⊎ (k ≤ s) → test s ≡ false
-    go (inl below) = none_found test k parts.1 s below
-    go (inr above) = let same : s ≡ k = omega (arith, h, above) in ap test same ∙ parts.0
+    go : (s < k) ⊎ (k ≤ s) → test k ≡ false → (s < k → test s ≡ false) → test s ≡ false
+    go (inl below) here ih = ih below
+    go (inr above) here ih = let same : s ≡ k = omega (arith, h, above) in ap test same ∙ here
 
 waits_now : (c : Config) (past : List Act) → works c past ≡ true → WaitsUntil c past (now past)
 waits_now c past w = go (accepts (door_call c past)) refl w
