@@ -1,0 +1,5 @@
+// The loop of a command with `fork`: the program door and the session of each peer, over one world.
+#![tactic(auto)]
+
+mod crews;
+mod rows;
