@@ -96,6 +96,7 @@ row_sleeps c old new t before after until d = (
       },
   subst IsAsleep (sym d.has) (until, d.paused.0),
   d.others,
+  d.admitted_same,
 )
 
 -- a session that is done holds nothing
@@ -124,6 +125,7 @@ row_done c old new t before mid after d same gone stay = (
       },
   subst IsAsleep (sym gone) tt,
   λ s apart. stay s apart ∙ d.others s apart,
+  same.admitted_same ∙ d.admitted_same,
 )
 
 pub row_spreads : (c : Config) (old new : Seen) (t : ℕ) (why : Why) (before after : Crew) → DrainsRow c old new t before after (pauses.Spreads why) → RowRuns c old new t before after (Some why)

@@ -1,5 +1,5 @@
 -- What the loop keeps true, of some history that all that it drives stands for.
-use Rattle.std.specs.Prelude.{◌≡◌, ◌≢◌, ℕ, ◌<◌, Bool, true, false, List, Option, Some, None}
+use Rattle.std.specs.Prelude.{◌≡◌, ◌≢◌, ℕ, ◌<◌, Bool, true, false, List, Option, Some, None, is_some}
 use Rattle.relay_model.specs.declared.acts.Act.{Act}
 use Rattle.relay_model.specs.declared.acts.Why.{Why}
 use Rattle.relay_model.specs.declared.commands.Config.{Config}
@@ -117,5 +117,24 @@ pub record RowSpreads (c : Config) (n : ℕ) (start now : Seen) (t : ℕ) (why :
 
 -- the session of this number waits or is gone, or wishes for a closing that ends every session
 abbrev pub RowRuns : Config → Seen → Seen → ℕ → Crew → Crew → Option Why → Type 0
-RowRuns c old new t before after None = Keeps c old new before after × IsAsleep (row_of after.table t) × OthersStay t before after
+RowRuns c old new t before after None = Keeps c old new before after × IsAsleep (row_of after.table t) × OthersStay t before after × (after.table.admitted ≡ before.table.admitted)
 RowRuns c old new t before after (Some why) = ((n : ℕ) (start : Seen) (past : List Act) → Course c n start old past before → RowSpreads c n start new t why after) × OthersStay t before after
+
+-- every session waits
+abbrev pub AllAsleep : Crew → Type 0
+AllAsleep crew = (s : ℕ) → IsAsleep (row_of crew.table s)
+
+-- those before the next one do
+abbrev pub AsleepUpTo : Option ℕ → Crew → Type 0
+AsleepUpTo None crew = AllAsleep crew
+AsleepUpTo (Some k) crew = (is_some (row_of crew.table k) ≡ true) × ((s : ℕ) → s < k → IsAsleep (row_of crew.table s))
+
+-- some session wishes for a closing that ends every session
+pub record SomeSpreads (c : Config) (n : ℕ) (start now : Seen) (why : Why) (crew : Crew) : Type 0 where
+  pub t : ℕ
+  pub spreads : RowSpreads c n start now t why crew
+
+-- every session waits, or one wishes for a closing that ends every session
+abbrev pub AllRun : Config → Seen → Seen → Crew → Crew → Option Why → Type 0
+AllRun c old new before after None = Keeps c old new before after × AllAsleep after
+AllRun c old new before after (Some why) = (n : ℕ) (start : Seen) (past : List Act) → Course c n start old past before → SomeSpreads c n start new why after

@@ -1,7 +1,7 @@
-// One session of the loop, between two turns.
-ghost use Rattle.std.specs.Prelude.{◌≡◌, true, is_some};
+// The sessions of the loop between two turns, one after another.
+ghost use Rattle.std.specs.Prelude.{◌≡◌, ◌<◌, ◌+◌, true, is_some};
 ghost use Rattle.session_driver.specs.Seen.{seen};
-ghost use Rattle.fork_table.specs.Tables.{row_of};
+ghost use Rattle.fork_table.specs.Tables.{IsFirstLive, row_of};
 
 use crate::crews::Crew;
 use fork_table::Steps;
@@ -11,7 +11,41 @@ use std::sync::ledger::Ledger;
 use world_trait::World;
 
 impl Crew {
-    ghost use Rattle.fork_loop.specs.Courses.{Somewhere, DrainsRow, RowRuns};
+    ghost use Rattle.fork_loop.specs.Courses.{Somewhere, DrainsRow, RowRuns, AllRun};
+
+    /// Has each session make its calls up to its next pause. Answers the reason of a closing that would end every session,
+    /// as soon as one wishes for it.
+    pub fn run_rows<W: World, L: Ledger>(
+        &mut self,
+        world: &mut W,
+        config: &Config,
+        steps: &mut Steps<L>,
+    ) -> Option<Why>
+        requires { Somewhere config.now (seen W.told W.held W.faults W.waits W.stops W.clock world.old) self.old }
+        ensures { AllRun config.now (seen W.told W.held W.faults W.waits W.stops W.clock world.old) (seen W.told W.held W.faults W.waits W.stops W.clock world.new) self.old self.new result }
+    {
+        let mut next = self.table.first_from(0);
+        while let Some(number) = next {
+            if let Some(why) = self.run_row(number, world, config, steps) {
+                return Some(why);
+            }
+            next = self.next_after(number);
+        }
+        None
+    }
+
+    /// The least number after this one whose session lives.
+    pub fn next_after(&self, number: u32) -> Option<u32>
+        requires { number < self.now.table.admitted }
+        ensures { IsFirstLive self.now.table (number + 1) result }
+    {
+        let end = self.table.next_number();
+        if number < end {
+            self.table.first_from(number + 1)
+        } else {
+            None
+        }
+    }
 
     /// Has the session with this number make its calls up to its next pause. Answers the reason of a closing that would
     /// end every session, where it wishes for one.
