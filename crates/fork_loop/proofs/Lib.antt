@@ -1,3 +1,4 @@
 pub mod Loops
 pub mod Others
 pub mod RowRuns
+pub mod Spreading

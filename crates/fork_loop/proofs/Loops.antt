@@ -79,3 +79,49 @@ up_to_next k before after next below here stay first = go next first
 pub fewer_ahead : (k : ℕ) (crew : Crew) (next : Option ℕ) → k < 2 ^ 32 → IsFirstLive crew.table (k + 1) next → ahead next < ahead (Some k)
 fewer_ahead k crew None small f = omega (arith, small)
 fewer_ahead k crew (Some m) small f = let b = f.0 in omega (arith, small, b)
+
+-- ---- a loop that makes of each row another
+
+-- the rows before the next one were made others, and the rest are as they were
+abbrev pub RowsTo : (ℕ → Option Session → Option Session → Type 0) → Option ℕ → Crew → Crew → Type 0
+RowsTo R None before after = (s : ℕ) → R s (row_of before.table s) (row_of after.table s)
+RowsTo R (Some k) before after = ((s : ℕ) → s < k → R s (row_of before.table s) (row_of after.table s)) × ((s : ℕ) → k ≤ s → row_of after.table s ≡ row_of before.table s)
+
+empty_rows : (R : ℕ → Option Session → Option Session → Type 0) → ((s : ℕ) → R s None None) → (s : ℕ) (one other : Option Session) → one ≡ None → other ≡ None → R s one other
+empty_rows R none s one other e f = subst (λ (x : Option Session). R s x other) (sym e) (subst (λ (x : Option Session). R s None x) (sym f) (none s))
+
+pub rows_first : (R : ℕ → Option Session → Option Session → Type 0) → ((s : ℕ) → R s None None) → (crew : Crew) (first : Option ℕ) → IsFirstLive crew.table 0 first → RowsTo R first crew crew
+rows_first R none crew None f = λ s. empty_rows R none s (row_of crew.table s) (row_of crew.table s) (f s (omega arith)) (f s (omega arith))
+rows_first R none crew (Some k) f = (λ s b. empty_rows R none s (row_of crew.table s) (row_of crew.table s) (f.2 s (omega arith) b) (f.2 s (omega arith) b), λ s b. refl)
+
+pub rows_next : (R : ℕ → Option Session → Option Session → Type 0) → ((s : ℕ) → R s None None) → (k : ℕ) (before mid after : Crew) (next : Option ℕ) → RowsTo R (Some k) before mid → R k (row_of mid.table k) (row_of after.table k) → OthersStay k mid after → IsFirstLive after.table (k + 1) next → RowsTo R next before after
+rows_next R none k before mid after next done here stay first = go next first
+  where
+    same : (s : ℕ) → k < s → row_of after.table s ≡ row_of before.table s
+    same s b = stay s (λ e. let x : ⊥ = omega (arith, b, e) in x) ∙ done.1 s (omega (arith, b))
+
+    one : (s : ℕ) → s < k + 1 → R s (row_of before.table s) (row_of after.table s)
+    one s b = split (cases_eq s k)
+      where
+        split : (s ≡ k) ⊎ (s ≡ k → ⊥) → R s (row_of before.table s) (row_of after.table s)
+        split (inl e) = subst (λ (x : ℕ). R x (row_of before.table x) (row_of after.table x)) (sym e) (subst (λ (x : Option Session). R k x (row_of after.table k)) (done.1 k (omega arith)) here)
+        split (inr apart) = subst (λ (x : Option Session). R s (row_of before.table s) x) (sym (stay s apart)) (done.0 s (lesser (cases_lt s k)))
+          where
+            lesser : (s < k) ⊎ (k ≤ s) → s < k
+            lesser (inl h) = h
+            lesser (inr h) = absurd (apart (omega (arith, b, h)))
+
+    gone : (s : ℕ) → k + 1 ≤ s → row_of after.table s ≡ None → R s (row_of before.table s) (row_of after.table s)
+    gone s b e = empty_rows R none s (row_of before.table s) (row_of after.table s) (sym (same s (omega (arith, b))) ∙ e) e
+
+    go : (o : Option ℕ) → IsFirstLive after.table (k + 1) o → RowsTo R o before after
+    go None f = λ s. each s (cases_lt s (k + 1))
+      where
+        each : (s : ℕ) → (s < k + 1) ⊎ (k + 1 ≤ s) → R s (row_of before.table s) (row_of after.table s)
+        each s (inl h) = one s h
+        each s (inr h) = gone s h (f s h)
+    go (Some m) f = (λ s b. each s b (cases_lt s (k + 1)), λ s b. same s (let h = f.0 in omega (arith, b, h)))
+      where
+        each : (s : ℕ) → s < m → (s < k + 1) ⊎ (k + 1 ≤ s) → R s (row_of before.table s) (row_of after.table s)
+        each s b (inl h) = one s h
+        each s b (inr h) = gone s h (f.2 s h b)

@@ -22,17 +22,8 @@ use Rattle.session_runs.specs.Pauses.{PauseIs, Spreads}
 use Rattle.session_runs.specs.declared.pauses.Pause.{Pause}
 use Rattle.session_runs.specs.declared.pauses.Pause.TheVariants as pauses
 use Rattle.fork_loop.specs.declared.crews.Crew.{Crew}
-use Rattle.fork_loop.specs.Courses.{RowIs, NextIs, Frame, Course, CourseBut, Onward, Keeps, OthersStay, DrainsRow, RowSpreads, RowRuns, IsAsleep}
+use Rattle.fork_loop.specs.Courses.{RowIs, NextIs, Frame, Course, CourseBut, Onward, Keeps, OthersStay, DrainsRow, RowSpreads, RowRuns, IsAsleep, SameRest}
 use Rattle.fork_loop.proofs.Others.{Leave, ran_leaves}
-
--- all of a crew but its rows is as it was
-pub record SameRest (before after : Crew) : Type 0 where
-  pub door_same : after.door ≡ before.door
-  pub unborn_same : after.unborn ≡ before.unborn
-  pub clock_same : after.clock ≡ before.clock
-  pub made_same : after.made ≡ before.made
-  pub admitted_same : after.table.admitted ≡ before.table.admitted
-  pub bounds_same : SameBounds before.table after.table
 
 next_kept : (c : Config) (past since : List Act) (unborn : Option Unborn) → admitted c since ≡ admitted c past → NextIs c past unborn → NextIs c since unborn
 next_kept c past since None e h = tt
@@ -79,8 +70,18 @@ row_went c n start old new past t before after pause on d =
     let b = w.stands.fields.ground.begun in
     record { since = o.since; run = o.run; leave = ran_leaves c n t past o.since on.frame.fork o.run.run.legal (omega (arith, b, e)) o.ran }
 
-rest_of : (c : Config) (old new : Seen) (t : ℕ) (before after : Crew) (pause : Pause) → DrainsRow c old new t before after pause → SameRest before after
-rest_of c old new t before after pause d = record { door_same = d.door_same; unborn_same = d.unborn_same; clock_same = d.clock_same; made_same = d.made_same; admitted_same = d.admitted_same; bounds_same = d.bounds_same }
+pub rest_itself : (crew : Crew) → SameRest crew crew
+rest_itself crew = record { door_same = refl; unborn_same = refl; clock_same = refl; made_same = refl; admitted_same = refl; bounds_same = (refl, refl) }
+
+pub rest_then : (one two three : Crew) → SameRest one two → SameRest two three → SameRest one three
+rest_then one two three r same = record {
+  door_same = same.door_same ∙ r.door_same;
+  unborn_same = same.unborn_same ∙ r.unborn_same;
+  clock_same = same.clock_same ∙ r.clock_same;
+  made_same = same.made_same ∙ r.made_same;
+  admitted_same = same.admitted_same ∙ r.admitted_same;
+  bounds_same = (same.bounds_same.0 ∙ r.bounds_same.0, same.bounds_same.1 ∙ r.bounds_same.1);
+}
 
 pub row_sleeps : (c : Config) (old new : Seen) (t : ℕ) (before after : Crew) (until : Option ℕ) → DrainsRow c old new t before after (pauses.Sleep until) → RowRuns c old new t before after None
 row_sleeps c old new t before after until d = (
@@ -89,14 +90,14 @@ row_sleeps c old new t before after until d = (
       record {
         past = w.since;
         course = record {
-          frame = frame_on c n start old new past w.since t before after on.frame w.run.run w.leave (rest_of c old new t before after (pauses.Sleep until) d);
+          frame = frame_on c n start old new past w.since t before after on.frame w.run.run w.leave d.same;
           rows = with_row c n w.since t after (subst (RowIs c n w.since t) (sym d.has) (awake_asleep c n w.since t until d.is w.run.stands d.paused.0))
               (row_or_others c n past w.since t before after w.leave (λ s apart. on.rows s) d.others);
         };
       },
   subst IsAsleep (sym d.has) (until, d.paused.0),
   d.others,
-  d.admitted_same,
+  d.same,
 )
 
 -- a session that is done holds nothing
@@ -107,25 +108,18 @@ pub row_done : (c : Config) (old new : Seen) (t : ℕ) (before mid after : Crew)
 row_done c old new t before mid after d same gone stay = (
   λ n start past on.
       let w = row_went c n start old new past t before mid pauses.Done on d in
-      let r = rest_of c old new t before mid pauses.Done d in
+      let r = d.same in
       record {
         past = w.since;
         course = record {
-          frame = frame_on c n start old new past w.since t before after on.frame w.run.run w.leave (record {
-            door_same = same.door_same ∙ r.door_same;
-            unborn_same = same.unborn_same ∙ r.unborn_same;
-            clock_same = same.clock_same ∙ r.clock_same;
-            made_same = same.made_same ∙ r.made_same;
-            admitted_same = same.admitted_same ∙ r.admitted_same;
-            bounds_same = (same.bounds_same.0 ∙ r.bounds_same.0, same.bounds_same.1 ∙ r.bounds_same.1);
-          });
+          frame = frame_on c n start old new past w.since t before after on.frame w.run.run w.leave (rest_then before mid after r same);
           rows = with_row c n w.since t after (subst (RowIs c n w.since t) (sym gone) (λ below. done_holds c n w.since t d.is d.paused.0 w.run.stands d.paused.1))
               (row_or_others c n past w.since t before after w.leave (λ s apart. on.rows s) (λ s apart. stay s apart ∙ d.others s apart));
         };
       },
   subst IsAsleep (sym gone) tt,
   λ s apart. stay s apart ∙ d.others s apart,
-  same.admitted_same ∙ d.admitted_same,
+  rest_then before mid after d.same same,
 )
 
 pub row_spreads : (c : Config) (old new : Seen) (t : ℕ) (why : Why) (before after : Crew) → DrainsRow c old new t before after (pauses.Spreads why) → RowRuns c old new t before after (Some why)
@@ -135,7 +129,7 @@ row_spreads c old new t why before after d = (
       record {
         past = w.since;
         course = record {
-          frame = frame_on c n start old new past w.since t before after on.frame w.run.run w.leave (rest_of c old new t before after (pauses.Spreads why) d);
+          frame = frame_on c n start old new past w.since t before after on.frame w.run.run w.leave d.same;
           rows = row_or_others c n past w.since t before after w.leave (λ s apart. on.rows s) d.others;
         };
         x = d.is;

@@ -85,6 +85,15 @@ OthersStay t before after = (s : ℕ) → s ≢ t → row_of after.table s ≡ r
 abbrev pub HasRow : Crew → ℕ → Session → Type 0
 HasRow crew s x = row_of crew.table s ≡ Some x
 
+-- all of a crew but its rows is as it was
+pub record SameRest (before after : Crew) : Type 0 where
+  pub door_same : after.door ≡ before.door
+  pub unborn_same : after.unborn ≡ before.unborn
+  pub clock_same : after.clock ≡ before.clock
+  pub made_same : after.made ≡ before.made
+  pub admitted_same : after.table.admitted ≡ before.table.admitted
+  pub bounds_same : SameBounds before.table after.table
+
 -- the session of this number went on to its pause, over the world of all, and nothing else changed
 pub record DrainsRow (c : Config) (old new : Seen) (t : ℕ) (before after : Crew) (pause : Pause) : Type 0 where
   pub was : Session
@@ -94,12 +103,7 @@ pub record DrainsRow (c : Config) (old new : Seen) (t : ℕ) (before after : Cre
   pub runs : RunsOn c old new was is
   pub paused : PauseIs is pause
   pub others : OthersStay t before after
-  pub door_same : after.door ≡ before.door
-  pub unborn_same : after.unborn ≡ before.unborn
-  pub clock_same : after.clock ≡ before.clock
-  pub made_same : after.made ≡ before.made
-  pub admitted_same : after.table.admitted ≡ before.table.admitted
-  pub bounds_same : SameBounds before.table after.table
+  pub same : SameRest before after
 
 -- a session that wishes to sleep
 abbrev pub IsAsleep : Option Session → Type 0
@@ -117,7 +121,7 @@ pub record RowSpreads (c : Config) (n : ℕ) (start now : Seen) (t : ℕ) (why :
 
 -- the session of this number waits or is gone, or wishes for a closing that ends every session
 abbrev pub RowRuns : Config → Seen → Seen → ℕ → Crew → Crew → Option Why → Type 0
-RowRuns c old new t before after None = Keeps c old new before after × IsAsleep (row_of after.table t) × OthersStay t before after × (after.table.admitted ≡ before.table.admitted)
+RowRuns c old new t before after None = Keeps c old new before after × IsAsleep (row_of after.table t) × OthersStay t before after × SameRest before after
 RowRuns c old new t before after (Some why) = ((n : ℕ) (start : Seen) (past : List Act) → Course c n start old past before → RowSpreads c n start new t why after) × OthersStay t before after
 
 -- every session waits
@@ -136,5 +140,5 @@ pub record SomeSpreads (c : Config) (n : ℕ) (start now : Seen) (why : Why) (cr
 
 -- every session waits, or one wishes for a closing that ends every session
 abbrev pub AllRun : Config → Seen → Seen → Crew → Crew → Option Why → Type 0
-AllRun c old new before after None = Keeps c old new before after × AllAsleep after
+AllRun c old new before after None = Keeps c old new before after × AllAsleep after × SameRest before after
 AllRun c old new before after (Some why) = (n : ℕ) (start : Seen) (past : List Act) → Course c n start old past before → SomeSpreads c n start new why after

@@ -2,4 +2,5 @@
 #![tactic(auto)]
 
 mod crews;
+mod endings;
 mod rows;

@@ -36,7 +36,6 @@ impl Crew {
 
     /// The least number after this one whose session lives.
     pub fn next_after(&self, number: u32) -> Option<u32>
-        requires { number < self.now.table.admitted }
         ensures { IsFirstLive self.now.table (number + 1) result }
     {
         let end = self.table.next_number();

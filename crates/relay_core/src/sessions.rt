@@ -41,7 +41,7 @@ pub struct Unborn {
 }
 
 impl Unborn {
-    ghost use Rattle.relay_core.specs.Sessions.{IsUnborn, Stands, has_asked_at};
+    ghost use Rattle.relay_core.specs.Sessions.{IsUnborn, Hears, has_asked_at};
 
     /// The session with this number, before it begins. It takes all the memory that it will use.
     pub fn new(alloc: Global, config: &Config, number: u32) -> Result<Unborn, NoMemory>
@@ -64,7 +64,7 @@ impl Unborn {
     pub fn accepted(self, now: u64, peer: Peer) -> Session
         ensures may { (c : Command) (n : ℕ) (past : List Act) (s : ℕ) → Begins c n past s peer → owed c past ≡ None → May c n past (acts.Accepted (home c s) peer) }
         ensures met { (c : Command) (n : ℕ) (past : List Act) (s : ℕ) → Begins c n past s peer → peer_at c (acts.Accepted (home c s) peer ∷ past) (home c s) ≡ Some peer }
-        ensures stands { (c : Command) (n : ℕ) (past : List Act) (s : ℕ) → IsUnborn c s self → Begins c n past s peer → now ≡ last_moment past → Stands c n (acts.Accepted (home c s) peer ∷ past) s result }
+        ensures hears { (c : Command) (n : ℕ) (past : List Act) (s : ℕ) → IsUnborn c s self → Begins c n past s peer → now ≡ last_moment past → Hears c n (acts.Accepted (home c s) peer ∷ past) s result }
         ensures unasked { (c : Command) (s : ℕ) (p : Location) → IsUnborn c s self → has_asked_at result p ≡ false }
     {
         let Unborn { mut state, home } = self;

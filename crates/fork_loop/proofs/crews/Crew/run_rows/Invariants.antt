@@ -1,6 +1,6 @@
 use Rattle.std.proofs.Common.{ℕ, ◌-◌, ◌^◌, Option, Some, None}
 use Rattle.session_driver.specs.Seen.{seen}
-use Rattle.fork_loop.specs.Courses.{Keeps, AsleepUpTo}
+use Rattle.fork_loop.specs.Courses.{Keeps, AsleepUpTo, SameRest}
 use Rattle.fork_loop.proofs.Loops.{ahead}
 use Rattle.fork_loop.proofs.crews.Crew.run_rows.Given as goal
 
@@ -8,6 +8,7 @@ abbrev pub invariant-loop-next : goal.invariant-loop-next
 invariant-loop-next g l = record {
   keeps : Keeps l.config (seen g.W.World.told g.W.World.held g.W.World.faults g.W.World.waits g.W.World.stops g.W.World.clock l.initial.world) (seen g.W.World.told g.W.World.held g.W.World.faults g.W.World.waits g.W.World.stops g.W.World.clock l.world) l.initial.self l.self;
   asleep : AsleepUpTo l.next l.self;
+  same : SameRest l.initial.self l.self;
 }
 
 abbrev pub decreases-loop-next : goal.decreases-loop-next
