@@ -25,11 +25,11 @@ use Rattle.relay_core.specs.declared.wishes.Wish.{Wish}
 use Rattle.relay_core.specs.declared.wishes.Wish.TheVariants as wishes
 use Rattle.relay_core.specs.Endings.{Ends, EndingIs}
 use Rattle.relay_core.specs.States.{Allowed, ClosesFor}
-use Rattle.relay_core.specs.Sessions.{Stands, wish_of}
+use Rattle.relay_core.specs.Sessions.{Stands, IsGrounded, wish_of, ending_of}
 use Rattle.session_crew.specs.Crews.{Waker}
 use Rattle.session_runs.specs.Pauses.{Spreads, ends_all}
 use Rattle.fork_loop.specs.Courses.{Unsaid}
-use Rattle.fork_loop.specs.Endings.{MayLeave, CutRow}
+use Rattle.fork_loop.specs.Endings.{MayLeave, MayLeaveRow, LeavesRow, CutRow}
 
 pub cut_none : (why : Why) (s : ℕ) → CutRow why s None None
 cut_none why s c n past h = h
@@ -142,3 +142,9 @@ spread_tells c n past s why x u st (q, e, a) = by_ends (subst (EndingIs c n past
 pub waker_may : (c : Config) (n : ℕ) (past : List Act) (s : ℕ) (why : Why) (x : Session) → EndsRun c n past why → Waker c n past s x → MayLeave c n past s why x
 waker_may c n past s why x (inl e) w = record { grounded = w.stands.fields.ground; ends = inr (inl (e, w.unclosed)); unclosed = w.unclosed }
 waker_may c n past s why x (inr e) w = record { grounded = w.stands.fields.ground; ends = inr (inr e); unclosed = w.unclosed }
+
+-- a row whose session was cut
+pub row_cut : (why : Why) (t : ℕ) (before after : Option Session) (x y : Session) → before ≡ Some x → after ≡ Some y → ((c : Config) (n : ℕ) (past : List Act) (s : ℕ) → IsGrounded c past s x → Ends c n past s why → Stands c n past s y) → ending_of y ≡ Some why → CutRow why t before after
+row_cut why t before after x y had has cut ending = λ c n past may.
+    let m : MayLeave c n past t why x = subst (MayLeaveRow c n past t why) had may in
+    subst (LeavesRow c n past t why) (sym has) (record { stands = cut c n past t m.grounded m.ends; ending = ending; unclosed = m.unclosed })

@@ -1,5 +1,4 @@
-use Rattle.std.proofs.Common.{arith}
-use Rattle.fork_loop.proofs.Loops.{keeps_all, kept_on, keeps_then, from_first, row_begun, up_to_next}
+use Rattle.fork_loop.proofs.Loops.{keeps_all, kept_on, keeps_then, from_first, up_to_next}
 use Rattle.fork_loop.proofs.RowRuns.{rest_then, rest_itself}
 use Rattle.fork_loop.proofs.crews.Crew.run_rows.Goals as goal
 
@@ -11,13 +10,6 @@ run_row-requires-clause-course g c = kept_on c.args.config.now _ _ c.args.self.n
 
 pub returns-in-Some-run_row : goal.returns-in-Some-run_row
 returns-in-Some-run_row g c = λ n start past on. let a = c.loop-next.invariant.keeps n start past on in record { t = c.in-Some.number; spreads = c.in-Some-run_row.ensures.0 n start a.past a.course }
-
-pub next_after-next-requires : goal.next_after-next-requires
-next_after-next-requires g c =
-    let at = kept_on c.args.config.now _ _ c.args.self.now _ c.requires c.loop-next.invariant.keeps in
-    let b = row_begun c.args.config.now _ c.loop-next.self c.in-Some.number at (rw c.in-Some.is at c.loop-next.invariant.asleep).0 in
-    let e = c.in_default-run_row.ensures.3.admitted_same in
-    omega (arith, b, e)
 
 pub loop-next-preserved : goal.loop-next-preserved
 loop-next-preserved g c = record {
