@@ -1,3 +1,4 @@
+pub mod DoorSteps
 pub mod Loops
 pub mod Others
 pub mod RowRuns

@@ -34,7 +34,7 @@ pub from_first : (crew : Crew) (first : Option ℕ) → IsFirstLive crew.table 0
 from_first crew None f = λ s. no_row (row_of crew.table s) (f s (omega arith))
 from_first crew (Some k) f = (f.1, λ s b. no_row (row_of crew.table s) (f.2 s (omega arith) b))
 
-some_row : {T : Type 0} (o : Option T) → is_some o ≡ true → (x : T) × (o ≡ Some x)
+pub some_row : {T : Type 0} (o : Option T) → is_some o ≡ true → (x : T) × (o ≡ Some x)
 some_row None e = absurd (false≢true e)
 some_row (Some x) e = (x, refl)
 

@@ -39,11 +39,11 @@ pub record Leave (c : Config) (n : ℕ) (past since : List Act) (t : ℕ) : Type
 foreign_to : (c : Config) (s t : ℕ) (act : Act) → IsActOf c t act → s ≢ t → IsForeign c s act
 foreign_to c s t act here apart = λ p e d. false_from_ne_true (is_at act p) (λ at. apart (sym e ∙ (here.own p at).0))
 
-moment_kept : (act : Act) (past : List Act) → is_turn act ≡ false → moment (act ∷ past) ≡ moment past
+pub moment_kept : (act : Act) (past : List Act) → is_turn act ≡ false → moment (act ∷ past) ≡ moment past
 moment_kept (acts.Turn until at ready stop) past e = absurd (false≢true (sym e))
 moment_kept act past e = refl
 
-turns_kept : (act : Act) (past : List Act) → is_turn act ≡ false → turns (act ∷ past) ≡ turns past
+pub turns_kept : (act : Act) (past : List Act) → is_turn act ≡ false → turns (act ∷ past) ≡ turns past
 turns_kept (acts.Turn until at ready stop) past e = absurd (false≢true (sym e))
 turns_kept act past e = refl
 
@@ -58,7 +58,7 @@ admitted_kept c act past e = refl
 said_kept : (a b : Bool) → a ≡ false → b ≡ false → (a || b) ≡ false
 said_kept a b e f = λ i. (e i) || (f i)
 
-unsaid_kept : (c : Config) (act : Act) (past : List Act) → is_common c act ≡ false → Unsaid past → Unsaid (act ∷ past)
+pub unsaid_kept : (c : Config) (act : Act) (past : List Act) → is_common c act ≡ false → Unsaid past → Unsaid (act ∷ past)
 unsaid_kept c (acts.Turn until at ready stop) past k u = absurd (false≢true (sym k))
 unsaid_kept c (acts.Closed q why) past k u =
     let w = or_parts (same_why why whys.Stopped) (same_why why whys.Memory) k in

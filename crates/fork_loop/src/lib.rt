@@ -1,6 +1,7 @@
 // The loop of a command with `fork`: the program door and the session of each peer, over one world.
 #![tactic(auto)]
 
+mod asked;
 mod crews;
 mod endings;
 mod rows;
