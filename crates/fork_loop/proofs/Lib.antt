@@ -3,3 +3,4 @@ pub mod Loops
 pub mod Others
 pub mod RowRuns
 pub mod Spreading
+pub mod Untils

@@ -1,3 +1,4 @@
 pub mod Asking
 pub mod Courses
 pub mod Endings
+pub mod Waits

@@ -5,3 +5,4 @@ mod asked;
 mod crews;
 mod endings;
 mod rows;
+mod waits;
