@@ -1,4 +1,5 @@
 pub mod DoorSteps
+pub mod Hearing
 pub mod Loops
 pub mod Others
 pub mod RowRuns

@@ -1,4 +1,5 @@
 pub mod Asking
 pub mod Courses
 pub mod Endings
+pub mod Turns
 pub mod Waits

@@ -5,4 +5,5 @@ mod asked;
 mod crews;
 mod endings;
 mod rows;
+mod turns;
 mod waits;
