@@ -4,4 +4,5 @@ pub mod Loops
 pub mod Others
 pub mod RowRuns
 pub mod Spreading
+pub mod Turning
 pub mod Untils

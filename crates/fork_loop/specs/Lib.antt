@@ -2,4 +2,5 @@ pub mod Asking
 pub mod Courses
 pub mod Endings
 pub mod Turns
+pub mod Waited
 pub mod Waits

@@ -6,4 +6,5 @@ mod crews;
 mod endings;
 mod rows;
 mod turns;
+mod waited;
 mod waits;
