@@ -205,7 +205,7 @@ asleep_but_next before after same h = λ s. subst IsAsleep (sym (same.rows_same 
 
 -- ---- the run may be ended
 
-row_may_end : (c : Config) (n : ℕ) (past : List Act) (s : ℕ) (why : Why) (row : Option Session) → EndsRun c n past why → RowIs c n past s row → MayLeaveRow c n past s why row
+pub row_may_end : (c : Config) (n : ℕ) (past : List Act) (s : ℕ) (why : Why) (row : Option Session) → EndsRun c n past why → RowIs c n past s row → MayLeaveRow c n past s why row
 row_may_end c n past s why None e r = r
 row_may_end c n past s why (Some x) e r = waker_may c n past s why x e r
 

@@ -1,5 +1,6 @@
 pub mod DoorSteps
 pub mod Hearing
+pub mod InOrder
 pub mod Loops
 pub mod Others
 pub mod RowRuns

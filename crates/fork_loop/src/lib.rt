@@ -5,6 +5,7 @@ mod asked;
 mod crews;
 mod endings;
 mod rows;
+mod turned;
 mod turns;
 mod waited;
 mod waits;

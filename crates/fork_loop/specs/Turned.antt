@@ -1,0 +1,31 @@
+-- What a turn of the loop makes of it.
+use Rattle.std.specs.Prelude.{ℕ, List, Option}
+use Rattle.relay_model.specs.declared.commands.Config.{Config}
+use Rattle.relay_model.specs.declared.acts.Act.{Act}
+use Rattle.relay_model.specs.declared.acts.Why.TheVariants as whys
+use Rattle.program_door.specs.declared.wishes.DoorWish.TheVariants as wishes
+use Rattle.program_door.specs.Wishes.{Wished}
+use Rattle.session_driver.specs.Seen.{Seen}
+use Rattle.fork_loop.specs.declared.crews.Crew.{Crew}
+use Rattle.fork_loop.specs.declared.turned.TurnEnd.{TurnEnd}
+use Rattle.fork_loop.specs.declared.turned.TurnEnd.TheVariants as ends
+use Rattle.fork_loop.specs.Asking.{DoorIsOver}
+use Rattle.fork_loop.specs.Courses.{Course, Onward, AllAsleep}
+use Rattle.fork_loop.specs.Endings.{MayEnd}
+use Rattle.fork_loop.specs.Waited.{Leaving}
+
+-- what became of a run of at most n turns
+abbrev pub RunIs : Config → ℕ → Seen → Seen → Crew → TurnEnd → Type 0
+RunIs c n start new after ends.Goes = Onward c n start new after
+RunIs c n start new after ends.Over = DoorIsOver c n start new after × AllAsleep after
+RunIs c n start new after (ends.Ends why) = MayEnd c n start new why after
+RunIs c n start new after ends.Stops = Leaving c n start new whys.Stopped after
+
+-- so of each that led to the beginning
+abbrev pub TurnIs : Config → ℕ → Seen → Seen → Crew → Crew → TurnEnd → Type 0
+TurnIs c n old new before after end = (start : Seen) (past : List Act) → Course c n start old past before → RunIs c n start new after end
+
+-- the same, where the door waits until this moment
+abbrev pub WaitsForAll : Config → ℕ → Option ℕ → Seen → Seen → Crew → Crew → TurnEnd → Type 0
+WaitsForAll c n first old new before after end =
+    (start : Seen) (past : List Act) → Course c n start old past before → Wished c past (wishes.Sleep first) → RunIs c n start new after end

@@ -1,0 +1,77 @@
+// One turn of the loop: all calls that are called for, and then one wait.
+ghost use Rattle.relay_model.specs.Configs.{Fit};
+ghost use Rattle.session_driver.specs.Seen.{seen};
+
+use crate::asked::Asked;
+use crate::crews::Crew;
+use crate::waited::Waited;
+use fork_table::Steps;
+use relay_model::{Config, Why};
+use std::alloc::Global;
+use std::sync::ledger::Ledger;
+use world_trait::World;
+
+/// What a turn of the loop came to.
+#[derive(Clone, Copy, Debug, PartialEq, Eq)]
+pub enum TurnEnd {
+    Goes,
+    /// The door is over and every session waits; where none lives, the run is over.
+    Over,
+    /// The run is to end for this reason: for want of memory, or since the turns are used up (`Stopped`).
+    Ends(Why),
+    /// The turn says stop, and each session was cut.
+    Stops,
+}
+
+impl Crew {
+    ghost use Rattle.fork_loop.specs.Courses.{Somewhere, AllAsleep};
+    ghost use Rattle.fork_loop.specs.Turned.{TurnIs, WaitsForAll};
+
+    /// Has each session and the door make their calls, and then waits once, unless the run ends or `turns` waits were
+    /// made. A wait comes only where it is in order, and lasts until the least moment that anything waits for.
+    pub fn turn<W: World, L: Ledger>(
+        &mut self,
+        alloc: Global,
+        world: &mut W,
+        config: &Config,
+        turns: u64,
+        steps: &mut Steps<L>,
+    ) -> TurnEnd
+        requires fit { Fit config.now }
+        requires course { Somewhere config.now (seen W.told W.held W.faults W.waits W.stops W.clock world.old) self.old }
+        ensures { TurnIs config.now turns (seen W.told W.held W.faults W.waits W.stops W.clock world.old) (seen W.told W.held W.faults W.waits W.stops W.clock world.new) self.old self.new result }
+    {
+        if let Some(why) = self.run_rows(world, config, steps) {
+            return TurnEnd::Ends(why);
+        }
+        match self.ask_door(alloc, world, config, steps) {
+            Asked::Waits(first) => self.wait_for(first, world, config, turns, steps),
+            Asked::Over => TurnEnd::Over,
+            Asked::Ends(why) => TurnEnd::Ends(why),
+        }
+    }
+
+    /// Waits, while every session waits and the door until this moment.
+    fn wait_for<W: World, L: Ledger>(
+        &mut self,
+        first: Option<u64>,
+        world: &mut W,
+        config: &Config,
+        turns: u64,
+        steps: &mut Steps<L>,
+    ) -> TurnEnd
+        requires { AllAsleep self.old }
+        ensures { WaitsForAll config.now turns first (seen W.told W.held W.faults W.waits W.stops W.clock world.old) (seen W.told W.held W.faults W.waits W.stops W.clock world.new) self.old self.new result }
+    {
+        let until = self.least_until(first, steps);
+        if self.made < turns {
+            match self.wait(world, config, until, turns, steps) {
+                Waited::Goes => TurnEnd::Goes,
+                Waited::Stops => TurnEnd::Stops,
+                Waited::Memory => TurnEnd::Ends(Why::Memory),
+            }
+        } else {
+            TurnEnd::Ends(Why::Stopped)
+        }
+    }
+}
