@@ -1,11 +1,12 @@
 -- Where the door and all sessions wait, a wait is in order, until the least moment that one of them waits for.
-use Rattle.std.proofs.Common.{◌≡◌, refl, sym, ap, subst, ◌∙◌, ℕ, ◌<◌, ◌≤◌, ◌⊎◌, inl, inr, true, false, List, [], ◌∷◌, Option, Some, None, arith}
+use Rattle.std.proofs.Common.{◌≡◌, refl, sym, ap, subst, ◌∙◌, ℕ, ◌<◌, ◌≤◌, ◌⊎◌, inl, inr, Bool, true, false, ◌&&◌, nat_lt, List, [], ◌∷◌, Option, Some, None, is_some, arith}
+use Rattle.std.proofs.lemmas.Bool.{false≢true}
 use Rattle.relay_model.specs.declared.commands.Config.{Config}
 use Rattle.relay_model.specs.declared.acts.Act.{Act}
 use Rattle.relay_model.specs.declared.acts.Why.TheVariants as whys
 use Rattle.relay_model.specs.Configs.{has_fork}
 use Rattle.relay_model.specs.History.{turns}
-use Rattle.relay_model.specs.Sessions.{admitted, numbers}
+use Rattle.relay_model.specs.Sessions.{admitted, holds, numbers}
 use Rattle.relay_model.specs.May.{Legal}
 use Rattle.relay_model.specs.declared.acts.Act.TheVariants as acts
 use Rattle.relay_model.specs.Rest.{SessionRests, session_work, session_moment}
@@ -14,13 +15,14 @@ use Rattle.relay_core.specs.declared.wishes.Wish.TheVariants as sleeps
 use Rattle.relay_core.specs.Sessions.{Stands, wish_of}
 use Rattle.relay_core.specs.States.{Sleeps, Wished as SessionWished}
 use Rattle.relay_core.specs.Timers.{session_until}
-use Rattle.program_door.specs.declared.wishes.DoorWish.TheVariants as wishes
 use Rattle.program_door.specs.Stands.{DoorStands}
-use Rattle.program_door.specs.Wishes.{Wished}
+use Rattle.program_door.specs.Wishes.{GoesOn}
+use Rattle.relay_core.proofs.Homes.{lives_at_home}
+use Rattle.fork_loop.specs.Turned.{Rested}
 use Rattle.program_door.proofs.Moves.{numbers_are}
 use Rattle.session_sleep.specs.Sleeps.{RestsUntil}
 use Rattle.session_sleep.proofs.Resting.{gone}
-use Rattle.session_crew.specs.Wholes.{WaitsUntil, IsLeastWait}
+use Rattle.session_crew.specs.Wholes.{Remains, WaitsUntil, IsLeastWait}
 use Rattle.session_crew.proofs.Rests.{all_rest}
 use Rattle.session_crew.proofs.Waits.{least_wait}
 use Rattle.fork_table.specs.Tables.{row_of}
@@ -65,12 +67,24 @@ row_rests c n past s (Some x) fork below w a =
         sym k.until_is ∙ u);
     }
 
-pub in_order : (c : Config) (n : ℕ) (start now : Seen) (past : List Act) (crew : Crew) (first until : Option ℕ) → Course c n start now past crew → Wished c past (wishes.Sleep first) → AllAsleep crew → IsLeast (WaitsFor first crew) until → InOrder c past until
-in_order c n start now past crew first until on wished asleep least = record {
-  rests = all_rest c n past first on.frame.run.legal on.frame.fork on.frame.run.undumped (record { door = wished.0; goes_on = wished.1; sessions = λ s below. (each s (begun s below)).rests });
+and_second : (a b : Bool) → (a && b) ≡ true → b ≡ true
+and_second true b e = e
+and_second false b e = absurd (false≢true e)
+
+row_holds : (c : Config) (n : ℕ) (past : List Act) (s : ℕ) (row : Option Session) → has_fork c ≡ true → RowIs c n past s row → is_some row ≡ true → (s < numbers c past) × (holds c past s ≡ true)
+row_holds c n past s None fork r e = absurd (false≢true e)
+row_holds c n past s (Some x) fork w e = let g = w.stands.fields.ground in (g.begun, and_second (nat_lt s (admitted c past)) (holds c past s) (rw fork at (lives_at_home c past s g.begun (λ f. g.home_held f w.unclosed))))
+
+pub in_order : (c : Config) (n : ℕ) (start now : Seen) (past : List Act) (crew : Crew) (first until : Option ℕ) → Course c n start now past crew → Rested c past first crew → AllAsleep crew → IsLeast (WaitsFor first crew) until → InOrder c past until
+in_order c n start now past crew first until on rested asleep least = record {
+  rests = all_rest c n past first on.frame.run.legal on.frame.fork on.frame.run.undumped (record { door = rested.door; remains = left rested.remains; sessions = λ s below. (each s (begun s below)).rests });
   is_until = least_wait c past until (go until least);
 }
   where
+    left : GoesOn c past ⊎ ((s : ℕ) × (is_some (row_of crew.table s) ≡ true)) → Remains c past
+    left (inl g) = inl g
+    left (inr w) = let h = row_holds c n past w.0 (row_of crew.table w.0) on.frame.fork (on.rows w.0) w.1 in inr (w.0, h.0, h.1)
+
     begun : (s : ℕ) → s < numbers c past → s < admitted c past
     begun s below = let e = numbers_are c past on.frame.fork in omega (arith, below, e)
 
@@ -78,14 +92,14 @@ in_order c n start now past crew first until on wished asleep least = record {
     each s below = row_rests c n past s (row_of crew.table s) on.frame.fork below (on.rows s) (asleep s)
 
     to : (m : ℕ) → WaitsUntil c past m → WaitsFor first crew m
-    to m (inl e) = inl (wished.0.until_is ∙ e)
+    to m (inl e) = inl (rested.door.until_is ∙ e)
     to m (inr w) = let r = (each w.0 (begun w.0 w.1)).to m w.2 in inr (w.0, r.0, r.1, r.2)
 
     has_begun : (s : ℕ) (x : Session) → row_of crew.table s ≡ Some x → s < numbers c past
     has_begun s x e = (subst (RowIs c n past s) e (on.rows s)).stands.fields.ground.begun
 
     from : (m : ℕ) → WaitsFor first crew m → WaitsUntil c past m
-    from m (inl e) = inl (sym wished.0.until_is ∙ e)
+    from m (inl e) = inl (sym rested.door.until_is ∙ e)
     from m (inr w) = let b = has_begun w.0 w.1 w.2 in inr (w.0, b, (each w.0 (begun w.0 b)).from m w.1 w.2 w.3)
 
     go : (o : Option ℕ) → IsLeast (WaitsFor first crew) o → IsLeastWait c past o

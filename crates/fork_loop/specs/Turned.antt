@@ -1,23 +1,32 @@
 -- What a turn of the loop makes of it.
-use Rattle.std.specs.Prelude.{ℕ, List, Option}
+use Rattle.std.specs.Prelude.{◌≡◌, ◌⊎◌, ℕ, true, List, Option, None, is_some}
 use Rattle.relay_model.specs.declared.commands.Config.{Config}
 use Rattle.relay_model.specs.declared.acts.Act.{Act}
 use Rattle.relay_model.specs.declared.acts.Why.TheVariants as whys
-use Rattle.program_door.specs.declared.wishes.DoorWish.TheVariants as wishes
-use Rattle.program_door.specs.Wishes.{Wished}
+use Rattle.program_door.specs.Wishes.{Sleeps, GoesOn}
+use Rattle.fork_table.specs.Tables.{row_of}
 use Rattle.session_driver.specs.Seen.{Seen}
 use Rattle.fork_loop.specs.declared.crews.Crew.{Crew}
 use Rattle.fork_loop.specs.declared.turned.TurnEnd.{TurnEnd}
 use Rattle.fork_loop.specs.declared.turned.TurnEnd.TheVariants as ends
 use Rattle.fork_loop.specs.Asking.{DoorIsOver}
-use Rattle.fork_loop.specs.Courses.{Course, Onward, AllAsleep}
+use Rattle.fork_loop.specs.Courses.{Course, Onward}
 use Rattle.fork_loop.specs.Endings.{MayEnd}
 use Rattle.fork_loop.specs.Waited.{Leaving}
+
+-- no session lives
+abbrev pub NoneLives : Crew → Type 0
+NoneLives crew = (s : ℕ) → row_of crew.table s ≡ None
+
+-- the door waits until this moment, and it goes on or some session lives
+pub record Rested (c : Config) (past : List Act) (first : Option ℕ) (crew : Crew) : Type 0 where
+  pub door : Sleeps c past first
+  pub remains : GoesOn c past ⊎ ((s : ℕ) × (is_some (row_of crew.table s) ≡ true))
 
 -- what became of a run of at most n turns
 abbrev pub RunIs : Config → ℕ → Seen → Seen → Crew → TurnEnd → Type 0
 RunIs c n start new after ends.Goes = Onward c n start new after
-RunIs c n start new after ends.Over = DoorIsOver c n start new after × AllAsleep after
+RunIs c n start new after ends.Over = DoorIsOver c n start new after × NoneLives after
 RunIs c n start new after (ends.Ends why) = MayEnd c n start new why after
 RunIs c n start new after ends.Stops = Leaving c n start new whys.Stopped after
 
@@ -28,4 +37,4 @@ TurnIs c n old new before after end = (start : Seen) (past : List Act) → Cours
 -- the same, where the door waits until this moment
 abbrev pub WaitsForAll : Config → ℕ → Option ℕ → Seen → Seen → Crew → Crew → TurnEnd → Type 0
 WaitsForAll c n first old new before after end =
-    (start : Seen) (past : List Act) → Course c n start old past before → Wished c past (wishes.Sleep first) → RunIs c n start new after end
+    (start : Seen) (past : List Act) → Course c n start old past before → Rested c past first before → RunIs c n start new after end

@@ -15,7 +15,7 @@ use world_trait::World;
 #[derive(Clone, Copy, Debug, PartialEq, Eq)]
 pub enum TurnEnd {
     Goes,
-    /// The door is over and every session waits; where none lives, the run is over.
+    /// The door is over, and no session lives.
     Over,
     /// The run is to end for this reason: for want of memory, or since the turns are used up (`Stopped`).
     Ends(Why),
@@ -46,12 +46,15 @@ impl Crew {
         }
         match self.ask_door(alloc, world, config, steps) {
             Asked::Waits(first) => self.wait_for(first, world, config, turns, steps),
-            Asked::Over => TurnEnd::Over,
+            Asked::Over => match self.table.first_from(0) {
+                Some(_) => self.wait_for(None, world, config, turns, steps),
+                None => TurnEnd::Over,
+            },
             Asked::Ends(why) => TurnEnd::Ends(why),
         }
     }
 
-    /// Waits, while every session waits and the door until this moment.
+    /// Waits, while every session waits, and the door until this moment or, where it is over, for none.
     fn wait_for<W: World, L: Ledger>(
         &mut self,
         first: Option<u64>,

@@ -68,7 +68,7 @@ found test (suc k) e = go (test k) refl e (found test k)
     go true h f ih = (k, omega arith, h)
     go false h f ih = let r = ih f in let below = r.1 in (r.0, omega (arith, below), r.2)
 
-none_found : (test : ℕ → Bool) (k : ℕ) → some_below test k ≡ false → (s : ℕ) → s < k → test s ≡ false
+pub none_found : (test : ℕ → Bool) (k : ℕ) → some_below test k ≡ false → (s : ℕ) → s < k → test s ≡ false
 none_found test zero e s h = absurd (omega (arith, h))
 none_found test (suc k) e s h = let parts = or_parts (test k) (some_below test k) e in go (cases_lt s k) parts.0 (none_found test k parts.1 s)
   where

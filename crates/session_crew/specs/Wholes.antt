@@ -16,10 +16,14 @@ use Rattle.relay_core.specs.Timers.{session_until}
 use Rattle.program_door.specs.Causes.{door_cause}
 use Rattle.program_door.specs.Wishes.{Sleeps, GoesOn, IsDone, door_until}
 
--- the door goes on and rests, and each session that has begun rests
+-- the door goes on, or some session that has begun holds something
+abbrev pub Remains : Config → List Act → Type 0
+Remains c past = GoesOn c past ⊎ ((s : ℕ) × (s < numbers c past) × (holds c past s ≡ true))
+
+-- something goes on, the door rests, and each session that has begun rests
 pub record AllRest (c : Config) (past : List Act) (until : Option ℕ) : Type 0 where
   pub door : Sleeps c past until
-  pub goes_on : GoesOn c past
+  pub remains : Remains c past
   pub sessions : (s : ℕ) → s < numbers c past → SessionRests c past s
 
 -- then a wait is in order

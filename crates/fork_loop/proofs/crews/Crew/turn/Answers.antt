@@ -1,3 +1,4 @@
+use Rattle.std.proofs.Common.{inl, inr, arith}
 use Rattle.fork_loop.proofs.Loops.{kept_on}
 use Rattle.fork_loop.proofs.DoorSteps.{spread_ends}
 use Rattle.fork_loop.proofs.crews.Crew.turn.Goals as goal
@@ -12,12 +13,18 @@ pub returns-in-Waits : goal.returns-in-Waits
 returns-in-Waits g c = λ start past on.
     let o = c.in_default.ensures.0 c.args.turns start past on in
     let w = c.in-Waits.ensures.0 c.args.turns start o.past o.course in
-    c.wait_for.ensures start w.past w.course w.wished
+    c.wait_for.ensures start w.past w.course (record { door = w.wished.0; remains = inl w.wished.1 })
 
-pub returns-in-Over : goal.returns-in-Over
-returns-in-Over g c = λ start past on.
+pub returns-in-Some-first_from : goal.returns-in-Some-first_from
+returns-in-Some-first_from g c = λ start past on.
     let o = c.in_default.ensures.0 c.args.turns start past on in
-    (c.in-Over.ensures.0 c.args.turns start o.past o.course, c.in-Over.ensures.1)
+    let w = c.in-Over.ensures.0 c.args.turns start o.past o.course in
+    c.wait_for-in-Some-first_from.ensures start w.past w.course (record { door = w.wished.sleeps; remains = inr (_, c.in-Some-first_from.ensures.1) })
+
+pub returns-in-None : goal.returns-in-None
+returns-in-None g c = λ start past on.
+    let o = c.in_default.ensures.0 c.args.turns start past on in
+    (c.in-Over.ensures.0 c.args.turns start o.past o.course, λ s. c.in-None.ensures s (omega arith))
 
 pub returns-in-Ends : goal.returns-in-Ends
 returns-in-Ends g c = λ start past on.
