@@ -350,12 +350,12 @@ pub some_next : (c : Config) (now : Seen) (before after : Crew) → Somewhere c 
 some_next c now before after at same = record { n = at.n; start = at.start; past = at.past; course = next_taken c at.n at.start now at.past before after at.course same }
 
 pub asked_before : (c : Config) (old new : Seen) (before mid after : Crew) (result : Option Asked) → SameButNext before mid → GoesOn c old new mid after result → GoesOn c old new before after result
-asked_before c old new before mid after None same r = (λ n start past on. r.0 n start past (next_taken c n start old past before mid on same), r.1, fewer_before before mid after r.2 same.door_same)
+asked_before c old new before mid after None same r = (λ n start past on. r.0 n start past (next_taken c n start old past before mid on same), r.1, fewer_before before mid after r.2 same.door_same, r.3 ∙ same.made_same)
   where
     fewer_before : (one two three : Crew) → steps_of three.door < steps_of two.door → two.door ≡ one.door → steps_of three.door < steps_of one.door
     fewer_before one two three h e = let x = ap steps_of e in omega (arith, h, x)
-asked_before c old new before mid after (Some (asks.Waits until)) same r = (λ n start past on. r.0 n start past (next_taken c n start old past before mid on same), r.1)
-asked_before c old new before mid after (Some asks.Over) same r = (λ n start past on. r.0 n start past (next_taken c n start old past before mid on same), r.1)
+asked_before c old new before mid after (Some (asks.Waits until)) same r = (λ n start past on. r.0 n start past (next_taken c n start old past before mid on same), r.1, r.2 ∙ same.made_same)
+asked_before c old new before mid after (Some asks.Over) same r = (λ n start past on. r.0 n start past (next_taken c n start old past before mid on same), r.1, r.2 ∙ same.made_same)
 asked_before c old new before mid after (Some (asks.Ends why)) same r = λ n start past on. r n start past (next_taken c n start old past before mid on same)
 
 pub next_for : (c : Config) (now : Seen) (crew after : Crew) (unborn : Unborn) → Somewhere c now crew → SameButNext crew after → TakesNext c unborn crew after → (past : List Act) → after.table.admitted ≡ admitted c past → IsUnborn c (admitted c past) unborn
@@ -364,10 +364,10 @@ next_for c now crew after unborn at same t past e =
     let is = t.is_next at.past f.next f.counts.admitted_is in
     subst (λ (k : ℕ). IsUnborn c k unborn) (sym f.counts.admitted_is ∙ sym same.admitted_same ∙ e) is
 
-pub asked_then : (c : Config) (old mid new : Seen) (one two three : Crew) (asked : Asked) → Keeps c old mid one two → AskedIs c mid new two three asked → AskedIs c old new one three asked
-asked_then c old mid new one two three (asks.Waits until) k r = (λ n start past on. let o = k n start past on in r.0 n start o.past o.course, r.1)
-asked_then c old mid new one two three asks.Over k r = (λ n start past on. let o = k n start past on in r.0 n start o.past o.course, r.1)
-asked_then c old mid new one two three (asks.Ends why) k r = λ n start past on. let o = k n start past on in r n start o.past o.course
+pub asked_then : (c : Config) (old mid new : Seen) (one two three : Crew) (asked : Asked) → Keeps c old mid one two → two.made ≡ one.made → AskedIs c mid new two three asked → AskedIs c old new one three asked
+asked_then c old mid new one two three (asks.Waits until) k m r = (λ n start past on. let o = k n start past on in r.0 n start o.past o.course, r.1, r.2 ∙ m)
+asked_then c old mid new one two three asks.Over k m r = (λ n start past on. let o = k n start past on in r.0 n start o.past o.course, r.1, r.2 ∙ m)
+asked_then c old mid new one two three (asks.Ends why) k m r = λ n start past on. let o = k n start past on in r n start o.past o.course
 
 -- ---- each answer of the door, whole
 
@@ -376,18 +376,21 @@ goes_acted c old new live before after act e at asleep a none kept = (
   λ n start past on. door_acted c n start old new past live before after act e on a none kept,
   asleep_as before after kept.table_same asleep,
   steps_fewer c old new live before after act e at a,
+  kept.made_same,
 )
 
 pub goes_waiting : (c : Config) (old new : Seen) (live : ℕ) (before after : Crew) (until : Option ℕ) → live ≡ live_in before.table → AllAsleep before → new ≡ old → after.door ≡ before.door → ((m : ℕ) (p : List Act) → DoorFor c m p before.clock live before.door → Wished c p (wishes.Sleep until)) → KeptBack c before after → AskedIs c old new before after (asks.Waits until)
 goes_waiting c old new live before after until e asleep same door wished kept = (
   λ n start past on. record { past = past; course = door_unmoved c n start old new past before after on same door kept; wished = wished n past (door_for c n start old past before live e on) },
   asleep_as before after kept.table_same asleep,
+  kept.made_same,
 )
 
 pub goes_over : (c : Config) (old new : Seen) (live : ℕ) (before after : Crew) → live ≡ live_in before.table → AllAsleep before → new ≡ old → after.door ≡ before.door → ((m : ℕ) (p : List Act) → DoorFor c m p before.clock live before.door → Wished c p wishes.Done) → KeptBack c before after → AskedIs c old new before after asks.Over
 goes_over c old new live before after e asleep same door wished kept = (
   λ n start past on. record { past = past; course = door_unmoved c n start old new past before after on same door kept; wished = wished n past (door_for c n start old past before live e on) },
   asleep_as before after kept.table_same asleep,
+  kept.made_same,
 )
 
 -- the session that its peer makes of the next one
@@ -405,6 +408,7 @@ goes_admitted c old mid_seen new live number before mid after place peer session
   λ n start past on. run.0 n start (acts.Accepted place peer ∷ past) (born_on c n start old mid_seen past live before mid place peer session e on a admits born more),
   asleep_after number before mid after (λ s apart. more.others s (λ x. apart (x ∙ sym same))) run.1 run.2 asleep,
   fewer_kept before mid after (steps_fewer c old mid_seen live before mid (acts.Accepted place peer) e at a) run.3.door_same,
+  run.3.made_same ∙ more.made_same,
 )
 
 pub ends_admitted : (c : Config) (old mid_seen new : Seen) (live number : ℕ) (why : Why) (before mid after : Crew) (place : Place) (peer : Peer) (session : Session) → live ≡ live_in before.table → DoorActs c (λ m p. DoorFor c m p before.clock live before.door) old mid_seen before.door mid.door (acts.Accepted place peer) → ((m : ℕ) (p : List Act) → DoorFor c m p before.clock live before.door → Admits c p place peer) → BornAs c before peer session → OneMore session before mid → RowRuns c mid_seen new number mid after (Some why) → AskedIs c old new before after (asks.Ends why)
@@ -418,6 +422,7 @@ goes_failed c old mid_seen new live before mid cut after e at a kept cuts run = 
   λ n start past on. run.0 n start (acts.AcceptFailed program_door ∷ past) (door_failed c n start old mid_seen past live before mid cut e on a kept cuts),
   run.1,
   fewer_kept before mid after (steps_fewer c old mid_seen live before mid (acts.AcceptFailed program_door) e at a) (run.2.door_same ∙ cuts.same.door_same),
+  run.2.made_same ∙ (cuts.same.made_same ∙ kept.made_same),
 )
 
 pub ends_failed : (c : Config) (old mid_seen new : Seen) (live : ℕ) (why : Why) (before mid cut after : Crew) → live ≡ live_in before.table → DoorActs c (λ m p. DoorFor c m p before.clock live before.door) old mid_seen before.door mid.door (acts.AcceptFailed program_door) → KeptBack c before mid → CutsRows whys.AcceptFailed mid cut → AllRun c mid_seen new cut after (Some why) → AskedIs c old new before after (asks.Ends why)

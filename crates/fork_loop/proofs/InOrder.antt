@@ -1,5 +1,5 @@
 -- Where the door and all sessions wait, a wait is in order, until the least moment that one of them waits for.
-use Rattle.std.proofs.Common.{◌≡◌, refl, sym, ap, subst, ◌∙◌, ℕ, ◌<◌, ◌≤◌, ◌⊎◌, inl, inr, Bool, true, false, ◌&&◌, nat_lt, List, [], ◌∷◌, Option, Some, None, is_some, arith}
+use Rattle.std.proofs.Common.{◌≡◌, refl, sym, ap, subst, ◌∙◌, ℕ, suc, ◌<◌, ◌≤◌, ◌⊎◌, inl, inr, Bool, true, false, ◌&&◌, nat_lt, List, [], ◌∷◌, Option, Some, None, is_some, arith}
 use Rattle.std.proofs.lemmas.Bool.{false≢true}
 use Rattle.relay_model.specs.declared.commands.Config.{Config}
 use Rattle.relay_model.specs.declared.acts.Act.{Act}
@@ -18,7 +18,9 @@ use Rattle.relay_core.specs.Timers.{session_until}
 use Rattle.program_door.specs.Stands.{DoorStands}
 use Rattle.program_door.specs.Wishes.{GoesOn}
 use Rattle.relay_core.proofs.Homes.{lives_at_home}
-use Rattle.fork_loop.specs.Turned.{Rested}
+use Rattle.fork_loop.specs.declared.turned.TurnEnd.{TurnEnd}
+use Rattle.fork_loop.specs.declared.turned.TurnEnd.TheVariants as ends
+use Rattle.fork_loop.specs.Turned.{Rested, Further}
 use Rattle.program_door.proofs.Moves.{numbers_are}
 use Rattle.session_sleep.specs.Sleeps.{RestsUntil}
 use Rattle.session_sleep.proofs.Resting.{gone}
@@ -147,3 +149,15 @@ limit_ends c n start now past crew until on order used =
       all = refl;
       rows = λ s. row_may_end c n past s whys.Stopped (row_of crew.table s) (inr (refl, all_used, order.rests)) (on.rows s);
     }
+
+-- ---- one more turn
+
+pub further_same : (n : ℕ) (before mid after : Crew) → SameCrew before mid → mid.made < n → after.made ≡ suc mid.made → (before.made < n) × (after.made ≡ suc before.made)
+further_same n before mid after k few e = let m = k.same.made_same in (omega (arith, m, few), e ∙ ap suc m)
+
+pub further_made : (n : ℕ) (before mid after : Crew) → mid.made ≡ before.made → (mid.made < n) × (after.made ≡ suc mid.made) → (before.made < n) × (after.made ≡ suc before.made)
+further_made n before mid after m r = let few = r.0 in (omega (arith, m, few), r.1 ∙ ap suc m)
+
+pub further_then : (n : ℕ) (before mid after : Crew) (end : TurnEnd) → mid.made ≡ before.made → Further n mid after end → Further n before after end
+further_then n before mid after ends.Goes m r = further_made n before mid after m r
+further_then n before mid after end m r = r

@@ -46,11 +46,11 @@ pub record DoorIsOver (c : Config) (n : ℕ) (start now : Seen) (crew : Crew) : 
 
 -- the door and all sessions came to this
 abbrev pub AskedIs : Config → Seen → Seen → Crew → Crew → Asked → Type 0
-AskedIs c old new before after (asks.Waits until) = ((n : ℕ) (start : Seen) (past : List Act) → Course c n start old past before → DoorWaits c n start new until after) × AllAsleep after
-AskedIs c old new before after asks.Over = ((n : ℕ) (start : Seen) (past : List Act) → Course c n start old past before → DoorIsOver c n start new after) × AllAsleep after
+AskedIs c old new before after (asks.Waits until) = ((n : ℕ) (start : Seen) (past : List Act) → Course c n start old past before → DoorWaits c n start new until after) × AllAsleep after × (after.made ≡ before.made)
+AskedIs c old new before after asks.Over = ((n : ℕ) (start : Seen) (past : List Act) → Course c n start old past before → DoorIsOver c n start new after) × AllAsleep after × (after.made ≡ before.made)
 AskedIs c old new before after (asks.Ends why) = (n : ℕ) (start : Seen) (past : List Act) → Course c n start old past before → MayEnd c n start new why after
 
 -- they did, or one more call of the door was made
 abbrev pub GoesOn : Config → Seen → Seen → Crew → Crew → Option Asked → Type 0
-GoesOn c old new before after None = Keeps c old new before after × AllAsleep after × (steps_of after.door < steps_of before.door)
+GoesOn c old new before after None = Keeps c old new before after × AllAsleep after × (steps_of after.door < steps_of before.door) × (after.made ≡ before.made)
 GoesOn c old new before after (Some asked) = AskedIs c old new before after asked

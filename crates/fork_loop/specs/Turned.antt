@@ -1,5 +1,5 @@
 -- What a turn of the loop makes of it.
-use Rattle.std.specs.Prelude.{◌≡◌, ◌⊎◌, ℕ, true, List, Option, None, is_some}
+use Rattle.std.specs.Prelude.{◌≡◌, ◌⊎◌, ℕ, suc, ◌<◌, true, List, Option, None, is_some}
 use Rattle.relay_model.specs.declared.commands.Config.{Config}
 use Rattle.relay_model.specs.declared.acts.Act.{Act}
 use Rattle.relay_model.specs.declared.acts.Why.TheVariants as whys
@@ -30,11 +30,25 @@ RunIs c n start new after ends.Over = DoorIsOver c n start new after × NoneLive
 RunIs c n start new after (ends.Ends why) = MayEnd c n start new why after
 RunIs c n start new after ends.Stops = Leaving c n start new whys.Stopped after
 
+-- a turn that goes on was one more of at most n
+abbrev pub Further : ℕ → Crew → Crew → TurnEnd → Type 0
+Further n before after ends.Goes = (before.made < n) × (after.made ≡ suc before.made)
+Further n before after end = Unit {0}
+
 -- so of each that led to the beginning
+abbrev pub EndsRun : Config → ℕ → Seen → Seen → Crew → Crew → TurnEnd → Type 0
+EndsRun c n old new before after end = (start : Seen) (past : List Act) → Course c n start old past before → RunIs c n start new after end
+
+-- what a turn makes of it
 abbrev pub TurnIs : Config → ℕ → Seen → Seen → Crew → Crew → TurnEnd → Type 0
-TurnIs c n old new before after end = (start : Seen) (past : List Act) → Course c n start old past before → RunIs c n start new after end
+TurnIs c n old new before after end = EndsRun c n old new before after end × Further n before after end
 
 -- the same, where the door waits until this moment
 abbrev pub WaitsForAll : Config → ℕ → Option ℕ → Seen → Seen → Crew → Crew → TurnEnd → Type 0
 WaitsForAll c n first old new before after end =
-    (start : Seen) (past : List Act) → Course c n start old past before → Rested c past first before → RunIs c n start new after end
+    ((start : Seen) (past : List Act) → Course c n start old past before → Rested c past first before → RunIs c n start new after end) × Further n before after end
+
+-- a run that is over, or is to be ended
+abbrev pub HasEnded : TurnEnd → Type 0
+HasEnded ends.Goes = ⊥
+HasEnded end = Unit {0}

@@ -1,5 +1,5 @@
 -- What a wait makes of the loop.
-use Rattle.std.specs.Prelude.{◌≡◌, ℕ, true, List, Option, Some, None}
+use Rattle.std.specs.Prelude.{◌≡◌, ℕ, suc, true, List, Option, Some, None}
 use Rattle.relay_model.specs.declared.commands.Config.{Config}
 use Rattle.relay_model.specs.declared.acts.Act.{Act}
 use Rattle.relay_model.specs.declared.acts.Why.{Why}
@@ -38,6 +38,6 @@ pub record InOrder (c : Config) (past : List Act) (until : Option ℕ) : Type 0 
 
 -- where it was, the run goes on after the turn, or is stopped by it
 abbrev pub WaitedIs : Config → ℕ → Option ℕ → Seen → Seen → Crew → Crew → Waited → Type 0
-WaitedIs c n until old new before after waits.Goes = (start : Seen) (past : List Act) → Course c n start old past before → InOrder c past until → Onward c n start new after
+WaitedIs c n until old new before after waits.Goes = ((start : Seen) (past : List Act) → Course c n start old past before → InOrder c past until → Onward c n start new after) × (after.made ≡ suc before.made)
 WaitedIs c n until old new before after waits.Stops = (start : Seen) (past : List Act) → Course c n start old past before → InOrder c past until → Leaving c n start new whys.Stopped after
 WaitedIs c n until old new before after waits.Memory = (start : Seen) (past : List Act) → Course c n start old past before → MayEnd c n start new whys.Memory after
