@@ -1,5 +1,5 @@
 -- Where the door and all sessions wait, a wait is in order, until the least moment that one of them waits for.
-use Rattle.std.proofs.Common.{◌≡◌, refl, sym, ap, subst, ◌∙◌, ℕ, suc, ◌<◌, ◌≤◌, ◌⊎◌, inl, inr, Bool, true, false, ◌&&◌, nat_lt, List, [], ◌∷◌, Option, Some, None, is_some, arith}
+use Rattle.std.proofs.Common.{◌≡◌, refl, sym, ap, subst, ◌∙◌, ℕ, suc, ◌-◌, ◌<◌, ◌≤◌, ◌⊎◌, inl, inr, Bool, true, false, ◌&&◌, nat_lt, List, [], ◌∷◌, Option, Some, None, is_some, arith}
 use Rattle.std.proofs.lemmas.Bool.{false≢true}
 use Rattle.relay_model.specs.declared.commands.Config.{Config}
 use Rattle.relay_model.specs.declared.acts.Act.{Act}
@@ -18,9 +18,8 @@ use Rattle.relay_core.specs.Timers.{session_until}
 use Rattle.program_door.specs.Stands.{DoorStands}
 use Rattle.program_door.specs.Wishes.{GoesOn}
 use Rattle.relay_core.proofs.Homes.{lives_at_home}
-use Rattle.fork_loop.specs.declared.turned.TurnEnd.{TurnEnd}
-use Rattle.fork_loop.specs.declared.turned.TurnEnd.TheVariants as ends
-use Rattle.fork_loop.specs.Turned.{Rested, Further}
+use Rattle.fork_loop.specs.declared.turned.RunEnd.{RunEnd}
+use Rattle.fork_loop.specs.Turned.{Rested, Further, Within, KeepsTo}
 use Rattle.program_door.proofs.Moves.{numbers_are}
 use Rattle.session_sleep.specs.Sleeps.{RestsUntil}
 use Rattle.session_sleep.proofs.Resting.{gone}
@@ -30,7 +29,7 @@ use Rattle.session_crew.proofs.Waits.{least_wait}
 use Rattle.fork_table.specs.Tables.{row_of}
 use Rattle.session_driver.specs.Seen.{Seen}
 use Rattle.fork_loop.specs.declared.crews.Crew.{Crew}
-use Rattle.fork_loop.specs.Courses.{RowIs, NextIs, Course, IsAsleep, AllAsleep}
+use Rattle.fork_loop.specs.Courses.{RowIs, NextIs, Course, Somewhere, IsAsleep, AllAsleep}
 use Rattle.fork_loop.specs.Endings.{MayEnd}
 use Rattle.fork_loop.specs.Waited.{InOrder}
 use Rattle.fork_loop.specs.Waits.{SameCrew, WaitsFor, IsLeast}
@@ -158,6 +157,14 @@ further_same n before mid after k few e = let m = k.same.made_same in (omega (ar
 pub further_made : (n : ℕ) (before mid after : Crew) → mid.made ≡ before.made → (mid.made < n) × (after.made ≡ suc mid.made) → (before.made < n) × (after.made ≡ suc before.made)
 further_made n before mid after m r = let few = r.0 in (omega (arith, m, few), r.1 ∙ ap suc m)
 
-pub further_then : (n : ℕ) (before mid after : Crew) (end : TurnEnd) → mid.made ≡ before.made → Further n mid after end → Further n before after end
-further_then n before mid after ends.Goes m r = further_made n before mid after m r
-further_then n before mid after end m r = r
+pub further_then : (n : ℕ) (before mid after : Crew) (end : Option RunEnd) → mid.made ≡ before.made → Further n mid after end → Further n before after end
+further_then n before mid after None m r = further_made n before mid after m r
+further_then n before mid after (Some end) m r = r
+
+-- ---- until the loop ends
+
+pub within_on : (c : Config) (n : ℕ) (old new : Seen) (before after : Crew) → Within c n old before → KeepsTo c n old new before after → Somewhere c new after
+within_on c n old new before after w k = let o = k w.start w.past w.course in record { n = n; start = w.start; past = o.past; course = o.course }
+
+pub fewer_left : (n a b : ℕ) → (a < n) × (b ≡ suc a) → n - b < n - a
+fewer_left n a b r = let few = r.0 in let e = r.1 in omega (arith, few, e)

@@ -4,6 +4,7 @@
 mod asked;
 mod crews;
 mod endings;
+mod ran;
 mod rows;
 mod turned;
 mod turns;

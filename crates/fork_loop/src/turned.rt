@@ -11,10 +11,9 @@ use std::alloc::Global;
 use std::sync::ledger::Ledger;
 use world_trait::World;
 
-/// What a turn of the loop came to.
+/// Why the loop takes no more turns.
 #[derive(Clone, Copy, Debug, PartialEq, Eq)]
-pub enum TurnEnd {
-    Goes,
+pub enum RunEnd {
     /// The door is over, and no session lives.
     Over,
     /// The run is to end for this reason: for want of memory, or since the turns are used up (`Stopped`).
@@ -36,21 +35,21 @@ impl Crew {
         config: &Config,
         turns: u64,
         steps: &mut Steps<L>,
-    ) -> TurnEnd
+    ) -> Option<RunEnd>
         requires fit { Fit config.now }
         requires course { Somewhere config.now (seen W.told W.held W.faults W.waits W.stops W.clock world.old) self.old }
         ensures { TurnIs config.now turns (seen W.told W.held W.faults W.waits W.stops W.clock world.old) (seen W.told W.held W.faults W.waits W.stops W.clock world.new) self.old self.new result }
     {
         if let Some(why) = self.run_rows(world, config, steps) {
-            return TurnEnd::Ends(why);
+            return Some(RunEnd::Ends(why));
         }
         match self.ask_door(alloc, world, config, steps) {
             Asked::Waits(first) => self.wait_for(first, world, config, turns, steps),
             Asked::Over => match self.table.first_from(0) {
                 Some(_) => self.wait_for(None, world, config, turns, steps),
-                None => TurnEnd::Over,
+                None => Some(RunEnd::Over),
             },
-            Asked::Ends(why) => TurnEnd::Ends(why),
+            Asked::Ends(why) => Some(RunEnd::Ends(why)),
         }
     }
 
@@ -62,19 +61,19 @@ impl Crew {
         config: &Config,
         turns: u64,
         steps: &mut Steps<L>,
-    ) -> TurnEnd
+    ) -> Option<RunEnd>
         requires { AllAsleep self.old }
         ensures { WaitsForAll config.now turns first (seen W.told W.held W.faults W.waits W.stops W.clock world.old) (seen W.told W.held W.faults W.waits W.stops W.clock world.new) self.old self.new result }
     {
         let until = self.least_until(first, steps);
         if self.made < turns {
             match self.wait(world, config, until, turns, steps) {
-                Waited::Goes => TurnEnd::Goes,
-                Waited::Stops => TurnEnd::Stops,
-                Waited::Memory => TurnEnd::Ends(Why::Memory),
+                Waited::Goes => None,
+                Waited::Stops => Some(RunEnd::Stops),
+                Waited::Memory => Some(RunEnd::Ends(Why::Memory)),
             }
         } else {
-            TurnEnd::Ends(Why::Stopped)
+            Some(RunEnd::Ends(Why::Stopped))
         }
     }
 }
