@@ -1,6 +1,7 @@
 pub mod DoorSteps
 pub mod Hearing
 pub mod InOrder
+pub mod Leavings
 pub mod Loops
 pub mod Others
 pub mod RowRuns

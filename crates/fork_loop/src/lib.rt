@@ -4,6 +4,7 @@
 mod asked;
 mod crews;
 mod endings;
+mod left;
 mod ran;
 mod rows;
 mod turned;
