@@ -1,3 +1,4 @@
+pub mod Begun
 pub mod DoorSteps
 pub mod Hearing
 pub mod InOrder

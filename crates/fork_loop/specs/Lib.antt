@@ -1,4 +1,5 @@
 pub mod Asking
+pub mod Births
 pub mod Courses
 pub mod Endings
 pub mod Left

@@ -2,6 +2,7 @@
 #![tactic(auto)]
 
 mod asked;
+mod births;
 mod crews;
 mod endings;
 mod left;
@@ -11,3 +12,6 @@ mod turned;
 mod turns;
 mod waited;
 mod waits;
+
+pub use crews::Crew;
+pub use turned::RunEnd;
