@@ -16,12 +16,7 @@ use relay_model::{Config, Place, Why};
 use world_trait::{AcceptAnswer, ListenAnswer, World};
 
 /// Listens at the door.
-pub fn listen<W: World>(
-    door: &mut Door,
-    world: &mut W,
-    config: &Config,
-    now: u64,
-) -> DoorStepped
+pub fn listen<W: World>(door: &mut Door, world: &mut W, config: &Config, now: u64) -> DoorStepped
     requires { W.held world.old the_door ≡ Free }
     ensures { DoorStepIs config.now (λ n past. WishFor config.now n past now wishes.Listen door.old) (seen W.told W.held W.faults W.waits W.stops W.clock world.old) (seen W.told W.held W.faults W.waits W.stops W.clock world.new) door.old door.new result }
 {

@@ -62,10 +62,10 @@ row_rests c n past s (Some x) fork below w a =
       rests = k.rests;
       to = λ m e. (x, refl, a.1 ∙ ap sleeps.Sleep (k.until_is ∙ e));
       from = λ m y e v. (
-        let same : x ≡ y = cc in
-        let z : sleeps.Sleep a.0 ≡ sleeps.Sleep (Some m) = sym a.1 ∙ ap wish_of same ∙ v in
-        let u : a.0 ≡ Some m = cc in
-        sym k.until_is ∙ u);
+          let same : x ≡ y = cc in
+          let z : sleeps.Sleep a.0 ≡ sleeps.Sleep (Some m) = sym a.1 ∙ ap wish_of same ∙ v in
+          let u : a.0 ≡ Some m = cc in
+          sym k.until_is ∙ u);
     }
 
 and_second : (a b : Bool) → (a && b) ≡ true → b ≡ true

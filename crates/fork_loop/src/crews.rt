@@ -1,5 +1,6 @@
 // All that the loop drives.
 ghost use Rattle.std.specs.Prelude.{◌<◌, ◌≤◌, vec_len};
+
 use fork_table::ForkTable;
 use program_door::Door;
 use relay_core::{Session, Unborn};

@@ -40,11 +40,7 @@ impl Crew {
                 self.made += 1;
                 self.clock = at;
                 self.hear_all(at, stop, steps);
-                if stop {
-                    Waited::Stops
-                } else {
-                    Waited::Goes
-                }
+                if stop { Waited::Stops } else { Waited::Goes }
             }
             Turned::Memory => Waited::Memory,
         }

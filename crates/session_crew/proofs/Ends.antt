@@ -155,6 +155,6 @@ told_outcome c n past answer legal fork done none told =
         let st : only_if (stop_said past) (Stopped (turns past)) ≡ None = ap (λ b. only_if b (Stopped (turns past))) et in
         let ac : only_if (list_any (accept_failed past) (program_doors c)) AcceptFailed ≡ None = (λ i. only_if (list_any (accept_failed past) (cond (fork i) (program_door ∷ []) (own_doors c 0))) AcceptFailed) ∙ ap (λ b. only_if (b || false) AcceptFailed) ea in
         let li : failed_listening c past (program_doors c) ≡ None =
-            (λ i. failed_listening c past (cond (fork i) (program_door ∷ []) (own_doors c 0)))
-            ∙ ap (λ b. or_else (only_if b (ListenFailed (length (failures past program_door)))) None) o in
+        (λ i. failed_listening c past (cond (fork i) (program_door ∷ []) (own_doors c 0)))
+        ∙ ap (λ b. or_else (only_if b (ListenFailed (length (failures past program_door)))) None) o in
         (λ i. first_some (ma i ∷ st i ∷ ac i ∷ li i ∷ cond (fork i) (last i) (outcome_by c past (cause c past 0)) ∷ [])) ∙ ap Some (sym e)

@@ -23,8 +23,8 @@ returns-then-admitted-before g c = (
   λ n past f. record {
     ends_none = inl refl;
     admitted_same = (
-      let h = c.heard.ensures c.args.config.now n past f.stands f.wished f.legal f.at_is in
-      sym (c.admitted.ensures c.args.config.now _ h.stands) ∙ c.if-admitted-before.true ∙ c.admitted-before.ensures c.args.config.now past f.stands);
+        let h = c.heard.ensures c.args.config.now n past f.stands f.wished f.legal f.at_is in
+        sym (c.admitted.ensures c.args.config.now _ h.stands) ∙ c.if-admitted-before.true ∙ c.admitted-before.ensures c.args.config.now past f.stands);
   },
 )
 
