@@ -17,6 +17,7 @@ pub record ConnectState : Type 0 where
   pub heard : List ℕ
   pub end : Option ConnectEnd
 
+-- a talk of this request, of whose reply nothing came
 abbrev pub fresh_talk : List ℕ → ConnectState
 fresh_talk request = record { request = request; heard = []; end = None }
 
@@ -28,6 +29,7 @@ is_ended bytes = ends_with nat_eq bytes (10 ∷ 10 ∷ []) || ends_with nat_eq b
 abbrev pub HasHead : List ℕ → (ResponseHead → Type 0) → Type 0
 HasHead bytes P = (h : ResponseHead) × ReadsResponse bytes h [] × (length h.fields ≤ 64) × P h
 
+-- no head of a response with at most 64 fields is these bytes as a whole
 abbrev pub HasNoHead : List ℕ → Type 0
 HasNoHead bytes = (h : ResponseHead) → ReadsResponse bytes h [] → ¬ (length h.fields ≤ 64)
 
@@ -42,6 +44,7 @@ IsEnd bytes (ends.BadHead have) = (is_ended bytes ≡ true) × (have ≡ length 
 IsEnd bytes ends.TooLong = (is_ended bytes ≡ false) × (length bytes ≡ 8192)
 IsEnd bytes (ends.Short have) = ⊥
 
+-- what the bytes of a reply come to so far
 abbrev pub Means : List ℕ → Verdict → Type 0
 Means bytes verdicts.More = (is_ended bytes ≡ false) × (length bytes < 8192)
 Means bytes verdicts.Granted = (is_ended bytes ≡ true) × HasHead bytes (λ h. IsSuccess (status_code h))

@@ -3,6 +3,7 @@ use Rattle.std.specs.Prelude.{◌≡◌, ℕ, ◌<◌, Bool, true, List, ◌∷�
 use Rattle.relay_model.specs.declared.commands.Config.{Config}
 use Rattle.relay_model.specs.declared.places.Place.{Place}
 use Rattle.relay_model.specs.declared.acts.Act.{Act}
+use Rattle.relay_model.specs.declared.acts.Why.{Why}
 use Rattle.relay_model.specs.Configs.{is_place_of, is_program, medium_of}
 use Rattle.relay_model.specs.History.{was_closed}
 use Rattle.place_openings.specs.Steps.{has_asked}
@@ -12,7 +13,7 @@ use Rattle.relay_core.specs.declared.sessions.Session.{Session}
 use Rattle.relay_core.specs.declared.wishes.Wish.{Wish}
 use Rattle.relay_core.specs.declared.sessions.Unborn.{Unborn}
 use Rattle.relay_core.specs.Births.{IsNew}
-use Rattle.relay_core.specs.States.{Fields, Allowed, steps_of, home}
+use Rattle.relay_core.specs.States.{Ground, Fields, Allowed, steps_of, home}
 use Rattle.relay_core.specs.Steps.{Heeds, waiting_for}
 
 -- the session stands for this history of a command of n turns
@@ -30,6 +31,10 @@ pub record Hears (c : Config) (n : ℕ) (past : List Act) (s : ℕ) (session : S
   pub stands : Stands c n past s session
   pub heeds : Heeds c past s session.state
 
+-- what it keeps is what this history says, whatever ends it and whatever it wishes for
+abbrev pub IsGrounded : Config → List Act → ℕ → Session → Type 0
+IsGrounded c past s session = Ground c past s session.state
+
 -- what a session wishes for
 abbrev pub wish_of : Session → Wish
 wish_of session = session.wish
@@ -41,6 +46,10 @@ waiting_of session = waiting_for session.state session.wish
 -- how many steps it takes at most before the next turn
 abbrev pub left_of : Session → ℕ
 left_of session = steps_of session.state
+
+-- why it has ended, if it has
+abbrev pub ending_of : Session → Option Why
+ending_of session = session.state.ending
 
 -- something has ended it
 abbrev pub has_ended : Session → Bool

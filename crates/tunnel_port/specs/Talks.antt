@@ -13,6 +13,7 @@ use Rattle.tunnel_port.specs.declared.stage.Stage.TheVariants as stages
 use Rattle.tunnel_port.specs.declared.talk.Heard.{Heard}
 use Rattle.tunnel_port.specs.declared.talk.Heard.TheVariants as hearing
 
+-- whether the request was granted
 abbrev pub is_passed : Stage → Bool
 is_passed stages.Joining = false
 is_passed stages.Talking = false
@@ -30,6 +31,7 @@ is_over stages.Faulted = true
 is_over stages.Refused = true
 is_over stages.Cut = true
 
+-- what a settling answers
 abbrev pub settled_at : Stage → Settled
 settled_at stages.Joining = settles.NotYet
 settled_at stages.Talking = settles.NotYet
@@ -47,6 +49,7 @@ read_at stages.Faulted = reads.Failed
 read_at stages.Refused = reads.Failed
 read_at stages.Cut = reads.Failed
 
+-- the same of a write
 abbrev pub write_at : Stage → WriteAnswer
 write_at stages.Joining = writes.NotYet
 write_at stages.Talking = writes.NotYet

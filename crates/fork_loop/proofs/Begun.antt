@@ -1,0 +1,61 @@
+-- A run that has just begun.
+use Rattle.std.proofs.Common.{◌≡◌, refl, sym, ap, subst, ◌∙◌, ℕ, ◌<◌, true, false, List, [], ◌∷◌, ◌++◌, Option, Some, None, arith}
+use Rattle.std.specs.Option.{option_map}
+use Rattle.relay_model.specs.declared.commands.Config.{Config}
+use Rattle.relay_model.specs.declared.places.Place.{Place}
+use Rattle.relay_model.specs.declared.commands.Options.{Options}
+use Rattle.relay_model.specs.Configs.{options_of, program_door}
+use Rattle.relay_model.specs.Holding.{Free}
+use Rattle.relay_model.specs.Journals.{History}
+use Rattle.session_driver.specs.Steps.{extend}
+use Rattle.relay_model.specs.Sessions.{admitted, holds, door_options}
+use Rattle.relay_core.specs.declared.sessions.Session.{Session}
+use Rattle.program_door.specs.Stands.{DoorStands}
+use Rattle.fork_table.specs.Tables.{row_of}
+use Rattle.session_driver.specs.Seen.{Seen}
+use Rattle.fork_loop.specs.declared.crews.Crew.{Crew}
+use Rattle.fork_loop.specs.Births.{Forks}
+use Rattle.fork_loop.specs.Courses.{RowIs, Course}
+
+nil_right : {A : Type 0} (xs : List A) → xs ++ [] ≡ xs
+nil_right [] = refl
+nil_right (x ∷ xs) = ap (λ ys. x ∷ ys) (nil_right xs)
+
+told_nothing : (o : Option History) → o ≡ option_map (extend [] []) o
+told_nothing None = refl
+told_nothing (Some h) = ap (λ xs. Some (record { acts = h.acts; asked = xs })) (sym (nil_right h.asked))
+
+no_row_yet : (c : Config) (n : ℕ) (s : ℕ) (row : Option Session) → row ≡ None → RowIs c n [] s row
+no_row_yet c n s row e = subst (RowIs c n [] s) (sym e) (λ b. absurd (omega (arith, b)))
+
+pub begun : (c : Config) (n : ℕ) (start : Seen) (crew : Crew) → Forks c → DoorStands c [] crew.door → crew.unborn ≡ None → crew.clock ≡ 0 → crew.made ≡ 0 → crew.table.admitted ≡ 0 → crew.table.max_children ≡ (door_options c).max_children → crew.table.stop_after ≡ (door_options c).stop_after → ((s : ℕ) → row_of crew.table s ≡ None) → ((p : Place) → start.held p ≡ Free) → Course c n start start [] crew
+begun c n start crew forks door eu ec em ea eb es rows free = record {
+  frame = record {
+    fork = forks.fork;
+    run = record {
+      undumped = forks.undumped;
+      legal = tt;
+      named = tt;
+      pairs = [];
+      asked = tt;
+      told = told_nothing start.told;
+      holds = free;
+      later = omega arith;
+      blamed = λ h. cc;
+      waited = omega arith;
+      later_stops = omega arith;
+      stopped = λ h. cc;
+      clock = omega arith;
+    };
+    door = door;
+    counts = record { admitted_is = ea; children_is = eb; stop_is = es };
+    next = rw eu tt;
+    clock_is = ec;
+    made_is = sym em;
+    unsaid = record { remembered = refl; unstopped = refl };
+  };
+  rows = λ s. no_row_yet c n s (row_of crew.table s) (rows s);
+}
+
+pub door_asked : (c : Config) (p : Place) (o : Options) → p ≡ program_door → o ≡ options_of c p → o ≡ door_options c
+door_asked c p o e f = f ∙ ap (options_of c) e

@@ -1,0 +1,11 @@
+pub mod Begun
+pub mod DoorSteps
+pub mod Hearing
+pub mod InOrder
+pub mod Leavings
+pub mod Loops
+pub mod Others
+pub mod RowRuns
+pub mod Spreading
+pub mod Turning
+pub mod Untils

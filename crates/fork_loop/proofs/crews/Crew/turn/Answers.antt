@@ -1,0 +1,45 @@
+use Rattle.std.proofs.Common.{inl, inr, arith, ◌∙◌}
+use Rattle.fork_loop.proofs.Loops.{kept_on}
+use Rattle.fork_loop.proofs.DoorSteps.{spread_ends}
+use Rattle.fork_loop.proofs.InOrder.{further_then}
+use Rattle.fork_loop.proofs.crews.Crew.turn.Goals as goal
+
+pub returns-in-Some : goal.returns-in-Some
+returns-in-Some g c = (λ start past on. let s = c.in-Some.ensures c.args.turns start past on in spread_ends c.args.config.now c.args.turns start _ s.t c.in-Some.why _ s.spreads, tt)
+
+pub ask_door-requires-clause-course : goal.ask_door-requires-clause-course
+ask_door-requires-clause-course g c = kept_on c.args.config.now _ _ c.args.self.now _ c.requires.course c.in_default.ensures.0
+
+pub returns-in-Waits : goal.returns-in-Waits
+returns-in-Waits g c = (
+  λ start past on.
+      let o = c.in_default.ensures.0 c.args.turns start past on in
+      let w = c.in-Waits.ensures.0 c.args.turns start o.past o.course in
+      c.wait_for.ensures.0 start w.past w.course (record { door = w.wished.0; remains = inl w.wished.1 }),
+  further_then c.args.turns c.args.self.now c.ask_door.new.self c.wait_for.new.self _ (c.in-Waits.ensures.2 ∙ c.in_default.ensures.2.made_same) c.wait_for.ensures.1,
+)
+
+pub returns-in-Some-first_from : goal.returns-in-Some-first_from
+returns-in-Some-first_from g c = (
+  λ start past on.
+      let o = c.in_default.ensures.0 c.args.turns start past on in
+      let w = c.in-Over.ensures.0 c.args.turns start o.past o.course in
+      c.wait_for-in-Some-first_from.ensures.0 start w.past w.course (record { door = w.wished.sleeps; remains = inr (_, c.in-Some-first_from.ensures.1) }),
+  further_then c.args.turns c.args.self.now c.ask_door.new.self c.wait_for-in-Some-first_from.new.self _ (c.in-Over.ensures.2 ∙ c.in_default.ensures.2.made_same) c.wait_for-in-Some-first_from.ensures.1,
+)
+
+pub returns-in-None : goal.returns-in-None
+returns-in-None g c = (
+  λ start past on.
+      let o = c.in_default.ensures.0 c.args.turns start past on in
+      (c.in-Over.ensures.0 c.args.turns start o.past o.course, λ s. c.in-None.ensures s (omega arith)),
+  tt,
+)
+
+pub returns-in-Ends : goal.returns-in-Ends
+returns-in-Ends g c = (
+  λ start past on.
+      let o = c.in_default.ensures.0 c.args.turns start past on in
+      c.in-Ends.ensures c.args.turns start o.past o.course,
+  tt,
+)

@@ -1,0 +1,56 @@
+-- What the calls of the program door make of the loop.
+use Rattle.std.specs.Prelude.{◌≡◌, ℕ, ◌<◌, List, Option, Some, None}
+use Rattle.relay_model.specs.declared.commands.Config.{Config}
+use Rattle.relay_model.specs.declared.acts.Act.{Act}
+use Rattle.relay_model.specs.Sessions.{admitted}
+use Rattle.relay_core.specs.declared.sessions.Unborn.{Unborn}
+use Rattle.relay_core.specs.Sessions.{IsUnborn}
+use Rattle.program_door.specs.declared.wishes.DoorWish.TheVariants as wishes
+use Rattle.program_door.specs.Steps.{steps_of}
+use Rattle.program_door.specs.Wishes.{Wished}
+use Rattle.fork_table.specs.Tables.{HasRoom, SameBounds, row_of}
+use Rattle.session_driver.specs.Seen.{Seen}
+use Rattle.fork_loop.specs.declared.crews.Crew.{Crew}
+use Rattle.fork_loop.specs.declared.asked.Asked.{Asked}
+use Rattle.fork_loop.specs.declared.asked.Asked.TheVariants as asks
+use Rattle.fork_loop.specs.Courses.{NextIs, Course, Keeps, AllAsleep}
+use Rattle.fork_loop.specs.Endings.{MayEnd}
+
+-- the next session is taken out, and nothing else changed
+pub record SameButNext (before after : Crew) : Type 0 where
+  pub door_same : after.door ≡ before.door
+  pub clock_same : after.clock ≡ before.clock
+  pub made_same : after.made ≡ before.made
+  pub admitted_same : after.table.admitted ≡ before.table.admitted
+  pub bounds_same : SameBounds before.table after.table
+  pub rows_same : (s : ℕ) → row_of after.table s ≡ row_of before.table s
+  pub next : (c : Config) (past : List Act) → NextIs c past before.unborn → NextIs c past after.unborn
+
+-- it is the next one, and there is room for it
+pub record TakesNext (c : Config) (unborn : Unborn) (before after : Crew) : Type 0 where
+  pub is_next : (past : List Act) → NextIs c past before.unborn → before.table.admitted ≡ admitted c past → IsUnborn c (admitted c past) unborn
+  pub room : HasRoom after.table
+  pub taken : after.unborn ≡ None
+
+-- the door waits until this moment
+pub record DoorWaits (c : Config) (n : ℕ) (start now : Seen) (until : Option ℕ) (crew : Crew) : Type 0 where
+  pub past : List Act
+  pub course : Course c n start now past crew
+  pub wished : Wished c past (wishes.Sleep until)
+
+-- the door is over
+pub record DoorIsOver (c : Config) (n : ℕ) (start now : Seen) (crew : Crew) : Type 0 where
+  pub past : List Act
+  pub course : Course c n start now past crew
+  pub wished : Wished c past wishes.Done
+
+-- the door and all sessions came to this
+abbrev pub AskedIs : Config → Seen → Seen → Crew → Crew → Asked → Type 0
+AskedIs c old new before after (asks.Waits until) = ((n : ℕ) (start : Seen) (past : List Act) → Course c n start old past before → DoorWaits c n start new until after) × AllAsleep after × (after.made ≡ before.made)
+AskedIs c old new before after asks.Over = ((n : ℕ) (start : Seen) (past : List Act) → Course c n start old past before → DoorIsOver c n start new after) × AllAsleep after × (after.made ≡ before.made)
+AskedIs c old new before after (asks.Ends why) = (n : ℕ) (start : Seen) (past : List Act) → Course c n start old past before → MayEnd c n start new why after
+
+-- they did, or one more call of the door was made
+abbrev pub GoesOn : Config → Seen → Seen → Crew → Crew → Option Asked → Type 0
+GoesOn c old new before after None = Keeps c old new before after × AllAsleep after × (steps_of after.door < steps_of before.door) × (after.made ≡ before.made)
+GoesOn c old new before after (Some asked) = AskedIs c old new before after asked

@@ -1,0 +1,61 @@
+-- What a turn of the loop makes of it.
+use Rattle.std.specs.Prelude.{◌≡◌, ◌⊎◌, ℕ, suc, ◌<◌, true, List, Option, Some, None, is_some}
+use Rattle.relay_model.specs.declared.commands.Config.{Config}
+use Rattle.relay_model.specs.declared.acts.Act.{Act}
+use Rattle.relay_model.specs.declared.acts.Why.TheVariants as whys
+use Rattle.program_door.specs.Wishes.{Sleeps, GoesOn}
+use Rattle.fork_table.specs.Tables.{row_of}
+use Rattle.session_driver.specs.Seen.{Seen}
+use Rattle.fork_loop.specs.declared.crews.Crew.{Crew}
+use Rattle.fork_loop.specs.declared.turned.RunEnd.{RunEnd}
+use Rattle.fork_loop.specs.declared.turned.RunEnd.TheVariants as ends
+use Rattle.fork_loop.specs.Asking.{DoorIsOver}
+use Rattle.fork_loop.specs.Courses.{Course, Onward}
+use Rattle.fork_loop.specs.Endings.{MayEnd}
+use Rattle.fork_loop.specs.Waited.{Leaving}
+
+-- no session lives
+abbrev pub NoneLives : Crew → Type 0
+NoneLives crew = (s : ℕ) → row_of crew.table s ≡ None
+
+-- the door waits until this moment, and it goes on or some session lives
+pub record Rested (c : Config) (past : List Act) (first : Option ℕ) (crew : Crew) : Type 0 where
+  pub door : Sleeps c past first
+  pub remains : GoesOn c past ⊎ ((s : ℕ) × (is_some (row_of crew.table s) ≡ true))
+
+-- what became of a run of at most n turns
+abbrev pub RunIs : Config → ℕ → Seen → Seen → Crew → Option RunEnd → Type 0
+RunIs c n start new after None = Onward c n start new after
+RunIs c n start new after (Some ends.Over) = DoorIsOver c n start new after × NoneLives after
+RunIs c n start new after (Some (ends.Ends why)) = MayEnd c n start new why after
+RunIs c n start new after (Some ends.Stops) = Leaving c n start new whys.Stopped after
+
+-- a turn that goes on was one more of at most n
+abbrev pub Further : ℕ → Crew → Crew → Option RunEnd → Type 0
+Further n before after None = (before.made < n) × (after.made ≡ suc before.made)
+Further n before after end = Unit {0}
+
+-- so of each that led to the beginning
+abbrev pub EndsRun : Config → ℕ → Seen → Seen → Crew → Crew → Option RunEnd → Type 0
+EndsRun c n old new before after end = (start : Seen) (past : List Act) → Course c n start old past before → RunIs c n start new after end
+
+-- what a turn makes of it
+abbrev pub TurnIs : Config → ℕ → Seen → Seen → Crew → Crew → Option RunEnd → Type 0
+TurnIs c n old new before after end = EndsRun c n old new before after end × Further n before after end
+
+-- the same, where the door waits until this moment
+abbrev pub WaitsForAll : Config → ℕ → Option ℕ → Seen → Seen → Crew → Crew → Option RunEnd → Type 0
+WaitsForAll c n first old new before after end =
+    ((start : Seen) (past : List Act) → Course c n start old past before → Rested c past first before → RunIs c n start new after end) × Further n before after end
+
+-- ---- the loop until it ends
+
+-- some run of at most n turns led here
+pub record Within (c : Config) (n : ℕ) (now : Seen) (crew : Crew) : Type 0 where
+  pub start : Seen
+  pub past : List Act
+  pub course : Course c n start now past crew
+
+-- each goes on from here to there
+abbrev pub KeepsTo : Config → ℕ → Seen → Seen → Crew → Crew → Type 0
+KeepsTo c n old new before after = (start : Seen) (past : List Act) → Course c n start old past before → Onward c n start new after

@@ -1,0 +1,137 @@
+// The program door between two turns.
+ghost use Rattle.std.specs.Prelude.{◌≡◌, List, None, IfOk};
+ghost use Rattle.relay_model.specs.declared.acts.Act.{Act};
+ghost use Rattle.relay_model.specs.Sessions.{admitted};
+ghost use Rattle.relay_core.specs.Sessions.{IsUnborn};
+ghost use Rattle.fork_table.specs.Tables.{HasRoom};
+ghost use Rattle.relay_model.specs.Configs.{Fit};
+ghost use Rattle.session_driver.specs.Seen.{seen};
+
+use crate::crews::Crew;
+use door_driver::{DoorStepped, step};
+use fork_table::Steps;
+use relay_core::Unborn;
+use relay_model::{Config, NoMemory, Why};
+use std::alloc::Global;
+use std::sync::ledger::Ledger;
+use world_trait::World;
+
+/// What the program door came to.
+#[derive(Clone, Copy, Debug, PartialEq, Eq)]
+pub enum Asked {
+    /// It waits for a turn, until this moment in milliseconds, and so does every session.
+    Waits(Option<u64>),
+    /// It holds nothing any more and will call for nothing; every session waits.
+    Over,
+    /// The run is to end for this reason, a stop or want of memory.
+    Ends(Why),
+}
+
+impl Crew {
+    ghost use Rattle.fork_loop.specs.Courses.{Somewhere, AllAsleep};
+    ghost use Rattle.fork_loop.specs.Asking.{AskedIs, GoesOn, TakesNext, SameButNext};
+
+    /// Makes the calls of the door, and those of each session that its peers bring, until the door waits or is over.
+    pub fn ask_door<W: World, L: Ledger>(
+        &mut self,
+        alloc: Global,
+        world: &mut W,
+        config: &Config,
+        steps: &mut Steps<L>,
+    ) -> Asked
+        requires fit { Fit config.now }
+        requires course { Somewhere config.now (seen W.told W.held W.faults W.waits W.stops W.clock world.old) self.old }
+        requires asleep { AllAsleep self.old }
+        ensures { AskedIs config.now (seen W.told W.held W.faults W.waits W.stops W.clock world.old) (seen W.told W.held W.faults W.waits W.stops W.clock world.new) self.old self.new result }
+    {
+        loop {
+            if let Some(asked) = self.ask_once(alloc, world, config, steps) {
+                return asked;
+            }
+        }
+    }
+
+    /// Makes the next call of the door.
+    fn ask_once<W: World, L: Ledger>(
+        &mut self,
+        alloc: Global,
+        world: &mut W,
+        config: &Config,
+        steps: &mut Steps<L>,
+    ) -> Option<Asked>
+        requires fit { Fit config.now }
+        requires course { Somewhere config.now (seen W.told W.held W.faults W.waits W.stops W.clock world.old) self.old }
+        requires asleep { AllAsleep self.old }
+        ensures { GoesOn config.now (seen W.told W.held W.faults W.waits W.stops W.clock world.old) (seen W.told W.held W.faults W.waits W.stops W.clock world.new) self.old self.new result }
+    {
+        match self.take_next(alloc, config) {
+            Ok(unborn) => self.ask_for(unborn, world, config, steps),
+            Err(NoMemory) => Some(Asked::Ends(Why::Memory)),
+        }
+    }
+
+    /// The same, with the session at hand that its peer would get.
+    fn ask_for<W: World, L: Ledger>(
+        &mut self,
+        unborn: Unborn,
+        world: &mut W,
+        config: &Config,
+        steps: &mut Steps<L>,
+    ) -> Option<Asked>
+        requires course { Somewhere config.now (seen W.told W.held W.faults W.waits W.stops W.clock world.old) self.old }
+        requires asleep { AllAsleep self.old }
+        requires room { HasRoom self.old.table }
+        requires taken { self.old.unborn ≡ None }
+        requires next { (past : List Act) → self.old.table.admitted ≡ admitted config.now past → IsUnborn config.now (admitted config.now past) unborn }
+        ensures { GoesOn config.now (seen W.told W.held W.faults W.waits W.stops W.clock world.old) (seen W.told W.held W.faults W.waits W.stops W.clock world.new) self.old self.new result }
+    {
+        let live = self.table.live();
+        match step(&mut self.door, world, config, self.clock, live) {
+            DoorStepped::Acted => {
+                self.unborn = Some(unborn);
+                None
+            }
+            DoorStepped::Admitted(peer) => {
+                let number = self.table.next_number();
+                self.table.admit(unborn.accepted(self.clock, peer));
+                match self.run_row(number, world, config, steps) {
+                    Some(why) => Some(Asked::Ends(why)),
+                    None => None,
+                }
+            }
+            DoorStepped::AcceptFailed => {
+                self.unborn = Some(unborn);
+                self.cut_rows(Why::AcceptFailed, steps);
+                match self.run_rows(world, config, steps) {
+                    Some(why) => Some(Asked::Ends(why)),
+                    None => None,
+                }
+            }
+            DoorStepped::Memory => {
+                self.unborn = Some(unborn);
+                Some(Asked::Ends(Why::Memory))
+            }
+            DoorStepped::Sleep(until) => {
+                self.unborn = Some(unborn);
+                Some(Asked::Waits(until))
+            }
+            DoorStepped::Done => {
+                self.unborn = Some(unborn);
+                Some(Asked::Over)
+            }
+        }
+    }
+
+    /// The session that the next peer gets, with all its memory, and room for it in the table.
+    fn take_next(&mut self, alloc: Global, config: &Config) -> Result<Unborn, NoMemory>
+        requires { Fit config.now }
+        ensures taken { IfOk result (λ unborn. TakesNext config.now unborn self.old self.new) }
+        ensures same { SameButNext self.old self.new }
+    {
+        self.table.reserve()?;
+        match self.unborn.take() {
+            Some(unborn) => Ok(unborn),
+            None => Unborn::new(alloc, config, self.table.next_number()),
+        }
+    }
+}

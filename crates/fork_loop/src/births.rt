@@ -1,0 +1,34 @@
+// The loop at the beginning of a history.
+ghost use Rattle.std.specs.Prelude.{IfOk};
+
+use crate::crews::Crew;
+use command_places::{options_of, program_door};
+use fork_table::ForkTable;
+use program_door::Door;
+use relay_model::{Config, NoMemory, ReadyList};
+use std::alloc::Global;
+
+impl Crew {
+    ghost use Rattle.fork_loop.specs.Births.{Forks, BeginsAll};
+
+    /// Nothing is open and no session has begun.
+    pub fn new(alloc: Global, config: &Config) -> Result<Crew, NoMemory>
+        requires { Forks config.now }
+        ensures { IfOk result (BeginsAll config.now) }
+    {
+        let options = options_of(config, program_door());
+        let ready = ReadyList::new(alloc)?;
+        let scratch = vec![in alloc; 0; config.block as usize]?;
+        let door = Door::new(config);
+        let table = ForkTable::new(alloc, options.max_children, options.stop_after);
+        Ok(Crew {
+            door,
+            table,
+            unborn: None,
+            ready,
+            scratch,
+            clock: 0,
+            made: 0,
+        })
+    }
+}

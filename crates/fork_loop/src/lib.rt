@@ -1,0 +1,17 @@
+// The loop of a command with `fork`: the program door and the session of each peer, over one world.
+#![tactic(auto)]
+
+mod asked;
+mod births;
+mod crews;
+mod endings;
+mod left;
+mod ran;
+mod rows;
+mod turned;
+mod turns;
+mod waited;
+mod waits;
+
+pub use crews::Crew;
+pub use turned::RunEnd;

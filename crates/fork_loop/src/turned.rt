@@ -1,0 +1,79 @@
+// One turn of the loop: all calls that are called for, and then one wait.
+ghost use Rattle.relay_model.specs.Configs.{Fit};
+ghost use Rattle.session_driver.specs.Seen.{seen};
+
+use crate::asked::Asked;
+use crate::crews::Crew;
+use crate::waited::Waited;
+use fork_table::Steps;
+use relay_model::{Config, Why};
+use std::alloc::Global;
+use std::sync::ledger::Ledger;
+use world_trait::World;
+
+/// Why the loop takes no more turns.
+#[derive(Clone, Copy, Debug, PartialEq, Eq)]
+pub enum RunEnd {
+    /// The door is over, and no session lives.
+    Over,
+    /// The run is to end for this reason: for want of memory, or since the turns are used up (`Stopped`).
+    Ends(Why),
+    /// The turn says stop, and each session was cut.
+    Stops,
+}
+
+impl Crew {
+    ghost use Rattle.fork_loop.specs.Courses.{Somewhere, AllAsleep};
+    ghost use Rattle.fork_loop.specs.Turned.{TurnIs, WaitsForAll};
+
+    /// Has each session and the door make their calls, and then waits once, unless the run ends or `turns` waits were
+    /// made. A wait comes only where it is in order, and lasts until the least moment that anything waits for.
+    pub fn turn<W: World, L: Ledger>(
+        &mut self,
+        alloc: Global,
+        world: &mut W,
+        config: &Config,
+        turns: u64,
+        steps: &mut Steps<L>,
+    ) -> Option<RunEnd>
+        requires fit { Fit config.now }
+        requires course { Somewhere config.now (seen W.told W.held W.faults W.waits W.stops W.clock world.old) self.old }
+        ensures { TurnIs config.now turns (seen W.told W.held W.faults W.waits W.stops W.clock world.old) (seen W.told W.held W.faults W.waits W.stops W.clock world.new) self.old self.new result }
+    {
+        if let Some(why) = self.run_rows(world, config, steps) {
+            return Some(RunEnd::Ends(why));
+        }
+        match self.ask_door(alloc, world, config, steps) {
+            Asked::Waits(first) => self.wait_for(first, world, config, turns, steps),
+            Asked::Over => match self.table.first_from(0) {
+                Some(_) => self.wait_for(None, world, config, turns, steps),
+                None => Some(RunEnd::Over),
+            },
+            Asked::Ends(why) => Some(RunEnd::Ends(why)),
+        }
+    }
+
+    /// Waits, while every session waits, and the door until this moment or, where it is over, for none.
+    fn wait_for<W: World, L: Ledger>(
+        &mut self,
+        first: Option<u64>,
+        world: &mut W,
+        config: &Config,
+        turns: u64,
+        steps: &mut Steps<L>,
+    ) -> Option<RunEnd>
+        requires { AllAsleep self.old }
+        ensures { WaitsForAll config.now turns first (seen W.told W.held W.faults W.waits W.stops W.clock world.old) (seen W.told W.held W.faults W.waits W.stops W.clock world.new) self.old self.new result }
+    {
+        let until = self.least_until(first, steps);
+        if self.made < turns {
+            match self.wait(world, config, until, turns, steps) {
+                Waited::Goes => None,
+                Waited::Stops => Some(RunEnd::Stops),
+                Waited::Memory => Some(RunEnd::Ends(Why::Memory)),
+            }
+        } else {
+            Some(RunEnd::Ends(Why::Stopped))
+        }
+    }
+}

@@ -1,0 +1,4 @@
+pub mod Ends
+pub mod Members
+pub mod Rests
+pub mod Waits
