@@ -1,20 +1,12 @@
 # Proves, builds, tests and installs the relay and the auditor of its journals. `rt` must be on the PATH.
-#   make            proves and builds bin/socat and bin/socat-audit
-#   make test       runs the tests of the built programs
-#   make check      runs the gate: every proof, and all its tests
-#   make quick      builds bin/quick/socat and bin/quick/socat-audit for a look, WITHOUT PROVING ANYTHING
-#   make install    puts programs, manual pages and completion below PREFIX, with DESTDIR in front; make uninstall
 
 PREFIX ?= /usr/local
 DESTDIR ?=
-BIN = $(DESTDIR)$(PREFIX)/bin
-MAN = $(DESTDIR)$(PREFIX)/share/man/man1
-COMPLETION = $(DESTDIR)$(PREFIX)/share/bash-completion/completions
 PROGRAM = crates/socat_main/out/socat_main
 AUDITOR = crates/audit_main/out/audit_main
 SOURCES = $(shell find crates -name out -prune -o -type f \( -name '*.rt' -o -name '*.antt' \) -print) crates.txt
 
-.PHONY: all check test documents quick install uninstall clean bench
+.PHONY: all check test install clean bench
 
 all: bin/socat bin/socat-audit
 
@@ -39,37 +31,17 @@ check:
 	.ci/run
 
 # The checks of the built programs alone, without the proofs' gate.
-test: bin/socat bin/socat-audit documents
-	tests/examples.sh bin/socat bin/socat-audit
+test: bin/socat bin/socat-audit
 	tests/program.sh bin/socat streams journals
 	tests/sockets.sh bin/socat
 	tests/words.sh bin/socat
 	tests/audit.sh bin/socat-audit
 	tests/audited.sh bin/socat bin/socat-audit streams journals
 
-# What the documents name and list is there.
-documents:
-	tests/claims.sh
-	tests/tables.sh
-	tests/definitions.sh
-	tests/architecture.sh
-
-quick:
-	tools/quick.sh socat
-	tools/quick.sh socat-audit
-
 install: bin/socat bin/socat-audit
-	install -d "$(BIN)" "$(MAN)" "$(COMPLETION)"
-	install -m 755 bin/socat "$(BIN)/socat"
-	install -m 755 bin/socat-audit "$(BIN)/socat-audit"
-	install -m 644 man/socat.1 "$(MAN)/socat.1"
-	install -m 644 man/socat-audit.1 "$(MAN)/socat-audit.1"
-	install -m 644 completion/socat "$(COMPLETION)/socat"
-	ln -sf socat "$(COMPLETION)/socat-audit"
-
-uninstall:
-	rm -f "$(BIN)/socat" "$(BIN)/socat-audit" "$(MAN)/socat.1" "$(MAN)/socat-audit.1"
-	rm -f "$(COMPLETION)/socat" "$(COMPLETION)/socat-audit"
+	install -d "$(DESTDIR)$(PREFIX)/bin"
+	install -m 755 bin/socat "$(DESTDIR)$(PREFIX)/bin/socat"
+	install -m 755 bin/socat-audit "$(DESTDIR)$(PREFIX)/bin/socat-audit"
 
 bench: bin/socat
 	bench/throughput.sh bin/socat

@@ -2,8 +2,6 @@ pub mod Pieces
 pub mod OptionRuns
 pub mod Keywords
 pub mod Again
+pub mod Stands
 pub mod Spelled
-pub mod Places
-pub mod Faulty
 pub mod Told
-pub mod FirstFaults

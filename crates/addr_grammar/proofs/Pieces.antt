@@ -2,8 +2,8 @@
 use Rattle.std.proofs.Common.{◌≡◌, ℕ, suc, ◌<◌, Bool, true, false, cond, List, [], ◌∷◌, ◌++◌, length, Option, Some, None, refl, sym, ap, ◌∙◌, append_assoc, arith}
 use Rattle.addr_words.specs.declared.token_list.Token.{Token}
 use Rattle.addr_grammar.specs.declared.cutting.Mark.{Mark}
-use Rattle.addr_grammar.specs.declared.cutting.Mark.TheVariants.{Colon, Comma}
-use Rattle.addr_grammar.specs.Grammar.{is_mark, before, after, Piece, with_first, pieces, later, begins_of, decoded, texts}
+use Rattle.addr_grammar.specs.declared.cutting.Mark.TheVariants.{Colon}
+use Rattle.addr_grammar.specs.Grammar.{is_mark, before, after, Piece, with_first, pieces, later, decoded, texts}
 
 -- the first part, and those after the first mark
 pub pieces_cut : (mark : Mark) (at : ℕ) (tokens : List Token) → pieces mark at tokens ≡ record { at = at; tokens = before mark tokens } ∷ later mark (after mark tokens)
@@ -40,16 +40,3 @@ texts_end found begin rest bytes whole back front so_far =
     let cut : texts (pieces Colon begin rest) ≡ decoded (before Colon rest) ∷ texts (later Colon (after Colon rest)) = ap texts (pieces_cut Colon begin rest) in
     let step : texts (pieces Colon begin rest) ≡ bytes ∷ [] = cut ∙ ap (λ (b : Option (Token × List Token)). decoded (before Colon rest) ∷ texts (later Colon b)) back ∙ ap (λ (x : List ℕ). x ∷ []) (sym front) in
     ap (λ (x : List (List ℕ)). found ++ x) (sym step) ∙ so_far
-
--- where the parts begin, one after the other
-pub begins_go_on : (found : List ℕ) (begin : ℕ) (rest : List Token) (t : Token) (next : List Token) (whole : List ℕ)
-    → after Comma rest ≡ Some (t, next) → found ++ begins_of (pieces Comma begin rest) ≡ whole → (found ++ begin ∷ []) ++ begins_of (pieces Comma t.to next) ≡ whole
-begins_go_on found begin rest t next whole back so_far =
-    let step : begins_of (pieces Comma begin rest) ≡ begin ∷ begins_of (pieces Comma t.to next) =
-    ap begins_of (pieces_cut Comma begin rest) ∙ ap (λ (b : Option (Token × List Token)). begin ∷ begins_of (later Comma b)) back in
-    append_assoc found (begin ∷ []) (begins_of (pieces Comma t.to next)) ∙ ap (λ (x : List ℕ). found ++ x) (sym step) ∙ so_far
-
-pub begins_end : (found : List ℕ) (begin : ℕ) (rest : List Token) (whole : List ℕ) → after Comma rest ≡ None → found ++ begins_of (pieces Comma begin rest) ≡ whole → found ++ begin ∷ [] ≡ whole
-begins_end found begin rest whole back so_far =
-    let step : begins_of (pieces Comma begin rest) ≡ begin ∷ [] = ap begins_of (pieces_cut Comma begin rest) ∙ ap (λ (b : Option (Token × List Token)). begin ∷ begins_of (later Comma b)) back in
-    ap (λ (x : List ℕ). found ++ x) (sym step) ∙ so_far

@@ -21,16 +21,16 @@ use Rattle.addr_grammar.specs.Spelling.{byte_in, bytes_in, Free, PartAt, SpellsT
 use Rattle.addr_grammar.proofs.Pieces.{pieces_cut}
 use Rattle.addr_grammar.proofs.Keywords.{bind_ok, ok_is}
 use Rattle.addr_grammar.proofs.Again.{option_from, header_again}
-use Rattle.addr_words.proofs.Stands.{kinds_of, rest_stands, kinds_read}
+use Rattle.addr_grammar.proofs.Stands.{kinds_of, rest_stands, kinds_read}
 
 -- the kind of the token that is a mark
-abbrev pub kind_of : Mark → TokenKind
+abbrev kind_of : Mark → TokenKind
 kind_of Colon = kinds.Colon
 kind_of Comma = kinds.Comma
 kind_of Dual = kinds.Dual
 kind_of Equals = kinds.Equals
 
-pub mark_is : (mark : Mark) (kind : TokenKind) → is_mark mark kind ≡ true → kind ≡ kind_of mark
+mark_is : (mark : Mark) (kind : TokenKind) → is_mark mark kind ≡ true → kind ≡ kind_of mark
 mark_is Colon kinds.Colon e = refl
 mark_is Colon kinds.Comma e = absurd cc
 mark_is Colon kinds.Dual e = absurd cc
@@ -58,13 +58,13 @@ is_itself Comma = refl
 is_itself Dual = refl
 is_itself Equals = refl
 
-abbrev pub kinds_after : Option (Token × List Token) → Option (List TokenKind)
+abbrev kinds_after : Option (Token × List Token) → Option (List TokenKind)
 kinds_after back = option_map (λ b. kinds_of b.1) back
 
 other_kind : (mark : Mark) (kind : TokenKind) → is_mark mark kind ≡ false → kind ≡ kind_of mark → ⊥
 other_kind mark kind e same = both_ways (is_mark mark kind) e (ap (is_mark mark) same ∙ is_itself mark)
 
-pub cut_parts : (mark : Mark) (tokens : List Token) → PartAt (kind_of mark) (kinds_of tokens) (kinds_of (before mark tokens)) (kinds_after (after mark tokens))
+cut_parts : (mark : Mark) (tokens : List Token) → PartAt (kind_of mark) (kinds_of tokens) (kinds_of (before mark tokens)) (kinds_after (after mark tokens))
 cut_parts mark [] = (tt, refl)
 cut_parts mark (t ∷ tokens) = one (is_mark mark t.kind) refl (before mark tokens) (after mark tokens) (cut_parts mark tokens)
   where
@@ -301,7 +301,7 @@ single_read tokens single s =
     ∙ ap (λ (r : Result (List Named) GrammarFault). r >>= λ os. fine_parts (record { keyword = single.keyword; params = single.params }) os) options
 
 -- no `!!` stands where none is found
-pub free_of_dual : (tokens : List Token) → after Dual tokens ≡ None → Free kinds.Dual (kinds_of tokens)
+free_of_dual : (tokens : List Token) → after Dual tokens ≡ None → Free kinds.Dual (kinds_of tokens)
 free_of_dual tokens e =
     let parts : PartAt kinds.Dual (kinds_of tokens) (kinds_of (before Dual tokens)) None =
     subst (λ (b : Option (Token × List Token)). PartAt kinds.Dual (kinds_of tokens) (kinds_of (before Dual tokens)) (kinds_after b)) e (cut_parts Dual tokens) in
@@ -354,7 +354,7 @@ widen_ok (Ok ts) tokens e = cc
 widen_ok (Err f) tokens e = absurd cc
 
 -- a text that has tokens isn't too long
-pub limit_ok : (long : Bool) (r : Result (List Token) WordFault) (tokens : List Token) → cond long (Err faults.TooLong) r ≡ Ok tokens → (long ≡ false) × (r ≡ Ok tokens)
+limit_ok : (long : Bool) (r : Result (List Token) WordFault) (tokens : List Token) → cond long (Err faults.TooLong) r ≡ Ok tokens → (long ≡ false) × (r ≡ Ok tokens)
 limit_ok true r tokens e = absurd cc
 limit_ok false r tokens e = (refl, e)
 

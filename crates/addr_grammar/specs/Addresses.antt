@@ -3,7 +3,6 @@ use Rattle.std.specs.Prelude.{◌≡◌, ℕ, Bool, true, false, ◌||◌, ◌==
 use Rattle.std.specs.List.{AllByRecursion}
 use Rattle.addr_grammar.specs.declared.options.RawOption.{RawOption}
 
--- an option of an address: its name, and its value where one is written
 pub record Named : Type 0 where
   pub name : List ℕ
   pub value : Option (List ℕ)
@@ -14,11 +13,9 @@ pub record Parts : Type 0 where
   pub params : List (List ℕ)
   pub options : List Named
 
--- an option of the code, as contracts see it
 abbrev pub named : RawOption → Named
 named option = record { name = option.name; value = option.value }
 
--- a text without a byte
 abbrev pub is_empty : List ℕ → Bool
 is_empty [] = true
 is_empty (b ∷ bytes) = false
@@ -29,12 +26,10 @@ is_dash [] = false
 is_dash (b ∷ []) = b == 45
 is_dash (b ∷ c ∷ bytes) = false
 
--- a text with a slash, which is the name of a file
 abbrev pub has_slash : List ℕ → Bool
 has_slash [] = false
 has_slash (b ∷ bytes) = (b == 47) || has_slash bytes
 
--- each option has a name
 abbrev pub HaveNames : List Named → Type 0
 HaveNames = AllByRecursion (λ option. is_empty option.name ≡ false)
 

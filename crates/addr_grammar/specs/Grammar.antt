@@ -14,7 +14,6 @@ use Rattle.addr_grammar.specs.declared.addresses.RawAddress.{RawAddress}
 use Rattle.addr_grammar.specs.declared.addresses.RawAddress.TheVariants.{One, Two}
 use Rattle.addr_grammar.specs.Addresses.{Named, Parts, is_empty, is_dash, has_slash}
 
--- the token is this mark
 abbrev pub is_mark : Mark → TokenKind → Bool
 is_mark Colon kinds.Colon = true
 is_mark Comma kinds.Comma = true
@@ -37,7 +36,6 @@ pub record Piece : Type 0 where
   pub at : ℕ
   pub tokens : List Token
 
--- the pieces with one more token at the front of the first
 abbrev pub with_first : Token → List Piece → List Piece
 with_first t [] = []
 with_first t (p ∷ pieces) = record { at = p.at; tokens = t ∷ p.tokens } ∷ pieces
@@ -54,10 +52,6 @@ abbrev pub later : Mark → Option (Token × List Token) → List Piece
 later mark None = []
 later mark (Some (t, tokens)) = pieces mark t.to tokens
 
--- where the texts of the parts begin
-abbrev pub begins_of : List Piece → List ℕ
-begins_of ps = map (λ p. p.at) ps
-
 -- the byte that a token stands for where it parts nothing
 abbrev pub byte_of : TokenKind → ℕ
 byte_of (kinds.Byte b) = b
@@ -66,12 +60,10 @@ byte_of kinds.Comma = 44
 byte_of kinds.Dual = 33
 byte_of kinds.Equals = 61
 
--- the bytes that tokens stand for
 abbrev pub decoded : List Token → List ℕ
 decoded tokens = map (λ t. byte_of t.kind) tokens
 
 infixl 10 ◌>>=◌
--- the next step where this one succeeded, else its fault
 abbrev pub ◌>>=◌ : {A B E : Type 0} → Result A E → (A → Result B E) → Result B E
 (Ok x) >>= f = f x
 (Err e) >>= f = Err e
@@ -97,7 +89,6 @@ header first others whole =
     else (if is_empty first then Err Empty
     else Ok (record { keyword = first; params = others })))
 
--- the bytes of each piece
 abbrev pub texts : List Piece → List (List ℕ)
 texts ps = map (λ p. decoded p.tokens) ps
 
@@ -105,7 +96,6 @@ texts ps = map (λ p. decoded p.tokens) ps
 abbrev pub head_of : List Token → Result Header GrammarFault
 head_of tokens = header (decoded (before Colon tokens)) (texts (later Colon (after Colon tokens))) (decoded tokens)
 
--- the value of an option, where an equals sign stands before it
 abbrev pub value_of : Option (Token × List Token) → Option (List ℕ)
 value_of back = option_map (λ b. decoded b.1) back
 
@@ -115,7 +105,6 @@ option_of p =
     if is_empty (decoded (before Equals p.tokens)) then Err (EmptyOption p.at)
     else Ok (record { name = decoded (before Equals p.tokens); value = value_of (after Equals p.tokens) })
 
--- the options of the pieces, or the first one's fault
 abbrev pub options_of : List Piece → Result (List Named) GrammarFault
 options_of [] = Ok []
 options_of (p ∷ ps) = option_of p >>= λ option. options_of ps >>= λ options. Ok (option ∷ options)
@@ -127,11 +116,9 @@ single_of tokens =
     options_of (later Comma (after Comma tokens)) >>= λ options.
     Ok (record { keyword = head.keyword; params = head.params; options = options })
 
--- an address that isn't dual
 abbrev pub one_of : List Token → Result RawAddress GrammarFault
 one_of tokens = single_of tokens >>= λ single. Ok (One single)
 
--- a dual address of two halves
 abbrev pub two_of : List Token → List Token → Result RawAddress GrammarFault
 two_of left right = single_of left >>= λ reading. single_of right >>= λ writing. Ok (Two reading writing)
 
@@ -140,23 +127,19 @@ abbrev pub second_half : List Token → List Token → Option (Token × List Tok
 second_half left right None = two_of left right
 second_half left right (Some (t, more)) = Err (TooManyDuals t.from)
 
--- an address by its first `!!`, if it has one
 abbrev pub halves : List Token → Option (Token × List Token) → Result RawAddress GrammarFault
 halves tokens None = one_of tokens
 halves tokens (Some (t, right)) = second_half (before Dual tokens) right (after Dual right)
 
--- the address that tokens spell
 abbrev pub address_of : List Token → Result RawAddress GrammarFault
 address_of tokens = halves tokens (after Dual tokens)
 
--- the fault of a text, as one of an address
 abbrev pub widened : WordFault → GrammarFault
 widened (words.Unclosed at) = Unclosed at
 widened (words.LoneBackslash at) = LoneBackslash at
 widened words.TooLong = TooLong
 widened words.Memory = Memory
 
--- an answer with the fault of a text, as one with a fault of an address
 abbrev pub widen : {A : Type 0} → Result A WordFault → Result A GrammarFault
 widen (Ok x) = Ok x
 widen (Err fault) = Err (widened fault)

@@ -2,4 +2,3 @@ pub mod Addresses
 pub mod Grammar
 pub mod Printing
 pub mod Spelling
-pub mod FirstFaults

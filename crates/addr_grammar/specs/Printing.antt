@@ -15,7 +15,6 @@ abbrev pub printed_value : Option (List ℕ) → List ℕ
 printed_value None = []
 printed_value (Some value) = 61 ∷ written value
 
--- an option as it is printed
 abbrev pub printed_option : Named → List ℕ
 printed_option option = (44 ∷ written option.name) ++ printed_value option.value
 
@@ -24,7 +23,6 @@ abbrev pub printed_options : List Named → List ℕ
 printed_options [] = []
 printed_options (option ∷ options) = printed_option option ++ printed_options options
 
--- a single address as it is printed
 abbrev pub printed_single : Parts → List ℕ
 printed_single single = written single.keyword ++ (printed_params single.params ++ printed_options single.options)
 

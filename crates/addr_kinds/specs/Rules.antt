@@ -13,11 +13,9 @@ use Rattle.addr_grammar.specs.Addresses.{is_empty}
 abbrev pub is_name : List ℕ → Bool
 is_name text = not (is_empty text) && not (list_any (λ c. c == 0) text)
 
--- the host begins with a square bracket
 abbrev pub is_bracketed : List ℕ → Bool
 is_bracketed host = slice_index host 0 == byte "["
 
--- the host is an IPv4 address
 abbrev pub is_v4_literal : List ℕ → Bool
 is_v4_literal host = is_some (ipv4_of host)
 
@@ -31,7 +29,6 @@ fits_family Any host = if is_bracketed host then is_v6_literal host else true
 fits_family V4 host = not (is_bracketed host)
 fits_family V6 host = if is_bracketed host then is_v6_literal host else not (is_v4_literal host)
 
--- a host that can be named, and that the family takes
 unfoldable pub is_host : Family → List ℕ → Bool
 is_host family host = is_name host && fits_family family host
 

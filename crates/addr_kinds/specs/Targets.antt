@@ -45,14 +45,12 @@ parameter place None = Err (BadParameter place)
 abbrev pub passed : ℕ → Bool → List ℕ → Result (List ℕ) KindFault
 passed place test text = parameter place (only_if test text)
 
--- what a kind of standard stream makes
 abbrev pub stream_target : StreamKind → Target
 stream_target Stdio = target.Stdio
 stream_target Stdin = target.Stdin
 stream_target Stdout = target.Stdout
 stream_target Stderr = target.Stderr
 
--- what a kind with a name makes
 abbrev pub file_target : FileKind → List ℕ → Target
 file_target Create name = target.Create name
 file_target Open name = target.FileAt name
@@ -60,13 +58,11 @@ file_target Gopen name = target.GenericOpen name
 file_target UnixConnect name = target.UnixConnect name
 file_target UnixListen name = target.UnixListen name
 
--- what a kind with a host and a port makes
 abbrev pub host_target : HostKind → Family → List ℕ → ℕ → Target
 host_target Tcp family host port = target.Tcp family host port
 host_target Udp family host port = target.Udp family host port
 host_target UdpSendto family host port = target.UdpSendto family host port
 
--- what a kind with a port makes
 abbrev pub port_target : PortKind → Family → ℕ → Target
 port_target TcpListen family port = target.TcpListen family port
 port_target UdpListen family port = target.UdpListen family port
@@ -85,7 +81,6 @@ abbrev pub is_socks_host : Bool → List ℕ → Bool
 is_socks_host false host = is_host V4 host
 is_socks_host true host = is_named_host host
 
--- what the parameters of a kind make, or the first that is wrong
 unfoldable pub target_of : Kind → List (List ℕ) → Result Target KindFault
 target_of (kind.Stream stream) [] = Ok (stream_target stream)
 target_of (kind.File file) (text ∷ []) = do

@@ -1,9 +1,5 @@
 pub mod Openings
 pub mod Steps
 pub mod RoundTrip
-pub mod Lies
-pub mod Stands
-pub mod Fronts
 pub mod Told
-pub mod Unclosed
-pub mod FirstFaults
+pub mod Lies

@@ -143,7 +143,7 @@ rest_lies around at (b ∷ []) tokens e = last_lies around at b (escapes (innerm
 rest_lies around at (b ∷ c ∷ bytes) tokens e =
     next_lies around at b c bytes (escapes (innermost around) b) (is_dual (innermost around) b c) refl refl (rest_lies around (at + 2) bytes) (rest_lies (open_after around at b) (at + 1) (c ∷ bytes)) tokens e
 
-pub limit_ok : (long : Bool) (r : Result (List Token) WordFault) (tokens : List Token) → cond long (Err faults.TooLong) r ≡ Ok tokens → r ≡ Ok tokens
+limit_ok : (long : Bool) (r : Result (List Token) WordFault) (tokens : List Token) → cond long (Err faults.TooLong) r ≡ Ok tokens → r ≡ Ok tokens
 limit_ok true r tokens e = absurd cc
 limit_ok false r tokens e = e
 

@@ -1,5 +1,3 @@
 pub mod Reading
 pub mod Writing
 pub mod Spans
-pub mod Spelling
-pub mod FirstFaults

@@ -9,7 +9,6 @@ use Rattle.addr_words.specs.declared.nesting.Opening.{Opening}
 use Rattle.addr_words.specs.declared.faults.WordFault.{WordFault}
 use Rattle.addr_words.specs.declared.faults.WordFault.TheVariants as faults
 
--- a single or double quote
 abbrev pub is_quote : ℕ → Bool
 is_quote b = (b == 34) || (b == 39)
 
@@ -23,13 +22,11 @@ begun_by b =
     else (if b == 123 then Some (Bracket 125)
     else None))))
 
--- the byte that ends what is open
 abbrev pub is_ended_by : Enclosure → ℕ → Bool
 is_ended_by DoubleQuote b = b == 34
 is_ended_by SingleQuote b = b == 39
 is_ended_by (Bracket closing) b = b == closing
 
--- a bracket, and no quote
 abbrev pub is_bracket : Enclosure → Bool
 is_bracket DoubleQuote = false
 is_bracket SingleQuote = false
@@ -46,7 +43,6 @@ outermost [] = None
 outermost (o ∷ []) = Some o.at
 outermost (o ∷ p ∷ around) = outermost (p ∷ around)
 
--- what is open, with one more thing where one was opened
 abbrev pub opened : Option Enclosure → ℕ → List Opening → List Opening
 opened None at around = around
 opened (Some e) at around = record { what = e; at = at } ∷ around
@@ -81,11 +77,9 @@ meaning (Some DoubleQuote) b = if b == 34 then None else Some (Byte b)
 meaning (Some SingleQuote) b = if b == 39 then None else Some (Byte b)
 meaning (Some (Bracket closing)) b = if is_quote b then None else Some (Byte b)
 
--- a token that covers these bytes
 abbrev pub token : TokenKind → ℕ → ℕ → Token
 token kind from to = record { kind = kind; from = from; to = to }
 
--- the token of one byte, where it is one
 abbrev pub single : Option TokenKind → ℕ → List Token
 single None at = []
 single (Some kind) at = token kind at (at + 1) ∷ []

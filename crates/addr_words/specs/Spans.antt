@@ -6,7 +6,6 @@ use Rattle.addr_words.specs.declared.token_list.TokenKind.{TokenKind}
 use Rattle.addr_words.specs.declared.token_list.TokenKind.TheVariants.{Byte, Colon, Comma, Dual, Equals}
 use Rattle.addr_words.specs.Reading.{is_quote}
 
--- each byte is a mark of a quote
 abbrev pub AreQuotes : List ℕ → Type 0
 AreQuotes = AllByRecursion (λ b. is_quote b ≡ true)
 

@@ -9,7 +9,6 @@ abbrev pub is_special : ℕ → Bool
 is_special b =
     (b == 92) || (b == 34) || (b == 39) || (b == 40) || (b == 91) || (b == 123) || (b == 58) || (b == 44) || (b == 33) || (b == 61)
 
--- a byte so written that it stands for itself
 abbrev pub written_byte : ℕ → List ℕ
 written_byte b = if is_special b then 92 ∷ b ∷ [] else b ∷ []
 

@@ -4,7 +4,6 @@ ghost use Rattle.addr_words.specs.declared.faults.WordFault.TheVariants.{Memory}
 ghost use Rattle.addr_words.specs.declared.token_list.Token.{Token};
 ghost use Rattle.addr_words.specs.Reading.{tokens_of};
 ghost use Rattle.addr_words.specs.Spans.{Spans};
-ghost use Rattle.addr_words.specs.FirstFaults.{HaveAtMostOne, ClosedHaveNone};
 
 /// No text is said to want memory: that fault is a call's alone.
 pub fn tokens_are_told()
@@ -15,10 +14,4 @@ pub fn tokens_are_told()
 /// marks of quotes.
 pub fn spans_cover()
     ensures { (text : List ℕ) (tokens : List Token) → tokens_of text ≡ Ok tokens → Spans 0 text tokens }
-{}
-
-/// The faults of texts, as they are told without reading them, shut each other out.
-pub fn one_fault()
-    ensures most { HaveAtMostOne }
-    ensures none { ClosedHaveNone }
 {}

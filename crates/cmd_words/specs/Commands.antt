@@ -47,7 +47,6 @@ wrong_at at half why = faults.Refused (refused_at at half why)
 abbrev pub whole : Refusal → CommandFault
 whole why = faults.Refused (record { word = 0; half = 0; why = why })
 
--- the refusal for a fault of an address's text
 abbrev pub text_fault : ℕ → GrammarFault → CommandFault
 text_fault at (texts.Unclosed offset) = wrong_at at 0 (refusals.Unclosed offset)
 text_fault at (texts.LoneBackslash offset) = wrong_at at 0 (refusals.LoneBackslash offset)
@@ -57,7 +56,6 @@ text_fault at (texts.TooManyDuals offset) = wrong_at at 0 (refusals.TooManyDuals
 text_fault at (texts.EmptyOption offset) = wrong_at at 0 (refusals.EmptyOption offset)
 text_fault at texts.Memory = faults.Memory
 
--- the refusal for a fault of an address's words
 abbrev pub kind_fault : ℕ → ℕ → KindFault → CommandFault
 kind_fault at half (kinds.UnknownOption place) = wrong_at at half (refusals.UnknownOption place)
 kind_fault at half (kinds.LeftOutOption place) = wrong_at at half (refusals.LeftOutOption place)
@@ -72,12 +70,10 @@ kind_fault at half kinds.Memory = faults.Memory
 
 -- ---- one address
 
--- the address of a word, or its refusal
 abbrev pub parsed : ℕ → Result RawAddress GrammarFault → Result RawAddress CommandFault
 parsed at (Ok address) = Ok address
 parsed at (Err fault) = Err (text_fault at fault)
 
--- the single address of a half, or its refusal
 abbrev pub single_at : ℕ → ℕ → Result Single KindFault → Result Single CommandFault
 single_at at half (Ok single) = Ok single
 single_at at half (Err fault) = Err (kind_fault at half fault)
@@ -107,7 +103,6 @@ misplaced_fork Right (addresses.One single) = only_if single.options.fork 1
 misplaced_fork side (addresses.Two reading writing) =
     if reading.options.fork then Some 1 else only_if writing.options.fork 2
 
--- the address, unless `fork` stands where it may not
 abbrev pub placed : ℕ → Address → Option ℕ → Result Address CommandFault
 placed at address None = Ok address
 placed at address (Some half) = Err (wrong_at at half refusals.ForkPlace)
@@ -121,7 +116,6 @@ address_at settings at side word =
 
 -- ---- the whole
 
--- the relay that settings and two addresses make
 abbrev pub config_of : Settings → Address → Address → Config
 config_of settings left right = record {
   block = settings.block;
@@ -147,13 +141,11 @@ between settings first (left_word ∷ right_word ∷ []) =
     directed (config_of settings left right)
 between settings first words = Err (whole (refusals.AddressCount (counted (length words))))
 
--- what is done in place of a relay
 abbrev pub instead_of : Instead → Command
 instead_of instead.Usage = commands.Usage
 instead_of instead.Version = commands.Version
 instead_of (instead.Load number) = commands.Load number
 
--- what the words behind the flags make
 abbrev pub behind : List (List ℕ) → Result Flagged Refused → Result Command CommandFault
 behind words (Ok (flagged.Relay settings first)) = between settings first (drop first words)
 behind words (Ok (flagged.Instead what)) = Ok (instead_of what)
@@ -165,7 +157,6 @@ command words = behind words (flags_of words)
 
 -- ---- what is promised
 
--- an answer gives the first fault, unless memory was wanting
 abbrev pub Reports : {Y : Type 0} → CommandFault → Result Y CommandFault → Type 0
 Reports faults.Memory made = Unit {0}
 Reports (faults.Refused refused) made = made ≡ Err (faults.Refused refused)

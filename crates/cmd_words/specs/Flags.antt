@@ -41,7 +41,6 @@ begins_addresses (b ∷ bytes) = if b == byte "-" then goes_on bytes else true
 
 -- ---- the table of flags
 
--- a flag by its name
 pub record NamedFlag : Type 0 where
   pub name : List ℕ
   pub flag : Plain
@@ -50,11 +49,9 @@ pub record NamedFlag : Type 0 where
 abbrev pub as_named : Bor (List ℕ) × Plain → NamedFlag
 as_named r = record { name = r.0.now; flag = r.1 }
 
--- a row of the table: a flag's name and what it is
 abbrev pub offer : String → Plain → NamedFlag
 offer name flag = record { name = codes name; flag = flag }
 
--- the flags without an attached value
 unfoldable pub known_flags : List NamedFlag
 known_flags =
     offer "-u" (plain.Switch OnlyRight)
@@ -78,7 +75,6 @@ abbrev pub found : List NamedFlag → List ℕ → Option Plain
 found [] word = None
 found (known ∷ rest) word = if bytes_eq known.name word then Some known.flag else found rest word
 
--- the flag that this word is
 unfoldable pub plain_flag : List ℕ → Option Plain
 plain_flag word = found known_flags word
 
@@ -91,7 +87,6 @@ with_text dump.Text = dump.Text
 with_text dump.Hex = dump.Mixed
 with_text dump.Mixed = dump.Mixed
 
--- the dumps with one in hexadecimal
 abbrev pub with_hex : Dump → Dump
 with_hex dump.Off = dump.Hex
 with_hex dump.Hex = dump.Hex
@@ -108,7 +103,6 @@ switched settings AnyGroup = record settings { general = true }
 switched settings Sloppy = record settings { sloppy = true }
 switched settings Messages = settings
 
--- the flag with a value that this letter is
 abbrev pub measure_of : ℕ → Option Measure
 measure_of c =
     if c == byte "b" then Some Block
@@ -131,7 +125,6 @@ set_to settings Idle value = option_map (λ time. record settings { idle = time 
 
 -- ---- one flag
 
--- a value where it is written well, else a refusal
 abbrev pub if_written : {A B : Type 0} → (A → B) → Option A → Result B Refusal
 if_written f (Some value) = Ok (f value)
 if_written f None = Err refusals.BadFlagValue
@@ -147,19 +140,16 @@ abbrev pub load_of : Option (List ℕ) → Result Step Refusal
 load_of (Some next) = if_written (λ n. Stop (instead.Load n)) (number_of next)
 load_of None = Err refusals.NoValue
 
--- what a flag without an attached value does
 abbrev pub plain_step : Settings → Plain → Option (List ℕ) → Result Step Refusal
 plain_step settings (plain.Switch switch) next = Ok (Alone (switched settings switch))
 plain_step settings plain.Usage next = Ok (Stop instead.Usage)
 plain_step settings plain.Version next = Ok (Stop instead.Version)
 plain_step settings plain.Load next = load_of next
 
--- what a word does that is a known flag, else its refusal
 abbrev pub other_step : Settings → Option Plain → Option (List ℕ) → Result Step Refusal
 other_step settings (Some flag) next = plain_step settings flag next
 other_step settings None next = Err refusals.UnknownFlag
 
--- what a word does, with or without an attached value
 abbrev pub known_step : Settings → Option (Measure × List ℕ) → List ℕ → Option (List ℕ) → Result Step Refusal
 known_step settings (Some m) word next = measure_step settings m.0 m.1 next
 known_step settings None word next = other_step settings (plain_flag word) next

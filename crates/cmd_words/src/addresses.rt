@@ -1,8 +1,7 @@
 // One address of the command line.
-ghost use Rattle.std.specs.Prelude.{◌≡◌, ◌+◌, ◌<◌, ◌^◌, None, IfOk, IfErr};
+ghost use Rattle.std.specs.Prelude.{◌≡◌, ◌+◌, ◌<◌, ◌^◌, None, IfOk};
 ghost use Rattle.addr_grammar.specs.Grammar.{reading};
 ghost use Rattle.addr_kinds.specs.Resolving.{resolution};
-ghost use Rattle.cmd_words.specs.Blames.{IsBlamed};
 ghost use Rattle.cmd_words.specs.Commands.{Answers, parsed, single_at, use_of, resolved, misplaced_fork, placed, address_at};
 
 use crate::faults::{CommandFault, kind_fault, text_fault, wrong_at};
@@ -102,8 +101,9 @@ fn placed(at: usize, side: Side, address: Address) -> Result<Address, CommandFau
     }
 }
 
+/// The address that the word at this place asks for on its side, or the first thing that is wrong with it.
 #[tactic(auto, unfolding(crate::specs::Commands::address_at))]
-fn read_at(
+pub fn address_at(
     alloc: Global,
     settings: Settings,
     at: usize,
@@ -117,21 +117,4 @@ fn read_at(
     let raw = parse_at(alloc, at, word)?;
     let address = resolved(alloc, settings, at, side, &raw)?;
     placed(at, side, address)
-}
-
-/// The address that the word at this place asks for on its side, or the first thing that is wrong with it.
-pub fn address_at(
-    alloc: Global,
-    settings: Settings,
-    at: usize,
-    side: Side,
-    word: &[u8],
-) -> Result<Address, CommandFault>
-    requires { at + 1 < 2 ^ 64 }
-    ensures exact { Answers result (address_at settings at side word.now) }
-    ensures placed { IfOk result (λ address. misplaced_fork side address ≡ None) }
-    // A fault of the text is one that it has by itself.
-    ensures blamed { IfErr result (IsBlamed word.now) }
-{
-    read_at(alloc, settings, at, side, word)
 }

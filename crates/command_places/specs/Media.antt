@@ -4,7 +4,6 @@ use Rattle.relay_model.specs.Configs as media
 use Rattle.command_places.specs.declared.configs.Medium.{Medium as OnMedium}
 use Rattle.command_places.specs.declared.configs.Medium.TheVariants as on
 
--- a medium of the code, as the model has it
 abbrev pub as_medium : OnMedium → Medium
 as_medium on.Standard = media.Standard
 as_medium on.Storage = media.Storage

@@ -1,6 +1,8 @@
 -- Why an opening, a listening or an accepting on a made port answers what it answers.
 use Rattle.std.specs.Prelude.{◌≡◌, ◌⊎◌, ℕ, ⊤, Option, Some}
 use Rattle.relay_model.specs.declared.acts.Peer.{Peer}
+use Rattle.relay_model.specs.declared.places.Place.{Place}
+use Rattle.port_trait.specs.declared.makers.AskedPlace.{AskedPlace}
 use Rattle.port_trait.specs.Counting.{Rose}
 use Rattle.desk_ports.specs.Ports.{PortSeen}
 use Rattle.world_trait.specs.declared.answers.OpenAnswer.{OpenAnswer}
@@ -18,7 +20,6 @@ pub record Dropped : Type 0 where
   pub failed : PortSeen
   pub rose : Rose made.counts.faults failed.counts.faults
 
--- why the beginning of a port answered so
 abbrev pub BeginCause : Begun → Type 0
 BeginCause begins.Begun = ⊤
 BeginCause begins.Failed = Dropped
@@ -31,7 +32,13 @@ OpenCause faults faults' stalls stalls' opens.Later = Rose stalls stalls'
 OpenCause faults faults' stalls stalls' opens.Failed = Rose faults faults' ⊎ Dropped
 OpenCause faults faults' stalls stalls' opens.Memory = ⊤
 
--- why a listening answered so
+-- what the maker was asked for last: this place with this peer behind it. Where there is no memory it may not be asked
+abbrev pub OpenAsks : Place → Option Peer → Option AskedPlace → OpenAnswer → Type 0
+OpenAsks place behind asked opens.Opened = asked ≡ Some (record { place = place; behind = behind })
+OpenAsks place behind asked opens.Later = asked ≡ Some (record { place = place; behind = behind })
+OpenAsks place behind asked opens.Failed = asked ≡ Some (record { place = place; behind = behind })
+OpenAsks place behind asked opens.Memory = ⊤
+
 abbrev pub ListenCause : ℕ → ℕ → ListenAnswer → Type 0
 ListenCause faults faults' listens.Listening = ⊤
 ListenCause faults faults' listens.Failed = Rose faults faults' ⊎ Dropped

@@ -38,7 +38,6 @@ abbrev pub HeldAfter : Option Act → (Place → Hold) → (Place → Hold) → 
 HeldAfter None before after = (p : Place) → after p ≡ before p
 HeldAfter (Some act) before after = (p : Place) → after p ≡ hold_after act p (before p)
 
--- the world's answer for that of a port
 abbrev pub shut_answer : Shutting → ShutAnswer
 shut_answer shuttings.Done = shuts.Done
 shut_answer shuttings.Failed = shuts.Failed
@@ -86,7 +85,6 @@ abbrev pub KeptFor : Bool → Bool → BerthSeen → List BerthSeen → List Ber
 KeptFor true joined berth before after = (last : PortSeen) × LeftSo joined berth.port last × (after ≡ record { place = berth.place; port = last } ∷ before)
 KeptFor false joined berth before after = after ≡ before
 
--- a port with a child stays, unless it was joined
 abbrev pub LeavesParent : Bool → Option BerthSeen → List BerthSeen → List BerthSeen → Type 0
 LeavesParent joined None before after = after ≡ before
 LeavesParent joined (Some berth) before after = KeptFor berth.port.child joined berth before after

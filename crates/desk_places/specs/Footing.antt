@@ -13,7 +13,6 @@ use Rattle.desk_places.specs.Stations.{station_at}
 abbrev pub IsQuiet : PortSeen → Type 0
 IsQuiet port = (port.hinting ≡ false) × (port.hints ≡ None)
 
--- a port that may hint at nothing
 abbrev pub is_quiet : PortSeen → Bool
 is_quiet port = not port.hinting && not (is_some port.hints)
 
@@ -30,7 +29,6 @@ stands_on made p bases.Output asked = asked
 stands_on made p bases.Both asked = asked
 stands_on made p bases.Errors asked = asked
 
--- the port of a place is there as its station says
 abbrev pub stands_so : Slab BerthSeen → Place → Option Station → Bool
 stands_so made p None = true
 stands_so made p (Some station) = stands_on made p station.base station.asked

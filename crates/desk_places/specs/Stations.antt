@@ -27,7 +27,6 @@ abbrev pub hold_by : Option Station → Hold
 hold_by None = Free
 hold_by (Some station) = hold_of station.standing
 
--- how the stations say that a place stands
 abbrev pub hold_at : List Station → Place → Hold
 hold_at stations p = hold_by (station_at stations p)
 
@@ -39,7 +38,6 @@ base_at stations p = option_map (λ s. s.base) (station_at stations p)
 abbrev pub footing_by : Option Station → Option (Base × Bool)
 footing_by slot = option_map (λ s. (s.base, s.asked)) slot
 
--- what a place stands on, and whether its child was asked for
 abbrev pub footing_at : List Station → Place → Option (Base × Bool)
 footing_at stations p = footing_by (station_at stations p)
 
@@ -47,7 +45,6 @@ footing_at stations p = footing_by (station_at stations p)
 abbrev pub SetsStation : Place → Option Station → (Place → Option Station) → (Place → Option Station) → Type 0
 SetsStation place slot before after = (p : Place) → after p ≡ (if same_place place p then slot else before p)
 
--- a station with this half armed or disarmed
 abbrev pub with_half : Half → Bool → Station → Station
 with_half ToRead disarmed station = record station { reading_disarmed = disarmed }
 with_half ToWrite disarmed station = record station { writing_disarmed = disarmed }
@@ -62,7 +59,6 @@ half_disarmed half None = false
 half_disarmed ToRead (Some station) = station.reading_disarmed
 half_disarmed ToWrite (Some station) = station.writing_disarmed
 
--- this half of the place was last answered with nothing yet
 abbrev pub is_disarmed : List Station → Place → Half → Bool
 is_disarmed stations p half = half_disarmed half (station_at stations p)
 

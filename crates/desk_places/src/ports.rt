@@ -9,7 +9,7 @@ ghost use Rattle.relay_model.specs.declared.places.Place.{Place};
 ghost use Rattle.world_trait.specs.Answers.{accept_act, close_act, listen_act, open_act, shut_act};
 ghost use Rattle.relay_model.specs.declared.places.Half.TheVariants.{ToRead, ToWrite};
 ghost use Rattle.port_trait.specs.Counting.{Rose};
-ghost use Rattle.desk_places.specs.Causes.{AcceptCause, BeginCause, ListenCause, OpenCause, StandardCause, WelcomeCause};
+ghost use Rattle.desk_places.specs.Causes.{AcceptCause, BeginCause, ListenCause, OpenAsks, OpenCause, StandardCause, WelcomeCause};
 ghost use Rattle.desk_ports.specs.Ports.{JoinsSo, MovesNothing, Reads, Sends, Settles, Shuts, Writes, seen};
 ghost use Rattle.desk_ports.specs.Harbors.{AtErrors, AtInput, AtMade, AtOutput, MadeCall, giving_pier, taking_pier};
 ghost use Rattle.desk_ports.specs.Answers.{GotFits, SaidSo, TookFits, is_got_not_yet, is_took_not_yet, is_unsaid};
@@ -20,25 +20,35 @@ ghost use Rattle.port_trait.specs.Streams.{finishes};
 ghost use Rattle.desk_places.specs.Stations.{SameHold, SetsStation, base_at, hold_at, shut_down, station_at, with_half};
 
 use crate::stations::{Station, Stations};
-use desk_ports::{Base, Berth, Harbor, Standard, Stream, accept_at, is_final, standard_base};
+use desk_ports::{
+    Base, Berth, Harbor, MooredPort, Standard, Stream, accept_at, is_final, standard_base,
+};
 use port_trait::{
-    Begun, Got, Joining, MadePeer, Maker, Making, Port, PortReap, Settled, Shutting, Took,
+    Begun, EitherPort, Fitting, Got, Joining, MadePeer, Maker, Making, Port, PortReap, Settled,
+    Shutting, Spare, Took,
 };
 use relay_model::{Half, NoMemory, Peer, Place, Shut, Single, Why};
 use std::alloc::Global;
 use world_trait::{AcceptAnswer, ListenAnswer, OpenAnswer, Standing};
 
-/// All ports, the maker of those that are made, and the ports with a child that closed places left, the last one first.
+/// All ports, the maker of those that are made, the spare ports that are left, and the ports with a child that closed
+/// places left, the last one first.
 #[derive(Drop)]
-pub struct Ports<M: Maker + Drop, I: Port, O: Port, E: Port> {
-    pub harbor: Harbor<M::Made, I, O, E>,
+pub struct Ports<M: Maker + Drop, F: Spare, I: Port, O: Port, E: Port> {
+    pub harbor: Harbor<MooredPort<M, F>, I, O, E>,
     pub maker: M,
-    pub parents: Vec<Berth<M::Made>>,
+    pub spares: Vec<F>,
+    pub parents: Vec<Berth<MooredPort<M, F>>>,
 }
 
-impl<M: Maker + Drop, I: Port, O: Port, E: Port> Ports<M, I, O, E> {
-    /// The standard ports, and no made one; takes no memory.
-    pub fn new(alloc: Global, standard: Standard<I, O, E>, maker: M) -> Ports<M, I, O, E>
+impl<M: Maker + Drop, F: Spare, I: Port, O: Port, E: Port> Ports<M, F, I, O, E> {
+    /// The standard ports, the spare ones, and no made one; takes no memory.
+    pub fn new(
+        alloc: Global,
+        standard: Standard<I, O, E>,
+        maker: M,
+        spares: Vec<F>,
+    ) -> Ports<M, F, I, O, E>
         ensures made { result.harbor.made.slots ≡ [] }
         ensures input { (result.harbor.input.port ≡ seen I.gave I.took I.hints I.hinting I.counts I.ended I.joins I.child standard.stdin) × (result.harbor.input.begun ≡ false) × (result.harbor.input.finished ≡ false) }
         ensures output { (result.harbor.output.port ≡ seen O.gave O.took O.hints O.hinting O.counts O.ended O.joins O.child standard.stdout) × (result.harbor.output.begun ≡ false) × (result.harbor.output.finished ≡ false) }
@@ -49,6 +59,7 @@ impl<M: Maker + Drop, I: Port, O: Port, E: Port> Ports<M, I, O, E> {
         Ports {
             harbor: Harbor::new(alloc, standard),
             maker,
+            spares,
             parents: Vec::new(alloc),
         }
     }
@@ -62,6 +73,7 @@ impl<M: Maker + Drop, I: Port, O: Port, E: Port> Ports<M, I, O, E> {
         let Ports {
             harbor,
             maker: _,
+            spares: _,
             parents: _,
         } = self;
         harbor.into_streams()
@@ -87,7 +99,7 @@ impl<M: Maker + Drop, I: Port, O: Port, E: Port> Ports<M, I, O, E> {
         &mut self,
         stations: &mut Stations,
         place: Place,
-        port: M::Made,
+        port: MooredPort<M, F>,
         settling: bool,
     ) -> Begun
         requires free { hold_at stations.old.entries place ≡ Free }
@@ -132,6 +144,7 @@ impl<M: Maker + Drop, I: Port, O: Port, E: Port> Ports<M, I, O, E> {
             ⊎ (Rose self.old.harbor.output.port.counts.faults self.new.harbor.output.port.counts.faults
             ⊎ Rose self.old.harbor.errors.port.counts.faults self.new.harbor.errors.port.counts.faults)) result) }
         ensures made { IfNone (standard_of place single.now.target) (OpenCause (M.faults self.old.maker) (M.faults self.new.maker) (M.stalls self.old.maker) (M.stalls self.new.maker) result) }
+        ensures asked { IfNone (standard_of place single.now.target) (OpenAsks place behind (M.asked self.new.maker) result) }
         ensures came { M.came self.new.maker ≡ M.came self.old.maker }
         ensures input { MovesNothing self.old.harbor.input.port self.new.harbor.input.port }
         ensures output { MovesNothing self.old.harbor.output.port self.new.harbor.output.port }
@@ -143,6 +156,9 @@ impl<M: Maker + Drop, I: Port, O: Port, E: Port> Ports<M, I, O, E> {
     {
         match standard_base(place, single) {
             Some(base) => self.open_standard(stations, place, base),
+            None if self.maker.wants_spare(single) => {
+                self.open_spare(stations, place, single, behind)
+            }
             None => self.open_made(stations, place, single, behind),
         }
     }
@@ -184,6 +200,7 @@ impl<M: Maker + Drop, I: Port, O: Port, E: Port> Ports<M, I, O, E> {
         requires stations_room { 0 < stations.old.spare }
         requires made_room { HasRoomFor self.old.harbor.made 1 }
         ensures cause { OpenCause (M.faults self.old.maker) (M.faults self.new.maker) (M.stalls self.old.maker) (M.stalls self.new.maker) result }
+        ensures asked { OpenAsks place behind (M.asked self.new.maker) result }
         ensures came { M.came self.new.maker ≡ M.came self.old.maker }
         ensures streams { (self.new.harbor.input ≡ self.old.harbor.input) × (self.new.harbor.output ≡ self.old.harbor.output) × (self.new.harbor.errors ≡ self.old.harbor.errors) }
         ensures sound { IsSound stations.old.entries self.old.harbor.made → IsSound stations.new.entries self.new.harbor.made }
@@ -193,18 +210,56 @@ impl<M: Maker + Drop, I: Port, O: Port, E: Port> Ports<M, I, O, E> {
     {
         let key = self.harbor.next_key();
         match self.maker.make(key, place, single, behind) {
-            Making::Made(port) => match self.moor(stations, place, port, false) {
+            Making::Made(port) => match self.moor(stations, place, EitherPort::First(port), false) {
                 Begun::Begun => OpenAnswer::Opened,
                 Begun::Failed => OpenAnswer::Failed,
                 Begun::Memory => OpenAnswer::Memory,
             },
-            Making::Later(port) => match self.moor(stations, place, port, true) {
+            Making::Later(port) => match self.moor(stations, place, EitherPort::First(port), true) {
                 Begun::Begun => OpenAnswer::Later,
                 Begun::Failed => OpenAnswer::Failed,
                 Begun::Memory => OpenAnswer::Memory,
             },
             Making::Failed => OpenAnswer::Failed,
             Making::Memory => OpenAnswer::Memory,
+        }
+    }
+
+    /// Opens the place on the next spare port. Where none is left, there is no memory for it.
+    fn open_spare(
+        &mut self,
+        stations: &mut Stations,
+        place: Place,
+        single: &Single,
+        behind: Option<Peer>,
+    ) -> OpenAnswer
+        requires free { hold_at stations.old.entries place ≡ Free }
+        requires stations_room { 0 < stations.old.spare }
+        requires made_room { HasRoomFor self.old.harbor.made 1 }
+        ensures cause { OpenCause (M.faults self.old.maker) (M.faults self.new.maker) (M.stalls self.old.maker) (M.stalls self.new.maker) result }
+        ensures asked { OpenAsks place behind (M.asked self.new.maker) result }
+        ensures came { M.came self.new.maker ≡ M.came self.old.maker }
+        ensures streams { (self.new.harbor.input ≡ self.old.harbor.input) × (self.new.harbor.output ≡ self.old.harbor.output) × (self.new.harbor.errors ≡ self.old.harbor.errors) }
+        ensures sound { IsSound stations.old.entries self.old.harbor.made → IsSound stations.new.entries self.new.harbor.made }
+        ensures held { HeldAfter (open_act place result) (hold_at stations.old.entries) (hold_at stations.new.entries) }
+        ensures one_more { length stations.new.entries ≤ length stations.old.entries + 1 }
+        ensures parents { self.new.parents ≡ self.old.parents }
+    {
+        if self.spares.is_empty() {
+            return OpenAnswer::Memory;
+        }
+        match self.maker.fit(place, single, behind) {
+            Fitting::Fitted => {}
+            Fitting::Failed => return OpenAnswer::Failed,
+            Fitting::Memory => return OpenAnswer::Memory,
+        }
+        let Some(spare) = self.spares.pop() else {
+            return OpenAnswer::Memory;
+        };
+        match self.moor(stations, place, EitherPort::Second(spare.fitted()), false) {
+            Begun::Begun => OpenAnswer::Opened,
+            Begun::Failed => OpenAnswer::Failed,
+            Begun::Memory => OpenAnswer::Memory,
         }
     }
 
@@ -263,7 +318,7 @@ impl<M: Maker + Drop, I: Port, O: Port, E: Port> Ports<M, I, O, E> {
     {
         let key = self.harbor.next_key();
         match self.maker.listen(key, single) {
-            Making::Made(port) => match self.moor(stations, door, port, false) {
+            Making::Made(port) => match self.moor(stations, door, EitherPort::First(port), false) {
                 Begun::Begun => ListenAnswer::Listening,
                 Begun::Failed => ListenAnswer::Failed,
                 Begun::Memory => ListenAnswer::Memory,
@@ -313,7 +368,7 @@ impl<M: Maker + Drop, I: Port, O: Port, E: Port> Ports<M, I, O, E> {
         stations: &mut Stations,
         door: Place,
         place: Place,
-        port: M::Made,
+        port: MooredPort<M, F>,
         peer: Peer,
     ) -> AcceptAnswer
         requires free { hold_at stations.old.entries place ≡ Free }

@@ -6,7 +6,6 @@ use Rattle.port_trait.specs.declared.answers.Got.TheVariants as gots
 use Rattle.port_trait.specs.declared.answers.Took.{Took}
 use Rattle.port_trait.specs.declared.answers.Took.TheVariants as tooks
 
--- a read found nothing yet
 abbrev pub is_got_not_yet : Got → Bool
 is_got_not_yet (gots.Bytes n) = false
 is_got_not_yet gots.Empty = false
@@ -14,7 +13,6 @@ is_got_not_yet gots.End = false
 is_got_not_yet gots.NotYet = true
 is_got_not_yet gots.Failed = false
 
--- a write found no room yet
 abbrev pub is_took_not_yet : Took → Bool
 is_took_not_yet (tooks.Took n) = false
 is_took_not_yet tooks.NotYet = true
@@ -41,7 +39,6 @@ SaidSo (Some (tooks.Took n)) before now text = Adds before now text
 SaidSo (Some tooks.NotYet) before now text = ⊥
 SaidSo (Some tooks.Failed) before now text = (n : ℕ) × (n ≤ length text) × Adds before now (take n text)
 
--- a text could not be told
 abbrev pub is_unsaid : Option Took → Bool
 is_unsaid None = false
 is_unsaid (Some (tooks.Took n)) = false

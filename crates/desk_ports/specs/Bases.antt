@@ -8,7 +8,6 @@ use Rattle.relay_model.specs.declared.commands.Target.TheVariants as targets
 use Rattle.desk_ports.specs.declared.bases.Base.{Base}
 use Rattle.desk_ports.specs.declared.bases.Base.TheVariants as bases
 
--- a made port with this key
 abbrev pub is_keyed : ℕ → Base → Bool
 is_keyed key (bases.Made other) = other == key
 is_keyed key base = false

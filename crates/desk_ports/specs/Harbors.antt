@@ -37,21 +37,18 @@ AtInput Output Here Elsewhere = Elsewhere
 AtInput Errors Here Elsewhere = Elsewhere
 AtInput (Made key) Here Elsewhere = Elsewhere
 
--- what is said of standard output, and of each other port
 abbrev pub AtOutput : Pier → Type 0 → Type 0 → Type 0
 AtOutput Input Here Elsewhere = Elsewhere
 AtOutput Output Here Elsewhere = Here
 AtOutput Errors Here Elsewhere = Elsewhere
 AtOutput (Made key) Here Elsewhere = Elsewhere
 
--- what is said of standard error, and of each other port
 abbrev pub AtErrors : Pier → Type 0 → Type 0 → Type 0
 AtErrors Input Here Elsewhere = Elsewhere
 AtErrors Output Here Elsewhere = Elsewhere
 AtErrors Errors Here Elsewhere = Here
 AtErrors (Made key) Here Elsewhere = Elsewhere
 
--- what is said of a made port by its key, and of each other port
 abbrev pub AtMade : Pier → (ℕ → Type 0) → Type 0 → Type 0
 AtMade Input Here Elsewhere = Elsewhere
 AtMade Output Here Elsewhere = Elsewhere
@@ -69,7 +66,6 @@ abbrev pub place_of : Option BerthSeen → Option Place
 place_of None = None
 place_of (Some berth) = Some berth.place
 
--- what the port of a berth hints at, if it is told
 abbrev pub hints_of : Option BerthSeen → Option Hint
 hints_of None = None
 hints_of (Some berth) = berth.port.hints

@@ -14,7 +14,6 @@ use Rattle.port_trait.specs.declared.answers.Shutting.{Shutting}
 use Rattle.port_trait.specs.declared.answers.PortReap.{PortReap}
 use Rattle.port_trait.specs.declared.answers.Joining.{Joining}
 
--- what contracts see of a port
 pub record PortSeen : Type 0 where
   pub gave : Option (List ℕ)
   pub took : Option (List ℕ)
@@ -50,13 +49,11 @@ pub record LetsIn (before now : PortSeen) : Type 0 where
   pub still : MovesNothing before now
   pub hinting : StaysSo before now
 
--- a beginning moves no bytes, and counts as its answer says
 pub record Begins (before now : PortSeen) (answer : BeginAnswer) : Type 0 where
   pub ended : now.ended ≡ before.ended
   pub still : MovesNothing before now
   pub counts : Tallied (begin_event answer) before.counts now.counts
 
--- a settling moves no bytes, and counts as its answer says
 pub record Settles (before now : PortSeen) (answer : Settled) : Type 0 where
   pub hinting : StaysSo before now
   pub ended : now.ended ≡ before.ended
@@ -64,7 +61,6 @@ pub record Settles (before now : PortSeen) (answer : Settled) : Type 0 where
   pub child : now.child ≡ before.child
   pub counts : Tallied (settle_event answer) before.counts now.counts
 
--- a read gives bytes as its answer says
 pub record Reads (before now : PortSeen) (into : List ℕ) (answer : Got) : Type 0 where
   pub hinting : StaysSo before now
   pub ended : now.ended ≡ is_end answer
@@ -73,7 +69,6 @@ pub record Reads (before now : PortSeen) (into : List ℕ) (answer : Got) : Type
   pub child : now.child ≡ before.child
   pub counts : Tallied (read_event answer) before.counts now.counts
 
--- a write takes bytes as its answer says
 pub record Writes (before now : PortSeen) (bytes : List ℕ) (answer : WriteAnswer) : Type 0 where
   pub hinting : StaysSo before now
   pub ended : now.ended ≡ before.ended
@@ -82,7 +77,6 @@ pub record Writes (before now : PortSeen) (bytes : List ℕ) (answer : WriteAnsw
   pub child : now.child ≡ before.child
   pub counts : Tallied (write_event answer) before.counts now.counts
 
--- a packet is taken whole or not at all
 pub record Sends (before now : PortSeen) (bytes : List ℕ) (answer : WriteAnswer) : Type 0 where
   pub hinting : StaysSo before now
   pub ended : now.ended ≡ before.ended
@@ -91,7 +85,6 @@ pub record Sends (before now : PortSeen) (bytes : List ℕ) (answer : WriteAnswe
   pub child : now.child ≡ before.child
   pub counts : Tallied (write_event answer) before.counts now.counts
 
--- bytes are put whole or the call failed
 pub record PutsAll (before now : PortSeen) (bytes : List ℕ) (answer : WriteAnswer) : Type 0 where
   pub hinting : StaysSo before now
   pub ended : now.ended ≡ before.ended
@@ -100,7 +93,6 @@ pub record PutsAll (before now : PortSeen) (bytes : List ℕ) (answer : WriteAns
   pub child : now.child ≡ before.child
   pub counts : Tallied (write_event answer) before.counts now.counts
 
--- a shut moves no bytes, and counts as its answer says
 pub record Shuts (before now : PortSeen) (answer : Shutting) : Type 0 where
   pub hinting : StaysSo before now
   pub ended : now.ended ≡ before.ended
@@ -113,7 +105,6 @@ pub record HintsSo (before now : PortSeen) (hint : Hint) : Type 0 where
   pub hinted : IfSome before.hints (λ told. hint ≡ told)
   pub same : now ≡ before
 
--- a reaping tells of the port's child
 pub record Reaps (before now : PortSeen) (answer : PortReap) : Type 0 where
   pub hinting : StaysSo before now
   pub ended : now.ended ≡ before.ended
@@ -121,7 +112,6 @@ pub record Reaps (before now : PortSeen) (answer : PortReap) : Type 0 where
   pub still : MovesNothing before now
   pub child : now.child ≡ before.child
 
--- a joining answers as the port may be joined
 pub record JoinsSo (before now : PortSeen) (answer : Joining) : Type 0 where
   pub hinting : StaysSo before now
   pub ended : now.ended ≡ before.ended

@@ -5,7 +5,7 @@ ghost use Rattle.port_trait.specs.Counting.{Counted};
 ghost use Rattle.port_trait.specs.Made.{peer_failed, peer_stalled, came_after};
 
 use port_trait::{
-    Begun, Got, Hint, Joining, MadePeer, Maker, Port, PortReap, Settled, Shutting, Took,
+    Begun, EitherPort, Got, Hint, Joining, MadePeer, Maker, Port, PortReap, Settled, Shutting, Took,
 };
 use relay_model::{Place, Shut};
 use std::marker::Model;
@@ -124,17 +124,31 @@ impl<T: Port> Berth<T> {
     }
 }
 
-/// Takes one peer at the door.
-pub fn accept_by<M: Maker>(
+/// The port of a place: one that its maker made, or a spare one.
+pub type MooredPort<M, F> = EitherPort<<M as Maker>::Made, F>;
+
+/// Takes one peer at the door. A spare port is no door: where it is asked, there is no memory for a peer.
+pub fn accept_by<M: Maker, F: Port>(
     maker: &mut M,
-    door: &mut Berth<M::Made>,
+    door: &mut Berth<MooredPort<M, F>>,
     key: usize,
-) -> MadePeer<M::Made>
+) -> MadePeer<MooredPort<M, F>>
     ensures door { LetsIn door.old.port door.new.port }
     ensures place { door.new.place ≡ door.old.place }
     ensures came { M.came maker.new ≡ came_after (M.came maker.old) result }
     ensures faults { Counted (peer_failed result) (M.faults maker.old) (M.faults maker.new) }
     ensures stalls { Counted (peer_stalled result) (M.stalls maker.old) (M.stalls maker.new) }
 {
-    maker.accept(&mut door.port, key)
+    match &mut door.port {
+        EitherPort::First(made) => match maker.accept(made, key) {
+            MadePeer::Came(port, peer) => MadePeer::Came(EitherPort::First(port), peer),
+            MadePeer::NoPeer => MadePeer::NoPeer,
+            MadePeer::Failed => MadePeer::Failed,
+            MadePeer::Memory => MadePeer::Memory,
+        },
+        EitherPort::Second(spare) => {
+            let _ = spare.hint();
+            MadePeer::Memory
+        }
+    }
 }

@@ -10,7 +10,7 @@ ghost use Rattle.desk_ports.specs.Ports.{LetsIn, MovesNothing, Settles, Reads, W
 ghost use Rattle.desk_ports.specs.Harbors.{AtErrors, AtInput, AtMade, AtOutput, MadeCall, giving_pier, hint_told, hints_of, place_of, taking_pier};
 
 use crate::bases::Base;
-use crate::berths::{Berth, accept_by};
+use crate::berths::{Berth, MooredPort, accept_by};
 use crate::streams::{Standard, Stream};
 use port_trait::{Begun, Got, Hint, MadePeer, Maker, Port, Settled, Shutting, Took};
 use relay_model::{NoMemory, Place, Shut};
@@ -371,12 +371,12 @@ impl<T: Port, I: Port, O: Port, E: Port> Harbor<T, I, O, E> {
 }
 
 /// Takes one peer at the door of the key.
-pub fn accept_at<M: Maker, I: Port, O: Port, E: Port>(
-    harbor: &mut Harbor<M::Made, I, O, E>,
+pub fn accept_at<M: Maker, F: Port, I: Port, O: Port, E: Port>(
+    harbor: &mut Harbor<MooredPort<M, F>, I, O, E>,
     maker: &mut M,
     door: usize,
     key: usize,
-) -> MadePeer<M::Made>
+) -> MadePeer<MooredPort<M, F>>
     ensures door { MadeCall harbor.old.made harbor.new.made door LetsIn }
     ensures room { HasRoomFor harbor.old.made 1 → HasRoomFor harbor.new.made 1 }
     ensures streams { (harbor.new.input ≡ harbor.old.input) × (harbor.new.output ≡ harbor.old.output) × (harbor.new.errors ≡ harbor.old.errors) }

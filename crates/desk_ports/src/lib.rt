@@ -9,7 +9,7 @@ mod harbor;
 mod streams;
 
 pub use bases::{Base, standard_base};
-pub use berths::Berth;
+pub use berths::{Berth, MooredPort};
 pub use endings::Back;
 pub use harbor::{Harbor, accept_at};
 pub use streams::{Standard, Stream, is_final};

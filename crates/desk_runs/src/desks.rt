@@ -44,6 +44,11 @@ fn stdin_of(alloc: Global, script: &[Line<'_>]) -> Result<MemPort, RowFault> {
     Ok(stdin)
 }
 
+/// A maker in memory wants no spare port.
+fn no_spares(alloc: Global) -> Vec<MemPort> {
+    Vec::new(alloc)
+}
+
 /// Runs the words of the row over a desk, which keeps its history only where they ask for that.
 pub(crate) fn run(alloc: Global, row: &Row<'_>, words: &[Text]) -> Result<Ran, RowFault> {
     let stderr = MemPort::new(alloc, ROOM)?;
@@ -55,7 +60,14 @@ pub(crate) fn run(alloc: Global, row: &Row<'_>, words: &[Text]) -> Result<Ran, R
         stderr,
     };
     let (maker, poller) = (MemMaker::new(alloc), MemPoller::new());
-    let Ok(desk) = Desk::new(alloc, standard, maker, poller, Recorder::Skip) else {
+    let Ok(desk) = Desk::new(
+        alloc,
+        standard,
+        maker,
+        no_spares(alloc),
+        poller,
+        Recorder::Skip,
+    ) else {
         return Err(RowFault::Memory);
     };
     let Written {

@@ -63,7 +63,6 @@ pub record SomewhereFor (c : Config) (n : ℕ) (now : Seen) (r : Driver) : Type 
   pub past : List Act
   pub course : Course c n start now r past
 
--- some run led here
 pub record Onward (c : Config) (n : ℕ) (start now : Seen) (r : Driver) : Type 0 where
   pub past : List Act
   pub course : Course c n start now r past
@@ -72,7 +71,6 @@ pub record Onward (c : Config) (n : ℕ) (start now : Seen) (r : Driver) : Type 
 abbrev pub KeepsFor : Config → Seen → Seen → Driver → Driver → Type 0
 KeepsFor c now now' r r' = (n : ℕ) (start : Seen) (past : List Act) → Course c n start now r past → Onward c n start now' r'
 
--- a call goes from one such moment to the next, for every command
 abbrev pub Keeps : Seen → Seen → Driver → Driver → Type 0
 Keeps now now' r r' = (c : Config) → KeepsFor c now now' r r'
 
@@ -80,7 +78,6 @@ Keeps now now' r r' = (c : Config) → KeepsFor c now now' r r'
 abbrev pub TurnsFor : Config → ℕ → Seen → Seen → Driver → Driver → Type 0
 TurnsFor c n now now' r r' = (start : Seen) (past : List Act) → Course c n start now r past → Onward c n start now' r'
 
--- 1 where a test holds, else 0
 abbrev pub unit_of : Bool → ℕ
 unit_of true = 1
 unit_of false = 0
@@ -89,7 +86,6 @@ unit_of false = 0
 abbrev pub rank : Driver → ℕ
 rank r = 2 * left_of r.session + unit_of (not (has_ended r.session))
 
--- the session wishes to sleep, or is done for this reason
 abbrev pub PauseIs : Driver → Pause → Type 0
 PauseIs r (Sleep until) = (wish_of r.session ≡ wishes.Sleep until) × (has_ended r.session ≡ false)
 PauseIs r (Done why) = wish_of r.session ≡ wishes.Done why

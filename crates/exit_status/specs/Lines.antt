@@ -10,16 +10,13 @@ use Rattle.exit_status.specs.declared.outcomes.Op.TheVariants.{Reading, Writing}
 use Rattle.exit_status.specs.declared.outcomes.Outcome.{Outcome}
 use Rattle.exit_status.specs.declared.outcomes.Outcome.TheVariants as outcome
 
--- the byte that ends a line
 abbrev pub newline : List ℕ
 newline = 10 ∷ []
 
--- the word for a side
 abbrev pub side_text : Side → List ℕ
 side_text Left = codes "left"
 side_text Right = codes "right"
 
--- the word for what failed
 abbrev pub op_text : Op → List ℕ
 op_text Reading = codes "read"
 op_text Writing = codes "write"
@@ -103,12 +100,10 @@ line (outcome.Stopped turns) =
     codes "socat: stopped after " ++ (decimal turns ++ (codes " turns" ++ newline))
 line outcome.Memory = codes "socat: out of memory" ++ newline
 
--- what `-h` prints
 unfoldable pub usage : List ℕ
 usage =
     codes "usage: socat [options] <address> <address>" ++ (newline
     ++ (codes "options: -b<size> -t<time> -T<time> -u -U -s -v -x -g -d -h -V" ++ newline))
 
--- what `-V` prints
 unfoldable pub version : List ℕ
 version = codes "socat relay, profile of 1.7" ++ newline

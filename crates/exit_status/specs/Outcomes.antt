@@ -17,14 +17,12 @@ use Rattle.exit_status.specs.declared.outcomes.Op.TheVariants.{Reading, Writing}
 use Rattle.exit_status.specs.declared.outcomes.Outcome.{Outcome as Told}
 use Rattle.exit_status.specs.declared.outcomes.Outcome.TheVariants as told
 
--- the reason of an end, as the model has it
 abbrev pub why_of : EndWhy → Why
 why_of ends.Finished = whys.Finished
 why_of ends.ClosingTime = whys.ClosingTime
 why_of ends.Idle = whys.Idle
 why_of ends.Served = whys.Served
 
--- the half at which a read or a write failed
 abbrev pub half_of : Op → Half
 half_of Reading = ToRead
 half_of Writing = ToWrite

@@ -3,7 +3,6 @@ use Rattle.std.specs.Prelude.{ℕ}
 use Rattle.exit_status.specs.declared.outcomes.Outcome.{Outcome}
 use Rattle.exit_status.specs.declared.outcomes.Outcome.TheVariants.{Ended, Told, Loaded, Refused, OpenFailed, ListenFailed, AcceptFailed, Faulted, Stopped, Memory}
 
--- the exit status of an outcome
 abbrev pub exit_code : Outcome → ℕ
 exit_code (Ended why) = 0
 exit_code Told = 0

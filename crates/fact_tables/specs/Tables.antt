@@ -29,7 +29,6 @@ part_number Right Reading true = 9
 part_number Right Writing false = 10
 part_number Right Writing true = 11
 
--- the number under which a place stands in a table
 abbrev pub place_number : Place → ℕ
 place_number p = p.session * 12 + part_number p.side p.part p.door
 

@@ -7,13 +7,11 @@ use Rattle.file_ports.specs.declared.access.Access.{Access}
 use Rattle.file_ports.specs.declared.access.FileKind.{FileKind}
 use Rattle.file_ports.specs.declared.access.FileKind.TheVariants as kinds
 
--- this part reads
 abbrev pub reads_by : Part → Bool
 reads_by parts.Both = true
 reads_by parts.Reading = true
 reads_by parts.Writing = false
 
--- this part writes
 abbrev pub writes_by : Part → Bool
 writes_by parts.Both = true
 writes_by parts.Reading = false

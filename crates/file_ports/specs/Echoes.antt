@@ -18,7 +18,6 @@ pub record EchoState : Type 0 where
   pub begun : Bool
   pub ended : Bool
 
--- an echo pipe that was just made
 abbrev pub fresh_echo : ℕ → EchoState
 fresh_echo capacity = record { held = []; capacity = capacity; is_shut = false; counts = record { faults = 0; ends = 0; empties = 0; stalls = 0 }; begun = false; ended = false }
 
@@ -37,11 +36,9 @@ abbrev pub echo_write : ℕ → ℕ → Took
 echo_write zero count = writes.NotYet
 echo_write (suc room) count = writes.Took (min count (suc room))
 
--- the answer where all bytes are to be put at once
 abbrev pub echo_put_all : ℕ → ℕ → Took
 echo_put_all room count = if nat_le count room then writes.Took count else writes.Failed
 
--- what an echo pipe hints at
 abbrev pub echo_hint : EchoState → Hint
 echo_hint port = record { readable = port.is_shut || nat_lt 0 (length port.held); writable = nat_lt (length port.held) port.capacity }
 
@@ -59,7 +56,6 @@ held_after held bytes (writes.Took n) = held ++ take n bytes
 held_after held bytes writes.NotYet = held
 held_after held bytes writes.Failed = held
 
--- whether the pipe is shut after an end was passed on so
 abbrev pub shut_after : Bool → Shut → Bool
 shut_after before hows.Nothing = before
 shut_after before hows.Down = true

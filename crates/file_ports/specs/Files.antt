@@ -1,6 +1,8 @@
 -- What contracts see of a file, and what the calls of its port do.
 use Rattle.std.specs.Prelude.{is_some, ◌≡◌, ℕ, ◌+◌, ◌-◌, ◌^◌, ◌≤◌, min, Bool, true, false, not, ◌&&◌, List, Option, None, Some, option_map, option_and_then, IfSome, IsSome}
 use Rattle.relay_model.specs.declared.acts.Shut.{Shut}
+use Rattle.relay_model.specs.declared.places.Part.{Part}
+use Rattle.relay_model.specs.declared.places.Part.TheVariants as parts
 use Rattle.port_trait.specs.declared.counts.Counts.{Counts}
 use Rattle.port_trait.specs.declared.answers.Begun.{Begun as BeginAnswer}
 use Rattle.port_trait.specs.declared.answers.Begun.TheVariants as begins
@@ -24,31 +26,30 @@ pub record FileState : Type 0 where
   pub writer : Option WriterState
   pub missed : ℕ
 
--- the bytes that the file's port gave
+-- without the ring of a half that the use lacks
+abbrev pub narrowed_to : Part → FileState → FileState
+narrowed_to parts.Reading file = record file { writer = None }
+narrowed_to parts.Writing file = record file { reader = None }
+narrowed_to parts.Both file = file
+
 abbrev pub gave_of : FileState → Option (List ℕ)
 gave_of file = option_map given_of file.reader
 
--- the bytes that the file's port took
 abbrev pub took_of : FileState → Option (List ℕ)
 took_of file = option_map writers.took_of file.writer
 
--- what the source behind a joined port gave
 abbrev pub behind_gave_of : FileState → Option (List ℕ)
 behind_gave_of file = option_and_then (λ reader. gave_behind reader.behind) file.reader
 
--- what that source has left
 abbrev pub behind_left_of : FileState → Option (List ℕ)
 behind_left_of file = option_and_then (λ reader. left_behind reader.behind) file.reader
 
--- the ends of that source
 abbrev pub behind_ends_of : FileState → Option ℕ
 behind_ends_of file = option_and_then (λ reader. ends_behind reader.behind) file.reader
 
--- what the sink behind a joined port took
 abbrev pub behind_took_of : FileState → Option (List ℕ)
 behind_took_of file = option_and_then (λ writer. took_behind writer.line.behind) file.writer
 
--- whether that sink was finished
 abbrev pub behind_finished_of : FileState → Option Bool
 behind_finished_of file = option_and_then (λ writer. finished_behind writer.line.behind) file.writer
 
@@ -65,20 +66,16 @@ halves_faults None (Some writer) = writers.faults_behind writer.line.behind
 halves_faults (Some reader) None = faults_behind reader.behind
 halves_faults (Some reader) (Some writer) = told_sum (faults_behind reader.behind) (writers.faults_behind writer.line.behind)
 
--- the faults of the source and of the sink
 abbrev pub behind_faults_of : FileState → Option ℕ
 behind_faults_of file = halves_faults file.reader file.writer
 
--- counts that stand at their beginning
 abbrev pub no_counts : Counts
 no_counts = record { faults = 0; ends = 0; empties = 0; stalls = 0 }
 
--- the counts of the reading half
 abbrev pub reader_counts : Option ReaderState → Counts
 reader_counts None = no_counts
 reader_counts (Some reader) = reader.tally.counts
 
--- the counts of the writing half
 abbrev pub writer_counts : Option WriterState → Counts
 writer_counts None = no_counts
 writer_counts (Some writer) = writer.tally.counts
@@ -96,16 +93,13 @@ total_counts reading writing missed = record {
   stalls = capped (reading.stalls + writing.stalls);
 }
 
--- the counts of both halves, and of the calls that a missing half didn't serve
 abbrev pub counts_of : FileState → Counts
 counts_of file = total_counts (reader_counts file.reader) (writer_counts file.writer) file.missed
 
--- the reading half has begun, if there is one
 abbrev pub reader_begun : Option ReaderState → Bool
 reader_begun None = true
 reader_begun (Some reader) = reader.begun
 
--- the writing half has begun, if there is one
 abbrev pub writer_begun : Option WriterState → Bool
 writer_begun None = true
 writer_begun (Some writer) = writer.line.begun
@@ -114,21 +108,17 @@ writer_begun (Some writer) = writer.line.begun
 abbrev pub begun_of : FileState → Bool
 begun_of file = reader_begun file.reader && writer_begun file.writer
 
--- the reading half last met an end
 abbrev pub reader_ended : Option ReaderState → Bool
 reader_ended None = false
 reader_ended (Some reader) = reader.ended
 
--- the port last met an end
 abbrev pub ended_of : FileState → Bool
 ended_of file = reader_ended file.reader
 
--- the reading half may be joined
 abbrev pub reader_joins : Option ReaderState → Bool
 reader_joins None = true
 reader_joins (Some reader) = readers.joins_of reader
 
--- the writing half may be joined
 abbrev pub writer_joins : Option WriterState → Bool
 writer_joins None = true
 writer_joins (Some writer) = may_join writer.line
@@ -137,12 +127,10 @@ writer_joins (Some writer) = may_join writer.line
 abbrev pub joins_of : FileState → Bool
 joins_of file = reader_joins file.reader && writer_joins file.writer
 
--- the calls that the reading half doesn't serve
 abbrev pub reader_misuses : Option ReaderState → ℕ
 reader_misuses None = 0
 reader_misuses (Some reader) = reader.tally.misuses
 
--- the calls that the writing half doesn't serve
 abbrev pub writer_misuses : Option WriterState → ℕ
 writer_misuses None = 0
 writer_misuses (Some writer) = writer.tally.misuses
@@ -180,7 +168,6 @@ ThenBegins begins.Begun writer now answer = WriterBegins writer now answer
 ThenBegins begins.Failed writer now answer = (now ≡ writer) × (answer ≡ begins.Failed)
 ThenBegins begins.Memory writer now answer = (now ≡ writer) × (answer ≡ begins.Memory)
 
--- both halves begin, the reading one first
 abbrev pub FileBegins : FileState → FileState → BeginAnswer → Type 0
 FileBegins old new answer = (first : BeginAnswer) × ReaderBegins old.reader new.reader first × ThenBegins first old.writer new.writer answer × (new.missed ≡ old.missed)
 
@@ -202,7 +189,6 @@ abbrev pub FileWrites : Option WriterState → FileState → FileState → List 
 FileWrites None old new bytes answer = IsMissed old new × (answer ≡ writes.Failed)
 FileWrites (Some writer) old new bytes answer = (after : WriterState) × (new ≡ record old { writer = Some after }) × WriterWrites (is_open writer.line) writer after bytes answer × Tallied (write_event answer) writer.tally.counts after.tally.counts
 
--- bytes are put whole to the writing half; where that is missing the call failed
 abbrev pub FilePutsAll : Option WriterState → FileState → FileState → List ℕ → WriteAnswer → Type 0
 FilePutsAll None old new bytes answer = IsMissed old new × (answer ≡ writes.Failed)
 FilePutsAll (Some writer) old new bytes answer = (after : WriterState) × (new ≡ record old { writer = Some after }) × WriterPutsAll (is_open writer.line) writer after bytes answer × Tallied (write_event answer) writer.tally.counts after.tally.counts

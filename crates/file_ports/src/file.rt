@@ -10,12 +10,12 @@ ghost use Rattle.port_trait.specs.declared.answers.Shutting.TheVariants as shuts
 ghost use Rattle.port_trait.specs.declared.answers.PortReap.TheVariants as reaps;
 ghost use Rattle.port_trait.specs.declared.answers.Joining.TheVariants as joining;
 ghost use Rattle.ring_reader.specs.Readers.{given_of};
-ghost use Rattle.file_ports.specs.Files.{gave_of, took_of, behind_gave_of, behind_took_of, behind_faults_of, behind_ends_of, behind_left_of, behind_finished_of, counts_of, begun_of, ended_of, joins_of, served_of, FileBegins, FileReads, FileWrites, FilePutsAll, FileShuts, IsMissed, ReaderBegins, SameReader, SameWriter, KnowsSource, KnowsSink, SameEmpties, reader_begun, reader_ended, reader_counts, reader_joins, reader_misuses, writer_joins};
+ghost use Rattle.file_ports.specs.Files.{gave_of, took_of, behind_gave_of, behind_took_of, behind_faults_of, behind_ends_of, behind_left_of, behind_finished_of, counts_of, begun_of, ended_of, joins_of, served_of, narrowed_to, FileBegins, FileReads, FileWrites, FilePutsAll, FileShuts, IsMissed, ReaderBegins, SameReader, SameWriter, KnowsSource, KnowsSink, SameEmpties, reader_begun, reader_ended, reader_counts, reader_joins, reader_misuses, writer_joins};
 
 use port_trait::{
     Begun, Got, Hint, Joining, Port, PortReap, Settled, Shutting, Sink, Source, Took,
 };
-use relay_model::Shut;
+use relay_model::{Part, Shut};
 use std::marker::Model;
 use std::sync::Wait;
 use std::thread::Threads;
@@ -84,6 +84,36 @@ where
             reader: Some(reader),
             writer: Some(writer),
             missed: 0,
+            kept,
+        }
+    }
+}
+
+impl<S, K, R, G> FilePort<S, K, R, G>
+where
+    S: Source + Drop,
+    K: Sink + Drop,
+    R: Drop,
+{
+    /// The same without the ring of a half that this use lacks.
+    pub fn narrowed(self, part: Part) -> FilePort<S, K, R, G>
+        ensures { result ≡ narrowed_to part self }
+    {
+        let FilePort {
+            reader,
+            writer,
+            missed,
+            kept,
+        } = self;
+        let (reader, writer) = match part {
+            Part::Reading => (reader, None),
+            Part::Writing => (None, writer),
+            Part::Both => (reader, writer),
+        };
+        FilePort {
+            reader,
+            writer,
+            missed,
             kept,
         }
     }

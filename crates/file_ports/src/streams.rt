@@ -9,12 +9,13 @@ use std::io::{Read, Write};
 use std::marker::Model;
 use std::rt::Files;
 
-/// An open file, or the name of a pipe. The opening of a pipe waits for its other end (fifo(7)), so the thread
+/// An open file, the name of a pipe, or what was closed. The opening of a pipe waits for its other end (fifo(7)), so the thread
 /// that reads or writes it opens it, at its first call. An opening that fails is tried again at the next call.
 #[derive(Drop)]
 enum Door<R: Files> {
     Open(R::File),
     Waiting { files: R, name: String },
+    Closed,
 }
 
 impl<R: Files + Drop> Door<R> {
@@ -26,6 +27,18 @@ impl<R: Files + Drop> Door<R> {
         if let Ok(opened) = open_now(files, access, name.as_str()) {
             *self = Door::Open(opened.file);
         }
+    }
+
+    /// Closes what is open. False where it can't be flushed, which leaves it open, and where it couldn't be opened.
+    fn close(&mut self) -> bool {
+        let Door::Open(file) = self else {
+            return matches!(self, Door::Closed);
+        };
+        if file.flush().is_err() {
+            return false;
+        }
+        *self = Door::Closed;
+        true
     }
 }
 
@@ -165,13 +178,10 @@ impl<R: Files + Drop> Sink for FileSink<R> {
         }
     }
 
-    /// Opens a pipe to which nothing was written too, so that its reader sees the end.
+    /// Closes the file, so that the reader of a pipe sees the end, also of one to which nothing was written.
     fn finish(&mut self) -> bool {
         self.door.open(self.access);
-        self.finished = match &mut self.door {
-            Door::Open(file) => file.flush().is_ok(),
-            Door::Waiting { .. } => false,
-        };
+        self.finished = self.door.close();
         if !self.finished {
             self.faults = self.faults.saturating_add(1);
         }

@@ -15,7 +15,6 @@ pub record Table (T : Type 0) : Type 0 where
   pub max_children : ℕ
   pub stop_after : ℕ
 
--- a table as a value that contracts can compare
 abbrev pub table_code : {T : Type 0} → Coded T → Coded (Table T)
 table_code {T} code =
     code_by
@@ -52,7 +51,6 @@ module _ {T : Type 0} where
   with_row t None session = t
   with_row t (Some key) session = record t { rows = with_value t.rows key session }
 
-  -- the table with this session under a number
   abbrev pub with_session : Table T → ℕ → T → Table T
   with_session t number session = with_row t (map.get t.numbers.values number) session
 

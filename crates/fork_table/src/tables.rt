@@ -1,5 +1,5 @@
 // The live sessions in a slab, found by number.
-ghost use Rattle.std.specs.Prelude.{◌≡◌, ◌≢◌, ℕ, suc, ◌<◌, ◌≤◌, ◌+◌, ◌-◌, ◌^◌, ◌&&◌, nat_lt, min, None, Some, true, OnOk, OnSome};
+ghost use Rattle.std.specs.Prelude.{◌≡◌, ◌≢◌, ℕ, suc, ◌<◌, ◌+◌, ◌-◌, ◌^◌, ◌&&◌, nat_lt, min, None, Some, true, OnOk, OnSome};
 ghost use Rattle.std.specs.Option.{option_copied_mut};
 ghost use Rattle.std.specs.Borrow.{sem};
 ghost use Rattle.fork_table.specs.Tables.{HasRoom, IsFirstLive, SameBounds, SameRows, Changes, live_in, may_accept_in, row_of, with_session};
@@ -74,10 +74,9 @@ impl<T> ForkTable<T> {
         self.live < self.max_children && self.admitted < self.stop_after
     }
 
-    /// How many sessions came, which is the number of the next one; none with that number or a greater one lives.
+    /// How many sessions came, which is the number of the next one.
     pub fn next_number(&self) -> u32
-        ensures admitted { result ≡ self.now.admitted }
-        ensures none { (number : ℕ) → result ≤ number → row_of self.now number ≡ None }
+        ensures { result ≡ self.now.admitted }
     {
         self.admitted
     }

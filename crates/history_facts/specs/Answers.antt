@@ -8,7 +8,6 @@ use Rattle.relay_model.specs.Arming as armings
 use Rattle.history_facts.specs.declared.armings.Arming.{Arming as ByArming}
 use Rattle.history_facts.specs.declared.armings.Arming.TheVariants as by
 
--- a stage of the code, as the model has it
 abbrev pub as_stage : AtStage → Stage
 as_stage at.Untried = stages.Untried
 as_stage at.Usable = stages.Usable
@@ -18,7 +17,6 @@ as_stage (at.Met peer) = stages.Met peer
 as_stage at.Waiting = stages.Waiting
 as_stage (at.Gone why) = stages.Gone why
 
--- the arming of an input in the code, as the model has it
 abbrev pub as_arming : ByArming → Arming
 as_arming by.Disarmed = armings.Disarmed
 as_arming by.Armed = armings.Armed

@@ -13,6 +13,5 @@ pub record Chronicle : Type 0 where
   pub config : Config
   pub acts : List Act
 
--- what contracts see of a command and its acts
 abbrev pub seen : Config → List (Bor Act) → Chronicle
 seen c past = record { config = c; acts = acts past }

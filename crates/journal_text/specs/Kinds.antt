@@ -8,7 +8,6 @@ use Rattle.journal_text.specs.declared.kinds.Kind.{Kind}
 use Rattle.journal_text.specs.declared.kinds.Kind.TheVariants as kind
 use Rattle.journal_text.specs.Lines.{words_of}
 
--- the kind of an act
 abbrev pub kind_of : Act → Kind
 kind_of (act.Turn until at ready stop) = kind.Turn
 kind_of (act.Opened p) = kind.Opened

@@ -38,7 +38,6 @@ words_of (act.NoteFault bytes) = codes "notefault" ∷ bytes_text bytes ∷ []
 abbrev pub body_of : Act → List ℕ
 body_of a = join_with_byte (byte " ") (words_of a)
 
--- the line of an act
 abbrev pub line_of : Act → List ℕ
 line_of a = body_of a ++ newline
 

@@ -29,7 +29,6 @@ use Rattle.journal_text.specs.declared.kinds.Kind.TheVariants as kind
 use Rattle.journal_text.specs.Fields.{shut_text, why_text}
 
 infixl 10 ◌>>=◌
--- the next step where this one read something
 abbrev pub ◌>>=◌ : {A B : Type 0} → Option A → (A → Option B) → Option B
 o >>= f = option_and_then f o
 
@@ -61,11 +60,9 @@ is_plain text = all_ascii_digits text && nat_le 1 (length text) && (not (slice_i
 unfoldable pub number_in : ℕ → List ℕ → Option ℕ
 number_in greatest text = only_if (is_plain text && nat_le (digits_value 10 text) greatest) (digits_value 10 text)
 
--- the number that a field spells
 abbrev pub moment_in : List ℕ → Option ℕ
 moment_in text = number_in (2 ^ 64 - 1) text
 
--- the number that a field spells, or that it spells none
 unfoldable pub optional_in : List ℕ → Option (Option ℕ)
 optional_in text = if bytes_eq text (codes "-") then Some None else option_map Some (moment_in text)
 
@@ -75,31 +72,25 @@ negative_in digits = do
   n ← number_in (2 ^ 31) digits
   only_if (nat_le 1 n) (neg_ℤ (pos n))
 
--- the status of a child that a field spells
 unfoldable pub status_in : List ℕ → Option ℤ
 status_in text =
     if slice_index text 0 == byte "-" then negative_in (drop 1 text) else option_map pos (number_in (2 ^ 31 - 1) text)
 
--- the truth that a field spells
 abbrev pub flag_in : List ℕ → Option Bool
 flag_in text =
     if bytes_eq text (codes "1") then Some true else (if bytes_eq text (codes "0") then Some false else None)
 
--- the side that a letter stands for
 abbrev pub side_in : ℕ → Option Side
 side_in letter = if letter == byte "L" then Some Left else (if letter == byte "R" then Some Right else None)
 
--- the part that a letter stands for
 abbrev pub part_in : ℕ → Option Part
 part_in letter =
     if letter == byte "B" then Some Both
     else (if letter == byte "I" then Some Reading else (if letter == byte "O" then Some Writing else None))
 
--- whether a letter stands for a door
 abbrev pub door_in : ℕ → Option Bool
 door_in letter = if letter == byte "d" then Some true else (if letter == byte "-" then Some false else None)
 
--- the half that a letter stands for
 abbrev pub half_in : ℕ → Option Half
 half_in letter = if letter == byte "r" then Some ToRead else (if letter == byte "w" then Some ToWrite else None)
 
@@ -112,26 +103,22 @@ place_between digits first second third = do
   door ← door_in third
   Some (record { session = session; side = side; part = part; door = door })
 
--- the place that a field spells
 unfoldable pub place_in : List ℕ → Option Place
 place_in text =
     if nat_lt (length text) 3 then None
     else place_between (take (length text - 3) text) (slice_index text (length text - 3)) (slice_index text (length text - 2)) (slice_index text (length text - 1))
 
--- an entry by its place and its letter
 abbrev pub entry_between : List ℕ → ℕ → Option ReadyAt
 entry_between text letter = do
   place ← place_in text
   half ← half_in letter
   Some (record { place = place; half = half })
 
--- the entry that a text spells
 unfoldable pub entry_in : List ℕ → Option ReadyAt
 entry_in text =
     if nat_lt (length text) 1 then None
     else entry_between (take (length text - 1) text) (slice_index text (length text - 1))
 
--- the entries that texts spell
 unfoldable pub entries_in : List (List ℕ) → Option (List ReadyAt)
 entries_in [] = Some []
 entries_in (piece ∷ pieces) = do
@@ -145,13 +132,11 @@ ready_in text =
     if bytes_eq text (codes "-") then Some []
     else entries_in (slice_split (λ b. b == byte ",") text) >>= λ entries. only_if (nat_le (length entries) 256) entries
 
--- the value of a hexadecimal digit
 abbrev pub hex_in : ℕ → Option ℕ
 hex_in digit =
     if nat_le (byte "0") digit && nat_le digit (byte "9") then Some (digit - byte "0")
     else (if nat_le (byte "a") digit && nat_le digit (byte "f") then Some (digit - byte "a" + 10) else None)
 
--- the byte that two digits spell
 abbrev pub byte_in : ℕ → ℕ → Option ℕ
 byte_in first second = do
   high ← hex_in first
@@ -167,7 +152,6 @@ digits_in (first ∷ second ∷ digits) = do
   bytes ← digits_in digits
   Some (value ∷ bytes)
 
--- the bytes that a field spells
 unfoldable pub bytes_in : List ℕ → Option (List ℕ)
 bytes_in text = if slice_index text 0 == byte "x" then digits_in (drop 1 text) else None
 
@@ -177,7 +161,6 @@ octets_in size digits = do
   bytes ← digits_in digits
   only_if (length bytes == size) bytes
 
--- the peer with an address of this length that a text spells
 abbrev pub addressed_in : ℕ → (List ℕ → ℕ → Peer) → List ℕ → Option Peer
 addressed_in size peer text = do
   parts ← around_first (byte ":") text
@@ -185,7 +168,6 @@ addressed_in size peer text = do
   port ← number_in (2 ^ 16 - 1) parts.1
   Some (peer addr port)
 
--- the peer that a field spells
 unfoldable pub peer_in : List ℕ → Option Peer
 peer_in text =
     if bytes_eq text (codes "l") then Some Local
@@ -194,15 +176,12 @@ peer_in text =
     else (if slice_index text 0 == byte "6" then addressed_in 16 V6 (drop 2 text) else None))
     else None)
 
--- each way in which an end is passed on
 abbrev pub all_shuts : List Shut
 all_shuts = Nothing ∷ Down ∷ Close ∷ Null ∷ []
 
--- the way that a word stands for
 unfoldable pub shut_in : List ℕ → Option Shut
 shut_in text = find (λ how. bytes_eq (shut_text how) text) all_shuts
 
--- each reason of a closing
 abbrev pub all_whys : List Why
 all_whys =
     reason.Finished
@@ -218,11 +197,9 @@ all_whys =
     ∷ reason.Memory
     ∷ []
 
--- the reason that a word stands for
 unfoldable pub why_in : List ℕ → Option Why
 why_in text = find (λ why. bytes_eq (why_text why) text) all_whys
 
--- what became of a child, by the words for it
 unfoldable pub child_in : List ℕ → Option ChildEnd
 child_in text =
     if bytes_eq text (codes "running") then Some Running
@@ -230,7 +207,6 @@ child_in text =
     else around_first (byte " ") text >>= λ parts.
     if bytes_eq parts.0 (codes "ended") then option_map Ended (status_in parts.1) else None)
 
--- the word for a kind of act
 abbrev pub kind_text : Kind → List ℕ
 kind_text kind.Turn = codes "turn"
 kind_text kind.Opened = codes "opened"
@@ -256,7 +232,6 @@ kind_text kind.Reaped = codes "reaped"
 kind_text kind.Note = codes "note"
 kind_text kind.NoteFault = codes "notefault"
 
--- each kind of act
 abbrev pub all_kinds : List Kind
 all_kinds =
     kind.Turn
@@ -284,7 +259,6 @@ all_kinds =
     ∷ kind.NoteFault
     ∷ []
 
--- the kind that a word stands for
 unfoldable pub kind_in : List ℕ → Option Kind
 kind_in word = find (λ k. bytes_eq (kind_text k) word) all_kinds
 
@@ -302,7 +276,6 @@ placed_in make field_in text = do
   value ← field_in front.1
   Some (make front.0 value)
 
--- the turn that the fields of a line spell
 unfoldable pub turn_in : List ℕ → Option Act
 turn_in text = do
   first ← around_first (byte " ") text

@@ -35,7 +35,6 @@ abbrev pub IsFirstFrom : FinMap nat_cmp ℕ → ℕ → Option ℕ → Type 0
 IsFirstFrom values key None = (other : ℕ) → key ≤ other → get values other ≡ None
 IsFirstFrom values key (Some first) = (key ≤ first) × (is_some (get values first) ≡ true) × ((other : ℕ) → key ≤ other → other < first → get values other ≡ None)
 
--- a map as a value that contracts can compare
 abbrev pub keyed_code : Coded Keyed
 keyed_code =
     code_by (FinMap nat_cmp ℕ × ℕ) (coded× (code coded_ℕ coded_ℕ) coded_ℕ) (λ k. (k.values, k.room)) (λ p. record { values = p.0; room = p.1 }) (λ _. refl)

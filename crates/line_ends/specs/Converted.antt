@@ -3,7 +3,6 @@ use Rattle.std.specs.Prelude.{◌≡◌, ◌⊎◌, ℕ, ◌<◌, List, length, 
 use Rattle.relay_model.specs.Conversions.{read_converted, write_converted}
 use Rattle.line_ends.specs.declared.Convs.{Convs}
 
--- bytes as they were read, converted for reading and then for writing
 abbrev pub converted : Convs → List ℕ → List ℕ
 converted how xs = write_converted how.write (read_converted how.read xs)
 

@@ -24,11 +24,9 @@ unfoldable pub masked : List ℕ → List ℕ → List ℕ
 masked octets mask =
     map (λ k. bit_and (slice_index octets k) (slice_index mask k)) (range_with_len 0 (length octets))
 
--- an IPv4 network and its mask
 abbrev pub v4_network : List ℕ → List ℕ → Range
 v4_network octets mask = network.V4 (masked octets mask) mask
 
--- an IPv6 network and its mask
 abbrev pub v6_network : List ℕ → List ℕ → Range
 v6_network octets mask = network.V6 (masked octets mask) mask
 
@@ -57,7 +55,6 @@ v6_by_bits text = do
   bits ← short_number 3 128 parts.1
   Some (v6_network octets (leading_mask 16 bits))
 
--- the network that a text spells
 unfoldable pub range_of : List ℕ → Option Range
 range_of text = or_else (v4_by_bits text) (or_else (v4_by_mask text) (v6_by_bits text))
 
@@ -66,7 +63,6 @@ unfoldable pub port_after : List ℕ → Option ℕ
 port_after [] = Some 0
 port_after (c ∷ digits) = if c == byte ":" then short_number 5 65535 digits else None
 
--- an IPv4 address, with the port behind it if one is written
 abbrev pub v4_peer : List ℕ → Option (List ℕ × List ℕ) → Option Peer
 v4_peer text None = do
   octets ← ipv4_of text
@@ -89,7 +85,6 @@ v6_address text = do
   port ← port_after parts.1
   Some (peer.V6 octets port)
 
--- the address to bind to that a text spells
 unfoldable pub bind_of : List ℕ → Option Bind
 bind_of text = or_else (v4_address text) (v6_address text) >>= (λ addr. Some (record { addr = addr }))
 

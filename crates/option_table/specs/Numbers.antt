@@ -5,7 +5,6 @@ use Rattle.std.specs.List.{list_all}
 use Rattle.std.specs.Str.{byte}
 use Rattle.option_table.specs.Parts.{◌>>=◌, only_if, around_first}
 
--- each byte is a digit of this radix
 abbrev pub all_digits : ℕ → List ℕ → Bool
 all_digits radix text = list_all (λ c. is_digit c radix) text
 
@@ -55,7 +54,6 @@ time_between whole fraction = do
       ((nat_le 1 (length whole + length fraction) && nat_le (length fraction) 6) && nat_le micros (4000000 * 10 ^ 6))
       (micros / 1000)
 
--- the milliseconds that seconds with or without a point spell
 abbrev pub time_in : List ℕ → Option (List ℕ × List ℕ) → Option ℕ
 time_in text None = time_between text []
 time_in text (Some parts) = time_between parts.0 parts.1

@@ -14,7 +14,6 @@ use Rattle.option_table.specs.declared.rows.Lookup.{Lookup}
 use Rattle.option_table.specs.declared.rows.Lookup.TheVariants.{Known, LeftOut, Unknown}
 use Rattle.option_table.specs.Table.{NamedRow, found, is_listed}
 
--- a row of the table: name, option, group, phase and form
 abbrev pub offer : String → OptionId → Group → Phase → Form → NamedRow
 offer name id group phase form =
     record { name = codes name; row = record { id = id; group = group; phase = phase; form = form } }
@@ -23,19 +22,15 @@ offer name id group phase form =
 abbrev pub any_number : Form
 any_number = form.Number 0 (2 ^ 64 - 1)
 
--- a number of 64 bits from 1
 abbrev pub from_one : Form
 from_one = form.Number 1 (2 ^ 64 - 1)
 
--- a number that is a byte
 abbrev pub byte_number : Form
 byte_number = form.Number 0 255
 
--- a number of sessions
 abbrev pub sessions : Form
 sessions = form.Number 1 (2 ^ 32 - 1)
 
--- the options that are offered
 unfoldable pub known_options : List NamedRow
 known_options =
     offer "cr" id.Cr group.Relay phase.Relaying form.Bool
@@ -74,7 +69,6 @@ known_options =
     ∷ offer "proxyport" id.Proxyport group.Proxy phase.Connected form.Port
     ∷ []
 
--- the options of the manual page that are left out
 unfoldable pub left_out_options : List (List ℕ)
 left_out_options =
     codes "raw" ∷ codes "rawer" ∷ codes "echo" ∷ codes "ctty" ∷ codes "setsid" ∷ codes "pty"
@@ -91,6 +85,5 @@ abbrev pub answer_of : Option OptionRow → Bool → Lookup
 answer_of (Some row) listed = Known row
 answer_of None listed = if listed then LeftOut else Unknown
 
--- what the name of an option stands for
 unfoldable pub lookup_of : List ℕ → Lookup
 lookup_of name = answer_of (found known_options name) (is_listed left_out_options name)

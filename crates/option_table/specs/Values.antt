@@ -9,7 +9,6 @@ use Rattle.option_table.specs.Parts.{◌>>=◌, only_if}
 use Rattle.option_table.specs.Numbers.{number_of, short_number, time_of}
 use Rattle.option_table.specs.Networks.{range_of, bind_of}
 
--- the truth that a text spells
 unfoldable pub bool_of : List ℕ → Option Bool
 bool_of text =
     if bytes_eq text (codes "1") then Some true else (if bytes_eq text (codes "0") then Some false else None)
@@ -22,7 +21,6 @@ port_of text = short_number 5 65535 text >>= (λ port. only_if (nat_le 1 port) p
 unfoldable pub is_text : List ℕ → Bool
 is_text text = nat_le (length text) 255 && not (list_any (λ c. c == 0) text)
 
--- the value that a text spells in this form
 abbrev pub written_value : Form → List ℕ → Option Value
 written_value form.Bool text = bool_of text >>= (λ b. Some (value.Bool b))
 written_value (form.Number least greatest) text =
@@ -43,7 +41,6 @@ unwritten_value form.Range = None
 unwritten_value form.Address = None
 unwritten_value form.Text = None
 
--- the value of an option, with a text or without
 abbrev pub value_of : Form → Option (List ℕ) → Option Value
 value_of form None = unwritten_value form
 value_of form (Some text) = written_value form text

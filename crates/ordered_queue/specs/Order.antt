@@ -4,7 +4,6 @@ use mathlib.Core.Option.{some}
 use lib.ListN.{get_elem?}
 use Rattle.ordered_queue.specs.declared.roles.View.{View}
 
--- what contracts see of one side of a queue
 abbrev pub view_of : {T : Type 0} → Bool → Bool → List T → List T → View T
 view_of sends takes sent taken = record { sends = sends; takes = takes; sent = sent; taken = taken }
 

@@ -8,7 +8,6 @@ use Rattle.place_openings.specs.declared.calls.Call.TheVariants as to
 use Rattle.place_openings.specs.declared.stages.Stage.{Stage as AtStage}
 use Rattle.place_openings.specs.declared.stages.Stage.TheVariants as at
 
--- a stage of the code, as the model has it
 abbrev pub as_stage : AtStage → Stage
 as_stage at.Untried = stages.Untried
 as_stage at.Usable = stages.Usable
@@ -18,7 +17,6 @@ as_stage (at.Met peer) = stages.Met peer
 as_stage at.Waiting = stages.Waiting
 as_stage (at.Gone why) = stages.Gone why
 
--- a call of the code, as the model has it
 abbrev pub as_call : ForCall → Call
 as_call to.Nothing = calls.Nothing
 as_call (to.TryAt m) = calls.TryAt m

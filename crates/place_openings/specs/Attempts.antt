@@ -39,7 +39,6 @@ FirstCanCount c past (p ∷ ps) = (out_of_tries c past p ≡ true → CanCount c
 
 -- ---- what one opening tells
 
--- how many tries failed, where none is left
 abbrev pub attempts_in : NextTry → Option ℕ
 attempts_in Now = None
 attempts_in (At due) = None
@@ -51,7 +50,6 @@ abbrev pub given_up_by : Side → Bool → Option ℕ → Option GivenUp
 given_up_by side is_meant None = None
 given_up_by side is_meant (Some attempts) = only_if is_meant (record { side = side; attempts = attempts })
 
--- how many tries failed at a side that was given up
 abbrev pub attempts_told : Option GivenUp → Option ℕ
 attempts_told None = None
 attempts_told (Some given_up) = Some given_up.attempts
@@ -74,7 +72,6 @@ pub record IsGivenUp (c : Config) (past : List Act) (has_door : Bool) (p : Place
   pub attempts_is : given_up.attempts ≡ attempts_of (failures past (tried_at has_door p))
   pub can_count : CanCount c p
 
--- whether the place or its door was given up, and with which side and tries
 abbrev pub GivesUp : Config → List Act → Bool → Place → Option GivenUp → Type 0
 GivesUp c past has_door p None = gave_up c past has_door p ≡ false
 GivesUp c past has_door p (Some given_up) = IsGivenUp c past has_door p given_up

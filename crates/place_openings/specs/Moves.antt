@@ -30,7 +30,6 @@ pub record NamesMore (entry : ReadyAt) (past later : List Act) : Type 0 where
   pub past_is : past ≡ acts.Turn until at (kept names) false ∷ older
   pub later_is : later ≡ acts.Turn until at (kept (names ++ entry ∷ [])) false ∷ older
 
--- the acts have one reaping of this place more
 pub record Reaps (place : Place) (past later : List Act) : Type 0 where
   pub end : ChildEnd
   pub later_is : later ≡ acts.Reaped place end ∷ past
@@ -55,17 +54,14 @@ pub record AtPlace (q : Place) (o : OpeningState) : Type 0 where
   pub is_there : is_place q o ≡ true
   pub no_door : is_own_door q o ≡ false
 
--- the thing is the opening's own door
 pub record AtDoor (d : Place) (o : OpeningState) : Type 0 where
   pub no_place : is_place d o ≡ false
   pub is_there : is_own_door d o ≡ true
 
--- the thing is neither the opening's place nor its own door
 pub record Elsewhere (q : Place) (o : OpeningState) : Type 0 where
   pub no_place : is_place q o ≡ false
   pub no_door : is_own_door q o ≡ false
 
--- the step is at no thing of this opening
 abbrev pub Apart : Step → OpeningState → Type 0
 Apart (Opened q) o = Elsewhere q o
 Apart (OpenedLater q) o = Elsewhere q o
@@ -84,7 +80,6 @@ Apart (Named entry) o = ⊥
 abbrev pub CanOpen : OpeningState → Type 0
 CanOpen o = stage_weight o.stage o.woken o.tried ≡ 2
 
--- the door calls for a listening
 abbrev pub CanListen : OpeningState → Type 0
 CanListen o = stage_weight o.door false o.tried ≡ 2
 

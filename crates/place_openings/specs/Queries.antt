@@ -14,17 +14,14 @@ use Rattle.relay_model.specs.Openings.{out_of_tries}
 use Rattle.place_openings.specs.OpeningState.{OpeningState}
 use Rattle.place_openings.specs.Stands.{tried_at}
 
--- an opening with a peer is ready where the peer is permitted and its own door has served
 abbrev pub met_ready : OpeningState → Peer → Bool
 met_ready o peer = o.listens && is_permitted o.filter peer && (not o.has_door || is_gone_with whys.Served o.door)
 
--- an opening at this stage is ready
 abbrev pub ready_at : OpeningState → Stage → Bool
 ready_at o Usable = not o.listens
 ready_at o (Met peer) = met_ready o peer
 ready_at o other = false
 
--- an opening is ready
 abbrev pub ready_by : OpeningState → Bool
 ready_by o = ready_at o o.stage
 
@@ -42,7 +39,6 @@ first_of answer (x ∷ xs) = or_else (answer x) (first_of answer xs)
 abbrev pub held_by : OpeningState → Option Place
 held_by o = or_else (only_if (holds_at o.stage) o.place) (only_if (o.has_door && holds_at o.door) (door_of o.place))
 
--- the place, or its own door, that is held
 abbrev pub held_at : Config → List Act → Place → Option Place
 held_at c past p = or_else (only_if (held past p) p) (only_if (has_own_door c p && held past (door_of p)) (door_of p))
 

@@ -17,7 +17,6 @@ use Rattle.place_openings.specs.OpeningState.{OpeningState}
 abbrev pub tried_at : Bool → Place → Place
 tried_at has_door p = if has_door then door_of p else p
 
--- an opening says of its place what the acts say
 pub record IsOpening (c : Config) (past : List Act) (p : Place) (o : OpeningState) : Type 0 where
   pub no_door : p.door ≡ false
   pub place_is : o.place ≡ p

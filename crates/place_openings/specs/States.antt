@@ -3,7 +3,6 @@ use Rattle.place_openings.specs.Answers.{as_stage}
 use Rattle.place_openings.specs.OpeningState.{OpeningState}
 use Rattle.place_openings.specs.declared.one_place.Opening.{Opening}
 
--- an opening of the code, as contracts see it
 abbrev pub state_of : Opening → OpeningState
 state_of o = record {
   place = o.place;

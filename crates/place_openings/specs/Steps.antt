@@ -17,7 +17,6 @@ stage_weight (Met peer) woken tried = 1
 stage_weight Waiting woken tried = 1
 stage_weight (Gone why) woken tried = 0
 
--- this number, unless a test holds
 abbrev pub left_unless : Bool → ℕ → ℕ
 left_unless true n = 0
 left_unless false n = n
@@ -26,7 +25,6 @@ left_unless false n = n
 abbrev pub steps_of : OpeningState → ℕ
 steps_of o = stage_weight o.stage o.woken o.tried + stage_weight o.door false o.tried + left_unless o.asked 2 + left_unless o.asked_child 1
 
--- how many calls openings take at most before the next turn
 abbrev pub steps_in : List OpeningState → ℕ
 steps_in [] = 0
 steps_in (o ∷ os) = steps_of o + steps_in os
@@ -35,7 +33,6 @@ steps_in (o ∷ os) = steps_of o + steps_in os
 abbrev pub is_place : Place → OpeningState → Bool
 is_place q o = same_place q o.place
 
--- the thing is the opening's own door
 abbrev pub is_own_door : Place → OpeningState → Bool
 is_own_door q o = o.has_door && same_place q (door_of o.place)
 
@@ -43,7 +40,6 @@ is_own_door q o = o.has_door && same_place q (door_of o.place)
 abbrev pub asked_by : Place → OpeningState → Bool
 asked_by p o = o.asked_child && same_place p o.place
 
--- it was asked what became of the child of this place
 abbrev pub has_asked : List OpeningState → Place → Bool
 has_asked os p = list_any (asked_by p) os
 

@@ -15,7 +15,6 @@ use Rattle.world_trait.specs.declared.answers.SendAnswer.TheVariants as sends
 use Rattle.world_trait.specs.declared.answers.ShutAnswer.{ShutAnswer}
 use Rattle.world_trait.specs.declared.answers.ShutAnswer.TheVariants as shuts
 
--- a read of the desk is one of the port
 abbrev pub ReadsSo : List ℕ → ReadAnswer → PortSeen → PortSeen → Type 0
 ReadsSo into (reads.Bytes n) before now = Reads before now into (gots.Bytes n)
 ReadsSo into reads.Empty before now = Reads before now into gots.Empty
@@ -24,7 +23,6 @@ ReadsSo into reads.NotYet before now = Reads before now into gots.NotYet
 ReadsSo into reads.Failed before now = Reads before now into gots.Failed
 ReadsSo into reads.Memory before now = now ≡ before
 
--- a write of the desk is one of the port
 abbrev pub WritesSo : List ℕ → WriteAnswer → PortSeen → PortSeen → Type 0
 WritesSo bytes (writes.Took n) before now = Writes before now bytes (tooks.Took n)
 WritesSo bytes writes.NotYet before now = Writes before now bytes tooks.NotYet
@@ -38,7 +36,6 @@ SendsSo bytes sends.NotYet before now = Sends before now bytes tooks.NotYet
 SendsSo bytes sends.Failed before now = Sends before now bytes tooks.Failed
 SendsSo bytes sends.Memory before now = now ≡ before
 
--- a shut of the desk that wanted no memory is one of the port
 abbrev pub ShutsSo : ShutAnswer → PortSeen → PortSeen → Type 0
 ShutsSo shuts.Done before now = Shuts before now shuttings.Done
 ShutsSo shuts.Failed before now = Shuts before now shuttings.Failed

@@ -42,7 +42,6 @@ abbrev pub TellsAsking : Asking → Option Act → Option History → Option His
 TellsAsking asking None told told' = told' ≡ told
 TellsAsking asking (Some act) told told' = told' ≡ option_map (with_asking act asking) told
 
--- the world's answer for that of a port's read
 abbrev pub read_answer : Got → ReadAnswer
 read_answer (gots.Bytes n) = reads.Bytes n
 read_answer gots.Empty = reads.Empty
@@ -50,19 +49,16 @@ read_answer gots.End = reads.End
 read_answer gots.NotYet = reads.NotYet
 read_answer gots.Failed = reads.Failed
 
--- the world's answer for that of a port's write
 abbrev pub write_answer : Took → WriteAnswer
 write_answer (tooks.Took n) = writes.Took n
 write_answer tooks.NotYet = writes.NotYet
 write_answer tooks.Failed = writes.Failed
 
--- the world's answer for that of a port's packet
 abbrev pub send_answer : Took → SendAnswer
 send_answer (tooks.Took n) = sends.Sent
 send_answer tooks.NotYet = sends.NotYet
 send_answer tooks.Failed = sends.Failed
 
--- the world's answer for that of a port's reaping
 abbrev pub reap_answer : PortReap → ReapAnswer
 reap_answer (childs.Reaped end) = reaps.Reaped end
 reap_answer childs.NoChild = reaps.NoChild

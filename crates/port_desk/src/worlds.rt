@@ -8,27 +8,28 @@ ghost use Rattle.relay_model.specs.Places.{same_place};
 ghost use Rattle.relay_model.specs.Readiness.{names};
 ghost use Rattle.world_trait.specs.Answers.{Answered, AnsweredAsking, OnlyHeldNamed, NotReaped, OnlyWhereTold, ReadFits, Rose, WaitCounts, WriteFits, accept_act, close_act, is_accept_fault, is_listen_fault, is_note_fault, is_open_fault, is_read_fault, is_send_fault, is_shut_fault, is_write_fault, listen_act, note_act, open_act, read_act, reap_act, send_act, shut_act, wait_act, wants_read_memory, wants_send_memory, wants_shut_memory, wants_turn_memory, wants_write_memory, write_act};
 ghost use Rattle.port_desk.specs.Calls.{OnTurned, ReadsSo, SendsSo, ShutsSo, WritesSo};
-ghost use Rattle.desk_places.specs.Causes.{AcceptCause, ListenCause, OpenCause, StandardCause};
+ghost use Rattle.desk_places.specs.Causes.{AcceptCause, ListenCause, OpenAsks, OpenCause, StandardCause};
 ghost use Rattle.port_trait.specs.Counting.{Rose as Rises};
 ghost use Rattle.desk_ports.specs.Bases.{standard_of};
 ghost use Rattle.desk_ports.specs.Harbors.{AtErrors, AtInput, AtMade, AtOutput, MadeCall, giving_pier, hint_told, taking_pier};
-ghost use Rattle.desk_places.specs.Changes.{ReapsAnswered, SettlesMade, SettlesSo};
-ghost use Rattle.port_desk.specs.Naming.{NamesHinting, NamesKeyed};
+ghost use Rattle.desk_places.specs.Changes.{LeavesParent, ReapsAnswered, SettlesMade, SettlesSo, is_finished, made_at};
+ghost use Rattle.port_desk.specs.Naming.{NamesHinting, NamesKeyed, PollsUntil};
 ghost use Rattle.desk_ports.specs.Ports.{MovesNothing, seen};
 ghost use Rattle.port_desk.specs.Records.{CountsOnce, CountsStop, NotedSo};
-ghost use Rattle.desk_places.specs.Stations.{base_at, hold_at, is_disarmed};
+ghost use Rattle.desk_places.specs.Stations.{base_at, hold_at, is_disarmed, station_at};
 ghost use Rattle.desk_ports.specs.declared.bases.Base.TheVariants as bases;
 
 use crate::desk::Desk;
 use crate::naming::arm_named;
-use port_trait::{Maker, Poller, Port, Took};
+use port_trait::{Maker, Poller, Port, Spare, Took};
 use relay_model::{Act, Peer, Place, ReadyList, Shut, Single, Why};
 use world_trait::{
     AcceptAnswer, ListenAnswer, NoteAnswer, OpenAnswer, ReadAnswer, ReapAnswer, SendAnswer,
     ShutAnswer, Turned, World, WriteAnswer,
 };
 
-impl<M: Maker + Drop, P: Poller + Drop, I: Port, O: Port, E: Port> World for Desk<M, P, I, O, E> {
+impl<M: Maker + Drop, P: Poller + Drop, F: Spare, I: Port, O: Port, E: Port> World
+    for Desk<M, P, F, I, O, E> {
     ghost told = { λ d. d.log.recording.told };
 
     ghost held = { λ d. hold_at d.log.stations.entries };
@@ -60,6 +61,13 @@ impl<M: Maker + Drop, P: Poller + Drop, I: Port, O: Port, E: Port> World for Des
             self.old.ports.harbor.errors.port.hints
             self.old.ports.harbor.made)
             self.old.log.stations.entries ready.new.entries) }
+        ensures until { OnTurned result (PollsUntil
+            (hint_told
+            self.old.ports.harbor.input.port.hints
+            self.old.ports.harbor.output.port.hints
+            self.old.ports.harbor.errors.port.hints
+            self.old.ports.harbor.made)
+            self.old.log.stations.entries ready.new.entries self.old.clock.last until self.new.clock.asked) }
         ensures armed { OnTurned result ((p : Place) (half : Half) → is_disarmed self.new.log.stations.entries p half ≡ (is_disarmed self.old.log.stations.entries p half && not (names ready.new.entries p half))) }
         ensures input { self.new.ports.harbor.input.port
             ≡ self.old.ports.harbor.input.port }
@@ -102,6 +110,7 @@ impl<M: Maker + Drop, P: Poller + Drop, I: Port, O: Port, E: Port> World for Des
         ensures standard { IfSome (standard_of place single.now.target) (λ base. StandardCause (Rises self.old.ports.harbor.input.port.counts.faults self.new.ports.harbor.input.port.counts.faults
             ⊎ (Rises self.old.ports.harbor.output.port.counts.faults self.new.ports.harbor.output.port.counts.faults
             ⊎ Rises self.old.ports.harbor.errors.port.counts.faults self.new.ports.harbor.errors.port.counts.faults)) result) }
+        ensures asked { IfNone (standard_of place single.now.target) (OpenAsks place behind (M.asked self.new.ports.maker) result) }
         ensures made { IfNone (standard_of place single.now.target) (OpenCause (M.faults self.old.ports.maker) (M.faults self.new.ports.maker) (M.stalls self.old.ports.maker) (M.stalls self.new.ports.maker) result) }
     {
         let Ok(copied) = self.prepare_opening(single) else {
@@ -348,6 +357,7 @@ impl<M: Maker + Drop, P: Poller + Drop, I: Port, O: Port, E: Port> World for Des
         ensures streams { (self.new.ports.harbor.input ≡ self.old.ports.harbor.input) × (self.new.ports.harbor.output ≡ self.old.ports.harbor.output) × (self.new.ports.harbor.errors ≡ self.old.ports.harbor.errors) }
         ensures gone { (key : ℕ) → base_at self.old.log.stations.entries place ≡ Some (bases.Made key) → get self.new.ports.harbor.made key ≡ None }
         ensures others { (key : ℕ) → (base_at self.old.log.stations.entries place ≡ Some (bases.Made key) → ⊥) → get self.new.ports.harbor.made key ≡ get self.old.ports.harbor.made key }
+        ensures parents { IfSome (station_at self.old.log.stations.entries place) (λ s. LeavesParent (s.finished && is_finished why) (made_at self.old.ports.harbor.made s.base) self.old.ports.parents.items self.new.ports.parents.items) }
     {
         let _joined = self.ports.close(&mut self.log.stations, place, why);
         self.log.put(Act::Closed(place, why));

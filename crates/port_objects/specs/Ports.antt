@@ -7,7 +7,6 @@ use Rattle.port_trait.specs.declared.answers.Took.TheVariants as writes
 use Rattle.port_objects.specs.Intakes.{IntakeState, fresh_intake, filled}
 use Rattle.port_objects.specs.Scripts.{ScriptState, fresh_script, has_more}
 
--- what contracts see of a port in memory
 pub record PortState : Type 0 where
   pub script : ScriptState
   pub intake : IntakeState
@@ -15,7 +14,6 @@ pub record PortState : Type 0 where
   pub begun : Bool
   pub ended : Bool
 
--- a port that was just made, with this room
 abbrev pub fresh_port : ℕ → PortState
 fresh_port room = record { script = fresh_script; intake = fresh_intake room; counts = record { faults = 0; ends = 0; empties = 0; stalls = 0 }; begun = false; ended = false }
 
@@ -42,7 +40,6 @@ intake_after intake bytes (writes.Took n) = filled intake (take n bytes)
 intake_after intake bytes writes.NotYet = intake
 intake_after intake bytes writes.Failed = intake
 
--- what a write changes of a port, and what it leaves
 pub record KeptByWrite (before now : PortState) (bytes : List ℕ) (answer : Took) : Type 0 where
   pub intake : now.intake ≡ intake_after before.intake bytes answer
   pub script : now.script ≡ before.script

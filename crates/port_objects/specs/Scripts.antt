@@ -11,7 +11,6 @@ pub record ScriptState : Type 0 where
   pub next : ℕ
   pub at : ℕ
 
--- a script without items
 abbrev pub fresh_script : ScriptState
 fresh_script = record { items = []; next = 0; at = 0 }
 
@@ -23,7 +22,6 @@ IsFilled items.End = Unit {0}
 IsFilled items.NotYet = Unit {0}
 IsFilled items.Fault = Unit {0}
 
--- each item of bytes has some
 abbrev pub AllFilled : List PortItem → Type 0
 AllFilled [] = Unit {0}
 AllFilled (item ∷ rest) = IsFilled item × AllFilled rest
@@ -51,11 +49,9 @@ given [] next at = []
 given (item ∷ rest) zero at = take at (item_bytes item)
 given (item ∷ rest) (suc next) at = item_bytes item ++ given rest next at
 
--- the bytes that were given so far
 abbrev pub given_of : ScriptState → List ℕ
 given_of script = given script.items script.next script.at
 
--- an item is left
 abbrev pub has_more : ScriptState → Bool
 has_more script = nat_lt script.next (length script.items)
 
@@ -67,7 +63,6 @@ item_answer items.End at room = reads.End
 item_answer items.NotYet at room = reads.NotYet
 item_answer items.Fault at room = reads.Failed
 
--- what a read answers to this item
 abbrev pub scripted_read : Option PortItem → ℕ → ℕ → Got
 scripted_read None at room = reads.NotYet
 scripted_read (Some item) at room = item_answer item at room
@@ -98,7 +93,6 @@ got_bytes into reads.End = []
 got_bytes into reads.NotYet = []
 got_bytes into reads.Failed = []
 
--- an answered number of bytes fits the read
 abbrev pub FitsRead : List ℕ → Got → Type 0
 FitsRead into (reads.Bytes n) = (1 ≤ n) × (n ≤ length into)
 FitsRead into reads.Empty = Unit {0}

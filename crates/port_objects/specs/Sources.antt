@@ -3,14 +3,12 @@ use Rattle.std.specs.Prelude.{ℕ, min, Bool, true, false, List, [], ◌∷◌, 
 use Rattle.port_trait.specs.declared.answers.SourceGot.{SourceGot}
 use Rattle.port_trait.specs.declared.answers.SourceGot.TheVariants.{Bytes, End, Failed}
 
--- what contracts see of a source in memory
 pub record SourceState : Type 0 where
   pub left : List ℕ
   pub ends_well : Bool
   pub faults : ℕ
   pub ends : ℕ
 
--- a source that was just made
 abbrev pub fresh_source : List ℕ → Bool → SourceState
 fresh_source bytes ends_well = record { left = bytes; ends_well = ends_well; faults = 0; ends = 0 }
 

@@ -1,7 +1,6 @@
 -- A spawner that refuses by its list: which starts, and how many there were.
 use Rattle.std.specs.Prelude.{ℕ, List}
 
--- what contracts see of a spawner whose starts may fail
 pub record SpawnerState : Type 0 where
   pub fails : List ℕ
   pub started : ℕ

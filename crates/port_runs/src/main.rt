@@ -6,7 +6,6 @@
 mod calls;
 mod files;
 mod memory;
-mod proxies;
 mod queues;
 mod rings;
 mod spellings;
@@ -65,7 +64,6 @@ fn main(rt: HostRuntime) -> io::Result<ExitCode> {
             }
             "queue" => queues::ask_queue(&rt, alloc, inputs, answers),
             "numbers" => queues::ask_numbers(&rt, alloc, inputs, answers),
-            "socks4" | "socks4a" | "connect" => proxies::ask(alloc, part, inputs, answers),
             _ => memory::ask(alloc, part, inputs, answers),
         }
     };

@@ -1,6 +1,6 @@
 // Ports in memory, and ports over sources and sinks that are called at once.
-ghost use Rattle.std.specs.Prelude.{◌≡◌, IfOk};
-ghost use Rattle.port_objects.specs.Scripts.{IsFilled, given_of};
+ghost use Rattle.std.specs.Prelude.{IfOk};
+ghost use Rattle.port_objects.specs.Scripts.{IsFilled};
 
 use crate::calls::{make_calls, read_boxed};
 use case_rows::{Answered, Answers, Inputs, RowFault, bytes_of, step_parts};
@@ -36,11 +36,7 @@ fn ask_port(alloc: Global, inputs: &mut Inputs<'_>, answers: &mut Answers) -> An
     make_calls(alloc, &mut port, Some(&tap), 1, inputs, answers)
 }
 
-/// Adds the items of the next words, up to `calls`.
-pub(crate) fn add_items(alloc: Global, port: &mut MemPort, inputs: &mut Inputs<'_>) -> Answered
-    ensures given { given_of port.new.script ≡ given_of port.old.script }
-    ensures taken { port.new.intake ≡ port.old.intake }
-{
+fn add_items(alloc: Global, port: &mut MemPort, inputs: &mut Inputs<'_>) -> Answered {
     for _ in 0..u64::MAX {
         let word = inputs.word()?;
         if word == "calls" {

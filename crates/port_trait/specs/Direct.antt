@@ -2,7 +2,6 @@
 use Rattle.std.specs.Prelude.{◌+◌, ◌-◌, ◌^◌, min, Bool, false}
 use Rattle.port_trait.specs.declared.counts.Counts.{Counts}
 
--- counts that stand at their beginning
 abbrev pub no_counts : Counts
 no_counts = record { faults = 0; ends = 0; empties = 0; stalls = 0 }
 
@@ -17,7 +16,6 @@ pub record DirectReading (S : Type 0) : Type 0 where
   pub begun : Bool
   pub ended : Bool
 
--- a reading port that was just made over a source
 abbrev pub fresh_reading : {S : Type 0} → S → DirectReading S
 fresh_reading source = record { source = source; counts = no_counts; begun = false; ended = false }
 
@@ -28,6 +26,5 @@ pub record DirectWriting (K : Type 0) : Type 0 where
   pub begun : Bool
   pub ended : Bool
 
--- a writing port that was just made over a sink
 abbrev pub fresh_writing : {K : Type 0} → K → DirectWriting K
 fresh_writing sink = record { sink = sink; counts = no_counts; begun = false; ended = false }

@@ -2,7 +2,6 @@
 use Rattle.std.specs.Prelude.{◌≡◌, Bool, true, false, Option, None}
 use Rattle.port_trait.specs.declared.answers.Hint.{Hint}
 
--- a hint at nothing
 abbrev pub no_hint : Hint
 no_hint = record { readable = false; writable = false }
 

@@ -1,5 +1,6 @@
 pub mod Counting
 pub mod Direct
+pub mod Eithers
 pub mod Hinting
 pub mod Keys
 pub mod Made

@@ -3,17 +3,17 @@ use Rattle.std.specs.Prelude.{◌≡◌, Bool, true, false, Option, Some}
 use Rattle.relay_model.specs.declared.acts.Peer.{Peer}
 use Rattle.port_trait.specs.declared.makers.Making.{Making}
 use Rattle.port_trait.specs.declared.makers.Making.TheVariants as makings
+use Rattle.port_trait.specs.declared.makers.Fitting.{Fitting}
+use Rattle.port_trait.specs.declared.makers.Fitting.TheVariants as fittings
 use Rattle.port_trait.specs.declared.makers.MadePeer.{MadePeer}
 use Rattle.port_trait.specs.declared.makers.MadePeer.TheVariants as peers
 
--- a making failed
 abbrev pub making_failed : {T : Type 0} → Making T → Bool
 making_failed (makings.Made port) = false
 making_failed (makings.Later port) = false
 making_failed makings.Failed = true
 making_failed makings.Memory = false
 
--- a making is still under way
 abbrev pub making_stalled : {T : Type 0} → Making T → Bool
 making_stalled (makings.Made port) = false
 making_stalled (makings.Later port) = true
@@ -24,14 +24,18 @@ making_stalled makings.Memory = false
 abbrev pub IsAtOnce : {T : Type 0} → Making T → Type 0
 IsAtOnce making = making_stalled making ≡ false
 
--- an accepting failed
+-- nothing lies ready for the spare port
+abbrev pub is_unfitted : Fitting → Bool
+is_unfitted fittings.Fitted = false
+is_unfitted fittings.Failed = true
+is_unfitted fittings.Memory = false
+
 abbrev pub peer_failed : {T : Type 0} → MadePeer T → Bool
 peer_failed (peers.Came port peer) = false
 peer_failed peers.NoPeer = false
 peer_failed peers.Failed = true
 peer_failed peers.Memory = false
 
--- no peer was there
 abbrev pub peer_stalled : {T : Type 0} → MadePeer T → Bool
 peer_stalled (peers.Came port peer) = false
 peer_stalled peers.NoPeer = true

@@ -22,13 +22,11 @@ begin_event begins.Begun = None
 begin_event begins.Failed = Some Fault
 begin_event begins.Memory = None
 
--- what a settling counts as
 abbrev pub settle_event : Settled → Option Event
 settle_event settles.Ready = None
 settle_event settles.NotYet = Some Stall
 settle_event settles.Failed = Some Fault
 
--- what a read counts as
 abbrev pub read_event : Got → Option Event
 read_event (reads.Bytes n) = None
 read_event reads.Empty = Some Empty
@@ -36,13 +34,11 @@ read_event reads.End = Some End
 read_event reads.NotYet = Some Stall
 read_event reads.Failed = Some Fault
 
--- what a write counts as
 abbrev pub write_event : WriteAnswer → Option Event
 write_event (writes.Took n) = None
 write_event writes.NotYet = Some Stall
 write_event writes.Failed = Some Fault
 
--- what a shut counts as
 abbrev pub shut_event : Shutting → Option Event
 shut_event shuts.Done = None
 shut_event shuts.Failed = Some Fault
@@ -53,7 +49,6 @@ begun_after before begins.Begun = true
 begun_after before begins.Failed = before
 begun_after before begins.Memory = before
 
--- a read met the end
 abbrev pub is_end : Got → Bool
 is_end reads.End = true
 is_end (reads.Bytes n) = false
@@ -61,13 +56,11 @@ is_end reads.Empty = false
 is_end reads.NotYet = false
 is_end reads.Failed = false
 
--- a write failed
 abbrev pub is_write_fault : WriteAnswer → Bool
 is_write_fault (writes.Took n) = false
 is_write_fault writes.NotYet = false
 is_write_fault writes.Failed = true
 
--- a shut failed
 abbrev pub is_shut_fault : Shutting → Bool
 is_shut_fault shuts.Done = false
 is_shut_fault shuts.Failed = true
@@ -115,7 +108,6 @@ abbrev pub ReapsChild : Bool → PortReap → Type 0
 ReapsChild child (reaps.Reaped how) = child ≡ true
 ReapsChild child reaps.NoChild = child ≡ false
 
--- the answer of a joining
 abbrev pub join_answer : Bool → Joining
 join_answer joined = if joined then joins.Joined else joins.Running
 

@@ -16,30 +16,25 @@ use Rattle.relay_model.specs.declared.acts.Shut.TheVariants as ways
 abbrev pub Loses : Option (List ℕ) → Option (List ℕ) → List ℕ → Type 0
 Loses before now bytes = before ≡ option_map (λ rest. bytes ++ rest) now
 
--- what a source has left after it answered so
 abbrev pub SourceGives : Option (List ℕ) → Option (List ℕ) → List ℕ → SourceGot → Type 0
 SourceGives before now into (gives.Bytes n) = (1 ≤ n) × (n ≤ length into) × Loses before now (take n into)
 SourceGives before now into gives.End = (now ≡ before) × IfSome now (λ rest. rest ≡ [])
 SourceGives before now into gives.Failed = now ≡ before
 
--- a source failed
 abbrev pub source_failed : SourceGot → Bool
 source_failed (gives.Bytes n) = false
 source_failed gives.End = false
 source_failed gives.Failed = true
 
--- a source met its end
 abbrev pub source_ended : SourceGot → Bool
 source_ended (gives.Bytes n) = false
 source_ended gives.End = true
 source_ended gives.Failed = false
 
--- what a sink took when it answered so
 abbrev pub SinkTakes : Option (List ℕ) → Option (List ℕ) → List ℕ → SinkTook → Type 0
 SinkTakes before now bytes (takes.Took n) = (1 ≤ n) × (n ≤ length bytes) × (now ≡ option_map (λ all. all ++ take n bytes) before)
 SinkTakes before now bytes takes.Failed = now ≡ before
 
--- a sink failed
 abbrev pub sink_failed : SinkTook → Bool
 sink_failed (takes.Took n) = false
 sink_failed takes.Failed = true

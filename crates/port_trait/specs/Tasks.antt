@@ -24,7 +24,6 @@ abbrev pub refuses_next : Option StartScript → Bool
 refuses_next None = false
 refuses_next (Some script) = list_any (λ fail. fail == script.started) script.fails
 
--- the script of starts with one more
 abbrev pub after_start : Option StartScript → Option StartScript
 after_start None = None
 after_start (Some script) = Some (record script { started = min (script.started + 1) (2 ^ 64 - 1) })

@@ -5,10 +5,12 @@
 mod answers;
 mod counts;
 mod direct;
+mod either;
 mod keys;
 mod makers;
 mod pollers;
 mod ports;
+mod spares;
 mod spawning;
 mod streams;
 
@@ -17,9 +19,11 @@ pub use answers::{
 };
 pub use counts::Counts;
 pub use direct::{DirectReader, DirectWriter};
+pub use either::EitherPort;
 pub use keys::KeyList;
-pub use makers::{MadePeer, Maker, Making};
+pub use makers::{AskedPlace, Fitting, MadePeer, Maker, Making};
 pub use pollers::{Polled, Poller};
 pub use ports::Port;
+pub use spares::Spare;
 pub use spawning::{Spawner, StdSpawner, Task, Wake};
 pub use streams::{Sink, Source, StdSink, StdSource, copy_front};

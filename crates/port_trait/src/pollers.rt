@@ -20,12 +20,15 @@ pub trait Poller {
     ghost stops: { Self → ℕ };
     // the moment of the last poll
     ghost clock: { Self → ℕ };
+    // the moment until which the last poll was asked to wait at most
+    ghost asked: { Self → Option ℕ };
 
     /// Empties `ready`, waits, at most until the moment `until`, and names there what is ready.
     fn poll(&mut self, until: Option<u64>, ready: &mut KeyList) -> Polled
         requires { 256 ≤ ready.old.room }
         ensures room { ready.new.room ≡ ready.old.room }
         ensures named { IfSome (named self.new) (λ entries. entries ≡ ready.new.entries) }
+        ensures asked { asked self.new ≡ until }
         ensures at { (clock self.old ≤ clock self.new) × (result.at ≡ clock self.new) }
         ensures stops { Counted result.stop (stops self.old) (stops self.new) };
 }

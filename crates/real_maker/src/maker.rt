@@ -6,65 +6,73 @@ ghost use Rattle.port_trait.specs.Made.{making_failed, making_stalled, IsAtOnce}
 ghost use Rattle.real_maker.specs.Makers.{risen, risen_if};
 
 use crate::kinds::{Kind, kind_of};
-use crate::opening::{MadePort, OfSocket, make_echo};
+use crate::opening::{OfSocket, child_kit, file_kit, make_echo};
 use crate::ports::RealPort;
+use child_ports::Nursery;
 use mio_poller::MioPoller;
-use port_trait::{MadePeer, Maker, Making, Port};
-use relay_model::{Peer, Place, Single};
+use port_trait::{AskedPlace, Fitting, MadePeer, Maker, Making, Port};
+use relay_model::{NoMemory, Peer, Place, Single};
 use socket_maker::SocketMaker;
 use std::alloc::Global;
 use std::fs::Files;
 use std::marker::Model;
 use std::net::Net;
+use std::process::Processes;
 use std::sync::Wait;
 use std::thread::Threads;
 use std::time::Clock;
+use stream_ports::{StreamKit, StreamShelf};
 
-/// Makes echo pipes and sockets. Without a poller it makes no sockets.
+/// Makes echo pipes and sockets, and fits spare ports out with files and children.
 #[derive(Drop)]
-pub struct RealMaker<R: Files + Wait + Drop> {
+pub struct RealMaker<R: Files + Processes + Wait + Drop> {
     rt: R,
     alloc: Global,
-    sockets: Option<SocketMaker<R>>,
+    sockets: SocketMaker<R>,
+    shelf: StreamShelf<R>,
+    nursery: Nursery<R::Started>,
     faults: u64,
     stalls: u64,
     came: Option<Peer>,
+    asked: Option<AskedPlace>,
 }
 
-impl<R: Files + Wait + Drop> Model for RealMaker<R> {
+impl<R: Files + Processes + Wait + Drop> Model for RealMaker<R> {
     ghost use Rattle.real_maker.specs.Makers.{MakerState};
 
     ghost Value = { MakerState };
 
-    ghost view = { λ maker. record { faults = maker.faults; stalls = maker.stalls; came = maker.came } };
+    ghost view = { λ maker. record { faults = maker.faults; stalls = maker.stalls; came = maker.came; asked = maker.asked } };
 }
 
 impl<R> RealMaker<R>
 where
-    R: Files + Net + Clock + Threads + Wait + Copy + Drop,
+    R: Files + Net + Clock + Processes + Threads + Wait + Copy + Drop,
 {
-    /// A maker without a poller.
-    pub fn new(rt: R, alloc: Global) -> RealMaker<R>
-        ensures { result ≡ record { faults = 0; stalls = 0; came = None } }
-    {
-        RealMaker {
-            rt,
-            alloc,
-            sockets: None,
-            faults: 0,
-            stalls: 0,
-            came: None,
-        }
-    }
-
-    /// Its sockets are registered with this poller. Never `Later`.
-    pub fn on(rt: R, alloc: Global, poller: &MioPoller<R>) -> Making<RealMaker<R>>
+    /// Its sockets are registered with this poller, and its spare ports find what they serve on this shelf. Never
+    /// `Later`.
+    pub fn on(
+        rt: R,
+        alloc: Global,
+        poller: &MioPoller<R>,
+        shelf: StreamShelf<R>,
+    ) -> Making<RealMaker<R>>
         ensures { IsAtOnce result }
     {
+        let Ok(nursery) = Nursery::new(alloc) else {
+            return Making::Memory;
+        };
         match SocketMaker::on(rt, alloc, poller) {
             Making::Made(sockets) => Making::Made(RealMaker {
-                sockets: Some(sockets),
-                ..RealMaker::new(rt, alloc)
+                rt,
+                alloc,
+                sockets,
+                shelf,
+                nursery,
+                faults: 0,
+                stalls: 0,
+                came: None,
+                asked: None,
             }),
             Making::Later(_) | Making::Failed => Making::Failed,
             Making::Memory => Making::Memory,
@@ -92,6 +100,7 @@ where
         ensures counted_fault { Counted (making_failed making.now) self.old.faults self.new.faults }
         ensures counted_stall { Counted (making_stalled making.now) self.old.stalls self.new.stalls }
         ensures came { self.new.came ≡ self.old.came }
+        ensures asked { self.new.asked ≡ self.old.asked }
     {
         match making {
             Making::Failed => self.count_fault(),
@@ -101,39 +110,53 @@ where
     }
 
     /// Opens the address, without counting.
-    fn open(&mut self, key: usize, place: Place, single: &Single) -> Making<MadePort<R>>
+    fn open(&mut self, key: usize, place: Place, single: &Single) -> Making<RealPort>
         ensures { self.new ≡ self.old }
     {
         match kind_of(&self.rt, single) {
             Kind::Echo => make_echo(self.alloc),
-            Kind::Socket => self.open_socket(key, place, single),
+            Kind::Socket => of_socket(self.sockets.make(key, place, single, None)),
             Kind::File | Kind::Child | Kind::Other => Making::Failed,
         }
     }
 
-    fn open_socket(&mut self, key: usize, place: Place, single: &Single) -> Making<MadePort<R>>
+    /// Opens what a spare port is to serve, without counting. Children that are left are asked for their ends first.
+    fn open_kit(
+        &mut self,
+        place: Place,
+        single: &Single,
+        behind: Option<Peer>,
+    ) -> Making<StreamKit<R>>
         ensures { self.new ≡ self.old }
     {
-        match &mut self.sockets {
-            Some(sockets) => of_socket(sockets.make(key, place, single, None)),
-            None => Making::Failed,
+        self.nursery.ask_all();
+        match kind_of(&self.rt, single) {
+            Kind::File => file_kit(self.rt, self.alloc, single, place.part),
+            Kind::Child => {
+                let target = &single.target;
+                child_kit(
+                    &self.rt,
+                    self.alloc,
+                    &self.nursery,
+                    target,
+                    place.part,
+                    behind,
+                )
+            }
+            Kind::Echo | Kind::Socket | Kind::Other => Making::Failed,
         }
     }
 
     /// Takes a peer at the door of a socket, without counting.
-    fn take_peer(&mut self, door: &mut MadePort<R>, key: usize) -> MadePeer<MadePort<R>>
+    fn take_peer(&mut self, door: &mut RealPort, key: usize) -> MadePeer<RealPort>
         ensures same { self.new ≡ self.old }
-        ensures hinting { StaysHinting (⟦<MadePort<R> as Port>⟧.hinting door.old) (⟦<MadePort<R> as Port>⟧.hinting door.new) (⟦<MadePort<R> as Port>⟧.hints door.new) }
-        ensures door { (⟦<MadePort<R> as Port>⟧.gave door.new ≡ ⟦<MadePort<R> as Port>⟧.gave door.old) × (⟦<MadePort<R> as Port>⟧.took door.new ≡ ⟦<MadePort<R> as Port>⟧.took door.old) }
+        ensures hinting { StaysHinting (⟦<RealPort as Port>⟧.hinting door.old) (⟦<RealPort as Port>⟧.hinting door.new) (⟦<RealPort as Port>⟧.hints door.new) }
+        ensures door { (⟦<RealPort as Port>⟧.gave door.new ≡ ⟦<RealPort as Port>⟧.gave door.old) × (⟦<RealPort as Port>⟧.took door.new ≡ ⟦<RealPort as Port>⟧.took door.old) }
     {
-        let Some(sockets) = &mut self.sockets else {
-            let _ = door.hint();
-            return MadePeer::Failed;
-        };
         match door {
-            RealPort::Socket(door) => peer_of(sockets.accept(door, key)),
-            RealPort::Echo(_) => {
-                let _ = door.hint();
+            RealPort::Socket(socket) => peer_of(self.sockets.accept(socket, key)),
+            RealPort::Echo(echo) => {
+                let _ = echo.hint();
                 MadePeer::Failed
             }
         }
@@ -141,9 +164,7 @@ where
 }
 
 /// A socket as a port of any kind.
-fn of_socket<R>(making: Making<OfSocket<R>>) -> Making<MadePort<R>>
-where
-    R: Files + Wait + Drop,
+fn of_socket(making: Making<OfSocket>) -> Making<RealPort>
     ensures failed { making_failed result ≡ making_failed making }
     ensures stalled { making_stalled result ≡ making_stalled making }
 {
@@ -156,10 +177,7 @@ where
 }
 
 /// A peer's socket as a port of any kind.
-fn peer_of<R>(peer: MadePeer<OfSocket<R>>) -> MadePeer<MadePort<R>>
-where
-    R: Files + Threads + Wait + Copy + Drop,
-{
+fn peer_of(peer: MadePeer<OfSocket>) -> MadePeer<RealPort> {
     match peer {
         MadePeer::Came(port, peer) => MadePeer::Came(RealPort::Socket(port), peer),
         MadePeer::NoPeer => MadePeer::NoPeer,
@@ -170,9 +188,9 @@ where
 
 impl<R> Maker for RealMaker<R>
 where
-    R: Files + Net + Clock + Threads + Wait + Copy + Drop,
+    R: Files + Net + Clock + Processes + Threads + Wait + Copy + Drop,
 {
-    type Made = MadePort<R>;
+    type Made = RealPort;
 
     ghost faults = { λ maker. maker.faults };
 
@@ -180,28 +198,47 @@ where
 
     ghost came = { λ maker. maker.came };
 
+    ghost asked = { λ maker. maker.asked };
+
     fn make(
         &mut self,
         key: usize,
         place: Place,
         single: &Single,
-        _behind: Option<Peer>,
-    ) -> Making<MadePort<R>> {
+        behind: Option<Peer>,
+    ) -> Making<RealPort> {
+        self.asked = Some(AskedPlace { place, behind });
         let making = self.open(key, place, single);
         self.count_making(&making);
         making
     }
 
-    fn listen(&mut self, key: usize, single: &Single) -> Making<MadePort<R>> {
-        let making = match &mut self.sockets {
-            Some(sockets) => of_socket(sockets.listen(key, single)),
-            None => Making::Failed,
-        };
+    fn wants_spare(&self, single: &Single) -> bool {
+        matches!(kind_of(&self.rt, single), Kind::File | Kind::Child)
+    }
+
+    fn fit(&mut self, place: Place, single: &Single, behind: Option<Peer>) -> Fitting {
+        self.asked = Some(AskedPlace { place, behind });
+        match self.open_kit(place, single, behind) {
+            Making::Made(kit) => {
+                self.shelf.lay(kit);
+                Fitting::Fitted
+            }
+            Making::Later(_) | Making::Failed => {
+                self.count_fault();
+                Fitting::Failed
+            }
+            Making::Memory => Fitting::Memory,
+        }
+    }
+
+    fn listen(&mut self, key: usize, single: &Single) -> Making<RealPort> {
+        let making = of_socket(self.sockets.listen(key, single));
         self.count_making(&making);
         making
     }
 
-    fn accept(&mut self, door: &mut MadePort<R>, key: usize) -> MadePeer<MadePort<R>> {
+    fn accept(&mut self, door: &mut RealPort, key: usize) -> MadePeer<RealPort> {
         match self.take_peer(door, key) {
             MadePeer::Came(port, peer) => {
                 self.came = Some(peer);

@@ -1,48 +1,51 @@
-// The port of any address that isn't a standard stream.
+// The port of any address that a maker makes a port for.
 ghost use Rattle.real_maker.specs.Ports.{of_port};
 
+use crate::opening::OfSocket;
+use file_ports::EchoPort;
 use port_trait::{Begun, Got, Hint, Joining, Port, PortReap, Settled, Shutting, Took};
 use relay_model::Shut;
 
-/// The echo pipe or a socket. Each call is that call on the port that it is.
+/// The echo pipe or a socket. Each call is that call on the port that it is. This is one type and no `EitherPort`, since
+/// a port without type parameters is compared by its name where a maker stands for a type parameter.
 #[derive(Drop)]
-pub enum RealPort<E, S> {
-    Echo(E),
-    Socket(S),
+pub enum RealPort {
+    Echo(EchoPort),
+    Socket(OfSocket),
 }
 
-impl<E: Port, S: Port> Port for RealPort<E, S> {
-    ghost gave = { of_port E.gave S.gave };
+impl Port for RealPort {
+    ghost gave = { of_port ⟦<EchoPort as Port>⟧.gave ⟦<OfSocket as Port>⟧.gave };
 
-    ghost took = { of_port E.took S.took };
+    ghost took = { of_port ⟦<EchoPort as Port>⟧.took ⟦<OfSocket as Port>⟧.took };
 
-    ghost behind_gave = { of_port E.behind_gave S.behind_gave };
+    ghost behind_gave = { of_port ⟦<EchoPort as Port>⟧.behind_gave ⟦<OfSocket as Port>⟧.behind_gave };
 
-    ghost behind_took = { of_port E.behind_took S.behind_took };
+    ghost behind_took = { of_port ⟦<EchoPort as Port>⟧.behind_took ⟦<OfSocket as Port>⟧.behind_took };
 
-    ghost behind_faults = { of_port E.behind_faults S.behind_faults };
+    ghost behind_faults = { of_port ⟦<EchoPort as Port>⟧.behind_faults ⟦<OfSocket as Port>⟧.behind_faults };
 
-    ghost behind_ends = { of_port E.behind_ends S.behind_ends };
+    ghost behind_ends = { of_port ⟦<EchoPort as Port>⟧.behind_ends ⟦<OfSocket as Port>⟧.behind_ends };
 
-    ghost behind_left = { of_port E.behind_left S.behind_left };
+    ghost behind_left = { of_port ⟦<EchoPort as Port>⟧.behind_left ⟦<OfSocket as Port>⟧.behind_left };
 
-    ghost served = { of_port E.served S.served };
+    ghost served = { of_port ⟦<EchoPort as Port>⟧.served ⟦<OfSocket as Port>⟧.served };
 
-    ghost hints = { of_port E.hints S.hints };
+    ghost hints = { of_port ⟦<EchoPort as Port>⟧.hints ⟦<OfSocket as Port>⟧.hints };
 
-    ghost hinting = { of_port E.hinting S.hinting };
+    ghost hinting = { of_port ⟦<EchoPort as Port>⟧.hinting ⟦<OfSocket as Port>⟧.hinting };
 
-    ghost behind_finished = { of_port E.behind_finished S.behind_finished };
+    ghost behind_finished = { of_port ⟦<EchoPort as Port>⟧.behind_finished ⟦<OfSocket as Port>⟧.behind_finished };
 
-    ghost counts = { of_port E.counts S.counts };
+    ghost counts = { of_port ⟦<EchoPort as Port>⟧.counts ⟦<OfSocket as Port>⟧.counts };
 
-    ghost begun = { of_port E.begun S.begun };
+    ghost begun = { of_port ⟦<EchoPort as Port>⟧.begun ⟦<OfSocket as Port>⟧.begun };
 
-    ghost ended = { of_port E.ended S.ended };
+    ghost ended = { of_port ⟦<EchoPort as Port>⟧.ended ⟦<OfSocket as Port>⟧.ended };
 
-    ghost joins = { of_port E.joins S.joins };
+    ghost joins = { of_port ⟦<EchoPort as Port>⟧.joins ⟦<OfSocket as Port>⟧.joins };
 
-    ghost child = { of_port E.child S.child };
+    ghost child = { of_port ⟦<EchoPort as Port>⟧.child ⟦<OfSocket as Port>⟧.child };
 
     fn begin(&mut self) -> Begun {
         match self {

@@ -21,11 +21,9 @@ abbrev pub IsReportOf : List (List ℕ) → ℕ → List ℕ → Report → Type
 IsReportOf words n text TooLong = longest_text < length text
 IsReportOf words n text (Found verdict) = (length text ≤ longest_text) × IsVerdictOf words n text verdict
 
--- the line that says yes, with the acts and the things held
 abbrev pub yes_line : ℕ → ℕ → List ℕ
 yes_line acts held = codes "yes: " ++ decimal acts ++ codes " acts, " ++ decimal held ++ (codes " held" ++ newline)
 
--- the line of a verdict
 abbrev pub line_of_verdict : Verdict → List ℕ
 line_of_verdict (Yes acts held) = yes_line acts held
 line_of_verdict (BadLine number) = codes "no: line " ++ decimal number ++ newline
@@ -37,7 +35,6 @@ abbrev pub line_of : Report → List ℕ
 line_of TooLong = codes "no: too long" ++ newline
 line_of (Found verdict) = line_of_verdict verdict
 
--- the status of a verdict
 abbrev pub status_of_verdict : Verdict → ℕ
 status_of_verdict (Yes acts held) = 0
 status_of_verdict (BadLine number) = 1

@@ -5,17 +5,14 @@ use Rattle.relay_buffer.specs.declared.lanes.Lane.{Lane}
 use Rattle.relay_buffer.specs.declared.backlogs.Backlog.{Backlog}
 use Rattle.relay_buffer.specs.declared.backlogs.Backlog.TheVariants.{Stream, Packet}
 
--- the bytes that wait
 abbrev pub held_bytes : Backlog → List ℕ
 held_bytes (Stream ring) = ring.items
 held_bytes (Packet bytes) = bytes.items
 
--- for how many bytes there is room
 abbrev pub held_capacity : Backlog → ℕ
 held_capacity (Stream ring) = ring.capacity
 held_capacity (Packet bytes) = vec_capacity bytes
 
--- borders are kept
 abbrev pub is_packet : Backlog → Bool
 is_packet (Stream ring) = false
 is_packet (Packet bytes) = true

@@ -19,7 +19,6 @@ due lane x = due_of lane.how.read lane.how.write lane.readbytes lane.escape x
 abbrev pub waiting : Lane → List ℕ → List ℕ → ℕ
 waiting lane x y = length (due lane x) - length y
 
--- how many bytes may still be read, after so many more
 abbrev pub lowered : Option ℕ → ℕ → Option ℕ
 lowered None count = None
 lowered (Some left) count = Some (left - count)
@@ -45,21 +44,17 @@ abbrev pub at_most : Option ℕ → ℕ → ℕ
 at_most None n = n
 at_most (Some left) n = min n left
 
--- how many bytes a read may bring, by the block and what waits
 abbrev pub most_at_once : Option ℕ → ℕ → ℕ → ℕ
 most_at_once None block backlog = min block ((2 * block - backlog) / 2)
 most_at_once (Some cap) block backlog = if backlog == 0 then min block cap else 0
 
--- no byte may be read any more
 abbrev pub none_left : Option ℕ → Bool
 none_left None = false
 none_left (Some left) = left == 0
 
--- the bytes filled in have ended the input
 abbrev pub over_in : Flowing → Bool
 over_in flow = none_left flow.left || flow.met
 
--- how many bytes may be filled in next
 abbrev pub room_in : Flowing → ℕ
 room_in flow = if over_in flow then 0 else at_most flow.left (most_at_once flow.lane.packets flow.lane.block (length flow.backlog))
 

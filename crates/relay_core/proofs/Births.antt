@@ -59,11 +59,10 @@ use Rattle.relay_core.specs.Endings.{Quiet, cause_when_ready}
 use Rattle.relay_core.specs.States.{Ground, Fields, home}
 use Rattle.relay_core.specs.Births.{IsNew, Begins}
 use Rattle.relay_core.specs.declared.sessions.Session.{Session}
-use Rattle.relay_core.specs.Sessions.{Hears}
-use Rattle.relay_core.specs.Steps.{Heeds}
+use Rattle.relay_core.specs.Sessions.{Stands}
 use Rattle.relay_core.proofs.Homes.{left_listens}
 use Rattle.relay_core.proofs.Causes.{cause_of_quiet}
-use Rattle.relay_core.proofs.StepLemmas.{EndsAs, ground_again, noted, input_own, output_own}
+use Rattle.relay_core.proofs.StepLemmas.{EndsAs, ground_again, fields_of, noted, input_own, output_own}
 
 -- ---- before it begins
 
@@ -505,7 +504,7 @@ counted false a n x y = absurd (false≢true x)
 
 born_home : (c : Config) (n : ℕ) (past : List Act) (s : ℕ) (peer : Peer) (old mid new : State) → IsNew c s old → Begins c n past s peer → AreOpenings c (begun_by c s peer []) s mid.openings → AreLanes c (begun_by c s peer []) s mid.lanes →
     mid.clock ≡ now past → mid.moved ≡ now past → mid.faulted ≡ old.faulted → mid.closing ≡ old.closing → mid.idle ≡ old.idle → mid.sloppy ≡ old.sloppy →
-    EndsAs mid new → (Ground c (begun_by c s peer past) s mid → Quiet c (begun_by c s peer past) s → new.ending ≡ cause c (begun_by c s peer past) s) → Heeds c (begun_by c s peer past) s new
+    EndsAs mid new → (Ground c (begun_by c s peer past) s mid → Quiet c (begun_by c s peer past) s → new.ending ≡ cause c (begun_by c s peer past) s) → Fields c n (begun_by c s peer past) s new
 born_home c n past s peer old mid new o b openings lanes clock move fault closing idle sloppy again ending =
     let h = early c n past s peer o.fit b in
     let e = same_place_self (home c s) in
@@ -525,13 +524,13 @@ born_home c n past s peer old mid new o b openings lanes clock move fault closin
       idle_is = idle ∙ o.idle_is;
       sloppy_is = sloppy ∙ o.sloppy_is;
     } in
-    record { ground = ground_again c (begun_by c s peer past) s mid new g again; quiet = q; ending_is = ending g q }
+    fields_of c n (begun_by c s peer past) s new (ground_again c (begun_by c s peer past) s mid new g again) q (ending g q)
 
 pub born : (c : Config) (n : ℕ) (past : List Act) (s : ℕ) (p : Place) (peer : Peer) (old mid new : State) → IsNew c s old → Begins c n past s peer → p ≡ home c s → AreOpenings c (Accepted p peer ∷ []) s mid.openings → AreLanes c (Accepted p peer ∷ []) s mid.lanes →
     mid.clock ≡ now past → mid.moved ≡ now past → mid.faulted ≡ old.faulted → mid.closing ≡ old.closing → mid.idle ≡ old.idle → mid.sloppy ≡ old.sloppy →
-    EndsAs mid new → (Ground c (Accepted p peer ∷ past) s mid → Quiet c (Accepted p peer ∷ past) s → new.ending ≡ cause c (Accepted p peer ∷ past) s) → Heeds c (Accepted p peer ∷ past) s new
+    EndsAs mid new → (Ground c (Accepted p peer ∷ past) s mid → Quiet c (Accepted p peer ∷ past) s → new.ending ≡ cause c (Accepted p peer ∷ past) s) → Fields c n (Accepted p peer ∷ past) s new
 born c n past s p peer old mid new o b e openings lanes clock move fault closing idle sloppy again ending =
-    subst (λ (x : Place). Heeds c (Accepted x peer ∷ past) s new) (sym e)
+    subst (λ (x : Place). Fields c n (Accepted x peer ∷ past) s new) (sym e)
     (born_home c n past s peer old mid new o b
     (subst (λ (x : Place). AreOpenings c (Accepted x peer ∷ []) s mid.openings) e openings)
     (subst (λ (x : Place). AreLanes c (Accepted x peer ∷ []) s mid.lanes) e lanes)
@@ -546,8 +545,8 @@ birth_may c n past s peer b o =
     (o, (program_door, ap (λ x. cond x (door_call c past) (call c past s)) f ∙ b.called ∙ ap (λ (k : ℕ). Accept program_door (home c k)) at))
 
 -- the place is written as the definitions say it
-pub begun_at : (c : Config) (n : ℕ) (past : List Act) (s : ℕ) (p : Place) (peer : Peer) (session : Session) → p ≡ home c s → Hears c n (Accepted p peer ∷ past) s session → Hears c n (Accepted (home c s) peer ∷ past) s session
-begun_at c n past s p peer session e h = subst (λ (x : Place). Hears c n (Accepted x peer ∷ past) s session) e h
+pub begun_at : (c : Config) (n : ℕ) (past : List Act) (s : ℕ) (p : Place) (peer : Peer) (session : Session) → p ≡ home c s → Stands c n (Accepted p peer ∷ past) s session → Stands c n (Accepted (home c s) peer ∷ past) s session
+begun_at c n past s p peer session e h = subst (λ (x : Place). Stands c n (Accepted x peer ∷ past) s session) e h
 
 -- its peer is met there
 pub birth_meets : (c : Config) (n : ℕ) (past : List Act) (s : ℕ) (peer : Peer) → Begins c n past s peer → peer_at c (Accepted (home c s) peer ∷ past) (home c s) ≡ Some peer

@@ -54,10 +54,10 @@ free_of Settling e = absurd (false≢true e)
 free_of Open e = absurd (false≢true e)
 free_of ShutDown e = absurd (false≢true e)
 
-pub unheld_free : (c : Config) (n : ℕ) (past : List Act) (p : Place) → Legal c n past → held past p ≡ false → standing past p ≡ Free
+unheld_free : (c : Config) (n : ℕ) (past : List Act) (p : Place) → Legal c n past → held past p ≡ false → standing past p ≡ Free
 unheld_free c n past p legal e = free_of (standing past p) (standing_held c n past p legal ∙ ap not e)
 
-pub held_taken : (c : Config) (n : ℕ) (past : List Act) (p : Place) → Legal c n past → held past p ≡ true → is_free (standing past p) ≡ false
+held_taken : (c : Config) (n : ℕ) (past : List Act) (p : Place) → Legal c n past → held past p ≡ true → is_free (standing past p) ≡ false
 held_taken c n past p legal e = standing_held c n past p legal ∙ ap not e
 
 ready_open : (c : Config) (past : List Act) (p : Place) (st : Stage) (hold : Hold) → stands_ready c past p st ≡ true → StandsFor st hold → is_open hold ≡ true
@@ -103,7 +103,7 @@ no_output c q d door same e =
     false≢true (sym plain ∙ equal ∙ door)
 
 -- an end is passed on at outputs alone, which are no doors
-pub door_unshut : (c : Config) (n : ℕ) (past : List Act) (d : Place) → d.door ≡ true → Legal c n past → shut_at past d ≡ None
+door_unshut : (c : Config) (n : ℕ) (past : List Act) (d : Place) → d.door ≡ true → Legal c n past → shut_at past d ≡ None
 door_unshut c n [] d door legal = refl
 door_unshut c n (Shut q way ∷ past) d door legal = let ih = door_unshut c n past d door legal.1 in skipped (same_place q d) (now past) (shut_at past d) (no_output c q d door legal.0.1.is_output) ih
 door_unshut c n (ShutFault q way ∷ past) d door legal = let ih = door_unshut c n past d door legal.1 in skipped (same_place q d) (now past) (shut_at past d) (no_output c q d door legal.0.1.is_output) ih
@@ -313,7 +313,7 @@ failed true old e = refl
 failed false old e = e
 
 -- once a program was closed, it is held no more and its session is over
-pub child_over : (c : Config) (n : ℕ) (past : List Act) (p : Place) → Fit c → is_of c p.session p ≡ true → is_program (medium_of c p) ≡ true → Legal c n past → was_closed past p ≡ true → Over c past p
+child_over : (c : Config) (n : ℕ) (past : List Act) (p : Place) → Fit c → is_of c p.session p ≡ true → is_program (medium_of c p) ≡ true → Legal c n past → was_closed past p ≡ true → Over c past p
 child_over c n [] p fit own program legal e = absurd (false≢true e)
 child_over c n (Opened q ∷ past) p fit own program legal e =
     let ih = child_over c n past p fit own program legal.1 e in

@@ -483,9 +483,9 @@ stop_step c n past s until at names old new h openings lanes same move fault end
     }
 
 -- an early end
-pub early_step : (c : Config) (n : ℕ) (past : List Act) (s : ℕ) (why : Why) (old new : State) → Ground c past s old → Ends c n past s why → EndsAs old new → new.ending ≡ Some why → Fields c n past s new
-early_step c n past s why old new g ends again ending =
-    record { ground = ground_again c past s old new g again; ending_is = subst (EndingIs c n past s) (sym ending) ends }
+pub early_step : (c : Config) (n : ℕ) (past : List Act) (s : ℕ) (why : Why) (old new : State) → Fields c n past s old → Ends c n past s why → EndsAs old new → new.ending ≡ Some why → Fields c n past s new
+early_step c n past s why old new f ends again ending =
+    record { ground = ground_again c past s old new f.ground again; ending_is = subst (EndingIs c n past s) (sym ending) ends }
 
 -- ---- transfers by wish
 

@@ -36,7 +36,6 @@ abbrev pub is_blamed : List Act → Bool
 is_blamed [] = false
 is_blamed (act ∷ past) = is_failing act || is_blamed past
 
--- some act is to blame for this end
 abbrev pub is_blamed_for : Why → List Act → Bool
 is_blamed_for why [] = false
 is_blamed_for why (act ∷ past) = blames why act || is_blamed_for why past

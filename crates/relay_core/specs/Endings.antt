@@ -34,7 +34,6 @@ cause_when_ready c past s =
 abbrev pub cause_when_tried : Config → List Act → ℕ → Option Why
 cause_when_tried c past s = if faulted c past s then Some whys.Faulted else (if ready c past s then cause_when_ready c past s else None)
 
--- the cause of a session that nothing outside has ended
 abbrev pub cause_by_itself : Config → List Act → ℕ → Option Why
 cause_by_itself c past s = or_else (giving_up c past s) (cause_when_tried c past s)
 

@@ -19,17 +19,14 @@ use Rattle.relay_core.specs.declared.lanes.Lane.{Lane}
 use Rattle.relay_core.specs.declared.lanes.Lane.TheVariants.{Unformed, Formed}
 use Rattle.relay_core.specs.declared.lanes.Lanes.{Lanes}
 
--- a lane stands for a direction, or the command forms none
 abbrev pub IsLane : Config → List Act → ℕ → Way → Lane → Type 0
 IsLane c past s w Unformed = formed c w ≡ false
 IsLane c past s w (Formed d) = IsDirection c past s w d
 
--- the two lanes stand for the two directions
 pub record AreLanes (c : Config) (past : List Act) (s : ℕ) (lanes : Lanes) : Type 0 where
   pub to_right_is : IsLane c past s LeftToRight lanes.to_right
   pub to_left_is : IsLane c past s RightToLeft lanes.to_left
 
--- the lane of a direction
 abbrev pub lane_at : Lanes → Way → Lane
 lane_at lanes LeftToRight = lanes.to_right
 lane_at lanes RightToLeft = lanes.to_left
@@ -39,7 +36,6 @@ abbrev pub waiting_in : Lane → List ℕ
 waiting_in Unformed = []
 waiting_in (Formed d) = d.flow.backlog
 
--- how many bytes may be read next in a lane
 abbrev pub room_of : Lane → ℕ
 room_of Unformed = 0
 room_of (Formed d) = room_in d.flow
@@ -49,7 +45,6 @@ abbrev pub lane_steps : Lane → ℕ
 lane_steps Unformed = 0
 lane_steps (Formed d) = steps_in d
 
--- how many calls both lanes take at most before the next turn
 abbrev pub lanes_steps : Lanes → ℕ
 lanes_steps lanes = lane_steps lanes.to_right + lane_steps lanes.to_left
 
@@ -58,7 +53,6 @@ abbrev pub can_read_in : Lane → Bool
 can_read_in Unformed = false
 can_read_in (Formed d) = can_read d
 
--- a lane can pay for a write
 abbrev pub can_write_in : Lane → Bool
 can_write_in Unformed = false
 can_write_in (Formed d) = can_write d
@@ -72,11 +66,9 @@ keeps_pieces (Formed d) = is_some d.flow.lane.packets
 abbrev pub waiting_at : Lanes → Place → List ℕ
 waiting_at lanes p = waiting_in (lane_at lanes (way_to p.side))
 
--- how many bytes may be read next at a place
 abbrev pub room_at : Lanes → Place → ℕ
 room_at lanes p = room_of (lane_at lanes (way_from p.side))
 
--- borders are kept at a place
 abbrev pub keeps_at : Lanes → Place → Bool
 keeps_at lanes p = keeps_pieces (lane_at lanes (way_to p.side))
 
@@ -84,7 +76,6 @@ keeps_at lanes p = keeps_pieces (lane_at lanes (way_to p.side))
 abbrev pub can_read_at : Lanes → Place → Bool
 can_read_at lanes p = can_read_in (lane_at lanes (way_from p.side))
 
--- a write at the place can be paid for
 abbrev pub can_write_at : Lanes → Place → Bool
 can_write_at lanes p = can_write_in (lane_at lanes (way_to p.side))
 

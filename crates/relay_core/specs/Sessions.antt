@@ -3,7 +3,6 @@ use Rattle.std.specs.Prelude.{◌≡◌, ℕ, ◌<◌, Bool, true, List, ◌∷�
 use Rattle.relay_model.specs.declared.commands.Config.{Config}
 use Rattle.relay_model.specs.declared.places.Place.{Place}
 use Rattle.relay_model.specs.declared.acts.Act.{Act}
-use Rattle.relay_model.specs.declared.acts.Why.{Why}
 use Rattle.relay_model.specs.Configs.{is_place_of, is_program, medium_of}
 use Rattle.relay_model.specs.History.{was_closed}
 use Rattle.place_openings.specs.Steps.{has_asked}
@@ -13,7 +12,7 @@ use Rattle.relay_core.specs.declared.sessions.Session.{Session}
 use Rattle.relay_core.specs.declared.wishes.Wish.{Wish}
 use Rattle.relay_core.specs.declared.sessions.Unborn.{Unborn}
 use Rattle.relay_core.specs.Births.{IsNew}
-use Rattle.relay_core.specs.States.{Ground, Fields, Allowed, steps_of, home}
+use Rattle.relay_core.specs.States.{Fields, Allowed, steps_of, home}
 use Rattle.relay_core.specs.Steps.{Heeds, waiting_for}
 
 -- the session stands for this history of a command of n turns
@@ -31,11 +30,6 @@ pub record Hears (c : Config) (n : ℕ) (past : List Act) (s : ℕ) (session : S
   pub stands : Stands c n past s session
   pub heeds : Heeds c past s session.state
 
--- what it keeps is what this history says, whatever ends it and whatever it wishes for
-abbrev pub IsGrounded : Config → List Act → ℕ → Session → Type 0
-IsGrounded c past s session = Ground c past s session.state
-
--- what a session wishes for
 abbrev pub wish_of : Session → Wish
 wish_of session = session.wish
 
@@ -47,10 +41,6 @@ waiting_of session = waiting_for session.state session.wish
 abbrev pub left_of : Session → ℕ
 left_of session = steps_of session.state
 
--- why it has ended, if it has
-abbrev pub ending_of : Session → Option Why
-ending_of session = session.state.ending
-
 -- something has ended it
 abbrev pub has_ended : Session → Bool
 has_ended session = is_some session.state.ending
@@ -61,7 +51,6 @@ pub record Heard (c : Config) (n : ℕ) (past : List Act) (s : ℕ) (act : Act) 
   pub stands : Stands c n (act ∷ past) s new
   pub fewer : left_of new < left_of old
 
--- of an answer that makes an act, that the session has heard it; of another nothing
 abbrev pub HeardBy : Config → ℕ → List Act → ℕ → Option Act → Session → Session → Type 0
 HeardBy c n past s (Some act) old new = Heard c n past s act old new
 HeardBy c n past s None old new = Unit {0}

@@ -47,7 +47,6 @@ pub record Ground (c : Config) (past : List Act) (s : ℕ) (st : State) : Type 0
   pub idle_is : st.idle ≡ c.idle
   pub sloppy_is : st.sloppy ≡ c.sloppy
 
--- each field of a state is what the acts say
 pub record Fields (c : Config) (n : ℕ) (past : List Act) (s : ℕ) (st : State) : Type 0 where
   pub ground : Ground c past s st
   pub ending_is : EndingIs c n past s st.ending
@@ -72,7 +71,6 @@ pub record Reaps (c : Config) (past : List Act) (s : ℕ) (p : Place) : Type 0 w
   pub among : is_of c s p ≡ true
   pub may : MayReap c past p
 
--- the session holds nothing and may end for this reason
 pub record IsDone (c : Config) (n : ℕ) (past : List Act) (s : ℕ) (why : Why) : Type 0 where
   pub nothing_held : holds c past s ≡ false
   pub ends : Ends c n past s why
@@ -109,7 +107,6 @@ Stage c past s st (wishes.Write p) = (st.ending ≡ None) × (can_write_at st.la
 Stage c past s st (wishes.Send p) = (st.ending ≡ None) × (can_write_at st.lanes p ≡ true)
 Stage c past s st wish = st.ending ≡ None
 
--- the wish is one of the acts, and fits whether something has ended the session
 abbrev pub Allowed : Config → ℕ → List Act → ℕ → State → Wish → Type 0
 Allowed c n past s st wish = Wished c n past s wish × Stage c past s st wish
 

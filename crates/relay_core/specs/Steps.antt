@@ -22,7 +22,6 @@ pub record Absorbed (c : Config) (n : ℕ) (past : List Act) (s : ℕ) (act : Ac
   pub fields : Fields c n (act ∷ past) s new
   pub fewer : steps_of new < steps_of old
 
--- of an answer that makes an act, that the state has taken it in; of another nothing
 abbrev pub AbsorbedBy : Config → ℕ → List Act → ℕ → Option Act → State → State → Type 0
 AbsorbedBy c n past s (Some act) old new = Absorbed c n past s act old new
 AbsorbedBy c n past s None old new = Unit {0}

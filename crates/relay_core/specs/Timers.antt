@@ -8,12 +8,10 @@ use Rattle.relay_model.specs.History.{now}
 use Rattle.relay_model.specs.Moments.{done_at}
 use Rattle.relay_model.specs.Rest.{session_work, session_moment}
 
--- a moment that a clock of 64 bits reaches
 abbrev pub reachable : Option ℕ → Option ℕ
 reachable None = None
 reachable (Some m) = if nat_lt m (2 ^ 64) then Some m else None
 
--- the one of two moments that there is, if it is just one
 abbrev pub one_of : Option ℕ → Option ℕ → Option ℕ
 one_of (Some one) None = Some one
 one_of None (Some other) = Some other

@@ -10,7 +10,6 @@ use Rattle.relay_model.specs.History.{turns}
 use Rattle.relay_model.specs.Outcome.{Outcome, Memory, Stopped, AcceptFailed, ListenFailed, OpenFailed, Ended, first_fault, failed_listening, failed_opening}
 use Rattle.place_openings.specs.declared.calls.GivenUp.{GivenUp}
 
--- the outcome of a command of one session, by the cause of that
 abbrev pub told : Config → List Act → Why → Outcome
 told c past whys.Memory = Memory
 told c past whys.Stopped = Stopped (turns past)

@@ -14,7 +14,6 @@ use Rattle.relay_model.specs.May.{MayRead, MayTryWrite, MayShut}
 use Rattle.relay_core.specs.declared.transfers.Transfer.{Transfer}
 use Rattle.relay_core.specs.declared.transfers.Transfer.TheVariants as transfers
 
--- the act of a transfer
 abbrev pub transfer_act : Place → List ℕ → Transfer → Act
 transfer_act p waiting (transfers.Read bytes) = acts.Read p bytes.now
 transfer_act p waiting transfers.ReadEmpty = acts.ReadEmpty p
@@ -33,7 +32,6 @@ pub record TakesFrom (c : Config) (p : Place) (waiting : List ℕ) (count : ℕ)
   pub within : count ≤ length waiting
   pub whole : keeps_borders c (way_to p.side) ≡ true → count ≡ length waiting
 
--- a read, a write or a shut may be answered so
 abbrev pub MayTransfer : Config → List Act → Place → List ℕ → Transfer → Type 0
 MayTransfer c past p waiting (transfers.Read bytes) = MayRead c past p (length bytes.now)
 MayTransfer c past p waiting transfers.ReadEmpty = MayRead c past p 1
@@ -59,7 +57,6 @@ is_read transfers.WriteFailed = false
 is_read (transfers.Shut how) = false
 is_read (transfers.ShutFailed how) = false
 
--- the transfer passes an end on
 abbrev pub is_shut : Transfer → Bool
 is_shut (transfers.Shut how) = true
 is_shut (transfers.ShutFailed how) = true
@@ -81,7 +78,6 @@ is_fault transfer = false
 abbrev pub way_of : Place → Transfer → Way
 way_of p transfer = if is_read transfer then way_from p.side else way_to p.side
 
--- the other direction
 abbrev pub opposite : Way → Way
 opposite LeftToRight = RightToLeft
 opposite RightToLeft = LeftToRight
@@ -103,6 +99,5 @@ affords lane transfers.WriteFailed = can_write_in lane
 affords lane (transfers.Shut how) = true
 affords lane (transfers.ShutFailed how) = true
 
--- the lane can pay for the transfer
 abbrev pub affords_at : Lanes → Place → Transfer → Bool
 affords_at lanes p transfer = affords (lane_at lanes (way_of p transfer)) transfer

@@ -22,7 +22,6 @@ ghost use Rattle.relay_core.specs.declared.wishes.Answer.TheVariants as answers;
 ghost use Rattle.relay_core.specs.Wishes.{Fits, act_of, reaps_at};
 ghost use Rattle.relay_core.specs.States.{Wished, home};
 ghost use Rattle.relay_core.specs.Births.{Begins};
-ghost use Rattle.relay_core.specs.Endings.{Ends};
 ghost use Rattle.relay_core.specs.Conditions.{CanBeMade, is_course, is_writing, IsAtOwn};
 ghost use Rattle.relay_core.specs.Told.{told_listening, told_opening};
 
@@ -41,7 +40,7 @@ pub struct Unborn {
 }
 
 impl Unborn {
-    ghost use Rattle.relay_core.specs.Sessions.{IsUnborn, Hears, has_asked_at};
+    ghost use Rattle.relay_core.specs.Sessions.{IsUnborn, Stands, has_asked_at};
 
     /// The session with this number, before it begins. It takes all the memory that it will use.
     pub fn new(alloc: Global, config: &Config, number: u32) -> Result<Unborn, NoMemory>
@@ -64,7 +63,7 @@ impl Unborn {
     pub fn accepted(self, now: u64, peer: Peer) -> Session
         ensures may { (c : Command) (n : ℕ) (past : List Act) (s : ℕ) → Begins c n past s peer → owed c past ≡ None → May c n past (acts.Accepted (home c s) peer) }
         ensures met { (c : Command) (n : ℕ) (past : List Act) (s : ℕ) → Begins c n past s peer → peer_at c (acts.Accepted (home c s) peer ∷ past) (home c s) ≡ Some peer }
-        ensures hears { (c : Command) (n : ℕ) (past : List Act) (s : ℕ) → IsUnborn c s self → Begins c n past s peer → now ≡ last_moment past → Hears c n (acts.Accepted (home c s) peer ∷ past) s result }
+        ensures stands { (c : Command) (n : ℕ) (past : List Act) (s : ℕ) → IsUnborn c s self → Begins c n past s peer → now ≡ last_moment past → Stands c n (acts.Accepted (home c s) peer ∷ past) s result }
         ensures unasked { (c : Command) (s : ℕ) (p : Location) → IsUnborn c s self → has_asked_at result p ≡ false }
     {
         let Unborn { mut state, home } = self;
@@ -82,7 +81,7 @@ pub struct Session {
 }
 
 impl Session {
-    ghost use Rattle.relay_core.specs.Sessions.{Stands, Hears, HeardBy, IsGrounded, AsksEach, wish_of, waiting_of, left_of, ending_of, has_ended, has_asked_at};
+    ghost use Rattle.relay_core.specs.Sessions.{Stands, Hears, HeardBy, AsksEach, wish_of, waiting_of, left_of, has_ended, has_asked_at};
 
     /// The session of a command without `fork`, at the beginning of its history. It takes all the memory that it
     /// will use.
@@ -129,7 +128,6 @@ impl Session {
         ensures childless { (c : Command) (n : ℕ) (past : List Act) (s : ℕ) → Stands c n past s self.old → answer.entry ≡ answers.NoChild → Stands c n past s self.new × (left_of self.new < left_of self.old) }
         ensures woken { (c : Command) (n : ℕ) (past : List Act) (s : ℕ) (until : Option ℕ) → Stands c n past s self.old → wish_of self.old ≡ wishes.Sleep until → answer.entry ≡ answers.Woken → Hears c n (acts.Turn until now (listed []) false ∷ past) s self.new }
         ensures over { (c : Command) (n : ℕ) (past : List Act) (s : ℕ) → Stands c n past s self.old → has_ended self.old ≡ true → has_ended self.new ≡ true }
-        ensures ending { (c : Command) (n : ℕ) (past : List Act) (s : ℕ) → Stands c n past s self.old → has_ended self.old ≡ true → ending_of self.new ≡ ending_of self.old }
         ensures asked { (p : Location) → has_asked_at self.new p ≡ true → (has_asked_at self.old p || reaps_at (wish_of self.old) p) ≡ true }
     {
         self.state.hear(now, self.wish, answer);
@@ -146,14 +144,11 @@ impl Session {
     }
 
     /// Ends the session: because the turn that was just heard says stop (`Stopped`), because the turns are
-    /// used up (`Stopped`), for want of memory (`Memory`), or since an act elsewhere gave it this cause. From then on it
-    /// closes what it holds and asks for its children.
+    /// used up (`Stopped`), or for want of memory (`Memory`). From then on it closes what it holds and asks for its children.
     pub fn cut(&mut self, why: Why)
         ensures stop { (c : Command) (n : ℕ) (past : List Act) (s : ℕ) (until : Option ℕ) (at : ℕ) (names : List Entry) → Hears c n (acts.Turn until at (listed names) false ∷ past) s self.old → why ≡ whys.Stopped → Stands c n (acts.Turn until at (listed names) true ∷ past) s self.new }
         ensures limit { (c : Command) (n : ℕ) (past : List Act) (s : ℕ) → Stands c n past s self.old → has_ended self.old ≡ false → turns past ≡ n → Rest c past → why ≡ whys.Stopped → Stands c n past s self.new }
         ensures memory { (c : Command) (n : ℕ) (past : List Act) (s : ℕ) → Stands c n past s self.old → has_ended self.old ≡ false → why ≡ whys.Memory → Stands c n past s self.new }
-        ensures early { (c : Command) (n : ℕ) (past : List Act) (s : ℕ) → IsGrounded c past s self.old → Ends c n past s why → Stands c n past s self.new }
-        ensures ending { ending_of self.new ≡ Some why }
         ensures over { has_ended self.new ≡ true }
         ensures left { left_of self.new ≡ left_of self.old }
         ensures asked { (p : Location) → has_asked_at self.new p ≡ true → has_asked_at self.old p ≡ true }

@@ -46,7 +46,7 @@ impl State {
     ghost use Rattle.relay_core.specs.Births.{IsNew, Begins};
     ghost use Rattle.relay_core.specs.Timers.{reachable, session_until};
     ghost use Rattle.place_openings.specs.Answers.{as_call};
-    ghost use Rattle.relay_core.specs.Steps.{Heeds, waiting_for, keeps_for};
+    ghost use Rattle.relay_core.specs.Steps.{waiting_for, keeps_for};
 
     /// A session at the beginning. It takes all the memory that it will use.
     pub fn new(alloc: Global, config: &Config) -> Result<State, NoMemory>
@@ -80,7 +80,7 @@ impl State {
 
     /// With `fork`: the peer that the session was made for was accepted for its first place.
     pub fn born(&mut self, now: u64, place: Place, peer: Peer)
-        ensures begun { (c : Command) (n : ℕ) (past : List Act) (s : ℕ) → IsNew c s self.old → Begins c n past s peer → place ≡ home c s → now ≡ last_moment past → Heeds c (acts.Accepted place peer ∷ past) s self.new }
+        ensures begun { (c : Command) (n : ℕ) (past : List Act) (s : ℕ) → IsNew c s self.old → Begins c n past s peer → place ≡ home c s → now ≡ last_moment past → Fields c n (acts.Accepted place peer ∷ past) s self.new }
         ensures asked { (p : Spot) → has_asked self.new.openings p ≡ true → has_asked self.old.openings p ≡ true }
     {
         self.openings.accepted(place, peer);

@@ -37,7 +37,7 @@ impl State {
         ensures goes { (c : Command) (n : ℕ) (past : List Act) (s : ℕ) → Fields c n past s self.old → Allowed c n past s self.old wish → AbsorbedBy c n past s (act_of wish (waiting_for self.old wish) answer.entry) self.old self.new }
         ensures childless { (c : Command) (n : ℕ) (past : List Act) (s : ℕ) → Fields c n past s self.old → Allowed c n past s self.old wish → answer.entry ≡ answers.NoChild → Fields c n past s self.new × (steps_of self.new < steps_of self.old) }
         ensures woken { (c : Command) (past : List Act) (s : ℕ) (until : Option ℕ) → Ground c past s self.old → Quiet c past s → answer.entry ≡ answers.Woken → Heeds c (acts.Turn until now (listed []) false ∷ past) s self.new }
-        ensures over { (c : Command) (n : ℕ) (past : List Act) (s : ℕ) → Allowed c n past s self.old wish → is_some self.old.ending ≡ true → self.new.ending ≡ self.old.ending }
+        ensures over { (c : Command) (n : ℕ) (past : List Act) (s : ℕ) → Allowed c n past s self.old wish → is_some self.old.ending ≡ true → is_some self.new.ending ≡ true }
         ensures asked { (p : Spot) → has_asked self.new.openings p ≡ true → (has_asked self.old.openings p || reaps_at wish p) ≡ true }
     {
         match answer {
@@ -62,7 +62,7 @@ impl State {
     fn absorb(&mut self, wish: Wish, answer: Answer<'_>)
         requires { Fits wish (waiting_for self.old wish) answer }
         ensures goes { (c : Command) (n : ℕ) (past : List Act) (s : ℕ) → Fields c n past s self.old → Allowed c n past s self.old wish → AbsorbedBy c n past s (act_of wish (waiting_for self.old wish) answer.entry) self.old self.new }
-        ensures over { (c : Command) (n : ℕ) (past : List Act) (s : ℕ) → Allowed c n past s self.old wish → is_some self.old.ending ≡ true → self.new.ending ≡ self.old.ending }
+        ensures over { (c : Command) (n : ℕ) (past : List Act) (s : ℕ) → Allowed c n past s self.old wish → is_some self.old.ending ≡ true → is_some self.new.ending ≡ true }
         ensures asked { (p : Spot) → has_asked self.new.openings p ≡ true → (has_asked self.old.openings p || reaps_at wish p) ≡ true }
     {
         match (wish, answer) {
@@ -226,7 +226,7 @@ impl State {
     /// What stood there was closed.
     pub fn closed(&mut self, thing: Place, why: Why)
         ensures goes { (c : Command) (n : ℕ) (past : List Act) (s : ℕ) → Fields c n past s self.old → Allowed c n past s self.old (wishes.Close thing why) → Absorbed c n past s (acts.Closed thing why) self.old self.new }
-        ensures over { is_some self.old.ending ≡ true → self.new.ending ≡ self.old.ending }
+        ensures over { is_some self.old.ending ≡ true → is_some self.new.ending ≡ true }
         ensures asked { (p : Spot) → has_asked self.new.openings p ≡ true → has_asked self.old.openings p ≡ true }
     {
         self.openings.closed(thing, why);
@@ -238,7 +238,7 @@ impl State {
     fn ending_after(&self) -> Option<Why>
         ensures ended { (why : Cause) → self.now.ending ≡ Some why → result ≡ Some why }
         ensures going { (c : Command) (past : List Act) (s : ℕ) → self.now.ending ≡ None → Ground c past s self.now → Quiet c past s → result ≡ cause c past s }
-        ensures over { is_some self.now.ending ≡ true → result ≡ self.now.ending }
+        ensures over { is_some self.now.ending ≡ true → is_some result ≡ true }
     {
         match self.ending {
             Some(why) => Some(why),
@@ -291,7 +291,7 @@ impl State {
     /// Ends the session early: at a stop, for want of memory or at the last turn.
     pub fn cut(&mut self, why: Why)
         ensures stop { (c : Command) (n : ℕ) (past : List Act) (s : ℕ) (until : Option ℕ) (at : ℕ) (names : List Entry) → Heeds c (acts.Turn until at (listed names) false ∷ past) s self.old → why ≡ whys.Stopped → Fields c n (acts.Turn until at (listed names) true ∷ past) s self.new }
-        ensures early { (c : Command) (n : ℕ) (past : List Act) (s : ℕ) → Ground c past s self.old → Ends c n past s why → Fields c n past s self.new }
+        ensures early { (c : Command) (n : ℕ) (past : List Act) (s : ℕ) → Fields c n past s self.old → self.old.ending ≡ None → Ends c n past s why → Fields c n past s self.new }
         ensures over { self.new.ending ≡ Some why }
         ensures left { steps_of self.new ≡ steps_of self.old }
         ensures asked { (p : Spot) → has_asked self.new.openings p ≡ true → has_asked self.old.openings p ≡ true }

@@ -33,7 +33,7 @@ use Rattle.relay_laws.proofs.Alike.{own_from, own_is, apart_from, seen, at_turne
 
 -- ---- acts that are none of the session's own
 
-pub foreign_act : (c : Config) (s : ℕ) (act : Act) → is_own c s act ≡ false → IsForeign c s act
+foreign_act : (c : Config) (s : ℕ) (act : Act) → is_own c s act ≡ false → IsForeign c s act
 foreign_act c s (Turn until at ready stop) k p e d = refl
 foreign_act c s (Opened q) k p e d = apart_from c s q p k (own_from c s p e d)
 foreign_act c s (OpenLater q) k p e d = apart_from c s q p k (own_from c s p e d)
@@ -62,7 +62,7 @@ common_is_no_turn : (c : Config) (act : Act) → is_common c act ≡ false → i
 common_is_no_turn c (Turn until at ready stop) k = absurd (false≢true (sym k))
 common_is_no_turn c act k = refl
 
-pub passes : (c : Config) (s : ℕ) (act : Act) (past : List Act) → IsForeign c s act → is_common c act ≡ false → Alike c s (act ∷ past) past
+passes : (c : Config) (s : ℕ) (act : Act) (past : List Act) → IsForeign c s act → is_common c act ≡ false → Alike c s (act ∷ past) past
 passes c s act past f k = record {
   base = base_step c act past s f k;
   written = λ w. write_step act past (input c s w) (output c s w) (common_is_no_turn c act k) (f (input c s w) refl (input_own c s w)) (f (output c s w) refl (output_own c s w));

@@ -34,27 +34,21 @@ use Rattle.relay_model.specs.Rest.{until_of}
 use Rattle.relay_model.specs.May.{Legal}
 use Rattle.relay_laws.specs.Stories.{Own, Turned, Ending, story}
 
--- a place or door
 abbrev pub at : ℕ → Side → Part → Bool → Place
 at s side part door = record { session = s; side = side; part = part; door = door }
 
--- an entry of a turn
 abbrev pub named : Place → Half → ReadyAt
 named p half = record { place = p; half = half }
 
--- a turn's list of these entries
 abbrev pub listed : List ReadyAt → Listed
 listed entries = record { entries = entries; room = 0 }
 
--- a file without an option
 abbrev pub no_flags : FileFlags
 no_flags = record { creat = false; excl = false; append = false; trunc = false; rdonly = false; wronly = false }
 
--- every option at its default
 abbrev pub plain : Options
 plain = record { conv = convs.Plain; ignoreeof = false; readbytes = None; escape = None; null_eof = false; shut = None; retry = 0; forever = false; interval = 1000; fork = false; max_children = 4294967295; stop_after = 4294967295; range = None; sourceport = None; lowport = false; unlink_early = false; unlink_close = false; nodelay = false; bind = None; file = no_flags; socksport = 1080; socksuser = []; proxyport = 8080 }
 
--- a single address
 abbrev pub one : Target → Options → Single
 one target options = record { target = target; options = options }
 
@@ -64,7 +58,6 @@ one target options = record { target = target; options = options }
 abbrev pub plain_run_command : Config
 plain_run_command = record { block = 8192; closing = 500; idle = 0; ways = ways.OnlyRight; dump = dumps.Off; sloppy = false; left = addresses.One (one targets.Stdin (plain)); right = addresses.One (one targets.Stdout (plain)) }
 
--- three bytes and an end
 abbrev pub plain_run : List Act
 plain_run =
     Closed (at 0 Right Writing false) whys.Finished
@@ -96,7 +89,6 @@ plain_run_wrong =
 abbrev pub refusal_command : Config
 refusal_command = record { block = 8192; closing = 500; idle = 0; ways = ways.OnlyRight; dump = dumps.Off; sloppy = false; left = addresses.One (one (targets.TcpListen families.Any 9000) (record plain { range = Some (ranges.V4 (10 ∷ 0 ∷ 0 ∷ 0 ∷ []) (255 ∷ 0 ∷ 0 ∷ 0 ∷ [])) })); right = addresses.One (one targets.Stdout (plain)) }
 
--- a peer that is refused, and one that is served
 abbrev pub refusal : List Act
 refusal =
     Closed (at 0 Right Writing false) whys.Finished
@@ -141,7 +133,6 @@ refusal_wrong =
 abbrev pub forked_command : Config
 forked_command = record { block = 3; closing = 500; idle = 30; ways = ways.OnlyRight; dump = dumps.Off; sloppy = true; left = addresses.One (one (targets.UdpListen families.Any 9) (record plain { ignoreeof = true; fork = true; lowport = true; escape = Some 13; retry = 3; interval = 7; max_children = 2; stop_after = 1 })); right = addresses.One (one (targets.UdpRecvfrom families.Any 9) (record plain { conv = convs.Crnl; ignoreeof = true; retry = 1; interval = 1 })) }
 
--- a session of `fork` and its end
 abbrev pub forked : List Act
 forked =
     Closed (at 0 Right Writing false) whys.Finished
@@ -182,7 +173,6 @@ forked_wrong =
 abbrev pub closing_command : Config
 closing_command = record { block = 2; closing = 1; idle = 0; ways = ways.Two; dump = dumps.Off; sloppy = false; left = addresses.One (one (targets.Socks true [] [] 80) (record plain { escape = Some 10; retry = 2 })); right = addresses.Two (one (targets.TcpListen families.Any 80) (record plain { shut = Some shuts.Nothing; interval = 2; range = Some (ranges.V4 (10 ∷ 0 ∷ 0 ∷ 0 ∷ []) (255 ∷ 0 ∷ 0 ∷ 0 ∷ [])) })) (one (targets.Create []) (record plain { conv = convs.Cr; ignoreeof = true; null_eof = true; escape = Some 13; shut = Some shuts.Nothing })) }
 
--- a cut by the closing time
 abbrev pub closing : List Act
 closing =
     Closed (at 0 Right Writing false) whys.ClosingTime
@@ -231,7 +221,6 @@ closing_wrong =
 abbrev pub idle_command : Config
 idle_command = record { block = 8192; closing = 0; idle = 3; ways = ways.OnlyRight; dump = dumps.Off; sloppy = false; left = addresses.One (one (targets.FileAt []) (record plain { retry = 1; interval = 7 })); right = addresses.One (one (targets.TcpListen families.Any 80) (record plain { ignoreeof = true; retry = 1; interval = 2 })) }
 
--- a cut for inactivity
 abbrev pub idle : List Act
 idle =
     Closed (at 0 Right Writing false) whys.Idle
@@ -263,7 +252,6 @@ idle_wrong =
 abbrev pub broken_command : Config
 broken_command = record { block = 1; closing = 500; idle = 0; ways = ways.Two; dump = dumps.Off; sloppy = true; left = addresses.One (one (targets.UdpListen families.Any 9) (record plain { conv = convs.Cr; interval = 7; range = Some (ranges.V4 (10 ∷ 0 ∷ 0 ∷ 0 ∷ []) (255 ∷ 0 ∷ 0 ∷ 0 ∷ [])) })); right = addresses.One (one (targets.Udp families.Any [] 9) (record plain { conv = convs.Crnl; escape = Some 10; shut = Some shuts.Down; retry = 3; interval = 0 })) }
 
--- a fault with `-s`
 abbrev pub broken : List Act
 broken =
     Closed (at 0 Left Both false) whys.ClosingTime
@@ -297,7 +285,6 @@ broken_other = record { block = 1; closing = 500; idle = 0; ways = ways.Two; dum
 abbrev pub packets_command : Config
 packets_command = record { block = 3; closing = 500; idle = 0; ways = ways.OnlyLeft; dump = dumps.Off; sloppy = false; left = addresses.One (one (targets.Udp families.Any [] 9) (record plain { null_eof = true; interval = 0 })); right = addresses.One (one (targets.Udp families.Any [] 9) (record plain { ignoreeof = true; interval = 0 })) }
 
--- two datagrams
 abbrev pub packets : List Act
 packets =
     Closed (at 0 Right Reading false) whys.Faulted
@@ -343,7 +330,6 @@ packets_wrong =
 abbrev pub pair_command : Config
 pair_command = record { block = 8192; closing = 500; idle = 0; ways = ways.OnlyRight; dump = dumps.Off; sloppy = false; left = addresses.One (one (targets.TcpListen families.V4 9) (record plain { fork = true })); right = addresses.One (one targets.Stdout (plain)) }
 
--- two sessions of `fork` that live at once
 abbrev pub pair_begun : List Act
 pair_begun =
     Opened (at 1 Right Writing false)
@@ -380,7 +366,6 @@ pair_busy =
 
 -- ---- what they are judged to be
 
--- each example is legal, ends and waits as is written here
 pub record ExamplesAreJudged : Type 0 where
   pub plain_run_legal : Legal plain_run_command (2 ^ 64 - 1) plain_run
   pub plain_run_outcome : outcome plain_run_command plain_run ≡ Some (outcomes.Ended whys.Finished)

@@ -68,7 +68,6 @@ reaches c s past (AcceptFailed q) = only_if (is_program_door c q) AcceptingFaile
 reaches c s past (Closed q why) = only_if (is_news past why) (Ending why)
 reaches c s past act = None
 
--- the event that an act makes for a session, if it makes one
 abbrev pub event : Config → ℕ → List Act → Act → Option Event
 event c s past act = if is_own c s act then Some (Own act) else reaches c s past act
 

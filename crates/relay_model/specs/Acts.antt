@@ -3,7 +3,6 @@ use Rattle.relay_model.specs.declared.acts.Act.{Act}
 use Rattle.relay_model.specs.declared.acts.Act.TheVariants.{Turn}
 use Rattle.relay_model.specs.Readiness.{copied_list}
 
--- a copied act is the act itself, but for the room of a turn's list
 abbrev pub copied_act : Act → Act
 copied_act (Turn until at ready stop) = Turn until at (copied_list ready) stop
 copied_act act = act

@@ -20,7 +20,6 @@ pub data Arming : Type 0 where
 abbrev pub pause_after_end : ℕ
 pause_after_end = 1000
 
--- how an input stands, by the last act that opened, accepted, named or asked it
 abbrev pub read_arming : List Act → Place → Arming
 read_arming [] p = Disarmed
 read_arming (Turn until at ready stop ∷ past) p = if names ready.entries p ToRead then Armed else read_arming past p
@@ -30,13 +29,11 @@ read_arming (ReadNotYet q ∷ past) p = if same_place q p then Disarmed else rea
 read_arming (ReadEnd q ∷ past) p = if same_place q p then AtEnd (now past) else read_arming past p
 read_arming (act ∷ past) p = read_arming past p
 
--- whether an input is worth asking at this moment
 abbrev pub is_armed : Arming → ℕ → Bool
 is_armed Disarmed at = false
 is_armed Armed at = true
 is_armed (AtEnd met) at = nat_le (met + pause_after_end) at
 
--- whether an input is worth asking now
 abbrev pub armed_to_read : List Act → Place → Bool
 armed_to_read past p = is_armed (read_arming past p) (now past)
 
@@ -46,7 +43,6 @@ arming_moment Disarmed = None
 arming_moment Armed = None
 arming_moment (AtEnd met) = Some (met + pause_after_end)
 
--- an output is armed by its opening and by a turn that names it, and disarmed by "not yet"
 abbrev pub armed_to_write : List Act → Place → Bool
 armed_to_write [] p = false
 armed_to_write (Turn until at ready stop ∷ past) p = names ready.entries p ToWrite || armed_to_write past p
@@ -55,7 +51,6 @@ armed_to_write (Accepted q peer ∷ past) p = same_place q p || armed_to_write p
 armed_to_write (WriteNotYet q ∷ past) p = not (same_place q p) && armed_to_write past p
 armed_to_write (act ∷ past) p = armed_to_write past p
 
--- a door is armed by its listening and by a turn that names it, and disarmed where no peer was there
 abbrev pub armed_to_accept : List Act → Place → Bool
 armed_to_accept [] d = false
 armed_to_accept (Turn until at ready stop ∷ past) d = names ready.entries d ToRead || armed_to_accept past d

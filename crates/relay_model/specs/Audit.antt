@@ -24,24 +24,20 @@ use Rattle.relay_model.specs.Calls.{called_at, call, door_call, door_cut}
 use Rattle.relay_model.specs.Outcome.{outcome}
 use Rattle.relay_model.specs.Rest.{owed, moves, may_read, may_write, must_pass, presses, until_of}
 
--- the second test holds, or the first doesn't
 abbrev pub implies : Bool → Bool → Bool
 implies true b = b
 implies false b = true
 
--- where a call is for an accepting, that was tried at its door since the last turn
 abbrev pub accept_tried : Config → List Act → Call → Bool
 accept_tried c past (Accept door place) = asked_to_accept c past door
 accept_tried c past other = true
 
--- what is armed and worth asking of a direction was asked since the last turn, and an end that is due was passed
 abbrev pub way_rests : Config → List Act → ℕ → Way → Bool
 way_rests c past s w =
     implies (may_read c past s w) (asked_to_read past (input c s w))
     && implies (may_write c past s w) (asked_to_write past (input c s w) (output c s w))
     && not (must_pass c past s w)
 
--- a session with a cause holds nothing, nothing is called for at once, and its directions rest
 abbrev pub session_rests : Config → List Act → ℕ → Bool
 session_rests c past s =
     implies (is_some (cause c past s)) (not (holds c past s))
@@ -50,47 +46,39 @@ session_rests c past s =
     && way_rests c past s RightToLeft
     && accept_tried c past (call c past s)
 
--- a program door that is cut is closed, it calls for nothing at once, and an accepting was tried
 abbrev pub door_rests : Config → List Act → Bool
 door_rests c past =
     implies (has_fork c && door_cut past) (not (held past program_door))
     && not (presses (door_call c past))
     && accept_tried c past (door_call c past)
 
--- a wait is in order, as a test
 abbrev pub rests : Config → List Act → Bool
 rests c past = is_none (outcome c past) && is_none (owed c past) && door_rests c past && each_below (session_rests c past) (suc (numbers c past))
 
--- whether two moments are the same, or both none
 abbrev pub same_number : Option ℕ → Option ℕ → Bool
 same_number None None = true
 same_number (Some m) (Some n) = m == n
 same_number one other = false
 
--- whether two lists of numbers are the same
 abbrev pub same_list : List ℕ → List ℕ → Bool
 same_list [] [] = true
 same_list (x ∷ xs) (y ∷ ys) = x == y && same_list xs ys
 same_list one other = false
 
--- whether a text that may be owed is this one
 abbrev pub same_text : Option (List ℕ) → List ℕ → Bool
 same_text None text = false
 same_text (Some one) other = same_list one other
 
--- whether the first list is the beginning of the second
 abbrev pub begins : List ℕ → List ℕ → Bool
 begins [] list = true
 begins (x ∷ xs) [] = false
 begins (x ∷ xs) (y ∷ ys) = x == y && begins xs ys
 
--- whether the first list of pieces is the beginning of the second
 abbrev pub begins_pieces : List (List ℕ) → List (List ℕ) → Bool
 begins_pieces [] list = true
 begins_pieces (x ∷ xs) [] = false
 begins_pieces (x ∷ xs) (y ∷ ys) = same_list x y && begins_pieces xs ys
 
--- whether two ways of passing an end are the same
 abbrev pub same_shut : Shutting → Shutting → Bool
 same_shut shuts.Nothing shuts.Nothing = true
 same_shut shuts.Down shuts.Down = true
@@ -98,34 +86,28 @@ same_shut shuts.Close shuts.Close = true
 same_shut shuts.Null shuts.Null = true
 same_shut one other = false
 
--- the call is for opening or settling this place
 abbrev pub opens : Call → Place → Bool
 opens (Open p) q = same_place p q
 opens (Settle p) q = same_place p q
 opens other q = false
 
--- the call is for listening at this door
 abbrev pub listens_to : Call → Place → Bool
 listens_to (Listen d) q = same_place d q
 listens_to other q = false
 
--- the call is for accepting a peer at this place
 abbrev pub accepts_for : Call → Place → Bool
 accepts_for (Accept d p) q = same_place p q
 accepts_for other q = false
 
--- the call is for accepting at this door
 abbrev pub accepts_at : Call → Place → Bool
 accepts_at (Accept d p) q = same_place d q
 accepts_at other q = false
 
--- the call is for closing this thing for this reason: a peer that is refused, or a door that has served
 abbrev pub closes : Call → Place → Why → Bool
 closes (Refuse p) q whys.Refused = same_place p q
 closes (Serve d) q whys.Served = same_place d q
 closes other q why = false
 
--- whether a place can be read at
 abbrev pub may_ask : Config → List Act → Place → Bool
 may_ask c past p =
     same_place p (input c p.session (way_from p.side))
@@ -134,11 +116,9 @@ may_ask c past p =
     && not (over c past p)
     && armed_to_read past p
 
--- whether so many bytes can come of a place
 abbrev pub may_take : Config → List Act → Place → ℕ → Bool
 may_take c past p n = may_ask c past p && nat_le 1 n && nat_le n (room c past p.session (way_from p.side))
 
--- whether a place can be written at
 abbrev pub may_offer : Config → List Act → Place → Bool
 may_offer c past p =
     same_place p (output c p.session (way_to p.side))
@@ -146,7 +126,6 @@ may_offer c past p =
     && not (passed c past p.session (way_to p.side))
     && armed_to_write past p
 
--- whether these bytes can be taken at a place
 abbrev pub may_put : Config → List Act → Place → List ℕ → Bool
 may_put c past p bytes =
     may_offer c past p
@@ -154,7 +133,6 @@ may_put c past p bytes =
     && begins (put past p ++ bytes) (due c (way_to p.side) (got past (input c p.session (way_to p.side))))
     && implies (keeps_borders c (way_to p.side)) (begins_pieces (sent past p ++ bytes ∷ []) (due_pieces c past p.session (way_to p.side)))
 
--- whether an end may be passed on at a place in this way
 abbrev pub may_shut : Config → List Act → Place → Shutting → Bool
 may_shut c past p way =
     same_place p (output c p.session (way_to p.side))
@@ -163,19 +141,16 @@ may_shut c past p way =
     && not (passed c past p.session (way_to p.side))
     && same_shut way (how c p)
 
--- whether the program door ends for this reason
 abbrev pub door_ends : List Act → Why → Bool
 door_ends past whys.Memory = memory_said past
 door_ends past whys.Stopped = stop_said past
 door_ends past whys.AcceptFailed = accept_failed past program_door
 door_ends past why = false
 
--- whether this is the reason that a session has, if it has one
 abbrev pub is_cause : Option Why → Why → Bool
 is_cause None why = false
 is_cause (Some one) why = same_why one why
 
--- whether a thing may be closed for this reason
 abbrev pub may_close : Config → ℕ → List Act → Place → Why → Bool
 may_close c n past q why =
     held past q
@@ -186,11 +161,9 @@ may_close c n past q why =
     || same_why why whys.Stopped && turns past == n && rests c past)
     && (is_none (owed c past) || same_why why whys.Memory)
 
--- a test that counts only while no dump is owed
 abbrev pub timely : Config → List Act → Bool → Bool
 timely c past test = is_none (owed c past) && test
 
--- whether an act may come after a list
 abbrev pub may_come : Config → ℕ → List Act → Act → Bool
 may_come c n past (Turn until at ready stop) = timely c past (nat_lt (turns past) n && rests c past && same_number until (until_of c past))
 may_come c n past (Opened p) = timely c past (opens (called_at c past p) p)
@@ -216,7 +189,6 @@ may_come c n past (Reaped p end) = timely c past (is_program (medium_of c p) && 
 may_come c n past (Note text) = same_text (owed c past) text
 may_come c n past (NoteFault text) = same_text (owed c past) text
 
--- the act that was found among the older ones, else this one where its test fails
 abbrev pub first_of_two : ℕ → Bool → ℕ → ℕ
 first_of_two (suc k) test here = suc k
 first_of_two zero true here = 0

@@ -30,15 +30,12 @@ closed_why c (act ∷ past) s = closed_why c past s
 abbrev pub accept_failed_for : Config → List Act → ℕ → Bool
 accept_failed_for c past s = has_fork c && accept_failed past program_door || list_any (accept_failed past) (own_doors c s)
 
--- no try is left at an own door of the session
 abbrev pub listening_failed : Config → List Act → ℕ → Bool
 listening_failed c past s = list_any (out_of_tries c past) (own_doors c s)
 
--- no try is left at a place of the session
 abbrev pub opening_failed : Config → List Act → ℕ → Bool
 opening_failed c past s = list_any (out_of_tries c past) (places c s)
 
--- a read or a write failed at the place
 abbrev pub fault_at : List Act → Place → Bool
 fault_at past p = is_some (read_fault_at past p) || is_some (write_fault_at past p)
 
@@ -60,11 +57,9 @@ faulted c past s =
     if c.sloppy then ready c past s && each_formed c (done c past s) && some_formed c (broken c past s)
     else fault_stands c past s
 
--- the session is ready, and each formed direction has passed its end
 abbrev pub finished : Config → List Act → ℕ → Bool
 finished c past s = ready c past s && each_formed c (passed c past s)
 
--- why a session has to end: the first of ten reasons that holds
 abbrev pub cause : Config → List Act → ℕ → Option Why
 cause c past s =
     first_some (closed_why c past s

@@ -48,7 +48,6 @@ pub record OpenLaterMakes (p : Place) (past : List Act) : Type 0 where
   pub standing_is : standing (OpenLater p ∷ past) p ≡ Settling
   pub not_woken : woken (OpenLater p ∷ past) p ≡ false
 
--- an opening that failed: nothing is held, and the failure stands at this moment
 pub record OpenFailedMakes (p : Place) (past : List Act) : Type 0 where
   pub stage_is : stage (OpenFailed p ∷ past) p ≡ Failed
   pub standing_is : standing (OpenFailed p ∷ past) p ≡ Free
@@ -60,7 +59,6 @@ pub record ListeningMakes (d : Place) (past : List Act) : Type 0 where
   pub standing_is : standing (Listening d ∷ past) d ≡ Open
   pub accept_arming_is : armed_to_accept (Listening d ∷ past) d ≡ true
 
--- a listening that failed: nothing is held, and the failure stands at this moment
 pub record ListenFailedMakes (d : Place) (past : List Act) : Type 0 where
   pub stage_is : stage (ListenFailed d ∷ past) d ≡ Failed
   pub standing_is : standing (ListenFailed d ∷ past) d ≡ Free
@@ -76,12 +74,10 @@ pub record AcceptedMakes (p : Place) (peer : Peer) (past : List Act) : Type 0 wh
   pub moved_is : (c : Config) (s : ℕ) → is_place_of c s p ≡ true → moved c (Accepted p peer ∷ past) s ≡ now past
   pub admitted_is : (c : Config) → admitted c (Accepted p peer ∷ past) ≡ one_more (is_admission c p peer) (admitted c past)
 
--- no peer was there: the door is disarmed and was asked
 pub record NoPeerMakes (d : Place) (past : List Act) : Type 0 where
   pub accept_arming_is : armed_to_accept (NoPeer d ∷ past) d ≡ false
   pub accept_asked : (c : Config) → asked_to_accept c (NoPeer d ∷ past) d ≡ true
 
--- an accepting failed at the door, which was asked
 pub record AcceptFailedMakes (d : Place) (past : List Act) : Type 0 where
   pub accept_failed_is : accept_failed (AcceptFailed d ∷ past) d ≡ true
   pub accept_asked : (c : Config) → asked_to_accept c (AcceptFailed d ∷ past) d ≡ true
@@ -96,7 +92,6 @@ pub record ReadMakes (p : Place) (bytes : List ℕ) (past : List Act) : Type 0 w
       (c : Config) (s : ℕ) (w : Way) → p ≡ input c s w → is_empty (due_part c w (got past p) bytes) ≡ false →
       due_pieces c (Read p bytes ∷ past) s w ≡ due_pieces c past s w ++ due_part c w (got past p) bytes ∷ []
 
--- an empty datagram came, and the input was asked
 pub record ReadEmptyMakes (p : Place) (past : List Act) : Type 0 where
   pub met_empty_is : met_empty (ReadEmpty p ∷ past) p ≡ true
   pub read_asked : asked_to_read (ReadEmpty p ∷ past) p ≡ true
@@ -107,12 +102,10 @@ pub record ReadEndMakes (p : Place) (past : List Act) : Type 0 where
   pub read_arming_is : read_arming (ReadEnd p ∷ past) p ≡ AtEnd (now past)
   pub read_asked : asked_to_read (ReadEnd p ∷ past) p ≡ true
 
--- nothing was there yet: the input is disarmed and was asked
 pub record ReadNotYetMakes (p : Place) (past : List Act) : Type 0 where
   pub read_arming_is : read_arming (ReadNotYet p ∷ past) p ≡ Disarmed
   pub read_asked : asked_to_read (ReadNotYet p ∷ past) p ≡ true
 
--- a read failed at this moment, and the input was asked
 pub record ReadFaultMakes (p : Place) (past : List Act) : Type 0 where
   pub read_fault_is : read_fault_at (ReadFault p ∷ past) p ≡ Some (now past)
   pub read_asked : asked_to_read (ReadFault p ∷ past) p ≡ true
@@ -125,12 +118,10 @@ pub record WroteMakes (p : Place) (bytes : List ℕ) (past : List Act) : Type 0 
   pub write_asked : (i : Place) → asked_to_write (Wrote p bytes ∷ past) i p ≡ true
   pub moved_is : (c : Config) (s : ℕ) → is_place_of c s p ≡ true → moved c (Wrote p bytes ∷ past) s ≡ now past
 
--- nothing was taken yet: the output is disarmed and was asked
 pub record WriteNotYetMakes (p : Place) (past : List Act) : Type 0 where
   pub write_arming_is : armed_to_write (WriteNotYet p ∷ past) p ≡ false
   pub write_asked : (i : Place) → asked_to_write (WriteNotYet p ∷ past) i p ≡ true
 
--- a write failed at this moment, and the output was asked
 pub record WriteFaultMakes (p : Place) (past : List Act) : Type 0 where
   pub write_fault_is : write_fault_at (WriteFault p ∷ past) p ≡ Some (now past)
   pub write_asked : (i : Place) → asked_to_write (WriteFault p ∷ past) i p ≡ true
@@ -151,7 +142,6 @@ pub record ClosedMakes (p : Place) (why : Why) (past : List Act) : Type 0 where
   pub memory_is : memory_said (Closed p why ∷ past) ≡ (same_why why whys.Memory || memory_said past)
   pub closed_why_is : (c : Config) (s : ℕ) → is_of c s p ≡ true → is_end p why ≡ true → closed_why c (Closed p why ∷ past) s ≡ Some why
 
--- the child of the place was reaped, since its last closing too
 pub record ReapedMakes (act : Act) (p : Place) (past : List Act) : Type 0 where
   pub was_reaped_is : was_reaped (act ∷ past) p ≡ true
   pub reaped_since_is : reaped_since (act ∷ past) p ≡ true

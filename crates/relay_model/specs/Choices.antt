@@ -7,7 +7,6 @@ abbrev pub only_if : {T : Type 0} → Bool → T → Option T
 only_if true x = Some x
 only_if false x = None
 
--- an answer, or the other one where it is none
 abbrev pub or_else : {T : Type 0} → Option T → Option T → Option T
 or_else None other = other
 or_else (Some x) other = Some x

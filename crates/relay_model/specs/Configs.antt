@@ -35,7 +35,6 @@ pub data Medium : Type 0 where
   Connection : Medium
   Datagrams : Medium
 
--- what a kind of address stands on
 abbrev pub medium : Target → Medium
 medium targets.Stdio = Standard
 medium targets.Stdin = Standard
@@ -60,12 +59,10 @@ medium (targets.System command) = Program
 medium (targets.Socks named server host port) = Connection
 medium (targets.Proxy server host port) = Connection
 
--- a datagram socket
 abbrev pub is_datagrams : Medium → Bool
 is_datagrams Datagrams = true
 is_datagrams other = false
 
--- a child
 abbrev pub is_program : Medium → Bool
 is_program Program = true
 is_program other = false
@@ -85,7 +82,6 @@ abbrev pub source : Way → Side
 source LeftToRight = Left
 source RightToLeft = Right
 
--- the side that a direction writes to
 abbrev pub sink : Way → Side
 sink LeftToRight = Right
 sink RightToLeft = Left
@@ -95,19 +91,16 @@ abbrev pub way_from : Side → Way
 way_from Left = LeftToRight
 way_from Right = RightToLeft
 
--- the direction that writes to a side
 abbrev pub way_to : Side → Way
 way_to Left = RightToLeft
 way_to Right = LeftToRight
 
 -- ---- places
 
--- the address of a side
 abbrev pub address : Config → Side → Address
 address c Left = c.left
 address c Right = c.right
 
--- a file is only read with `rdonly`, and else only written with `wronly`
 abbrev pub narrowed : FileFlags → Part
 narrowed flags = if flags.rdonly then Reading else if flags.wronly then Writing else Both
 
@@ -129,11 +122,9 @@ parts_of ways.OnlyRight address Right = Writing ∷ []
 parts_of ways.OnlyLeft address Left = Writing ∷ []
 parts_of ways.OnlyLeft address Right = Reading ∷ []
 
--- the parts of a side that are opened
 abbrev pub parts : Config → Side → List Part
 parts c side = parts_of c.ways (address c side) side
 
--- the place of this session, side and part; no door
 abbrev pub place_at : ℕ → Side → Part → Place
 place_at s side part = record { session = s; side = side; part = part; door = false }
 
@@ -148,25 +139,20 @@ single_for (addresses.Two reading writing) Both = reading
 single_for (addresses.Two reading writing) Reading = reading
 single_for (addresses.Two reading writing) Writing = writing
 
--- the single address that a place or door stands for
 abbrev pub single : Config → Place → Single
 single c p = single_for (address c p.side) p.part
 
--- the options of that address
 abbrev pub options_of : Config → Place → Options
 options_of c p = (single c p).options
 
--- what a place stands on
 abbrev pub medium_of : Config → Place → Medium
 medium_of c p = medium (single c p).target
 
--- the kind at a place waits for a peer
 abbrev pub listens_at : Config → Place → Bool
 listens_at c p = listens (single c p).target
 
 -- ---- doors
 
--- a single address with `fork`
 abbrev pub forks : Address → Bool
 forks (addresses.One single) = single.options.fork
 forks (addresses.Two reading writing) = false
@@ -179,11 +165,9 @@ has_fork c = forks c.left
 abbrev pub program_door : Place
 program_door = record { session = 0; side = Left; part = Both; door = true }
 
--- a place of the left side
 abbrev pub is_left : Place → Bool
 is_left p = same_side p.side Left
 
--- this is the program door, in a command with `fork`
 abbrev pub is_program_door : Config → Place → Bool
 is_program_door c q = same_place q program_door && has_fork c
 
@@ -199,7 +183,6 @@ accepting_door c p = if is_left p && has_fork c then program_door else door_of p
 abbrev pub own_doors : Config → ℕ → List Place
 own_doors c s = map door_of (filter (has_own_door c) (places c s))
 
--- this is one of the places of the session
 abbrev pub is_place_of : Config → ℕ → Place → Bool
 is_place_of c s q = list_any (same_place q) (places c s)
 
@@ -207,13 +190,11 @@ is_place_of c s q = list_any (same_place q) (places c s)
 abbrev pub things : Config → ℕ → List Place
 things c s = places c s ++ own_doors c s
 
--- this is one of the places and own doors of the session
 abbrev pub is_of : Config → ℕ → Place → Bool
 is_of c s q = list_any (same_place q) (things c s)
 
 -- ---- formed directions
 
--- a part that serves for both has each half
 abbrev pub has_half : Half → Part → Bool
 has_half half Both = true
 has_half ToRead Reading = true
@@ -234,7 +215,6 @@ formed c w = is_some (part_with ToRead (parts c (source w))) && is_some (part_wi
 abbrev pub input : Config → ℕ → Way → Place
 input c s w = place_at s (source w) (unwrap_or (part_with ToRead (parts c (source w))) Both)
 
--- the place that a direction writes to
 abbrev pub output : Config → ℕ → Way → Place
 output c s w = place_at s (sink w) (unwrap_or (part_with ToWrite (parts c (sink w))) Both)
 
@@ -250,7 +230,6 @@ writes_output targets.Stdio part = has_half ToWrite part
 writes_output targets.Stdout part = true
 writes_output other part = false
 
--- the place writes standard output
 abbrev pub stands_on_output : Config → Place → Bool
 stands_on_output c p = writes_output (single c p).target p.part
 
@@ -258,7 +237,6 @@ stands_on_output c p = writes_output (single c p).target p.part
 abbrev pub output_is_shared : Config → Bool
 output_is_shared c = has_fork c || nat_le 2 (count_by (stands_on_output c) (places c 0))
 
--- standard error
 abbrev pub is_error_stream : Target → Bool
 is_error_stream targets.Stderr = true
 is_error_stream other = false
@@ -267,12 +245,10 @@ is_error_stream other = false
 abbrev pub writes_shared_stream : Config → Place → Bool
 writes_shared_stream c p = is_error_stream (single c p).target || stands_on_output c p && output_is_shared c
 
--- an empty datagram where that is asked for, else nothing
 abbrev pub datagram_shut : Option Shut → Shut
 datagram_shut (Some shuts.Null) = shuts.Null
 datagram_shut other = shuts.Nothing
 
--- a connected socket is shut down, unless it is to be closed or left alone
 abbrev pub connection_shut : Option Shut → Shut
 connection_shut None = shuts.Down
 connection_shut (Some shuts.Null) = shuts.Nothing
@@ -280,13 +256,11 @@ connection_shut (Some shuts.Nothing) = shuts.Nothing
 connection_shut (Some shuts.Down) = shuts.Down
 connection_shut (Some shuts.Close) = shuts.Close
 
--- a stream, a file, a pipe and a child are closed, unless they are to be left alone
 abbrev pub plain_shut : Option Shut → Shut
 plain_shut (Some shuts.Nothing) = shuts.Nothing
 plain_shut (Some shuts.Null) = shuts.Nothing
 plain_shut other = shuts.Close
 
--- how an end is passed on, by what the place stands on and what its options ask
 abbrev pub shut_on : Medium → Option Shut → Shut
 shut_on Datagrams asked = datagram_shut asked
 shut_on Connection asked = connection_shut asked
@@ -312,7 +286,6 @@ fork_is_placed left right = left_is_placed left && not (names_fork right)
     left_is_placed (addresses.One single) = not single.options.fork || listens single.target
     left_is_placed (addresses.Two reading writing) = not (reading.options.fork || writing.options.fork)
 
--- a command in order: a block of 1 to 1,048,576 bytes, some direction, and `fork` where it may stand
 pub record Fit (c : Config) : Type 0 where
   pub some_block : nat_le 1 c.block ≡ true
   pub small_block : nat_le c.block 1048576 ≡ true

@@ -40,7 +40,6 @@ abbrev pub is_used_up : Option ℕ → List ℕ → Bool
 is_used_up None xs = false
 is_used_up (Some n) xs = nat_le n (length xs)
 
--- the escape byte, if there is one, is among these bytes
 abbrev pub holds_escape : Option ℕ → List ℕ → Bool
 holds_escape None xs = false
 holds_escape (Some e) xs = list_any (λ b. b == e) xs

@@ -6,7 +6,6 @@ use Rattle.relay_model.specs.declared.commands.Dump.TheVariants as dumps
 use Rattle.relay_model.specs.declared.places.Way.{Way}
 use Rattle.relay_model.specs.declared.places.Way.TheVariants.{LeftToRight, RightToLeft}
 
--- the byte that ends a line
 abbrev pub newline : List ℕ
 newline = 10 ∷ []
 
@@ -14,7 +13,6 @@ newline = 10 ∷ []
 abbrev pub last_place : ℕ → ℕ → ℕ
 last_place from n = from + n - 1
 
--- the mark of a direction
 abbrev pub arrow : Way → List ℕ
 arrow LeftToRight = codes "> "
 arrow RightToLeft = codes "< "
@@ -27,7 +25,6 @@ header way from n = arrow way ++ codes "length=" ++ decimal n ++ codes " from=" 
 abbrev pub hex_digit : ℕ → ℕ
 hex_digit value = if nat_lt value 10 then 48 + value else 87 + value
 
--- a byte as two hexadecimal digits
 abbrev pub hex_byte : ℕ → List ℕ
 hex_byte byte = hex_digit (byte / 16) ∷ hex_digit (byte % 16) ∷ []
 
@@ -53,11 +50,9 @@ abbrev pub hex_lines : ℕ → ℕ → List ℕ → List ℕ
 hex_lines n i [] = []
 hex_lines n i (byte ∷ bytes) = 32 ∷ hex_byte byte ++ (if (i + 1) % 16 == 0 || i + 1 == n then newline else []) ++ hex_lines n (i + 1) bytes
 
--- the header, and the bytes in the text style
 abbrev pub text_dump : Way → ℕ → List ℕ → List ℕ
 text_dump way from bytes = header way from (length bytes) ++ text_lines bytes
 
--- the header, and the bytes in the hexadecimal style
 abbrev pub hex_dump : Way → ℕ → List ℕ → List ℕ
 hex_dump way from bytes = header way from (length bytes) ++ hex_lines (length bytes) 0 bytes
 

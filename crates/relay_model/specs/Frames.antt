@@ -48,7 +48,6 @@ is_at (Reaped q end) p = same_place q p
 is_at (Note text) p = false
 is_at (NoteFault text) p = false
 
--- the act is a turn
 abbrev pub is_turn : Act → Bool
 is_turn (Turn until at ready stop) = true
 is_turn act = false
@@ -81,7 +80,6 @@ ElsewhereIsUntouched = (act : Act) (past : List Act) (p : Place) → is_turn act
 
 -- ---- kinds of acts, by what they change
 
--- the acts that may change the stage of a thing
 abbrev pub opens_or_closes : Act → Bool
 opens_or_closes (Opened q) = true
 opens_or_closes (OpenLater q) = true
@@ -92,88 +90,72 @@ opens_or_closes (Accepted q peer) = true
 opens_or_closes (Closed q why) = true
 opens_or_closes act = false
 
--- the acts that may change how a thing stands for a world
 abbrev pub opens_shuts_or_closes : Act → Bool
 opens_shuts_or_closes (Shut q way) = true
 opens_shuts_or_closes (ShutFault q way) = true
 opens_shuts_or_closes act = opens_or_closes act
 
--- the acts that may change the failures of a thing
 abbrev pub fails_to_open : Act → Bool
 fails_to_open (OpenFailed q) = true
 fails_to_open (ListenFailed q) = true
 fails_to_open act = false
 
--- the act that may change whether an accepting failed
 abbrev pub fails_to_accept : Act → Bool
 fails_to_accept (AcceptFailed q) = true
 fails_to_accept act = false
 
--- the act that may change whether a thing was closed
 abbrev pub is_closing : Act → Bool
 is_closing (Closed q why) = true
 is_closing act = false
 
--- the act that may change whether a child was reaped
 abbrev pub reaps : Act → Bool
 reaps (Reaped q end) = true
 reaps act = false
 
--- the act that may change what was read
 abbrev pub reads_bytes : Act → Bool
 reads_bytes (Read q bytes) = true
 reads_bytes act = false
 
--- the act that may change what was written
 abbrev pub writes_bytes : Act → Bool
 writes_bytes (Wrote q bytes) = true
 writes_bytes act = false
 
--- the act that may change whether an end came
 abbrev pub meets_end : Act → Bool
 meets_end (ReadEnd q) = true
 meets_end act = false
 
--- the act that may change whether an empty datagram came
 abbrev pub meets_empty : Act → Bool
 meets_empty (ReadEmpty q) = true
 meets_empty act = false
 
--- the acts that may change when an end was passed on
 abbrev pub passes_end : Act → Bool
 passes_end (Shut q way) = true
 passes_end (ShutFault q way) = true
 passes_end act = false
 
--- the act that may change when a read failed
 abbrev pub fails_to_read : Act → Bool
 fails_to_read (ReadFault q) = true
 fails_to_read act = false
 
--- the act that may change when a write failed
 abbrev pub fails_to_write : Act → Bool
 fails_to_write (WriteFault q) = true
 fails_to_write act = false
 
--- the acts that may change which failure was the first
 abbrev pub fails_to_transfer : Act → Bool
 fails_to_transfer (ReadFault q) = true
 fails_to_transfer (WriteFault q) = true
 fails_to_transfer act = false
 
--- the acts that may change whether a place was woken
 abbrev pub wakes_or_unsettles : Act → Bool
 wakes_or_unsettles (Turn until at ready stop) = true
 wakes_or_unsettles (OpenLater q) = true
 wakes_or_unsettles act = false
 
--- the acts that may change whether a stop was said
 abbrev pub turns_or_closes : Act → Bool
 turns_or_closes (Turn until at ready stop) = true
 turns_or_closes (Closed q why) = true
 turns_or_closes act = false
 
--- the acts that may change whether a child was reaped since the last closing
 abbrev pub closes_or_reaps : Act → Bool
 closes_or_reaps (Closed q why) = true
 closes_or_reaps (Reaped q end) = true
@@ -181,7 +163,6 @@ closes_or_reaps act = false
 
 -- these arm or disarm
 
--- the acts that may change how an input is armed
 abbrev pub arms_to_read : Act → Bool
 arms_to_read (Turn until at ready stop) = true
 arms_to_read (Opened q) = true
@@ -190,7 +171,6 @@ arms_to_read (ReadEnd q) = true
 arms_to_read (ReadNotYet q) = true
 arms_to_read act = false
 
--- the acts that may change whether an output is armed
 abbrev pub arms_to_write : Act → Bool
 arms_to_write (Turn until at ready stop) = true
 arms_to_write (Opened q) = true
@@ -198,7 +178,6 @@ arms_to_write (Accepted q peer) = true
 arms_to_write (WriteNotYet q) = true
 arms_to_write act = false
 
--- the acts that may change whether a door is armed
 abbrev pub arms_to_accept : Act → Bool
 arms_to_accept (Turn until at ready stop) = true
 arms_to_accept (Listening q) = true
@@ -207,7 +186,6 @@ arms_to_accept act = false
 
 -- a turn forgets what was asked, and so does a read of bytes for its output
 
--- the acts that may change whether an input was asked since the last turn
 abbrev pub asks_to_read : Act → Bool
 asks_to_read (Turn until at ready stop) = true
 asks_to_read (Read q bytes) = true
@@ -217,7 +195,6 @@ asks_to_read (ReadNotYet q) = true
 asks_to_read (ReadFault q) = true
 asks_to_read act = false
 
--- the acts that may change whether an output was asked since the last turn
 abbrev pub asks_to_write : Act → Bool
 asks_to_write (Turn until at ready stop) = true
 asks_to_write (Read q bytes) = true
@@ -226,7 +203,6 @@ asks_to_write (WriteNotYet q) = true
 asks_to_write (WriteFault q) = true
 asks_to_write act = false
 
--- the acts that may change whether a door was asked since the last turn
 abbrev pub asks_to_accept : Act → Bool
 asks_to_accept (Turn until at ready stop) = true
 asks_to_accept (Accepted q peer) = true
@@ -234,7 +210,6 @@ asks_to_accept (NoPeer q) = true
 asks_to_accept (AcceptFailed q) = true
 asks_to_accept act = false
 
--- the acts that may change when a session last moved
 abbrev pub moves_session : Act → Bool
 moves_session (Opened q) = true
 moves_session (Accepted q peer) = true
@@ -242,7 +217,6 @@ moves_session (Read q bytes) = true
 moves_session (Wrote q bytes) = true
 moves_session act = false
 
--- the act that may change how many peers were permitted
 abbrev pub meets_peer : Act → Bool
 meets_peer (Accepted q peer) = true
 meets_peer act = false

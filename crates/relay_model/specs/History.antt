@@ -20,13 +20,11 @@ now [] = 0
 now (Turn until at ready stop ∷ past) = at
 now (act ∷ past) = now past
 
--- how many turns there were
 abbrev pub turns : List Act → ℕ
 turns [] = 0
 turns (Turn until at ready stop ∷ past) = suc (turns past)
 turns (act ∷ past) = turns past
 
--- whether two reasons of a closing are the same
 abbrev pub same_why : Why → Why → Bool
 same_why whys.Finished whys.Finished = true
 same_why whys.ClosingTime whys.ClosingTime = true
@@ -66,7 +64,6 @@ pub data Stage : Type 0 where
   Waiting : Stage
   Gone : Why → Stage
 
--- the last act of opening, accepting, listening or closing at a thing
 abbrev pub stage : List Act → Place → Stage
 stage [] p = Untried
 stage (Opened q ∷ past) p = if same_place q p then Usable else stage past p
@@ -78,7 +75,6 @@ stage (Accepted q peer ∷ past) p = if same_place q p then Met peer else stage 
 stage (Closed q why ∷ past) p = if same_place q p then Gone why else stage past p
 stage (act ∷ past) p = stage past p
 
--- the stages at which something is held
 abbrev pub holds_at : Stage → Bool
 holds_at Untried = false
 holds_at Usable = true
@@ -92,7 +88,6 @@ holds_at (Gone why) = false
 abbrev pub held : List Act → Place → Bool
 held past p = holds_at (stage past p)
 
--- the thing was closed for this reason
 abbrev pub is_gone_with : Why → Stage → Bool
 is_gone_with why (Gone other) = same_why other why
 is_gone_with why other = false
@@ -115,19 +110,16 @@ woken (Turn until at ready stop ∷ past) p = names ready.entries p ToRead || na
 woken (OpenLater q ∷ past) p = not (same_place q p) && woken past p
 woken (act ∷ past) p = woken past p
 
--- an accepting failed at the door
 abbrev pub accept_failed : List Act → Place → Bool
 accept_failed [] d = false
 accept_failed (AcceptFailed q ∷ past) d = same_place q d || accept_failed past d
 accept_failed (act ∷ past) d = accept_failed past d
 
--- the place was closed
 abbrev pub was_closed : List Act → Place → Bool
 was_closed [] p = false
 was_closed (Closed q why ∷ past) p = same_place q p || was_closed past p
 was_closed (act ∷ past) p = was_closed past p
 
--- the child of the place was reaped
 abbrev pub was_reaped : List Act → Place → Bool
 was_reaped [] p = false
 was_reaped (Reaped q end ∷ past) p = same_place q p || was_reaped past p
@@ -162,13 +154,11 @@ sent (act ∷ past) p = sent past p
 
 -- ---- ends, faults and passed ends
 
--- an end came at the place
 abbrev pub met_end : List Act → Place → Bool
 met_end [] p = false
 met_end (ReadEnd q ∷ past) p = same_place q p || met_end past p
 met_end (act ∷ past) p = met_end past p
 
--- an empty datagram came at the place
 abbrev pub met_empty : List Act → Place → Bool
 met_empty [] p = false
 met_empty (ReadEmpty q ∷ past) p = same_place q p || met_empty past p
@@ -181,13 +171,11 @@ shut_at (Shut q way ∷ past) p = if same_place q p then Some (now past) else sh
 shut_at (ShutFault q way ∷ past) p = if same_place q p then Some (now past) else shut_at past p
 shut_at (act ∷ past) p = shut_at past p
 
--- when a read failed at the place, the last time
 abbrev pub read_fault_at : List Act → Place → Option ℕ
 read_fault_at [] p = None
 read_fault_at (ReadFault q ∷ past) p = if same_place q p then Some (now past) else read_fault_at past p
 read_fault_at (act ∷ past) p = read_fault_at past p
 
--- when a write failed at the place, the last time
 abbrev pub write_fault_at : List Act → Place → Option ℕ
 write_fault_at [] p = None
 write_fault_at (WriteFault q ∷ past) p = if same_place q p then Some (now past) else write_fault_at past p

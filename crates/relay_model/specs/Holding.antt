@@ -30,7 +30,6 @@ abbrev pub standing : List Act → Place → Hold
 standing [] p = Free
 standing (act ∷ past) p = hold_after act p (standing past p)
 
--- nothing is held
 abbrev pub is_free : Hold → Bool
 is_free Free = true
 is_free Settling = false

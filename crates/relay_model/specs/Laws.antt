@@ -116,7 +116,6 @@ Tells past (Accept d p) = (stage past d ≡ Waiting) × (armed_to_accept past d 
 Tells past (Refuse p) = held past p ≡ true
 Tells past (Serve d) = held past d ≡ true
 
--- what a call says of the things that it names
 abbrev pub CallsTell : Type 0
 CallsTell = (c : Config) (past : List Act) (p : Place) → Tells past (called_at c past p)
 
@@ -147,7 +146,6 @@ DoorTells c past (Accept d p) = (d ≡ program_door) × (p ≡ next_place c past
 DoorTells c past (Refuse p) = p ≡ next_place c past
 DoorTells c past (Serve d) = (d ≡ program_door) × (enough c past ≡ true)
 
--- what the program door's call says
 abbrev pub ProgramDoorTells : Type 0
 ProgramDoorTells = (c : Config) (past : List Act) → DoorTells c past (door_call c past)
 

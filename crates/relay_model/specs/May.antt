@@ -50,7 +50,6 @@ abbrev pub KeepsBorders : Bool → List (List ℕ) → List (List ℕ) → Type 
 KeepsBorders true pieces due = BeginsWith pieces due
 KeepsBorders false pieces due = Unit {0}
 
--- these bytes may be taken at the place: with those before them they begin what is due, and keep its borders
 pub record MayWrite (c : Config) (past : List Act) (p : Place) (bytes : List ℕ) : Type 0 where
   pub offers : MayOffer c past p
   pub some_bytes : 1 ≤ length bytes
@@ -97,7 +96,6 @@ pub data Licensed (c : Config) (n : ℕ) (past : List Act) (q : Place) (why : Wh
   by_memory : why ≡ whys.Memory → (is_program_door c q ≡ true) ⊎ (closed_why c past q.session ≡ None) → Licensed c n past q why
   by_turns : why ≡ whys.Stopped → turns past ≡ n → Rest c past → Licensed c n past q why
 
--- the thing is held, its closing is licensed, and no dump is owed, but for want of memory
 pub record MayClose (c : Config) (n : ℕ) (past : List Act) (q : Place) (why : Why) : Type 0 where
   pub is_held : held past q ≡ true
   pub licensed : Licensed c n past q why
@@ -105,7 +103,6 @@ pub record MayClose (c : Config) (n : ℕ) (past : List Act) (q : Place) (why : 
 
 -- ---- all acts
 
--- a turn is left, a wait is in order, and it is asked to last until the moment that is due
 pub record MayTurn (c : Config) (n : ℕ) (past : List Act) (until : Option ℕ) : Type 0 where
   pub turns_left : turns past < n
   pub rests : Rest c past
@@ -121,7 +118,6 @@ pub record MayReap (c : Config) (past : List Act) (p : Place) : Type 0 where
 abbrev pub Timely : Config → List Act → Type 0 → Type 0
 Timely c past Claim = (owed c past ≡ None) × Claim
 
--- an act may come after these
 abbrev pub May : Config → ℕ → List Act → Act → Type 0
 May c n past (Turn until at ready stop) = Timely c past (MayTurn c n past until)
 May c n past (Opened p) = Timely c past (MayOpen c past p)

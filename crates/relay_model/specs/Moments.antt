@@ -22,7 +22,6 @@ moved c (act ∷ past) s = moved c past s
 abbrev pub passed_at : Config → List Act → ℕ → Way → Option ℕ
 passed_at c past s w = shut_at past (output c s w)
 
--- the direction has passed its end
 abbrev pub passed : Config → List Act → ℕ → Way → Bool
 passed c past s w = is_some (passed_at c past s w)
 
@@ -30,7 +29,6 @@ passed c past s w = is_some (passed_at c past s w)
 abbrev pub broken_at : Config → List Act → ℕ → Way → Option ℕ
 broken_at c past s w = if c.sloppy then or_else (read_fault_at past (input c s w)) (write_fault_at past (output c s w)) else None
 
--- a fault has broken the direction
 abbrev pub broken : Config → List Act → ℕ → Way → Bool
 broken c past s w = is_some (broken_at c past s w)
 
@@ -38,7 +36,6 @@ broken c past s w = is_some (broken_at c past s w)
 abbrev pub done_at : Config → List Act → ℕ → Way → Option ℕ
 done_at c past s w = or_else (passed_at c past s w) (broken_at c past s w)
 
--- the direction is done
 abbrev pub done : Config → List Act → ℕ → Way → Bool
 done c past s w = is_some (done_at c past s w)
 
@@ -49,7 +46,6 @@ after_one closing None (Some other) = Some (other + closing)
 after_one closing (Some one) (Some other) = None
 after_one closing None None = None
 
--- when the closing time ends, after the first done direction of two
 abbrev pub closing_moment : Config → List Act → ℕ → Option ℕ
 closing_moment c past s =
     if formed c LeftToRight && formed c RightToLeft
@@ -60,11 +56,9 @@ closing_moment c past s =
 abbrev pub is_unfinished : Config → List Act → ℕ → Bool
 is_unfinished c past s = formed c LeftToRight && not (done c past s LeftToRight) || formed c RightToLeft && not (done c past s RightToLeft)
 
--- when inactivity ends the session
 abbrev pub idle_moment : Config → List Act → ℕ → Option ℕ
 idle_moment c past s = if nat_lt 0 c.idle && is_unfinished c past s then Some (moved c past s + c.idle) else None
 
--- there is such a moment, and it has come
 abbrev pub reached : Option ℕ → ℕ → Bool
 reached None at = false
 reached (Some m) at = nat_le m at

@@ -24,7 +24,6 @@ pub data Call : Type 0 where
 
 -- ---- tries
 
--- no try is left at the place or door
 abbrev pub out_of_tries : Config → List Act → Place → Bool
 out_of_tries c past p = is_out_of_tries (options_of c p).retry (options_of c p).forever (failures past p)
 
@@ -46,7 +45,6 @@ stands_ready c past p Usable = not (listens_at c p)
 stands_ready c past p (Met peer) = listens_at c p && permits c p peer && (not (has_own_door c p) || served past (door_of p))
 stands_ready c past p other = false
 
--- a place is ready, by its stage
 abbrev pub is_ready : Config → List Act → Place → Bool
 is_ready c past p = stands_ready c past p (stage past p)
 

@@ -17,7 +17,6 @@ use Rattle.relay_model.specs.Sessions.{holds, live, numbers}
 use Rattle.relay_model.specs.Openings.{out_of_tries}
 use Rattle.relay_model.specs.Cause.{cause}
 
--- how a run ended
 pub data Outcome : Type 0 where
   Memory : Outcome
   Stopped : (turns : ℕ) → Outcome

@@ -8,14 +8,12 @@ use Rattle.relay_model.specs.declared.places.Half.{Half}
 use Rattle.relay_model.specs.declared.places.Half.TheVariants.{ToRead, ToWrite}
 use Rattle.relay_model.specs.declared.places.Place.{Place}
 
--- whether two sides are the same
 abbrev pub same_side : Side → Side → Bool
 same_side Left Left = true
 same_side Left Right = false
 same_side Right Left = false
 same_side Right Right = true
 
--- whether two parts are the same
 abbrev pub same_part : Part → Part → Bool
 same_part Both Both = true
 same_part Both Reading = false
@@ -27,14 +25,12 @@ same_part Writing Both = false
 same_part Writing Reading = false
 same_part Writing Writing = true
 
--- whether two halves are the same
 abbrev pub same_half : Half → Half → Bool
 same_half ToRead ToRead = true
 same_half ToRead ToWrite = false
 same_half ToWrite ToRead = false
 same_half ToWrite ToWrite = true
 
--- whether two truths are the same
 abbrev pub same_bool : Bool → Bool → Bool
 same_bool true true = true
 same_bool true false = false

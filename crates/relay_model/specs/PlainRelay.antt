@@ -11,7 +11,6 @@ use Rattle.relay_model.specs.declared.commands.Conv.TheVariants.{Plain}
 use Rattle.relay_model.specs.declared.commands.Dump.TheVariants.{Off}
 use Rattle.relay_model.specs.declared.commands.Ways.TheVariants.{OnlyRight}
 
--- a file without an option
 abbrev pub no_flags : FileFlags
 no_flags = record { creat = false; excl = false; append = false; trunc = false; rdonly = false; wronly = false }
 
@@ -43,7 +42,6 @@ default_options = record {
   proxyport = 8080;
 }
 
--- a standard stream with every option at its default
 abbrev pub standard : Target → Single
 standard target = record { target = target; options = default_options }
 

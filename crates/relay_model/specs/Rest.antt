@@ -80,7 +80,6 @@ abbrev pub AcceptTried : Config → List Act → Call → Type 0
 AcceptTried c past (Accept door place) = asked_to_accept c past door ≡ true
 AcceptTried c past other = Unit {0}
 
--- a session with a cause holds nothing; nothing is called for at once; what is worth asking was asked
 pub record SessionRests (c : Config) (past : List Act) (s : ℕ) : Type 0 where
   pub ended : is_some (cause c past s) ≡ true → holds c past s ≡ false
   pub no_call : presses (call c past s) ≡ false
@@ -89,7 +88,6 @@ pub record SessionRests (c : Config) (past : List Act) (s : ℕ) : Type 0 where
   pub passed_on : (w : Way) → must_pass c past s w ≡ false
   pub accept_tried : AcceptTried c past (call c past s)
 
--- a program door that is cut is closed; nothing is called for at once; an accepting was tried
 pub record DoorRests (c : Config) (past : List Act) : Type 0 where
   pub ended : (has_fork c && door_cut past) ≡ true → held past program_door ≡ false
   pub no_call : presses (door_call c past) ≡ false
@@ -104,7 +102,6 @@ pub record Rest (c : Config) (past : List Act) : Type 0 where
 
 -- ---- until
 
--- a read or a write of the direction is armed
 abbrev pub way_work : Config → List Act → ℕ → Way → Bool
 way_work c past s w = may_read c past s w || may_write c past s w
 
@@ -121,7 +118,6 @@ try_moment other = None
 abbrev pub input_moment : Config → List Act → ℕ → Way → Option ℕ
 input_moment c past s w = if moves c past s w && not (over c past (input c s w)) then arming_moment (read_arming past (input c s w)) else None
 
--- the nearest later moment of the closing time or inactivity, of a session that runs
 abbrev pub timer_moment : Config → List Act → ℕ → Option ℕ
 timer_moment c past s = if running c past s then earlier (later (now past) (closing_moment c past s)) (later (now past) (idle_moment c past s)) else None
 
@@ -132,7 +128,6 @@ session_moment c past s =
     (earlier (earlier (later (now past) (input_moment c past s LeftToRight)) (later (now past) (input_moment c past s RightToLeft)))
     (later (now past) (try_moment (call c past s))))
 
--- the moment of the program door's next try
 abbrev pub door_moment : Config → List Act → Option ℕ
 door_moment c past = later (now past) (try_moment (door_call c past))
 

@@ -34,11 +34,9 @@ admitted c (act ∷ past) = admitted c past
 abbrev pub holds : Config → List Act → ℕ → Bool
 holds c past s = list_any (held past) (things c s)
 
--- a session lives: with `fork` where it has begun and holds something, without it if it is session 0
 abbrev pub live : Config → List Act → ℕ → Bool
 live c past s = if has_fork c then nat_lt s (admitted c past) && holds c past s else s == 0
 
--- how many sessions live
 abbrev pub live_count : Config → List Act → ℕ
 live_count c past = count (live c past) (admitted c past)
 
@@ -46,7 +44,6 @@ live_count c past = count (live c past) (admitted c past)
 abbrev pub numbers : Config → List Act → ℕ
 numbers c past = if has_fork c then admitted c past else 1
 
--- the first part of a side
 abbrev pub first_part : List Part → Part
 first_part [] = Both
 first_part (part ∷ parts) = part
@@ -55,6 +52,5 @@ first_part (part ∷ parts) = part
 abbrev pub next_place : Config → List Act → Place
 next_place c past = place_at (admitted c past) Left (first_part (parts c Left))
 
--- the options of the program door's address
 abbrev pub door_options : Config → Options
 door_options c = options_of c program_door

@@ -19,7 +19,6 @@ due c w xs = due_of (options_of c (input c 0 w)).conv (options_of c (output c 0 
 abbrev pub due_part : Config → Way → List ℕ → List ℕ → List ℕ
 due_part c w before piece = drop (length (due c w before)) (due c w (before ++ piece))
 
--- there are no bytes
 abbrev pub is_empty : List ℕ → Bool
 is_empty [] = true
 is_empty (b ∷ bs) = false

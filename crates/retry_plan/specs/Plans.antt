@@ -9,7 +9,6 @@ use Rattle.retry_plan.specs.Ledger.{Ledger}
 abbrev pub attempts_of : List ℕ → ℕ
 attempts_of failures = min (length failures) (2 ^ 64 - 1)
 
--- the newest failure
 abbrev pub last_of : List ℕ → Option ℕ
 last_of [] = None
 last_of (failed_at ∷ failures) = Some failed_at
@@ -22,7 +21,6 @@ pub record PlanIs (retry : ℕ) (forever : Bool) (interval : ℕ) (failures : Li
   pub attempts_is : plan.attempts ≡ attempts_of failures
   pub last_is : plan.last ≡ last_of failures
 
--- at this moment, or never where there is none
 abbrev pub at_or_never : Option ℕ → NextTry
 at_or_never None = Never
 at_or_never (Some due) = At due

@@ -4,7 +4,6 @@ use Rattle.std.specs.List.{count_by}
 use Rattle.ring_items.specs.declared.items.RingItem.{RingItem}
 use Rattle.ring_items.specs.declared.items.RingItem.TheVariants as items
 
--- the bytes of an item
 abbrev pub item_bytes : RingItem → List ℕ
 item_bytes (items.Chunk bytes) = bytes
 item_bytes (items.End count) = []
@@ -15,19 +14,16 @@ abbrev pub bytes_of : List RingItem → List ℕ
 bytes_of [] = []
 bytes_of (item ∷ rest) = item_bytes item ++ bytes_of rest
 
--- a mark of an end
 abbrev pub is_end_mark : RingItem → Bool
 is_end_mark (items.Chunk bytes) = false
 is_end_mark (items.End count) = true
 is_end_mark (items.Fault count) = false
 
--- a mark of a fault
 abbrev pub is_fault_mark : RingItem → Bool
 is_fault_mark (items.Chunk bytes) = false
 is_fault_mark (items.End count) = false
 is_fault_mark (items.Fault count) = true
 
--- a mark, and no chunk
 abbrev pub is_mark : RingItem → Bool
 is_mark (items.Chunk bytes) = false
 is_mark (items.End count) = true
@@ -39,15 +35,12 @@ last_is kind [] = false
 last_is kind (item ∷ []) = kind item
 last_is kind (item ∷ next ∷ rest) = last_is kind (next ∷ rest)
 
--- how many marks there are
 abbrev pub marks : List RingItem → ℕ
 marks = count_by is_mark
 
--- how many marks of an end
 abbrev pub end_marks : List RingItem → ℕ
 end_marks = count_by is_end_mark
 
--- how many marks of a fault
 abbrev pub fault_marks : List RingItem → ℕ
 fault_marks = count_by is_fault_mark
 

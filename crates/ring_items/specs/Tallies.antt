@@ -4,7 +4,6 @@ use Rattle.port_trait.specs.Direct.{no_counts, with_fault}
 use Rattle.port_trait.specs.declared.counts.Counts.{Counts}
 use Rattle.ring_items.specs.declared.tallies.Tally.{Tally}
 
--- counts that stand at their beginning
 abbrev pub no_tally : Tally
 no_tally = record { counts = no_counts; misuses = 0 }
 

@@ -5,7 +5,6 @@ use Rattle.ring_items.specs.declared.words.Word.{Word}
 use Rattle.ring_items.specs.declared.words.Word.TheVariants as words
 use Rattle.ring_items.specs.declared.words.SinkFault.{SinkFault}
 
--- a word that asks
 abbrev pub is_ask : Word → Bool
 is_ask words.Ask = true
 is_ask words.Stop = false
@@ -18,6 +17,5 @@ asks = count_by is_ask
 abbrev pub AnyWord : List Word → Word → Type 0
 AnyWord before word = Unit {0}
 
--- nothing is asked of faults
 abbrev pub AnyFault : List SinkFault → SinkFault → Type 0
 AnyFault before fault = Unit {0}

@@ -52,7 +52,6 @@ pub record ReaderState : Type 0 where
 abbrev pub given : List RingItem → List ℕ → List ℕ
 given taken held = take (length (bytes_of taken) - length held) (bytes_of taken)
 
--- the bytes that the reader gave
 abbrev pub given_of : ReaderState → List ℕ
 given_of reader = given reader.taken reader.held
 
@@ -60,26 +59,21 @@ given_of reader = given reader.taken reader.held
 abbrev pub served_of : ReaderState → Serving
 served_of reader = record { reads = true; writes = false; misuses = reader.tally.misuses }
 
--- the reader may be joined: it hasn't begun, or last took a mark
 abbrev pub joins_of : ReaderState → Bool
 joins_of reader = not reader.begun || reader.marked
 
--- what the source behind it gave
 abbrev pub gave_behind : Option SourceBehind → Option (List ℕ)
 gave_behind None = None
 gave_behind (Some source) = source.gave
 
--- what that source has left
 abbrev pub left_behind : Option SourceBehind → Option (List ℕ)
 left_behind None = None
 left_behind (Some source) = source.left
 
--- the faults of that source
 abbrev pub faults_behind : Option SourceBehind → Option ℕ
 faults_behind None = None
 faults_behind (Some source) = Some source.faults
 
--- the ends of that source
 abbrev pub ends_behind : Option SourceBehind → Option ℕ
 ends_behind None = None
 ends_behind (Some source) = Some source.ends
@@ -90,7 +84,6 @@ gone None now = None
 gone (Some before) None = None
 gone (Some before) (Some now) = Some (take (length before - length now) before)
 
--- what a joined reader tells of its source
 abbrev pub source_behind : {S : Type 0} → (S → Option (List ℕ)) → (S → ℕ) → (S → ℕ) → S → S → List RingItem → SourceBehind
 source_behind left faults ends start source taken = record {
   gave = gone (left start) (left source);
@@ -111,21 +104,18 @@ abbrev pub stage_of : {S : Type 0} → Option (Task (Ending (Fed S)) (FeedPromis
 stage_of None = stages.Refused
 stage_of (Some task) = stages.Waiting task
 
--- the thread was asked to begin
 abbrev pub is_begun : {S : Type 0} → Stage S → Bool
 is_begun (stages.Waiting task) = false
 is_begun stages.Refused = false
 is_begun (stages.Running task) = true
 is_begun (stages.Over source) = true
 
--- the thread runs
 abbrev pub is_running : {S : Type 0} → Stage S → Bool
 is_running (stages.Waiting task) = false
 is_running stages.Refused = false
 is_running (stages.Running task) = true
 is_running (stages.Over source) = false
 
--- there is no thread
 abbrev pub is_refused : {S : Type 0} → Stage S → Bool
 is_refused (stages.Waiting task) = false
 is_refused stages.Refused = true

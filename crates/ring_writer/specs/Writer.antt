@@ -8,7 +8,6 @@ abbrev pub Delivered : ℕ → ℕ → Option (List ℕ) → Option (List ℕ) �
 Delivered zero sound before now bytes = (sound ≡ min (length bytes) (2 ^ 64 - 1)) × (now ≡ option_map (λ all. all ++ bytes) before)
 Delivered (suc faults) sound before now bytes = (n : ℕ) × (later : List ℕ) × (n ≤ length bytes) × (sound ≡ min n (2 ^ 64 - 1)) × (now ≡ option_map (λ all. all ++ (take n bytes ++ later)) before)
 
--- the sink took these bytes, up to its first fault
 abbrev pub Delivers : {K : Type 0} → (K → Option (List ℕ)) → Option (List ℕ) → Outlet K → List ℕ → Type 0
 Delivers took before outlet bytes = Delivered outlet.faults outlet.sound before (took outlet.sink) bytes
 
@@ -17,7 +16,6 @@ Delivers took before outlet bytes = Delivered outlet.faults outlet.sound before 
 abbrev pub KeptUp : ℕ → ℕ → Option (List ℕ) → Option (List ℕ) → List ℕ → Type 0
 KeptUp faults spare before now bytes = faults < 2 ^ 64 - 1 → IfSome before (λ had. IfSome now (λ has. length had + length bytes + spare ≤ length has + 65536 * faults))
 
--- the sink took what it was given, but for what each fault cost
 abbrev pub KeepsUp : {K : Type 0} → (K → Option (List ℕ)) → Option (List ℕ) → Outlet K → ℕ → List ℕ → Type 0
 KeepsUp took before outlet spare bytes = KeptUp outlet.faults spare before (took outlet.sink) bytes
 

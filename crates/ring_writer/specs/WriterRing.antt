@@ -59,7 +59,6 @@ pub record WriterLine : Type 0 where
   pub refused : Bool
   pub behind : Option WriterBehind
 
--- what a joined writer tells of its sink
 abbrev pub behind_of : {K : Type 0} → (K → Option (List ℕ)) → (K → ℕ) → (K → Bool) → WriterBack K → WriterBehind
 behind_of took faults finished back = record {
   taken = (view back.items).taken;
@@ -73,7 +72,6 @@ behind_of took faults finished back = record {
 abbrev pub fresh_line : Option (List ℕ) → Bool → WriterLine
 fresh_line had refused = record { had = if refused then None else had; sent = []; marks = 0; begun = false; refused = refused; behind = None }
 
--- what contracts see of a writer at this stage
 abbrev pub line_of : {K : Type 0} → (K → Option (List ℕ)) → (K → ℕ) → (K → Bool) → Stage K → WriterLine
 line_of took faults finished (stages.Ready putter begun task) = fresh_line (took begun.value) false
 line_of took faults finished stages.Refused = fresh_line None true
@@ -104,7 +102,6 @@ pub record IsBack {K : Type 0} (took : K → Option (List ℕ)) (faults : K → 
   pub true_to_sink : IsTrueToSink took faults (took back.begun.value) (faults back.begun.value) back.outlet (view back.items).taken (view back.marks).taken
   pub over : IsFinished finished back.outlet
 
--- a writer at this stage is as it should be
 abbrev pub Stands : {K : Type 0} → (K → Option (List ℕ)) → (K → ℕ) → (K → Bool) → Stage K → Type 0
 Stands took faults finished (stages.Ready putter begun task) = IsPutting putter × (view putter.sender).sent ≡ [] × (view putter.taker).taken ≡ [] × TaskStands took faults finished putter.lines.value begun.value task
 Stands took faults finished stages.Refused = Unit {0}

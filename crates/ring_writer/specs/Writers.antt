@@ -23,21 +23,17 @@ fresh_writer had refused = record {
   tally = no_tally;
 }
 
--- the bytes that the writer took
 abbrev pub took_of : WriterState → List ℕ
 took_of writer = bytes_of writer.line.sent
 
--- what the sink behind it took
 abbrev pub took_behind : Option WriterBehind → Option (List ℕ)
 took_behind None = None
 took_behind (Some behind) = behind.took
 
--- the faults of that sink
 abbrev pub faults_behind : Option WriterBehind → Option ℕ
 faults_behind None = None
 faults_behind (Some behind) = Some behind.faults
 
--- whether that sink was finished
 abbrev pub finished_behind : Option WriterBehind → Option Bool
 finished_behind None = None
 finished_behind (Some behind) = Some behind.finished
@@ -77,7 +73,6 @@ PutsAll before now bytes (writes.Took n) = (n ≡ length bytes) × PutsMore befo
 PutsAll before now bytes writes.NotYet = ⊥
 PutsAll before now bytes writes.Failed = (n : ℕ) × (n ≤ length bytes) × PutsMore before now (take n bytes) 1
 
--- bytes are put whole, where the writer serves the call
 abbrev pub WriterPutsAll : Bool → WriterState → WriterState → List ℕ → WriteAnswer → Type 0
 WriterPutsAll true before now bytes answer = PutsAll before.line now.line bytes answer × (now.tally.misuses ≡ before.tally.misuses)
 WriterPutsAll false before now bytes answer = (now ≡ misused_writer before) × (answer ≡ writes.Failed)

@@ -42,7 +42,6 @@ use Rattle.world_scripts.specs.Writes.{write_taken, writes_left}
 
 -- ---- reads
 
--- the script gives nothing yet
 abbrev pub gives_nothing_yet : Given → Bool
 gives_nothing_yet (given.Bytes n) = false
 gives_nothing_yet given.Empty = false
@@ -56,7 +55,6 @@ pub record ReadBy (old new : Script) (place : Place) (now room : ℕ) (into : Li
   pub bytes : GivesBytes what into (next_bytes (next_of old.reads place))
   pub left : new ≡ record old { reads = reads_left what old.reads place; looked = looked_after (gives_nothing_yet what) old.looked place watches.Read }
 
--- a read answered what its script says, and left of it what it says
 abbrev pub ReadScripted : Script → Script → Place → ℕ → ℕ → List ℕ → ReadAnswer → Type 0
 ReadScripted old new place now room into (reads.Bytes n) = ReadBy old new place now room into (given.Bytes n)
 ReadScripted old new place now room into reads.Empty = ReadBy old new place now room into given.Empty
@@ -67,7 +65,6 @@ ReadScripted old new place now room into reads.Memory = new ≡ old
 
 -- ---- writes
 
--- the script takes nothing yet
 abbrev pub takes_nothing_yet : Taken → Bool
 takes_nothing_yet (taken.Upto n) = false
 takes_nothing_yet taken.NotYet = true
@@ -78,7 +75,6 @@ pub record WriteBy (old new : Script) (place : Place) (now count : ℕ) (what : 
   pub answer : what ≡ write_taken (next_of old.writes place) now count
   pub left : new ≡ record old { writes = writes_left old.writes place now; looked = looked_after (takes_nothing_yet what) old.looked place watches.Write }
 
--- a write answered what its script says, and left of it what it says
 abbrev pub WriteScripted : Script → Script → Place → ℕ → ℕ → WriteAnswer → Type 0
 WriteScripted old new place now count (writes.Took n) = WriteBy old new place now count (taken.Upto n)
 WriteScripted old new place now count writes.NotYet = WriteBy old new place now count taken.NotYet
@@ -96,7 +92,6 @@ pub record SendBy (old new : Script) (place : Place) (now count : ℕ) (later : 
   pub answer : what ≡ send_answer (write_taken (next_of old.writes place) now count)
   pub left : new ≡ record old { writes = writes_left old.writes place now; looked = looked_after later old.looked place watches.Write }
 
--- a packet answered what its script says, and left of it what it says
 abbrev pub SendScripted : Script → Script → Place → ℕ → ℕ → SendAnswer → Type 0
 SendScripted old new place now count sends.Sent = SendBy old new place now count false sends.Sent
 SendScripted old new place now count sends.NotYet = SendBy old new place now count true sends.NotYet
@@ -111,7 +106,6 @@ pub record OpenBy (old new : Script) (place : Place) (what : OpenItem) : Type 0 
   pub answer : what ≡ opening (next_of old.opens place)
   pub left : new ≡ record old { opens = used_up old.opens place; looked = looked_opening what old.looked place }
 
--- an opening answered what its script says, and left of it what it says
 abbrev pub OpenScripted : Script → Script → Place → OpenAnswer → Type 0
 OpenScripted old new place opens.Opened = OpenBy old new place items.Opens
 OpenScripted old new place opens.Later = OpenBy old new place items.Later
@@ -123,7 +117,6 @@ pub record ListenBy (old new : Script) (door : Place) (fails : Bool) : Type 0 wh
   pub answer : fails ≡ is_failing (opening (next_of old.opens door))
   pub left : new ≡ record old { opens = used_up old.opens door }
 
--- a listening answered what its script says, and left of it what it says
 abbrev pub ListenScripted : Script → Script → Place → ListenAnswer → Type 0
 ListenScripted old new door listens.Listening = ListenBy old new door false
 ListenScripted old new door listens.Failed = ListenBy old new door true
@@ -131,7 +124,6 @@ ListenScripted old new door listens.Memory = new ≡ old
 
 -- ---- peers
 
--- the script brings no peer
 abbrev pub is_no_peer : Coming → Bool
 is_no_peer (coming.Comes peer) = false
 is_no_peer coming.NoPeer = true
@@ -142,7 +134,6 @@ pub record AcceptBy (old new : Script) (door : Place) (now : ℕ) (what : Coming
   pub answer : what ≡ peer_given (next_of old.peers door) now
   pub left : new ≡ record old { peers = peers_left what old.peers door; looked = looked_after (is_no_peer what) old.looked door watches.Peer }
 
--- an accepting answered what its script says, and left of it what it says
 abbrev pub AcceptScripted : Script → Script → Place → ℕ → AcceptAnswer → Type 0
 AcceptScripted old new door now (accepts.Accepted peer) = AcceptBy old new door now (coming.Comes peer)
 AcceptScripted old new door now accepts.NoPeer = AcceptBy old new door now coming.NoPeer
@@ -156,7 +147,6 @@ pub record ShutBy (old new : Script) (place : Place) (fails : Bool) : Type 0 whe
   pub answer : fails ≡ shut_fails old.shut_faults place
   pub left : new ≡ old
 
--- a shut answered what its script says, and left of it what it says
 abbrev pub ShutScripted : Script → Script → Place → ShutAnswer → Type 0
 ShutScripted old new place shuts.Done = ShutBy old new place false
 ShutScripted old new place shuts.Failed = ShutBy old new place true
@@ -171,12 +161,10 @@ abbrev pub reap_given : Option ChildEnd → ReapAnswer
 reap_given None = reaps.NoChild
 reap_given (Some end) = reaps.Reaped end
 
--- a reaping answered the next item, and used it up
 pub record ReapBy (old new : Script) (place : Place) (what : ReapAnswer) : Type 0 where
   pub answer : what ≡ reap_given (next_of old.reaps place)
   pub left : new ≡ record old { reaps = used_up old.reaps place }
 
--- a reaping answered what its script says, and left of it what it says
 abbrev pub ReapScripted : Script → Script → Place → ReapAnswer → Type 0
 ReapScripted old new place (reaps.Reaped end) = ReapBy old new place (reaps.Reaped end)
 ReapScripted old new place reaps.NoChild = ReapBy old new place reaps.NoChild
@@ -192,7 +180,6 @@ pub record TurnBy (old new : Script) (until : Option ℕ) (clock at : ℕ) (stop
   pub ready_is : ready ≡ take 256 (ready_ones old at old.looked)
   pub left : new ≡ record old { looked = unnamed ready old.looked }
 
--- a wait answered what its script says, and left of it what it says
 abbrev pub TurnScripted : Script → Script → Option ℕ → ℕ → List ReadyAt → Turned → Type 0
 TurnScripted old new until clock ready (turns.Turned at stop) = TurnBy old new until clock at stop ready
 TurnScripted old new until clock ready turns.Memory = new ≡ old

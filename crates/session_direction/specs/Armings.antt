@@ -4,7 +4,6 @@ use Rattle.relay_model.specs.Arming as inputs
 use Rattle.session_direction.specs.declared.armings.Arming.{Arming as InputArming}
 use Rattle.session_direction.specs.declared.armings.Arming.TheVariants as coded
 
--- the arming of an input in the code, as the model has it
 abbrev pub as_arming : InputArming → Arming
 as_arming coded.Disarmed = inputs.Disarmed
 as_arming coded.Armed = inputs.Armed

@@ -106,7 +106,6 @@ pub record WantsNothing (c : Config) (past : List Act) (s : ℕ) (w : Way) : Typ
   pub passed_on : must_pass c past s w ≡ false
   pub read_ahead : moves c past s w ≡ true → armed_to_read past (input c s w) ≡ true → over c past (input c s w) ≡ false → backlog c past s w ≤ c.block → 1 ≤ room c past s w → asked_to_read past (input c s w) ≡ true
 
--- what a want says of the acts: what is wanted may come, or nothing is left to be done before the next turn
 abbrev pub Wants : Config → List Act → ℕ → Way → Want → Type 0
 Wants c past s w (wants.Shut way) = MayShut c past (output c s w) way
 Wants c past s w wants.Write = WantsWrite c past s w false

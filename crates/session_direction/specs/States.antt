@@ -38,7 +38,6 @@ unless false steps = steps
 abbrev pub write_price : ℕ
 write_price = 1
 
--- what a further read costs
 abbrev pub read_price : DirectionState → ℕ
 read_price d = if d.asked_out then 2 else 1
 
@@ -46,7 +45,6 @@ read_price d = if d.asked_out then 2 else 1
 abbrev pub can_pay : (asked : Bool) (price extra : ℕ) → Bool
 can_pay asked price extra = not asked || nat_le price extra
 
--- what is left after a further ask
 abbrev pub left_after : (asked : Bool) (price extra : ℕ) → ℕ
 left_after asked price extra = if asked then extra - price else extra
 
@@ -54,7 +52,6 @@ left_after asked price extra = if asked then extra - price else extra
 abbrev pub can_read : DirectionState → Bool
 can_read d = can_pay d.asked_in (read_price d) d.extra
 
--- a write can be paid for
 abbrev pub can_write : DirectionState → Bool
 can_write d = can_pay d.asked_out write_price d.extra
 

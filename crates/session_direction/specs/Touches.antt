@@ -7,7 +7,6 @@ use Rattle.relay_model.specs.declared.acts.Act.TheVariants.{Turn, Opened, Accept
 use Rattle.relay_model.specs.Places.{same_place}
 use Rattle.relay_model.specs.Configs.{input, output}
 
--- the acts that may change what a direction stands for
 abbrev pub touches : Config → ℕ → Way → Act → Bool
 touches c s w (Turn until at ready stop) = true
 touches c s w (Opened q) = same_place q (input c s w) || same_place q (output c s w)

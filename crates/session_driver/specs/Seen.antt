@@ -13,7 +13,6 @@ pub record Seen : Type 0 where
   pub stops : ℕ
   pub clock : ℕ
 
--- what a driver sees of this world
 abbrev pub seen : {W : Type 0} → (W → Option History) → (W → Place → Hold) → (W → ℕ) → (W → ℕ) → (W → ℕ) → (W → ℕ) → W → Seen
 seen told held faults waits stops clock w =
     record { told = told w; held = held w; faults = faults w; waits = waits w; stops = stops w; clock = clock w }

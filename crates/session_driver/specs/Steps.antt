@@ -1,22 +1,19 @@
 -- What a step makes of a world and of the session that it is for.
 use Rattle.std.specs.Prelude.{◌≡◌, ℕ, ◌<◌, ◌≤◌, Bool, true, false, List, ◌∷◌, ◌++◌, Option, Some, None, option_map}
 use Rattle.relay_model.specs.declared.acts.Act.{Act}
-use Rattle.relay_model.specs.declared.acts.Act.TheVariants.{ReadFault, WriteFault, Closed}
-use Rattle.relay_model.specs.declared.acts.Why.TheVariants as whys
+use Rattle.relay_model.specs.declared.acts.Act.TheVariants.{ReadFault, WriteFault}
 use Rattle.relay_model.specs.declared.places.Place.{Place}
 use Rattle.relay_model.specs.declared.commands.Config.{Config}
-use Rattle.relay_model.specs.Configs.{is_of, is_place_of, is_program_door, single}
+use Rattle.relay_model.specs.Configs.{is_of, is_place_of, single}
 use Rattle.relay_model.specs.Holding.{standing}
 use Rattle.relay_model.specs.History.{turns}
 use Rattle.relay_model.specs.Journals.{History, Asking}
 use Rattle.relay_model.specs.May.{Legal}
-use Rattle.relay_model.specs.Frames.{is_at, is_turn, is_closing}
 use Rattle.relay_model.specs.Outcome.{first_fault}
 use Rattle.world_trait.specs.Answers.{Answered, AnsweredAsking, DidNothing, Rose}
 use Rattle.relay_core.specs.declared.sessions.Session.{Session}
-use Rattle.relay_core.specs.declared.wishes.Wish.{Wish}
 use Rattle.relay_core.specs.declared.wishes.Wish.TheVariants as wishes
-use Rattle.relay_core.specs.Sessions.{Stands, Heard, wish_of, left_of, ending_of, has_ended}
+use Rattle.relay_core.specs.Sessions.{Stands, Heard, wish_of, left_of, has_ended}
 use Rattle.relay_core.specs.Blames.{is_blamed}
 use Rattle.relay_core.specs.Told.{stop_turned}
 use Rattle.session_driver.specs.Seen.{Seen}
@@ -60,16 +57,6 @@ pub record NoTurn (act : Act) : Type 0 where
   pub turns_same : (past : List Act) → turns (act ∷ past) ≡ turns past
   pub stops_same : (past : List Act) → stop_turned (act ∷ past) ≡ stop_turned past
 
--- it is at places and doors of this session alone
-pub record IsActOf (c : Config) (s : ℕ) (act : Act) : Type 0 where
-  pub own : (p : Place) → is_at act p ≡ true → (p.session ≡ s) × (is_program_door c p ≡ false)
-  pub untimed : is_turn act ≡ false
-
--- it is a closing where one was wished for, and then that one
-abbrev pub ClosesAsWished : Wish → Act → Type 0
-ClosesAsWished (wishes.Close q why) act = act ≡ Closed q why
-ClosesAsWished wish act = is_closing act ≡ false
-
 -- the world did this act, and whatever the session stands for it has heard it
 pub record Acts (c : Config) (old new : Seen) (before after : Session) (act : Act) : Type 0 where
   pub asked : Option Asking
@@ -77,14 +64,11 @@ pub record Acts (c : Config) (old new : Seen) (before after : Session) (act : Ac
   pub did : DidFor asked old new act
   pub heard : (n : ℕ) (past : List Act) (s : ℕ) → Stands c n past s before → Heard c n past s act before after
   pub own : (n : ℕ) (past : List Act) (s : ℕ) → Stands c n past s before → OwnAsking c s asked
-  pub here : (n : ℕ) (past : List Act) (s : ℕ) → Stands c n past s before → IsActOf c s act
-  pub closes : ClosesAsWished (wish_of before) act
   pub no_turn : NoTurn act
   pub rose : Rose old.faults new.faults failed
   pub blameless : failed ≡ false → (past : List Act) → is_blamed (act ∷ past) ≡ is_blamed past
   pub waitless : Waitless old new
   pub over : (n : ℕ) (past : List Act) (s : ℕ) → Stands c n past s before → has_ended before ≡ true → has_ended after ≡ true
-  pub ending : (n : ℕ) (past : List Act) (s : ℕ) → Stands c n past s before → has_ended before ≡ true → ending_of after ≡ ending_of before
 
 -- the act is no read and no write that failed
 abbrev pub IsFaultless : Config → Act → Type 0
@@ -98,24 +82,21 @@ IsOwn c session p = (n : ℕ) (past : List Act) (s : ℕ) → Stands c n past s 
 pub record Idles (c : Config) (old new : Seen) (before after : Session) : Type 0 where
   pub did : DidNothing old.told new.told old.held new.held
   pub stands : (n : ℕ) (past : List Act) (s : ℕ) → Stands c n past s before → Stands c n past s after
-  pub ending : (n : ℕ) (past : List Act) (s : ℕ) → Stands c n past s before → has_ended before ≡ true → ending_of after ≡ ending_of before
   pub rose : Rose old.faults new.faults false
   pub waitless : Waitless old new
 
 -- the session was cut for want of memory, whatever it stands for
 pub record IsCut (before after : Session) : Type 0 where
   pub stands : (c : Config) (n : ℕ) (past : List Act) (s : ℕ) → Stands c n past s before → has_ended before ≡ false → Stands c n past s after
-  pub ending : ending_of after ≡ Some whys.Memory
   pub over : has_ended after ≡ true
   pub left : left_of after ≡ left_of before
 
--- what one step was: an act, no child, want of memory, a sleep or the end
 abbrev pub StepIs : Config → Seen → Seen → Session → Session → Stepped → Type 0
 StepIs c old new before after steps.Acted = (act : Act) × IsFaultless c act × Acts c old new before after act
 StepIs c old new before after (steps.ReadFailed p) = IsOwn c before p × Acts c old new before after (ReadFault p)
 StepIs c old new before after (steps.WriteFailed p) = IsOwn c before p × Acts c old new before after (WriteFault p)
 StepIs c old new before after steps.Childless =
     Idles c old new before after × ((n : ℕ) (past : List Act) (s : ℕ) → Stands c n past s before → (left_of after < left_of before) × (has_ended before ≡ true → has_ended after ≡ true))
-StepIs c old new before after steps.Memory = Idles c old new before after × (has_ended before ≡ false) × (has_ended after ≡ true) × (left_of after ≡ left_of before) × (ending_of after ≡ Some whys.Memory)
+StepIs c old new before after steps.Memory = Idles c old new before after × (has_ended before ≡ false) × (has_ended after ≡ true) × (left_of after ≡ left_of before)
 StepIs c old new before after (steps.Sleep until) = (new ≡ old) × (after ≡ before) × (wish_of before ≡ wishes.Sleep until) × (has_ended before ≡ false)
 StepIs c old new before after (steps.Done why) = (new ≡ old) × (after ≡ before) × (wish_of before ≡ wishes.Done why)

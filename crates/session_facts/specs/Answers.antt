@@ -8,7 +8,6 @@ use Rattle.relay_model.specs.Outcome as outcomes
 use Rattle.session_facts.specs.declared.outcome.Outcome.{Outcome as WithOutcome}
 use Rattle.session_facts.specs.declared.outcome.Outcome.TheVariants as end
 
--- a call of the code, as the model has it
 abbrev pub as_call : ForCall → Call
 as_call to.Nothing = calls.Nothing
 as_call (to.TryAt m) = calls.TryAt m
@@ -19,7 +18,6 @@ as_call (to.Accept d p) = calls.Accept d p
 as_call (to.Refuse p) = calls.Refuse p
 as_call (to.Serve d) = calls.Serve d
 
--- an outcome of the code, as the model has it
 abbrev pub as_outcome : WithOutcome → Outcome
 as_outcome end.Memory = outcomes.Memory
 as_outcome (end.Stopped turns) = outcomes.Stopped turns

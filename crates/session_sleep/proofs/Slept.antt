@@ -25,7 +25,7 @@ no_turn : (c : Config) (act : Act) → is_common c act ≡ false → is_turn act
 no_turn c (Turn until at ready stop) k = let x : ⊥ = cc in absurd x
 no_turn c act k = refl
 
-pub same_turns : (c : Config) (act : Act) (past : List Act) → is_common c act ≡ false → turns (act ∷ past) ≡ turns past
+same_turns : (c : Config) (act : Act) (past : List Act) → is_common c act ≡ false → turns (act ∷ past) ≡ turns past
 same_turns c (Turn until at ready stop) past k = let x : ⊥ = cc in absurd x
 same_turns c act past k = refl
 

@@ -6,14 +6,16 @@ mod parts;
 
 use journal_file::DiskJournal;
 use mio_poller::MioPoller;
-use parts::{NO_MEMORY, closed_streams, concluded, made, told, wakes};
+use parts::{NO_MEMORY, closed_streams, concluded, made, shelves, told, wakes};
 use port_desk::{Desk, Standard};
 use port_trait::{StdSink, StdSource, StdSpawner};
 use program_words::program_words;
 use real_maker::RealMaker;
-use socat_top::run_written;
+use socat_top::{run_written, spares_wanted};
 use std::process::ExitCode;
+use stream_ports::{StreamKit, spare_port};
 use thread_rings::{RingReader, RingWriter};
+use told_sink::Failures;
 use world_trait::Recorder;
 
 // All is made in one function: only here is the runtime a known one, and so what it makes may go to a thread.
@@ -27,7 +29,10 @@ fn main(rt: HostRuntime) -> ExitCode {
         Ok(poller) => poller,
         Err(status) => return ExitCode::from(status),
     };
-    let maker = match made(RealMaker::on(rt, alloc, &poller)) {
+    let Ok((shelf, laid)) = shelves::<StreamKit<HostRuntime>>(alloc) else {
+        return ExitCode::from(NO_MEMORY);
+    };
+    let maker = match made(RealMaker::on(rt, alloc, &poller, laid)) {
         Ok(maker) => maker,
         Err(status) => return ExitCode::from(status),
     };
@@ -47,16 +52,31 @@ fn main(rt: HostRuntime) -> ExitCode {
     let Ok(stderr) = RingWriter::new(alloc, StdSink::new(rt.stderr()), &mut spawner, noting) else {
         return ExitCode::from(NO_MEMORY);
     };
+    let words = words.as_slice();
+    let Ok(late) = Failures::none(alloc) else {
+        return ExitCode::from(NO_MEMORY);
+    };
+    let mut spares = Vec::new(alloc);
+    for _ in 0..spares_wanted(alloc, words) {
+        let Ok((reading, writing)) = wakes(&poller) else {
+            return ExitCode::from(NO_MEMORY);
+        };
+        let Ok(spare) = spare_port(rt, alloc, &shelf, &late, &mut spawner, reading, writing) else {
+            return ExitCode::from(NO_MEMORY);
+        };
+        if spares.push(spare).is_err() {
+            return ExitCode::from(NO_MEMORY);
+        }
+    }
     let standard = Standard {
         stdin,
         stdout,
         stderr,
     };
-    let Ok(desk) = Desk::new(alloc, standard, maker, poller, Recorder::Skip) else {
+    let Ok(desk) = Desk::new(alloc, standard, maker, spares, poller, Recorder::Skip) else {
         return ExitCode::from(NO_MEMORY);
     };
-    let words = words.as_slice();
     let mut journal = DiskJournal::new(rt);
     let status = run_written(alloc, desk, words, u64::MAX, &mut journal).status;
-    concluded(&rt, status, &failures)
+    concluded(&rt, status, &failures, &late)
 }

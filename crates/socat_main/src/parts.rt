@@ -9,6 +9,7 @@ use std::net::Net;
 use std::os::fd::AsRawFd;
 use std::process::ExitCode;
 use std::time::Clock;
+use stream_ports::Shelf;
 use told_sink::{Failures, ToldSink};
 
 /// The status where the system refuses the poller or what is registered with it, and where output failed after the run.
@@ -44,6 +45,13 @@ where
     [occupied(files), occupied(files), occupied(files)]
 }
 
+/// A shelf, for the ports that find their kits there and for the maker that lays them there.
+pub fn shelves<T: Drop>(alloc: Global) -> Result<(Shelf<T>, Shelf<T>), NoMemory> {
+    let shelf = Shelf::new(alloc)?;
+    let laid = shelf.share()?;
+    Ok((shelf, laid))
+}
+
 /// What was made, or the status where it wasn't.
 pub fn made<T: Drop>(making: Making<T>) -> Result<T, u8> {
     match making {
@@ -60,10 +68,15 @@ pub fn told<K: Sink + Drop>(alloc: Global, sink: K) -> Result<(ToldSink<K>, Fail
     Ok((told, failures))
 }
 
-/// The status of the run, or that of a failure where output failed after its last act, which is told.
-pub fn concluded<R: Eprint>(rt: &R, status: u8, failures: &Failures) -> ExitCode {
-    if status == 0 && failures.any() {
+/// The status of the run, or that of a failure where standard output or what a spare port serves failed after its last
+/// act, which is told.
+pub fn concluded<R: Eprint>(rt: &R, status: u8, output: &Failures, spares: &Failures) -> ExitCode {
+    if status == 0 && output.any() {
         let _ = eprintln!(rt; "socat: write failed on standard output");
+        return ExitCode::from(FAILED);
+    }
+    if status == 0 && spares.any() {
+        let _ = eprintln!(rt; "socat: write failed on a file or a program");
         return ExitCode::from(FAILED);
     }
     ExitCode::from(status)

@@ -5,7 +5,6 @@ use Rattle.relay_model.specs.declared.commands.Dump.{Dump}
 use Rattle.relay_model.specs.declared.commands.Dump.TheVariants as dumps
 use Rattle.relay_model.specs.Configs.{has_fork}
 
--- the command dumps nothing
 abbrev pub dumps_nothing : Dump → Bool
 dumps_nothing dumps.Off = true
 dumps_nothing other = false

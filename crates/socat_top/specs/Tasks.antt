@@ -22,19 +22,16 @@ pub data Task : Type 0 where
 abbrev pub not_built : Refused
 not_built = record { word = 0; half = 0; why = NotBuilt }
 
--- what is done about a command: relay, print or refuse
 abbrev pub command_task : Command → Task
 command_task (commands.Relay c) = if is_built c then Relaying c else Refusing not_built
 command_task commands.Usage = Telling usage
 command_task commands.Version = Telling version
 command_task (commands.Load number) = Refusing not_built
 
--- what is done about words that make a command, or are refused
 abbrev pub task_of : Result Command CommandFault → Task
 task_of (Ok asked) = command_task asked
 task_of (Err (faults.Refused refused)) = Refusing refused
 task_of (Err faults.Memory) = Unread
 
--- what is done about a list of words
 abbrev pub task : List (List ℕ) → Task
 task words = task_of (command words)

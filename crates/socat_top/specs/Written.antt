@@ -27,7 +27,6 @@ abbrev pub told_before : Bool → Option History → Option History
 told_before true told = Some (record { acts = []; asked = [] })
 told_before false told = told
 
--- the act is a note, taken or failed
 abbrev pub is_note : Act → Bool
 is_note (Note text) = true
 is_note (NoteFault text) = true
@@ -44,7 +43,6 @@ pub record TookText (before now : Option (List ℕ)) (acts : List Act) : Type 0 
   pub text_is : IsTextOf text acts
   pub took_is : now ≡ option_map (λ all. all ++ text) before
 
--- a journal was asked for
 abbrev pub is_asked : Saving → Bool
 is_asked savings.NotAsked = false
 is_asked savings.Saved = true

@@ -5,8 +5,10 @@ mod built;
 mod calls;
 mod notes;
 mod runs;
+mod spares;
 mod written;
 
 pub use calls::socat;
 pub use runs::{Shipped, run};
+pub use spares::spares_wanted;
 pub use written::{Saving, Written, run_written};

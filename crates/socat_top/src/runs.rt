@@ -13,7 +13,7 @@ ghost use Rattle.socat_top.specs.Tasks.{task};
 use crate::calls::socat;
 use exit_status::{Outcome, status};
 use port_desk::{Backs, Counts, Desk, Ended};
-use port_trait::{Maker, Poller, Port};
+use port_trait::{Maker, Poller, Port, Spare};
 use relay_model::{Kept, Text};
 use std::alloc::Global;
 use world_trait::World;
@@ -29,19 +29,23 @@ pub struct Shipped<I: Port, O: Port, E: Port> {
 }
 
 /// Does what the words ask over a desk, with at most `turns` waits, and ends the desk.
-pub fn run<M: Maker + Drop, P: Poller + Drop, I: Port, O: Port, E: Port>(
+pub fn run<M, P, F, I: Port, O: Port, E: Port>(
     alloc: Global,
-    mut desk: Desk<M, P, I, O, E>,
+    mut desk: Desk<M, P, F, I, O, E>,
     words: &[Text],
     turns: u64,
 ) -> Shipped<I, O, E>
-    requires free { (p : Spot) → ⟦<Desk<M, P, I, O, E> as World>⟧.held desk p ≡ Free }
+where
+    M: Maker + Drop,
+    P: Poller + Drop,
+    F: Spare,
+    requires free { (p : Spot) → ⟦<Desk<M, P, F, I, O, E> as World>⟧.held desk p ≡ Free }
     ensures status { result.status ≡ exit_code result.outcome }
-    ensures headline { (before : History) → ⟦<Desk<M, P, I, O, E> as World>⟧.told desk ≡ Some before → Leaves (task words.now) turns before (Some (history_of result.kept)) result.outcome }
+    ensures headline { (before : History) → ⟦<Desk<M, P, F, I, O, E> as World>⟧.told desk ≡ Some before → Leaves (task words.now) turns before (Some (history_of result.kept)) result.outcome }
     ensures answers { Answers (task words.now) result.outcome }
-    ensures complete { let w = ⟦<Desk<M, P, I, O, E> as World>⟧ in CompletesTask (task words.now) turns (w.faults desk) result.counts.faults (w.waits desk) result.counts.waits (w.stops desk) result.counts.stops result.outcome }
-    ensures failed { is_failure result.outcome ≡ true → Risen (⟦<Desk<M, P, I, O, E> as World>⟧.faults desk) result.counts.faults }
-    ensures stopped { let w = ⟦<Desk<M, P, I, O, E> as World>⟧ in StopCause turns (w.waits desk) result.counts.waits (w.stops desk) result.counts.stops result.outcome }
+    ensures complete { let w = ⟦<Desk<M, P, F, I, O, E> as World>⟧ in CompletesTask (task words.now) turns (w.faults desk) result.counts.faults (w.waits desk) result.counts.waits (w.stops desk) result.counts.stops result.outcome }
+    ensures failed { is_failure result.outcome ≡ true → Risen (⟦<Desk<M, P, F, I, O, E> as World>⟧.faults desk) result.counts.faults }
+    ensures stopped { let w = ⟦<Desk<M, P, F, I, O, E> as World>⟧ in StopCause turns (w.waits desk) result.counts.waits (w.stops desk) result.counts.stops result.outcome }
 {
     let outcome = socat(alloc, &mut desk, words, turns);
     let status = status(&outcome);

@@ -17,7 +17,7 @@ use crate::runs::{Shipped, run};
 use journal_file::JournalFile;
 use journal_text::write_front;
 use port_desk::Desk;
-use port_trait::{Maker, Poller, Port, Sink, SinkTook};
+use port_trait::{Maker, Poller, Port, Sink, SinkTook, Spare};
 use relay_model::{Act, Journal, Text};
 use std::alloc::Global;
 use world_trait::World;
@@ -46,30 +46,31 @@ pub struct Written<I: Port, O: Port, E: Port> {
 /// `--journal=` with a name, the desk keeps its history, the file of that name is made before anything else is done,
 /// and at the end all that was done is written to it, but for the line of the outcome. Elsewhere that word is an
 /// unknown flag. What becomes of the file changes nothing of the run but its status.
-pub fn run_written<M, P, I: Port, O: Port, E: Port, F: JournalFile>(
+pub fn run_written<M, P, F, I: Port, O: Port, E: Port, J: JournalFile>(
     alloc: Global,
-    mut desk: Desk<M, P, I, O, E>,
+    mut desk: Desk<M, P, F, I, O, E>,
     words: &[Text],
     turns: u64,
-    file: &mut F,
+    file: &mut J,
 ) -> Written<I, O, E>
 where
     M: Maker + Drop,
     P: Poller + Drop,
-    requires free { (p : Spot) → ⟦<Desk<M, P, I, O, E> as World>⟧.held desk p ≡ Free }
+    F: Spare,
+    requires free { (p : Spot) → ⟦<Desk<M, P, F, I, O, E> as World>⟧.held desk p ≡ Free }
     requires untouched { desk.log.acted ≡ false }
     ensures asked { is_asked result.saving ≡ asks_for_journal words.now }
     ensures unasked { asks_for_journal words.now ≡ false → file.new ≡ file.old }
-    ensures saved { result.saving ≡ savings.Saved → TookText (F.took file.old) (F.took file.new) (without_last_note result.shipped.kept.journal.acts) }
-    ensures finished { result.saving ≡ savings.Saved → F.finished file.new ≡ true }
-    ensures unsaved { result.saving ≡ savings.Failed → Risen (F.faults file.old) (F.faults file.new) }
+    ensures saved { result.saving ≡ savings.Saved → TookText (J.took file.old) (J.took file.new) (without_last_note result.shipped.kept.journal.acts) }
+    ensures finished { result.saving ≡ savings.Saved → J.finished file.new ≡ true }
+    ensures unsaved { result.saving ≡ savings.Failed → Risen (J.faults file.old) (J.faults file.new) }
     ensures status { result.status ≡ status_with result.shipped.status result.saving }
     ensures run_status { result.shipped.status ≡ exit_code result.shipped.outcome }
-    ensures headline { (before : History) → told_before (asks_for_journal words.now) (⟦<Desk<M, P, I, O, E> as World>⟧.told desk) ≡ Some before → Leaves (task (words_of_run words.now)) turns before (Some (history_of result.shipped.kept)) result.shipped.outcome }
+    ensures headline { (before : History) → told_before (asks_for_journal words.now) (⟦<Desk<M, P, F, I, O, E> as World>⟧.told desk) ≡ Some before → Leaves (task (words_of_run words.now)) turns before (Some (history_of result.shipped.kept)) result.shipped.outcome }
     ensures answers { Answers (task (words_of_run words.now)) result.shipped.outcome }
-    ensures complete { let w = ⟦<Desk<M, P, I, O, E> as World>⟧ in CompletesTask (task (words_of_run words.now)) turns (w.faults desk) result.shipped.counts.faults (w.waits desk) result.shipped.counts.waits (w.stops desk) result.shipped.counts.stops result.shipped.outcome }
-    ensures failed { is_failure result.shipped.outcome ≡ true → Risen (⟦<Desk<M, P, I, O, E> as World>⟧.faults desk) result.shipped.counts.faults }
-    ensures stopped { let w = ⟦<Desk<M, P, I, O, E> as World>⟧ in StopCause turns (w.waits desk) result.shipped.counts.waits (w.stops desk) result.shipped.counts.stops result.shipped.outcome }
+    ensures complete { let w = ⟦<Desk<M, P, F, I, O, E> as World>⟧ in CompletesTask (task (words_of_run words.now)) turns (w.faults desk) result.shipped.counts.faults (w.waits desk) result.shipped.counts.waits (w.stops desk) result.shipped.counts.stops result.shipped.outcome }
+    ensures failed { is_failure result.shipped.outcome ≡ true → Risen (⟦<Desk<M, P, F, I, O, E> as World>⟧.faults desk) result.shipped.counts.faults }
+    ensures stopped { let w = ⟦<Desk<M, P, F, I, O, E> as World>⟧ in StopCause turns (w.waits desk) result.shipped.counts.waits (w.stops desk) result.shipped.counts.stops result.shipped.outcome }
 {
     let Some((name, words)) = journal_flag(words) else {
         return with_saving(run(alloc, desk, words, turns), Saving::NotAsked);
@@ -82,7 +83,7 @@ where
 }
 
 /// The name of the journal's file and the words behind it, where the first word is the flag.
-fn journal_flag(words: &[Text]) -> Option<(&[u8], &[Text])>
+pub(crate) fn journal_flag(words: &[Text]) -> Option<(&[u8], &[Text])>
     ensures { MatchOption result ((asks_for_journal words.now ≡ false) × (words_of_run words.now ≡ words.now)) (λ found. (asks_for_journal words.now ≡ true) × (words_of_run words.now ≡ found.1.now)) }
 {
     let [first, others @ ..] = words else {
@@ -95,12 +96,12 @@ fn journal_flag(words: &[Text]) -> Option<(&[u8], &[Text])>
 }
 
 /// Writes what was done to the file, where that was made.
-fn save<F: JournalFile>(alloc: Global, journal: &Journal, file: &mut F, made: bool) -> Saving
+fn save<J: JournalFile>(alloc: Global, journal: &Journal, file: &mut J, made: bool) -> Saving
     ensures asked { is_asked result ≡ true }
     ensures unmade { OnFalse made (file.new ≡ file.old) }
-    ensures saved { result ≡ savings.Saved → TookText (F.took file.old) (F.took file.new) (without_last_note journal.now.acts) }
-    ensures finished { result ≡ savings.Saved → F.finished file.new ≡ true }
-    ensures unsaved { OnTrue made (result ≡ savings.Failed → Risen (F.faults file.old) (F.faults file.new)) }
+    ensures saved { result ≡ savings.Saved → TookText (J.took file.old) (J.took file.new) (without_last_note journal.now.acts) }
+    ensures finished { result ≡ savings.Saved → J.finished file.new ≡ true }
+    ensures unsaved { OnTrue made (result ≡ savings.Failed → Risen (J.faults file.old) (J.faults file.new)) }
 {
     if !made {
         return Saving::Failed;

@@ -15,7 +15,6 @@ OnPort P (makings.Later port) = P port
 OnPort P makings.Failed = Unit {0}
 OnPort P makings.Memory = Unit {0}
 
--- what is said of a port that came with its peer
 abbrev pub OnPeer : {T : Type 0} → (T → Type 0) → MadePeer T → Type 0
 OnPeer P (peers.Came port peer) = P port
 OnPeer P peers.NoPeer = Unit {0}

@@ -36,7 +36,6 @@ connection_of (Ok None) false = connections.UnderWay
 connection_of (Ok (Some error)) known = connections.Broken
 connection_of (Err error) known = connections.Broken
 
--- what a settling answers by how a connection stands
 abbrev pub settling_of : Connection → Settled
 settling_of connections.UnderWay = settles.NotYet
 settling_of connections.Standing = settles.Ready

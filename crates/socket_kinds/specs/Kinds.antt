@@ -12,7 +12,6 @@ hint_of (sockets.Stream socket) = None
 hint_of (sockets.Datagrams socket) = Some (datagram_hint socket)
 hint_of (sockets.Door door) = Some (door_hint door)
 
--- the socket is a door
 abbrev pub is_door : AnySocket → Bool
 is_door (sockets.Stream socket) = false
 is_door (sockets.Datagrams socket) = false
@@ -24,7 +23,6 @@ pub data Sort : Type 0 where
   Packets : Sort
   Listening : Sort
 
--- what a socket is: a connection, datagrams or a door
 abbrev pub sort_of : AnySocket → Sort
 sort_of (sockets.Stream socket) = Connected
 sort_of (sockets.Datagrams socket) = Packets

@@ -6,7 +6,7 @@ ghost use Rattle.socket_kinds.specs.Kinds.{is_door, has_left_off, hint_of};
 
 use crate::any_socket::AnySocket;
 use crate::datagram::DatagramSocket;
-use crate::door::{Arrival, Door, Listener};
+use crate::door::{Door, Listener, Search};
 use crate::peers::peer_of;
 use crate::stream::{Stream, StreamSocket};
 use mio::Registry;
@@ -54,9 +54,9 @@ fn accept_at(
     }
     let nodelay = door.nodelay;
     match door.accept_stream() {
-        Arrival::Came(stream, peer) => stand(registry, stream, peer, nodelay, key),
-        Arrival::Aborted | Arrival::Nobody => MadePeer::NoPeer,
-        Arrival::Failed => MadePeer::Failed,
+        Search::Came(stream, peer) => stand(registry, stream, peer, nodelay, key),
+        Search::Nobody(_) | Search::LeftOff => MadePeer::NoPeer,
+        Search::Failed => MadePeer::Failed,
     }
 }
 

@@ -1,10 +1,10 @@
 // Doors: sockets that listen for peers.
-ghost use Rattle.std.specs.Prelude.{◌≡◌, true, false, Some, IsTrue};
+ghost use Rattle.std.specs.Prelude.{◌≡◌, true, false, Some};
 ghost use Rattle.port_trait.specs.declared.answers.Settled.TheVariants as settles;
 ghost use Rattle.port_trait.specs.declared.answers.Got.TheVariants as reads;
 ghost use Rattle.port_trait.specs.declared.answers.Took.TheVariants as writes;
 ghost use Rattle.port_trait.specs.declared.answers.Shutting.TheVariants as shuts;
-ghost use Rattle.socket_kinds.specs.Doors.{door_hint, IsDeclined, IsNobody, IsOne};
+ghost use Rattle.socket_kinds.specs.Doors.{door_hint, is_left_off, IsDeclined, IsNobody, IsNobodyFound};
 
 use crate::enrolled::EnrolledUdp;
 use crate::peers::peer_of;
@@ -27,27 +27,41 @@ pub enum Listener {
     Udp(EnrolledUdp),
 }
 
-/// What an accepting came to.
+/// What one accepting came to.
 #[derive(Drop)]
 pub(crate) enum Arrival {
     Came(Stream, Peer),
     /// The connection was aborted before it was accepted.
     Aborted,
-    Nobody,
+    /// No connection waits, by the system's word.
+    Nobody(Error),
+    Failed,
+}
+
+/// What an accepting that passes over aborted connections came to.
+#[derive(Drop)]
+pub(crate) enum Search {
+    Came(Stream, Peer),
+    /// No connection waits, by the system's word.
+    Nobody(Error),
+    /// Connections may wait behind all those that were aborted.
+    LeftOff,
     Failed,
 }
 
 impl Listener {
     /// Accepts once. A socket of datagrams has no connections.
-    fn accept_one(&self) -> Arrival {
+    fn accept_one(&self) -> Arrival
+        ensures { IsNobody result }
+    {
         match self {
             Listener::Tcp(listener) => match listener.accept() {
                 Ok((stream, addr)) => Arrival::Came(Stream::Tcp(stream), peer_of(addr)),
-                Err(error) => declined(&error),
+                Err(error) => declined(error),
             },
             Listener::Unix(listener) => match listener.accept() {
                 Ok((stream, _)) => Arrival::Came(Stream::Unix(stream), Peer::Local),
-                Err(error) => declined(&error),
+                Err(error) => declined(error),
             },
             Listener::Udp(_) => Arrival::Failed,
         }
@@ -55,11 +69,12 @@ impl Listener {
 }
 
 /// Why the system gave no connection (accept(2), `EAGAIN` and `ECONNABORTED`).
-fn declined(error: &Error) -> Arrival
-    ensures { IsDeclined error.now result }
+fn declined(error: Error) -> Arrival
+    ensures because { IsDeclined error result }
+    ensures nobody { IsNobody result }
 {
     if error.kind() == ErrorKind::WouldBlock {
-        return Arrival::Nobody;
+        return Arrival::Nobody(error);
     }
     if error.kind() == ErrorKind::ConnectionAborted {
         return Arrival::Aborted;
@@ -98,21 +113,21 @@ impl Door {
 
     /// Accepts a connection, and passes over those that were aborted. After 64 of these it leaves off, and hints
     /// that there may be more.
-    pub(crate) fn accept_stream(&mut self) -> Arrival
-        ensures one { IsOne result }
-        ensures left_off { IsTrue self.new → IsNobody result }
+    pub(crate) fn accept_stream(&mut self) -> Search
+        ensures nobody { IsNobodyFound result }
+        ensures left_off { self.new ≡ is_left_off result }
     {
         self.cut_short = false;
         for _ in 0..MOST_ABORTED {
             match self.listener.accept_one() {
-                Arrival::Came(stream, peer) => return Arrival::Came(stream, peer),
+                Arrival::Came(stream, peer) => return Search::Came(stream, peer),
                 Arrival::Aborted => {}
-                Arrival::Nobody => return Arrival::Nobody,
-                Arrival::Failed => return Arrival::Failed,
+                Arrival::Nobody(error) => return Search::Nobody(error),
+                Arrival::Failed => return Search::Failed,
             }
         }
         self.cut_short = true;
-        Arrival::Nobody
+        Search::LeftOff
     }
 }
 

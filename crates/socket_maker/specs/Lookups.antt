@@ -7,11 +7,9 @@ use Rattle.std.specs.Net.Socket.{socket_ip}
 use Rattle.relay_model.specs.declared.commands.Family.{Family}
 use Rattle.relay_model.specs.declared.commands.Family.TheVariants as families
 
--- an IPv4 address
 abbrev pub has_ipv4 : SocketAddr → Bool
 has_ipv4 addr = is_ipv4 (socket_ip addr)
 
--- an IPv6 address
 abbrev pub has_ipv6 : SocketAddr → Bool
 has_ipv6 addr = is_ipv6 (socket_ip addr)
 

@@ -1,13 +1,15 @@
 -- What contracts see of the maker of sockets.
 use Rattle.std.specs.Prelude.{ℕ, Bool, Option, if◌then◌else◌}
 use Rattle.relay_model.specs.declared.acts.Peer.{Peer}
+use Rattle.port_trait.specs.declared.makers.AskedPlace.{AskedPlace}
 use Rattle.socket_ports.specs.Sockets.{risen}
 
--- its counts, and the peer that it accepted last
+-- its counts, the peer that it accepted last, and what it was asked for last
 pub record MakerState : Type 0 where
   pub faults : ℕ
   pub stalls : ℕ
   pub came : Option Peer
+  pub asked : Option AskedPlace
 
 -- one more where this has happened
 abbrev pub risen_if : Bool → ℕ → ℕ

@@ -8,4 +8,4 @@ mod removal;
 
 pub use maker::SocketMaker;
 pub use making::{listen_socket, make_socket};
-pub use removal::Removal;
+pub use removal::{Entries, Removal};

@@ -2,6 +2,7 @@
 ghost use Rattle.std.specs.Prelude.{◌≡◌, true, false, None, Some, IfSome, is_some};
 ghost use Rattle.port_trait.specs.Counting.{Counted};
 ghost use Rattle.port_trait.specs.Made.{making_failed, making_stalled, IsAtOnce, peer_failed, peer_stalled, came_after};
+ghost use Rattle.port_trait.specs.declared.makers.Fitting.TheVariants as fittings;
 ghost use Rattle.port_trait.specs.declared.makers.Making.TheVariants as makings;
 ghost use Rattle.socket_maker.specs.Makers.{risen_if};
 ghost use Rattle.socket_ports.specs.Sockets.{risen};
@@ -13,10 +14,10 @@ ghost use Rattle.socket_ports.specs.Accepting.{IsFresh};
 ghost use Rattle.socket_maker.specs.Makings.{opened_sort, listens, port_sort};
 
 use crate::making::{listen_socket, make_socket};
-use crate::removal::Removal;
+use crate::removal::{Entries, Removal};
 use mio::Registry;
 use mio_poller::MioPoller;
-use port_trait::{MadePeer, Maker, Making};
+use port_trait::{AskedPlace, Fitting, MadePeer, Maker, Making};
 use relay_model::{Peer, Place, Single};
 use socket_kinds::AnySocket;
 use socket_ports::SocketPort;
@@ -29,42 +30,46 @@ use std::time::Clock;
 
 /// Makes sockets that a poller waits for.
 #[derive(Drop)]
-pub struct SocketMaker<R> {
+pub struct SocketMaker<R: Files> {
     rt: R,
     alloc: Global,
     registry: Arc<Registry, Global>,
+    entries: Entries<R>,
     faults: u64,
     stalls: u64,
     came: Option<Peer>,
+    asked: Option<AskedPlace>,
 }
 
-impl<R> Model for SocketMaker<R> {
+impl<R: Files> Model for SocketMaker<R> {
     ghost use Rattle.socket_maker.specs.Makers.{MakerState};
 
     ghost Value = { MakerState };
 
-    ghost view = { λ maker. record { faults = maker.faults; stalls = maker.stalls; came = maker.came } };
+    ghost view = { λ maker. record { faults = maker.faults; stalls = maker.stalls; came = maker.came; asked = maker.asked } };
 }
 
 impl<R: Net + Clock + Files + Copy + Drop> SocketMaker<R> {
     /// Its sockets are registered with this poller. Never `Later`.
     pub fn on(rt: R, alloc: Global, poller: &MioPoller<R>) -> Making<SocketMaker<R>>
         ensures at_once { IsAtOnce result }
-        ensures fresh { OnPort (λ maker. maker ≡ record { faults = 0; stalls = 0; came = None }) result }
+        ensures fresh { OnPort (λ maker. maker ≡ record { faults = 0; stalls = 0; came = None; asked = None }) result }
     {
         let Ok(registry) = poller.registry().try_clone() else {
             return Making::Failed;
         };
-        match Arc::new(alloc, registry) {
-            Ok(registry) => Making::Made(SocketMaker {
+        match (Arc::new(alloc, registry), Entries::new(rt, alloc)) {
+            (Ok(registry), Ok(entries)) => Making::Made(SocketMaker {
                 rt,
                 alloc,
                 registry,
+                entries,
                 faults: 0,
                 stalls: 0,
                 came: None,
+                asked: None,
             }),
-            Err(_) => Making::Memory,
+            _ => Making::Memory,
         }
     }
 
@@ -89,6 +94,7 @@ impl<R: Net + Clock + Files + Copy + Drop> SocketMaker<R> {
         ensures counted_fault { Counted (making_failed making.now) self.old.faults self.new.faults }
         ensures counted_stall { Counted (making_stalled making.now) self.old.stalls self.new.stalls }
         ensures came { self.new.came ≡ self.old.came }
+        ensures asked { self.new.asked ≡ self.old.asked }
     {
         match making {
             Making::Failed => self.count_fault(),
@@ -99,7 +105,7 @@ impl<R: Net + Clock + Files + Copy + Drop> SocketMaker<R> {
 }
 
 impl<R: Net + Clock + Files + Copy + Drop> Maker for SocketMaker<R> {
-    type Made = SocketPort<AnySocket, Option<Removal<R>>>;
+    type Made = SocketPort<AnySocket, Option<Removal>>;
 
     ghost faults = { λ maker. maker.faults };
 
@@ -107,53 +113,90 @@ impl<R: Net + Clock + Files + Copy + Drop> Maker for SocketMaker<R> {
 
     ghost came = { λ maker. maker.came };
 
+    ghost asked = { λ maker. maker.asked };
+
     fn make(
         &mut self,
         key: usize,
-        _place: Place,
+        place: Place,
         single: &Single,
-        _behind: Option<Peer>,
-    ) -> Making<SocketPort<AnySocket, Option<Removal<R>>>>
+        behind: Option<Peer>,
+    ) -> Making<SocketPort<AnySocket, Option<Removal>>>
         ensures fresh { OnPort IsFresh result }
         ensures sort { IfSome (port_sort result) (λ sort. opened_sort single.now.target ≡ Some sort) }
         ensures other { opened_sort single.now.target ≡ None → result ≡ makings.Failed }
+        ensures asked { self.new.asked ≡ Some (record { place = place; behind = behind }) }
         ensures came { self.new.came ≡ self.old.came }
         ensures faults { Counted (making_failed result) self.old.faults self.new.faults }
         ensures stalls { Counted (making_stalled result) self.old.stalls self.new.stalls }
     {
-        let making = make_socket(self.rt, self.alloc, &self.registry, key, single);
+        self.asked = Some(AskedPlace { place, behind });
+        self.entries.remove_left();
+        let making = make_socket(
+            self.rt,
+            self.alloc,
+            &self.registry,
+            &self.entries,
+            key,
+            single,
+        );
         self.count_making(&making);
         making
+    }
+
+    fn wants_spare(&self, _single: &Single) -> bool
+        ensures { result ≡ false }
+    {
+        false
+    }
+
+    /// No socket is a spare port.
+    fn fit(&mut self, place: Place, _single: &Single, behind: Option<Peer>) -> Fitting
+        ensures memory { result ≡ fittings.Memory }
+        ensures kept { self.new ≡ record self.old { asked = Some (record { place = place; behind = behind }) } }
+    {
+        self.asked = Some(AskedPlace { place, behind });
+        Fitting::Memory
     }
 
     fn listen(
         &mut self,
         key: usize,
         single: &Single,
-    ) -> Making<SocketPort<AnySocket, Option<Removal<R>>>>
+    ) -> Making<SocketPort<AnySocket, Option<Removal>>>
         ensures fresh { OnPort IsFresh result }
         ensures at_once { IsAtOnce result }
         ensures sort { IfSome (port_sort result) (λ sort. sort ≡ Listening) }
         ensures other { listens single.now.target ≡ false → result ≡ makings.Failed }
+        ensures asked { self.new.asked ≡ self.old.asked }
         ensures came { self.new.came ≡ self.old.came }
         ensures faults { Counted (making_failed result) self.old.faults self.new.faults }
         ensures stalls { Counted (making_stalled result) self.old.stalls self.new.stalls }
     {
-        let making = listen_socket(self.rt, self.alloc, &self.registry, key, single);
+        self.entries.remove_left();
+        let making = listen_socket(
+            self.rt,
+            self.alloc,
+            &self.registry,
+            &self.entries,
+            key,
+            single,
+        );
         self.count_making(&making);
         making
     }
 
     fn accept(
         &mut self,
-        door: &mut SocketPort<AnySocket, Option<Removal<R>>>,
+        door: &mut SocketPort<AnySocket, Option<Removal>>,
         key: usize,
-    ) -> MadePeer<SocketPort<AnySocket, Option<Removal<R>>>>
+    ) -> MadePeer<SocketPort<AnySocket, Option<Removal>>>
         ensures fresh { OnPeer IsFresh result }
         ensures sort { OnPeer (λ port. is_door port.socket ≡ false) result }
         ensures no_door { is_door door.old.socket ≡ false → result ≡ peers.Failed }
         ensures left_off { has_left_off door.new.socket ≡ true → result ≡ peers.NoPeer }
         ensures hinting { StaysHinting (is_some (hint_of door.old.socket)) (is_some (hint_of door.new.socket)) (hint_of door.new.socket) }
+        ensures asked { self.new.asked ≡ self.old.asked }
         ensures came { self.new.came ≡ came_after self.old.came result }
         ensures faults { Counted (peer_failed result) self.old.faults self.new.faults }
         ensures stalls { Counted (peer_stalled result) self.old.stalls self.new.stalls }

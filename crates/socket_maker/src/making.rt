@@ -8,7 +8,7 @@ ghost use Rattle.socket_maker.specs.Makings.{opened_sort, listens, socket_sort, 
 ghost use Rattle.socket_kinds.specs.Kinds.{Connected, Packets, Listening};
 
 use crate::lookup::{door_address, local_address, look_up};
-use crate::removal::Removal;
+use crate::removal::{Entries, Removal};
 use mio::net::{TcpListener, TcpStream, UnixListener, UnixStream};
 use mio::{Interest, Registry, Token};
 use port_trait::{Making, Settled};
@@ -24,16 +24,17 @@ use std::str;
 use std::sync::Arc;
 
 /// Opens the socket of an address that connects: TCP, UDP, and a Unix socket by `UNIX-CONNECT` or `GOPEN`. The
-/// registry reports it under `key`. A TCP connection that doesn't stand yet is `Later`. It answers `Failed` where the
+/// registry reports it under `key`, and its entry goes by `entries`. A TCP connection that doesn't stand yet is `Later`. It answers `Failed` where the
 /// address is of another kind, where a text isn't UTF-8, and where the system refuses. It may wait for the system's
 /// resolver.
 pub fn make_socket<R>(
     rt: R,
     alloc: Global,
     registry: &Arc<Registry, Global>,
+    entries: &Entries<R>,
     key: usize,
     single: &Single,
-) -> Making<SocketPort<AnySocket, Option<Removal<R>>>>
+) -> Making<SocketPort<AnySocket, Option<Removal>>>
 where
     R: Net + Files + Copy + Drop,
     ensures fresh { OnPort IsFresh result }
@@ -51,21 +52,23 @@ where
             None => Making::Failed,
         },
         Target::UnixConnect(name) | Target::GenericOpen(name) => {
-            connect_unix(rt, alloc, registry, key, name, options)
+            connect_unix(rt, alloc, registry, entries, key, name, options)
         }
         _ => Making::Failed,
     }
 }
 
-/// Listens at an address: TCP, UDP or a Unix socket. The registry reports the door under `key`. It answers `Failed`
+/// Listens at an address: TCP, UDP or a Unix socket. The registry reports the door under `key`, and its entry goes by
+/// `entries`. It answers `Failed`
 /// as `make_socket` does, and never `Later`.
 pub fn listen_socket<R>(
     rt: R,
     alloc: Global,
     registry: &Arc<Registry, Global>,
+    entries: &Entries<R>,
     key: usize,
     single: &Single,
-) -> Making<SocketPort<AnySocket, Option<Removal<R>>>>
+) -> Making<SocketPort<AnySocket, Option<Removal>>>
 where
     R: Net + Files + Copy + Drop,
     ensures fresh { OnPort IsFresh result }
@@ -83,15 +86,13 @@ where
             Some(addr) => nameless(listen_udp(&rt, registry, key, addr)),
             None => Making::Failed,
         },
-        Target::UnixListen(name) => listen_unix(rt, alloc, registry, key, name, options),
+        Target::UnixListen(name) => listen_unix(rt, alloc, registry, entries, key, name, options),
         _ => Making::Failed,
     }
 }
 
 /// The port of a socket that has no entry in the file system.
-fn nameless<R: Files + Drop>(
-    making: Making<AnySocket>,
-) -> Making<SocketPort<AnySocket, Option<Removal<R>>>>
+fn nameless(making: Making<AnySocket>) -> Making<SocketPort<AnySocket, Option<Removal>>>
     ensures fresh { OnPort IsFresh result }
     ensures sort { port_sort result ≡ socket_sort making }
     ensures at_once { IsAtOnce making → IsAtOnce result }
@@ -176,10 +177,11 @@ fn connect_unix<R>(
     rt: R,
     alloc: Global,
     registry: &Arc<Registry, Global>,
+    entries: &Entries<R>,
     key: usize,
     name: &Text,
     options: &Options,
-) -> Making<SocketPort<AnySocket, Option<Removal<R>>>>
+) -> Making<SocketPort<AnySocket, Option<Removal>>>
 where
     R: Net + Files + Copy + Drop,
     ensures fresh { OnPort IsFresh result }
@@ -198,7 +200,9 @@ where
     let Ok(stream) = UnixStream::connect(&rt, path) else {
         return Making::Failed;
     };
-    let removal = Removal::only_if(options.unlink_close, rt, entry);
+    let Ok(removal) = entries.removal(options.unlink_close, entry) else {
+        return Making::Memory;
+    };
     let mut stream = Stream::Unix(stream);
     if !stream.enroll(registry, key) {
         return Making::Failed;
@@ -256,10 +260,11 @@ fn listen_unix<R>(
     rt: R,
     alloc: Global,
     registry: &Arc<Registry, Global>,
+    entries: &Entries<R>,
     key: usize,
     name: &Text,
     options: &Options,
-) -> Making<SocketPort<AnySocket, Option<Removal<R>>>>
+) -> Making<SocketPort<AnySocket, Option<Removal>>>
 where
     R: Net + Files + Copy + Drop,
     ensures fresh { OnPort IsFresh result }
@@ -278,7 +283,9 @@ where
     let Ok(mut listener) = UnixListener::bind(&rt, path) else {
         return Making::Failed;
     };
-    let removal = Removal::only_if(options.unlink_close, rt, entry);
+    let Ok(removal) = entries.removal(options.unlink_close, entry) else {
+        return Making::Memory;
+    };
     if registry
         .register(&mut listener, Token(key), Interest::READABLE)
         .is_err()

@@ -3,7 +3,6 @@ use Rattle.std.specs.Prelude.{ℕ, ◌+◌, ◌-◌, ◌^◌, min, Bool, false, 
 use Rattle.port_trait.specs.Counting.{Event, Fault, End, Empty, Stall}
 use Rattle.port_trait.specs.declared.counts.Counts.{Counts}
 
--- counts that stand at their beginning
 abbrev pub no_counts : Counts
 no_counts = record { faults = 0; ends = 0; empties = 0; stalls = 0 }
 
@@ -26,6 +25,5 @@ pub record PortState (S : Type 0) : Type 0 where
   pub begun : Bool
   pub ended : Bool
 
--- a port that was just made over a socket
 abbrev pub fresh_port : {S : Type 0} → S → PortState S
 fresh_port socket = record { socket = socket; counts = no_counts; begun = false; ended = false }

@@ -1,8 +1,11 @@
 // What stands behind a ring: a file or a child.
 use crate::either::{EitherSink, EitherSource};
-use crate::spares::Spares;
+use crate::kit::{Kit, Shelf};
+use crate::late::{LateSink, LateSource};
+use crate::port::StreamPort;
+use crate::rig::StreamRig;
 use child_ports::ChildInput;
-use file_ports::{FileSink, FileSource};
+use file_ports::{FilePort, FileSink, FileSource, Removal};
 use port_trait::StdSource;
 use std::process::{OpenProcess, Processes};
 
@@ -18,5 +21,14 @@ pub type WriteEnd<R> = EitherSink<
     ChildInput<<<R as Processes>::Started as OpenProcess>::Stdin>,
 >;
 
-/// The rings of a maker.
-pub type StreamSpares<R> = Spares<ReadEnd<R>, WriteEnd<R>, R>;
+/// What was opened for a port.
+pub type StreamKit<R> = Kit<ReadEnd<R>, WriteEnd<R>, Removal<R>, <R as Processes>::Started>;
+
+/// Where it is laid.
+pub type StreamShelf<R> = Shelf<StreamKit<R>>;
+
+/// The port that finds it there.
+pub type SpareStream<R> = StreamPort<
+    FilePort<LateSource<ReadEnd<R>, R>, LateSink<WriteEnd<R>, R>, R, ()>,
+    StreamRig<ReadEnd<R>, WriteEnd<R>, R, Removal<R>, <R as Processes>::Started>,
+>;

@@ -1,11 +1,13 @@
 // Sources and sinks that are handed over after the threads that serve them were made. The kit proves no thread that is
 // made in a method of a trait, and a maker opens its files and children in one.
-ghost use Rattle.std.specs.Prelude.{◌≡◌};
+ghost use Rattle.std.specs.Prelude.{◌≡◌, true};
+ghost use Rattle.port_trait.specs.Counting.{Counted};
 
 use crossbeam_queue::ArrayQueue;
 use port_trait::{Sink, SinkTook, Source, SourceGot};
 use std::alloc::Global;
 use std::sync::{Arc, Wait};
+use told_sink::Failures;
 
 /// A source that is taken from its slot at the first read. With none there a read is a fault.
 #[derive(Drop)]
@@ -65,23 +67,30 @@ impl<S: Source + Drop, R: Wait> Source for LateSource<S, R> {
     }
 }
 
-/// A sink that is taken from its slot at the first call. With none there each call is a fault.
+/// A sink that is taken from its slot at the first call. With none there each call is a fault. Faults are told beside it,
+/// since one that comes after the last act of a run is in no history.
 #[derive(Drop)]
 pub struct LateSink<K, R> {
     rt: R,
     slot: Arc<ArrayQueue<K>, Global>,
     sink: Option<K>,
+    failures: Failures,
     faults: u64,
     finished: bool,
 }
 
 impl<K: Sink + Drop, R: Wait> LateSink<K, R> {
-    /// The sink that will stand in the slot.
-    pub(crate) fn new(rt: R, slot: Arc<ArrayQueue<K>, Global>) -> LateSink<K, R> {
+    /// The sink that will stand in the slot, whose failures are told there.
+    pub(crate) fn new(
+        rt: R,
+        slot: Arc<ArrayQueue<K>, Global>,
+        failures: Failures,
+    ) -> LateSink<K, R> {
         LateSink {
             rt,
             slot,
             sink: None,
+            failures,
             faults: 0,
             finished: false,
         }
@@ -94,6 +103,15 @@ impl<K: Sink + Drop, R: Wait> LateSink<K, R> {
         if self.sink.is_none() {
             self.sink = self.slot.pop(&self.rt);
         }
+    }
+
+    /// Counts a fault, and tells it.
+    fn fail(&mut self)
+        ensures faults { Counted true self.old.faults self.new.faults }
+        ensures finished { self.new.finished ≡ self.old.finished }
+    {
+        self.faults = self.faults.saturating_add(1);
+        self.failures.note();
     }
 }
 
@@ -112,7 +130,7 @@ impl<K: Sink + Drop, R: Wait> Sink for LateSink<K, R> {
         match took {
             SinkTook::Took(count) => SinkTook::Took(count),
             SinkTook::Failed => {
-                self.faults = self.faults.saturating_add(1);
+                self.fail();
                 SinkTook::Failed
             }
         }
@@ -126,7 +144,7 @@ impl<K: Sink + Drop, R: Wait> Sink for LateSink<K, R> {
         };
         self.finished = finished;
         if !finished {
-            self.faults = self.faults.saturating_add(1);
+            self.fail();
         }
         finished
     }

@@ -1,15 +1,19 @@
-// The streams of files and of children behind rings. A ring's thread is made before it is known what the ring serves,
-// so it finds its source or its sink in a slot.
+// The streams of files and of children behind rings. The threads of a port's rings are made before it is known what the
+// port serves, so they find their source and their sink in slots, which are filled when the port is fitted out.
 #![tactic(auto)]
 
 mod either;
 mod ends;
+mod kit;
 mod late;
-mod spares;
-mod streams;
+mod port;
+mod rig;
+mod spare;
 
 pub use either::{EitherSink, EitherSource};
-pub use ends::{ReadEnd, StreamSpares, WriteEnd};
+pub use ends::{ReadEnd, SpareStream, StreamKit, StreamShelf, WriteEnd};
+pub use kit::{Kit, Shelf};
 pub use late::{LateSink, LateSource};
-pub use spares::{SpareReader, SpareWriter, Spares};
-pub use streams::Streams;
+pub use port::{Halves, StreamPort};
+pub use rig::{Rig, Slots, StreamRig};
+pub use spare::spare_port;

@@ -7,11 +7,9 @@ use Rattle.key_map.specs.Entries.{Keyed}
 use Rattle.timer_set.specs.Order.{timer_at}
 use Rattle.timer_set.specs.Heaps.{IsHeap}
 
--- the slot of a timer
 abbrev pub slot_of : Timer → ℕ
 slot_of timer = timer.slot
 
--- the moment of a timer
 abbrev pub at_of : Timer → ℕ
 at_of timer = timer.at
 

@@ -9,7 +9,6 @@ pub record Timers : Type 0 where
   pub moments : FinMap nat_cmp ℕ
   pub room : ℕ
 
--- timers as a value that contracts can compare
 abbrev pub timers_code : Coded Timers
 timers_code =
     code_by (FinMap nat_cmp ℕ × ℕ) (coded× (code coded_ℕ coded_ℕ) coded_ℕ) (λ t. (t.moments, t.room)) (λ p. record { moments = p.0; room = p.1 }) (λ _. refl)

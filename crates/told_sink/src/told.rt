@@ -33,7 +33,8 @@ impl Failures {
         self.seen.load(Ordering::SeqCst)
     }
 
-    fn note(&self) {
+    /// Tells one.
+    pub fn note(&self) {
         self.seen.store(true, Ordering::SeqCst);
     }
 }

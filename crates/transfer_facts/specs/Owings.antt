@@ -35,15 +35,12 @@ left_of (Some most) count = Some (most - count)
 abbrev pub met_at : Config → List Act → Place → Bool
 met_at c past p = is_met (options_of c p).readbytes (options_of c p).escape (got past p)
 
--- the table has whether the input of each place is met
 abbrev pub MetTold : Config → Placed Bool → List Act → Type 0
 MetTold c table past = (p : Place) → placed table p ≡ met_at c past p
 
--- the table has what each direction owes
 abbrev pub DuesTold : Config → Listed → List Act → Type 0
 DuesTold c table past = (s : ℕ) (w : Way) → listed table (due_number s w) ≡ due c w (got past (input c s w))
 
--- what is kept of owings is what the acts say
 pub record OwingsTold (c : Config) (o : Owings) (past : List Act) : Type 0 where
   pub met : MetTold c o.met past
   pub due_told : DuesTold c o.due past

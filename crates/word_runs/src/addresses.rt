@@ -1,8 +1,8 @@
 // Addresses as they are written. An answer for the keyword, with the parameters as parts; one for each option, with its
 // offset, its name and its value as parts. Those of two halves stand behind `reading` and `writing`.
 use addr_grammar::{
-    GrammarFault, RawAddress, RawOption, RawSingle, addresses_are_told, one_address, options_begin,
-    parse_address, print_address,
+    GrammarFault, RawAddress, RawOption, RawSingle, addresses_are_told, one_address, parse_address,
+    print_address,
 };
 use case_rows::{Answered, Answers, Inputs, RowFault};
 use relay_model::Bytes;
@@ -12,7 +12,6 @@ pub(crate) fn ask(alloc: Global, inputs: &mut Inputs<'_>, answers: &mut Answers)
     let text = inputs.bytes(alloc)?;
     addresses_are_told();
     one_address();
-    options_begin();
     match parse_address(alloc, text.as_slice()) {
         Ok(address) => say_address(&address, answers),
         Err(GrammarFault::Memory) => Err(RowFault::NoMemory),

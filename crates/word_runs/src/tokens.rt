@@ -1,7 +1,5 @@
 // The tokens of a text: a byte, `colon`, `comma`, `dual` or `equals`, and where it stands; and bytes as they are written.
-use addr_words::{
-    Token, TokenKind, WordFault, one_fault, spans_cover, tokens_are_told, words_of, write_word,
-};
+use addr_words::{Token, TokenKind, WordFault, spans_cover, tokens_are_told, words_of, write_word};
 use case_rows::{Answered, Answers, Inputs, RowFault};
 use std::alloc::Global;
 
@@ -9,7 +7,6 @@ pub(crate) fn ask(alloc: Global, inputs: &mut Inputs<'_>, answers: &mut Answers)
     let text = inputs.bytes(alloc)?;
     tokens_are_told();
     spans_cover();
-    one_fault();
     match words_of(alloc, text.as_slice()) {
         Ok(words) => say_tokens(words.as_slice(), answers),
         Err(WordFault::Memory) => Err(RowFault::NoMemory),

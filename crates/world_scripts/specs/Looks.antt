@@ -13,7 +13,6 @@ use Rattle.world_scripts.specs.declared.looking.Watch.{Watch}
 use Rattle.world_scripts.specs.declared.looking.Watch.TheVariants as watches
 use Rattle.world_scripts.specs.declared.looking.Looked.{Looked}
 
--- whether two are looked at for the same
 abbrev pub same_watch : Watch → Watch → Bool
 same_watch watches.Read watches.Read = true
 same_watch watches.Read watches.Write = false
@@ -66,7 +65,6 @@ openings_by Both p = record { place = p; watch = watches.Opening ToRead } ∷ re
 openings_by Reading p = record { place = p; watch = watches.Opening ToRead } ∷ []
 openings_by Writing p = record { place = p; watch = watches.Opening ToWrite } ∷ []
 
--- what is looked at while the opening of a place is under way
 abbrev pub openings_at : Place → List Looked
 openings_at p = openings_by p.part p
 

@@ -9,7 +9,6 @@ use Rattle.world_scripts.specs.declared.accepting.Coming.{Coming}
 use Rattle.world_scripts.specs.declared.accepting.Coming.TheVariants as coming
 use Rattle.world_scripts.specs.Lines.{used_up}
 
--- what an item of peers brings
 abbrev pub comes_due : PeerItem → Coming
 comes_due (items.Comes peer) = coming.Comes peer
 comes_due items.Fails = coming.Fault

@@ -19,7 +19,6 @@ HasBytes items.Empty = ⊤
 HasBytes items.End = ⊤
 HasBytes items.Fault = ⊤
 
--- what an item of reads brings
 abbrev pub reading_of : ReadItem → Reading
 reading_of (items.Bytes bytes) = readings.Bytes bytes
 reading_of items.Empty = readings.Empty
@@ -42,7 +41,6 @@ abbrev pub read_given : Option DueRead → ℕ → ℕ → Given
 read_given None now room = given.NotYet
 read_given (Some line) now room = gives line now room
 
--- the bytes given fit the room
 abbrev pub GivenFits : ℕ → Given → Type 0
 GivenFits room (given.Bytes n) = (0 < n) × (n ≤ room)
 GivenFits room given.Empty = ⊤
@@ -84,7 +82,6 @@ rest_of readings.Empty n = readings.Empty
 rest_of readings.End n = readings.End
 rest_of readings.Fault n = readings.Fault
 
--- an item without its first bytes
 abbrev pub line_left : Line DueRead → ℕ → Line DueRead
 line_left line n = record { place = line.place; item = record { at = line.item.at; reading = rest_of line.item.reading n } }
 

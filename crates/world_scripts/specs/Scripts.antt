@@ -14,7 +14,6 @@ use Rattle.world_scripts.specs.Lines.{next_of}
 use Rattle.world_scripts.specs.Looks.{elsewhere, name_of, openings_at}
 use Rattle.world_scripts.specs.Marks.{has_come, least_by, least_of}
 
--- a script without items
 abbrev pub empty_script : Script
 empty_script = record { reads = []; writes = []; opens = []; peers = []; reaps = []; shut_faults = []; stops = []; looked = [] }
 
@@ -23,7 +22,6 @@ abbrev pub opening : Option OpenItem → OpenItem
 opening None = items.Opens
 opening (Some item) = item
 
--- an item whose opening fails
 abbrev pub is_failing : OpenItem → Bool
 is_failing items.Opens = false
 is_failing items.Later = false
@@ -83,7 +81,6 @@ abbrev pub due_by : ℕ → Option ℕ → Bool
 due_by at None = false
 due_by at (Some moment) = nat_le moment at
 
--- what is looked at is ready at this moment
 abbrev pub is_ready : Script → ℕ → Looked → Bool
 is_ready s at entry = due_by at (ready_from s entry)
 

@@ -17,7 +17,6 @@ HasCount (items.Upto most) = 0 < most
 HasCount items.NotYet = ⊤
 HasCount items.Fault = ⊤
 
--- what an item of writes does
 abbrev pub writing_of : WriteItem → Writing
 writing_of (items.Upto most) = writings.Upto most
 writing_of items.NotYet = writings.NotYet
@@ -34,7 +33,6 @@ abbrev pub write_taken : Option DueWrite → ℕ → ℕ → Taken
 write_taken None now count = taken.Upto count
 write_taken (Some line) now count = if nat_lt now line.at then taken.NotYet else takes_due line.writing count
 
--- the bytes taken are no more than were offered
 abbrev pub TakenFits : ℕ → Taken → Type 0
 TakenFits count (taken.Upto n) = (0 < n) × (n ≤ count)
 TakenFits count taken.NotYet = ⊤

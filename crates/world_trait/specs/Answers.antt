@@ -33,32 +33,27 @@ use Rattle.world_trait.specs.declared.answers.NoteAnswer.TheVariants as notes
 use Rattle.world_trait.specs.declared.answers.ReapAnswer.{ReapAnswer}
 use Rattle.world_trait.specs.declared.answers.ReapAnswer.TheVariants as reaps
 
--- the act of a wait and its answer
 abbrev pub wait_act : Option ℕ → Listed → Turned → Option Act
 wait_act until ready (turns.Turned at stop) = Some (Turn until at (copied_list ready) stop)
 wait_act until ready turns.Memory = None
 
--- the act of an opening and its answer
 abbrev pub open_act : Place → OpenAnswer → Option Act
 open_act place opens.Opened = Some (Opened place)
 open_act place opens.Later = Some (OpenLater place)
 open_act place opens.Failed = Some (OpenFailed place)
 open_act place opens.Memory = None
 
--- the act of a listening and its answer
 abbrev pub listen_act : Place → ListenAnswer → Option Act
 listen_act door listens.Listening = Some (Listening door)
 listen_act door listens.Failed = Some (ListenFailed door)
 listen_act door listens.Memory = None
 
--- the act of an accepting and its answer
 abbrev pub accept_act : Place → Place → AcceptAnswer → Option Act
 accept_act door place (accepts.Accepted peer) = Some (Accepted place peer)
 accept_act door place accepts.NoPeer = Some (NoPeer door)
 accept_act door place accepts.Failed = Some (AcceptFailed door)
 accept_act door place accepts.Memory = None
 
--- the act of a read and its answer
 abbrev pub read_act : Place → List ℕ → ReadAnswer → Option Act
 read_act place into (reads.Bytes n) = Some (Read place (take n into))
 read_act place into reads.Empty = Some (ReadEmpty place)
@@ -67,31 +62,26 @@ read_act place into reads.NotYet = Some (ReadNotYet place)
 read_act place into reads.Failed = Some (ReadFault place)
 read_act place into reads.Memory = None
 
--- the act of a write and its answer
 abbrev pub write_act : Place → List ℕ → WriteAnswer → Option Act
 write_act place bytes (writes.Took n) = Some (Wrote place (take n bytes))
 write_act place bytes writes.NotYet = Some (WriteNotYet place)
 write_act place bytes writes.Failed = Some (WriteFault place)
 write_act place bytes writes.Memory = None
 
--- the act of a packet and its answer
 abbrev pub send_act : Place → List ℕ → SendAnswer → Option Act
 send_act place bytes sends.Sent = Some (Wrote place bytes)
 send_act place bytes sends.NotYet = Some (WriteNotYet place)
 send_act place bytes sends.Failed = Some (WriteFault place)
 send_act place bytes sends.Memory = None
 
--- the act of a shut and its answer
 abbrev pub shut_act : Place → Shutting → ShutAnswer → Option Act
 shut_act place how shuts.Done = Some (Shut place how)
 shut_act place how shuts.Failed = Some (ShutFault place how)
 shut_act place how shuts.Memory = None
 
--- the act of a closing
 abbrev pub close_act : Place → Why → Option Act
 close_act place why = Some (Closed place why)
 
--- the act of a note and its answer
 abbrev pub note_act : List ℕ → NoteAnswer → Option Act
 note_act text notes.Noted = Some (Note text)
 note_act text notes.Failed = Some (NoteFault text)
@@ -113,7 +103,6 @@ pub record DidAsking (asking : Asking) (told_old told_new : Option History) (hel
   pub told : told_new ≡ option_map (with_asking act asking) told_old
   pub held : (p : Place) → held_new p ≡ hold_after act p (held_old p)
 
--- the world tells and holds what it did before
 pub record DidNothing (told_old told_new : Option History) (held_old held_new : Place → Hold) : Type 0 where
   pub told : told_new ≡ told_old
   pub held : (p : Place) → held_new p ≡ held_old p
@@ -149,27 +138,23 @@ abbrev pub says_stop : Turned → Bool
 says_stop (turns.Turned at stop) = stop
 says_stop turns.Memory = false
 
--- an opening failed
 abbrev pub is_open_fault : OpenAnswer → Bool
 is_open_fault opens.Opened = false
 is_open_fault opens.Later = false
 is_open_fault opens.Failed = true
 is_open_fault opens.Memory = false
 
--- a listening failed
 abbrev pub is_listen_fault : ListenAnswer → Bool
 is_listen_fault listens.Listening = false
 is_listen_fault listens.Failed = true
 is_listen_fault listens.Memory = false
 
--- an accepting failed
 abbrev pub is_accept_fault : AcceptAnswer → Bool
 is_accept_fault (accepts.Accepted peer) = false
 is_accept_fault accepts.NoPeer = false
 is_accept_fault accepts.Failed = true
 is_accept_fault accepts.Memory = false
 
--- a read failed
 abbrev pub is_read_fault : ReadAnswer → Bool
 is_read_fault (reads.Bytes n) = false
 is_read_fault reads.Empty = false
@@ -178,27 +163,23 @@ is_read_fault reads.NotYet = false
 is_read_fault reads.Failed = true
 is_read_fault reads.Memory = false
 
--- a write failed
 abbrev pub is_write_fault : WriteAnswer → Bool
 is_write_fault (writes.Took n) = false
 is_write_fault writes.NotYet = false
 is_write_fault writes.Failed = true
 is_write_fault writes.Memory = false
 
--- a packet failed
 abbrev pub is_send_fault : SendAnswer → Bool
 is_send_fault sends.Sent = false
 is_send_fault sends.NotYet = false
 is_send_fault sends.Failed = true
 is_send_fault sends.Memory = false
 
--- a shut failed
 abbrev pub is_shut_fault : ShutAnswer → Bool
 is_shut_fault shuts.Done = false
 is_shut_fault shuts.Failed = true
 is_shut_fault shuts.Memory = false
 
--- a note failed
 abbrev pub is_note_fault : NoteAnswer → Bool
 is_note_fault notes.Noted = false
 is_note_fault notes.Failed = true
@@ -232,13 +213,11 @@ pub record TurnCounts (waits waits' stops stops' clock clock' at : ℕ) (stop : 
   pub clock_is : clock' ≡ at
   pub later : clock ≤ at
 
--- a call that is no wait leaves the count of waits and the clock
 pub record NoTurnCounts (waits waits' stops stops' clock clock' : ℕ) : Type 0 where
   pub waits_is : waits' ≡ waits
   pub stops_is : stops ≤ stops'
   pub clock_is : clock' ≡ clock
 
--- how a wait changes the counts and the clock
 abbrev pub WaitCounts : ℕ → ℕ → ℕ → ℕ → ℕ → ℕ → Turned → Type 0
 WaitCounts waits waits' stops stops' clock clock' (turns.Turned at stop) = TurnCounts waits waits' stops stops' clock clock' at stop
 WaitCounts waits waits' stops stops' clock clock' turns.Memory = NoTurnCounts waits waits' stops stops' clock clock'
@@ -258,7 +237,6 @@ abbrev pub wants_turn_memory : Turned → Bool
 wants_turn_memory (turns.Turned at stop) = false
 wants_turn_memory turns.Memory = true
 
--- a read wanted memory
 abbrev pub wants_read_memory : ReadAnswer → Bool
 wants_read_memory (reads.Bytes n) = false
 wants_read_memory reads.Empty = false
@@ -267,26 +245,22 @@ wants_read_memory reads.NotYet = false
 wants_read_memory reads.Failed = false
 wants_read_memory reads.Memory = true
 
--- a write wanted memory
 abbrev pub wants_write_memory : WriteAnswer → Bool
 wants_write_memory (writes.Took n) = false
 wants_write_memory writes.NotYet = false
 wants_write_memory writes.Failed = false
 wants_write_memory writes.Memory = true
 
--- a packet wanted memory
 abbrev pub wants_send_memory : SendAnswer → Bool
 wants_send_memory sends.Sent = false
 wants_send_memory sends.NotYet = false
 wants_send_memory sends.Failed = false
 wants_send_memory sends.Memory = true
 
--- a shut wanted memory
 abbrev pub wants_shut_memory : ShutAnswer → Bool
 wants_shut_memory shuts.Done = false
 wants_shut_memory shuts.Failed = false
 wants_shut_memory shuts.Memory = true
 
--- memory is wanted only by a world that keeps its history
 abbrev pub OnlyWhereTold : Option History → Bool → Type 0
 OnlyWhereTold told wants = wants ≡ true → is_some told ≡ true

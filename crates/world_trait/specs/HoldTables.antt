@@ -12,7 +12,6 @@ pub record HoldTable : Type 0 where
   pub entries : List Held
   pub spare : ℕ
 
--- how a place stands, by its entry
 abbrev pub hold_of : Standing → holding.Hold
 hold_of standings.Settling = holding.Settling
 hold_of standings.Open = holding.Open

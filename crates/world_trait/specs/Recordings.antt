@@ -37,6 +37,5 @@ with_asking act asking history = record { acts = act ∷ history.acts; asked = h
 abbrev pub HasRoom : ℕ → Recorded → Type 0
 HasRoom n recorded = is_some recorded.told ≡ true → n ≤ recorded.room
 
--- there is room for so many askings more, where the history is kept
 abbrev pub HasAskingRoom : ℕ → Recorded → Type 0
 HasAskingRoom n recorded = is_some recorded.told ≡ true → n ≤ recorded.asking_room

@@ -1,5 +1,4 @@
 use Rattle.addr_grammar.proofs.Spelled.{is_spelled, spelled_is_read}
-use Rattle.addr_grammar.proofs.FirstFaults.{read_fault}
 use Rattle.addr_grammar.proofs.parsing.parse_address.Goals as goal
 
 pub returns-clause-spells : goal.returns-clause-spells
@@ -7,6 +6,3 @@ returns-clause-spells c = is_spelled c.args.text.now c.read_address.result c.rea
 
 pub returns-clause-only : goal.returns-clause-only
 returns-clause-only c = spelled_is_read c.args.text.now c.read_address.result c.read_address.ensures
-
-pub returns-clause-fault : goal.returns-clause-fault
-returns-clause-fault c = read_fault c.args.text.now c.read_address.result c.read_address.ensures

@@ -10,9 +10,3 @@ returns-in-Err-clause-value c = sym (v4_none _ (λ octets. c.in-Err.ensures (rec
 
 pub returns-in-Err-clause-spelled : goal.returns-in-Err-clause-spelled
 returns-in-Err-clause-spelled c = λ octets. c.in-Err.ensures (record { octets = octets })
-
-pub returns-in-Ok-clause-only : goal.returns-in-Ok-clause-only
-returns-in-Ok-clause-only c = λ octets h. returns-in-Ok-clause-value c ∙ v4_value _ octets h
-
-pub returns-in-Err-clause-only : goal.returns-in-Err-clause-only
-returns-in-Err-clause-only c = λ octets h. returns-in-Err-clause-value c ∙ v4_value _ octets h

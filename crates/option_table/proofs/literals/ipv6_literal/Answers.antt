@@ -10,9 +10,3 @@ returns-in-Err-clause-value c = sym (v6_none _ (λ segments. c.in-Err.ensures (r
 
 pub returns-in-Err-clause-spelled : goal.returns-in-Err-clause-spelled
 returns-in-Err-clause-spelled c = λ octets h. c.in-Err.ensures (record { segments = h.segments }) h.spelled
-
-pub returns-in-Ok-clause-only : goal.returns-in-Ok-clause-only
-returns-in-Ok-clause-only c = λ octets h. returns-in-Ok-clause-value c ∙ v6_value _ h.segments h.spelled ∙ ap Some (sym h.value)
-
-pub returns-in-Err-clause-only : goal.returns-in-Err-clause-only
-returns-in-Err-clause-only c = λ octets h. returns-in-Err-clause-value c ∙ v6_value _ h.segments h.spelled ∙ ap Some (sym h.value)

@@ -1,5 +1,5 @@
-use Rattle.std.proofs.Common.{refl, ap, sym, ◌∙◌}
-use Rattle.port_desk.proofs.NamingLemmas.{based_held, grown_same, nobody_keyed, place_keyed, place_unkeyed}
+use Rattle.std.proofs.Common.{sym, ◌∙◌}
+use Rattle.port_desk.proofs.NamingLemmas.{place_unkeyed}
 use Rattle.port_desk.proofs.naming.name_key.Goals as goal
 
 pub returns-else-stands_on-clause-named : goal.returns-else-stands_on-clause-named

@@ -2,7 +2,6 @@ use Rattle.std.proofs.Common.{refl, false, None}
 use Rattle.std.proofs.lemmas.Bool.{false≢true}
 use Rattle.relay_model.specs.declared.acts.Act.TheVariants as acts
 use Rattle.session_driver.proofs.Hearing.{heard_as, unreaped}
-use Rattle.session_driver.proofs.Owning.{own_by, at_own, closes_as}
 use Rattle.session_driver.proofs.calls.reap.Goals as goal
 
 pub returns-in-Reaped : goal.returns-in-Reaped
@@ -15,14 +14,11 @@ returns-in-Reaped g c = (
     did = c.in-Reaped.ensures.act;
     heard = λ n past s st. heard_as _ n past s _ _ _ _ c.requires.wish (c.heard.ensures.act c.args.config.now n past s st);
     own = λ n past s st. tt;
-    here = λ n past s st. at_own _ s c.args.place _ (λ p. refl) refl (own_by _ n past s _ _ st c.requires.wish);
-    closes = closes_as _ _ c.args.session.now c.requires.wish refl;
     no_turn = record { turns_same = λ past. refl; stops_same = λ past. refl };
     rose = record { later = c.in-Reaped.ensures.faults; rose = λ e. absurd (false≢true e) };
     blameless = λ e past. refl;
     waitless = record { waits = c.in-Reaped.ensures.waits; stops = c.in-Reaped.ensures.stops; clock = c.in-Reaped.ensures.clock };
     over = λ n past s st e. c.heard.ensures.over c.args.config.now n past s st e;
-    ending = λ n past s st e. c.heard.ensures.ending c.args.config.now n past s st e;
   },
 )
 
@@ -31,7 +27,6 @@ returns-in-NoChild g c = (
   record {
     did = unreaped c.args.place c.reap.result _ _ _ _ c.in-NoChild.is c.reap.ensures.act;
     stands = λ n past s st. (c.heard-in-NoChild.ensures.childless c.args.config.now n past s st refl).0;
-    ending = λ n past s st e. c.heard-in-NoChild.ensures.ending c.args.config.now n past s st e;
     rose = record { later = c.reap.ensures.faults; rose = λ e. absurd (false≢true e) };
     waitless = record { waits = c.reap.ensures.waits; stops = c.reap.ensures.stops; clock = c.reap.ensures.clock };
   },

@@ -1,9 +1,8 @@
-use Rattle.std.proofs.Common.{refl, ap, true, false, length, None, sym, ◌∙◌}
+use Rattle.std.proofs.Common.{refl, ap, true, false, length, None}
 use Rattle.std.proofs.lemmas.Bool.{true≢false}
 use Rattle.relay_model.specs.declared.acts.Act.TheVariants as acts
 use Rattle.relay_core.specs.Conditions.{is_writing}
 use Rattle.session_driver.proofs.Hearing.{heard_as, heard_bytes, fits_as}
-use Rattle.session_driver.proofs.Owning.{own_by, at_own, closes_as}
 use Rattle.session_driver.proofs.calls.send.Goals as goal
 
 pub returns-in-Sent : goal.returns-in-Sent
@@ -16,14 +15,11 @@ returns-in-Sent g c = (
     did = c.in-Sent.ensures.act;
     heard = λ n past s st. heard_bytes _ n past s c.args.place _ _ _ _ c.pending-packet.ensures.front (heard_as _ n past s _ _ _ _ c.requires.wish (c.heard.ensures.act c.args.config.now n past s st));
     own = λ n past s st. tt;
-    here = λ n past s st. at_own _ s c.args.place _ (λ p. refl) refl (own_by _ n past s _ _ st c.requires.wish);
-    closes = closes_as _ _ c.args.session.now c.requires.wish refl;
     no_turn = record { turns_same = λ past. refl; stops_same = λ past. refl };
     rose = c.in-Sent.ensures.cause;
     blameless = λ e past. refl;
     waitless = record { waits = c.in-Sent.ensures.waits; stops = c.in-Sent.ensures.stops; clock = c.in-Sent.ensures.clock };
     over = λ n past s st e. c.heard.ensures.over c.args.config.now n past s st e;
-    ending = λ n past s st e. c.heard.ensures.ending c.args.config.now n past s st e;
   },
 )
 
@@ -37,14 +33,11 @@ returns-in-NotYet g c = (
     did = c.in-NotYet.ensures.act;
     heard = λ n past s st. heard_as _ n past s _ _ _ _ c.requires.wish (c.heard-in-NotYet.ensures.act c.args.config.now n past s st);
     own = λ n past s st. tt;
-    here = λ n past s st. at_own _ s c.args.place _ (λ p. refl) refl (own_by _ n past s _ _ st c.requires.wish);
-    closes = closes_as _ _ c.args.session.now c.requires.wish refl;
     no_turn = record { turns_same = λ past. refl; stops_same = λ past. refl };
     rose = c.in-NotYet.ensures.cause;
     blameless = λ e past. refl;
     waitless = record { waits = c.in-NotYet.ensures.waits; stops = c.in-NotYet.ensures.stops; clock = c.in-NotYet.ensures.clock };
     over = λ n past s st e. c.heard-in-NotYet.ensures.over c.args.config.now n past s st e;
-    ending = λ n past s st e. c.heard-in-NotYet.ensures.ending c.args.config.now n past s st e;
   },
 )
 
@@ -57,14 +50,11 @@ returns-in-Failed g c = (
     did = c.in-Failed.ensures.act;
     heard = λ n past s st. heard_as _ n past s _ _ _ _ c.requires.wish (c.heard-in-Failed.ensures.act c.args.config.now n past s st);
     own = λ n past s st. tt;
-    here = λ n past s st. at_own _ s c.args.place _ (λ p. refl) refl (own_by _ n past s _ _ st c.requires.wish);
-    closes = closes_as _ _ c.args.session.now c.requires.wish refl;
     no_turn = record { turns_same = λ past. refl; stops_same = λ past. refl };
     rose = c.in-Failed.ensures.cause;
     blameless = λ e past. absurd (true≢false e);
     waitless = record { waits = c.in-Failed.ensures.waits; stops = c.in-Failed.ensures.stops; clock = c.in-Failed.ensures.clock };
     over = λ n past s st e. c.heard-in-Failed.ensures.over c.args.config.now n past s st e;
-    ending = λ n past s st e. c.heard-in-Failed.ensures.ending c.args.config.now n past s st e;
   },
 )
 
@@ -73,14 +63,12 @@ returns-in-Memory g c = rw c.want.ensures.memory (
   record {
     did = c.in-Memory.ensures.act;
     stands = λ n past s st. c.want.ensures.cut.stands c.args.config.now n past s st c.requires.going;
-    ending = λ n past s st e. absurd (true≢false (sym e ∙ c.requires.going));
     rose = c.in-Memory.ensures.cause;
     waitless = record { waits = c.in-Memory.ensures.waits; stops = c.in-Memory.ensures.stops; clock = c.in-Memory.ensures.clock };
   },
   c.requires.going,
   c.want.ensures.cut.over,
   c.want.ensures.cut.left,
-  c.want.ensures.cut.ending,
 )
 
 pub send-requires-clause-some : goal.send-requires-clause-some

@@ -1,8 +1,7 @@
-use Rattle.std.proofs.Common.{refl, true, false, None, sym, ◌∙◌}
+use Rattle.std.proofs.Common.{refl, true, false, None}
 use Rattle.std.proofs.lemmas.Bool.{true≢false}
 use Rattle.relay_model.specs.declared.acts.Act.TheVariants as acts
 use Rattle.session_driver.proofs.Hearing.{heard_as}
-use Rattle.session_driver.proofs.Owning.{own_by, at_own, closes_as}
 use Rattle.session_driver.proofs.calls.shut.Goals as goal
 
 pub returns-in-Done : goal.returns-in-Done
@@ -15,14 +14,11 @@ returns-in-Done g c = (
     did = c.in-Done.ensures.act;
     heard = λ n past s st. heard_as _ n past s _ _ _ _ c.requires.wish (c.heard.ensures.act c.args.config.now n past s st);
     own = λ n past s st. tt;
-    here = λ n past s st. at_own _ s c.args.place _ (λ p. refl) refl (own_by _ n past s _ _ st c.requires.wish);
-    closes = closes_as _ _ c.args.session.now c.requires.wish refl;
     no_turn = record { turns_same = λ past. refl; stops_same = λ past. refl };
     rose = c.in-Done.ensures.cause;
     blameless = λ e past. refl;
     waitless = record { waits = c.in-Done.ensures.waits; stops = c.in-Done.ensures.stops; clock = c.in-Done.ensures.clock };
     over = λ n past s st e. c.heard.ensures.over c.args.config.now n past s st e;
-    ending = λ n past s st e. c.heard.ensures.ending c.args.config.now n past s st e;
   },
 )
 
@@ -36,14 +32,11 @@ returns-in-Failed g c = (
     did = c.in-Failed.ensures.act;
     heard = λ n past s st. heard_as _ n past s _ _ _ _ c.requires.wish (c.heard-in-Failed.ensures.act c.args.config.now n past s st);
     own = λ n past s st. tt;
-    here = λ n past s st. at_own _ s c.args.place _ (λ p. refl) refl (own_by _ n past s _ _ st c.requires.wish);
-    closes = closes_as _ _ c.args.session.now c.requires.wish refl;
     no_turn = record { turns_same = λ past. refl; stops_same = λ past. refl };
     rose = c.in-Failed.ensures.cause;
     blameless = λ e past. absurd (true≢false e);
     waitless = record { waits = c.in-Failed.ensures.waits; stops = c.in-Failed.ensures.stops; clock = c.in-Failed.ensures.clock };
     over = λ n past s st e. c.heard-in-Failed.ensures.over c.args.config.now n past s st e;
-    ending = λ n past s st e. c.heard-in-Failed.ensures.ending c.args.config.now n past s st e;
   },
 )
 
@@ -52,12 +45,10 @@ returns-in-Memory g c = rw c.want.ensures.memory (
   record {
     did = c.in-Memory.ensures.act;
     stands = λ n past s st. c.want.ensures.cut.stands c.args.config.now n past s st c.requires.going;
-    ending = λ n past s st e. absurd (true≢false (sym e ∙ c.requires.going));
     rose = c.in-Memory.ensures.cause;
     waitless = record { waits = c.in-Memory.ensures.waits; stops = c.in-Memory.ensures.stops; clock = c.in-Memory.ensures.clock };
   },
   c.requires.going,
   c.want.ensures.cut.over,
   c.want.ensures.cut.left,
-  c.want.ensures.cut.ending,
 )

@@ -9,12 +9,9 @@ returns-clause-stop c = λ k n past s until at names h e.
 
 pub returns-clause-limit : goal.returns-clause-limit
 returns-clause-limit c = λ k n past s st live t r e.
-    stands_by k n past s _ _ (c.cut.ensures.early k n past s st.fields.ground (inr (inr (e, t, r)))) (λ p f. c.plan-self.ensures k n p s f)
+    stands_by k n past s _ _ (c.cut.ensures.early k n past s st.fields (none_of c.args.self.now.state.ending live) (inr (inr (e, t, r)))) (λ p f. c.plan-self.ensures k n p s f)
 
 pub returns-clause-memory : goal.returns-clause-memory
 returns-clause-memory c = λ k n past s st live e.
     let none = none_of c.args.self.now.state.ending live in
-    stands_by k n past s _ _ (c.cut.ensures.early k n past s st.fields.ground (inr (inl (e, (quiet_while k n past s c.args.self.now.state.ending st.fields.ending_is none).0.unclosed)))) (λ p f. c.plan-self.ensures k n p s f)
-
-pub returns-clause-early : goal.returns-clause-early
-returns-clause-early c = λ k n past s g ends. stands_by k n past s _ _ (c.cut.ensures.early k n past s g ends) (λ p f. c.plan-self.ensures k n p s f)
+    stands_by k n past s _ _ (c.cut.ensures.early k n past s st.fields none (inr (inl (e, (quiet_while k n past s c.args.self.now.state.ending st.fields.ending_is none).0.unclosed)))) (λ p f. c.plan-self.ensures k n p s f)

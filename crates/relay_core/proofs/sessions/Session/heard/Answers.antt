@@ -1,4 +1,3 @@
-use Rattle.std.proofs.Common.{ap, ◌∙◌, is_some}
 use Rattle.relay_core.proofs.Lives.{asleep, stands_by, hears_by, heard_by}
 use Rattle.relay_core.proofs.Plans.{quiet_while}
 use Rattle.relay_core.proofs.sessions.Session.heard.Goals as goal
@@ -17,7 +16,4 @@ returns-clause-woken c = λ k n past s until st w e.
     hears_by k n _ s _ _ (c.hear.ensures.woken k past s until st.fields.ground (quiet_while k n past s c.args.self.now.state.ending st.fields.ending_is none).0 e) (λ p f. c.plan-self.ensures k n p s f)
 
 pub returns-clause-over : goal.returns-clause-over
-returns-clause-over c = λ k n past s st e. ap is_some (c.hear.ensures.over k n past s st.allowed e) ∙ e
-
-pub returns-clause-ending : goal.returns-clause-ending
-returns-clause-ending c = λ k n past s st e. c.hear.ensures.over k n past s st.allowed e
+returns-clause-over c = λ k n past s st e. c.hear.ensures.over k n past s st.allowed e

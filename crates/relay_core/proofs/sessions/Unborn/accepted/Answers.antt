@@ -2,7 +2,7 @@ use Rattle.std.proofs.Common.{◌∷◌, sym, ◌∙◌}
 use Rattle.std.proofs.lemmas.Bool.{false≢true, false_from_ne_true}
 use Rattle.relay_model.specs.declared.acts.Act.TheVariants as acts
 use Rattle.relay_core.proofs.Births.{birth_may, birth_meets, begun_at}
-use Rattle.relay_core.proofs.Lives.{hears_by}
+use Rattle.relay_core.proofs.Lives.{stands_by}
 use Rattle.relay_core.proofs.sessions.Unborn.accepted.Goals as goal
 
 pub returns-clause-may : goal.returns-clause-may
@@ -11,10 +11,10 @@ returns-clause-may c = λ k n past s begins owes. birth_may k n past s c.args.pe
 pub returns-clause-met : goal.returns-clause-met
 returns-clause-met c = λ k n past s begins. birth_meets k n past s c.args.peer begins
 
-pub returns-clause-hears : goal.returns-clause-hears
-returns-clause-hears c = λ k n past s unborn begins clock.
+pub returns-clause-stands : goal.returns-clause-stands
+returns-clause-stands c = λ k n past s unborn begins clock.
     begun_at k n past s c.args.self.home c.args.peer _ unborn.home_is
-    (hears_by k n (acts.Accepted c.args.self.home c.args.peer ∷ past) s _ _ (c.born.ensures.begun k n past s unborn.is_new begins unborn.home_is clock) (λ p f. c.plan-wish.ensures k n p s f))
+    (stands_by k n (acts.Accepted c.args.self.home c.args.peer ∷ past) s _ _ (c.born.ensures.begun k n past s unborn.is_new begins unborn.home_is clock) (λ p f. c.plan-wish.ensures k n p s f))
 
 pub returns-clause-unasked : goal.returns-clause-unasked
 returns-clause-unasked c = λ k s p unborn. false_from_ne_true _ (λ e. false≢true (sym (unborn.is_new.unasked p) ∙ c.born.ensures.asked p e))

@@ -157,7 +157,7 @@ pub returns-in-Reap-Reaped-clause-goes : goal.returns-in-Reap-Reaped-clause-goes
 returns-in-Reap-Reaped-clause-goes c = λ k n past s f a. let i = c.in-Reap-Reaped in rw (i.is-0, i.is-1) (c.reaped.ensures.goes k n past s _ f (rw i.is-0 at a))
 
 pub returns-in-Reap-Reaped-clause-over : goal.returns-in-Reap-Reaped-clause-over
-returns-in-Reap-Reaped-clause-over c = λ k n past s a e. c.reaped.ensures.same
+returns-in-Reap-Reaped-clause-over c = λ k n past s a e. ap is_some c.reaped.ensures.same ∙ e
 
 pub returns-in-Open-Opened-clause-asked : goal.returns-in-Open-Opened-clause-asked
 returns-in-Open-Opened-clause-asked c = λ p e. or_left _ _ (c.opened.ensures.asked p e)

@@ -1,3 +1,4 @@
+use Rattle.std.proofs.Common.{ap, ◌∙◌, is_some}
 use Rattle.std.proofs.lemmas.Bool.{or_left}
 use Rattle.relay_core.proofs.states.State.hear.Goals as goal
 
@@ -5,7 +6,7 @@ pub returns-in-NoChild-clause-childless : goal.returns-in-NoChild-clause-childle
 returns-in-NoChild-clause-childless c = λ k n past s f a e. c.without_child.ensures.goes k n past s f a (rw c.in-NoChild.is at c.requires)
 
 pub returns-in-NoChild-clause-over : goal.returns-in-NoChild-clause-over
-returns-in-NoChild-clause-over c = λ k n past s a e. c.without_child.ensures.same
+returns-in-NoChild-clause-over c = λ k n past s a e. ap is_some c.without_child.ensures.same ∙ e
 
 pub returns-in-Woken-clause-woken : goal.returns-in-Woken-clause-woken
 returns-in-Woken-clause-woken c = λ k past s until g q e. c.woken.ensures.goes k past s until g q

@@ -1,9 +1,0 @@
-pub mod Asking
-pub mod Births
-pub mod Courses
-pub mod Endings
-pub mod Left
-pub mod Turned
-pub mod Turns
-pub mod Waited
-pub mod Waits
