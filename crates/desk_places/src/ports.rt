@@ -34,25 +34,20 @@ use world_trait::{AcceptAnswer, ListenAnswer, OpenAnswer, Standing};
 /// All ports, the maker of those that are made, the spare ports that are left, and the ports with a child that closed
 /// places left, the last one first.
 #[derive(Drop)]
-pub struct Ports<M: Maker + Drop, F: Spare, I: Port, O: Port, E: Port> {
-    pub harbor: Harbor<MooredPort<M, F>, I, O, E>,
+pub struct Ports<M: Maker + Drop, S: Spare> {
+    pub harbor: Harbor<MooredPort<M, S>, S>,
     pub maker: M,
-    pub spares: Vec<F>,
-    pub parents: Vec<Berth<MooredPort<M, F>>>,
+    pub spares: Vec<S>,
+    pub parents: Vec<Berth<MooredPort<M, S>>>,
 }
 
-impl<M: Maker + Drop, F: Spare, I: Port, O: Port, E: Port> Ports<M, F, I, O, E> {
+impl<M: Maker + Drop, S: Spare> Ports<M, S> {
     /// The standard ports, the spare ones, and no made one; takes no memory.
-    pub fn new(
-        alloc: Global,
-        standard: Standard<I, O, E>,
-        maker: M,
-        spares: Vec<F>,
-    ) -> Ports<M, F, I, O, E>
+    pub fn new(alloc: Global, standard: Standard<S>, maker: M, spares: Vec<S>) -> Ports<M, S>
         ensures made { result.harbor.made.slots ≡ [] }
-        ensures input { (result.harbor.input.port ≡ seen I.gave I.took I.hints I.hinting I.counts I.ended I.joins I.child standard.stdin) × (result.harbor.input.begun ≡ false) × (result.harbor.input.finished ≡ false) }
-        ensures output { (result.harbor.output.port ≡ seen O.gave O.took O.hints O.hinting O.counts O.ended O.joins O.child standard.stdout) × (result.harbor.output.begun ≡ false) × (result.harbor.output.finished ≡ false) }
-        ensures errors { (result.harbor.errors.port ≡ seen E.gave E.took E.hints E.hinting E.counts E.ended E.joins E.child standard.stderr) × (result.harbor.errors.begun ≡ false) × (result.harbor.errors.finished ≡ false) }
+        ensures input { (result.harbor.input.port ≡ seen S.gave S.took S.hints S.hinting S.counts S.ended S.joins S.child standard.stdin) × (result.harbor.input.begun ≡ false) × (result.harbor.input.finished ≡ false) }
+        ensures output { (result.harbor.output.port ≡ seen S.gave S.took S.hints S.hinting S.counts S.ended S.joins S.child standard.stdout) × (result.harbor.output.begun ≡ false) × (result.harbor.output.finished ≡ false) }
+        ensures errors { (result.harbor.errors.port ≡ seen S.gave S.took S.hints S.hinting S.counts S.ended S.joins S.child standard.stderr) × (result.harbor.errors.begun ≡ false) × (result.harbor.errors.finished ≡ false) }
         ensures parents { result.parents.items ≡ [] }
         ensures maker { result.maker ≡ maker }
     {
@@ -65,7 +60,7 @@ impl<M: Maker + Drop, F: Spare, I: Port, O: Port, E: Port> Ports<M, F, I, O, E> 
     }
 
     /// The streams, at the end.
-    pub fn into_streams(self) -> (Stream<I>, Stream<O>, Stream<E>)
+    pub fn into_streams(self) -> (Stream<S>, Stream<S>, Stream<S>)
         ensures input { result.0 ≡ self.harbor.input }
         ensures output { result.1 ≡ self.harbor.output }
         ensures errors { result.2 ≡ self.harbor.errors }
@@ -99,7 +94,7 @@ impl<M: Maker + Drop, F: Spare, I: Port, O: Port, E: Port> Ports<M, F, I, O, E> 
         &mut self,
         stations: &mut Stations,
         place: Place,
-        port: MooredPort<M, F>,
+        port: MooredPort<M, S>,
         settling: bool,
     ) -> Begun
         requires free { hold_at stations.old.entries place ≡ Free }
@@ -368,7 +363,7 @@ impl<M: Maker + Drop, F: Spare, I: Port, O: Port, E: Port> Ports<M, F, I, O, E> 
         stations: &mut Stations,
         door: Place,
         place: Place,
-        port: MooredPort<M, F>,
+        port: MooredPort<M, S>,
         peer: Peer,
     ) -> AcceptAnswer
         requires free { hold_at stations.old.entries place ≡ Free }

@@ -125,14 +125,14 @@ impl<T: Port> Berth<T> {
 }
 
 /// The port of a place: one that its maker made, or a spare one.
-pub type MooredPort<M, F> = EitherPort<<M as Maker>::Made, F>;
+pub type MooredPort<M, S> = EitherPort<<M as Maker>::Made, S>;
 
 /// Takes one peer at the door. A spare port is no door: where it is asked, there is no memory for a peer.
-pub fn accept_by<M: Maker, F: Port>(
+pub fn accept_by<M: Maker, S: Port>(
     maker: &mut M,
-    door: &mut Berth<MooredPort<M, F>>,
+    door: &mut Berth<MooredPort<M, S>>,
     key: usize,
-) -> MadePeer<MooredPort<M, F>>
+) -> MadePeer<MooredPort<M, S>>
     ensures door { LetsIn door.old.port door.new.port }
     ensures place { door.new.place ≡ door.old.place }
     ensures came { M.came maker.new ≡ came_after (M.came maker.old) result }

@@ -19,20 +19,20 @@ use std::alloc::Global;
 
 /// The standard streams, and the made ports by their keys.
 #[derive(Drop)]
-pub struct Harbor<T: Port, I: Port, O: Port, E: Port> {
-    pub input: Stream<I>,
-    pub output: Stream<O>,
-    pub errors: Stream<E>,
+pub struct Harbor<T: Port, S: Port> {
+    pub input: Stream<S>,
+    pub output: Stream<S>,
+    pub errors: Stream<S>,
     pub made: Slab<Berth<T>>,
 }
 
-impl<T: Port, I: Port, O: Port, E: Port> Harbor<T, I, O, E> {
+impl<T: Port, S: Port> Harbor<T, S> {
     /// The standard streams, and no made port; takes no memory.
-    pub fn new(alloc: Global, standard: Standard<I, O, E>) -> Harbor<T, I, O, E>
+    pub fn new(alloc: Global, standard: Standard<S>) -> Harbor<T, S>
         ensures made { result.made.slots ≡ [] }
-        ensures input { (result.input.port ≡ seen I.gave I.took I.hints I.hinting I.counts I.ended I.joins I.child standard.stdin) × (result.input.begun ≡ false) × (result.input.finished ≡ false) }
-        ensures output { (result.output.port ≡ seen O.gave O.took O.hints O.hinting O.counts O.ended O.joins O.child standard.stdout) × (result.output.begun ≡ false) × (result.output.finished ≡ false) }
-        ensures errors { (result.errors.port ≡ seen E.gave E.took E.hints E.hinting E.counts E.ended E.joins E.child standard.stderr) × (result.errors.begun ≡ false) × (result.errors.finished ≡ false) }
+        ensures input { (result.input.port ≡ seen S.gave S.took S.hints S.hinting S.counts S.ended S.joins S.child standard.stdin) × (result.input.begun ≡ false) × (result.input.finished ≡ false) }
+        ensures output { (result.output.port ≡ seen S.gave S.took S.hints S.hinting S.counts S.ended S.joins S.child standard.stdout) × (result.output.begun ≡ false) × (result.output.finished ≡ false) }
+        ensures errors { (result.errors.port ≡ seen S.gave S.took S.hints S.hinting S.counts S.ended S.joins S.child standard.stderr) × (result.errors.begun ≡ false) × (result.errors.finished ≡ false) }
     {
         let Standard {
             stdin,
@@ -48,7 +48,7 @@ impl<T: Port, I: Port, O: Port, E: Port> Harbor<T, I, O, E> {
     }
 
     /// The streams, at the end.
-    pub fn into_streams(self) -> (Stream<I>, Stream<O>, Stream<E>)
+    pub fn into_streams(self) -> (Stream<S>, Stream<S>, Stream<S>)
         ensures input { result.0 ≡ self.input }
         ensures output { result.1 ≡ self.output }
         ensures errors { result.2 ≡ self.errors }
@@ -371,12 +371,12 @@ impl<T: Port, I: Port, O: Port, E: Port> Harbor<T, I, O, E> {
 }
 
 /// Takes one peer at the door of the key.
-pub fn accept_at<M: Maker, F: Port, I: Port, O: Port, E: Port>(
-    harbor: &mut Harbor<MooredPort<M, F>, I, O, E>,
+pub fn accept_at<M: Maker, S: Port>(
+    harbor: &mut Harbor<MooredPort<M, S>, S>,
     maker: &mut M,
     door: usize,
     key: usize,
-) -> MadePeer<MooredPort<M, F>>
+) -> MadePeer<MooredPort<M, S>>
     ensures door { MadeCall harbor.old.made harbor.new.made door LetsIn }
     ensures room { HasRoomFor harbor.old.made 1 → HasRoomFor harbor.new.made 1 }
     ensures streams { (harbor.new.input ≡ harbor.old.input) × (harbor.new.output ≡ harbor.old.output) × (harbor.new.errors ≡ harbor.old.errors) }

@@ -13,10 +13,10 @@ use std::marker::Model;
 
 /// The ports of the standard streams.
 #[derive(Drop)]
-pub struct Standard<I, O, E> {
-    pub stdin: I,
-    pub stdout: O,
-    pub stderr: E,
+pub struct Standard<S> {
+    pub stdin: S,
+    pub stdout: S,
+    pub stderr: S,
 }
 
 /// A standard stream: its port, whether it has begun, and whether the end of its output was passed on.

@@ -27,10 +27,12 @@ use std::alloc::Global;
 use world_trait::{Recorder, Standing, World};
 
 /// A world over ports: standard input, output and errors, and the ports of a maker for all other addresses, some of
-/// which are spare ports that it fits out. A poller waits for them. Each call on a place is one call on its port, and each failure of a call is a fault that it counts.
+/// which are spare ports that it fits out. A poller waits for them. Each call on a place is one call on its port, and each
+/// failure of a call is a fault that it counts. The standard ports and the spare ones are of one type, since each type
+/// parameter costs the prover at the calls that fix them all.
 #[derive(Drop)]
-pub struct Desk<M: Maker + Drop, P: Poller + Drop, F: Spare, I: Port, O: Port, E: Port> {
-    pub(crate) ports: Ports<M, F, I, O, E>,
+pub struct Desk<M: Maker + Drop, P: Poller + Drop, S: Spare> {
+    pub(crate) ports: Ports<M, S>,
     pub(crate) clock: Clock<P>,
     pub(crate) log: Log,
     pub(crate) waits: u64,
@@ -39,30 +41,23 @@ pub struct Desk<M: Maker + Drop, P: Poller + Drop, F: Spare, I: Port, O: Port, E
     ghost parents_room: { length log.stations.entries + vec_len ports.parents ≤ vec_capacity ports.parents },
 }
 
-impl<M: Maker + Drop, P: Poller + Drop, F: Spare, I: Port, O: Port, E: Port> Desk<
-    M,
-    P,
-    F,
-    I,
-    O,
-    E,
-> {
+impl<M: Maker + Drop, P: Poller + Drop, S: Spare> Desk<M, P, S> {
     /// A desk at which nothing is held. An address that a spare port serves takes one of these; where none is left, its
     /// opening wants memory.
     pub fn new(
         alloc: Global,
-        standard: Standard<I, O, E>,
+        standard: Standard<S>,
         maker: M,
-        spares: Vec<F>,
+        spares: Vec<S>,
         poller: P,
         recorder: Recorder,
-    ) -> Result<Desk<M, P, F, I, O, E>, NoMemory>
-        ensures told { IfOk result (λ desk. ⟦<Desk<M, P, F, I, O, E> as World>⟧.told desk ≡ told_by recorder (record { acts = []; spare = 0 }) (record { pairs = []; spare = 0 })) }
-        ensures fresh { let w = ⟦<Desk<M, P, F, I, O, E> as World>⟧ in IfOk result (λ desk. IsFresh (w.held desk) (w.faults desk) (w.waits desk) (w.stops desk) (w.clock desk)) }
+    ) -> Result<Desk<M, P, S>, NoMemory>
+        ensures told { IfOk result (λ desk. ⟦<Desk<M, P, S> as World>⟧.told desk ≡ told_by recorder (record { acts = []; spare = 0 }) (record { pairs = []; spare = 0 })) }
+        ensures fresh { let w = ⟦<Desk<M, P, S> as World>⟧ in IfOk result (λ desk. IsFresh (w.held desk) (w.faults desk) (w.waits desk) (w.stops desk) (w.clock desk)) }
         ensures untouched { IfOk result (λ desk. desk.log.acted ≡ false) }
-        ensures stdin { IfOk result (λ desk. (desk.ports.harbor.input.port ≡ seen I.gave I.took I.hints I.hinting I.counts I.ended I.joins I.child standard.stdin) × (desk.ports.harbor.input.begun ≡ false) × (desk.ports.harbor.input.finished ≡ false)) }
-        ensures stdout { IfOk result (λ desk. (desk.ports.harbor.output.port ≡ seen O.gave O.took O.hints O.hinting O.counts O.ended O.joins O.child standard.stdout) × (desk.ports.harbor.output.begun ≡ false) × (desk.ports.harbor.output.finished ≡ false)) }
-        ensures stderr { IfOk result (λ desk. (desk.ports.harbor.errors.port ≡ seen E.gave E.took E.hints E.hinting E.counts E.ended E.joins E.child standard.stderr) × (desk.ports.harbor.errors.begun ≡ false) × (desk.ports.harbor.errors.finished ≡ false)) }
+        ensures stdin { IfOk result (λ desk. (desk.ports.harbor.input.port ≡ seen S.gave S.took S.hints S.hinting S.counts S.ended S.joins S.child standard.stdin) × (desk.ports.harbor.input.begun ≡ false) × (desk.ports.harbor.input.finished ≡ false)) }
+        ensures stdout { IfOk result (λ desk. (desk.ports.harbor.output.port ≡ seen S.gave S.took S.hints S.hinting S.counts S.ended S.joins S.child standard.stdout) × (desk.ports.harbor.output.begun ≡ false) × (desk.ports.harbor.output.finished ≡ false)) }
+        ensures stderr { IfOk result (λ desk. (desk.ports.harbor.errors.port ≡ seen S.gave S.took S.hints S.hinting S.counts S.ended S.joins S.child standard.stderr) × (desk.ports.harbor.errors.begun ≡ false) × (desk.ports.harbor.errors.finished ≡ false)) }
     {
         Ok(Desk {
             ports: Ports::new(alloc, standard, maker, spares),
@@ -77,7 +72,7 @@ impl<M: Maker + Drop, P: Poller + Drop, F: Spare, I: Port, O: Port, E: Port> Des
     pub fn keep(&mut self)
         requires untouched { self.old.log.acted ≡ false }
         requires free { self.old.log.stations.entries ≡ [] }
-        ensures told { ⟦<Desk<M, P, F, I, O, E> as World>⟧.told self.new ≡ Some (record { acts = []; asked = [] }) }
+        ensures told { ⟦<Desk<M, P, S> as World>⟧.told self.new ≡ Some (record { acts = []; asked = [] }) }
         ensures untouched { self.new.log.acted ≡ false }
         ensures ports { self.new.ports ≡ self.old.ports }
         ensures stations { self.new.log.stations ≡ self.old.log.stations }
@@ -91,7 +86,7 @@ impl<M: Maker + Drop, P: Poller + Drop, F: Spare, I: Port, O: Port, E: Port> Des
 
     /// How the place stands; none where nothing is held there.
     pub fn standing(&self, place: Place) -> Option<Standing>
-        ensures { hold_found result ≡ ⟦<Desk<M, P, F, I, O, E> as World>⟧.held self.now place }
+        ensures { hold_found result ≡ ⟦<Desk<M, P, S> as World>⟧.held self.now place }
     {
         match self.log.stations.find(place) {
             None => None,
@@ -101,25 +96,25 @@ impl<M: Maker + Drop, P: Poller + Drop, F: Spare, I: Port, O: Port, E: Port> Des
 
     /// What was kept; nothing by a desk that skips.
     pub fn kept(&self) -> &Kept
-        ensures skipped { is_some (⟦<Desk<M, P, F, I, O, E> as World>⟧.told self.now) ≡ false → KeepsNothing result.now }
-        ensures told { let w = ⟦<Desk<M, P, F, I, O, E> as World>⟧ in is_some (w.told self.now) ≡ true → w.told self.now ≡ Some (record { acts = result.now.journal.acts; asked = result.now.asked.pairs }) }
+        ensures skipped { is_some (⟦<Desk<M, P, S> as World>⟧.told self.now) ≡ false → KeepsNothing result.now }
+        ensures told { let w = ⟦<Desk<M, P, S> as World>⟧ in is_some (w.told self.now) ≡ true → w.told self.now ≡ Some (record { acts = result.now.journal.acts; asked = result.now.asked.pairs }) }
     {
         self.log.recording.kept()
     }
 
     /// Ends the desk, at which nothing is held. Each standard port that has begun and wasn't told the end of its output
     /// is shut with `Close`; then each is joined. Takes no memory.
-    pub fn end(self) -> Ended<I, O, E>
-        requires { (p : Place) → ⟦<Desk<M, P, F, I, O, E> as World>⟧.held self p ≡ Free }
-        ensures stdin { EndsSo (self.ports.harbor.input.begun && not self.ports.harbor.input.finished) self.ports.harbor.input.port (is_left result.standard.stdin) (seen I.gave I.took I.hints I.hinting I.counts I.ended I.joins I.child (handed result.standard.stdin)) }
-        ensures stdin_behind { OnJoinedBack (λ port. Behind (I.gave port) (I.took port) (I.behind_gave port) (I.behind_took port) (I.behind_left port) (I.behind_faults port) (I.ended port)) result.standard.stdin }
-        ensures stdout { EndsSo (self.ports.harbor.output.begun && not self.ports.harbor.output.finished) self.ports.harbor.output.port (is_left result.standard.stdout) (seen O.gave O.took O.hints O.hinting O.counts O.ended O.joins O.child (handed result.standard.stdout)) }
-        ensures stdout_behind { OnJoinedBack (λ port. Behind (O.gave port) (O.took port) (O.behind_gave port) (O.behind_took port) (O.behind_left port) (O.behind_faults port) (O.ended port)) result.standard.stdout }
-        ensures stderr { EndsSo (self.ports.harbor.errors.begun && not self.ports.harbor.errors.finished) self.ports.harbor.errors.port (is_left result.standard.stderr) (seen E.gave E.took E.hints E.hinting E.counts E.ended E.joins E.child (handed result.standard.stderr)) }
-        ensures stderr_behind { OnJoinedBack (λ port. Behind (E.gave port) (E.took port) (E.behind_gave port) (E.behind_took port) (E.behind_left port) (E.behind_faults port) (E.ended port)) result.standard.stderr }
-        ensures skipped { is_some (⟦<Desk<M, P, F, I, O, E> as World>⟧.told self) ≡ false → KeepsNothing result.kept }
-        ensures kept { let w = ⟦<Desk<M, P, F, I, O, E> as World>⟧ in is_some (w.told self) ≡ true → w.told self ≡ Some (record { acts = result.kept.journal.acts; asked = result.kept.asked.pairs }) }
-        ensures counts { let w = ⟦<Desk<M, P, F, I, O, E> as World>⟧ in result.counts ≡ record { faults = w.faults self; waits = w.waits self; stops = w.stops self } }
+    pub fn end(self) -> Ended<S>
+        requires { (p : Place) → ⟦<Desk<M, P, S> as World>⟧.held self p ≡ Free }
+        ensures stdin { EndsSo (self.ports.harbor.input.begun && not self.ports.harbor.input.finished) self.ports.harbor.input.port (is_left result.standard.stdin) (seen S.gave S.took S.hints S.hinting S.counts S.ended S.joins S.child (handed result.standard.stdin)) }
+        ensures stdin_behind { OnJoinedBack (λ port. Behind (S.gave port) (S.took port) (S.behind_gave port) (S.behind_took port) (S.behind_left port) (S.behind_faults port) (S.ended port)) result.standard.stdin }
+        ensures stdout { EndsSo (self.ports.harbor.output.begun && not self.ports.harbor.output.finished) self.ports.harbor.output.port (is_left result.standard.stdout) (seen S.gave S.took S.hints S.hinting S.counts S.ended S.joins S.child (handed result.standard.stdout)) }
+        ensures stdout_behind { OnJoinedBack (λ port. Behind (S.gave port) (S.took port) (S.behind_gave port) (S.behind_took port) (S.behind_left port) (S.behind_faults port) (S.ended port)) result.standard.stdout }
+        ensures stderr { EndsSo (self.ports.harbor.errors.begun && not self.ports.harbor.errors.finished) self.ports.harbor.errors.port (is_left result.standard.stderr) (seen S.gave S.took S.hints S.hinting S.counts S.ended S.joins S.child (handed result.standard.stderr)) }
+        ensures stderr_behind { OnJoinedBack (λ port. Behind (S.gave port) (S.took port) (S.behind_gave port) (S.behind_took port) (S.behind_left port) (S.behind_faults port) (S.ended port)) result.standard.stderr }
+        ensures skipped { is_some (⟦<Desk<M, P, S> as World>⟧.told self) ≡ false → KeepsNothing result.kept }
+        ensures kept { let w = ⟦<Desk<M, P, S> as World>⟧ in is_some (w.told self) ≡ true → w.told self ≡ Some (record { acts = result.kept.journal.acts; asked = result.kept.asked.pairs }) }
+        ensures counts { let w = ⟦<Desk<M, P, S> as World>⟧ in result.counts ≡ record { faults = w.faults self; waits = w.waits self; stops = w.stops self } }
     {
         let counts = Counts::new(self.log.faults, self.waits, self.stops);
         let Desk {

@@ -6,10 +6,10 @@ use relay_model::Kept;
 
 /// The three standard ports.
 #[derive(Drop)]
-pub struct Backs<I, O, E> {
-    pub stdin: Back<I>,
-    pub stdout: Back<O>,
-    pub stderr: Back<E>,
+pub struct Backs<S> {
+    pub stdin: Back<S>,
+    pub stdout: Back<S>,
+    pub stderr: Back<S>,
 }
 
 /// How often something failed, a turn was waited for, and a stop was answered, until the end of a desk.
@@ -55,8 +55,8 @@ impl Counts {
 
 /// What a desk leaves: the standard ports, what its recorder kept, and its counts.
 #[derive(Drop)]
-pub struct Ended<I, O, E> {
-    pub standard: Backs<I, O, E>,
+pub struct Ended<S> {
+    pub standard: Backs<S>,
     pub kept: Kept,
     pub counts: Counts,
 }

@@ -45,8 +45,8 @@ fn name_hinted(station: Station, hint: Hint, ready: &mut ReadyList)
 
 /// Names the halves of the station that are disarmed and whose port hints that they are ready. A station without such
 /// halves asks no port.
-fn name_station<M: Maker + Drop, F: Spare, I: Port, O: Port, E: Port>(
-    ports: &mut Ports<M, F, I, O, E>,
+fn name_station<M: Maker + Drop, S: Spare>(
+    ports: &mut Ports<M, S>,
     station: Station,
     ready: &mut ReadyList,
 )
@@ -77,8 +77,8 @@ fn name_station<M: Maker + Drop, F: Spare, I: Port, O: Port, E: Port>(
 }
 
 /// The same at the place, if it is held.
-fn name_place<M: Maker + Drop, F: Spare, I: Port, O: Port, E: Port>(
-    ports: &mut Ports<M, F, I, O, E>,
+fn name_place<M: Maker + Drop, S: Spare>(
+    ports: &mut Ports<M, S>,
     stations: &Stations,
     place: Place,
     ready: &mut ReadyList,
@@ -109,8 +109,8 @@ fn name_place<M: Maker + Drop, F: Spare, I: Port, O: Port, E: Port>(
 }
 
 /// Names each half that is disarmed and whose port hints that it is ready. Places whose ports never hint are passed over.
-pub fn name_hinting<M: Maker + Drop, F: Spare, I: Port, O: Port, E: Port>(
-    ports: &mut Ports<M, F, I, O, E>,
+pub fn name_hinting<M: Maker + Drop, S: Spare>(
+    ports: &mut Ports<M, S>,
     stations: &Stations,
     ready: &mut ReadyList,
 )
@@ -141,8 +141,8 @@ pub fn name_hinting<M: Maker + Drop, F: Spare, I: Port, O: Port, E: Port>(
 }
 
 /// Names the half of the place that stands on the key.
-fn name_key<M: Maker + Drop, F: Spare, I: Port, O: Port, E: Port>(
-    ports: &Ports<M, F, I, O, E>,
+fn name_key<M: Maker + Drop, S: Spare>(
+    ports: &Ports<M, S>,
     stations: &Stations,
     key: usize,
     half: Half,
@@ -165,8 +165,8 @@ fn name_key<M: Maker + Drop, F: Spare, I: Port, O: Port, E: Port>(
 }
 
 /// Names each half whose key a poller named.
-pub fn name_keyed<M: Maker + Drop, F: Spare, I: Port, O: Port, E: Port>(
-    ports: &Ports<M, F, I, O, E>,
+pub fn name_keyed<M: Maker + Drop, S: Spare>(
+    ports: &Ports<M, S>,
     stations: &Stations,
     keys: &KeyList,
     ready: &mut ReadyList,

@@ -28,8 +28,7 @@ use world_trait::{
     ShutAnswer, Turned, World, WriteAnswer,
 };
 
-impl<M: Maker + Drop, P: Poller + Drop, F: Spare, I: Port, O: Port, E: Port> World
-    for Desk<M, P, F, I, O, E> {
+impl<M: Maker + Drop, P: Poller + Drop, S: Spare> World for Desk<M, P, S> {
     ghost told = { λ d. d.log.recording.told };
 
     ghost held = { λ d. hold_at d.log.stations.entries };

@@ -1,6 +1,6 @@
 // Steps of a beginning, each with the status where it couldn't be made, and the end.
 use mio_poller::{MioPoller, MioWake};
-use port_trait::{Making, Sink};
+use port_trait::Making;
 use relay_model::NoMemory;
 use std::alloc::Global;
 use std::fs::{Files, OpenOptions};
@@ -9,8 +9,7 @@ use std::net::Net;
 use std::os::fd::AsRawFd;
 use std::process::ExitCode;
 use std::time::Clock;
-use stream_ports::Shelf;
-use told_sink::{Failures, ToldSink};
+use stream_ports::{Failures, Shelf};
 
 /// The status where the system refuses the poller or what is registered with it, and where output failed after the run.
 const FAILED: u8 = 1;
@@ -61,21 +60,33 @@ pub fn made<T: Drop>(making: Making<T>) -> Result<T, u8> {
     }
 }
 
-/// The sink with what tells its failures.
-pub fn told<K: Sink + Drop>(alloc: Global, sink: K) -> Result<(ToldSink<K>, Failures), NoMemory> {
-    let failures = Failures::none(alloc)?;
-    let told = ToldSink::new(sink, failures.share()?);
-    Ok((told, failures))
+/// What the threads of the rings failed, by what they write.
+#[derive(Drop)]
+pub struct FailuresByPlace {
+    pub output: Failures,
+    pub errors: Failures,
+    pub spares: Failures,
+}
+
+impl FailuresByPlace {
+    /// None yet.
+    pub fn none(alloc: Global) -> Result<FailuresByPlace, NoMemory> {
+        Ok(FailuresByPlace {
+            output: Failures::none(alloc)?,
+            errors: Failures::none(alloc)?,
+            spares: Failures::none(alloc)?,
+        })
+    }
 }
 
 /// The status of the run, or that of a failure where standard output or what a spare port serves failed after its last
 /// act, which is told.
-pub fn concluded<R: Eprint>(rt: &R, status: u8, output: &Failures, spares: &Failures) -> ExitCode {
-    if status == 0 && output.any() {
+pub fn concluded<R: Eprint>(rt: &R, status: u8, failures: &FailuresByPlace) -> ExitCode {
+    if status == 0 && failures.output.any() {
         let _ = eprintln!(rt; "socat: write failed on standard output");
         return ExitCode::from(FAILED);
     }
-    if status == 0 && spares.any() {
+    if status == 0 && failures.spares.any() {
         let _ = eprintln!(rt; "socat: write failed on a file or a program");
         return ExitCode::from(FAILED);
     }

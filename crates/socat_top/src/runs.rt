@@ -20,32 +20,32 @@ use world_trait::World;
 
 /// How a run ended: its outcome, the exit status of it, the standard ports, what the desk kept, and its counts.
 #[derive(Drop)]
-pub struct Shipped<I: Port, O: Port, E: Port> {
+pub struct Shipped<S: Port> {
     pub outcome: Outcome,
     pub status: u8,
-    pub standard: Backs<I, O, E>,
+    pub standard: Backs<S>,
     pub kept: Kept,
     pub counts: Counts,
 }
 
 /// Does what the words ask over a desk, with at most `turns` waits, and ends the desk.
-pub fn run<M, P, F, I: Port, O: Port, E: Port>(
+pub fn run<M, P, S>(
     alloc: Global,
-    mut desk: Desk<M, P, F, I, O, E>,
+    mut desk: Desk<M, P, S>,
     words: &[Text],
     turns: u64,
-) -> Shipped<I, O, E>
+) -> Shipped<S>
 where
     M: Maker + Drop,
     P: Poller + Drop,
-    F: Spare,
-    requires free { (p : Spot) → ⟦<Desk<M, P, F, I, O, E> as World>⟧.held desk p ≡ Free }
+    S: Spare,
+    requires free { (p : Spot) → ⟦<Desk<M, P, S> as World>⟧.held desk p ≡ Free }
     ensures status { result.status ≡ exit_code result.outcome }
-    ensures headline { (before : History) → ⟦<Desk<M, P, F, I, O, E> as World>⟧.told desk ≡ Some before → Leaves (task words.now) turns before (Some (history_of result.kept)) result.outcome }
+    ensures headline { (before : History) → ⟦<Desk<M, P, S> as World>⟧.told desk ≡ Some before → Leaves (task words.now) turns before (Some (history_of result.kept)) result.outcome }
     ensures answers { Answers (task words.now) result.outcome }
-    ensures complete { let w = ⟦<Desk<M, P, F, I, O, E> as World>⟧ in CompletesTask (task words.now) turns (w.faults desk) result.counts.faults (w.waits desk) result.counts.waits (w.stops desk) result.counts.stops result.outcome }
-    ensures failed { is_failure result.outcome ≡ true → Risen (⟦<Desk<M, P, F, I, O, E> as World>⟧.faults desk) result.counts.faults }
-    ensures stopped { let w = ⟦<Desk<M, P, F, I, O, E> as World>⟧ in StopCause turns (w.waits desk) result.counts.waits (w.stops desk) result.counts.stops result.outcome }
+    ensures complete { let w = ⟦<Desk<M, P, S> as World>⟧ in CompletesTask (task words.now) turns (w.faults desk) result.counts.faults (w.waits desk) result.counts.waits (w.stops desk) result.counts.stops result.outcome }
+    ensures failed { is_failure result.outcome ≡ true → Risen (⟦<Desk<M, P, S> as World>⟧.faults desk) result.counts.faults }
+    ensures stopped { let w = ⟦<Desk<M, P, S> as World>⟧ in StopCause turns (w.waits desk) result.counts.waits (w.stops desk) result.counts.stops result.outcome }
 {
     let outcome = socat(alloc, &mut desk, words, turns);
     let status = status(&outcome);

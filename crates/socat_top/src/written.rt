@@ -36,8 +36,8 @@ pub enum Saving {
 
 /// How a run ended, what became of its journal, and the exit status by both.
 #[derive(Drop)]
-pub struct Written<I: Port, O: Port, E: Port> {
-    pub shipped: Shipped<I, O, E>,
+pub struct Written<S: Port> {
+    pub shipped: Shipped<S>,
     pub saving: Saving,
     pub status: u8,
 }
@@ -46,18 +46,18 @@ pub struct Written<I: Port, O: Port, E: Port> {
 /// `--journal=` with a name, the desk keeps its history, the file of that name is made before anything else is done,
 /// and at the end all that was done is written to it, but for the line of the outcome. Elsewhere that word is an
 /// unknown flag. What becomes of the file changes nothing of the run but its status.
-pub fn run_written<M, P, F, I: Port, O: Port, E: Port, J: JournalFile>(
+pub fn run_written<M, P, S, J: JournalFile>(
     alloc: Global,
-    mut desk: Desk<M, P, F, I, O, E>,
+    mut desk: Desk<M, P, S>,
     words: &[Text],
     turns: u64,
     file: &mut J,
-) -> Written<I, O, E>
+) -> Written<S>
 where
     M: Maker + Drop,
     P: Poller + Drop,
-    F: Spare,
-    requires free { (p : Spot) → ⟦<Desk<M, P, F, I, O, E> as World>⟧.held desk p ≡ Free }
+    S: Spare,
+    requires free { (p : Spot) → ⟦<Desk<M, P, S> as World>⟧.held desk p ≡ Free }
     requires untouched { desk.log.acted ≡ false }
     ensures asked { is_asked result.saving ≡ asks_for_journal words.now }
     ensures unasked { asks_for_journal words.now ≡ false → file.new ≡ file.old }
@@ -66,11 +66,11 @@ where
     ensures unsaved { result.saving ≡ savings.Failed → Risen (J.faults file.old) (J.faults file.new) }
     ensures status { result.status ≡ status_with result.shipped.status result.saving }
     ensures run_status { result.shipped.status ≡ exit_code result.shipped.outcome }
-    ensures headline { (before : History) → told_before (asks_for_journal words.now) (⟦<Desk<M, P, F, I, O, E> as World>⟧.told desk) ≡ Some before → Leaves (task (words_of_run words.now)) turns before (Some (history_of result.shipped.kept)) result.shipped.outcome }
+    ensures headline { (before : History) → told_before (asks_for_journal words.now) (⟦<Desk<M, P, S> as World>⟧.told desk) ≡ Some before → Leaves (task (words_of_run words.now)) turns before (Some (history_of result.shipped.kept)) result.shipped.outcome }
     ensures answers { Answers (task (words_of_run words.now)) result.shipped.outcome }
-    ensures complete { let w = ⟦<Desk<M, P, F, I, O, E> as World>⟧ in CompletesTask (task (words_of_run words.now)) turns (w.faults desk) result.shipped.counts.faults (w.waits desk) result.shipped.counts.waits (w.stops desk) result.shipped.counts.stops result.shipped.outcome }
-    ensures failed { is_failure result.shipped.outcome ≡ true → Risen (⟦<Desk<M, P, F, I, O, E> as World>⟧.faults desk) result.shipped.counts.faults }
-    ensures stopped { let w = ⟦<Desk<M, P, F, I, O, E> as World>⟧ in StopCause turns (w.waits desk) result.shipped.counts.waits (w.stops desk) result.shipped.counts.stops result.shipped.outcome }
+    ensures complete { let w = ⟦<Desk<M, P, S> as World>⟧ in CompletesTask (task (words_of_run words.now)) turns (w.faults desk) result.shipped.counts.faults (w.waits desk) result.shipped.counts.waits (w.stops desk) result.shipped.counts.stops result.shipped.outcome }
+    ensures failed { is_failure result.shipped.outcome ≡ true → Risen (⟦<Desk<M, P, S> as World>⟧.faults desk) result.shipped.counts.faults }
+    ensures stopped { let w = ⟦<Desk<M, P, S> as World>⟧ in StopCause turns (w.waits desk) result.shipped.counts.waits (w.stops desk) result.shipped.counts.stops result.shipped.outcome }
 {
     let Some((name, words)) = journal_flag(words) else {
         return with_saving(run(alloc, desk, words, turns), Saving::NotAsked);
@@ -151,10 +151,7 @@ fn write_all<K: Sink>(sink: &mut K, bytes: &[u8]) -> bool
 }
 
 /// The end of a run with what became of its journal.
-fn with_saving<I: Port, O: Port, E: Port>(
-    shipped: Shipped<I, O, E>,
-    saving: Saving,
-) -> Written<I, O, E>
+fn with_saving<S: Port>(shipped: Shipped<S>, saving: Saving) -> Written<S>
     ensures { result ≡ record { shipped = shipped; saving = saving; status = status_with shipped.status saving } }
 {
     let status = status_with(shipped.status, saving);

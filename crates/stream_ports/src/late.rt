@@ -3,11 +3,11 @@
 ghost use Rattle.std.specs.Prelude.{◌≡◌, true};
 ghost use Rattle.port_trait.specs.Counting.{Counted};
 
+use crate::failures::Failures;
 use crossbeam_queue::ArrayQueue;
 use port_trait::{Sink, SinkTook, Source, SourceGot};
 use std::alloc::Global;
 use std::sync::{Arc, Wait};
-use told_sink::Failures;
 
 /// A source that is taken from its slot at the first read. With none there a read is a fault.
 #[derive(Drop)]

@@ -7,7 +7,7 @@ use child_ports::Ward;
 use crossbeam_queue::ArrayQueue;
 use file_ports::FileEnds;
 use port_trait::PortReap;
-use relay_model::Part;
+use relay_model::{NoMemory, Part};
 use std::alloc::Global;
 use std::process::OpenProcess;
 use std::sync::{Arc, Wait};
@@ -39,6 +39,14 @@ pub struct Slots<S, K> {
 }
 
 impl<S: Drop, K: Drop> Slots<S, K> {
+    /// Both empty.
+    pub(crate) fn new(alloc: Global) -> Result<Slots<S, K>, NoMemory> {
+        Ok(Slots {
+            source: Arc::new(alloc, ArrayQueue::new(alloc, 1)?)?,
+            sink: Arc::new(alloc, ArrayQueue::new(alloc, 1)?)?,
+        })
+    }
+
     /// Puts the ends there, and tells which there are.
     fn fill<R: Wait>(&self, rt: &R, ends: FileEnds<S, K>) -> Part {
         match ends {
