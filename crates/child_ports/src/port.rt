@@ -1,88 +1,109 @@
 // The port of a child.
-ghost use Rattle.std.specs.Prelude.{true};
+ghost use Rattle.std.specs.Prelude.{◌≡◌, true};
 
 use crate::nursery::Ward;
+use file_ports::Halves;
 use port_trait::{Begun, Got, Hint, Joining, Port, PortReap, Settled, Shutting, Took};
 use relay_model::Shut;
-use std::process::OpenProcess;
+use socket_ports::SocketPort;
+use std::marker::Model;
+use std::process::{ChildStdin, ChildStdout, SystemProcess};
 
-/// A child behind the port of its streams. Each call but `reap` is that call on the port of the streams.
+/// The port of a program's pipes.
+pub type ProgramPipes = SocketPort<Halves<ChildStdout, ChildStdin>, ()>;
+
+/// A program behind the port of its pipes. Each call but `reap` is that call on the port of the pipes.
 #[derive(Drop)]
-pub struct ChildPort<F, P: OpenProcess + Drop> {
-    streams: F,
-    ward: Ward<P>,
+pub struct ChildPort {
+    pipes: ProgramPipes,
+    ward: Ward<SystemProcess>,
 }
 
-impl<F: Port, P: OpenProcess + Drop> ChildPort<F, P> {
+impl Model for ChildPort {
+    ghost use Rattle.socket_ports.specs.Sockets.{PortState};
+    ghost use Rattle.file_ports.specs.Halves.{HalvesState};
+
+    ghost Value = { PortState HalvesState };
+
+    ghost view = { λ port. port.pipes };
+}
+
+impl ChildPort {
     /// The port of this child.
-    pub fn new(streams: F, ward: Ward<P>) -> ChildPort<F, P> {
-        ChildPort { streams, ward }
+    pub fn new(pipes: ProgramPipes, ward: Ward<SystemProcess>) -> ChildPort
+        ensures { result ≡ pipes }
+    {
+        ChildPort { pipes, ward }
     }
 }
 
-impl<F: Port, P: OpenProcess + Drop> Port for ChildPort<F, P> {
-    ghost gave = { λ port. F.gave port.streams };
+impl Port for ChildPort {
+    ghost gave = { ⟦<ProgramPipes as Port>⟧.gave };
 
-    ghost took = { λ port. F.took port.streams };
+    ghost took = { ⟦<ProgramPipes as Port>⟧.took };
 
-    ghost behind_gave = { λ port. F.behind_gave port.streams };
+    ghost behind_gave = { ⟦<ProgramPipes as Port>⟧.behind_gave };
 
-    ghost behind_took = { λ port. F.behind_took port.streams };
+    ghost behind_took = { ⟦<ProgramPipes as Port>⟧.behind_took };
 
-    ghost behind_faults = { λ port. F.behind_faults port.streams };
+    ghost behind_faults = { ⟦<ProgramPipes as Port>⟧.behind_faults };
 
-    ghost behind_ends = { λ port. F.behind_ends port.streams };
+    ghost behind_ends = { ⟦<ProgramPipes as Port>⟧.behind_ends };
 
-    ghost behind_left = { λ port. F.behind_left port.streams };
+    ghost behind_left = { ⟦<ProgramPipes as Port>⟧.behind_left };
 
-    ghost served = { λ port. F.served port.streams };
+    ghost served = { ⟦<ProgramPipes as Port>⟧.served };
 
-    ghost behind_finished = { λ port. F.behind_finished port.streams };
+    ghost hints = { ⟦<ProgramPipes as Port>⟧.hints };
 
-    ghost counts = { λ port. F.counts port.streams };
+    ghost hinting = { ⟦<ProgramPipes as Port>⟧.hinting };
 
-    ghost begun = { λ port. F.begun port.streams };
+    ghost behind_finished = { ⟦<ProgramPipes as Port>⟧.behind_finished };
 
-    ghost ended = { λ port. F.ended port.streams };
+    ghost counts = { ⟦<ProgramPipes as Port>⟧.counts };
 
-    ghost joins = { λ port. F.joins port.streams };
+    ghost begun = { ⟦<ProgramPipes as Port>⟧.begun };
+
+    ghost ended = { ⟦<ProgramPipes as Port>⟧.ended };
+
+    ghost joins = { ⟦<ProgramPipes as Port>⟧.joins };
 
     ghost child = { λ _. true };
 
     fn begin(&mut self) -> Begun {
-        self.streams.begin()
+        self.pipes.begin()
     }
 
     fn settle(&mut self) -> Settled {
-        self.streams.settle()
+        self.pipes.settle()
     }
 
     fn read(&mut self, into: &mut [u8]) -> Got {
-        self.streams.read(into)
+        self.pipes.read(into)
     }
 
     fn write(&mut self, bytes: &[u8]) -> Took {
-        self.streams.write(bytes)
+        self.pipes.write(bytes)
     }
 
     fn send(&mut self, bytes: &[u8]) -> Took {
-        self.streams.send(bytes)
+        self.pipes.send(bytes)
     }
 
     fn put_all(&mut self, bytes: &[u8]) -> Took {
-        self.streams.put_all(bytes)
+        self.pipes.put_all(bytes)
     }
 
     fn shut(&mut self, how: Shut) -> Shutting {
-        self.streams.shut(how)
+        self.pipes.shut(how)
     }
 
     fn hint(&mut self) -> Hint {
-        self.streams.hint()
+        self.pipes.hint()
     }
 
     fn may_hint(&self) -> bool {
-        true
+        self.pipes.may_hint()
     }
 
     fn has_child(&self) -> bool {
@@ -94,6 +115,6 @@ impl<F: Port, P: OpenProcess + Drop> Port for ChildPort<F, P> {
     }
 
     fn join(&mut self) -> Joining {
-        self.streams.join()
+        self.pipes.join()
     }
 }

@@ -1,44 +1,70 @@
-// Starting a child.
-ghost use Rattle.std.specs.Prelude.{};
+// Starting a program.
+ghost use Rattle.std.specs.Prelude.{◌≡◌, false, IfSome};
+ghost use Rattle.port_trait.specs.Made.{IsAtOnce};
+ghost use Rattle.port_trait.specs.declared.makers.Making.TheVariants as makings;
+ghost use Rattle.file_ports.specs.Halves.{AreOf};
+ghost use Rattle.file_ports.specs.Opened.{OnMade};
+ghost use Rattle.socket_ports.specs.Accepting.{IsFresh};
+ghost use Rattle.child_ports.specs.Programs.{runs_program};
 
-use crate::input::ChildInput;
+use crate::nursery::Nursery;
 use crate::peers::PeerTexts;
-use file_ports::FileEnds;
-use port_trait::{Making, StdSource};
+use crate::port::ChildPort;
+use file_ports::Halves;
+use mio::Registry;
+use port_trait::Making;
 use relay_model::{NoMemory, Part, Peer, Target, Text, Texts};
+use socket_ports::SocketPort;
 use std::alloc::Global;
-use std::process::{Child, Command, OpenProcess, Processes, Stdio};
+use std::process::{
+    Child, ChildStdin, ChildStdout, Command, Processes, Stdio, SystemProcess,
+};
 use std::str;
 
-/// A child that runs, with this process's ends of its pipes.
-#[derive(Drop)]
-pub struct Started<P: OpenProcess + Drop> {
-    pub ends: FileEnds<StdSource<P::Stdout>, ChildInput<P::Stdin>>,
-    pub child: Child<P>,
-}
-
-/// Starts the program of an `EXEC` or the shell of a `SYSTEM` (socat(1)). The stream that the part doesn't use is the
-/// program's own, as is standard error. `Failed` where the address is none of these, where a text of it isn't
-/// UTF-8, and where the system refuses; never `Later`.
-pub fn start_child<R: Processes>(
+/// Starts the program of an `EXEC` or the shell of a `SYSTEM` (socat(1)), and has the registry report its pipes under
+/// `key`. The stream that the part doesn't use is this process's own, as is standard error. `Failed` where the address
+/// is none of these, where a text of it isn't UTF-8, and where the system refuses. A program that outlives its port
+/// goes to the nursery.
+pub fn make_child<R: Processes<Started = SystemProcess>>(
     rt: &R,
     alloc: Global,
+    registry: &Registry,
+    key: usize,
+    nursery: &Nursery<SystemProcess>,
     target: &Target,
     part: Part,
     peer: Option<Peer>,
-) -> Making<Started<R::Started>> {
-    match command_of(alloc, target) {
-        Making::Made(mut command) => match set_peer(alloc, &mut command, peer) {
-            Ok(()) => spawn(rt, &mut command, part),
-            Err(NoMemory) => Making::Memory,
-        },
-        Making::Later(_) | Making::Failed => Making::Failed,
-        Making::Memory => Making::Memory,
+) -> Making<ChildPort>
+    ensures fresh { OnMade result IsFresh }
+    ensures halves { OnMade result (λ port. AreOf part port.socket) }
+    ensures at_once { IsAtOnce result }
+    ensures other { runs_program target.now ≡ false → result ≡ makings.Failed }
+{
+    let mut command = match command_of(alloc, target) {
+        Making::Made(command) => command,
+        Making::Later(_) | Making::Failed => return Making::Failed,
+        Making::Memory => return Making::Memory,
+    };
+    if set_peer(alloc, &mut command, peer).is_err() {
+        return Making::Memory;
+    }
+    let Some(mut child) = spawn(rt, &mut command, part) else {
+        return Making::Failed;
+    };
+    let (output, input) = (child.stdout.take(), child.stdin.take());
+    let Ok(ward) = nursery.ward(child) else {
+        return Making::Memory;
+    };
+    match pipes_of(registry, key, part, output, input) {
+        Some(pipes) => Making::Made(ChildPort::new(SocketPort::new(pipes, ()), ward)),
+        None => Making::Failed,
     }
 }
 
 /// The program and its arguments.
-fn command_of(alloc: Global, target: &Target) -> Making<Command> {
+fn command_of(alloc: Global, target: &Target) -> Making<Command>
+    ensures { runs_program target.now ≡ false → result ≡ makings.Failed }
+{
     match target {
         Target::Exec(words) => command_of_words(alloc, words),
         Target::System(text) => shell_command(alloc, text),
@@ -101,20 +127,31 @@ fn stream(is_used: bool) -> Stdio {
     }
 }
 
-fn spawn<R: Processes>(rt: &R, command: &mut Command, part: Part) -> Making<Started<R::Started>> {
+/// The running program, with this process's ends of its pipes.
+fn spawn<R: Processes<Started = SystemProcess>>(
+    rt: &R,
+    command: &mut Command,
+    part: Part,
+) -> Option<Child<SystemProcess>> {
     command.stdin(stream(part != Part::Reading));
     command.stdout(stream(part != Part::Writing));
     command.stderr(Stdio::inherit());
-    let Ok(mut child) = command.spawn(rt) else {
-        return Making::Failed;
-    };
-    let ends = match (part, child.stdout.take(), child.stdin.take()) {
-        (Part::Reading, Some(output), _) => FileEnds::Reading(StdSource::new(output)),
-        (Part::Writing, _, Some(input)) => FileEnds::Writing(ChildInput::new(input)),
-        (Part::Both, Some(output), Some(input)) => {
-            FileEnds::Both(StdSource::new(output), ChildInput::new(input))
-        }
-        _ => return Making::Failed,
-    };
-    Making::Made(Started { ends, child })
+    command.spawn(rt).ok()
+}
+
+/// The pipes of the part's halves. `None` where one isn't there or can't be reported.
+fn pipes_of(
+    registry: &Registry,
+    key: usize,
+    part: Part,
+    output: Option<ChildStdout>,
+    input: Option<ChildStdin>,
+) -> Option<Halves<ChildStdout, ChildStdin>>
+    ensures { IfSome result (AreOf part) }
+{
+    match part {
+        Part::Reading => Halves::enrolled(registry, key, Some(output?), None),
+        Part::Writing => Halves::enrolled(registry, key, None, Some(input?)),
+        Part::Both => Halves::enrolled(registry, key, Some(output?), Some(input?)),
+    }
 }

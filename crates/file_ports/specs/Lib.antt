@@ -1,5 +1,4 @@
 pub mod Access
 pub mod Echoes
-pub mod Files
+pub mod Halves
 pub mod Opened
-pub mod Streams

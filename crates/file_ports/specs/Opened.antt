@@ -13,7 +13,6 @@ use Rattle.file_ports.specs.declared.access.FileKind.TheVariants as kinds
 use Rattle.file_ports.specs.declared.open.FileEnds.{FileEnds}
 use Rattle.file_ports.specs.declared.open.FileEnds.TheVariants as ends
 use Rattle.file_ports.specs.Access.{access_of}
-use Rattle.file_ports.specs.Streams.{FileReading, FileWriting}
 
 -- the kind and the name of an address of a file
 abbrev pub file_named : Target → Option (FileKind × List ℕ)
@@ -31,7 +30,7 @@ OnMade makings.Failed P = Unit {0}
 OnMade makings.Memory P = Unit {0}
 
 -- a part that reads has what is read, and one that writes what is written, each opened in this way
-abbrev pub AreOpened : Part → Access → FileEnds FileReading FileWriting → Type 0
+abbrev pub AreOpened : Part → Access → FileEnds → Type 0
 AreOpened parts.Both access (ends.Both source sink) = (source.access ≡ access) × (sink.access ≡ access)
 AreOpened parts.Both access (ends.Reading source) = ⊥
 AreOpened parts.Both access (ends.Writing sink) = ⊥
@@ -44,7 +43,7 @@ AreOpened parts.Writing access (ends.Both source sink) = ⊥
 
 -- the address is one of a file whose name is UTF-8, the ends are those of the part, opened as the kind of the address
 -- and its flags ask, and the entry goes where it is to
-pub record IsOpened {G : Type 0} (single : Single) (part : Part) (ends : FileEnds FileReading FileWriting) (removal : Option G) : Type 0 where
+pub record IsOpened {G : Type 0} (single : Single) (part : Part) (ends : FileEnds) (removal : Option G) : Type 0 where
   pub named : (file : FileKind × List ℕ) × (file_named single.target ≡ Some file) × IsUtf8 file.1
   pub opened : AreOpened part (access_of named.0.0 single.options.file part) ends
   pub removed : is_some removal ≡ single.options.unlink_close

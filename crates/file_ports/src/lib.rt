@@ -1,15 +1,16 @@
-// Ports that aren't sockets or children: files and the echo pipe.
+// Ports of files, and the echo pipe.
 #![tactic(auto)]
 
 mod access;
 mod echo;
-mod file;
+mod halves;
 mod open;
 mod opening;
-mod streams;
+mod port;
 
 pub use access::{Access, FileKind};
 pub use echo::EchoPort;
-pub use file::FilePort;
-pub use open::{FileEnds, OpenedFile, Removal, open_file};
-pub use streams::{FileSink, FileSource};
+pub use halves::{Halves, Readiness};
+pub use open::{FileEnds, OpenedFile, open_file};
+pub use opening::Opened;
+pub use port::{FilePort, make_file};

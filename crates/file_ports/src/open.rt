@@ -1,16 +1,16 @@
 // Files are opened by their addresses.
-ghost use Rattle.std.specs.Prelude.{◌≡◌, None, Some, IfSome, IfNone, is_some, not, IsUtf8};
+ghost use Rattle.std.specs.Prelude.{◌≡◌, None, Some, IfSome, IfNone, is_some, IsUtf8};
 ghost use Rattle.port_trait.specs.declared.makers.Making.TheVariants as makings;
 ghost use Rattle.relay_model.specs.declared.places.Part.TheVariants as parts;
 ghost use Rattle.file_ports.specs.Opened.{file_named, OnMade, AreOpened, IsOpened};
 
 use crate::access::{Access, FileKind};
 use crate::opening::{Opened, open_now};
-use crate::streams::{FileSink, FileSource};
 use port_trait::Making;
 use relay_model::{Part, Single, Target, Text};
+use socket_ports::Removal;
 use std::alloc::Global;
-use std::fs::OpenFile;
+use std::fs::File;
 use std::io::ErrorKind;
 use std::os::unix::fs::FileTypeExt;
 use std::rt::Files;
@@ -18,38 +18,28 @@ use std::str;
 
 /// What is read and what is written, by the use of the file.
 #[derive(Drop)]
-pub enum FileEnds<S, K> {
-    Reading(S),
-    Writing(K),
-    Both(S, K),
-}
-
-/// Removes the entry of this name when it is let go. A removal that fails is disregarded.
-pub struct Removal<R: Files> {
-    files: R,
-    name: String,
-}
-
-impl<R: Files + Drop> Drop for Removal<R> {
-    fn drop(self) {
-        let Removal { files, name } = self;
-        let _ = files.remove_file(name.as_str());
-    }
+pub enum FileEnds {
+    Reading(Opened),
+    Writing(Opened),
+    Both(Opened, Opened),
 }
 
 /// A file that was opened, and what removes its entry when the port is let go (socat(1), `unlink-close`).
 #[derive(Drop)]
-pub struct OpenedFile<R: Files + Drop> {
-    pub ends: FileEnds<FileSource<R>, FileSink<R>>,
-    pub removal: Option<Removal<R>>,
+pub struct OpenedFile {
+    pub ends: FileEnds,
+    pub removal: Option<Removal>,
 }
 
 /// Opens the file of this address for this use. It answers `Failed` where the address is none of a file, where its
 /// name isn't UTF-8, and where the system refuses; a `PIPE` whose entry is no named pipe fails too. It is never
-/// `Later`. A named pipe that is used one way is opened at the first read or write.
-pub fn open_file<R>(files: R, alloc: Global, single: &Single, part: Part) -> Making<OpenedFile<R>>
-where
-    R: Files + Copy + Drop,
+/// `Later`. The opening of a named pipe that is used one way waits for the other end (fifo(7)).
+pub fn open_file<R: Files<File = File>>(
+    files: &R,
+    alloc: Global,
+    single: &Single,
+    part: Part,
+) -> Making<OpenedFile>
     ensures made { OnMade result (λ opened. IsOpened single.now part opened.ends opened.removal) }
     ensures other { file_named single.now.target ≡ None → result ≡ makings.Failed }
     ensures unnamed { IfSome (file_named single.now.target) (λ file. ¬ (IsUtf8 file.1) → result ≡ makings.Failed) }
@@ -64,35 +54,21 @@ where
         let _ = files.remove_file(name);
     }
     let access = Access::of(kind, single.options.file, part);
-    match open_ends(files, alloc, kind, access, name, part) {
-        Making::Made(ends) => keep_entry(files, alloc, ends, name, !single.options.unlink_close),
+    match open_ends(files, kind, access, name, part) {
+        Making::Made(ends) => keep_entry(alloc, ends, name, single.options.unlink_close),
         Making::Later(_) | Making::Failed => Making::Failed,
         Making::Memory => Making::Memory,
     }
 }
 
-/// The opened file, with what removes its entry unless that is to stay.
-fn keep_entry<R>(
-    files: R,
-    alloc: Global,
-    ends: FileEnds<FileSource<R>, FileSink<R>>,
-    name: &str,
-    stays: bool,
-) -> Making<OpenedFile<R>>
-where
-    R: Files + Copy + Drop,
-    ensures { OnMade result (λ opened. (opened.ends ≡ ends) × (is_some opened.removal ≡ not stays)) }
+/// The opened file, with what removes its entry where that is `wanted`.
+fn keep_entry(alloc: Global, ends: FileEnds, name: &str, wanted: bool) -> Making<OpenedFile>
+    ensures { OnMade result (λ opened. (opened.ends ≡ ends) × (is_some opened.removal ≡ wanted)) }
 {
-    if stays {
-        return Making::Made(OpenedFile {
-            ends,
-            removal: None,
-        });
-    }
     match String::from_str(alloc, name) {
         Ok(name) => Making::Made(OpenedFile {
             ends,
-            removal: Some(Removal { files, name }),
+            removal: Removal::only_if(wanted, name),
         }),
         Err(_) => Making::Memory,
     }
@@ -112,33 +88,27 @@ fn file_of(target: &Target) -> Option<(FileKind, &Text)>
     }
 }
 
-/// Opens the file, or leaves a named pipe to the thread.
-fn open_ends<R>(
-    files: R,
-    alloc: Global,
+/// Opens what the address names.
+fn open_ends<R: Files<File = File>>(
+    files: &R,
     kind: FileKind,
     access: Access,
     name: &str,
     part: Part,
-) -> Making<FileEnds<FileSource<R>, FileSink<R>>>
-where
-    R: Files + Copy + Drop,
+) -> Making<FileEnds>
     ensures { OnMade result (AreOpened part access) }
 {
-    let pipe = is_pipe(&files, name);
+    let pipe = is_pipe(files, name);
     if kind == FileKind::Pipe && !pipe {
         return Making::Failed;
     }
-    if pipe && !access.create_new && part != Part::Both {
-        return wait_for_end(files, alloc, access, name, part);
-    }
     if kind == FileKind::Generic && !access.write && !access.create_new {
-        make_missing(&files, name);
+        make_missing(files, name);
     }
-    if access.empty_first && !pipe && !is_emptied(&files, name) {
+    if access.empty_first && !pipe && !is_emptied(files, name) {
         return Making::Failed;
     }
-    match open_now(&files, access, name) {
+    match open_now(files, access, name) {
         Ok(opened) => ends_of(opened, part),
         Err(_) => Making::Failed,
     }
@@ -152,7 +122,7 @@ fn is_pipe<R: Files>(files: &R, name: &str) -> bool {
 }
 
 /// Makes a regular file where nothing is there.
-fn make_missing<R: Files>(files: &R, name: &str) {
+fn make_missing<R: Files<File = File>>(files: &R, name: &str) {
     let access = Access {
         create: true,
         create_new: true,
@@ -162,7 +132,7 @@ fn make_missing<R: Files>(files: &R, name: &str) {
 }
 
 /// Empties the file. True also where nothing is there.
-fn is_emptied<R: Files>(files: &R, name: &str) -> bool {
+fn is_emptied<R: Files<File = File>>(files: &R, name: &str) -> bool {
     let access = Access {
         truncate: true,
         ..Access::plain(false, true)
@@ -173,45 +143,19 @@ fn is_emptied<R: Files>(files: &R, name: &str) -> bool {
     }
 }
 
-/// The end of a named pipe that is opened later. One that is used both ways fails.
-fn wait_for_end<R>(
-    files: R,
-    alloc: Global,
-    access: Access,
-    name: &str,
-    part: Part,
-) -> Making<FileEnds<FileSource<R>, FileSink<R>>>
-where
-    R: Files + Copy + Drop,
-    ensures { OnMade result (AreOpened part access) }
-{
-    let Ok(name) = String::from_str(alloc, name) else {
-        return Making::Memory;
-    };
-    match part {
-        Part::Reading => Making::Made(FileEnds::Reading(FileSource::waiting(files, name, access))),
-        Part::Writing => Making::Made(FileEnds::Writing(FileSink::waiting(files, name, access))),
-        Part::Both => Making::Failed,
-    }
-}
-
 /// The ends of an open file. Both have one position in the file.
-fn ends_of<R>(opened: Opened<R::File>, part: Part) -> Making<FileEnds<FileSource<R>, FileSink<R>>>
-where
-    R: Files + Copy + Drop,
+fn ends_of(opened: Opened, part: Part) -> Making<FileEnds>
     ensures { OnMade result (AreOpened part opened.access) }
 {
     match part {
-        Part::Reading => Making::Made(FileEnds::Reading(FileSource::open(opened))),
-        Part::Writing => Making::Made(FileEnds::Writing(FileSink::open(opened))),
+        Part::Reading => Making::Made(FileEnds::Reading(opened)),
+        Part::Writing => Making::Made(FileEnds::Writing(opened)),
         Part::Both => both_ends(opened),
     }
 }
 
 /// The two ends of an open file.
-fn both_ends<R>(opened: Opened<R::File>) -> Making<FileEnds<FileSource<R>, FileSink<R>>>
-where
-    R: Files + Copy + Drop,
+fn both_ends(opened: Opened) -> Making<FileEnds>
     ensures { OnMade result (AreOpened parts.Both opened.access) }
 {
     let Ok(file) = opened.file.try_clone() else {
@@ -221,5 +165,5 @@ where
         file,
         access: opened.access,
     };
-    Making::Made(FileEnds::Both(FileSource::open(copy), FileSink::open(opened)))
+    Making::Made(FileEnds::Both(copy, opened))
 }

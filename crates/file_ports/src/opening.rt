@@ -2,22 +2,23 @@
 ghost use Rattle.std.specs.Prelude.{◌≡◌, IfOk};
 
 use crate::access::Access;
+use std::fs::File;
 use std::io;
 use std::rt::Files;
 
 /// A file, and how it was opened.
 #[derive(Drop)]
-pub(crate) struct Opened<F> {
-    pub(crate) file: F,
-    pub(crate) access: Access,
+pub struct Opened {
+    pub file: File,
+    pub access: Access,
 }
 
 /// Opens the file of this name. All openings of files are made here.
-pub(crate) fn open_now<R: Files>(
+pub(crate) fn open_now<R: Files<File = File>>(
     files: &R,
     access: Access,
     name: &str,
-) -> io::Result<Opened<R::File>>
+) -> io::Result<Opened>
     ensures { IfOk result (λ opened. opened.access ≡ access) }
 {
     let file = files.open_file(&access.options(), name)?;

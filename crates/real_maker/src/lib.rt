@@ -1,4 +1,4 @@
-// The maker of the program's ports: the echo pipe and sockets.
+// The maker of the program's ports: the echo pipe, sockets, files and programs.
 #![tactic(auto)]
 
 mod kinds;
@@ -7,5 +7,5 @@ mod opening;
 mod ports;
 
 pub use maker::RealMaker;
-pub use opening::{MadePort, OfSocket};
+pub use opening::OfSocket;
 pub use ports::RealPort;

@@ -1,37 +1,42 @@
 // The maker of every address that isn't a standard stream.
-ghost use Rattle.std.specs.Prelude.{◌≡◌, true};
+ghost use Rattle.std.specs.Prelude.{◌≡◌, true, None};
 ghost use Rattle.port_trait.specs.Counting.{Counted};
 ghost use Rattle.port_trait.specs.Hinting.{StaysHinting};
 ghost use Rattle.port_trait.specs.Made.{making_failed, making_stalled, IsAtOnce};
+ghost use Rattle.file_ports.specs.Opened.{OnMade};
 ghost use Rattle.real_maker.specs.Makers.{risen, risen_if};
 
 use crate::kinds::{Kind, kind_of};
-use crate::opening::{MadePort, OfSocket, make_echo};
+use crate::opening::{OfSocket, make_echo};
 use crate::ports::RealPort;
+use child_ports::{Nursery, make_child};
+use file_ports::make_file;
+use mio::Registry;
 use mio_poller::MioPoller;
 use port_trait::{MadePeer, Maker, Making, Port};
-use relay_model::{Peer, Place, Single};
+use relay_model::{Part, Peer, Place, Single};
 use socket_maker::SocketMaker;
 use std::alloc::Global;
-use std::fs::Files;
+use std::fs::{File, Files};
 use std::marker::Model;
 use std::net::Net;
-use std::sync::Wait;
-use std::thread::Threads;
+use std::process::{Processes, SystemProcess};
 use std::time::Clock;
 
-/// Makes echo pipes and sockets. Without a poller it makes no sockets.
+/// Makes echo pipes, sockets, files and programs, which a poller reports.
 #[derive(Drop)]
-pub struct RealMaker<R: Files + Wait + Drop> {
+pub struct RealMaker<R> {
     rt: R,
     alloc: Global,
-    sockets: Option<SocketMaker<R>>,
+    registry: Registry,
+    sockets: SocketMaker<R>,
+    nursery: Nursery<SystemProcess>,
     faults: u64,
     stalls: u64,
     came: Option<Peer>,
 }
 
-impl<R: Files + Wait + Drop> Model for RealMaker<R> {
+impl<R> Model for RealMaker<R> {
     ghost use Rattle.real_maker.specs.Makers.{MakerState};
 
     ghost Value = { MakerState };
@@ -41,30 +46,29 @@ impl<R: Files + Wait + Drop> Model for RealMaker<R> {
 
 impl<R> RealMaker<R>
 where
-    R: Files + Net + Clock + Threads + Wait + Copy + Drop,
+    R: Files<File = File> + Net + Clock + Processes<Started = SystemProcess> + Copy + Drop,
 {
-    /// A maker without a poller.
-    pub fn new(rt: R, alloc: Global) -> RealMaker<R>
-        ensures { result ≡ record { faults = 0; stalls = 0; came = None } }
-    {
-        RealMaker {
-            rt,
-            alloc,
-            sockets: None,
-            faults: 0,
-            stalls: 0,
-            came: None,
-        }
-    }
-
-    /// Its sockets are registered with this poller. Never `Later`.
+    /// Its ports are registered with this poller. Never `Later`.
     pub fn on(rt: R, alloc: Global, poller: &MioPoller<R>) -> Making<RealMaker<R>>
-        ensures { IsAtOnce result }
+        ensures at_once { IsAtOnce result }
+        ensures fresh { OnMade result (λ maker. maker ≡ record { faults = 0; stalls = 0; came = None }) }
     {
+        let Ok(registry) = poller.registry().try_clone() else {
+            return Making::Failed;
+        };
+        let Ok(nursery) = Nursery::new(alloc) else {
+            return Making::Memory;
+        };
         match SocketMaker::on(rt, alloc, poller) {
             Making::Made(sockets) => Making::Made(RealMaker {
-                sockets: Some(sockets),
-                ..RealMaker::new(rt, alloc)
+                rt,
+                alloc,
+                registry,
+                sockets,
+                nursery,
+                faults: 0,
+                stalls: 0,
+                came: None,
             }),
             Making::Later(_) | Making::Failed => Making::Failed,
             Making::Memory => Making::Memory,
@@ -100,39 +104,59 @@ where
         }
     }
 
-    /// Opens the address, without counting.
-    fn open(&mut self, key: usize, place: Place, single: &Single) -> Making<MadePort<R>>
+    /// Opens the address, without counting. Programs that are left are asked for their ends first.
+    fn open(
+        &mut self,
+        key: usize,
+        place: Place,
+        single: &Single,
+        behind: Option<Peer>,
+    ) -> Making<RealPort>
         ensures { self.new ≡ self.old }
     {
+        self.nursery.ask_all();
         match kind_of(&self.rt, single) {
             Kind::Echo => make_echo(self.alloc),
-            Kind::Socket => self.open_socket(key, place, single),
-            Kind::File | Kind::Child | Kind::Other => Making::Failed,
+            Kind::Socket => of_socket(self.sockets.make(key, place, single, None)),
+            Kind::File => self.open_file(key, place.part, single),
+            Kind::Child => self.start_program(key, place.part, single, behind),
+            Kind::Other => Making::Failed,
         }
     }
 
-    fn open_socket(&mut self, key: usize, place: Place, single: &Single) -> Making<MadePort<R>>
-        ensures { self.new ≡ self.old }
-    {
-        match &mut self.sockets {
-            Some(sockets) => of_socket(sockets.make(key, place, single, None)),
-            None => Making::Failed,
+    fn open_file(&self, key: usize, part: Part, single: &Single) -> Making<RealPort> {
+        match make_file(&self.rt, self.alloc, &self.registry, key, single, part) {
+            Making::Made(port) => Making::Made(RealPort::File(port)),
+            Making::Later(_) | Making::Failed => Making::Failed,
+            Making::Memory => Making::Memory,
+        }
+    }
+
+    fn start_program(
+        &self,
+        key: usize,
+        part: Part,
+        single: &Single,
+        behind: Option<Peer>,
+    ) -> Making<RealPort> {
+        let (registry, nursery) = (&self.registry, &self.nursery);
+        let target = &single.target;
+        match make_child(&self.rt, self.alloc, registry, key, nursery, target, part, behind) {
+            Making::Made(port) => Making::Made(RealPort::Child(port)),
+            Making::Later(_) | Making::Failed => Making::Failed,
+            Making::Memory => Making::Memory,
         }
     }
 
     /// Takes a peer at the door of a socket, without counting.
-    fn take_peer(&mut self, door: &mut MadePort<R>, key: usize) -> MadePeer<MadePort<R>>
+    fn take_peer(&mut self, door: &mut RealPort, key: usize) -> MadePeer<RealPort>
         ensures same { self.new ≡ self.old }
-        ensures hinting { StaysHinting (⟦<MadePort<R> as Port>⟧.hinting door.old) (⟦<MadePort<R> as Port>⟧.hinting door.new) (⟦<MadePort<R> as Port>⟧.hints door.new) }
-        ensures door { (⟦<MadePort<R> as Port>⟧.gave door.new ≡ ⟦<MadePort<R> as Port>⟧.gave door.old) × (⟦<MadePort<R> as Port>⟧.took door.new ≡ ⟦<MadePort<R> as Port>⟧.took door.old) }
+        ensures hinting { StaysHinting (⟦<RealPort as Port>⟧.hinting door.old) (⟦<RealPort as Port>⟧.hinting door.new) (⟦<RealPort as Port>⟧.hints door.new) }
+        ensures door { (⟦<RealPort as Port>⟧.gave door.new ≡ ⟦<RealPort as Port>⟧.gave door.old) × (⟦<RealPort as Port>⟧.took door.new ≡ ⟦<RealPort as Port>⟧.took door.old) }
     {
-        let Some(sockets) = &mut self.sockets else {
-            let _ = door.hint();
-            return MadePeer::Failed;
-        };
         match door {
-            RealPort::Socket(door) => peer_of(sockets.accept(door, key)),
-            RealPort::Echo(_) => {
+            RealPort::Socket(socket) => peer_of(self.sockets.accept(socket, key)),
+            RealPort::Echo(_) | RealPort::File(_) | RealPort::Child(_) => {
                 let _ = door.hint();
                 MadePeer::Failed
             }
@@ -141,9 +165,7 @@ where
 }
 
 /// A socket as a port of any kind.
-fn of_socket<R>(making: Making<OfSocket<R>>) -> Making<MadePort<R>>
-where
-    R: Files + Wait + Drop,
+fn of_socket(making: Making<OfSocket>) -> Making<RealPort>
     ensures failed { making_failed result ≡ making_failed making }
     ensures stalled { making_stalled result ≡ making_stalled making }
 {
@@ -156,10 +178,7 @@ where
 }
 
 /// A peer's socket as a port of any kind.
-fn peer_of<R>(peer: MadePeer<OfSocket<R>>) -> MadePeer<MadePort<R>>
-where
-    R: Files + Threads + Wait + Copy + Drop,
-{
+fn peer_of(peer: MadePeer<OfSocket>) -> MadePeer<RealPort> {
     match peer {
         MadePeer::Came(port, peer) => MadePeer::Came(RealPort::Socket(port), peer),
         MadePeer::NoPeer => MadePeer::NoPeer,
@@ -170,9 +189,9 @@ where
 
 impl<R> Maker for RealMaker<R>
 where
-    R: Files + Net + Clock + Threads + Wait + Copy + Drop,
+    R: Files<File = File> + Net + Clock + Processes<Started = SystemProcess> + Copy + Drop,
 {
-    type Made = MadePort<R>;
+    type Made = RealPort;
 
     ghost faults = { λ maker. maker.faults };
 
@@ -185,23 +204,20 @@ where
         key: usize,
         place: Place,
         single: &Single,
-        _behind: Option<Peer>,
-    ) -> Making<MadePort<R>> {
-        let making = self.open(key, place, single);
+        behind: Option<Peer>,
+    ) -> Making<RealPort> {
+        let making = self.open(key, place, single, behind);
         self.count_making(&making);
         making
     }
 
-    fn listen(&mut self, key: usize, single: &Single) -> Making<MadePort<R>> {
-        let making = match &mut self.sockets {
-            Some(sockets) => of_socket(sockets.listen(key, single)),
-            None => Making::Failed,
-        };
+    fn listen(&mut self, key: usize, single: &Single) -> Making<RealPort> {
+        let making = of_socket(self.sockets.listen(key, single));
         self.count_making(&making);
         making
     }
 
-    fn accept(&mut self, door: &mut MadePort<R>, key: usize) -> MadePeer<MadePort<R>> {
+    fn accept(&mut self, door: &mut RealPort, key: usize) -> MadePeer<RealPort> {
         match self.take_peer(door, key) {
             MadePeer::Came(port, peer) => {
                 self.came = Some(peer);

@@ -1,53 +1,61 @@
 // The port of any address that isn't a standard stream.
 ghost use Rattle.real_maker.specs.Ports.{of_port};
 
+use crate::opening::OfSocket;
+use child_ports::ChildPort;
+use file_ports::{EchoPort, FilePort};
 use port_trait::{Begun, Got, Hint, Joining, Port, PortReap, Settled, Shutting, Took};
 use relay_model::Shut;
 
-/// The echo pipe or a socket. Each call is that call on the port that it is.
+/// The echo pipe, a socket, a file or a program. Each call is that call on the port that it is. It has no type
+/// parameters: where a maker stands for one, a port without any is compared by its name.
 #[derive(Drop)]
-pub enum RealPort<E, S> {
-    Echo(E),
-    Socket(S),
+pub enum RealPort {
+    Echo(EchoPort),
+    Socket(OfSocket),
+    File(FilePort),
+    Child(ChildPort),
 }
 
-impl<E: Port, S: Port> Port for RealPort<E, S> {
-    ghost gave = { of_port E.gave S.gave };
+impl Port for RealPort {
+    ghost gave = { of_port ⟦<EchoPort as Port>⟧.gave ⟦<OfSocket as Port>⟧.gave ⟦<FilePort as Port>⟧.gave ⟦<ChildPort as Port>⟧.gave };
 
-    ghost took = { of_port E.took S.took };
+    ghost took = { of_port ⟦<EchoPort as Port>⟧.took ⟦<OfSocket as Port>⟧.took ⟦<FilePort as Port>⟧.took ⟦<ChildPort as Port>⟧.took };
 
-    ghost behind_gave = { of_port E.behind_gave S.behind_gave };
+    ghost behind_gave = { of_port ⟦<EchoPort as Port>⟧.behind_gave ⟦<OfSocket as Port>⟧.behind_gave ⟦<FilePort as Port>⟧.behind_gave ⟦<ChildPort as Port>⟧.behind_gave };
 
-    ghost behind_took = { of_port E.behind_took S.behind_took };
+    ghost behind_took = { of_port ⟦<EchoPort as Port>⟧.behind_took ⟦<OfSocket as Port>⟧.behind_took ⟦<FilePort as Port>⟧.behind_took ⟦<ChildPort as Port>⟧.behind_took };
 
-    ghost behind_faults = { of_port E.behind_faults S.behind_faults };
+    ghost behind_faults = { of_port ⟦<EchoPort as Port>⟧.behind_faults ⟦<OfSocket as Port>⟧.behind_faults ⟦<FilePort as Port>⟧.behind_faults ⟦<ChildPort as Port>⟧.behind_faults };
 
-    ghost behind_ends = { of_port E.behind_ends S.behind_ends };
+    ghost behind_ends = { of_port ⟦<EchoPort as Port>⟧.behind_ends ⟦<OfSocket as Port>⟧.behind_ends ⟦<FilePort as Port>⟧.behind_ends ⟦<ChildPort as Port>⟧.behind_ends };
 
-    ghost behind_left = { of_port E.behind_left S.behind_left };
+    ghost behind_left = { of_port ⟦<EchoPort as Port>⟧.behind_left ⟦<OfSocket as Port>⟧.behind_left ⟦<FilePort as Port>⟧.behind_left ⟦<ChildPort as Port>⟧.behind_left };
 
-    ghost served = { of_port E.served S.served };
+    ghost served = { of_port ⟦<EchoPort as Port>⟧.served ⟦<OfSocket as Port>⟧.served ⟦<FilePort as Port>⟧.served ⟦<ChildPort as Port>⟧.served };
 
-    ghost hints = { of_port E.hints S.hints };
+    ghost hints = { of_port ⟦<EchoPort as Port>⟧.hints ⟦<OfSocket as Port>⟧.hints ⟦<FilePort as Port>⟧.hints ⟦<ChildPort as Port>⟧.hints };
 
-    ghost hinting = { of_port E.hinting S.hinting };
+    ghost hinting = { of_port ⟦<EchoPort as Port>⟧.hinting ⟦<OfSocket as Port>⟧.hinting ⟦<FilePort as Port>⟧.hinting ⟦<ChildPort as Port>⟧.hinting };
 
-    ghost behind_finished = { of_port E.behind_finished S.behind_finished };
+    ghost behind_finished = { of_port ⟦<EchoPort as Port>⟧.behind_finished ⟦<OfSocket as Port>⟧.behind_finished ⟦<FilePort as Port>⟧.behind_finished ⟦<ChildPort as Port>⟧.behind_finished };
 
-    ghost counts = { of_port E.counts S.counts };
+    ghost counts = { of_port ⟦<EchoPort as Port>⟧.counts ⟦<OfSocket as Port>⟧.counts ⟦<FilePort as Port>⟧.counts ⟦<ChildPort as Port>⟧.counts };
 
-    ghost begun = { of_port E.begun S.begun };
+    ghost begun = { of_port ⟦<EchoPort as Port>⟧.begun ⟦<OfSocket as Port>⟧.begun ⟦<FilePort as Port>⟧.begun ⟦<ChildPort as Port>⟧.begun };
 
-    ghost ended = { of_port E.ended S.ended };
+    ghost ended = { of_port ⟦<EchoPort as Port>⟧.ended ⟦<OfSocket as Port>⟧.ended ⟦<FilePort as Port>⟧.ended ⟦<ChildPort as Port>⟧.ended };
 
-    ghost joins = { of_port E.joins S.joins };
+    ghost joins = { of_port ⟦<EchoPort as Port>⟧.joins ⟦<OfSocket as Port>⟧.joins ⟦<FilePort as Port>⟧.joins ⟦<ChildPort as Port>⟧.joins };
 
-    ghost child = { of_port E.child S.child };
+    ghost child = { of_port ⟦<EchoPort as Port>⟧.child ⟦<OfSocket as Port>⟧.child ⟦<FilePort as Port>⟧.child ⟦<ChildPort as Port>⟧.child };
 
     fn begin(&mut self) -> Begun {
         match self {
             RealPort::Echo(port) => port.begin(),
             RealPort::Socket(port) => port.begin(),
+            RealPort::File(port) => port.begin(),
+            RealPort::Child(port) => port.begin(),
         }
     }
 
@@ -55,6 +63,8 @@ impl<E: Port, S: Port> Port for RealPort<E, S> {
         match self {
             RealPort::Echo(port) => port.settle(),
             RealPort::Socket(port) => port.settle(),
+            RealPort::File(port) => port.settle(),
+            RealPort::Child(port) => port.settle(),
         }
     }
 
@@ -62,6 +72,8 @@ impl<E: Port, S: Port> Port for RealPort<E, S> {
         match self {
             RealPort::Echo(port) => port.read(into),
             RealPort::Socket(port) => port.read(into),
+            RealPort::File(port) => port.read(into),
+            RealPort::Child(port) => port.read(into),
         }
     }
 
@@ -69,6 +81,8 @@ impl<E: Port, S: Port> Port for RealPort<E, S> {
         match self {
             RealPort::Echo(port) => port.write(bytes),
             RealPort::Socket(port) => port.write(bytes),
+            RealPort::File(port) => port.write(bytes),
+            RealPort::Child(port) => port.write(bytes),
         }
     }
 
@@ -76,6 +90,8 @@ impl<E: Port, S: Port> Port for RealPort<E, S> {
         match self {
             RealPort::Echo(port) => port.send(bytes),
             RealPort::Socket(port) => port.send(bytes),
+            RealPort::File(port) => port.send(bytes),
+            RealPort::Child(port) => port.send(bytes),
         }
     }
 
@@ -83,6 +99,8 @@ impl<E: Port, S: Port> Port for RealPort<E, S> {
         match self {
             RealPort::Echo(port) => port.put_all(bytes),
             RealPort::Socket(port) => port.put_all(bytes),
+            RealPort::File(port) => port.put_all(bytes),
+            RealPort::Child(port) => port.put_all(bytes),
         }
     }
 
@@ -90,6 +108,8 @@ impl<E: Port, S: Port> Port for RealPort<E, S> {
         match self {
             RealPort::Echo(port) => port.shut(how),
             RealPort::Socket(port) => port.shut(how),
+            RealPort::File(port) => port.shut(how),
+            RealPort::Child(port) => port.shut(how),
         }
     }
 
@@ -97,6 +117,8 @@ impl<E: Port, S: Port> Port for RealPort<E, S> {
         match self {
             RealPort::Echo(port) => port.hint(),
             RealPort::Socket(port) => port.hint(),
+            RealPort::File(port) => port.hint(),
+            RealPort::Child(port) => port.hint(),
         }
     }
 
@@ -104,6 +126,8 @@ impl<E: Port, S: Port> Port for RealPort<E, S> {
         match self {
             RealPort::Echo(port) => port.may_hint(),
             RealPort::Socket(port) => port.may_hint(),
+            RealPort::File(port) => port.may_hint(),
+            RealPort::Child(port) => port.may_hint(),
         }
     }
 
@@ -111,6 +135,8 @@ impl<E: Port, S: Port> Port for RealPort<E, S> {
         match self {
             RealPort::Echo(port) => port.has_child(),
             RealPort::Socket(port) => port.has_child(),
+            RealPort::File(port) => port.has_child(),
+            RealPort::Child(port) => port.has_child(),
         }
     }
 
@@ -118,6 +144,8 @@ impl<E: Port, S: Port> Port for RealPort<E, S> {
         match self {
             RealPort::Echo(port) => port.reap(),
             RealPort::Socket(port) => port.reap(),
+            RealPort::File(port) => port.reap(),
+            RealPort::Child(port) => port.reap(),
         }
     }
 
@@ -125,6 +153,8 @@ impl<E: Port, S: Port> Port for RealPort<E, S> {
         match self {
             RealPort::Echo(port) => port.join(),
             RealPort::Socket(port) => port.join(),
+            RealPort::File(port) => port.join(),
+            RealPort::Child(port) => port.join(),
         }
     }
 }

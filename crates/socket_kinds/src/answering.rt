@@ -43,7 +43,7 @@ impl Connection {
 }
 
 /// What a read of a stream came to (recv(2)).
-pub(crate) fn received(read: &io::Result<usize>) -> Got
+pub fn received(read: &io::Result<usize>) -> Got
     ensures { IsReceived read.now result }
 {
     match read {
@@ -60,7 +60,7 @@ pub(crate) fn received(read: &io::Result<usize>) -> Got
 }
 
 /// What a write came to (send(2)).
-pub(crate) fn accepted(written: &io::Result<usize>) -> Took
+pub fn accepted(written: &io::Result<usize>) -> Took
     ensures { IsAccepted written.now result }
 {
     match written {

@@ -11,6 +11,7 @@ mod peers;
 mod socket;
 mod stream;
 
+pub use answering::{accepted, received};
 pub use any_socket::AnySocket;
 pub use datagram::DatagramSocket;
 pub use door::{Door, Listener};

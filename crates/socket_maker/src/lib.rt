@@ -4,8 +4,6 @@
 mod lookup;
 mod maker;
 mod making;
-mod removal;
 
 pub use maker::SocketMaker;
 pub use making::{listen_socket, make_socket};
-pub use removal::Removal;

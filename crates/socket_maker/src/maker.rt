@@ -13,13 +13,12 @@ ghost use Rattle.socket_ports.specs.Accepting.{IsFresh};
 ghost use Rattle.socket_maker.specs.Makings.{opened_sort, listens, port_sort};
 
 use crate::making::{listen_socket, make_socket};
-use crate::removal::Removal;
 use mio::Registry;
 use mio_poller::MioPoller;
 use port_trait::{MadePeer, Maker, Making};
 use relay_model::{Peer, Place, Single};
 use socket_kinds::AnySocket;
-use socket_ports::SocketPort;
+use socket_ports::{Removal, SocketPort};
 use std::alloc::Global;
 use std::fs::Files;
 use std::marker::Model;
@@ -99,7 +98,7 @@ impl<R: Net + Clock + Files + Copy + Drop> SocketMaker<R> {
 }
 
 impl<R: Net + Clock + Files + Copy + Drop> Maker for SocketMaker<R> {
-    type Made = SocketPort<AnySocket, Option<Removal<R>>>;
+    type Made = SocketPort<AnySocket, Option<Removal>>;
 
     ghost faults = { λ maker. maker.faults };
 
@@ -113,7 +112,7 @@ impl<R: Net + Clock + Files + Copy + Drop> Maker for SocketMaker<R> {
         _place: Place,
         single: &Single,
         _behind: Option<Peer>,
-    ) -> Making<SocketPort<AnySocket, Option<Removal<R>>>>
+    ) -> Making<SocketPort<AnySocket, Option<Removal>>>
         ensures fresh { OnPort IsFresh result }
         ensures sort { IfSome (port_sort result) (λ sort. opened_sort single.now.target ≡ Some sort) }
         ensures other { opened_sort single.now.target ≡ None → result ≡ makings.Failed }
@@ -130,7 +129,7 @@ impl<R: Net + Clock + Files + Copy + Drop> Maker for SocketMaker<R> {
         &mut self,
         key: usize,
         single: &Single,
-    ) -> Making<SocketPort<AnySocket, Option<Removal<R>>>>
+    ) -> Making<SocketPort<AnySocket, Option<Removal>>>
         ensures fresh { OnPort IsFresh result }
         ensures at_once { IsAtOnce result }
         ensures sort { IfSome (port_sort result) (λ sort. sort ≡ Listening) }
@@ -146,9 +145,9 @@ impl<R: Net + Clock + Files + Copy + Drop> Maker for SocketMaker<R> {
 
     fn accept(
         &mut self,
-        door: &mut SocketPort<AnySocket, Option<Removal<R>>>,
+        door: &mut SocketPort<AnySocket, Option<Removal>>,
         key: usize,
-    ) -> MadePeer<SocketPort<AnySocket, Option<Removal<R>>>>
+    ) -> MadePeer<SocketPort<AnySocket, Option<Removal>>>
         ensures fresh { OnPeer IsFresh result }
         ensures sort { OnPeer (λ port. is_door port.socket ≡ false) result }
         ensures no_door { is_door door.old.socket ≡ false → result ≡ peers.Failed }

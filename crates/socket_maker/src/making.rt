@@ -8,7 +8,6 @@ ghost use Rattle.socket_maker.specs.Makings.{opened_sort, listens, socket_sort, 
 ghost use Rattle.socket_kinds.specs.Kinds.{Connected, Packets, Listening};
 
 use crate::lookup::{door_address, local_address, look_up};
-use crate::removal::Removal;
 use mio::net::{TcpListener, TcpStream, UnixListener, UnixStream};
 use mio::{Interest, Registry, Token};
 use port_trait::{Making, Settled};
@@ -16,7 +15,7 @@ use relay_model::{Bind, Options, Single, Target, Text};
 use socket_kinds::{
     AnySocket, DatagramSocket, Door, EnrolledUdp, Listener, Socket, Stream, StreamSocket,
 };
-use socket_ports::SocketPort;
+use socket_ports::{Removal, SocketPort};
 use std::alloc::Global;
 use std::fs::Files;
 use std::net::{Net, SocketAddr, UdpSocket};
@@ -33,7 +32,7 @@ pub fn make_socket<R>(
     registry: &Arc<Registry, Global>,
     key: usize,
     single: &Single,
-) -> Making<SocketPort<AnySocket, Option<Removal<R>>>>
+) -> Making<SocketPort<AnySocket, Option<Removal>>>
 where
     R: Net + Files + Copy + Drop,
     ensures fresh { OnPort IsFresh result }
@@ -65,7 +64,7 @@ pub fn listen_socket<R>(
     registry: &Arc<Registry, Global>,
     key: usize,
     single: &Single,
-) -> Making<SocketPort<AnySocket, Option<Removal<R>>>>
+) -> Making<SocketPort<AnySocket, Option<Removal>>>
 where
     R: Net + Files + Copy + Drop,
     ensures fresh { OnPort IsFresh result }
@@ -89,9 +88,7 @@ where
 }
 
 /// The port of a socket that has no entry in the file system.
-fn nameless<R: Files + Drop>(
-    making: Making<AnySocket>,
-) -> Making<SocketPort<AnySocket, Option<Removal<R>>>>
+fn nameless(making: Making<AnySocket>) -> Making<SocketPort<AnySocket, Option<Removal>>>
     ensures fresh { OnPort IsFresh result }
     ensures sort { port_sort result ≡ socket_sort making }
     ensures at_once { IsAtOnce making → IsAtOnce result }
@@ -179,7 +176,7 @@ fn connect_unix<R>(
     key: usize,
     name: &Text,
     options: &Options,
-) -> Making<SocketPort<AnySocket, Option<Removal<R>>>>
+) -> Making<SocketPort<AnySocket, Option<Removal>>>
 where
     R: Net + Files + Copy + Drop,
     ensures fresh { OnPort IsFresh result }
@@ -198,7 +195,7 @@ where
     let Ok(stream) = UnixStream::connect(&rt, path) else {
         return Making::Failed;
     };
-    let removal = Removal::only_if(options.unlink_close, rt, entry);
+    let removal = Removal::only_if(options.unlink_close, entry);
     let mut stream = Stream::Unix(stream);
     if !stream.enroll(registry, key) {
         return Making::Failed;
@@ -259,7 +256,7 @@ fn listen_unix<R>(
     key: usize,
     name: &Text,
     options: &Options,
-) -> Making<SocketPort<AnySocket, Option<Removal<R>>>>
+) -> Making<SocketPort<AnySocket, Option<Removal>>>
 where
     R: Net + Files + Copy + Drop,
     ensures fresh { OnPort IsFresh result }
@@ -278,7 +275,7 @@ where
     let Ok(mut listener) = UnixListener::bind(&rt, path) else {
         return Making::Failed;
     };
-    let removal = Removal::only_if(options.unlink_close, rt, entry);
+    let removal = Removal::only_if(options.unlink_close, entry);
     if registry
         .register(&mut listener, Token(key), Interest::READABLE)
         .is_err()

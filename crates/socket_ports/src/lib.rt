@@ -3,5 +3,7 @@
 
 mod accepting;
 mod port;
+mod removal;
 
 pub use port::SocketPort;
+pub use removal::Removal;

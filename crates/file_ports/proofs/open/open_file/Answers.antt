@@ -1,10 +1,9 @@
-use Rattle.std.proofs.Common.{rules, ◌∙◌, sym, subst}
+use Rattle.std.proofs.Common.{rules, sym, subst}
 use Rattle.file_ports.specs.Access.{access_of}
 use Rattle.file_ports.specs.Opened.{AreOpened}
 use Rattle.file_ports.specs.declared.access.Access.{Access}
 use Rattle.file_ports.specs.declared.open.FileEnds.{FileEnds}
-use Rattle.file_ports.specs.Streams.{FileReading, FileWriting}
-use Rattle.file_ports.proofs.Makings.{on_made, not_not}
+use Rattle.file_ports.proofs.Makings.{on_made}
 use Rattle.file_ports.proofs.open.open_file.Goals as goal
 
 pub returns-in-Made-clause-made : goal.returns-in-Made-clause-made
@@ -15,6 +14,6 @@ returns-in-Made-clause-made g c =
     on_made _ _ c.keep_entry.result
     (λ made kept. record {
       named = ((c.in-Some.kind, c.in-Some.name.now), c.in-Some.ensures.found, search rules);
-      opened = subst (λ (ends : FileEnds FileReading FileWriting). AreOpened part asked ends) (sym kept.0) opened;
-      removed = kept.1 ∙ not_not c.args.single.now.options.unlink_close;
+      opened = subst (λ (ends : FileEnds). AreOpened part asked ends) (sym kept.0) opened;
+      removed = kept.1;
     }) c.keep_entry.ensures

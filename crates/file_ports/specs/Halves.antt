@@ -1,0 +1,27 @@
+-- What contracts see of two halves.
+use Rattle.std.specs.Prelude.{◌≡◌, Bool, Option, None, Some}
+use Rattle.relay_model.specs.declared.places.Part.{Part}
+use Rattle.port_trait.specs.declared.answers.Hint.{Hint}
+use Rattle.file_ports.specs.declared.halves.Readiness.{Readiness}
+use Rattle.file_ports.specs.declared.halves.Readiness.TheVariants as readiness
+use Rattle.file_ports.specs.Access.{reads_by, writes_by}
+
+-- whether there is something to read from and something to write to, and who knows when they are ready
+pub record HalvesState : Type 0 where
+  pub reads : Bool
+  pub writes : Bool
+  pub readiness : Readiness
+
+-- a hint at these halves, where they are always ready
+abbrev pub hint_by : Readiness → Bool → Bool → Option Hint
+hint_by readiness.Reported reads writes = None
+hint_by readiness.Always reads writes = Some (record { readable = reads; writable = writes })
+
+-- what is always ready hints at each half that is there, and what is reported hints at nothing
+abbrev pub halves_hint : HalvesState → Option Hint
+halves_hint halves = hint_by halves.readiness halves.reads halves.writes
+
+-- the halves are those that the part uses
+pub record AreOf (part : Part) (halves : HalvesState) : Type 0 where
+  pub reads : halves.reads ≡ reads_by part
+  pub writes : halves.writes ≡ writes_by part

@@ -1,0 +1,162 @@
+// What is read and what is written through descriptors whose calls answer at once.
+ghost use Rattle.std.specs.Prelude.{◌≡◌, ◌≢◌, ◌<◌, ◌&&◌, length, false, not, None, is_some, IfSome};
+ghost use Rattle.port_trait.specs.Meanings.{Gives, Accepts};
+ghost use Rattle.port_trait.specs.Streams.{finishes};
+ghost use Rattle.port_trait.specs.declared.answers.Got.TheVariants as reads;
+ghost use Rattle.port_trait.specs.declared.answers.Settled.TheVariants as settles;
+ghost use Rattle.port_trait.specs.declared.answers.Shutting.TheVariants as shuts;
+ghost use Rattle.port_trait.specs.declared.answers.Took.TheVariants as writes;
+ghost use Rattle.socket_kinds.specs.Sockets.{hint_told};
+ghost use Rattle.file_ports.specs.Halves.{halves_hint};
+
+use mio::unix::SourceFd;
+use mio::{Interest, Registry, Token};
+use port_trait::{Got, Hint, Settled, Shutting, Took};
+use relay_model::Shut;
+use socket_kinds::{Socket, accepted, received};
+use std::io::{ErrorKind, Read, Write};
+use std::marker::Model;
+use std::os::fd::AsRawFd;
+
+/// Who knows when a descriptor is ready. A regular file always is, and no registry takes it (epoll_ctl(2), `EPERM`).
+#[derive(Clone, Copy, Debug, PartialEq)]
+pub enum Readiness {
+    Reported,
+    Always,
+}
+
+/// The descriptors of the two halves, each where that half is used. A half that is shut is closed, so that who reads
+/// the other end of a pipe comes to its end.
+#[derive(Drop)]
+pub struct Halves<I, O> {
+    reading: Option<I>,
+    writing: Option<O>,
+    readiness: Readiness,
+}
+
+impl<I, O> Model for Halves<I, O> {
+    ghost use Rattle.std.specs.Prelude.{is_some};
+    ghost use Rattle.file_ports.specs.Halves.{HalvesState};
+
+    ghost Value = { HalvesState };
+
+    ghost view = { λ halves. record { reads = is_some halves.reading; writes = is_some halves.writing; readiness = halves.readiness } };
+}
+
+impl<I: AsRawFd + Drop, O: AsRawFd + Drop> Halves<I, O> {
+    /// Has the registry report each half under this key. `None` where the system refuses.
+    pub fn enrolled(
+        registry: &Registry,
+        key: usize,
+        reading: Option<I>,
+        writing: Option<O>,
+    ) -> Option<Halves<I, O>>
+        ensures { IfSome result (λ halves. (halves.reads ≡ is_some reading) × (halves.writes ≡ is_some writing)) }
+    {
+        let mut readiness = Readiness::Reported;
+        if let Some(input) = &reading {
+            readiness = enroll(registry, key, input, Interest::READABLE)?;
+        }
+        if let Some(output) = &writing {
+            readiness = enroll(registry, key, output, Interest::WRITABLE)?;
+        }
+        Some(Halves {
+            reading,
+            writing,
+            readiness,
+        })
+    }
+}
+
+/// Has no call on the descriptor wait, and the registry report it unless it is always ready.
+fn enroll<F: AsRawFd>(
+    registry: &Registry,
+    key: usize,
+    descriptor: &F,
+    interest: Interest,
+) -> Option<Readiness> {
+    let fd = descriptor.as_raw_fd();
+    if os::set_nonblocking(fd, true) != 0 {
+        return None;
+    }
+    match registry.register(&mut SourceFd(&fd), Token(key), interest) {
+        Ok(()) => Some(Readiness::Reported),
+        Err(error) if error.kind() == ErrorKind::PermissionDenied => Some(Readiness::Always),
+        Err(_) => None,
+    }
+}
+
+impl<I: Read + Drop, O: Write + Drop> Socket for Halves<I, O> {
+    ghost hints = { halves_hint };
+
+    fn settle(&mut self) -> Settled
+        ensures ready { result ≡ settles.Ready }
+        ensures kept { self.new ≡ self.old }
+    {
+        Settled::Ready
+    }
+
+    /// A half that isn't there fails.
+    fn receive(&mut self, into: &mut [u8]) -> Got
+        requires { 0 < length into.old }
+        ensures absent { self.old.reads ≡ false → result ≡ reads.Failed }
+        ensures gives { Gives None None into.new result }
+        ensures stream { result ≢ reads.Empty }
+        ensures kept { self.new ≡ self.old }
+    {
+        match &mut self.reading {
+            Some(input) => received(&input.read(into)),
+            None => Got::Failed,
+        }
+    }
+
+    /// A half that isn't there, or was shut, fails.
+    fn transmit(&mut self, bytes: &[u8]) -> Took
+        requires { 0 < length bytes.now }
+        ensures absent { self.old.writes ≡ false → result ≡ writes.Failed }
+        ensures accepts { Accepts None None bytes.now result }
+        ensures kept { self.new ≡ self.old }
+    {
+        match &mut self.writing {
+            Some(output) => accepted(&output.write(bytes)),
+            None => Took::Failed,
+        }
+    }
+
+    /// A stream has no packets.
+    fn transmit_packet(&mut self, _bytes: &[u8]) -> Took
+        ensures failed { result ≡ writes.Failed }
+        ensures kept { self.new ≡ self.old }
+    {
+        Took::Failed
+    }
+
+    /// Closes what is written at `Down` and `Close`.
+    fn finish(&mut self, how: Shut) -> Shutting
+        ensures done { result ≡ shuts.Done }
+        ensures closed { self.new ≡ record self.old { writes = self.old.writes && not (finishes how) } }
+    {
+        match how {
+            Shut::Down | Shut::Close => self.writing = None,
+            Shut::Nothing | Shut::Null => {}
+        }
+        Shutting::Done
+    }
+
+    /// What is always ready says so. The poller names what it is told of the others.
+    fn hint(&self) -> Hint
+        ensures { result ≡ hint_told (halves_hint self.now) }
+    {
+        let always = self.readiness == Readiness::Always;
+        Hint {
+            readable: always && self.reading.is_some(),
+            writable: always && self.writing.is_some(),
+        }
+    }
+
+    fn may_hint(&self) -> bool
+        ensures { result ≡ is_some (halves_hint self.now) }
+    {
+        self.readiness == Readiness::Always
+    }
+}
