@@ -483,7 +483,7 @@ if [ -n "$python" ]; then
 
     begin "UDP4: the child sees the peer's address and port"
     given_nothing
-    start relay -T2 UDP4-LISTEN:0 "$variables"
+    start relay -T2 UDP4-LISTEN:0 "SYSTEM:head -c 1 >/dev/null; ${variables#SYSTEM:}"
     peer connect udp4 "/@${pids[relay]}" from=127.0.0.2 send=x read=1
     ended relay 0 '' ''
     told 1 "<127.0.0.2 $port\n>"

@@ -1,5 +1,5 @@
 -- What contracts see of two halves.
-use Rattle.std.specs.Prelude.{◌≡◌, Bool, Option, None, Some}
+use Rattle.std.specs.Prelude.{◌≡◌, Bool, not, ◌&&◌, Option, None, Some}
 use Rattle.relay_model.specs.declared.places.Part.{Part}
 use Rattle.port_trait.specs.declared.answers.Hint.{Hint}
 use Rattle.file_ports.specs.declared.halves.Readiness.{Readiness}
@@ -25,3 +25,12 @@ halves_hint halves = hint_by halves.readiness halves.reads halves.writes
 pub record AreOf (part : Part) (halves : HalvesState) : Type 0 where
   pub reads : halves.reads ≡ reads_by part
   pub writes : halves.writes ≡ writes_by part
+
+-- a named pipe that waits for its other end: its use, and whether its writing was shut
+pub record WaitingState : Type 0 where
+  pub part : Part
+  pub shut : Bool
+
+-- the halves that it will have once it is open, which the poller reports
+abbrev pub waiting_halves : WaitingState → HalvesState
+waiting_halves pipe = record { reads = reads_by pipe.part; writes = writes_by pipe.part && not pipe.shut; readiness = readiness.Reported }

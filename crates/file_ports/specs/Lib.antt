@@ -2,3 +2,4 @@ pub mod Access
 pub mod Echoes
 pub mod Halves
 pub mod Opened
+pub mod Streams

@@ -29,17 +29,21 @@ OnMade (makings.Later made) P = ⊥
 OnMade makings.Failed P = Unit {0}
 OnMade makings.Memory P = Unit {0}
 
--- a part that reads has what is read, and one that writes what is written, each opened in this way
+-- a part that reads has what is read, and one that writes what is written, each opened in this way; a pipe that is used
+-- one way may be left to be opened so
 abbrev pub AreOpened : Part → Access → FileEnds → Type 0
 AreOpened parts.Both access (ends.Both source sink) = (source.access ≡ access) × (sink.access ≡ access)
 AreOpened parts.Both access (ends.Reading source) = ⊥
 AreOpened parts.Both access (ends.Writing sink) = ⊥
+AreOpened parts.Both access (ends.Waiting asked name) = ⊥
 AreOpened parts.Reading access (ends.Reading source) = source.access ≡ access
 AreOpened parts.Reading access (ends.Writing sink) = ⊥
 AreOpened parts.Reading access (ends.Both source sink) = ⊥
+AreOpened parts.Reading access (ends.Waiting asked name) = asked ≡ access
 AreOpened parts.Writing access (ends.Writing sink) = sink.access ≡ access
 AreOpened parts.Writing access (ends.Reading source) = ⊥
 AreOpened parts.Writing access (ends.Both source sink) = ⊥
+AreOpened parts.Writing access (ends.Waiting asked name) = asked ≡ access
 
 -- the address is one of a file whose name is UTF-8, the ends are those of the part, opened as the kind of the address
 -- and its flags ask, and the entry goes where it is to

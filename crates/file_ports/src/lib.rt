@@ -7,6 +7,8 @@ mod halves;
 mod open;
 mod opening;
 mod port;
+mod stream;
+mod waiting;
 
 pub use access::{Access, FileKind};
 pub use echo::EchoPort;
@@ -14,3 +16,5 @@ pub use halves::{Halves, Readiness};
 pub use open::{FileEnds, OpenedFile, open_file};
 pub use opening::Opened;
 pub use port::{FilePort, make_file};
+pub use stream::FileStream;
+pub use waiting::WaitingPipe;

@@ -22,6 +22,8 @@ pub enum FileEnds {
     Reading(Opened),
     Writing(Opened),
     Both(Opened, Opened),
+    /// A named pipe of this name that is to be opened one way, which waits for its other end (fifo(7)).
+    Waiting(Access, String),
 }
 
 /// A file that was opened, and what removes its entry when the port is let go (socat(1), `unlink-close`).
@@ -33,7 +35,7 @@ pub struct OpenedFile {
 
 /// Opens the file of this address for this use. It answers `Failed` where the address is none of a file, where its
 /// name isn't UTF-8, and where the system refuses; a `PIPE` whose entry is no named pipe fails too. It is never
-/// `Later`. The opening of a named pipe that is used one way waits for the other end (fifo(7)).
+/// `Later`. A named pipe that is used one way is left to be opened.
 pub fn open_file<R: Files<File = File>>(
     files: &R,
     alloc: Global,
@@ -54,7 +56,7 @@ pub fn open_file<R: Files<File = File>>(
         let _ = files.remove_file(name);
     }
     let access = Access::of(kind, single.options.file, part);
-    match open_ends(files, kind, access, name, part) {
+    match open_ends(files, alloc, kind, access, name, part) {
         Making::Made(ends) => keep_entry(alloc, ends, name, single.options.unlink_close),
         Making::Later(_) | Making::Failed => Making::Failed,
         Making::Memory => Making::Memory,
@@ -91,6 +93,7 @@ fn file_of(target: &Target) -> Option<(FileKind, &Text)>
 /// Opens what the address names.
 fn open_ends<R: Files<File = File>>(
     files: &R,
+    alloc: Global,
     kind: FileKind,
     access: Access,
     name: &str,
@@ -101,6 +104,12 @@ fn open_ends<R: Files<File = File>>(
     let pipe = is_pipe(files, name);
     if kind == FileKind::Pipe && !pipe {
         return Making::Failed;
+    }
+    if pipe && !access.create_new && part != Part::Both {
+        return match String::from_str(alloc, name) {
+            Ok(name) => Making::Made(FileEnds::Waiting(access, name)),
+            Err(_) => Making::Memory,
+        };
     }
     if kind == FileKind::Generic && !access.write && !access.create_new {
         make_missing(files, name);

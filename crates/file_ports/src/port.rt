@@ -4,49 +4,89 @@ ghost use Rattle.port_trait.specs.Made.{IsAtOnce};
 ghost use Rattle.port_trait.specs.declared.makers.Making.TheVariants as makings;
 ghost use Rattle.socket_ports.specs.Accepting.{IsFresh};
 ghost use Rattle.file_ports.specs.Halves.{AreOf};
-ghost use Rattle.file_ports.specs.Opened.{file_named, OnMade};
+ghost use Rattle.file_ports.specs.Opened.{file_named, AreOpened, OnMade};
+ghost use Rattle.file_ports.specs.Streams.{halves_of};
+ghost use Rattle.file_ports.specs.declared.access.Access.{Access};
 
 use crate::halves::Halves;
 use crate::open::{FileEnds, OpenedFile, open_file};
+use crate::stream::FileStream;
+use crate::waiting::WaitingPipe;
 use mio::Registry;
 use port_trait::Making;
 use relay_model::{Part, Single};
 use socket_ports::{Removal, SocketPort};
 use std::alloc::Global;
-use std::fs::File;
-use std::rt::Files;
+use std::net::Net;
+use std::rt::HostRuntime;
+use std::sync::Wait;
+use std::thread::Threads;
 
 /// The port of a file, which takes the entry with it where that is asked for.
-pub type FilePort = SocketPort<Halves<File, File>, Option<Removal>>;
+pub type FilePort = SocketPort<FileStream, Option<Removal>>;
 
-/// Opens the file of this address for this use, as `open_file` does, and has the registry report it under `key`.
-pub fn make_file<R: Files<File = File>>(
-    files: &R,
+/// Opens the file of this address for this use, as `open_file` does, and has the registry report it under `key`. A named
+/// pipe that is used one way is opened by a thread. `system` opens files, also where `rt` starts threads, since only a
+/// known runtime may go to one.
+pub fn make_file<R>(
+    rt: R,
+    system: HostRuntime,
     alloc: Global,
     registry: &Registry,
     key: usize,
     single: &Single,
     part: Part,
 ) -> Making<FilePort>
+where
+    R: Net + Threads + Wait + Copy + Send + Drop + 'static,
     ensures fresh { OnMade result IsFresh }
-    ensures halves { OnMade result (λ port. AreOf part port.socket) }
+    ensures halves { OnMade result (λ port. AreOf part (halves_of port.socket)) }
     ensures at_once { IsAtOnce result }
     ensures other { file_named single.now.target ≡ None → result ≡ makings.Failed }
 {
-    let OpenedFile { ends, removal } = match open_file(files, alloc, single, part) {
+    let OpenedFile { ends, removal } = match open_file(&system, alloc, single, part) {
         Making::Made(opened) => opened,
         Making::Later(_) | Making::Failed => return Making::Failed,
         Making::Memory => return Making::Memory,
     };
+    match stream_of(rt, system, alloc, registry, key, ends, part) {
+        Making::Made(stream) => Making::Made(SocketPort::new(stream, removal)),
+        Making::Later(_) | Making::Failed => Making::Failed,
+        Making::Memory => Making::Memory,
+    }
+}
+
+/// The file with these ends, which the registry reports.
+fn stream_of<R>(
+    rt: R,
+    system: HostRuntime,
+    alloc: Global,
+    registry: &Registry,
+    key: usize,
+    ends: FileEnds,
+    part: Part,
+) -> Making<FileStream>
+where
+    R: Net + Threads + Wait + Copy + Send + Drop + 'static,
+    requires { (access : Access) × AreOpened part access ends }
+    ensures { OnMade result (λ stream. AreOf part (halves_of stream)) }
+{
     let halves = match ends {
         FileEnds::Reading(input) => Halves::enrolled(registry, key, Some(input.file), None),
         FileEnds::Writing(output) => Halves::enrolled(registry, key, None, Some(output.file)),
         FileEnds::Both(input, output) => {
             Halves::enrolled(registry, key, Some(input.file), Some(output.file))
         }
+        FileEnds::Waiting(access, name) => {
+            return match WaitingPipe::of(rt, system, alloc, registry, key, part, access, name) {
+                Making::Made(pipe) => Making::Made(FileStream::Waiting(pipe)),
+                Making::Later(_) | Making::Failed => Making::Failed,
+                Making::Memory => Making::Memory,
+            };
+        }
     };
     match halves {
-        Some(halves) => Making::Made(SocketPort::new(halves, removal)),
+        Some(halves) => Making::Made(FileStream::Open(halves)),
         None => Making::Failed,
     }
 }

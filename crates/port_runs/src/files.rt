@@ -1,10 +1,44 @@
 // The files of rows.
-use case_rows::{Inputs, RowFault};
+use crate::calls::{PATIENCE, make_calls};
+use case_rows::{Answered, Answers, Inputs, RowFault};
+use file_ports::make_file;
+use mio::Poll;
+use port_trait::Making;
 use relay_model::{Options, Part, Single, Target, Text};
 use std::alloc::Global;
+use std::net::Net;
+use std::rt::HostRuntime;
+use std::sync::Wait;
+use std::thread::Threads;
+
+/// Opens the file, and makes the calls on its port.
+pub(crate) fn ask<R>(
+    rt: R,
+    system: HostRuntime,
+    alloc: Global,
+    inputs: &mut Inputs<'_>,
+    answers: &mut Answers,
+) -> Answered
+where
+    R: Net + Threads + Wait + Copy + Send + Drop + 'static,
+{
+    let part = part_of(inputs.word()?)?;
+    let single = single_of(alloc, inputs)?;
+    let Ok(poll) = Poll::new(&rt) else {
+        return answers.word("no-poll");
+    };
+    match make_file(rt, system, alloc, poll.registry(), 0, &single, part) {
+        Making::Made(mut port) => {
+            answers.word("made")?;
+            make_calls(alloc, &mut port, None, PATIENCE, inputs, answers)
+        }
+        Making::Later(_) | Making::Failed => answers.word("failed"),
+        Making::Memory => Err(RowFault::NoMemory),
+    }
+}
 
 /// The use of a file.
-pub(crate) fn part_of(word: &str) -> Result<Part, RowFault> {
+fn part_of(word: &str) -> Result<Part, RowFault> {
     match word {
         "reading" => Ok(Part::Reading),
         "writing" => Ok(Part::Writing),
@@ -14,7 +48,7 @@ pub(crate) fn part_of(word: &str) -> Result<Part, RowFault> {
 }
 
 /// The address of a file: its kind, and its name.
-pub(crate) fn single_of(alloc: Global, inputs: &mut Inputs<'_>) -> Result<Single, RowFault> {
+fn single_of(alloc: Global, inputs: &mut Inputs<'_>) -> Result<Single, RowFault> {
     let kind = inputs.word()?;
     let name = Text::of(alloc, inputs.bytes(alloc)?.as_slice())?;
     let target = match kind {

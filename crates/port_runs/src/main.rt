@@ -12,10 +12,8 @@ mod rings;
 mod spellings;
 
 use calls::{PATIENCE, make_calls};
-use case_rows::{Answers, Inputs, RowFault, try_files};
-use file_ports::{FileEnds, FilePort, FileSink, FileSource, OpenedFile, open_file};
-use port_objects::{ListSpawner, SureSpawner};
-use port_trait::{Making, StdSpawner};
+use case_rows::{Answers, Inputs, try_files};
+use port_objects::ListSpawner;
 use rings::NoWake;
 use std::alloc::Global;
 use std::io;
@@ -39,30 +37,7 @@ fn main(rt: HostRuntime) -> io::Result<ExitCode> {
                 let mut ring = RingWriter::new(alloc, sink, &mut spawner, NoWake)?;
                 make_calls(alloc, &mut ring, Some(&tap), PATIENCE, inputs, answers)
             }
-            "file" => {
-                let part = files::part_of(inputs.word()?)?;
-                let single = files::single_of(alloc, inputs)?;
-                let reader = |source: FileSource<HostRuntime>| {
-                    RingReader::new(alloc, source, &mut StdSpawner::new(rt), NoWake)
-                };
-                let writer = |sink: FileSink<HostRuntime>| {
-                    RingWriter::new(alloc, sink, &mut SureSpawner::new(rt), NoWake)
-                };
-                let OpenedFile { ends, removal } = match open_file(rt, alloc, &single, part) {
-                    Making::Made(opened) => opened,
-                    Making::Later(_) | Making::Failed => return answers.word("failed"),
-                    Making::Memory => return Err(RowFault::NoMemory),
-                };
-                let mut port = match ends {
-                    FileEnds::Reading(source) => FilePort::reading(reader(source)?, removal),
-                    FileEnds::Writing(sink) => FilePort::writing(writer(sink)?, removal),
-                    FileEnds::Both(source, sink) => {
-                        FilePort::both(reader(source)?, writer(sink)?, removal)
-                    }
-                };
-                answers.word("made")?;
-                make_calls(alloc, &mut port, None, PATIENCE, inputs, answers)
-            }
+            "file" => files::ask(rt, rt, alloc, inputs, answers),
             "queue" => queues::ask_queue(&rt, alloc, inputs, answers),
             "numbers" => queues::ask_numbers(&rt, alloc, inputs, answers),
             "socks4" | "socks4a" | "connect" => proxies::ask(alloc, part, inputs, answers),

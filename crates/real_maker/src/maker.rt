@@ -17,16 +17,20 @@ use port_trait::{MadePeer, Maker, Making, Port};
 use relay_model::{Part, Peer, Place, Single};
 use socket_maker::SocketMaker;
 use std::alloc::Global;
-use std::fs::{File, Files};
+use std::fs::Files;
 use std::marker::Model;
 use std::net::Net;
-use std::process::{Processes, SystemProcess};
+use std::process::SystemProcess;
+use std::rt::HostRuntime;
+use std::sync::Wait;
+use std::thread::Threads;
 use std::time::Clock;
 
 /// Makes echo pipes, sockets, files and programs, which a poller reports.
 #[derive(Drop)]
 pub struct RealMaker<R> {
     rt: R,
+    system: HostRuntime,
     alloc: Global,
     registry: Registry,
     sockets: SocketMaker<R>,
@@ -46,10 +50,16 @@ impl<R> Model for RealMaker<R> {
 
 impl<R> RealMaker<R>
 where
-    R: Files<File = File> + Net + Clock + Processes<Started = SystemProcess> + Copy + Drop,
+    R: Files + Net + Clock + Threads + Wait + Copy + Send + Drop + 'static,
 {
-    /// Its ports are registered with this poller. Never `Later`.
-    pub fn on(rt: R, alloc: Global, poller: &MioPoller<R>) -> Making<RealMaker<R>>
+    /// Its ports are registered with this poller. Files and programs are the system's: only a known runtime may go to a
+    /// thread that opens a file. Never `Later`.
+    pub fn on(
+        rt: R,
+        system: HostRuntime,
+        alloc: Global,
+        poller: &MioPoller<R>,
+    ) -> Making<RealMaker<R>>
         ensures at_once { IsAtOnce result }
         ensures fresh { OnMade result (λ maker. maker ≡ record { faults = 0; stalls = 0; came = None }) }
     {
@@ -62,6 +72,7 @@ where
         match SocketMaker::on(rt, alloc, poller) {
             Making::Made(sockets) => Making::Made(RealMaker {
                 rt,
+                system,
                 alloc,
                 registry,
                 sockets,
@@ -115,7 +126,7 @@ where
         ensures { self.new ≡ self.old }
     {
         self.nursery.ask_all();
-        match kind_of(&self.rt, single) {
+        match kind_of(&self.system, single) {
             Kind::Echo => make_echo(self.alloc),
             Kind::Socket => of_socket(self.sockets.make(key, place, single, None)),
             Kind::File => self.open_file(key, place.part, single),
@@ -125,7 +136,8 @@ where
     }
 
     fn open_file(&self, key: usize, part: Part, single: &Single) -> Making<RealPort> {
-        match make_file(&self.rt, self.alloc, &self.registry, key, single, part) {
+        let (rt, system, alloc) = (self.rt, self.system, self.alloc);
+        match make_file(rt, system, alloc, &self.registry, key, single, part) {
             Making::Made(port) => Making::Made(RealPort::File(port)),
             Making::Later(_) | Making::Failed => Making::Failed,
             Making::Memory => Making::Memory,
@@ -141,7 +153,7 @@ where
     ) -> Making<RealPort> {
         let (registry, nursery) = (&self.registry, &self.nursery);
         let target = &single.target;
-        match make_child(&self.rt, self.alloc, registry, key, nursery, target, part, behind) {
+        match make_child(&self.system, self.alloc, registry, key, nursery, target, part, behind) {
             Making::Made(port) => Making::Made(RealPort::Child(port)),
             Making::Later(_) | Making::Failed => Making::Failed,
             Making::Memory => Making::Memory,
@@ -189,7 +201,7 @@ fn peer_of(peer: MadePeer<OfSocket>) -> MadePeer<RealPort> {
 
 impl<R> Maker for RealMaker<R>
 where
-    R: Files<File = File> + Net + Clock + Processes<Started = SystemProcess> + Copy + Drop,
+    R: Files + Net + Clock + Threads + Wait + Copy + Send + Drop + 'static,
 {
     type Made = RealPort;
 

@@ -27,7 +27,7 @@ fn main(rt: HostRuntime) -> ExitCode {
         Ok(poller) => poller,
         Err(status) => return ExitCode::from(status),
     };
-    let maker = match made(RealMaker::on(rt, alloc, &poller)) {
+    let maker = match made(RealMaker::on(rt, rt, alloc, &poller)) {
         Ok(maker) => maker,
         Err(status) => return ExitCode::from(status),
     };

@@ -6,4 +6,5 @@ mod maker;
 mod making;
 
 pub use maker::SocketMaker;
-pub use making::{listen_socket, make_socket};
+pub use lookup::look_up;
+pub use making::{connect_host, listen_socket, make_socket};

@@ -12,7 +12,7 @@ use std::str;
 /// The address of a host, which may be a literal address. A kind with a family takes the first address of that
 /// family, and one without the first IPv4 address, or the first IPv6 one where there is no IPv4. `None` where the
 /// name isn't UTF-8, and where the lookup fails or finds no such address. It may wait for the system's resolver.
-pub(crate) fn look_up<R: Net>(rt: &R, family: Family, host: &Text, port: u16) -> Option<SocketAddr>
+pub fn look_up<R: Net>(rt: &R, family: Family, host: &Text, port: u16) -> Option<SocketAddr>
     ensures unnamed { ¬ (IsUtf8 host.now) → result ≡ None }
 {
     let Ok(name) = str::from_utf8(host.as_slice()) else {

@@ -11,7 +11,7 @@ use crate::lookup::{door_address, local_address, look_up};
 use mio::net::{TcpListener, TcpStream, UnixListener, UnixStream};
 use mio::{Interest, Registry, Token};
 use port_trait::{Making, Settled};
-use relay_model::{Bind, Options, Single, Target, Text};
+use relay_model::{Bind, Family, Options, Single, Target, Text};
 use socket_kinds::{
     AnySocket, DatagramSocket, Door, EnrolledUdp, Listener, Socket, Stream, StreamSocket,
 };
@@ -53,6 +53,25 @@ where
             connect_unix(rt, alloc, registry, key, name, options)
         }
         _ => Making::Failed,
+    }
+}
+
+/// Connects to the port of a host, which is looked up first. The registry reports the socket under `key`. A connection
+/// that doesn't stand yet is `Later`. It answers `Failed` where the host isn't found and where the system refuses.
+pub fn connect_host<R: Net>(
+    rt: &R,
+    registry: &Registry,
+    key: usize,
+    host: &Text,
+    port: u16,
+    nodelay: bool,
+) -> Making<SocketPort<AnySocket, Option<Removal>>>
+    ensures fresh { OnPort IsFresh result }
+    ensures sort { IfSome (port_sort result) (λ sort. sort ≡ Connected) }
+{
+    match look_up(rt, Family::Any, host, port) {
+        Some(addr) => nameless(connect_tcp(rt, registry, key, addr, nodelay)),
+        None => Making::Failed,
     }
 }
 
@@ -104,7 +123,7 @@ fn nameless(making: Making<AnySocket>) -> Making<SocketPort<AnySocket, Option<Re
 /// Begins to connect, and asks at once whether the connection stands.
 fn connect_tcp<R: Net>(
     rt: &R,
-    registry: &Arc<Registry, Global>,
+    registry: &Registry,
     key: usize,
     addr: SocketAddr,
     nodelay: bool,

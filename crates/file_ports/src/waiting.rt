@@ -1,0 +1,238 @@
+// A named pipe whose opening waits for its other end.
+ghost use Rattle.std.specs.Prelude.{◌≡◌, ◌||◌, false, is_some, IfSome};
+ghost use Rattle.port_trait.specs.Made.{IsAtOnce};
+ghost use Rattle.port_trait.specs.Streams.{finishes};
+ghost use Rattle.port_trait.specs.declared.answers.Shutting.TheVariants as shuts;
+ghost use Rattle.socket_kinds.specs.Sockets.{hint_told};
+ghost use Rattle.file_ports.specs.Halves.{waiting_halves, halves_hint};
+ghost use Rattle.file_ports.specs.Opened.{OnMade};
+ghost use Rattle.file_ports.specs.Streams.{OnOpened};
+
+use crate::access::Access;
+use crate::halves::Halves;
+use crate::opening::open_now;
+use mio::net::UnixStream;
+use mio::{Interest, Registry, Token};
+use port_trait::{Hint, Making, Shutting, Spawner, StdSpawner};
+use relay_model::{Part, Shut};
+use socket_kinds::Socket;
+use std::alloc::Global;
+use std::fs::File;
+use std::marker::Model;
+use std::mem;
+use std::net::Net;
+use std::rt::HostRuntime;
+use std::sync::{Arc, Mutex, Wait};
+use std::thread::{Promise, Threads};
+
+/// What the thread came to.
+#[derive(Drop)]
+enum Opening {
+    UnderWay,
+    Opened(File),
+    Refused,
+}
+
+/// Nothing is promised of what the thread hands back.
+#[derive(Drop)]
+struct Anything;
+
+impl Promise<()> for Anything {
+    ghost kept_by = { λ _ _. Unit {0} };
+}
+
+/// What the opening of a pipe has come to.
+pub(crate) enum Progress {
+    NotYet,
+    Open(Halves<File, File>),
+    Refused,
+}
+
+/// A named pipe that a thread of its own opens, since that waits for the other end (fifo(7)). A thread whose pipe was let
+/// go before closes what it opened.
+#[derive(Drop)]
+pub struct WaitingPipe {
+    part: Part,
+    shut: bool,
+    opening: Arc<Mutex<Opening>, Global>,
+    registry: Registry,
+    key: usize,
+    // the thread closes the other end of this when it is done, which the registry reports
+    _notice: UnixStream,
+}
+
+impl Model for WaitingPipe {
+    ghost use Rattle.file_ports.specs.Halves.{WaitingState};
+
+    ghost Value = { WaitingState };
+
+    ghost view = { λ pipe. record { part = pipe.part; shut = pipe.shut } };
+}
+
+impl WaitingPipe {
+    /// Has a thread open the pipe of this name, by `system`: only a known runtime may go to a thread. What it came to is
+    /// reported under `key`. Never `Later`.
+    pub(crate) fn of<R>(
+        rt: R,
+        system: HostRuntime,
+        alloc: Global,
+        registry: &Registry,
+        key: usize,
+        part: Part,
+        access: Access,
+        name: String,
+    ) -> Making<WaitingPipe>
+    where
+        R: Net + Threads + Wait + Copy + Send + Drop + 'static,
+        ensures at_once { IsAtOnce result }
+        ensures halves { OnMade result (λ pipe. pipe ≡ record { part = part; shut = false }) }
+    {
+        let (Ok(registry), Ok((mut notice, done))) = (registry.try_clone(), UnixStream::pair(&rt))
+        else {
+            return Making::Failed;
+        };
+        if registry
+            .register(&mut notice, Token(key), Interest::READABLE)
+            .is_err()
+        {
+            return Making::Failed;
+        }
+        let Ok(opening) = Arc::new(alloc, Mutex::new(Opening::UnderWay)) else {
+            return Making::Memory;
+        };
+        let Ok(told) = Arc::try_clone(&opening) else {
+            return Making::Memory;
+        };
+        if !launch(&mut StdSpawner::new(rt), rt, system, access, name, told, done) {
+            return Making::Failed;
+        }
+        Making::Made(WaitingPipe {
+            part,
+            shut: false,
+            opening,
+            registry,
+            key,
+            _notice: notice,
+        })
+    }
+
+    /// What the opening has come to. `Open` comes once. An entry that is no pipe any more is refused, and so is one whose
+    /// half was shut.
+    pub(crate) fn ask(&self) -> Progress
+        ensures { OnOpened result (λ halves. halves ≡ waiting_halves self.now) }
+    {
+        match self.take() {
+            Opening::UnderWay => Progress::NotYet,
+            Opening::Opened(file) => match self.halves_of(file) {
+                Some(halves) => Progress::Open(halves),
+                None => Progress::Refused,
+            },
+            Opening::Refused => Progress::Refused,
+        }
+    }
+
+    /// What the thread left here. An open pipe is taken away.
+    fn take(&self) -> Opening {
+        let Some(mut opening) = self.opening.try_lock() else {
+            return Opening::UnderWay;
+        };
+        let found = mem::replace(&mut *opening, Opening::Refused);
+        if let Opening::UnderWay = found {
+            *opening = Opening::UnderWay;
+        }
+        found
+    }
+
+    fn halves_of(&self, file: File) -> Option<Halves<File, File>>
+        ensures { IfSome result (λ halves. halves ≡ waiting_halves self.now) }
+    {
+        let halves = match (self.part, self.shut) {
+            (Part::Reading, false) => {
+                Halves::enrolled(&self.registry, self.key, Some(file), None)?
+            }
+            (Part::Writing, false) => {
+                Halves::enrolled(&self.registry, self.key, None, Some(file))?
+            }
+            _ => return None,
+        };
+        if halves.may_hint() {
+            return None;
+        }
+        Some(halves)
+    }
+
+    pub(crate) fn reads(&self) -> bool
+        ensures { result ≡ (waiting_halves self.now).reads }
+    {
+        match self.part {
+            Part::Both | Part::Reading => true,
+            Part::Writing => false,
+        }
+    }
+
+    pub(crate) fn writes(&self) -> bool
+        ensures { result ≡ (waiting_halves self.now).writes }
+    {
+        match self.part {
+            Part::Both | Part::Writing => !self.shut,
+            Part::Reading => false,
+        }
+    }
+
+    /// The poller names the pipe.
+    pub(crate) fn hint(&self) -> Hint
+        ensures { result ≡ hint_told (halves_hint (waiting_halves self.now)) }
+    {
+        Hint {
+            readable: false,
+            writable: false,
+        }
+    }
+
+    pub(crate) fn may_hint(&self) -> bool
+        ensures { result ≡ is_some (halves_hint (waiting_halves self.now)) }
+    {
+        false
+    }
+
+    /// Nothing more will be written from `Down` and `Close` on.
+    pub(crate) fn finish(&mut self, how: Shut) -> Shutting
+        ensures done { result ≡ shuts.Done }
+        ensures closed { self.new ≡ record self.old { shut = self.old.shut || finishes how } }
+    {
+        match how {
+            Shut::Down | Shut::Close => self.shut = true,
+            Shut::Nothing | Shut::Null => {}
+        }
+        Shutting::Done
+    }
+}
+
+/// Starts the thread that opens the pipe, tells what that came to, and closes `done`.
+fn launch<P, R>(
+    spawner: &mut P,
+    rt: R,
+    system: HostRuntime,
+    access: Access,
+    name: String,
+    told: Arc<Mutex<Opening>, Global>,
+    done: UnixStream,
+) -> bool
+where
+    P: Spawner,
+    R: Wait + Copy + Send + Drop + 'static,
+{
+    let work = move || -> () {
+        let opened = open_pipe(&system, access, name);
+        *told.lock(&rt) = opened;
+        drop(done);
+    };
+    spawner.start(Anything, work).is_ok()
+}
+
+fn open_pipe(system: &HostRuntime, access: Access, name: String) -> Opening {
+    match open_now(system, access, name.as_str()) {
+        Ok(opened) => Opening::Opened(opened.file),
+        Err(_) => Opening::Refused,
+    }
+}

@@ -1,0 +1,76 @@
+// Connections through a proxy.
+use crate::ports::RealPort;
+use connect_port::ConnectPort;
+use mio::Registry;
+use port_trait::Making;
+use relay_model::{Family, Options, Text};
+use socket_maker::{connect_host, look_up};
+use socks_port::{Request, SocksPort, request4, request4a};
+use std::alloc::Global;
+use std::net::{Net, SocketAddr};
+
+/// The most bytes of a user and of a host that a proxy is told.
+const MOST: usize = 255;
+
+/// Begins to connect to a host through a SOCKS server (socat(1), `SOCKS4` and `SOCKS4A`), which looks the host up where
+/// that is `named`.
+pub(crate) fn through_socks<R: Net>(
+    rt: &R,
+    registry: &Registry,
+    key: usize,
+    named: bool,
+    (server, host, port): (&Text, &Text, u16),
+    options: &Options,
+) -> Making<RealPort> {
+    let Some(request) = request_of(rt, named, host, port, options.socksuser.as_slice()) else {
+        return Making::Failed;
+    };
+    match connect_host(rt, registry, key, server, options.socksport, options.nodelay) {
+        Making::Made(port) => Making::Later(RealPort::Socks(SocksPort::new(port, request))),
+        Making::Later(port) => Making::Later(RealPort::Socks(SocksPort::new(port, request))),
+        Making::Failed => Making::Failed,
+        Making::Memory => Making::Memory,
+    }
+}
+
+/// The request to the server. `None` where a text is too long, and where the host isn't found.
+fn request_of<R: Net>(
+    rt: &R,
+    named: bool,
+    host: &Text,
+    port: u16,
+    user: &[u8],
+) -> Option<Request> {
+    let name = host.as_slice();
+    if user.len() > MOST || name.len() > MOST {
+        return None;
+    }
+    if named {
+        return Some(request4a(name, port, user));
+    }
+    match look_up(rt, Family::V4, host, port)? {
+        SocketAddr::V4(addr) => Some(request4(addr.ip().octets(), port, user)),
+        SocketAddr::V6(_) => None,
+    }
+}
+
+/// Begins to connect to a host through an HTTP proxy (socat(1), `PROXY`).
+pub(crate) fn through_proxy<R: Net>(
+    rt: &R,
+    alloc: Global,
+    registry: &Registry,
+    key: usize,
+    (server, host, port): (&Text, &Text, u16),
+    options: &Options,
+) -> Making<RealPort> {
+    let socket = match connect_host(rt, registry, key, server, options.proxyport, options.nodelay) {
+        Making::Made(socket) => socket,
+        Making::Later(socket) => socket,
+        Making::Failed => return Making::Failed,
+        Making::Memory => return Making::Memory,
+    };
+    match ConnectPort::new(alloc, socket, host.as_slice(), port) {
+        Ok(port) => Making::Later(RealPort::Proxy(port)),
+        Err(_) => Making::Memory,
+    }
+}
