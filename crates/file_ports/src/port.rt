@@ -19,7 +19,6 @@ use socket_ports::{Removal, SocketPort};
 use std::alloc::Global;
 use std::net::Net;
 use std::rt::HostRuntime;
-use std::sync::Wait;
 use std::thread::Threads;
 
 /// The port of a file, which takes the entry with it where that is asked for.
@@ -29,7 +28,7 @@ pub type FilePort = SocketPort<FileStream, Option<Removal>>;
 /// pipe that is used one way is opened by a thread. `system` opens files, also where `rt` starts threads, since only a
 /// known runtime may go to one.
 pub fn make_file<R>(
-    rt: R,
+    rt: &R,
     system: HostRuntime,
     alloc: Global,
     registry: &Registry,
@@ -38,7 +37,7 @@ pub fn make_file<R>(
     part: Part,
 ) -> Making<FilePort>
 where
-    R: Net + Threads + Wait + Copy + Send + Drop + 'static,
+    R: Net + Threads,
     ensures fresh { OnMade result IsFresh }
     ensures halves { OnMade result (λ port. AreOf part (halves_of port.socket)) }
     ensures at_once { IsAtOnce result }
@@ -58,7 +57,7 @@ where
 
 /// The file with these ends, which the registry reports.
 fn stream_of<R>(
-    rt: R,
+    rt: &R,
     system: HostRuntime,
     alloc: Global,
     registry: &Registry,
@@ -67,7 +66,7 @@ fn stream_of<R>(
     part: Part,
 ) -> Making<FileStream>
 where
-    R: Net + Threads + Wait + Copy + Send + Drop + 'static,
+    R: Net + Threads,
     requires { (access : Access) × AreOpened part access ends }
     ensures { OnMade result (λ stream. AreOf part (halves_of stream)) }
 {

@@ -13,7 +13,7 @@ use crate::halves::Halves;
 use crate::opening::open_now;
 use mio::net::UnixStream;
 use mio::{Interest, Registry, Token};
-use port_trait::{Hint, Making, Shutting, Spawner, StdSpawner};
+use port_trait::{Hint, Making, Shutting};
 use relay_model::{Part, Shut};
 use socket_kinds::Socket;
 use std::alloc::Global;
@@ -22,8 +22,9 @@ use std::marker::Model;
 use std::mem;
 use std::net::Net;
 use std::rt::HostRuntime;
-use std::sync::{Arc, Mutex, Wait};
-use std::thread::{Promise, Threads};
+use std::sync::{Arc, Mutex};
+use std::thread;
+use std::thread::Threads;
 
 /// What the thread came to.
 #[derive(Drop)]
@@ -31,14 +32,6 @@ enum Opening {
     UnderWay,
     Opened(File),
     Refused,
-}
-
-/// Nothing is promised of what the thread hands back.
-#[derive(Drop)]
-struct Anything;
-
-impl Promise<()> for Anything {
-    ghost kept_by = { λ _ _. Unit {0} };
 }
 
 /// What the opening of a pipe has come to.
@@ -73,7 +66,7 @@ impl WaitingPipe {
     /// Has a thread open the pipe of this name, by `system`: only a known runtime may go to a thread. What it came to is
     /// reported under `key`. Never `Later`.
     pub(crate) fn of<R>(
-        rt: R,
+        rt: &R,
         system: HostRuntime,
         alloc: Global,
         registry: &Registry,
@@ -83,11 +76,11 @@ impl WaitingPipe {
         name: String,
     ) -> Making<WaitingPipe>
     where
-        R: Net + Threads + Wait + Copy + Send + Drop + 'static,
+        R: Net + Threads,
         ensures at_once { IsAtOnce result }
         ensures halves { OnMade result (λ pipe. pipe ≡ record { part = part; shut = false }) }
     {
-        let (Ok(registry), Ok((mut notice, done))) = (registry.try_clone(), UnixStream::pair(&rt))
+        let (Ok(registry), Ok((mut notice, done))) = (registry.try_clone(), UnixStream::pair(rt))
         else {
             return Making::Failed;
         };
@@ -103,7 +96,7 @@ impl WaitingPipe {
         let Ok(told) = Arc::try_clone(&opening) else {
             return Making::Memory;
         };
-        if !launch(&mut StdSpawner::new(rt), rt, system, access, name, told, done) {
+        if !launch(rt, system, access, name, told, done) {
             return Making::Failed;
         }
         Making::Made(WaitingPipe {
@@ -209,25 +202,30 @@ impl WaitingPipe {
 }
 
 /// Starts the thread that opens the pipe, tells what that came to, and closes `done`.
-fn launch<P, R>(
-    spawner: &mut P,
-    rt: R,
+fn launch<R: Threads>(
+    rt: &R,
     system: HostRuntime,
     access: Access,
     name: String,
     told: Arc<Mutex<Opening>, Global>,
     done: UnixStream,
-) -> bool
-where
-    P: Spawner,
-    R: Wait + Copy + Send + Drop + 'static,
-{
-    let work = move || -> () {
-        let opened = open_pipe(&system, access, name);
-        *told.lock(&rt) = opened;
+) -> bool {
+    let work = move || {
+        tell(&told, open_pipe(&system, access, name));
         drop(done);
     };
-    spawner.start(Anything, work).is_ok()
+    thread::spawn(rt, work).is_ok()
+}
+
+/// Leaves what the opening came to. The port holds the lock for a moment at most.
+fn tell(told: &Mutex<Opening>, opened: Opening) {
+    for _ in 0..u64::MAX {
+        if let Some(mut opening) = told.try_lock() {
+            *opening = opened;
+            return;
+        }
+        thread::yield_now();
+    }
 }
 
 fn open_pipe(system: &HostRuntime, access: Access, name: String) -> Opening {

@@ -8,23 +8,22 @@ use relay_model::{Options, Part, Single, Target, Text};
 use std::alloc::Global;
 use std::net::Net;
 use std::rt::HostRuntime;
-use std::sync::Wait;
 use std::thread::Threads;
 
 /// Opens the file, and makes the calls on its port.
 pub(crate) fn ask<R>(
-    rt: R,
+    rt: &R,
     system: HostRuntime,
     alloc: Global,
     inputs: &mut Inputs<'_>,
     answers: &mut Answers,
 ) -> Answered
 where
-    R: Net + Threads + Wait + Copy + Send + Drop + 'static,
+    R: Net + Threads,
 {
     let part = part_of(inputs.word()?)?;
     let single = single_of(alloc, inputs)?;
-    let Ok(poll) = Poll::new(&rt) else {
+    let Ok(poll) = Poll::new(rt) else {
         return answers.word("no-poll");
     };
     match make_file(rt, system, alloc, poll.registry(), 0, &single, part) {

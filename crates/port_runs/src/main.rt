@@ -37,7 +37,7 @@ fn main(rt: HostRuntime) -> io::Result<ExitCode> {
                 let mut ring = RingWriter::new(alloc, sink, &mut spawner, NoWake)?;
                 make_calls(alloc, &mut ring, Some(&tap), PATIENCE, inputs, answers)
             }
-            "file" => files::ask(rt, rt, alloc, inputs, answers),
+            "file" => files::ask(&rt, rt, alloc, inputs, answers),
             "queue" => queues::ask_queue(&rt, alloc, inputs, answers),
             "numbers" => queues::ask_numbers(&rt, alloc, inputs, answers),
             "socks4" | "socks4a" | "connect" => proxies::ask(alloc, part, inputs, answers),

@@ -11,6 +11,7 @@ pub(crate) enum Kind {
     File,
     Socket,
     Child,
+    Proxied,
     /// A standard stream, or a kind whose ports aren't made here.
     Other,
 }
@@ -24,6 +25,7 @@ pub(crate) fn kind_of<R: Files>(files: &R, single: &Single) -> Kind {
         Target::GenericOpen(_) => Kind::File,
         Target::Tcp { .. } | Target::Udp { .. } | Target::UnixConnect(_) => Kind::Socket,
         Target::Exec(_) | Target::System(_) => Kind::Child,
+        Target::Socks { .. } | Target::Proxy { .. } => Kind::Proxied,
         _ => Kind::Other,
     }
 }

@@ -9,12 +9,13 @@ ghost use Rattle.real_maker.specs.Makers.{risen, risen_if};
 use crate::kinds::{Kind, kind_of};
 use crate::opening::{OfSocket, make_echo};
 use crate::ports::RealPort;
+use crate::proxied::{through_proxy, through_socks};
 use child_ports::{Nursery, make_child};
 use file_ports::make_file;
 use mio::Registry;
 use mio_poller::MioPoller;
 use port_trait::{MadePeer, Maker, Making, Port};
-use relay_model::{Part, Peer, Place, Single};
+use relay_model::{Part, Peer, Place, Single, Target};
 use socket_maker::SocketMaker;
 use std::alloc::Global;
 use std::fs::Files;
@@ -22,11 +23,10 @@ use std::marker::Model;
 use std::net::Net;
 use std::process::SystemProcess;
 use std::rt::HostRuntime;
-use std::sync::Wait;
 use std::thread::Threads;
 use std::time::Clock;
 
-/// Makes echo pipes, sockets, files and programs, which a poller reports.
+/// Makes echo pipes, sockets, files, programs and connections through proxies, which a poller reports.
 #[derive(Drop)]
 pub struct RealMaker<R> {
     rt: R,
@@ -50,7 +50,7 @@ impl<R> Model for RealMaker<R> {
 
 impl<R> RealMaker<R>
 where
-    R: Files + Net + Clock + Threads + Wait + Copy + Send + Drop + 'static,
+    R: Files + Net + Clock + Threads + Copy + Drop,
 {
     /// Its ports are registered with this poller. Files and programs are the system's: only a known runtime may go to a
     /// thread that opens a file. Never `Later`.
@@ -131,13 +131,14 @@ where
             Kind::Socket => of_socket(self.sockets.make(key, place, single, None)),
             Kind::File => self.open_file(key, place.part, single),
             Kind::Child => self.start_program(key, place.part, single, behind),
+            Kind::Proxied => self.connect_through(key, single),
             Kind::Other => Making::Failed,
         }
     }
 
     fn open_file(&self, key: usize, part: Part, single: &Single) -> Making<RealPort> {
-        let (rt, system, alloc) = (self.rt, self.system, self.alloc);
-        match make_file(rt, system, alloc, &self.registry, key, single, part) {
+        let (system, alloc) = (self.system, self.alloc);
+        match make_file(&self.rt, system, alloc, &self.registry, key, single, part) {
             Making::Made(port) => Making::Made(RealPort::File(port)),
             Making::Later(_) | Making::Failed => Making::Failed,
             Making::Memory => Making::Memory,
@@ -160,6 +161,22 @@ where
         }
     }
 
+    fn connect_through(&self, key: usize, single: &Single) -> Making<RealPort> {
+        let (rt, registry, options) = (&self.rt, &self.registry, &single.options);
+        match &single.target {
+            Target::Socks {
+                named,
+                server,
+                host,
+                port,
+            } => through_socks(rt, registry, key, *named, (server, host, *port), options),
+            Target::Proxy { server, host, port } => {
+                through_proxy(rt, self.alloc, registry, key, (server, host, *port), options)
+            }
+            _ => Making::Failed,
+        }
+    }
+
     /// Takes a peer at the door of a socket, without counting.
     fn take_peer(&mut self, door: &mut RealPort, key: usize) -> MadePeer<RealPort>
         ensures same { self.new ≡ self.old }
@@ -168,7 +185,7 @@ where
     {
         match door {
             RealPort::Socket(socket) => peer_of(self.sockets.accept(socket, key)),
-            RealPort::Echo(_) | RealPort::File(_) | RealPort::Child(_) => {
+            _ => {
                 let _ = door.hint();
                 MadePeer::Failed
             }
@@ -201,7 +218,7 @@ fn peer_of(peer: MadePeer<OfSocket>) -> MadePeer<RealPort> {
 
 impl<R> Maker for RealMaker<R>
 where
-    R: Files + Net + Clock + Threads + Wait + Copy + Send + Drop + 'static,
+    R: Files + Net + Clock + Threads + Copy + Drop,
 {
     type Made = RealPort;
 
