@@ -41,11 +41,11 @@ check:
 # The checks of the built programs alone, without the proofs' gate.
 test: bin/socat bin/socat-audit documents
 	tests/examples.sh bin/socat bin/socat-audit
-	tests/program.sh bin/socat streams journals
+	tests/program.sh bin/socat
 	tests/sockets.sh bin/socat
 	tests/words.sh bin/socat
 	tests/audit.sh bin/socat-audit
-	tests/audited.sh bin/socat bin/socat-audit streams journals
+	tests/audited.sh bin/socat bin/socat-audit
 
 # What the documents name and list is there.
 documents:
@@ -74,6 +74,7 @@ uninstall:
 bench: bin/socat
 	bench/throughput.sh bin/socat
 	bench/sockets.sh bin/socat
+	bench/programs.sh bin/socat
 	bench/words.sh bin/socat
 	bench/parts.sh
 	cd crates/bench_pump && rt run </dev/null >/dev/null

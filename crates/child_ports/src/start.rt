@@ -16,9 +16,7 @@ use port_trait::Making;
 use relay_model::{NoMemory, Part, Peer, Target, Text, Texts};
 use socket_ports::SocketPort;
 use std::alloc::Global;
-use std::process::{
-    Child, ChildStdin, ChildStdout, Command, Processes, Stdio, SystemProcess,
-};
+use std::process::{Child, ChildStdin, ChildStdout, Command, Processes, Stdio, SystemProcess};
 use std::str;
 
 /// Starts the program of an `EXEC` or the shell of a `SYSTEM` (socat(1)), and has the registry report its pipes under

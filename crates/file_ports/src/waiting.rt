@@ -19,12 +19,11 @@ use socket_kinds::Socket;
 use std::alloc::Global;
 use std::fs::File;
 use std::marker::Model;
-use std::mem;
 use std::net::Net;
 use std::rt::HostRuntime;
 use std::sync::{Arc, Mutex};
-use std::thread;
 use std::thread::Threads;
+use std::{mem, thread};
 
 /// What the thread came to.
 #[derive(Drop)]

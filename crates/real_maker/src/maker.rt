@@ -154,7 +154,16 @@ where
     ) -> Making<RealPort> {
         let (registry, nursery) = (&self.registry, &self.nursery);
         let target = &single.target;
-        match make_child(&self.system, self.alloc, registry, key, nursery, target, part, behind) {
+        match make_child(
+            &self.system,
+            self.alloc,
+            registry,
+            key,
+            nursery,
+            target,
+            part,
+            behind,
+        ) {
             Making::Made(port) => Making::Made(RealPort::Child(port)),
             Making::Later(_) | Making::Failed => Making::Failed,
             Making::Memory => Making::Memory,
@@ -171,7 +180,14 @@ where
                 port,
             } => through_socks(rt, registry, key, *named, (server, host, *port), options),
             Target::Proxy { server, host, port } => {
-                through_proxy(rt, self.alloc, registry, key, (server, host, *port), options)
+                through_proxy(
+                    rt,
+                    self.alloc,
+                    registry,
+                    key,
+                    (server, host, *port),
+                    options,
+                )
             }
             _ => Making::Failed,
         }

@@ -25,7 +25,14 @@ pub(crate) fn through_socks<R: Net>(
     let Some(request) = request_of(rt, named, host, port, options.socksuser.as_slice()) else {
         return Making::Failed;
     };
-    match connect_host(rt, registry, key, server, options.socksport, options.nodelay) {
+    match connect_host(
+        rt,
+        registry,
+        key,
+        server,
+        options.socksport,
+        options.nodelay,
+    ) {
         Making::Made(port) => Making::Later(RealPort::Socks(SocksPort::new(port, request))),
         Making::Later(port) => Making::Later(RealPort::Socks(SocksPort::new(port, request))),
         Making::Failed => Making::Failed,
@@ -34,13 +41,7 @@ pub(crate) fn through_socks<R: Net>(
 }
 
 /// The request to the server. `None` where a text is too long, and where the host isn't found.
-fn request_of<R: Net>(
-    rt: &R,
-    named: bool,
-    host: &Text,
-    port: u16,
-    user: &[u8],
-) -> Option<Request> {
+fn request_of<R: Net>(rt: &R, named: bool, host: &Text, port: u16, user: &[u8]) -> Option<Request> {
     let name = host.as_slice();
     if user.len() > MOST || name.len() > MOST {
         return None;
@@ -63,7 +64,14 @@ pub(crate) fn through_proxy<R: Net>(
     (server, host, port): (&Text, &Text, u16),
     options: &Options,
 ) -> Making<RealPort> {
-    let socket = match connect_host(rt, registry, key, server, options.proxyport, options.nodelay) {
+    let socket = match connect_host(
+        rt,
+        registry,
+        key,
+        server,
+        options.proxyport,
+        options.nodelay,
+    ) {
         Making::Made(socket) => socket,
         Making::Later(socket) => socket,
         Making::Failed => return Making::Failed,

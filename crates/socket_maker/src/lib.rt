@@ -5,6 +5,6 @@ mod lookup;
 mod maker;
 mod making;
 
-pub use maker::SocketMaker;
 pub use lookup::look_up;
+pub use maker::SocketMaker;
 pub use making::{connect_host, listen_socket, make_socket};
