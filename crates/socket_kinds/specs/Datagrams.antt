@@ -9,11 +9,16 @@ use Rattle.port_trait.specs.declared.answers.Got.TheVariants as reads
 use Rattle.socket_kinds.specs.declared.datagram.Fetched.{Fetched}
 use Rattle.socket_kinds.specs.declared.datagram.Fetched.TheVariants as fetches
 
--- the bytes of the last datagram that weren't handed out, and whether others' datagrams may still stand before the
--- next of the partner's
+-- the bytes of the last datagram that weren't handed out, whether others' datagrams may still stand before the
+-- next of the partner's, and whether the end comes behind the first datagram
 pub record DatagramState : Type 0 where
   pub rest : Option (List ℕ)
   pub cut_short : Bool
+  pub single : Bool
+
+-- a socket of which nothing was read, and all is to be read
+abbrev pub fresh_datagrams : DatagramState
+fresh_datagrams = record { rest = None; cut_short = false; single = false }
 
 -- it has the rest of a datagram, or is to look for one again
 abbrev pub datagram_hint : DatagramState → Hint

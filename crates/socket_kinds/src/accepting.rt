@@ -49,8 +49,14 @@ fn accept_at(
     ensures left_off { door.new ≡ true → result ≡ peers.NoPeer }
 {
     door.cut_short = false;
-    if let Listener::Udp(enrolled) = &door.listener {
-        return accept_partner(alloc, registry, &enrolled.socket, key);
+    match &door.listener {
+        Listener::Udp(enrolled) => {
+            return accept_partner(alloc, registry, &enrolled.socket, key, false);
+        }
+        Listener::Packets(enrolled) => {
+            return accept_partner(alloc, registry, &enrolled.socket, key, true);
+        }
+        Listener::Tcp(_) | Listener::Unix(_) => {}
     }
     let nodelay = door.nodelay;
     match door.accept_stream() {
@@ -79,12 +85,14 @@ fn stand(
     MadePeer::Came(AnySocket::Stream(StreamSocket::connected(stream)), peer)
 }
 
-/// Shares the door's socket. The datagram is taken from it only once the new port stands.
+/// Shares the door's socket. The datagram is taken from it only once the new port stands. A `single` one gives no
+/// further datagram.
 fn accept_partner(
     alloc: Global,
     registry: &Arc<Registry, Global>,
     door: &UdpSocket,
     key: usize,
+    single: bool,
 ) -> MadePeer<AnySocket>
     ensures { OnPeer (λ socket. is_door socket ≡ false) result }
 {
@@ -95,16 +103,16 @@ fn accept_partner(
         return MadePeer::Failed;
     };
     match DatagramSocket::new(alloc, registry, socket, key) {
-        Making::Made(socket) => hold_first(socket),
+        Making::Made(socket) => hold_first(socket, single),
         Making::Later(_) | Making::Failed => MadePeer::Failed,
         Making::Memory => MadePeer::Memory,
     }
 }
 
-fn hold_first(mut socket: DatagramSocket) -> MadePeer<AnySocket>
+fn hold_first(mut socket: DatagramSocket, single: bool) -> MadePeer<AnySocket>
     ensures { OnPeer (λ socket. is_door socket ≡ false) result }
 {
-    match socket.take_first() {
+    match socket.take_first(single) {
         Ok(sender) => MadePeer::Came(AnySocket::Datagrams(socket), peer_of(sender)),
         Err(error) => no_partner(&error),
     }

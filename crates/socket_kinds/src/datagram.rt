@@ -1,5 +1,5 @@
 // Sockets of datagrams (udp(7)).
-ghost use Rattle.std.specs.Prelude.{◌≡◌, ◌≢◌, ◌<◌, ◌≤◌, length, take, drop, min, vec_len, is_some, true, false, None, Some, IfSome, IfOk, IsTrue};
+ghost use Rattle.std.specs.Prelude.{◌≡◌, ◌≢◌, ◌<◌, ◌≤◌, ◌↔◌, length, take, drop, min, vec_len, is_some, true, false, None, Some, IfSome, IfOk, IsTrue};
 ghost use Rattle.port_trait.specs.Made.{IsAtOnce};
 ghost use Rattle.socket_kinds.specs.Accepting.{OnPort};
 ghost use Rattle.std.specs.Io.{WritesAtMost};
@@ -8,7 +8,7 @@ ghost use Rattle.port_trait.specs.declared.answers.Settled.TheVariants as settle
 ghost use Rattle.port_trait.specs.declared.answers.Got.TheVariants as reads;
 ghost use Rattle.port_trait.specs.declared.answers.Shutting.TheVariants as shuts;
 ghost use Rattle.relay_model.specs.declared.acts.Shut.TheVariants as ways;
-ghost use Rattle.socket_kinds.specs.Datagrams.{IsGiven, IsRefused, datagram_hint, is_datagram, gives_none};
+ghost use Rattle.socket_kinds.specs.Datagrams.{IsGiven, IsRefused, datagram_hint, is_datagram, gives_none, fresh_datagrams};
 ghost use Rattle.socket_kinds.specs.declared.datagram.Fetched.TheVariants as fetches;
 
 use crate::answering::accepted;
@@ -37,6 +37,8 @@ enum Partner {
     Connected,
     /// The one that has this address. What others send is dropped.
     At(SocketAddr),
+    /// Everyone. Nothing can be sent.
+    Anyone,
 }
 
 /// What asking the system for a datagram came to.
@@ -107,7 +109,7 @@ impl Packet {
                 Ok(()) => return Fetched::Datagram,
                 Err(error) => return refused(&error),
             },
-            Partner::At(_) => self.receive_from(socket),
+            Partner::At(_) | Partner::Anyone => self.receive_from(socket),
         };
         match sender {
             Ok(sender) => sent_by(sender, partner),
@@ -128,7 +130,8 @@ impl Packet {
     }
 }
 
-/// A socket of datagrams with one partner. A datagram that is longer than a read is given in parts.
+/// A socket of datagrams with one partner, or of those of everyone. A datagram that is longer than a read is given in
+/// parts. A `single` one gives the datagram that it took first, and then the end.
 #[derive(Drop)]
 pub struct DatagramSocket {
     enrolled: EnrolledUdp,
@@ -136,6 +139,7 @@ pub struct DatagramSocket {
     packet: Packet,
     // whether the packet is still to be handed out
     waiting: bool,
+    single: bool,
     // whether the last read left off among datagrams of others
     cut_short: bool,
 }
@@ -146,7 +150,7 @@ impl Model for DatagramSocket {
 
     ghost Value = { DatagramState };
 
-    ghost view = { λ socket. record { rest = if socket.waiting then Some socket.packet else None; cut_short = socket.cut_short } };
+    ghost view = { λ socket. record { rest = if socket.waiting then Some socket.packet else None; cut_short = socket.cut_short; single = socket.single } };
 }
 
 impl DatagramSocket {
@@ -159,38 +163,81 @@ impl DatagramSocket {
         key: usize,
     ) -> Making<DatagramSocket>
         ensures at_once { IsAtOnce result }
-        ensures fresh { OnPort (λ socket. socket ≡ record { rest = None; cut_short = false }) result }
+        ensures fresh { OnPort (λ socket. socket ≡ fresh_datagrams) result }
+    {
+        DatagramSocket::with(alloc, registry, socket, key, Partner::Connected)
+    }
+
+    /// The same with the partner that has this address.
+    pub fn to(
+        alloc: Global,
+        registry: &Arc<Registry, Global>,
+        socket: UdpSocket,
+        key: usize,
+        partner: SocketAddr,
+    ) -> Making<DatagramSocket>
+        ensures at_once { IsAtOnce result }
+        ensures fresh { OnPort (λ socket. socket ≡ fresh_datagrams) result }
+    {
+        DatagramSocket::with(alloc, registry, socket, key, Partner::At(partner))
+    }
+
+    /// The same of everyone's datagrams. Writes fail.
+    pub fn of_all(
+        alloc: Global,
+        registry: &Arc<Registry, Global>,
+        socket: UdpSocket,
+        key: usize,
+    ) -> Making<DatagramSocket>
+        ensures at_once { IsAtOnce result }
+        ensures fresh { OnPort (λ socket. socket ≡ fresh_datagrams) result }
+    {
+        DatagramSocket::with(alloc, registry, socket, key, Partner::Anyone)
+    }
+
+    fn with(
+        alloc: Global,
+        registry: &Arc<Registry, Global>,
+        socket: UdpSocket,
+        key: usize,
+        partner: Partner,
+    ) -> Making<DatagramSocket>
+        ensures at_once { IsAtOnce result }
+        ensures fresh { OnPort (λ socket. socket ≡ fresh_datagrams) result }
     {
         let both = Interest::READABLE | Interest::WRITABLE;
         match EnrolledUdp::new(registry, socket, key, both) {
-            Making::Made(enrolled) => DatagramSocket::over(alloc, enrolled),
+            Making::Made(enrolled) => DatagramSocket::over(alloc, enrolled, partner),
             Making::Later(_) | Making::Failed => Making::Failed,
             Making::Memory => Making::Memory,
         }
     }
 
-    fn over(alloc: Global, enrolled: EnrolledUdp) -> Making<DatagramSocket>
+    fn over(alloc: Global, enrolled: EnrolledUdp, partner: Partner) -> Making<DatagramSocket>
         ensures at_once { IsAtOnce result }
-        ensures fresh { OnPort (λ socket. socket ≡ record { rest = None; cut_short = false }) result }
+        ensures fresh { OnPort (λ socket. socket ≡ fresh_datagrams) result }
     {
         match Packet::new(alloc) {
             Ok(packet) => Making::Made(DatagramSocket {
                 enrolled,
-                partner: Partner::Connected,
+                partner,
                 packet,
                 waiting: false,
+                single: false,
                 cut_short: false,
             }),
             Err(_) => Making::Memory,
         }
     }
 
-    /// Takes the next datagram, which stays to be read, and makes its sender the partner.
-    pub(crate) fn take_first(&mut self) -> io::Result<SocketAddr>
-        ensures { IfOk result (λ _. is_some self.new.rest ≡ true) }
+    /// Takes the next datagram, which stays to be read, and makes its sender the partner. Where it is to be `single`, the
+    /// end comes behind it.
+    pub(crate) fn take_first(&mut self, single: bool) -> io::Result<SocketAddr>
+        ensures { IfOk result (λ _. (is_some self.new.rest ≡ true) × (self.new.single ≡ single)) }
     {
         let sender = self.packet.receive_from(&self.enrolled.socket)?;
         self.waiting = true;
+        self.single = single;
         self.partner = Partner::At(sender);
         Ok(sender)
     }
@@ -198,7 +245,7 @@ impl DatagramSocket {
     /// Asks the system once. What comes of the partner is held.
     fn fetch_one(&mut self) -> Fetched
         ensures held { is_some self.new.rest ≡ is_datagram result }
-        ensures same { self.new.cut_short ≡ self.old.cut_short }
+        ensures same { (self.new.cut_short ≡ self.old.cut_short) × (self.new.single ≡ self.old.single) }
     {
         let fetched = self.packet.fetch(&self.enrolled.socket, self.partner);
         self.waiting = fetched == Fetched::Datagram;
@@ -208,6 +255,7 @@ impl DatagramSocket {
     /// Asks until a datagram of the partner comes or none does, and drops those of others, at most 64 of them.
     fn fetch_past_others(&mut self) -> Fetched
         ensures held { is_some self.new.rest ≡ is_datagram result }
+        ensures same { self.new.single ≡ self.old.single }
     {
         for _ in 1..MOST_DROPPED {
             let fetched = self.fetch_one();
@@ -221,6 +269,7 @@ impl DatagramSocket {
     /// Asks for a datagram of the partner. Where it leaves off among those of others, it is to look again.
     fn fetch(&mut self) -> Fetched
         ensures held { is_some self.new.rest ≡ is_datagram result }
+        ensures same { self.new.single ≡ self.old.single }
         ensures left_off { IsTrue self.new.cut_short → result ≡ fetches.Others }
         ensures looks_again { result ≡ fetches.Others → IsTrue self.new.cut_short }
     {
@@ -234,7 +283,7 @@ impl DatagramSocket {
         requires some { 0 < length into.old }
         requires waiting { is_some self.old.rest ≡ true }
         ensures given { IfSome self.old.rest (λ bytes. IsGiven bytes into.new self.new.rest result) }
-        ensures same { self.new.cut_short ≡ self.old.cut_short }
+        ensures same { (self.new.cut_short ≡ self.old.cut_short) × (self.new.single ≡ self.old.single) }
         ensures gives { Gives None None into.new result }
         ensures some { gives_none result ≡ false }
     {
@@ -251,7 +300,7 @@ impl DatagramSocket {
         ensures { WritesAtMost result bytes.now }
     {
         match self.partner {
-            Partner::Connected => self.enrolled.socket.send(bytes),
+            Partner::Connected | Partner::Anyone => self.enrolled.socket.send(bytes),
             Partner::At(partner) => self.enrolled.socket.send_to(bytes, partner),
         }
     }
@@ -267,17 +316,22 @@ impl Socket for DatagramSocket {
         Settled::Ready
     }
 
-    /// The rest of the last datagram, or a front of the next one. It never joins two.
+    /// The rest of the last datagram, or a front of the next one. It never joins two. The end comes behind a single one.
     fn receive(&mut self, into: &mut [u8]) -> Got
         requires { 0 < length into.old }
         ensures rest { IfSome self.old.rest (λ bytes. IsGiven bytes into.new self.new.rest result) }
-        ensures stream { result ≢ reads.End }
+        ensures single { self.new.single ≡ self.old.single }
+        ensures end { (result ≡ reads.End) ↔ ((self.old.rest ≡ None) × (self.old.single ≡ true)) }
         ensures none { gives_none result ≡ true → self.new.rest ≡ None }
         ensures left_off { self.old.rest ≡ None → IsTrue self.new.cut_short → result ≡ reads.NotYet }
         ensures gives { Gives None None into.new result }
     {
         if self.waiting {
             return self.give(into);
+        }
+        if self.single {
+            self.cut_short = false;
+            return Got::End;
         }
         match self.fetch() {
             Fetched::Datagram => self.give(into),
@@ -349,7 +403,7 @@ impl Socket for DatagramSocket {
 fn sent_by(sender: SocketAddr, partner: Partner) -> Fetched {
     match partner {
         Partner::At(partner) if sender != partner => Fetched::Others,
-        Partner::At(_) | Partner::Connected => Fetched::Datagram,
+        Partner::At(_) | Partner::Anyone | Partner::Connected => Fetched::Datagram,
     }
 }
 

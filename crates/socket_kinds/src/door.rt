@@ -25,6 +25,8 @@ pub enum Listener {
     Tcp(TcpListener),
     Unix(UnixListener),
     Udp(EnrolledUdp),
+    /// Each datagram is a peer's by itself.
+    Packets(EnrolledUdp),
 }
 
 /// What an accepting came to.
@@ -49,7 +51,7 @@ impl Listener {
                 Ok((stream, _)) => Arrival::Came(Stream::Unix(stream), Peer::Local),
                 Err(error) => declined(&error),
             },
-            Listener::Udp(_) => Arrival::Failed,
+            Listener::Udp(_) | Listener::Packets(_) => Arrival::Failed,
         }
     }
 }
@@ -121,7 +123,7 @@ impl Door {
     pub fn local_port(&self) -> Option<u16> {
         let addr = match &self.listener {
             Listener::Tcp(listener) => listener.local_addr(),
-            Listener::Udp(enrolled) => enrolled.socket.local_addr(),
+            Listener::Udp(enrolled) | Listener::Packets(enrolled) => enrolled.socket.local_addr(),
             Listener::Unix(_) => return None,
         };
         match addr {

@@ -8,10 +8,12 @@ use Rattle.socket_kinds.specs.declared.any_socket.AnySocket.{AnySocket}
 use Rattle.socket_ports.specs.Sockets.{PortState}
 use Rattle.socket_kinds.specs.Kinds.{Sort, Connected, Packets, sort_of}
 
--- what is opened for an address that connects
+-- what is opened for an address that doesn't listen
 abbrev pub opened_sort : Target → Option Sort
 opened_sort (targets.Tcp family host port) = Some Connected
 opened_sort (targets.Udp family host port) = Some Packets
+opened_sort (targets.UdpSendto family host port) = Some Packets
+opened_sort (targets.UdpRecv family port) = Some Packets
 opened_sort (targets.UnixConnect name) = Some Connected
 opened_sort (targets.GenericOpen name) = Some Connected
 opened_sort _ = None
@@ -20,6 +22,7 @@ opened_sort _ = None
 abbrev pub listens : Target → Bool
 listens (targets.TcpListen family port) = true
 listens (targets.UdpListen family port) = true
+listens (targets.UdpRecvfrom family port) = true
 listens (targets.UnixListen name) = true
 listens _ = false
 

@@ -22,7 +22,7 @@ use std::net::{Net, SocketAddr, UdpSocket};
 use std::str;
 use std::sync::Arc;
 
-/// Opens the socket of an address that connects: TCP, UDP, and a Unix socket by `UNIX-CONNECT` or `GOPEN`. The
+/// Opens the socket of an address that doesn't listen: TCP, UDP, and a Unix socket by `UNIX-CONNECT` or `GOPEN`. The
 /// registry reports it under `key`. A TCP connection that doesn't stand yet is `Later`. It answers `Failed` where the
 /// address is of another kind, where a text isn't UTF-8, and where the system refuses. It may wait for the system's
 /// resolver.
@@ -47,6 +47,14 @@ where
         },
         Target::Udp { family, host, port } => match look_up(&rt, *family, host, *port) {
             Some(addr) => nameless(connect_udp(&rt, alloc, registry, key, addr, options.bind)),
+            None => Making::Failed,
+        },
+        Target::UdpSendto { family, host, port } => match look_up(&rt, *family, host, *port) {
+            Some(addr) => nameless(send_udp(&rt, alloc, registry, key, addr, options.bind)),
+            None => Making::Failed,
+        },
+        Target::UdpRecv { family, port } => match door_address(options.bind, *family, *port) {
+            Some(addr) => nameless(receive_udp(&rt, alloc, registry, key, addr)),
             None => Making::Failed,
         },
         Target::UnixConnect(name) | Target::GenericOpen(name) => {
@@ -76,7 +84,7 @@ pub fn connect_host<R: Net>(
 }
 
 /// Listens at an address: TCP, UDP or a Unix socket. The registry reports the door under `key`. It answers `Failed`
-/// as `make_socket` does, and never `Later`.
+/// as `make_socket` does, and at `UDP-LISTEN` with `fork`, whose peers would take each other's datagrams; never `Later`.
 pub fn listen_socket<R>(
     rt: R,
     alloc: Global,
@@ -97,8 +105,13 @@ where
             Some(addr) => nameless(listen_tcp(&rt, registry, key, addr, options.nodelay)),
             None => Making::Failed,
         },
+        Target::UdpListen { .. } if options.fork => Making::Failed,
         Target::UdpListen { family, port } => match door_address(options.bind, *family, *port) {
-            Some(addr) => nameless(listen_udp(&rt, registry, key, addr)),
+            Some(addr) => nameless(listen_udp(&rt, registry, key, addr, false)),
+            None => Making::Failed,
+        },
+        Target::UdpRecvfrom { family, port } => match door_address(options.bind, *family, *port) {
+            Some(addr) => nameless(listen_udp(&rt, registry, key, addr, true)),
             None => Making::Failed,
         },
         Target::UnixListen(name) => listen_unix(rt, alloc, registry, key, name, options),
@@ -168,7 +181,52 @@ fn connect_udp<R: Net>(
     if socket.connect(remote).is_err() {
         return Making::Failed;
     }
-    match DatagramSocket::new(alloc, registry, socket, key) {
+    datagrams(DatagramSocket::new(alloc, registry, socket, key))
+}
+
+/// A socket that sends to this address, and drops what others send (socat(1), `UDP-SENDTO`).
+fn send_udp<R: Net>(
+    rt: &R,
+    alloc: Global,
+    registry: &Arc<Registry, Global>,
+    key: usize,
+    remote: SocketAddr,
+    bind: Option<Bind>,
+) -> Making<AnySocket>
+    ensures sort { IfSome (socket_sort result) (λ sort. sort ≡ Packets) }
+    ensures at_once { IsAtOnce result }
+{
+    let Some(local) = local_address(bind, remote) else {
+        return Making::Failed;
+    };
+    match bind_udp(rt, local) {
+        Some(socket) => datagrams(DatagramSocket::to(alloc, registry, socket, key, remote)),
+        None => Making::Failed,
+    }
+}
+
+/// A socket that takes what anyone sends to this address (socat(1), `UDP-RECV`).
+fn receive_udp<R: Net>(
+    rt: &R,
+    alloc: Global,
+    registry: &Arc<Registry, Global>,
+    key: usize,
+    local: SocketAddr,
+) -> Making<AnySocket>
+    ensures sort { IfSome (socket_sort result) (λ sort. sort ≡ Packets) }
+    ensures at_once { IsAtOnce result }
+{
+    match bind_udp(rt, local) {
+        Some(socket) => datagrams(DatagramSocket::of_all(alloc, registry, socket, key)),
+        None => Making::Failed,
+    }
+}
+
+fn datagrams(making: Making<DatagramSocket>) -> Making<AnySocket>
+    ensures sort { IfSome (socket_sort result) (λ sort. sort ≡ Packets) }
+    ensures at_once { IsAtOnce result }
+{
+    match making {
         Making::Made(socket) => Making::Made(AnySocket::Datagrams(socket)),
         Making::Later(_) | Making::Failed => Making::Failed,
         Making::Memory => Making::Memory,
@@ -251,6 +309,7 @@ fn listen_udp<R: Net>(
     registry: &Arc<Registry, Global>,
     key: usize,
     addr: SocketAddr,
+    each_packet: bool,
 ) -> Making<AnySocket>
     ensures sort { IfSome (socket_sort result) (λ sort. sort ≡ Listening) }
     ensures at_once { IsAtOnce result }
@@ -260,7 +319,12 @@ fn listen_udp<R: Net>(
     };
     match EnrolledUdp::new(registry, socket, key, Interest::READABLE) {
         Making::Made(enrolled) => {
-            Making::Made(AnySocket::Door(Door::new(Listener::Udp(enrolled), false)))
+            let listener = if each_packet {
+                Listener::Packets(enrolled)
+            } else {
+                Listener::Udp(enrolled)
+            };
+            Making::Made(AnySocket::Door(Door::new(listener, false)))
         }
         Making::Later(_) | Making::Failed => Making::Failed,
         Making::Memory => Making::Memory,
