@@ -3,8 +3,9 @@
 # fail, and has it write journals. One line a case, and 'N passed, M failed' at the end; the status is 1 where a case
 # failed.
 # Usage: tests/program.sh [PROGRAM [PART..]]      (bin/socat where none is given, and all parts)
-# LARGE is the number of bytes that stands for 100 MB, for a program that is slow.
+# LARGE is the number of bytes that stands for 100 MB, for a program that is slow; RELAYS how many run in a row (300).
 set -u
+RELAYS="${RELAYS:-300}"
 
 . "$(dirname "${BASH_SOURCE[0]}")/common.sh"
 use_program "${1:-$here/bin/socat}"

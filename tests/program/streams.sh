@@ -144,6 +144,20 @@ feed() {
     fi
 }
 
+# A wake that is lost shows in one of some hundred relays, and leaves that one asleep for good.
+problem=''
+head -c 4194304 /dev/zero >"$scratch/blocks"
+for ((number = 1; number <= RELAYS; number++)); do
+    UNAUDITED=yes timeout 30 "$program" "${relay[@]}" <"$scratch/blocks" >/dev/null 2>&1
+    status=$?
+    if [ "$status" -ne 0 ]; then
+        problem="relay $number: status $status"
+        break
+    fi
+done
+rm -f "$scratch/blocks"
+report "$RELAYS relays of 4 MB in a row come to their ends" "$problem"
+
 if [ -r /proc/self/status ]; then
     mkfifo "$scratch/feed"
     feed 1048576

@@ -229,3 +229,73 @@ peer listen udp4 sleep=30
 given_slowly x 1 y 3 ''
 run 1 '' 'socat: write failed on the right' -u STDIN "UDP4:127.0.0.9:$port"
 finish
+
+# --- one socket for whoever sends
+
+# free_port: `port` is one that was free just now.
+free_port() {
+    peer listen udp4
+    told "$peers" ''
+}
+
+begin "UDP-SENDTO: what is sent, and what its partner answers"
+given ping
+peer listen udp4 read=1 send=pong
+run 0 pong '' -t1 STDIO "UDP4-SENDTO:127.0.0.1:$port"
+told 1 '<ping>'
+finish
+
+begin "UDP-SENDTO drops what a stranger sends"
+given ping
+free_port
+own_port="$port"
+peer listen udp4 read=1 wait=called sleep=0.1 send=pong
+start relay -t5 STDIO "UDP4-SENDTO:127.0.0.1:$port,bind=127.0.0.1:$own_port,null-eof"
+peer connect udp4 "/@${pids[relay]}" send=stranger send= make=called
+told 3 ''
+told 2 '<ping>'
+await relay
+wrong_if "$(holds relay.out pong)"
+finish
+
+begin "UDP-RECV: what two senders send comes out together"
+given_nothing
+free_port
+start relay -T1 -u "UDP4-RECV:$port" STDOUT
+listens relay udp4
+peer connect udp4 "/$port" send=one
+told 2 ''
+peer connect udp4 "/@${pids[relay]}" send=two
+ended relay 0 onetwo ''
+finish
+
+begin "UDP-RECV: with null-eof an empty datagram is the end"
+given_nothing
+free_port
+start relay -u "UDP4-RECV:$port,null-eof" STDOUT
+listens relay udp4
+peer connect udp4 "/$port" send=one send= send=two
+ended relay 0 one ''
+finish
+
+begin "UDP-RECVFROM: one datagram, and the answer to its sender"
+given_nothing
+start relay -t1 UDP4-RECVFROM:0 PIPE
+peer connect udp4 "/@${pids[relay]}" send=ping read=1
+ended relay 0 '' ''
+told 1 '<ping>'
+finish
+
+begin "UDP-RECVFROM: the end comes behind the first datagram"
+given_nothing
+start relay -u UDP4-RECVFROM:0 STDOUT
+peer connect udp4 "/@${pids[relay]}" send=first send=second
+ended relay 0 first ''
+finish
+
+begin "UDP-RECVFROM: a datagram that is longer than a block comes whole"
+given_nothing
+start relay -b100 -u UDP4-RECVFROM:0 STDOUT
+peer connect udp4 "/@${pids[relay]}" send="$(printf '%0250d' 7)"
+ended relay 0 "$(printf '%0250d' 7)" ''
+finish

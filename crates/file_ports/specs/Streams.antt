@@ -1,5 +1,5 @@
 -- What contracts see of a file from its opening on.
-use Rattle.std.specs.Prelude.{◌≡◌}
+use Rattle.std.specs.Prelude.{Bool, true, false}
 use Rattle.file_ports.specs.Halves.{HalvesState, waiting_halves}
 use Rattle.file_ports.specs.declared.stream.FileStream.{FileStream}
 use Rattle.file_ports.specs.declared.stream.FileStream.TheVariants as streams
@@ -10,6 +10,11 @@ use Rattle.file_ports.specs.declared.waiting.Progress.TheVariants as progress
 abbrev pub halves_of : FileStream → HalvesState
 halves_of (streams.Open halves) = halves
 halves_of (streams.Waiting pipe) = waiting_halves pipe
+
+-- the file is open
+abbrev pub is_open : FileStream → Bool
+is_open (streams.Open halves) = true
+is_open (streams.Waiting pipe) = false
 
 -- a fact of the halves, once they are there
 abbrev pub OnOpened : Progress → (HalvesState → Type 0) → Type 0

@@ -1,5 +1,5 @@
 // A file, from its opening on.
-ghost use Rattle.std.specs.Prelude.{◌≡◌, ◌≢◌, ◌<◌, ◌&&◌, length, false, not, None, is_some};
+ghost use Rattle.std.specs.Prelude.{◌≡◌, ◌≢◌, ◌<◌, ◌&&◌, length, true, false, not, None, is_some};
 ghost use Rattle.port_trait.specs.Meanings.{Gives, Accepts};
 ghost use Rattle.port_trait.specs.Streams.{finishes};
 ghost use Rattle.port_trait.specs.declared.answers.Got.TheVariants as reads;
@@ -8,7 +8,7 @@ ghost use Rattle.port_trait.specs.declared.answers.Shutting.TheVariants as shuts
 ghost use Rattle.port_trait.specs.declared.answers.Took.TheVariants as writes;
 ghost use Rattle.socket_kinds.specs.Sockets.{hint_told};
 ghost use Rattle.file_ports.specs.Halves.{halves_hint};
-ghost use Rattle.file_ports.specs.Streams.{halves_of};
+ghost use Rattle.file_ports.specs.Streams.{halves_of, is_open};
 
 use crate::halves::Halves;
 use crate::waiting::{Progress, WaitingPipe};
@@ -103,9 +103,10 @@ impl Socket for FileStream {
         Took::Failed
     }
 
-    /// Closes what is written at `Down` and `Close`.
+    /// Closes what is written at `Down` and `Close`. A pipe that waits for its other end to read does so first.
     fn finish(&mut self, how: Shut) -> Shutting
-        ensures done { result ≡ shuts.Done }
+        ensures untouched { finishes how ≡ false → result ≡ shuts.Done }
+        ensures done { is_open self.old ≡ true → result ≡ shuts.Done }
         ensures closed { halves_of self.new ≡ record (halves_of self.old) { writes = (halves_of self.old).writes && not (finishes how) } }
     {
         match self {

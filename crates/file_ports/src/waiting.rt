@@ -1,5 +1,5 @@
 // A named pipe whose opening waits for its other end.
-ghost use Rattle.std.specs.Prelude.{◌≡◌, ◌||◌, false, is_some, IfSome};
+ghost use Rattle.std.specs.Prelude.{◌≡◌, ◌||◌, true, false, is_some, IfSome};
 ghost use Rattle.port_trait.specs.Made.{IsAtOnce};
 ghost use Rattle.port_trait.specs.Streams.{finishes};
 ghost use Rattle.port_trait.specs.declared.answers.Shutting.TheVariants as shuts;
@@ -18,8 +18,10 @@ use relay_model::{Part, Shut};
 use socket_kinds::Socket;
 use std::alloc::Global;
 use std::fs::File;
+use std::io::Read;
 use std::marker::Model;
 use std::net::Net;
+use std::os::fd::AsRawFd;
 use std::rt::HostRuntime;
 use std::sync::{Arc, Mutex};
 use std::thread::Threads;
@@ -50,7 +52,7 @@ pub struct WaitingPipe {
     registry: Registry,
     key: usize,
     // the thread closes the other end of this when it is done, which the registry reports
-    _notice: UnixStream,
+    notice: UnixStream,
 }
 
 impl Model for WaitingPipe {
@@ -104,7 +106,7 @@ impl WaitingPipe {
             opening,
             registry,
             key,
-            _notice: notice,
+            notice,
         })
     }
 
@@ -187,16 +189,40 @@ impl WaitingPipe {
         false
     }
 
-    /// Nothing more will be written from `Down` and `Close` on.
+    /// Nothing more will be written from `Down` and `Close` on. What is written waits for the other end first, so that this
+    /// sees the end; where the pipe can't be opened it fails.
     pub(crate) fn finish(&mut self, how: Shut) -> Shutting
-        ensures done { result ≡ shuts.Done }
+        ensures untouched { finishes how ≡ false → result ≡ shuts.Done }
         ensures closed { self.new ≡ record self.old { shut = self.old.shut || finishes how } }
     {
         match how {
-            Shut::Down | Shut::Close => self.shut = true,
-            Shut::Nothing | Shut::Null => {}
+            Shut::Down | Shut::Close => self.end_writing(),
+            Shut::Nothing | Shut::Null => Shutting::Done,
         }
-        Shutting::Done
+    }
+
+    fn end_writing(&mut self) -> Shutting
+        ensures { self.new ≡ record self.old { shut = true } }
+    {
+        let waits = self.writes();
+        self.shut = true;
+        if !waits {
+            return Shutting::Done;
+        }
+        self.await_thread();
+        match self.take() {
+            Opening::UnderWay | Opening::Opened(_) => Shutting::Done,
+            Opening::Refused => Shutting::Failed,
+        }
+    }
+
+    /// Waits until the thread has closed its end of the notice.
+    fn await_thread(&mut self)
+        ensures { self.new ≡ self.old }
+    {
+        if os::set_nonblocking(self.notice.as_raw_fd(), false) == 0 {
+            let _ = self.notice.read(&mut [0u8; 1]);
+        }
     }
 }
 

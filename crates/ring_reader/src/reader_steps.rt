@@ -84,12 +84,17 @@ pub(crate) fn next<R: Wait>(
     take(rt, &lines.items, items)
 }
 
-/// Whether the queue may hold something.
+/// Whether the queue may hold something. Before it says no, it lets the thread know that the loop may sleep, and looks
+/// once more: what the thread was told before may have been used up by a wake for an item that was taken long ago.
 pub(crate) fn has_some(lines: &Lines<Word>, items: &mut OrderedPass<RingItem>) -> bool
     requires queue { IsPassOf lines.now.items items.old }
     requires takes { (view items.old).takes ≡ true }
     ensures kept { IsSamePass items.old items.new × (view items.new ≡ view items.old) }
 {
+    if !is_empty(&lines.items, items) {
+        return true;
+    }
+    lines.waits.set();
     !is_empty(&lines.items, items)
 }
 

@@ -172,8 +172,21 @@ impl Putter {
         self.lines.thread.ring();
     }
 
-    /// Whether a `put` has something to say.
+    /// Whether a `put` has something to say. Before it says no, it lets the thread know that the loop may sleep, and looks
+    /// once more: what the thread was told before may have been used up by a wake for room that was taken long ago.
     pub(crate) fn is_ready(&mut self) -> bool
+        requires putting { IsPutting self.old }
+        ensures putting { IsPutting self.new }
+        ensures kept { (self.new.lines ≡ self.old.lines) × (self.new.ended ≡ self.old.ended) × (view self.new.sender ≡ view self.old.sender) × (view self.new.taker ≡ view self.old.taker) }
+    {
+        if self.looks_ready() {
+            return true;
+        }
+        self.lines.waits.set();
+        self.looks_ready()
+    }
+
+    fn looks_ready(&mut self) -> bool
         requires putting { IsPutting self.old }
         ensures putting { IsPutting self.new }
         ensures kept { (self.new.lines ≡ self.old.lines) × (self.new.ended ≡ self.old.ended) × (view self.new.sender ≡ view self.old.sender) × (view self.new.taker ≡ view self.old.taker) }
