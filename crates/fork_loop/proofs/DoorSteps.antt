@@ -42,12 +42,12 @@ use Rattle.session_runs.proofs.Going.{AllCommands, acted_run, idle_run, undumped
 use Rattle.door_driver.specs.Steps.{DoorFor, DoorMeets, DoorActs, DoorAsking, DoorIdles, EndsNone, AdmitsNone, Admits}
 use Rattle.fork_loop.specs.declared.crews.Crew.{Crew}
 use Rattle.fork_loop.specs.Courses.{RowIs, NextIs, Counts, Unsaid, Frame, Course, Somewhere, Onward, Keeps, OthersStay, SameRest, RowSpreads, SomeSpreads, RowRuns, AllRun, IsAsleep, AllAsleep}
-use Rattle.fork_loop.specs.Endings.{MayLeave, MayLeaveRow, LeavesRow, MayEnd, CutsRows}
+use Rattle.fork_loop.specs.Endings.{MayLeave, MayLeaveRow, LeavesRow, MayEnd, CutsRows, RunsOut}
 use Rattle.fork_loop.specs.declared.asked.Asked.{Asked}
 use Rattle.fork_loop.specs.declared.asked.Asked.TheVariants as asks
 use Rattle.fork_loop.specs.Asking.{SameButNext, TakesNext, AskedIs, GoesOn}
 use Rattle.fork_loop.proofs.Others.{unsaid_kept, moment_kept, turns_kept}
-use Rattle.fork_loop.proofs.Spreading.{EndsRun, spread_tells, waker_may}
+use Rattle.fork_loop.proofs.Spreading.{spread_tells, waker_may}
 
 -- ---- how many live
 
@@ -205,12 +205,12 @@ asleep_but_next before after same h = λ s. subst IsAsleep (sym (same.rows_same 
 
 -- ---- the run may be ended
 
-pub row_may_end : (c : Config) (n : ℕ) (past : List Act) (s : ℕ) (why : Why) (row : Option Session) → EndsRun c n past why → RowIs c n past s row → MayLeaveRow c n past s why row
+pub row_may_end : (c : Config) (n : ℕ) (past : List Act) (s : ℕ) (why : Why) (row : Option Session) → RunsOut c n past why → RowIs c n past s row → MayLeaveRow c n past s why row
 row_may_end c n past s why None e r = r
 row_may_end c n past s why (Some x) e r = waker_may c n past s why x e r
 
 pub memory_ends : (c : Config) (n : ℕ) (start now : Seen) (past : List Act) (crew : Crew) → Course c n start now past crew → MayEnd c n start now whys.Memory crew
-memory_ends c n start now past crew on = record { past = past; frame = on.frame; all = refl; rows = λ s. row_may_end c n past s whys.Memory (row_of crew.table s) (inl refl) (on.rows s) }
+memory_ends c n start now past crew on = record { past = past; frame = on.frame; all = refl; ends = inl refl; rows = λ s. row_may_end c n past s whys.Memory (row_of crew.table s) (inl refl) (on.rows s) }
 
 pub spread_ends : (c : Config) (n : ℕ) (start now : Seen) (t : ℕ) (why : Why) (crew : Crew) → RowSpreads c n start now t why crew → MayEnd c n start now why crew
 spread_ends c n start now t why crew r =
@@ -219,10 +219,11 @@ spread_ends c n start now t why crew r =
       past = r.past;
       frame = r.course.frame;
       all = r.spreads.2;
+      ends = told.ends;
       rows = λ s. each s told.ends told.may (cases_eq s t);
     }
   where
-    each : (s : ℕ) → EndsRun c n r.past why → MayLeave c n r.past t why r.x → (s ≡ t) ⊎ (s ≡ t → ⊥) → MayLeaveRow c n r.past s why (row_of crew.table s)
+    each : (s : ℕ) → RunsOut c n r.past why → MayLeave c n r.past t why r.x → (s ≡ t) ⊎ (s ≡ t → ⊥) → MayLeaveRow c n r.past s why (row_of crew.table s)
     each s ends may (inl e) = subst (λ (k : ℕ). MayLeaveRow c n r.past k why (row_of crew.table k)) (sym e) (subst (MayLeaveRow c n r.past t why) (sym r.row) may)
     each s ends may (inr apart) = row_may_end c n r.past s why (row_of crew.table s) ends (r.course.rows s apart)
 

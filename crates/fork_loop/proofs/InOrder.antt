@@ -146,6 +146,7 @@ limit_ends c n start now past crew until on order used =
       past = past;
       frame = on.frame;
       all = refl;
+      ends = inr (refl, all_used, order.rests);
       rows = λ s. row_may_end c n past s whys.Stopped (row_of crew.table s) (inr (refl, all_used, order.rests)) (on.rows s);
     }
 

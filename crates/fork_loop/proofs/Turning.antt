@@ -1,5 +1,5 @@
 -- How the run of all goes on by a turn.
-use Rattle.std.proofs.Common.{◌≡◌, refl, sym, ap, subst, ◌∙◌, ℕ, suc, ◌+◌, ◌-◌, ◌^◌, ◌<◌, ◌≤◌, min, Bool, true, false, not, ◌||◌, ◌&&◌, List, [], ◌∷◌, Option, Some, None, option_map, arith}
+use Rattle.std.proofs.Common.{◌≡◌, refl, sym, ap, subst, ◌∙◌, ◌⊎◌, inl, ℕ, suc, ◌+◌, ◌-◌, ◌^◌, ◌<◌, ◌≤◌, min, Bool, true, false, not, ◌||◌, ◌&&◌, List, [], ◌∷◌, Option, Some, None, option_map, arith}
 use Rattle.std.proofs.lemmas.Bool.{true≢false, false≢true}
 use Rattle.relay_model.specs.declared.commands.Config.{Config}
 use Rattle.relay_model.specs.declared.places.Place.{Place}
@@ -161,18 +161,23 @@ stops_all c n start old new past until at before mid after on few order asleep t
     let same : after.table.admitted ≡ before.table.admitted = h.same.admitted_same ∙ ap (λ (x : Table Session). x.admitted) table in
     record {
       past = Turn until at (copied_list mid.ready) true ∷ past;
-      fork = f.fork;
-      run = turned_run c n start old new past until at mid.ready true f.run t (omega (arith, few, e)) order;
-      door = h.door c past until at (subst (DoorStands c past) (sym w.door_same) f.door);
-      counts = record {
-        admitted_is = same ∙ f.counts.admitted_is;
-        children_is = h.same.bounds_same.0 ∙ (ap (λ (x : Table Session). x.max_children) table ∙ f.counts.children_is);
-        stop_is = h.same.bounds_same.1 ∙ (ap (λ (x : Table Session). x.stop_after) table ∙ f.counts.stop_is);
+      leaving = record {
+        exit = record {
+          fork = f.fork;
+          run = turned_run c n start old new past until at mid.ready true f.run t (omega (arith, few, e)) order;
+          stands = h.door c past until at (subst (DoorStands c past) (sym w.door_same) f.door);
+          may = f.unsaid.remembered;
+          ends = inl (refl, f.unsaid.remembered);
+          stops = λ _. inl refl;
+        };
+        counts = record {
+          admitted_is = same ∙ f.counts.admitted_is;
+          children_is = h.same.bounds_same.0 ∙ (ap (λ (x : Table Session). x.max_children) table ∙ f.counts.children_is);
+          stop_is = h.same.bounds_same.1 ∙ (ap (λ (x : Table Session). x.stop_after) table ∙ f.counts.stop_is);
+        };
+        made_is = one_turn (turns past) before.made after.made e (h.same.made_same ∙ w.made_is);
+        rows = λ s. row_stopped c n past s until at mid.ready (row_of mid.table s) (row_of after.table s) f.unsaid.remembered (subst (λ (x : Table Session). RowIs c n past s (row_of x s)) (sym table) (on.rows s)) (subst (λ (x : Table Session). IsAsleep (row_of x s)) (sym table) (asleep s)) (h.rows s);
       };
-      made_is = one_turn (turns past) before.made after.made e (h.same.made_same ∙ w.made_is);
-      all = refl;
-      may = f.unsaid.remembered;
-      rows = λ s. row_stopped c n past s until at mid.ready (row_of mid.table s) (row_of after.table s) f.unsaid.remembered (subst (λ (x : Table Session). RowIs c n past s (row_of x s)) (sym table) (on.rows s)) (subst (λ (x : Table Session). IsAsleep (row_of x s)) (sym table) (asleep s)) (h.rows s);
     }
 
 -- whichever the turn says
