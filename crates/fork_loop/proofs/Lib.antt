@@ -1,5 +1,7 @@
 pub mod Begun
+pub mod Closings
 pub mod DoorSteps
+pub mod Emptying
 pub mod Hearing
 pub mod InOrder
 pub mod Leavings

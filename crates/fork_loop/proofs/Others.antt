@@ -36,7 +36,7 @@ pub record Leave (c : Config) (n : ℕ) (past since : List Act) (t : ℕ) : Type
 
 -- ---- one act
 
-foreign_to : (c : Config) (s t : ℕ) (act : Act) → IsActOf c t act → s ≢ t → IsForeign c s act
+pub foreign_to : (c : Config) (s t : ℕ) (act : Act) → IsActOf c t act → s ≢ t → IsForeign c s act
 foreign_to c s t act here apart = λ p e d. false_from_ne_true (is_at act p) (λ at. apart (sym e ∙ (here.own p at).0))
 
 pub moment_kept : (act : Act) (past : List Act) → is_turn act ≡ false → moment (act ∷ past) ≡ moment past

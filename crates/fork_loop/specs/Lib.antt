@@ -1,5 +1,6 @@
 pub mod Asking
 pub mod Births
+pub mod Closings
 pub mod Courses
 pub mod Endings
 pub mod Left

@@ -4,7 +4,9 @@
 mod asked;
 mod births;
 mod crews;
+mod departures;
 mod endings;
+mod leaving;
 mod left;
 mod ran;
 mod rows;
