@@ -39,7 +39,7 @@ still_free : (b : Bool) (why : Why) (st : stages.Stage) → holds_at st ≡ fals
 still_free true why st e = refl
 still_free false why st e = e
 
-none_held : (past : List Act) (q : Place) (why : Why) (ps : List Place) → list_any (held past) ps ≡ false → list_any (held (Closed q why ∷ past)) ps ≡ false
+pub none_held : (past : List Act) (q : Place) (why : Why) (ps : List Place) → list_any (held past) ps ≡ false → list_any (held (Closed q why ∷ past)) ps ≡ false
 none_held past q why [] e = refl
 none_held past q why (p ∷ ps) e =
     let h = or_parts (held past p) (list_any (held past) ps) e in

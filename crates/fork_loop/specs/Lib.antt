@@ -6,5 +6,6 @@ pub mod Endings
 pub mod Left
 pub mod Turned
 pub mod Turns
+pub mod Vacated
 pub mod Waited
 pub mod Waits

@@ -5,13 +5,16 @@ mod asked;
 mod births;
 mod crews;
 mod departures;
+mod ended;
 mod endings;
 mod leaving;
 mod left;
+mod outcomes;
 mod ran;
 mod rows;
 mod turned;
 mod turns;
+mod vacated;
 mod waited;
 mod waits;
 
