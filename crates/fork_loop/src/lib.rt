@@ -11,6 +11,7 @@ mod leaving;
 mod left;
 mod outcomes;
 mod ran;
+mod relays;
 mod rows;
 mod turned;
 mod turns;
@@ -19,4 +20,5 @@ mod waited;
 mod waits;
 
 pub use crews::Crew;
+pub use relays::relay;
 pub use turned::RunEnd;
