@@ -1,7 +1,6 @@
 -- What the closings of one session make of the run that is ended.
-use Rattle.std.proofs.Common.{◌≡◌, ◌≢◌, refl, sym, ap, subst, ◌∙◌, ℕ, ◌<◌, ◌⊎◌, inl, inr, Bool, true, false, ◌||◌, ◌&&◌, nat_lt, List, ◌∷◌, Option, Some, None, is_some, arith}
-use Rattle.std.specs.List.{list_any}
-use Rattle.std.proofs.lemmas.Bool.{false≢true, true≢false, or_parts, or_from, or_left, or_right, false_from_ne_true}
+use Rattle.std.proofs.Common.{◌≡◌, refl, sym, ap, subst, ◌∙◌, ℕ, ◌<◌, ◌⊎◌, inl, inr, Bool, true, false, ◌&&◌, nat_lt, List, ◌∷◌, Option, Some, None, is_some, arith}
+use Rattle.std.proofs.lemmas.Bool.{false≢true, true≢false, or_parts, or_from, or_right, false_from_ne_true}
 use Rattle.relay_model.specs.declared.commands.Config.{Config}
 use Rattle.relay_model.specs.declared.places.Place.{Place}
 use Rattle.relay_model.specs.declared.acts.Act.{Act}
@@ -9,12 +8,12 @@ use Rattle.relay_model.specs.declared.acts.Act.TheVariants as acts
 use Rattle.relay_model.specs.declared.acts.Why.{Why}
 use Rattle.relay_model.specs.declared.acts.Why.TheVariants as whys
 use Rattle.relay_model.specs.Places.{same_place}
-use Rattle.relay_model.specs.Configs.{has_fork, is_of, is_program_door, program_door, single}
+use Rattle.relay_model.specs.Configs.{has_fork, is_of, program_door}
 use Rattle.relay_model.specs.History.{turns, memory_said, stop_said, same_why}
 use Rattle.relay_model.specs.Journals.{Asking}
-use Rattle.relay_model.specs.Sessions.{admitted, holds, live}
+use Rattle.relay_model.specs.Sessions.{admitted, holds}
 use Rattle.relay_model.specs.Cause.{closed_why}
-use Rattle.relay_model.specs.Frames.{IsForeign, is_at, is_common, is_closing}
+use Rattle.relay_model.specs.Frames.{is_at, is_common, is_closing}
 use Rattle.relay_core.specs.declared.sessions.Session.{Session}
 use Rattle.relay_core.specs.declared.wishes.Wish.{Wish}
 use Rattle.relay_core.specs.declared.wishes.Wish.TheVariants as wishes
@@ -34,8 +33,8 @@ use Rattle.session_driver.specs.Steps.{Acts, ClosesAsWished, Idles, IsActOf, Own
 use Rattle.session_crew.specs.Crews.{IsSaid, MaySay}
 use Rattle.session_runs.specs.Runs.{Run}
 use Rattle.session_runs.proofs.Going.{AllCommands, acted_run, idle_run, undumped_owes, uncommon}
-use Rattle.fork_loop.specs.Closings.{Leaves, SomeLeaves, LeftBy, stayed, closed, acted, LeftTo, LeavesOn, IsOver, closes}
-use Rattle.fork_loop.specs.Waited.{Exit, StopsAt}
+use Rattle.fork_loop.specs.Closings.{Leaves, SomeLeaves, LeftBy, stayed, closed, acted, LeftTo, LeavesOn, closes}
+use Rattle.fork_loop.specs.Waited.{StopsAt}
 
 -- ---- what is said stays said
 

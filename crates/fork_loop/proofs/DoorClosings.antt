@@ -1,6 +1,6 @@
 -- What the closings of the program door make of the run that is ended.
-use Rattle.std.proofs.Common.{◌≡◌, refl, sym, ap, subst, ◌∙◌, ℕ, ◌<◌, ◌≤◌, ◌⊎◌, inl, inr, Bool, true, false, cond, ◌||◌, List, ◌∷◌, Option, Some, None, is_none, arith}
-use Rattle.std.proofs.lemmas.Bool.{false≢true, true≢false, false_from_ne_true, cases_Bool}
+use Rattle.std.proofs.Common.{◌≡◌, refl, sym, ap, subst, ◌∙◌, ℕ, ◌≤◌, ◌⊎◌, inl, inr, Bool, true, false, cond, ◌||◌, List, ◌∷◌, Some, None, is_none}
+use Rattle.std.proofs.lemmas.Bool.{false≢true, true≢false, false_from_ne_true}
 use Rattle.relay_model.specs.declared.commands.Config.{Config}
 use Rattle.relay_model.specs.declared.places.Place.{Place}
 use Rattle.relay_model.specs.declared.places.Side.TheVariants.{Left}
@@ -10,12 +10,12 @@ use Rattle.relay_model.specs.declared.acts.Why.{Why}
 use Rattle.relay_model.specs.declared.acts.Why.TheVariants as whys
 use Rattle.relay_model.specs.Places.{same_place}
 use Rattle.relay_model.specs.Holding.{is_free}
-use Rattle.relay_model.specs.Configs.{has_fork, is_program_door, program_door, parts, things}
+use Rattle.relay_model.specs.Configs.{has_fork, program_door, parts, things}
 use Rattle.relay_model.specs.History.{turns, held, holds_at, stage, memory_said, stop_said, Gone}
-use Rattle.relay_model.specs.Sessions.{admitted, holds, next_place, first_part}
+use Rattle.relay_model.specs.Sessions.{admitted, next_place, first_part}
 use Rattle.relay_model.specs.Cause.{cause, closed_why}
 use Rattle.relay_model.specs.Rest.{Rest}
-use Rattle.relay_model.specs.May.{MayClose, Licensed, by_cause, by_door, for_stop, Legal}
+use Rattle.relay_model.specs.May.{MayClose, Licensed, by_cause, by_door, for_stop}
 use Rattle.legal_steps.proofs.PlaceLemmas.{same_place_equal, same_place_self}
 use Rattle.legal_steps.proofs.OwnThings.{place_own}
 use Rattle.world_trait.specs.Answers.{Answered}
@@ -26,7 +26,6 @@ use Rattle.program_door.specs.Turns.{first_held}
 use Rattle.session_driver.specs.Seen.{Seen}
 use Rattle.session_driver.specs.Steps.{Waitless}
 use Rattle.session_crew.specs.Crews.{IsSaid, MaySay}
-use Rattle.session_runs.specs.Runs.{Run}
 use Rattle.session_runs.proofs.Going.{acted_run, undumped_owes}
 use Rattle.fork_loop.specs.declared.crews.Crew.{Crew}
 use Rattle.fork_loop.specs.Endings.{LeavesRow, RunsOut}

@@ -1,5 +1,5 @@
 -- What the closings of one session leave of all others, and what comes of a row.
-use Rattle.std.proofs.Common.{◌≡◌, ◌≢◌, refl, sym, ap, subst, ◌∙◌, ℕ, ◌+◌, ◌<◌, ◌⊎◌, inl, inr, Bool, true, false, cond, ◌||◌, List, [], ◌∷◌, Option, Some, None, arith}
+use Rattle.std.proofs.Common.{◌≡◌, ◌≢◌, refl, sym, subst, ◌∙◌, ℕ, ◌+◌, ◌<◌, ◌⊎◌, inl, inr, Bool, true, false, cond, List, [], ◌∷◌, Option, Some, None, arith}
 use Rattle.std.specs.List.{list_any}
 use Rattle.std.proofs.lemmas.Bool.{cases_eq, or_parts, or_from}
 use Rattle.relay_model.specs.declared.commands.Config.{Config}
@@ -14,9 +14,8 @@ use Rattle.relay_model.specs.History as stages
 use Rattle.relay_model.specs.Sessions.{admitted, holds}
 use Rattle.relay_model.specs.May.{Legal}
 use Rattle.relay_core.specs.declared.sessions.Session.{Session}
-use Rattle.relay_core.specs.declared.wishes.Wish.TheVariants as wishes
 use Rattle.relay_core.specs.States.{Wished}
-use Rattle.relay_core.specs.Sessions.{Stands, wish_of}
+use Rattle.relay_core.specs.Sessions.{Stands}
 use Rattle.program_door.specs.declared.doors.Door.{Door}
 use Rattle.program_door.proofs.Moves.{numbers_are}
 use Rattle.fork_table.specs.Tables.{row_of, IsFirstLive, SameBounds}
@@ -24,11 +23,10 @@ use Rattle.session_driver.specs.Seen.{Seen}
 use Rattle.session_crew.specs.Crews.{Leaver, MaySay}
 use Rattle.session_crew.proofs.Members.{closings_leave, acts_leave}
 use Rattle.fork_loop.specs.declared.crews.Crew.{Crew}
-use Rattle.fork_loop.specs.Courses.{Counts, OthersStay}
+use Rattle.fork_loop.specs.Courses.{OthersStay}
 use Rattle.fork_loop.specs.Endings.{LeavesRow}
-use Rattle.fork_loop.specs.Turned.{NoneLives}
-use Rattle.fork_loop.specs.Waited.{Exit, LeavingAt, Leaving}
-use Rattle.fork_loop.specs.Closings.{Leaves, SomeLeaves, LeftBy, stayed, closed, acted, LeavesOn, IsOver, SomeLeaving, KeepsLeaving, Emptied, EmptiesRow, RowLeaves}
+use Rattle.fork_loop.specs.Waited.{Exit, LeavingAt}
+use Rattle.fork_loop.specs.Closings.{Leaves, SomeLeaves, LeftBy, stayed, closed, acted, LeavesOn, IsOver, SomeLeaving, KeepsLeaving, EmptiesRow, RowLeaves}
 use Rattle.fork_loop.proofs.Closings.{may_on, may_still}
 use Rattle.fork_loop.proofs.Loops.{RowsTo, rows_first, rows_next}
 use Rattle.fork_loop.proofs.Others.{act_leaves, foreign_to}

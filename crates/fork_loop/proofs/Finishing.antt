@@ -1,5 +1,5 @@
 -- The answer of a run, against the history that it leaves.
-use Rattle.std.proofs.Common.{◌≡◌, refl, sym, ap, subst, ◌∙◌, ℕ, suc, ◌+◌, ◌-◌, ◌^◌, ◌<◌, ◌≤◌, min, ◌⊎◌, inl, inr, Bool, true, false, cond, ◌||◌, List, [], ◌∷◌, length, Option, Some, None, arith}
+use Rattle.std.proofs.Common.{◌≡◌, refl, sym, ap, subst, ◌∙◌, ℕ, suc, ◌-◌, ◌^◌, ◌<◌, min, ◌⊎◌, inl, inr, Bool, true, false, cond, List, [], ◌∷◌, length, Option, Some, None, arith}
 use Rattle.std.proofs.lemmas.Bool.{false≢true, or_right}
 use Rattle.relay_model.specs.declared.commands.Config.{Config}
 use Rattle.relay_model.specs.declared.places.Place.{Place}
@@ -34,7 +34,7 @@ use Rattle.session_crew.proofs.Ends.{told_outcome}
 use Rattle.session_runs.specs.Runs.{Run}
 use Rattle.fork_loop.specs.declared.crews.Crew.{Crew}
 use Rattle.fork_loop.specs.Asking.{DoorIsOver}
-use Rattle.fork_loop.specs.Courses.{RowIs, Course}
+use Rattle.fork_loop.specs.Courses.{RowIs}
 use Rattle.fork_loop.specs.Endings.{RunsOut}
 use Rattle.fork_loop.specs.Turned.{NoneLives}
 use Rattle.fork_loop.specs.Waited.{StopsAt}

@@ -1,9 +1,8 @@
 -- What the end of a run says in the words of a relay.
-use Rattle.std.proofs.Common.{◌≡◌, refl, sym, ap, ◌∙◌, ℕ, inl, inr, ◌⊎◌, true, false, is_some, List, [], ◌∷◌, Option, Some, option_map}
+use Rattle.std.proofs.Common.{◌≡◌, refl, sym, ap, ◌∙◌, ℕ, inl, inr, true, is_some, List, [], ◌∷◌, Some, option_map}
 use Rattle.std.proofs.lemmas.Bool.{false≢true}
 use Rattle.relay_model.specs.declared.commands.Config.{Config}
 use Rattle.relay_model.specs.declared.places.Place.{Place}
-use Rattle.relay_model.specs.declared.acts.Act.{Act}
 use Rattle.relay_model.specs.Configs.{has_fork}
 use Rattle.relay_model.specs.Holding.{Free}
 use Rattle.relay_model.specs.History.{turns}

@@ -1,5 +1,5 @@
 -- When a closing of one session may end all others.
-use Rattle.std.proofs.Common.{◌≡◌, refl, sym, ap, subst, ◌∙◌, ℕ, ◌⊎◌, inl, inr, Bool, true, false, ◌||◌, ◌&&◌, List, [], ◌∷◌, Option, Some, None, is_some, cond}
+use Rattle.std.proofs.Common.{◌≡◌, refl, sym, ap, subst, ◌∙◌, ℕ, inl, inr, Bool, true, false, ◌||◌, ◌&&◌, List, [], ◌∷◌, Option, Some, None, is_some, cond}
 use Rattle.std.specs.List.{list_any}
 use Rattle.std.proofs.lemmas.Bool.{true≢false, false≢true, or_parts}
 use Rattle.relay_model.specs.declared.commands.Config.{Config}
@@ -12,16 +12,12 @@ use Rattle.relay_model.specs.Choices.{only_if, first_some}
 use Rattle.relay_model.specs.Places.{same_place}
 use Rattle.relay_model.specs.Configs.{is_of, things}
 use Rattle.relay_model.specs.History.{now, held, memory_said, stop_said, same_why}
-use Rattle.relay_model.specs.Sessions.{holds}
 use Rattle.relay_model.specs.Moments.{closing_moment, idle_moment, reached}
 use Rattle.relay_model.specs.Openings.{ready}
 use Rattle.relay_model.specs.Cause.{cause, closed_why, is_end, accept_failed_for, listening_failed, opening_failed, faulted, finished}
-use Rattle.relay_model.specs.Calls.{call}
-use Rattle.relay_model.specs.Openings as calls
 use Rattle.relay_model.specs.Rest.{Rest}
 use Rattle.legal_steps.proofs.PlaceLemmas.{same_place_equal}
 use Rattle.relay_core.specs.declared.sessions.Session.{Session}
-use Rattle.relay_core.specs.declared.wishes.Wish.{Wish}
 use Rattle.relay_core.specs.declared.wishes.Wish.TheVariants as wishes
 use Rattle.relay_core.specs.Endings.{Ends, EndingIs}
 use Rattle.relay_core.specs.States.{Allowed, ClosesFor}

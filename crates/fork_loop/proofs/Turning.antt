@@ -1,5 +1,5 @@
 -- How the run of all goes on by a turn.
-use Rattle.std.proofs.Common.{◌≡◌, refl, sym, ap, subst, ◌∙◌, ◌⊎◌, inl, ℕ, suc, ◌+◌, ◌-◌, ◌^◌, ◌<◌, ◌≤◌, min, Bool, true, false, not, ◌||◌, ◌&&◌, List, [], ◌∷◌, Option, Some, None, option_map, arith}
+use Rattle.std.proofs.Common.{◌≡◌, refl, sym, ap, subst, ◌∙◌, inl, ℕ, suc, ◌+◌, ◌<◌, ◌≤◌, Bool, true, false, not, ◌||◌, ◌&&◌, List, [], ◌∷◌, Option, Some, None, option_map, arith}
 use Rattle.std.proofs.lemmas.Bool.{true≢false, false≢true}
 use Rattle.relay_model.specs.declared.commands.Config.{Config}
 use Rattle.relay_model.specs.declared.places.Place.{Place}
@@ -14,29 +14,26 @@ use Rattle.relay_model.specs.Holding.{Hold, is_free, standing}
 use Rattle.relay_model.specs.History.{held, turns, memory_said}
 use Rattle.relay_model.specs.Cause.{cause}
 use Rattle.relay_model.specs.May.{Legal}
-use Rattle.relay_model.specs.Rest.{Rest, until_of}
 use Rattle.legal_steps.proofs.PlaceLemmas.{same_place_equal}
 use Rattle.legal_steps.proofs.Holdings.{standing_held}
 use Rattle.world_trait.specs.Recordings.{with_act}
-use Rattle.world_trait.specs.Answers.{Did, DidNothing, TurnCounts, NoTurnCounts, NamesHeld}
+use Rattle.world_trait.specs.Answers.{Did, TurnCounts, NamesHeld}
 use Rattle.relay_core.specs.declared.sessions.Session.{Session}
 use Rattle.relay_core.specs.declared.sessions.Unborn.{Unborn}
 use Rattle.relay_core.specs.Told.{stop_turned}
 use Rattle.session_sleep.specs.Sleeps.{just}
 use Rattle.session_kept.proofs.Kept.{hears_kept, stopped_kept}
 use Rattle.session_driver.specs.Seen.{Seen}
-use Rattle.session_crew.specs.Crews.{Leaver}
 use Rattle.session_crew.proofs.Members.{awake}
-use Rattle.session_runs.specs.Runs.{Run, HasRisen}
+use Rattle.session_runs.specs.Runs.{Run}
 use Rattle.session_runs.proofs.Going.{told_act, undumped_owes, risen_later, risen_kept}
 use Rattle.program_door.specs.Stands.{DoorStands}
 use Rattle.fork_table.specs.Tables.{row_of, Table}
 use Rattle.fork_loop.specs.declared.crews.Crew.{Crew}
 use Rattle.fork_loop.specs.Courses.{RowIs, NextIs, Course, Onward, IsAsleep, AllAsleep}
-use Rattle.fork_loop.specs.Endings.{LeavesRow, MayEnd}
+use Rattle.fork_loop.specs.Endings.{LeavesRow}
 use Rattle.fork_loop.specs.Turns.{HearsRow, AllHeard}
 use Rattle.fork_loop.specs.Waited.{Leaving, InOrder}
-use Rattle.fork_loop.proofs.DoorSteps.{memory_ends}
 
 -- ---- what is named is held
 
