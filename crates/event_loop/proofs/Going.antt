@@ -1,5 +1,5 @@
 -- How the loop's facts go on from act to act.
-use Rattle.std.proofs.Common.{◌≡◌, ℕ, suc, subst, ◌+◌, ◌-◌, ◌*◌, ◌^◌, ◌<◌, ◌≤◌, Bool, true, false, not, ◌||◌, slice_get, take, List, [], ◌∷◌, ◌++◌, append_assoc, Option, Some, None, option_map, is_some, min, refl, ap, sym, ◌∙◌, arith}
+use Rattle.std.proofs.Common.{◌≡◌, inl, ℕ, suc, subst, ◌+◌, ◌-◌, ◌*◌, ◌^◌, ◌<◌, ◌≤◌, Bool, true, false, not, ◌||◌, slice_get, take, List, [], ◌∷◌, ◌++◌, append_assoc, Option, Some, None, option_map, is_some, min, refl, ap, sym, ◌∙◌, arith}
 use Rattle.std.proofs.lemmas.List.{take_more}
 use Rattle.std.proofs.lemmas.Option.{slice_get_within, get_or_from_slice_get}
 use Rattle.relay_model.specs.declared.acts.Act.{Act}
@@ -23,11 +23,11 @@ use Rattle.relay_core.specs.Sessions.{Stands, Heard}
 use Rattle.relay_core.specs.Blames.{is_blamed}
 use Rattle.relay_core.specs.Told.{stop_turned}
 use Rattle.session_driver.specs.Seen.{Seen}
-use Rattle.relay_model.specs.Configs.{is_of, single}
+use Rattle.relay_model.specs.Configs.{single}
 use Rattle.event_loop.specs.Commands.{Runnable}
 use Rattle.event_loop.specs.Answers.{told_fault}
 use Rattle.event_loop.specs.declared.drivers.Driver.{Driver}
-use Rattle.event_loop.specs.Courses.{Course, Somewhere, SomewhereFor, Onward, KeepsFor, TurnsFor, OnlyOwn, Risen, unit_of}
+use Rattle.event_loop.specs.Courses.{Course, Somewhere, SomewhereFor, Onward, KeepsFor, TurnsFor, IsOwn, OnlyOwn, Risen, unit_of}
 use Rattle.session_driver.specs.Steps.{extend, Acts, DidFor, Meets, OwnAsking}
 
 -- what a world tells goes on by the act
@@ -40,7 +40,7 @@ told_asking act asking past pairs None = refl
 told_asking act asking past pairs (Some h) =
     ap (λ xs. Some (record { acts = act ∷ (past ++ h.acts); asked = xs })) (append_assoc h.asked pairs (asking ∷ []))
 
-own_more : (c : Config) (pairs : List Asking) (asking : Asking) → OnlyOwn c pairs → is_of c 0 asking.0 ≡ true → asking.1 ≡ single c asking.0 → OnlyOwn c (pairs ++ asking ∷ [])
+own_more : (c : Config) (pairs : List Asking) (asking : Asking) → OnlyOwn c pairs → IsOwn c asking.0 → asking.1 ≡ single c asking.0 → OnlyOwn c (pairs ++ asking ∷ [])
 own_more c [] asking own of e = (of, e, tt)
 own_more c (pair ∷ pairs) asking own of e = (own.0, own.1, own_more c pairs asking own.2 of e)
 
@@ -129,7 +129,7 @@ acted_on c n start old new r r' past act on a em ef = go a.asked a.did (a.own n 
 
     go : (asked : Option Asking) → DidFor asked old new act → OwnAsking c 0 asked → Onward c n start new r'
     go None did own = on_with on.pairs (did.told ∙ (ap (option_map (with_act act)) on.told ∙ told_act act past on.pairs start.told)) on.own did.held
-    go (Some asking) did own = on_with (on.pairs ++ asking ∷ []) (did.told ∙ (ap (option_map (with_asking act asking)) on.told ∙ told_asking act asking past on.pairs start.told)) (own_more c on.pairs asking on.own own.0 own.1) did.held
+    go (Some asking) did own = on_with (on.pairs ++ asking ∷ []) (did.told ∙ (ap (option_map (with_asking act asking)) on.told ∙ told_asking act asking past on.pairs start.told)) (own_more c on.pairs asking on.own (inl (0, own.0, λ _. refl)) own.1) did.held
 
 -- nothing was done, and the session stands for the same acts
 pub idled : (c : Config) (n : ℕ) (start old new : Seen) (r r' : Driver) (past : List Act) → Course c n start old r past → DidNothing old.told new.told old.held new.held → Stands c n past 0 r'.session → r'.made ≡ r.made → r'.fault ≡ r.fault → old.faults ≤ new.faults → new.waits ≡ old.waits → old.stops ≤ new.stops → Onward c n start new r'

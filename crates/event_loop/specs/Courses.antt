@@ -1,5 +1,5 @@
 -- What the loop keeps true, of some history that its session stands for.
-use Rattle.std.specs.Prelude.{◌≡◌, ℕ, ◌+◌, ◌-◌, ◌*◌, ◌^◌, ◌≤◌, Bool, true, false, not, List, [], ◌∷◌, option_map, min}
+use Rattle.std.specs.Prelude.{◌≡◌, ◌⊎◌, ℕ, ◌+◌, ◌-◌, ◌*◌, ◌^◌, ◌≤◌, Bool, true, false, not, List, [], ◌∷◌, option_map, min}
 use Rattle.relay_model.specs.declared.acts.Act.{Act}
 use Rattle.relay_model.specs.declared.places.Place.{Place}
 use Rattle.relay_model.specs.declared.commands.Config.{Config}
@@ -16,17 +16,21 @@ use Rattle.relay_core.specs.Told.{stop_turned}
 use Rattle.relay_core.specs.declared.wishes.Wish.TheVariants as wishes
 use Rattle.session_driver.specs.Seen.{Seen}
 use Rattle.session_driver.specs.Steps.{extend}
-use Rattle.relay_model.specs.Configs.{is_of, single}
+use Rattle.relay_model.specs.Configs.{has_fork, is_of, single, program_door}
 use Rattle.event_loop.specs.Commands.{Runnable}
 use Rattle.event_loop.specs.Answers.{told_fault}
 use Rattle.event_loop.specs.declared.drivers.Driver.{Driver}
 use Rattle.event_loop.specs.declared.drivers.Pause.{Pause}
 use Rattle.event_loop.specs.declared.drivers.Pause.TheVariants.{Sleep, Done}
 
--- each pair is a place or door of the command with its address
+-- the place or door is one of the command's: of its one session, or with `fork` of some session, or the program door
+abbrev pub IsOwn : Config → Place → Type 0
+IsOwn c p = ((s : ℕ) × (is_of c s p ≡ true) × (has_fork c ≡ false → s ≡ 0)) ⊎ ((p ≡ program_door) × (has_fork c ≡ true))
+
+-- each pair is one of these with its address
 abbrev pub OnlyOwn : Config → List Asking → Type 0
 OnlyOwn c [] = Unit {0}
-OnlyOwn c (asking ∷ more) = (is_of c 0 asking.0 ≡ true) × (asking.1 ≡ single c asking.0) × OnlyOwn c more
+OnlyOwn c (asking ∷ more) = IsOwn c asking.0 × (asking.1 ≡ single c asking.0) × OnlyOwn c more
 
 -- a count rose, or stands at its last value
 abbrev pub Risen : ℕ → ℕ → Type 0

@@ -1,5 +1,5 @@
 -- A run that has just begun.
-use Rattle.std.proofs.Common.{◌≡◌, refl, sym, ap, subst, ◌∙◌, ℕ, ◌<◌, true, false, List, [], ◌∷◌, ◌++◌, Option, Some, None, arith}
+use Rattle.std.proofs.Common.{◌≡◌, refl, sym, ap, subst, ◌∙◌, ℕ, List, [], ◌∷◌, ◌++◌, Option, Some, None, arith}
 use Rattle.std.specs.Option.{option_map}
 use Rattle.relay_model.specs.declared.commands.Config.{Config}
 use Rattle.relay_model.specs.declared.places.Place.{Place}
@@ -8,7 +8,7 @@ use Rattle.relay_model.specs.Configs.{options_of, program_door}
 use Rattle.relay_model.specs.Holding.{Free}
 use Rattle.relay_model.specs.Journals.{History}
 use Rattle.session_driver.specs.Steps.{extend}
-use Rattle.relay_model.specs.Sessions.{admitted, holds, door_options}
+use Rattle.relay_model.specs.Sessions.{door_options}
 use Rattle.relay_core.specs.declared.sessions.Session.{Session}
 use Rattle.program_door.specs.Stands.{DoorStands}
 use Rattle.fork_table.specs.Tables.{row_of}

@@ -1,6 +1,6 @@
 -- What the acts of the program door make of the course of all.
-use Rattle.std.proofs.Common.{◌≡◌, ◌≢◌, refl, sym, ap, subst, ◌∙◌, ℕ, zero, suc, ◌<◌, ◌≤◌, ◌+◌, ◌⊎◌, inl, inr, Bool, true, false, cond, ◌&&◌, ◌||◌, ◌==◌, nat_lt, nat_le, List, [], ◌∷◌, Option, Some, None, is_some, arith}
-use Rattle.std.proofs.lemmas.Bool.{cases_lt, cases_eq, false≢true, true≢false, and_right, and_from, lt-ltb, leb-false}
+use Rattle.std.proofs.Common.{◌≡◌, ◌≢◌, refl, sym, ap, subst, ◌∙◌, ℕ, zero, suc, ◌<◌, ◌≤◌, ◌+◌, ◌⊎◌, inl, inr, Bool, true, false, nat_lt, List, [], ◌∷◌, Option, Some, None, is_some, arith}
+use Rattle.std.proofs.lemmas.Bool.{cases_lt, cases_eq, true≢false, and_right, and_from, lt-ltb, leb-false}
 use Rattle.relay_model.specs.declared.commands.Config.{Config}
 use Rattle.relay_model.specs.declared.places.Place.{Place}
 use Rattle.relay_model.specs.declared.acts.Peer.{Peer}
@@ -9,10 +9,10 @@ use Rattle.relay_model.specs.declared.acts.Act.TheVariants as acts
 use Rattle.relay_model.specs.declared.acts.Why.{Why}
 use Rattle.relay_model.specs.declared.acts.Why.TheVariants as whys
 use Rattle.relay_model.specs.Choices.{only_if, first_some, one_more, count}
-use Rattle.relay_model.specs.Configs.{has_fork, is_left, single, program_door}
+use Rattle.relay_model.specs.Configs.{has_fork, single, program_door}
 use Rattle.relay_model.specs.History.{now as moment, memory_said, stop_said, accept_failed}
 use Rattle.relay_model.specs.Journals.{Asking}
-use Rattle.relay_model.specs.Sessions.{admitted, holds, live, live_count, numbers, next_place, permits, is_admission, door_options}
+use Rattle.relay_model.specs.Sessions.{admitted, holds, live, live_count, numbers, next_place, permits, door_options}
 use Rattle.relay_model.specs.Cause.{cause}
 use Rattle.relay_model.specs.Calls.{door_call}
 use Rattle.relay_model.specs.Openings.{Accept}
@@ -25,29 +25,28 @@ use Rattle.relay_core.specs.Sessions.{Hears, IsUnborn}
 use Rattle.relay_core.specs.States.{home}
 use Rattle.relay_core.specs.Births.{Begins}
 use Rattle.relay_core.proofs.Homes.{lives_at_home}
-use Rattle.program_door.specs.Causes.{door_cause}
 use Rattle.program_door.specs.Stands.{DoorStands}
 use Rattle.program_door.specs.declared.wishes.DoorWish.TheVariants as wishes
-use Rattle.program_door.specs.Steps.{DoorHeard, steps_of}
+use Rattle.program_door.specs.Steps.{steps_of}
 use Rattle.program_door.specs.Wishes.{Wished}
 use Rattle.program_door.proofs.Moves.{numbers_are, admitted_more}
 use Rattle.fork_table.specs.Tables.{Table, row_of, live_in, may_accept_in, SameBounds}
 use Rattle.session_sleep.proofs.Slept.{passes, begun_step, session_alike}
 use Rattle.session_kept.proofs.Beginnings.{next}
 use Rattle.session_driver.specs.Seen.{Seen}
-use Rattle.session_crew.specs.Crews.{Waker, Leaver}
+use Rattle.session_crew.specs.Crews.{Waker}
 use Rattle.session_crew.proofs.Members.{stays, awake, accept_ends}
-use Rattle.session_runs.specs.Runs.{Run, IsCommands}
+use Rattle.session_runs.specs.Runs.{Run}
 use Rattle.session_runs.proofs.Going.{AllCommands, acted_run, idle_run, undumped_owes}
 use Rattle.door_driver.specs.Steps.{DoorFor, DoorMeets, DoorActs, DoorAsking, DoorIdles, EndsNone, AdmitsNone, Admits}
 use Rattle.fork_loop.specs.declared.crews.Crew.{Crew}
-use Rattle.fork_loop.specs.Courses.{RowIs, NextIs, Counts, Unsaid, Frame, Course, Somewhere, Onward, Keeps, OthersStay, SameRest, RowSpreads, SomeSpreads, RowRuns, AllRun, IsAsleep, AllAsleep}
-use Rattle.fork_loop.specs.Endings.{MayLeave, MayLeaveRow, LeavesRow, MayEnd, CutsRows}
+use Rattle.fork_loop.specs.Courses.{RowIs, NextIs, Counts, Unsaid, Frame, Course, Somewhere, Onward, Keeps, OthersStay, RowSpreads, RowRuns, AllRun, IsAsleep, AllAsleep}
+use Rattle.fork_loop.specs.Endings.{MayLeave, MayLeaveRow, LeavesRow, MayEnd, CutsRows, RunsOut}
 use Rattle.fork_loop.specs.declared.asked.Asked.{Asked}
 use Rattle.fork_loop.specs.declared.asked.Asked.TheVariants as asks
 use Rattle.fork_loop.specs.Asking.{SameButNext, TakesNext, AskedIs, GoesOn}
 use Rattle.fork_loop.proofs.Others.{unsaid_kept, moment_kept, turns_kept}
-use Rattle.fork_loop.proofs.Spreading.{EndsRun, spread_tells, waker_may}
+use Rattle.fork_loop.proofs.Spreading.{spread_tells, waker_may}
 
 -- ---- how many live
 
@@ -205,12 +204,12 @@ asleep_but_next before after same h = λ s. subst IsAsleep (sym (same.rows_same 
 
 -- ---- the run may be ended
 
-pub row_may_end : (c : Config) (n : ℕ) (past : List Act) (s : ℕ) (why : Why) (row : Option Session) → EndsRun c n past why → RowIs c n past s row → MayLeaveRow c n past s why row
+pub row_may_end : (c : Config) (n : ℕ) (past : List Act) (s : ℕ) (why : Why) (row : Option Session) → RunsOut c n past why → RowIs c n past s row → MayLeaveRow c n past s why row
 row_may_end c n past s why None e r = r
 row_may_end c n past s why (Some x) e r = waker_may c n past s why x e r
 
 pub memory_ends : (c : Config) (n : ℕ) (start now : Seen) (past : List Act) (crew : Crew) → Course c n start now past crew → MayEnd c n start now whys.Memory crew
-memory_ends c n start now past crew on = record { past = past; frame = on.frame; all = refl; rows = λ s. row_may_end c n past s whys.Memory (row_of crew.table s) (inl refl) (on.rows s) }
+memory_ends c n start now past crew on = record { past = past; frame = on.frame; all = refl; ends = inl refl; rows = λ s. row_may_end c n past s whys.Memory (row_of crew.table s) (inl refl) (on.rows s) }
 
 pub spread_ends : (c : Config) (n : ℕ) (start now : Seen) (t : ℕ) (why : Why) (crew : Crew) → RowSpreads c n start now t why crew → MayEnd c n start now why crew
 spread_ends c n start now t why crew r =
@@ -219,10 +218,11 @@ spread_ends c n start now t why crew r =
       past = r.past;
       frame = r.course.frame;
       all = r.spreads.2;
+      ends = told.ends;
       rows = λ s. each s told.ends told.may (cases_eq s t);
     }
   where
-    each : (s : ℕ) → EndsRun c n r.past why → MayLeave c n r.past t why r.x → (s ≡ t) ⊎ (s ≡ t → ⊥) → MayLeaveRow c n r.past s why (row_of crew.table s)
+    each : (s : ℕ) → RunsOut c n r.past why → MayLeave c n r.past t why r.x → (s ≡ t) ⊎ (s ≡ t → ⊥) → MayLeaveRow c n r.past s why (row_of crew.table s)
     each s ends may (inl e) = subst (λ (k : ℕ). MayLeaveRow c n r.past k why (row_of crew.table k)) (sym e) (subst (MayLeaveRow c n r.past t why) (sym r.row) may)
     each s ends may (inr apart) = row_may_end c n r.past s why (row_of crew.table s) ends (r.course.rows s apart)
 

@@ -1,12 +1,11 @@
 -- A turn that all hear.
-use Rattle.std.proofs.Common.{◌≡◌, ◌≢◌, refl, sym, ap, subst, ◌∙◌, ℕ, ◌+◌, Bool, List, [], ◌∷◌, ◌++◌, take, slice_get, Option, Some, None}
+use Rattle.std.proofs.Common.{◌≡◌, sym, ap, subst, ◌∙◌, ℕ, ◌+◌, Bool, List, [], ◌∷◌, ◌++◌, take, slice_get, Option, Some, None}
 use Rattle.std.proofs.lemmas.List.{take_more}
 use Rattle.std.proofs.lemmas.Option.{slice_get_within, get_or_from_slice_get}
 use Rattle.relay_model.specs.Readiness.{Listed}
 use Rattle.relay_core.specs.declared.sessions.Session.{Session}
 use Rattle.fork_table.specs.Tables.{row_of, IsFirstLive, Table}
 use Rattle.fork_loop.specs.declared.crews.Crew.{Crew}
-use Rattle.fork_loop.specs.Courses.{OthersStay}
 use Rattle.fork_loop.specs.Turns.{HearsTurn, HearsRow, SameBesides, RowHeard}
 use Rattle.fork_loop.proofs.Loops.{RowsTo, rows_first, rows_next}
 

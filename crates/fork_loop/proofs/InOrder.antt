@@ -9,7 +9,7 @@ use Rattle.relay_model.specs.History.{turns}
 use Rattle.relay_model.specs.Sessions.{admitted, holds, numbers}
 use Rattle.relay_model.specs.May.{Legal}
 use Rattle.relay_model.specs.declared.acts.Act.TheVariants as acts
-use Rattle.relay_model.specs.Rest.{SessionRests, session_work, session_moment}
+use Rattle.relay_model.specs.Rest.{SessionRests}
 use Rattle.relay_core.specs.declared.sessions.Session.{Session}
 use Rattle.relay_core.specs.declared.wishes.Wish.TheVariants as sleeps
 use Rattle.relay_core.specs.Sessions.{Stands, wish_of}
@@ -146,6 +146,7 @@ limit_ends c n start now past crew until on order used =
       past = past;
       frame = on.frame;
       all = refl;
+      ends = inr (refl, all_used, order.rests);
       rows = λ s. row_may_end c n past s whys.Stopped (row_of crew.table s) (inr (refl, all_used, order.rests)) (on.rows s);
     }
 

@@ -1,5 +1,5 @@
 -- Where the run may be ended for a reason and each session is cut for it, all are leaving.
-use Rattle.std.proofs.Common.{◌≡◌, refl, sym, subst, ◌∙◌, ℕ, true, false, List, arith}
+use Rattle.std.proofs.Common.{◌≡◌, sym, subst, ◌∙◌, ℕ, inl, inr, true, false, List}
 use Rattle.std.proofs.lemmas.Bool.{false≢true}
 use Rattle.relay_model.specs.declared.commands.Config.{Config}
 use Rattle.relay_model.specs.declared.acts.Act.{Act}
@@ -11,13 +11,18 @@ use Rattle.session_driver.specs.Seen.{Seen}
 use Rattle.session_crew.specs.Crews.{MaySay}
 use Rattle.session_runs.specs.Pauses.{ends_all}
 use Rattle.fork_loop.specs.declared.crews.Crew.{Crew}
-use Rattle.fork_loop.specs.Endings.{MayEnd, CutsRows}
-use Rattle.fork_loop.specs.Waited.{Leaving}
+use Rattle.fork_loop.specs.Endings.{MayEnd, CutsRows, RunsOut}
+use Rattle.fork_loop.specs.Waited.{Leaving, StopsAt}
 
 may_say : (why : Why) (past : List Act) → ends_all why ≡ true → memory_said past ≡ false → MaySay why past
 may_say whys.Memory past e m = tt
 may_say whys.Stopped past e m = m
 may_say why past e m = absurd (false≢true e)
+
+-- a stop that no turn says comes where the turns are used up
+stops_at : (c : Config) (n : ℕ) (past : List Act) (why : Why) → RunsOut c n past why → StopsAt n why past
+stops_at c n past why (inl m) e = let x : ⊥ = cc in absurd x
+stops_at c n past why (inr o) e = inr o.1
 
 pub leaving : (c : Config) (n : ℕ) (start now : Seen) (why : Why) (before after : Crew) → MayEnd c n start now why before → CutsRows why before after → Leaving c n start now why after
 leaving c n start now why before after end cuts =
@@ -25,12 +30,17 @@ leaving c n start now why before after end cuts =
     let same = cuts.same in
     record {
       past = end.past;
-      fork = f.fork;
-      run = f.run;
-      door = subst (DoorStands c end.past) (sym same.door_same) f.door;
-      counts = record { admitted_is = same.admitted_same ∙ f.counts.admitted_is; children_is = same.bounds_same.0 ∙ f.counts.children_is; stop_is = same.bounds_same.1 ∙ f.counts.stop_is };
-      made_is = f.made_is ∙ sym same.made_same;
-      all = end.all;
-      may = may_say why end.past end.all f.unsaid.remembered;
-      rows = λ s. cuts.rows s c n end.past (end.rows s);
+      leaving = record {
+        exit = record {
+          fork = f.fork;
+          run = f.run;
+          stands = subst (DoorStands c end.past) (sym same.door_same) f.door;
+          may = may_say why end.past end.all f.unsaid.remembered;
+          ends = inr end.ends;
+          stops = stops_at c n end.past why end.ends;
+        };
+        counts = record { admitted_is = same.admitted_same ∙ f.counts.admitted_is; children_is = same.bounds_same.0 ∙ f.counts.children_is; stop_is = same.bounds_same.1 ∙ f.counts.stop_is };
+        made_is = f.made_is ∙ sym same.made_same;
+        rows = λ s. cuts.rows s c n end.past (end.rows s);
+      };
     }

@@ -1,10 +1,16 @@
 pub mod Begun
+pub mod Closings
+pub mod DoorClosings
 pub mod DoorSteps
+pub mod Emptying
+pub mod Finishing
+pub mod Freeing
 pub mod Hearing
 pub mod InOrder
 pub mod Leavings
 pub mod Loops
 pub mod Others
+pub mod Relayed
 pub mod RowRuns
 pub mod Spreading
 pub mod Turning

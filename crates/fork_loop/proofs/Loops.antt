@@ -1,16 +1,14 @@
 -- Loops over the rows of the table.
-use Rattle.std.proofs.Common.{◌≡◌, ◌≢◌, refl, sym, ap, subst, ◌∙◌, ℕ, ◌+◌, ◌-◌, ◌^◌, ◌<◌, ◌≤◌, ◌⊎◌, inl, inr, Bool, true, false, List, Option, Some, None, is_some, arith}
+use Rattle.std.proofs.Common.{◌≡◌, refl, sym, subst, ◌∙◌, ℕ, ◌+◌, ◌-◌, ◌^◌, ◌<◌, ◌≤◌, ◌⊎◌, inl, inr, true, Option, Some, None, is_some, arith}
 use Rattle.std.proofs.lemmas.Bool.{cases_lt, cases_eq, false≢true}
 use Rattle.relay_model.specs.declared.commands.Config.{Config}
-use Rattle.relay_model.specs.declared.acts.Act.{Act}
-use Rattle.relay_model.specs.Sessions.{admitted}
 use Rattle.relay_core.specs.declared.sessions.Session.{Session}
 use Rattle.program_door.proofs.Moves.{numbers_are}
 use Rattle.fork_table.specs.Tables.{row_of, IsFirstLive}
 use Rattle.session_driver.specs.Seen.{Seen}
 use Rattle.session_crew.specs.Crews.{Waker}
 use Rattle.fork_loop.specs.declared.crews.Crew.{Crew}
-use Rattle.fork_loop.specs.Courses.{RowIs, Course, Onward, Keeps, OthersStay, IsAsleep, AllAsleep, AsleepUpTo, Somewhere}
+use Rattle.fork_loop.specs.Courses.{RowIs, Keeps, OthersStay, IsAsleep, AsleepUpTo, Somewhere}
 
 -- how many numbers are still ahead
 abbrev pub ahead : Option ℕ → ℕ

@@ -1,15 +1,14 @@
 -- What the acts of one session leave of the door and of all other sessions.
-use Rattle.std.proofs.Common.{◌≡◌, ◌≢◌, refl, sym, ap, subst, ◌∙◌, ℕ, ◌<◌, Bool, true, false, ◌||◌, ◌&&◌, List, ◌∷◌, Option, Some, None, arith}
+use Rattle.std.proofs.Common.{◌≡◌, ◌≢◌, refl, sym, ◌∙◌, ℕ, ◌<◌, Bool, true, false, ◌||◌, ◌&&◌, List, ◌∷◌, Option, Some, None, arith}
 use Rattle.std.proofs.lemmas.Bool.{false≢true, or_parts, false_from_ne_true}
 use Rattle.relay_model.specs.declared.commands.Config.{Config}
-use Rattle.relay_model.specs.declared.places.Place.{Place}
 use Rattle.relay_model.specs.declared.acts.Why.TheVariants as whys
 use Rattle.relay_model.specs.declared.acts.Act.{Act}
 use Rattle.relay_model.specs.declared.acts.Act.TheVariants as acts
 use Rattle.relay_model.specs.Choices.{one_more}
 use Rattle.relay_model.specs.Configs.{has_fork, is_left}
 use Rattle.relay_model.specs.History.{now as moment, turns, memory_said, stop_said, same_why}
-use Rattle.relay_model.specs.Sessions.{admitted, holds, numbers, permits}
+use Rattle.relay_model.specs.Sessions.{admitted, numbers, permits}
 use Rattle.relay_model.specs.May.{Legal}
 use Rattle.relay_model.specs.Frames.{IsForeign, is_common, is_turn, is_at}
 use Rattle.relay_core.specs.declared.sessions.Session.{Session}
@@ -36,7 +35,7 @@ pub record Leave (c : Config) (n : ℕ) (past since : List Act) (t : ℕ) : Type
 
 -- ---- one act
 
-foreign_to : (c : Config) (s t : ℕ) (act : Act) → IsActOf c t act → s ≢ t → IsForeign c s act
+pub foreign_to : (c : Config) (s t : ℕ) (act : Act) → IsActOf c t act → s ≢ t → IsForeign c s act
 foreign_to c s t act here apart = λ p e d. false_from_ne_true (is_at act p) (λ at. apart (sym e ∙ (here.own p at).0))
 
 pub moment_kept : (act : Act) (past : List Act) → is_turn act ≡ false → moment (act ∷ past) ≡ moment past

@@ -1,10 +1,9 @@
 -- What the run of one row makes of the course of all.
-use Rattle.std.proofs.Common.{◌≡◌, ◌≢◌, refl, sym, ap, subst, ◌∙◌, ℕ, ◌<◌, ◌⊎◌, inl, inr, Bool, true, false, List, Option, Some, None, arith}
+use Rattle.std.proofs.Common.{◌≡◌, ◌≢◌, refl, sym, subst, ◌∙◌, ℕ, ◌⊎◌, inl, inr, false, List, Option, Some, None, arith}
 use Rattle.std.proofs.lemmas.Bool.{cases_eq}
 use Rattle.relay_model.specs.declared.commands.Config.{Config}
 use Rattle.relay_model.specs.declared.acts.Act.{Act}
 use Rattle.relay_model.specs.declared.acts.Why.{Why}
-use Rattle.relay_model.specs.Configs.{has_fork}
 use Rattle.relay_model.specs.Sessions.{admitted, holds}
 use Rattle.relay_core.specs.declared.sessions.Session.{Session}
 use Rattle.relay_core.specs.declared.sessions.Unborn.{Unborn}
@@ -13,16 +12,15 @@ use Rattle.relay_core.specs.Sessions.{Stands, IsUnborn, wish_of}
 use Rattle.relay_core.specs.States.{Wished}
 use Rattle.program_door.specs.Stands.{DoorStands}
 use Rattle.program_door.proofs.Moves.{numbers_are}
-use Rattle.fork_table.specs.Tables.{row_of, SameBounds}
+use Rattle.fork_table.specs.Tables.{row_of}
 use Rattle.session_driver.specs.Seen.{Seen}
 use Rattle.session_crew.specs.Crews.{Waker}
 use Rattle.session_crew.proofs.Members.{awake_asleep}
-use Rattle.session_runs.specs.Runs.{Run, RunOf, WentOn}
-use Rattle.session_runs.specs.Pauses.{PauseIs, Spreads}
+use Rattle.session_runs.specs.Runs.{Run, RunOf}
 use Rattle.session_runs.specs.declared.pauses.Pause.{Pause}
 use Rattle.session_runs.specs.declared.pauses.Pause.TheVariants as pauses
 use Rattle.fork_loop.specs.declared.crews.Crew.{Crew}
-use Rattle.fork_loop.specs.Courses.{RowIs, NextIs, Frame, Course, CourseBut, Onward, Keeps, OthersStay, DrainsRow, RowSpreads, RowRuns, IsAsleep, SameRest}
+use Rattle.fork_loop.specs.Courses.{RowIs, NextIs, Frame, Course, OthersStay, DrainsRow, RowRuns, IsAsleep, SameRest}
 use Rattle.fork_loop.proofs.Others.{Leave, ran_leaves}
 
 next_kept : (c : Config) (past since : List Act) (unborn : Option Unborn) → admitted c since ≡ admitted c past → NextIs c past unborn → NextIs c since unborn

@@ -1,5 +1,5 @@
 -- When a closing of one session may end all others.
-use Rattle.std.proofs.Common.{◌≡◌, refl, sym, ap, subst, ◌∙◌, ℕ, ◌⊎◌, inl, inr, Bool, true, false, ◌||◌, ◌&&◌, List, [], ◌∷◌, Option, Some, None, is_some, cond}
+use Rattle.std.proofs.Common.{◌≡◌, refl, sym, ap, subst, ◌∙◌, ℕ, inl, inr, Bool, true, false, ◌||◌, ◌&&◌, List, [], ◌∷◌, Option, Some, None, is_some, cond}
 use Rattle.std.specs.List.{list_any}
 use Rattle.std.proofs.lemmas.Bool.{true≢false, false≢true, or_parts}
 use Rattle.relay_model.specs.declared.commands.Config.{Config}
@@ -11,17 +11,13 @@ use Rattle.relay_model.specs.declared.acts.Why.TheVariants as whys
 use Rattle.relay_model.specs.Choices.{only_if, first_some}
 use Rattle.relay_model.specs.Places.{same_place}
 use Rattle.relay_model.specs.Configs.{is_of, things}
-use Rattle.relay_model.specs.History.{turns, now, held, memory_said, stop_said, same_why}
-use Rattle.relay_model.specs.Sessions.{holds}
+use Rattle.relay_model.specs.History.{now, held, memory_said, stop_said, same_why}
 use Rattle.relay_model.specs.Moments.{closing_moment, idle_moment, reached}
 use Rattle.relay_model.specs.Openings.{ready}
 use Rattle.relay_model.specs.Cause.{cause, closed_why, is_end, accept_failed_for, listening_failed, opening_failed, faulted, finished}
-use Rattle.relay_model.specs.Calls.{call}
-use Rattle.relay_model.specs.Openings as calls
 use Rattle.relay_model.specs.Rest.{Rest}
 use Rattle.legal_steps.proofs.PlaceLemmas.{same_place_equal}
 use Rattle.relay_core.specs.declared.sessions.Session.{Session}
-use Rattle.relay_core.specs.declared.wishes.Wish.{Wish}
 use Rattle.relay_core.specs.declared.wishes.Wish.TheVariants as wishes
 use Rattle.relay_core.specs.Endings.{Ends, EndingIs}
 use Rattle.relay_core.specs.States.{Allowed, ClosesFor}
@@ -29,7 +25,7 @@ use Rattle.relay_core.specs.Sessions.{Stands, IsGrounded, wish_of, ending_of}
 use Rattle.session_crew.specs.Crews.{Waker}
 use Rattle.session_runs.specs.Pauses.{Spreads, ends_all}
 use Rattle.fork_loop.specs.Courses.{Unsaid}
-use Rattle.fork_loop.specs.Endings.{MayLeave, MayLeaveRow, LeavesRow, CutRow}
+use Rattle.fork_loop.specs.Endings.{MayLeave, MayLeaveRow, LeavesRow, CutRow, RunsOut}
 
 pub cut_none : (why : Why) (s : ℕ) → CutRow why s None None
 cut_none why s c n past h = h
@@ -102,13 +98,9 @@ held_among past q (p ∷ ps) among h = go (same_place q p) refl among (held_amon
     go true e f ih = or_first (held past p) (list_any (held past) ps) (ap (held past) (sym (same_place_equal q p e)) ∙ h)
     go false e f ih = or_second (held past p) (list_any (held past) ps) (ih f h)
 
--- memory is wanting, or the turns are used up while a wait is in order
-abbrev pub EndsRun : Config → ℕ → List Act → Why → Type 0
-EndsRun c n past why = (why ≡ whys.Memory) ⊎ ((why ≡ whys.Stopped) × (turns past ≡ n) × Rest c past)
-
 pub record SpreadTells (c : Config) (n : ℕ) (past : List Act) (s : ℕ) (why : Why) (x : Session) : Type 0 where
   pub may : MayLeave c n past s why x
-  pub ends : EndsRun c n past why
+  pub ends : RunsOut c n past why
 
 unclosed_by_rest : (c : Config) (past : List Act) (s : ℕ) (q : Place) → is_of c s q ≡ true → held past q ≡ true → Rest c past → closed_why c past s ≡ None
 unclosed_by_rest c past s q own h r = go (closed_why c past s) refl
@@ -130,7 +122,7 @@ spread_tells c n past s why x u st (q, e, a) = by_ends (subst (EndingIs c n past
     allowed : Allowed c n past s x.state (wishes.Close q why)
     allowed = subst (Allowed c n past s x.state) e st.allowed
 
-    with_none : closed_why c past s ≡ None → Ends c n past s why → EndsRun c n past why → SpreadTells c n past s why x
+    with_none : closed_why c past s ≡ None → Ends c n past s why → RunsOut c n past why → SpreadTells c n past s why x
     with_none k ends run = record { may = record { grounded = st.fields.ground; ends = ends; unclosed = k }; ends = run }
 
     by_ends : Ends c n past s why → SpreadTells c n past s why x
@@ -139,7 +131,7 @@ spread_tells c n past s why x u st (q, e, a) = by_ends (subst (EndingIs c n past
     by_ends (inr (inr k)) = with_none (unclosed_by_rest c past s q allowed.0.own allowed.0.is_held k.2) (inr (inr k)) (inr k)
 
 -- then each session that is awake may be cut for the same reason
-pub waker_may : (c : Config) (n : ℕ) (past : List Act) (s : ℕ) (why : Why) (x : Session) → EndsRun c n past why → Waker c n past s x → MayLeave c n past s why x
+pub waker_may : (c : Config) (n : ℕ) (past : List Act) (s : ℕ) (why : Why) (x : Session) → RunsOut c n past why → Waker c n past s x → MayLeave c n past s why x
 waker_may c n past s why x (inl e) w = record { grounded = w.stands.fields.ground; ends = inr (inl (e, w.unclosed)); unclosed = w.unclosed }
 waker_may c n past s why x (inr e) w = record { grounded = w.stands.fields.ground; ends = inr (inr e); unclosed = w.unclosed }
 

@@ -1,5 +1,5 @@
 -- How the run of all goes on by a turn.
-use Rattle.std.proofs.Common.{◌≡◌, refl, sym, ap, subst, ◌∙◌, ℕ, suc, ◌+◌, ◌-◌, ◌^◌, ◌<◌, ◌≤◌, min, Bool, true, false, not, ◌||◌, ◌&&◌, List, [], ◌∷◌, Option, Some, None, option_map, arith}
+use Rattle.std.proofs.Common.{◌≡◌, refl, sym, ap, subst, ◌∙◌, inl, ℕ, suc, ◌+◌, ◌<◌, ◌≤◌, Bool, true, false, not, ◌||◌, ◌&&◌, List, [], ◌∷◌, Option, Some, None, option_map, arith}
 use Rattle.std.proofs.lemmas.Bool.{true≢false, false≢true}
 use Rattle.relay_model.specs.declared.commands.Config.{Config}
 use Rattle.relay_model.specs.declared.places.Place.{Place}
@@ -14,29 +14,26 @@ use Rattle.relay_model.specs.Holding.{Hold, is_free, standing}
 use Rattle.relay_model.specs.History.{held, turns, memory_said}
 use Rattle.relay_model.specs.Cause.{cause}
 use Rattle.relay_model.specs.May.{Legal}
-use Rattle.relay_model.specs.Rest.{Rest, until_of}
 use Rattle.legal_steps.proofs.PlaceLemmas.{same_place_equal}
 use Rattle.legal_steps.proofs.Holdings.{standing_held}
 use Rattle.world_trait.specs.Recordings.{with_act}
-use Rattle.world_trait.specs.Answers.{Did, DidNothing, TurnCounts, NoTurnCounts, NamesHeld}
+use Rattle.world_trait.specs.Answers.{Did, TurnCounts, NamesHeld}
 use Rattle.relay_core.specs.declared.sessions.Session.{Session}
 use Rattle.relay_core.specs.declared.sessions.Unborn.{Unborn}
 use Rattle.relay_core.specs.Told.{stop_turned}
 use Rattle.session_sleep.specs.Sleeps.{just}
 use Rattle.session_kept.proofs.Kept.{hears_kept, stopped_kept}
 use Rattle.session_driver.specs.Seen.{Seen}
-use Rattle.session_crew.specs.Crews.{Leaver}
 use Rattle.session_crew.proofs.Members.{awake}
-use Rattle.session_runs.specs.Runs.{Run, HasRisen}
+use Rattle.session_runs.specs.Runs.{Run}
 use Rattle.session_runs.proofs.Going.{told_act, undumped_owes, risen_later, risen_kept}
 use Rattle.program_door.specs.Stands.{DoorStands}
 use Rattle.fork_table.specs.Tables.{row_of, Table}
 use Rattle.fork_loop.specs.declared.crews.Crew.{Crew}
 use Rattle.fork_loop.specs.Courses.{RowIs, NextIs, Course, Onward, IsAsleep, AllAsleep}
-use Rattle.fork_loop.specs.Endings.{LeavesRow, MayEnd}
+use Rattle.fork_loop.specs.Endings.{LeavesRow}
 use Rattle.fork_loop.specs.Turns.{HearsRow, AllHeard}
 use Rattle.fork_loop.specs.Waited.{Leaving, InOrder}
-use Rattle.fork_loop.proofs.DoorSteps.{memory_ends}
 
 -- ---- what is named is held
 
@@ -161,18 +158,23 @@ stops_all c n start old new past until at before mid after on few order asleep t
     let same : after.table.admitted ≡ before.table.admitted = h.same.admitted_same ∙ ap (λ (x : Table Session). x.admitted) table in
     record {
       past = Turn until at (copied_list mid.ready) true ∷ past;
-      fork = f.fork;
-      run = turned_run c n start old new past until at mid.ready true f.run t (omega (arith, few, e)) order;
-      door = h.door c past until at (subst (DoorStands c past) (sym w.door_same) f.door);
-      counts = record {
-        admitted_is = same ∙ f.counts.admitted_is;
-        children_is = h.same.bounds_same.0 ∙ (ap (λ (x : Table Session). x.max_children) table ∙ f.counts.children_is);
-        stop_is = h.same.bounds_same.1 ∙ (ap (λ (x : Table Session). x.stop_after) table ∙ f.counts.stop_is);
+      leaving = record {
+        exit = record {
+          fork = f.fork;
+          run = turned_run c n start old new past until at mid.ready true f.run t (omega (arith, few, e)) order;
+          stands = h.door c past until at (subst (DoorStands c past) (sym w.door_same) f.door);
+          may = f.unsaid.remembered;
+          ends = inl (refl, f.unsaid.remembered);
+          stops = λ _. inl refl;
+        };
+        counts = record {
+          admitted_is = same ∙ f.counts.admitted_is;
+          children_is = h.same.bounds_same.0 ∙ (ap (λ (x : Table Session). x.max_children) table ∙ f.counts.children_is);
+          stop_is = h.same.bounds_same.1 ∙ (ap (λ (x : Table Session). x.stop_after) table ∙ f.counts.stop_is);
+        };
+        made_is = one_turn (turns past) before.made after.made e (h.same.made_same ∙ w.made_is);
+        rows = λ s. row_stopped c n past s until at mid.ready (row_of mid.table s) (row_of after.table s) f.unsaid.remembered (subst (λ (x : Table Session). RowIs c n past s (row_of x s)) (sym table) (on.rows s)) (subst (λ (x : Table Session). IsAsleep (row_of x s)) (sym table) (asleep s)) (h.rows s);
       };
-      made_is = one_turn (turns past) before.made after.made e (h.same.made_same ∙ w.made_is);
-      all = refl;
-      may = f.unsaid.remembered;
-      rows = λ s. row_stopped c n past s until at mid.ready (row_of mid.table s) (row_of after.table s) f.unsaid.remembered (subst (λ (x : Table Session). RowIs c n past s (row_of x s)) (sym table) (on.rows s)) (subst (λ (x : Table Session). IsAsleep (row_of x s)) (sym table) (asleep s)) (h.rows s);
     }
 
 -- whichever the turn says

@@ -1,5 +1,5 @@
 -- The least moment that the door or a session waits for.
-use Rattle.std.proofs.Common.{◌≡◌, refl, sym, ap, subst, ◌∙◌, ℕ, ◌+◌, ◌<◌, ◌≤◌, ◌⊎◌, inl, inr, true, List, Option, Some, None, is_some, arith}
+use Rattle.std.proofs.Common.{◌≡◌, refl, sym, ap, subst, ◌∙◌, ℕ, ◌+◌, ◌<◌, ◌≤◌, ◌⊎◌, inl, inr, true, Option, Some, None, is_some, arith}
 use Rattle.std.proofs.lemmas.Bool.{cases_lt, cases_eq}
 use Rattle.relay_model.specs.Choices.{earlier}
 use Rattle.relay_laws.proofs.Least.{LeastOf, least, none_at_all, own_least, map_least, join_least}
@@ -8,7 +8,7 @@ use Rattle.relay_core.specs.declared.wishes.Wish.TheVariants as wishes
 use Rattle.relay_core.specs.Sessions.{wish_of}
 use Rattle.fork_table.specs.Tables.{row_of, IsFirstLive}
 use Rattle.fork_loop.specs.declared.crews.Crew.{Crew}
-use Rattle.fork_loop.specs.Courses.{HasRow, SameRest, IsAsleep, AllAsleep}
+use Rattle.fork_loop.specs.Courses.{HasRow, IsAsleep, AllAsleep}
 use Rattle.fork_loop.specs.Waits.{SameCrew, RowUntil, WaitsFor, IsLeast}
 use Rattle.fork_loop.proofs.RowRuns.{rest_itself, rest_then}
 use Rattle.fork_loop.proofs.Loops.{some_row}

@@ -1,5 +1,5 @@
 -- The loop at the beginning of a history.
-use Rattle.std.specs.Prelude.{◌≡◌, ℕ, true, List, []}
+use Rattle.std.specs.Prelude.{◌≡◌, ℕ, true, []}
 use Rattle.relay_model.specs.declared.commands.Config.{Config}
 use Rattle.relay_model.specs.declared.commands.Dump.TheVariants as dumps
 use Rattle.relay_model.specs.declared.places.Place.{Place}

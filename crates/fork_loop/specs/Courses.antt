@@ -1,5 +1,5 @@
 -- What the loop keeps true, of some history that all that it drives stands for.
-use Rattle.std.specs.Prelude.{◌≡◌, ◌≢◌, ℕ, ◌<◌, Bool, true, false, List, Option, Some, None, is_some}
+use Rattle.std.specs.Prelude.{◌≡◌, ◌≢◌, ℕ, ◌<◌, true, false, List, Option, Some, None, is_some}
 use Rattle.relay_model.specs.declared.acts.Act.{Act}
 use Rattle.relay_model.specs.declared.acts.Why.{Why}
 use Rattle.relay_model.specs.declared.commands.Config.{Config}
@@ -14,10 +14,9 @@ use Rattle.program_door.specs.Stands.{DoorStands}
 use Rattle.fork_table.specs.Tables.{Table, SameBounds, row_of}
 use Rattle.session_driver.specs.Seen.{Seen}
 use Rattle.session_crew.specs.Crews.{Waker}
-use Rattle.session_runs.specs.Runs.{Run, RunOf, Ran, RunsOn}
+use Rattle.session_runs.specs.Runs.{Run, RunsOn}
 use Rattle.session_runs.specs.Pauses.{PauseIs, Spreads}
 use Rattle.session_runs.specs.declared.pauses.Pause.{Pause}
-use Rattle.session_runs.specs.declared.pauses.Pause.TheVariants as pauses
 use Rattle.fork_loop.specs.declared.crews.Crew.{Crew}
 
 -- a session that is in the table is awake; one that has begun and isn't there holds nothing any more

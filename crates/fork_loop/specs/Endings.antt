@@ -1,8 +1,11 @@
 -- How the run of all sessions is ended.
-use Rattle.std.specs.Prelude.{◌≡◌, ℕ, ◌<◌, true, false, List, Option, Some, None}
+use Rattle.std.specs.Prelude.{◌≡◌, ◌⊎◌, ℕ, ◌<◌, true, false, List, Option, Some, None}
 use Rattle.relay_model.specs.declared.commands.Config.{Config}
 use Rattle.relay_model.specs.declared.acts.Act.{Act}
 use Rattle.relay_model.specs.declared.acts.Why.{Why}
+use Rattle.relay_model.specs.declared.acts.Why.TheVariants as whys
+use Rattle.relay_model.specs.History.{turns}
+use Rattle.relay_model.specs.Rest.{Rest}
 use Rattle.relay_model.specs.Sessions.{admitted, holds}
 use Rattle.relay_model.specs.Cause.{closed_why}
 use Rattle.relay_core.specs.declared.sessions.Session.{Session}
@@ -31,11 +34,16 @@ abbrev pub LeavesRow : Config → ℕ → List Act → ℕ → Why → Option Se
 LeavesRow c n past s why None = s < admitted c past → holds c past s ≡ false
 LeavesRow c n past s why (Some x) = Leaver c n past s why x
 
+-- memory is wanting, or the turns are used up while a wait is in order
+abbrev pub RunsOut : Config → ℕ → List Act → Why → Type 0
+RunsOut c n past why = (why ≡ whys.Memory) ⊎ ((why ≡ whys.Stopped) × (turns past ≡ n) × Rest c past)
+
 -- the run may be ended for this reason
 pub record MayEnd (c : Config) (n : ℕ) (start now : Seen) (why : Why) (crew : Crew) : Type 0 where
   pub past : List Act
   pub frame : Frame c n start now past crew
   pub all : ends_all why ≡ true
+  pub ends : RunsOut c n past why
   pub rows : (s : ℕ) → MayLeaveRow c n past s why (row_of crew.table s)
 
 -- a session that may be cut is

@@ -1,9 +1,11 @@
 pub mod Asking
 pub mod Births
+pub mod Closings
 pub mod Courses
 pub mod Endings
 pub mod Left
 pub mod Turned
 pub mod Turns
+pub mod Vacated
 pub mod Waited
 pub mod Waits

@@ -1,5 +1,5 @@
 -- What a wait makes of the loop.
-use Rattle.std.specs.Prelude.{◌≡◌, ℕ, suc, true, List, Option, Some, None}
+use Rattle.std.specs.Prelude.{◌≡◌, ◌⊎◌, ℕ, suc, true, List, Option}
 use Rattle.relay_model.specs.declared.commands.Config.{Config}
 use Rattle.relay_model.specs.declared.acts.Act.{Act}
 use Rattle.relay_model.specs.declared.acts.Why.{Why}
@@ -7,29 +7,43 @@ use Rattle.relay_model.specs.declared.acts.Why.TheVariants as whys
 use Rattle.relay_model.specs.Configs.{has_fork}
 use Rattle.relay_model.specs.History.{turns}
 use Rattle.relay_model.specs.Rest.{Rest, until_of}
+use Rattle.relay_core.specs.Told.{stop_turned}
+use Rattle.program_door.specs.declared.doors.Door.{Door}
 use Rattle.program_door.specs.Stands.{DoorStands}
 use Rattle.fork_table.specs.Tables.{row_of}
 use Rattle.session_driver.specs.Seen.{Seen}
-use Rattle.session_crew.specs.Crews.{MaySay}
+use Rattle.session_crew.specs.Crews.{IsSaid, MaySay}
 use Rattle.session_runs.specs.Runs.{Run}
-use Rattle.session_runs.specs.Pauses.{ends_all}
 use Rattle.fork_loop.specs.declared.crews.Crew.{Crew}
 use Rattle.fork_loop.specs.declared.waited.Waited.{Waited}
 use Rattle.fork_loop.specs.declared.waited.Waited.TheVariants as waits
 use Rattle.fork_loop.specs.Courses.{Counts, Course, Onward}
-use Rattle.fork_loop.specs.Endings.{LeavesRow, MayEnd}
+use Rattle.fork_loop.specs.Endings.{LeavesRow, MayEnd, RunsOut}
 
--- each session was cut for this reason, a stop or want of memory, and a closing for it may come
-pub record Leaving (c : Config) (n : ℕ) (start now : Seen) (why : Why) (crew : Crew) : Type 0 where
-  pub past : List Act
+-- where it is a stop, a turn says stop, or the turns are used up
+abbrev pub StopsAt : ℕ → Why → List Act → Type 0
+StopsAt n why past = why ≡ whys.Stopped → (stop_turned past ≡ true) ⊎ (turns past ≡ n)
+
+-- the run is ended for this reason, a stop or want of memory, and a closing for it may come
+pub record Exit (c : Config) (n : ℕ) (start now : Seen) (past : List Act) (why : Why) (door : Door) : Type 0 where
   pub fork : has_fork c ≡ true
   pub run : Run c n start now past
-  pub door : DoorStands c past crew.door
+  pub stands : DoorStands c past door
+  pub may : MaySay why past
+  pub ends : IsSaid why past ⊎ RunsOut c n past why
+  pub stops : StopsAt n why past
+
+-- and each session was cut for it
+pub record LeavingAt (c : Config) (n : ℕ) (start now : Seen) (past : List Act) (why : Why) (crew : Crew) : Type 0 where
+  pub exit : Exit c n start now past why crew.door
   pub counts : Counts c past crew.table
   pub made_is : turns past ≡ crew.made
-  pub all : ends_all why ≡ true
-  pub may : MaySay why past
   pub rows : (s : ℕ) → LeavesRow c n past s why (row_of crew.table s)
+
+-- so of some acts
+pub record Leaving (c : Config) (n : ℕ) (start now : Seen) (why : Why) (crew : Crew) : Type 0 where
+  pub past : List Act
+  pub leaving : LeavingAt c n start now past why crew
 
 -- a wait was in order, until this moment
 pub record InOrder (c : Config) (past : List Act) (until : Option ℕ) : Type 0 where

@@ -4,14 +4,21 @@
 mod asked;
 mod births;
 mod crews;
+mod departures;
+mod ended;
 mod endings;
+mod leaving;
 mod left;
+mod outcomes;
 mod ran;
+mod relays;
 mod rows;
 mod turned;
 mod turns;
+mod vacated;
 mod waited;
 mod waits;
 
 pub use crews::Crew;
+pub use relays::relay;
 pub use turned::RunEnd;

@@ -13,8 +13,8 @@ ghost use Rattle.socat_top.specs.Tasks.{task, command_task, task_of};
 
 use crate::built::can_run;
 use crate::notes::{conclude, print};
+use crate::relays::relay;
 use cmd_words::{Command, CommandFault, command_of};
-use event_loop::relay;
 use exit_status::{Outcome, usage_text, version_text};
 use relay_model::{Config, Refusal, Refused, Text};
 use std::alloc::Global;

@@ -4,6 +4,7 @@
 mod built;
 mod calls;
 mod notes;
+mod relays;
 mod runs;
 mod written;
 

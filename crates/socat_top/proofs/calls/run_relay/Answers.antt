@@ -1,10 +1,6 @@
-use Rattle.socat_top.proofs.Offered.{offered_runs}
 use Rattle.event_loop.proofs.Ends.{completes_on}
 use Rattle.socat_top.proofs.Endings.{concluded}
 use Rattle.socat_top.proofs.calls.run_relay.Goals as goal
-
-pub relay-outcome-requires-clause-runnable : goal.relay-outcome-requires-clause-runnable
-relay-outcome-requires-clause-runnable g c = offered_runs c.args.config.now c.requires.fit c.requires.built
 
 pub returns-clause-headline : goal.returns-clause-headline
 returns-clause-headline g c = λ before told.

@@ -1,7 +1,6 @@
-use Rattle.std.proofs.Common.{subst}
 use Rattle.fork_loop.specs.Endings.{CutRow}
 use Rattle.fork_loop.proofs.RowRuns.{rest_itself, rest_then}
-use Rattle.fork_loop.proofs.Loops.{RowsTo, rows_first, rows_next}
+use Rattle.fork_loop.proofs.Loops.{rows_first, rows_next}
 use Rattle.fork_loop.proofs.Spreading.{cut_none}
 use Rattle.fork_loop.proofs.crews.Crew.cut_rows.Goals as goal
 

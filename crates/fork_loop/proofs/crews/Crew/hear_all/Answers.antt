@@ -1,6 +1,6 @@
 use Rattle.std.proofs.Common.{refl, sym, subst, arith}
 use Rattle.fork_loop.specs.Courses.{IsAsleep}
-use Rattle.fork_loop.specs.Turns.{HearsRow, DoorHearsTurn}
+use Rattle.fork_loop.specs.Turns.{DoorHearsTurn}
 use Rattle.fork_loop.proofs.Hearing.{rows_heard_first, rows_heard_next, besides_then}
 use Rattle.fork_loop.proofs.crews.Crew.hear_all.Goals as goal
 

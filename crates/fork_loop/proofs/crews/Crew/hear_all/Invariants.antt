@@ -1,4 +1,3 @@
-use Rattle.std.proofs.Common.{◌≡◌}
 use Rattle.fork_loop.specs.Turns.{HearsRow, SameBesides, DoorHearsTurn}
 use Rattle.fork_loop.proofs.Loops.{ahead, RowsTo}
 use Rattle.fork_loop.proofs.crews.Crew.hear_all.Given as goal

@@ -1,4 +1,3 @@
-use Rattle.std.proofs.Common.{ℕ}
 use Rattle.fork_loop.specs.Waits.{SameCrew}
 use Rattle.fork_loop.proofs.Loops.{ahead}
 use Rattle.fork_loop.proofs.Untils.{LeastTo}

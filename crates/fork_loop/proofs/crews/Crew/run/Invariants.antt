@@ -1,6 +1,5 @@
 use Rattle.std.specs.Prelude.{◌-◌}
 use Rattle.session_driver.specs.Seen.{seen}
-use Rattle.fork_loop.specs.Courses.{Keeps}
 use Rattle.fork_loop.specs.Turned.{KeepsTo}
 use Rattle.fork_loop.proofs.crews.Crew.run.Given as goal
 

@@ -1,4 +1,3 @@
-use Rattle.std.proofs.Common.{ℕ, ◌-◌, ◌^◌, Option, Some, None}
 use Rattle.session_driver.specs.Seen.{seen}
 use Rattle.fork_loop.specs.Courses.{Keeps, AsleepUpTo, SameRest}
 use Rattle.fork_loop.proofs.Loops.{ahead}

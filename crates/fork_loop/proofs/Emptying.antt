@@ -1,0 +1,180 @@
+-- What the closings of one session leave of all others, and what comes of a row.
+use Rattle.std.proofs.Common.{◌≡◌, ◌≢◌, refl, sym, subst, ◌∙◌, ℕ, ◌+◌, ◌<◌, ◌⊎◌, inl, inr, Bool, true, false, cond, List, [], ◌∷◌, Option, Some, None, arith}
+use Rattle.std.specs.List.{list_any}
+use Rattle.std.proofs.lemmas.Bool.{cases_eq, or_parts, or_from}
+use Rattle.relay_model.specs.declared.commands.Config.{Config}
+use Rattle.relay_model.specs.declared.places.Place.{Place}
+use Rattle.relay_model.specs.declared.acts.Act.{Act}
+use Rattle.relay_model.specs.declared.acts.Act.TheVariants.{Closed}
+use Rattle.relay_model.specs.declared.acts.Why.{Why}
+use Rattle.relay_model.specs.Places.{same_place}
+use Rattle.relay_model.specs.Configs.{has_fork, things}
+use Rattle.relay_model.specs.History.{turns, stage, held, holds_at, Gone}
+use Rattle.relay_model.specs.History as stages
+use Rattle.relay_model.specs.Sessions.{admitted, holds}
+use Rattle.relay_model.specs.May.{Legal}
+use Rattle.relay_core.specs.declared.sessions.Session.{Session}
+use Rattle.relay_core.specs.States.{Wished}
+use Rattle.relay_core.specs.Sessions.{Stands}
+use Rattle.program_door.specs.declared.doors.Door.{Door}
+use Rattle.program_door.proofs.Moves.{numbers_are}
+use Rattle.fork_table.specs.Tables.{row_of, IsFirstLive, SameBounds}
+use Rattle.session_driver.specs.Seen.{Seen}
+use Rattle.session_crew.specs.Crews.{Leaver, MaySay}
+use Rattle.session_crew.proofs.Members.{closings_leave, acts_leave}
+use Rattle.fork_loop.specs.declared.crews.Crew.{Crew}
+use Rattle.fork_loop.specs.Courses.{OthersStay}
+use Rattle.fork_loop.specs.Endings.{LeavesRow}
+use Rattle.fork_loop.specs.Waited.{Exit, LeavingAt}
+use Rattle.fork_loop.specs.Closings.{Leaves, SomeLeaves, LeftBy, stayed, closed, acted, LeavesOn, IsOver, SomeLeaving, KeepsLeaving, EmptiesRow, RowLeaves}
+use Rattle.fork_loop.proofs.Closings.{may_on, may_still}
+use Rattle.fork_loop.proofs.Loops.{RowsTo, rows_first, rows_next}
+use Rattle.fork_loop.proofs.Others.{act_leaves, foreign_to}
+
+-- ---- a closing ends holdings alone
+
+still_free : (b : Bool) (why : Why) (st : stages.Stage) → holds_at st ≡ false → holds_at (cond b (Gone why) st) ≡ false
+still_free true why st e = refl
+still_free false why st e = e
+
+pub none_held : (past : List Act) (q : Place) (why : Why) (ps : List Place) → list_any (held past) ps ≡ false → list_any (held (Closed q why ∷ past)) ps ≡ false
+none_held past q why [] e = refl
+none_held past q why (p ∷ ps) e =
+    let h = or_parts (held past p) (list_any (held past) ps) e in
+    or_from (held (Closed q why ∷ past) p) (list_any (held (Closed q why ∷ past)) ps) (still_free (same_place q p) why (stage past p) h.0) (none_held past q why ps h.1)
+
+-- ---- what is left of all but the session
+
+pub record LeftOthers (c : Config) (n : ℕ) (past since : List Act) (t : ℕ) (why : Why) : Type 0 where
+  pub admitted_same : admitted c since ≡ admitted c past
+  pub turns_same : turns since ≡ turns past
+  pub may : MaySay why since
+  pub rows : (s : ℕ) (row : Option Session) → s ≢ t → LeavesRow c n past s why row → LeavesRow c n since s why row
+
+pub left_others : (c : Config) (n t : ℕ) (why : Why) (past since : List Act) → has_fork c ≡ true → Legal c n since → t < admitted c past → MaySay why past → LeftBy c t why past since → LeftOthers c n past since t why
+left_others c n t why past all fork legal begun may stayed = record { admitted_same = refl; turns_same = refl; may = may; rows = λ s row apart r. r }
+left_others c n t why past all fork legal begun may (closed q since here l) =
+    let one = left_others c n t why past since fork legal.1 begun may l in
+    record {
+      admitted_same = one.admitted_same;
+      turns_same = one.turns_same;
+      may = may_still since q why one.may;
+      rows = λ s row apart r. each s row apart one.may (one.rows s row apart r);
+    }
+  where
+    each : (s : ℕ) (row : Option Session) → s ≢ t → MaySay why since → LeavesRow c n since s why row → LeavesRow c n (Closed q why ∷ since) s why row
+    each s None apart m r = λ below. none_held since q why (things c s) (r below)
+    each s (Some x) apart m r = closings_leave c n since s q why x (foreign_to c s t (Closed q why) here apart) m r
+left_others c n t why past all fork legal begun may (acted act since here k said l) =
+    let one = left_others c n t why past since fork legal.1 begun may l in
+    let same = one.admitted_same in
+    let two = act_leaves c n act since t fork legal (omega (arith, begun, same)) here k in
+    record {
+      admitted_same = two.admitted_same ∙ one.admitted_same;
+      turns_same = two.turns_same ∙ one.turns_same;
+      may = may_on c act since why k one.may;
+      rows = λ s row apart r. each s row apart (λ h. two.rows s None apart h) (one.rows s row apart r);
+    }
+  where
+    each : (s : ℕ) (row : Option Session) → s ≢ t → ((s < admitted c since → holds c since s ≡ false) → s < admitted c (act ∷ since) → holds c (act ∷ since) s ≡ false) → LeavesRow c n since s why row → LeavesRow c n (act ∷ since) s why row
+    each s None apart gone r = gone r
+    each s (Some x) apart gone r = acts_leave c n act since s why x (foreign_to c s t act here apart) k said r
+
+-- ---- a row
+
+leaves_at : (c : Config) (n : ℕ) (start now : Seen) (past : List Act) (t : ℕ) (why : Why) (crew : Crew) (x : Session) → LeavingAt c n start now past why crew → row_of crew.table t ≡ Some x → Leaves c n start now past t why x crew.door
+leaves_at c n start now past t why crew x l had =
+    let o : Leaver c n past t why x = subst (LeavesRow c n past t why) had (l.rows t) in
+    record { exit = l.exit; stands = o.stands; ending = o.ending; said = inl o.unclosed }
+
+pub some_leaves : (c : Config) (now : Seen) (t : ℕ) (why : Why) (crew : Crew) (x : Session) → SomeLeaving c now why crew → row_of crew.table t ≡ Some x → SomeLeaves c now why x crew.door
+some_leaves c now t why crew x at had = record { n = at.n; start = at.start; past = at.past; s = t; leaves = leaves_at c at.n at.start now at.past t why crew x at.leaving had }
+
+-- all but the door and the row of this number is as it was
+pub record SameBut (t : ℕ) (before after : Crew) : Type 0 where
+  pub made_same : after.made ≡ before.made
+  pub admitted_same : after.table.admitted ≡ before.table.admitted
+  pub bounds_same : SameBounds before.table after.table
+  pub others : OthersStay t before after
+
+over_holds : (c : Config) (n : ℕ) (past : List Act) (t : ℕ) (x : Session) → Stands c n past t x → IsOver x → holds c past t ≡ false
+over_holds c n past t x st over = (subst (Wished c n past t) over.1 st.allowed.0).nothing_held
+
+pub row_emptied : (c : Config) (old new : Seen) (t : ℕ) (why : Why) (before after : Crew) (x y : Session) → row_of before.table t ≡ Some x → LeavesOn c old new why x y before.door after.door → IsOver y → SameBut t before after → EmptiesRow c old new t why before after
+row_emptied c old new t why before after x y had run over same = record {
+  emptied = λ n start past l.
+      let at = leaves_at c n start old past t why before x l had in
+      let o = run n start past t at in
+      let e = numbers_are c past l.exit.fork in
+      let b = at.stands.fields.ground.begun in
+      let r = left_others c n t why past o.since l.exit.fork o.leaves.exit.run.legal (omega (arith, b, e)) l.exit.may o.left in
+      record {
+        past = o.since;
+        exit = o.leaves.exit;
+        counts = record {
+          admitted_is = same.admitted_same ∙ l.counts.admitted_is ∙ sym r.admitted_same;
+          children_is = same.bounds_same.0 ∙ l.counts.children_is;
+          stop_is = same.bounds_same.1 ∙ l.counts.stop_is;
+        };
+        made_is = r.turns_same ∙ l.made_is ∙ sym same.made_same;
+        rows = λ s apart. subst (LeavesRow c n o.since s why) (sym (same.others s apart)) (r.rows s (row_of before.table s) apart (l.rows s));
+        empty = λ _. over_holds c n o.since t y o.leaves.stands over;
+      };
+  others = same.others;
+}
+
+-- where none lives nothing is to be closed
+pub no_row_emptied : (c : Config) (now : Seen) (t : ℕ) (why : Why) (before after : Crew) → row_of before.table t ≡ None → after.door ≡ before.door → SameBut t before after → EmptiesRow c now now t why before after
+no_row_emptied c now t why before after none door same = record {
+  emptied = λ n start past l. record {
+    past = past;
+    exit = subst (λ (d : Door). Exit c n start now past why d) (sym door) l.exit;
+    counts = record { admitted_is = same.admitted_same ∙ l.counts.admitted_is; children_is = same.bounds_same.0 ∙ l.counts.children_is; stop_is = same.bounds_same.1 ∙ l.counts.stop_is };
+    made_is = l.made_is ∙ sym same.made_same;
+    rows = λ s apart. subst (LeavesRow c n past s why) (sym (same.others s apart)) (l.rows s);
+    empty = subst (LeavesRow c n past t why) none (l.rows t);
+  };
+  others = same.others;
+}
+
+-- the row goes then
+pub row_gone : (c : Config) (old new : Seen) (t : ℕ) (why : Why) (before mid after : Crew) → EmptiesRow c old new t why before mid → after.door ≡ mid.door → SameBut t mid after → row_of after.table t ≡ None → RowLeaves c old new t why before after
+row_gone c old new t why before mid after e door same gone = record {
+  keeps = λ n start past l.
+      let m = e.emptied n start past l in
+      record {
+        past = m.past;
+        leaving = record {
+          exit = subst (λ (d : Door). Exit c n start new m.past why d) (sym door) m.exit;
+          counts = record { admitted_is = same.admitted_same ∙ m.counts.admitted_is; children_is = same.bounds_same.0 ∙ m.counts.children_is; stop_is = same.bounds_same.1 ∙ m.counts.stop_is };
+          made_is = m.made_is ∙ sym same.made_same;
+          rows = λ s. each n m.past s (subst (LeavesRow c n m.past t why) (sym gone) m.empty) (λ apart. subst (LeavesRow c n m.past s why) (sym (same.others s apart)) (m.rows s apart)) (cases_eq s t);
+        };
+      };
+  gone = gone;
+  others = λ s apart. same.others s apart ∙ e.others s apart;
+}
+  where
+    each : (n : ℕ) (past : List Act) (s : ℕ) → LeavesRow c n past t why (row_of after.table t) → (s ≢ t → LeavesRow c n past s why (row_of after.table s)) → (s ≡ t) ⊎ (s ≡ t → ⊥) → LeavesRow c n past s why (row_of after.table s)
+    each n past s here others (inl k) = subst (λ (x : ℕ). LeavesRow c n past x why (row_of after.table x)) (sym k) here
+    each n past s here others (inr apart) = others apart
+
+-- ---- all rows
+
+abbrev pub IsGone : ℕ → Option Session → Option Session → Type 0
+IsGone s before after = after ≡ None
+
+pub gone_first : (crew : Crew) (first : Option ℕ) → IsFirstLive crew.table 0 first → RowsTo IsGone first crew crew
+gone_first crew first f = rows_first IsGone (λ s. refl) crew first f
+
+pub gone_next : (t : ℕ) (before mid after : Crew) (next : Option ℕ) → RowsTo IsGone (Some t) before mid → row_of after.table t ≡ None → OthersStay t mid after → IsFirstLive after.table (t + 1) next → RowsTo IsGone next before after
+gone_next t before mid after next done gone others first = rows_next IsGone (λ s. refl) t before mid after next done gone others first
+
+pub leaving_then : (c : Config) (old mid new : Seen) (why : Why) (one two three : Crew) → KeepsLeaving c old mid why one two → KeepsLeaving c mid new why two three → KeepsLeaving c old new why one three
+leaving_then c old mid new why one two three f g = λ n start past l. let a = f n start past l in g n start a.past a.leaving
+
+pub leaving_first : (c : Config) (now : Seen) (why : Why) (crew : Crew) → KeepsLeaving c now now why crew crew
+leaving_first c now why crew = λ n start past l. record { past = past; leaving = l }
+
+pub some_leaving_on : (c : Config) (old new : Seen) (why : Why) (before after : Crew) → SomeLeaving c old why before → KeepsLeaving c old new why before after → SomeLeaving c new why after
+some_leaving_on c old new why before after at k = let o = k at.n at.start at.past at.leaving in record { n = at.n; start = at.start; past = o.past; leaving = o.leaving }

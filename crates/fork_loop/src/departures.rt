@@ -1,0 +1,63 @@
+// The closings of all sessions that were cut.
+ghost use Rattle.session_driver.specs.Seen.{seen};
+
+use crate::crews::Crew;
+use crate::leaving::close_all;
+use fork_table::Steps;
+use relay_model::{Config, Why};
+use std::sync::ledger::Ledger;
+use world_trait::World;
+
+impl Crew {
+    ghost use Rattle.fork_loop.specs.Closings.{EmptiesRow, RowLeaves, RowsLeave, SomeLeaving};
+
+    /// Closes all that the sessions hold, which were cut for this reason, and asks for their children. None lives then.
+    pub fn close_rows<W: World, L: Ledger>(
+        &mut self,
+        world: &mut W,
+        config: &Config,
+        why: Why,
+        steps: &mut Steps<L>,
+    )
+        requires { SomeLeaving config.now (seen W.told W.held W.faults W.waits W.stops W.clock world.old) why self.old }
+        ensures { RowsLeave config.now (seen W.told W.held W.faults W.waits W.stops W.clock world.old) (seen W.told W.held W.faults W.waits W.stops W.clock world.new) why self.old self.new }
+    {
+        let mut next = self.table.first_from(0);
+        while let Some(number) = next {
+            self.close_row(number, world, config, why, steps);
+            next = self.next_after(number);
+        }
+    }
+
+    fn close_row<W: World, L: Ledger>(
+        &mut self,
+        number: u32,
+        world: &mut W,
+        config: &Config,
+        why: Why,
+        steps: &mut Steps<L>,
+    )
+        requires { SomeLeaving config.now (seen W.told W.held W.faults W.waits W.stops W.clock world.old) why self.old }
+        ensures { RowLeaves config.now (seen W.told W.held W.faults W.waits W.stops W.clock world.old) (seen W.told W.held W.faults W.waits W.stops W.clock world.new) number why self.old self.new }
+    {
+        self.empty_row(number, world, config, why, steps);
+        self.table.retire(number);
+    }
+
+    fn empty_row<W: World, L: Ledger>(
+        &mut self,
+        number: u32,
+        world: &mut W,
+        config: &Config,
+        why: Why,
+        steps: &mut Steps<L>,
+    )
+        requires { SomeLeaving config.now (seen W.told W.held W.faults W.waits W.stops W.clock world.old) why self.old }
+        ensures { EmptiesRow config.now (seen W.told W.held W.faults W.waits W.stops W.clock world.old) (seen W.told W.held W.faults W.waits W.stops W.clock world.new) number why self.old self.new }
+    {
+        if let Some(session) = self.table.session_mut(number, steps) {
+            let scratch = self.scratch.as_mut_slice();
+            close_all(session, &mut self.door, world, config, scratch, why);
+        }
+    }
+}

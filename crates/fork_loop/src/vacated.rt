@@ -1,0 +1,30 @@
+// The closings of the program door, once no session lives.
+ghost use Rattle.session_driver.specs.Seen.{seen};
+
+use crate::crews::Crew;
+use relay_model::Why;
+use world_trait::World;
+
+impl Crew {
+    ghost use Rattle.fork_loop.specs.Vacated.{ClosesDoor, ClosesFirst, SomeVacated};
+
+    /// Closes the place of a refused peer and then the door, as far as they are held.
+    pub fn close_door<W: World>(&mut self, world: &mut W, why: Why)
+        requires { SomeVacated (seen W.told W.held W.faults W.waits W.stops W.clock world.old) why self.old }
+        ensures { ClosesDoor (seen W.told W.held W.faults W.waits W.stops W.clock world.old) (seen W.told W.held W.faults W.waits W.stops W.clock world.new) why self.old self.new }
+    {
+        self.close_first(world, why);
+        self.close_first(world, why);
+    }
+
+    /// Closes what is to be closed first of what the door holds, if it holds anything.
+    fn close_first<W: World>(&mut self, world: &mut W, why: Why)
+        requires { SomeVacated (seen W.told W.held W.faults W.waits W.stops W.clock world.old) why self.old }
+        ensures { ClosesFirst (seen W.told W.held W.faults W.waits W.stops W.clock world.old) (seen W.told W.held W.faults W.waits W.stops W.clock world.new) why self.old self.new }
+    {
+        if let Some(thing) = self.door.held() {
+            world.close(thing, why);
+            self.door.closed(why);
+        }
+    }
+}
