@@ -11,7 +11,7 @@ use crate::faults::{Fault, first_of};
 use exit_status::Op;
 use relay_core::Session;
 use relay_model::{Config, NoMemory, ReadyList, Why};
-use session_driver::{Stepped, step};
+use session_driver::{Dumper, Stepped, step_noted};
 use std::alloc::Global;
 use world_trait::World;
 
@@ -24,6 +24,8 @@ pub struct Driver {
     /// How many turns were made.
     pub made: u64,
     pub ready: ReadyList,
+    /// Makes the texts of what is read.
+    pub dumper: Dumper,
     ghost roomy: { 256 ≤ ready.room },
 }
 
@@ -48,10 +50,12 @@ impl Driver {
             fault: None,
             made: 0,
             ready,
+            dumper: Dumper::new(alloc),
         })
     }
 
-    /// Makes the next call that is wished for; a sleep and the end are left to the caller.
+    /// Makes the next call that is wished for, and notes what it read where the command dumps that; a sleep and the end
+    /// are left to the caller.
     pub fn step<W: World>(
         &mut self,
         world: &mut W,
@@ -67,7 +71,13 @@ impl Driver {
         ensures over { has_ended self.old.session ≡ true → has_ended self.new.session ≡ true }
         ensures made { self.new.made ≡ self.old.made }
     {
-        match step(&mut self.session, world, config, scratch) {
+        match step_noted(
+            &mut self.session,
+            world,
+            config,
+            scratch,
+            &mut self.dumper,
+        ) {
             Stepped::Acted => None,
             Stepped::ReadFailed(place) => {
                 self.fault = first_of(self.fault, place, Op::Reading);

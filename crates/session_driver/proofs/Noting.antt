@@ -104,7 +104,7 @@ any_left f (x ∷ xs) ys e = go (f x) e (any_left f xs ys)
     go true t ih = refl
     go false t ih = ih t
 
-unclosed_by : (c : Config) (n : ℕ) (past : List Act) (s : ℕ) (end : Option Why) → is_some end ≡ false → EndingIs c n past s end → closed_why c past s ≡ None
+pub unclosed_by : (c : Config) (n : ℕ) (past : List Act) (s : ℕ) (end : Option Why) → is_some end ≡ false → EndingIs c n past s end → closed_why c past s ≡ None
 unclosed_by c n past s None e h = h.0.unclosed
 unclosed_by c n past s (Some why) e h = absurd (true≢false e)
 

@@ -1,5 +1,5 @@
 -- What a step makes of a world, of the session that it is for and of its dumper, where what is read is noted at once.
-use Rattle.std.specs.Prelude.{◌≡◌, ℕ, ◌<◌, ◌≤◌, Bool, true, false, List, length, take, None, Some}
+use Rattle.std.specs.Prelude.{◌≡◌, ◌≢◌, ℕ, ◌<◌, ◌≤◌, Bool, true, false, List, length, take, None, Some}
 use Rattle.relay_model.specs.declared.acts.Act.{Act}
 use Rattle.relay_model.specs.declared.acts.Act.TheVariants.{Read, Closed, Note, NoteFault}
 use Rattle.relay_model.specs.declared.acts.Why.TheVariants as whys
@@ -88,8 +88,9 @@ pub record GivesUp (c : Config) (old new : Seen) (before after : Session) : Type
   pub over : has_ended cut ≡ true
   pub closes : Acts c old new cut after (Closed thing whys.Memory)
 
--- bytes were read, and noted next
+-- bytes were read that the command dumps, and noted next
 pub record ReadNoted (c : Config) (old new : Seen) (before after : Session) (dumper dumper' : Dumper) : Type 0 where
+  pub dumped : c.dump ≢ dumps.Off
   pub place : Place
   pub bytes : List ℕ
   pub between : Seen
