@@ -1,15 +1,8 @@
 -- Which commands the program offers so far.
-use Rattle.std.specs.Prelude.{Bool, true, false, not, ◌&&◌}
+use Rattle.std.specs.Prelude.{Bool, not}
 use Rattle.relay_model.specs.declared.commands.Config.{Config}
-use Rattle.relay_model.specs.declared.commands.Dump.{Dump}
-use Rattle.relay_model.specs.declared.commands.Dump.TheVariants as dumps
 use Rattle.relay_model.specs.Configs.{has_fork}
 
--- the command dumps nothing
-abbrev pub dumps_nothing : Dump → Bool
-dumps_nothing dumps.Off = true
-dumps_nothing other = false
-
--- a command of one session that dumps nothing
+-- a command of one session
 abbrev pub is_built : Config → Bool
-is_built c = dumps_nothing c.dump && not (has_fork c)
+is_built c = not (has_fork c)
