@@ -19,7 +19,7 @@ use Rattle.relay_core.specs.declared.wishes.Wish.TheVariants as wishes
 use Rattle.relay_core.specs.States.{Wished}
 use Rattle.relay_core.specs.Sessions.{Stands, wish_of}
 use Rattle.relay_core.proofs.Own.{NamesOwn, names_own}
-use Rattle.session_driver.specs.Steps.{IsActOf, ClosesAsWished}
+use Rattle.session_driver.specs.Steps.{IsActOf, ClosesAsWished, ReadsAsWished}
 
 -- the place or door is the session's own
 abbrev pub OwnThing : Config → ℕ → Place → Type 0
@@ -84,3 +84,6 @@ at_own c s q act at turn own = record {
 
 pub closes_as : (wish : Wish) (act : Act) (x : Session) → wish_of x ≡ wish → ClosesAsWished wish act → ClosesAsWished (wish_of x) act
 closes_as wish act x e h = subst (λ (w : Wish). ClosesAsWished w act) (sym e) h
+
+pub reads_as : (wish : Wish) (act : Act) (x : Session) → wish_of x ≡ wish → ReadsAsWished wish act → ReadsAsWished (wish_of x) act
+reads_as wish act x e h = subst (λ (w : Wish). ReadsAsWished w act) (sym e) h

@@ -1,2 +1,4 @@
+pub mod Dumpers
+pub mod Noted
 pub mod Seen
 pub mod Steps

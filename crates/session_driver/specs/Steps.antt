@@ -10,7 +10,7 @@ use Rattle.relay_model.specs.Holding.{standing}
 use Rattle.relay_model.specs.History.{turns}
 use Rattle.relay_model.specs.Journals.{History, Asking}
 use Rattle.relay_model.specs.May.{Legal}
-use Rattle.relay_model.specs.Frames.{is_at, is_turn, is_closing}
+use Rattle.relay_model.specs.Frames.{is_at, is_turn, is_closing, reads_bytes}
 use Rattle.relay_model.specs.Outcome.{first_fault}
 use Rattle.world_trait.specs.Answers.{Answered, AnsweredAsking, DidNothing, Rose}
 use Rattle.relay_core.specs.declared.sessions.Session.{Session}
@@ -70,6 +70,11 @@ abbrev pub ClosesAsWished : Wish → Act → Type 0
 ClosesAsWished (wishes.Close q why) act = act ≡ Closed q why
 ClosesAsWished wish act = is_closing act ≡ false
 
+-- it reads bytes only where a read was wished for
+abbrev pub ReadsAsWished : Wish → Act → Type 0
+ReadsAsWished (wishes.Read q at_most) act = Unit {0}
+ReadsAsWished wish act = reads_bytes act ≡ false
+
 -- the world did this act, and whatever the session stands for it has heard it
 pub record Acts (c : Config) (old new : Seen) (before after : Session) (act : Act) : Type 0 where
   pub asked : Option Asking
@@ -79,6 +84,7 @@ pub record Acts (c : Config) (old new : Seen) (before after : Session) (act : Ac
   pub own : (n : ℕ) (past : List Act) (s : ℕ) → Stands c n past s before → OwnAsking c s asked
   pub here : (n : ℕ) (past : List Act) (s : ℕ) → Stands c n past s before → IsActOf c s act
   pub closes : ClosesAsWished (wish_of before) act
+  pub reads : ReadsAsWished (wish_of before) act
   pub no_turn : NoTurn act
   pub rose : Rose old.faults new.faults failed
   pub blameless : failed ≡ false → (past : List Act) → is_blamed (act ∷ past) ≡ is_blamed past

@@ -1,16 +1,17 @@
 // The calls that a session wishes for, each made on a world.
-ghost use Rattle.std.specs.Prelude.{◌≡◌, ℕ, ◌<◌, List, length, true, false};
+ghost use Rattle.std.specs.Prelude.{◌≡◌, ℕ, ◌<◌, ◌≤◌, List, length, true, false};
 ghost use Rattle.relay_model.specs.declared.acts.Act.{Act};
 ghost use Rattle.relay_model.specs.Configs.{is_of};
 ghost use Rattle.relay_model.specs.Holding.{Free, Settling, Open, is_free, is_open};
 ghost use Rattle.world_trait.specs.Answers.{NotReaped};
 ghost use Rattle.relay_core.specs.declared.wishes.Wish.TheVariants as wishes;
 ghost use Rattle.relay_core.specs.Sessions.{Stands, wish_of, has_ended};
+ghost use Rattle.session_driver.specs.Noted.{FetchIs};
 ghost use Rattle.session_driver.specs.Seen.{seen};
 ghost use Rattle.session_driver.specs.Steps.{IsCut, IsOwn, Meets, StepIs};
 ghost use Rattle.session_driver.specs.declared.stepped.Stepped.TheVariants as steps;
 
-use crate::stepped::Stepped;
+use crate::stepped::{Fetched, Stepped};
 use command_places::single;
 use relay_core::{Answer, Session};
 use relay_model::{Config, Place, Shut, Why};
@@ -165,28 +166,52 @@ pub fn read<W: World>(
 {
     let most = at_most.min(scratch.len());
     let into = &mut scratch[..most];
+    match fetch(session, world, config, into, place, at_most) {
+        Fetched::Bytes(_) => Stepped::Acted,
+        Fetched::Other(stepped) => stepped,
+    }
+}
+
+/// Reads into the front of `into`, and tells how many bytes came.
+pub fn fetch<W: World>(
+    session: &mut Session,
+    world: &mut W,
+    config: &Config,
+    into: &mut [u8],
+    place: Place,
+    at_most: usize,
+) -> Fetched
+    requires wish { wish_of session.old ≡ wishes.Read place at_most }
+    requires open { is_open (W.held world.old place) ≡ true }
+    requires own { IsOwn config.now session.old place }
+    requires some { 0 < length into.old }
+    requires room { length into.old ≤ at_most }
+    requires going { has_ended session.old ≡ false }
+    ensures step { FetchIs config.now (seen W.told W.held W.faults W.waits W.stops W.clock world.old) (seen W.told W.held W.faults W.waits W.stops W.clock world.new) session.old session.new place into.new result }
+    ensures into { length into.new ≡ length into.old }
+{
     match world.read(place, into) {
         ReadAnswer::Bytes(count) => {
             session.heard(0, Answer::Bytes(&into[..count]));
-            Stepped::Acted
+            Fetched::Bytes(count)
         }
         ReadAnswer::Empty => {
             session.heard(0, Answer::Empty);
-            Stepped::Acted
+            Fetched::Other(Stepped::Acted)
         }
         ReadAnswer::End => {
             session.heard(0, Answer::End);
-            Stepped::Acted
+            Fetched::Other(Stepped::Acted)
         }
         ReadAnswer::NotYet => {
             session.heard(0, Answer::NotYet);
-            Stepped::Acted
+            Fetched::Other(Stepped::Acted)
         }
         ReadAnswer::Failed => {
             session.heard(0, Answer::Failed);
-            Stepped::ReadFailed(place)
+            Fetched::Other(Stepped::ReadFailed(place))
         }
-        ReadAnswer::Memory => want(session),
+        ReadAnswer::Memory => Fetched::Other(want(session)),
     }
 }
 
@@ -290,7 +315,8 @@ pub fn close<W: World>(
 ) -> Stepped
     requires wish { wish_of session.old ≡ wishes.Close place why }
     requires held { is_free (W.held world.old place) ≡ false }
-    ensures { StepIs config.now (seen W.told W.held W.faults W.waits W.stops W.clock world.old) (seen W.told W.held W.faults W.waits W.stops W.clock world.new) session.old session.new result }
+    ensures acted { result ≡ steps.Acted }
+    ensures step { StepIs config.now (seen W.told W.held W.faults W.waits W.stops W.clock world.old) (seen W.told W.held W.faults W.waits W.stops W.clock world.new) session.old session.new result }
 {
     world.close(place, why);
     session.heard(0, Answer::Done);

@@ -17,3 +17,11 @@ pub enum Stepped {
     Sleep(Option<u64>),
     Done(Why),
 }
+
+/// What became of a wished read.
+#[derive(Clone, Copy, Debug, PartialEq, Eq)]
+pub enum Fetched {
+    /// So many bytes were read, and heard.
+    Bytes(usize),
+    Other(Stepped),
+}

@@ -2,7 +2,7 @@ use Rattle.std.proofs.Common.{refl, true, false, None, sym, ◌∙◌}
 use Rattle.std.proofs.lemmas.Bool.{true≢false}
 use Rattle.relay_model.specs.declared.acts.Act.TheVariants as acts
 use Rattle.session_driver.proofs.Hearing.{heard_as}
-use Rattle.session_driver.proofs.Owning.{own_by, at_own, closes_as}
+use Rattle.session_driver.proofs.Owning.{own_by, at_own, closes_as, reads_as}
 use Rattle.session_driver.proofs.calls.accept.Goals as goal
 
 pub returns-in-Accepted : goal.returns-in-Accepted
@@ -17,6 +17,7 @@ returns-in-Accepted g c = (
     own = λ n past s st. tt;
     here = λ n past s st. at_own _ s c.args.place _ (λ p. refl) refl (own_by _ n past s _ _ st c.requires.wish).1;
     closes = closes_as _ _ c.args.session.now c.requires.wish refl;
+    reads = reads_as _ _ c.args.session.now c.requires.wish refl;
     no_turn = record { turns_same = λ past. refl; stops_same = λ past. refl };
     rose = c.in-Accepted.ensures.cause;
     blameless = λ e past. refl;
@@ -38,6 +39,7 @@ returns-in-NoPeer g c = (
     own = λ n past s st. tt;
     here = λ n past s st. at_own _ s c.args.door _ (λ p. refl) refl (own_by _ n past s _ _ st c.requires.wish).0;
     closes = closes_as _ _ c.args.session.now c.requires.wish refl;
+    reads = reads_as _ _ c.args.session.now c.requires.wish refl;
     no_turn = record { turns_same = λ past. refl; stops_same = λ past. refl };
     rose = c.in-NoPeer.ensures.cause;
     blameless = λ e past. refl;
@@ -59,6 +61,7 @@ returns-in-Failed g c = (
     own = λ n past s st. tt;
     here = λ n past s st. at_own _ s c.args.door _ (λ p. refl) refl (own_by _ n past s _ _ st c.requires.wish).0;
     closes = closes_as _ _ c.args.session.now c.requires.wish refl;
+    reads = reads_as _ _ c.args.session.now c.requires.wish refl;
     no_turn = record { turns_same = λ past. refl; stops_same = λ past. refl };
     rose = c.in-Failed.ensures.cause;
     blameless = λ e past. absurd (true≢false e);

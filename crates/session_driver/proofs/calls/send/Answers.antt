@@ -3,7 +3,7 @@ use Rattle.std.proofs.lemmas.Bool.{true≢false}
 use Rattle.relay_model.specs.declared.acts.Act.TheVariants as acts
 use Rattle.relay_core.specs.Conditions.{is_writing}
 use Rattle.session_driver.proofs.Hearing.{heard_as, heard_bytes, fits_as}
-use Rattle.session_driver.proofs.Owning.{own_by, at_own, closes_as}
+use Rattle.session_driver.proofs.Owning.{own_by, at_own, closes_as, reads_as}
 use Rattle.session_driver.proofs.calls.send.Goals as goal
 
 pub returns-in-Sent : goal.returns-in-Sent
@@ -18,6 +18,7 @@ returns-in-Sent g c = (
     own = λ n past s st. tt;
     here = λ n past s st. at_own _ s c.args.place _ (λ p. refl) refl (own_by _ n past s _ _ st c.requires.wish);
     closes = closes_as _ _ c.args.session.now c.requires.wish refl;
+    reads = reads_as _ _ c.args.session.now c.requires.wish refl;
     no_turn = record { turns_same = λ past. refl; stops_same = λ past. refl };
     rose = c.in-Sent.ensures.cause;
     blameless = λ e past. refl;
@@ -39,6 +40,7 @@ returns-in-NotYet g c = (
     own = λ n past s st. tt;
     here = λ n past s st. at_own _ s c.args.place _ (λ p. refl) refl (own_by _ n past s _ _ st c.requires.wish);
     closes = closes_as _ _ c.args.session.now c.requires.wish refl;
+    reads = reads_as _ _ c.args.session.now c.requires.wish refl;
     no_turn = record { turns_same = λ past. refl; stops_same = λ past. refl };
     rose = c.in-NotYet.ensures.cause;
     blameless = λ e past. refl;
@@ -59,6 +61,7 @@ returns-in-Failed g c = (
     own = λ n past s st. tt;
     here = λ n past s st. at_own _ s c.args.place _ (λ p. refl) refl (own_by _ n past s _ _ st c.requires.wish);
     closes = closes_as _ _ c.args.session.now c.requires.wish refl;
+    reads = reads_as _ _ c.args.session.now c.requires.wish refl;
     no_turn = record { turns_same = λ past. refl; stops_same = λ past. refl };
     rose = c.in-Failed.ensures.cause;
     blameless = λ e past. absurd (true≢false e);

@@ -11,9 +11,9 @@ close_all-requires-clause-course g c =
     let at = c.requires.course in
     let o = c.drain.ensures.course c.args.turns at.start at.past at.course in
     let was = was_going _ _ c.drain.ensures.over c.in-Sleep.ensures.pause.1 in
-    let w = c.in-Sleep.ensures.paused k c.args.turns o.past o.course.runnable o.course.stands o.course.legal in
-    let stands = c.cut.ensures.limit k c.args.turns o.past 0 o.course.stands c.in-Sleep.ensures.pause.1 (o.course.turned ∙ (c.drain.ensures.made ∙ c.requires.used_up was)) w.0 refl in
-    (c.args.turns, record { start = at.start; past = o.past; course = recut k c.args.turns at.start _ c.drain.new.self _ o.past o.course stands refl refl })
+    let w = c.in-Sleep.ensures.paused k c.args.turns o.past o.course.run.runnable o.course.run.stands o.course.run.legal o.course.settled.unowed in
+    let stands = c.cut.ensures.limit k c.args.turns o.past 0 o.course.run.stands c.in-Sleep.ensures.pause.1 (o.course.run.turned ∙ (c.drain.ensures.made ∙ c.requires.used_up was)) w.0 refl in
+    (c.args.turns, record { start = at.start; past = o.past; course = recut k c.args.turns at.start _ c.drain.new.self _ o.past o.course stands refl refl o.course.settled })
 
 pub returns-in-Done-clause-course : goal.returns-in-Done-clause-course
 returns-in-Done-clause-course g c = λ start past on. c.drain.ensures.course c.args.turns start past on
@@ -23,6 +23,6 @@ returns-in-Sleep-clause-course g c = λ start past on.
     let k = c.args.config.now in
     let o = c.drain.ensures.course c.args.turns start past on in
     let was = was_going _ _ c.drain.ensures.over c.in-Sleep.ensures.pause.1 in
-    let w = c.in-Sleep.ensures.paused k c.args.turns o.past o.course.runnable o.course.stands o.course.legal in
-    let stands = c.cut.ensures.limit k c.args.turns o.past 0 o.course.stands c.in-Sleep.ensures.pause.1 (o.course.turned ∙ (c.drain.ensures.made ∙ c.requires.used_up was)) w.0 refl in
-    c.close_all.ensures.course c.args.turns start o.past (recut k c.args.turns start _ c.drain.new.self _ o.past o.course stands refl refl)
+    let w = c.in-Sleep.ensures.paused k c.args.turns o.past o.course.run.runnable o.course.run.stands o.course.run.legal o.course.settled.unowed in
+    let stands = c.cut.ensures.limit k c.args.turns o.past 0 o.course.run.stands c.in-Sleep.ensures.pause.1 (o.course.run.turned ∙ (c.drain.ensures.made ∙ c.requires.used_up was)) w.0 refl in
+    c.close_all.ensures.course c.args.turns start o.past (recut k c.args.turns start _ c.drain.new.self _ o.past o.course stands refl refl o.course.settled)

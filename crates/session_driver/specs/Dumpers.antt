@@ -1,0 +1,25 @@
+-- How many bytes a dumper has counted.
+use Rattle.std.specs.Prelude.{◌≡◌, ℕ, ◌+◌, ◌-◌, ◌^◌, min}
+use Rattle.relay_model.specs.declared.places.Side.{Side}
+use Rattle.relay_model.specs.declared.places.Side.TheVariants.{Left, Right}
+use Rattle.session_driver.specs.declared.dumpers.Dumper.{Dumper}
+
+-- how many bytes it counted at the place of this side
+abbrev pub counted_at : Dumper → Side → ℕ
+counted_at dumper Left = dumper.left
+counted_at dumper Right = dumper.right
+
+-- a count of so many bytes more, which stays at its last value
+abbrev pub raised : ℕ → ℕ → ℕ
+raised count n = min (count + n) (2 ^ 64 - 1)
+
+-- what is counted after so many bytes more at the place of the one side
+abbrev pub counted_after : Side → ℕ → Dumper → Side → ℕ
+counted_after Left n dumper Left = raised dumper.left n
+counted_after Left n dumper Right = dumper.right
+counted_after Right n dumper Left = dumper.left
+counted_after Right n dumper Right = raised dumper.right n
+
+-- the dumper counted so many bytes more at the place of this side
+abbrev pub Counts : Side → ℕ → Dumper → Dumper → Type 0
+Counts at n old new = (side : Side) → counted_at new side ≡ counted_after at n old side

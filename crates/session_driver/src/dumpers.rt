@@ -1,0 +1,65 @@
+// The texts of what one session reads.
+ghost use Rattle.std.specs.Prelude.{◌≡◌, ◌≢◌, ◌<◌, length, IfOk};
+ghost use Rattle.relay_model.specs.declared.places.Side.{Side as End};
+ghost use Rattle.relay_model.specs.Configs.{way_from as begins_at};
+ghost use Rattle.relay_model.specs.Dumps.{dump_of};
+
+use command_places::way_from;
+use dump_format::dump_text;
+use relay_model::{Bytes, Config, Dump, NoMemory, Place, Side};
+use std::alloc::Global;
+
+/// Makes the texts of what one session reads, and counts the bytes at its left and at its right place. A count stays at
+/// `u64::MAX`.
+#[derive(Drop)]
+pub struct Dumper {
+    alloc: Global,
+    left: u64,
+    right: u64,
+}
+
+impl Dumper {
+    ghost use Rattle.session_driver.specs.Dumpers.{Counts, counted_at};
+
+    /// Nothing was read yet. It takes memory for each text.
+    pub fn new(alloc: Global) -> Dumper
+        ensures { (side : End) → counted_at result side ≡ 0 }
+    {
+        Dumper {
+            alloc,
+            left: 0,
+            right: 0,
+        }
+    }
+
+    /// The text of bytes that were just read at a place of the session. They are counted whether there is memory for it
+    /// or not.
+    pub fn text(&mut self, config: &Config, place: Place, bytes: &[u8]) -> Result<Bytes, NoMemory>
+        requires dumped { config.now.dump ≢ Dump.Off }
+        requires some { 0 < length bytes.now }
+        ensures text { IfOk result (λ text. text ≡ dump_of config.now.dump (begins_at place.side) (counted_at self.old place.side) bytes.now) }
+        ensures counts { Counts place.side (length bytes.now) self.old self.new }
+    {
+        let from = self.count(place.side, bytes.len());
+        dump_text(self.alloc, way_from(place.side), config.dump, from, bytes)
+    }
+
+    /// Counts so many bytes more at the place of this side, and gives the count before.
+    fn count(&mut self, side: Side, n: usize) -> u64
+        ensures before { result ≡ counted_at self.old side }
+        ensures counts { Counts side n self.old self.new }
+    {
+        match side {
+            Side::Left => {
+                let before = self.left;
+                self.left = before.saturating_add(n as u64);
+                before
+            }
+            Side::Right => {
+                let before = self.right;
+                self.right = before.saturating_add(n as u64);
+                before
+            }
+        }
+    }
+}

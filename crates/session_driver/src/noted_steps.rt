@@ -1,0 +1,133 @@
+// The next step of a session whose reads are dumped: the text of what was read is noted before anything else.
+ghost use Rattle.std.specs.Prelude.{◌≡◌, ◌≢◌, ◌<◌, ◌≤◌, length, true, false};
+ghost use Rattle.relay_model.specs.Holding.{is_open};
+ghost use Rattle.relay_core.specs.Sessions.{wish_of, has_ended};
+ghost use Rattle.relay_core.specs.declared.wishes.Wish.TheVariants as wishes;
+ghost use Rattle.session_driver.specs.Seen.{seen};
+ghost use Rattle.session_driver.specs.Steps.{IsOwn};
+ghost use Rattle.session_driver.specs.Dumpers.{Counts};
+ghost use Rattle.session_driver.specs.Noted.{GivesUp, MeetsHeld, MeetsUnowed, NotedStep, NoteIs};
+
+use crate::calls::{close, fetch};
+use crate::dumpers::Dumper;
+use crate::stepped::{Fetched, Stepped};
+use crate::steps::step;
+use relay_core::{Session, Wish};
+use relay_model::{Config, Dump, Place, Why};
+use world_trait::{NoteAnswer, World};
+
+/// Makes the next call that the session wishes for, and has it hear the answer. What was read is noted at once where the
+/// command dumps it; where there is no memory for that, the session is cut and closes its first thing.
+pub fn step_noted<W: World>(
+    session: &mut Session,
+    world: &mut W,
+    config: &Config,
+    scratch: &mut [u8],
+    dumper: &mut Dumper,
+) -> Stepped
+    requires scratch { 0 < length scratch.old }
+    requires meets { MeetsUnowed config.now (seen W.told W.held W.faults W.waits W.stops W.clock world.old) session.old }
+    ensures step { NotedStep config.now (seen W.told W.held W.faults W.waits W.stops W.clock world.old) (seen W.told W.held W.faults W.waits W.stops W.clock world.new) session.old session.new dumper.old dumper.new result }
+    ensures scratch { length scratch.new ≡ length scratch.old }
+{
+    match config.dump {
+        Dump::Off => step(session, world, config, scratch),
+        _ => step_dumped(session, world, config, scratch, dumper),
+    }
+}
+
+/// The same where the command dumps what it reads.
+fn step_dumped<W: World>(
+    session: &mut Session,
+    world: &mut W,
+    config: &Config,
+    scratch: &mut [u8],
+    dumper: &mut Dumper,
+) -> Stepped
+    requires dumped { config.now.dump ≢ Dump.Off }
+    requires scratch { 0 < length scratch.old }
+    requires meets { MeetsUnowed config.now (seen W.told W.held W.faults W.waits W.stops W.clock world.old) session.old }
+    ensures step { NotedStep config.now (seen W.told W.held W.faults W.waits W.stops W.clock world.old) (seen W.told W.held W.faults W.waits W.stops W.clock world.new) session.old session.new dumper.old dumper.new result }
+    ensures scratch { length scratch.new ≡ length scratch.old }
+{
+    match session.wish() {
+        Wish::Read { place, at_most } => {
+            let most = at_most.min(scratch.len());
+            let into = &mut scratch[..most];
+            read_noted(session, world, config, into, dumper, place, at_most)
+        }
+        _ => step(session, world, config, scratch),
+    }
+}
+
+/// Reads at most so many bytes, and notes them.
+fn read_noted<W: World>(
+    session: &mut Session,
+    world: &mut W,
+    config: &Config,
+    into: &mut [u8],
+    dumper: &mut Dumper,
+    place: Place,
+    at_most: usize,
+) -> Stepped
+    requires dumped { config.now.dump ≢ Dump.Off }
+    requires wish { wish_of session.old ≡ wishes.Read place at_most }
+    requires open { is_open (W.held world.old place) ≡ true }
+    requires own { IsOwn config.now session.old place }
+    requires some { 0 < length into.old }
+    requires room { length into.old ≤ at_most }
+    requires going { has_ended session.old ≡ false }
+    requires meets { MeetsUnowed config.now (seen W.told W.held W.faults W.waits W.stops W.clock world.old) session.old }
+    ensures step { NotedStep config.now (seen W.told W.held W.faults W.waits W.stops W.clock world.old) (seen W.told W.held W.faults W.waits W.stops W.clock world.new) session.old session.new dumper.old dumper.new result }
+    ensures scratch { length into.new ≡ length into.old }
+{
+    match fetch(session, world, config, into, place, at_most) {
+        Fetched::Bytes(count) => {
+            if note(world, config, dumper, place, &into[..count]) {
+                Stepped::Acted
+            } else {
+                give_up(session, world, config);
+                Stepped::Memory
+            }
+        }
+        Fetched::Other(stepped) => stepped,
+    }
+}
+
+/// Notes the dump of bytes that were just read, and says whether there was memory for it. A note that can't be written
+/// ends nothing.
+fn note<W: World>(
+    world: &mut W,
+    config: &Config,
+    dumper: &mut Dumper,
+    place: Place,
+    bytes: &[u8],
+) -> bool
+    requires dumped { config.now.dump ≢ Dump.Off }
+    requires some { 0 < length bytes.now }
+    ensures note { NoteIs config.now (seen W.told W.held W.faults W.waits W.stops W.clock world.old) (seen W.told W.held W.faults W.waits W.stops W.clock world.new) dumper.old place bytes.now result }
+    ensures counts { Counts place.side (length bytes.now) dumper.old dumper.new }
+{
+    match dumper.text(config, place, bytes) {
+        Ok(text) => match world.note(text.as_slice()) {
+            NoteAnswer::Noted => true,
+            NoteAnswer::Failed => true,
+            NoteAnswer::Memory => false,
+        },
+        Err(_) => false,
+    }
+}
+
+/// Cuts the session for want of memory, and closes the first thing that it holds.
+fn give_up<W: World>(session: &mut Session, world: &mut W, config: &Config)
+    requires { MeetsHeld config.now (seen W.told W.held W.faults W.waits W.stops W.clock world.old) session.old }
+    ensures { GivesUp config.now (seen W.told W.held W.faults W.waits W.stops W.clock world.old) (seen W.told W.held W.faults W.waits W.stops W.clock world.new) session.old session.new }
+{
+    session.cut(Why::Memory);
+    match session.wish() {
+        Wish::Close(thing, why) => {
+            close(session, world, config, thing, why);
+        }
+        _ => unreachable!(),
+    }
+}
