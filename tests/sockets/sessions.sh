@@ -1,0 +1,122 @@
+# Commands with `fork`: crowds of clients, each in a session of its own.
+
+as_crowd=("$python" -ES -X "pycache_prefix=$scratch/compiled" "$here/tests/sockets/crowd.py")
+
+# crowd TEXT WORD..: a crowd as tests/sockets/crowd.py has it says just this line.
+crowd() {
+    local said
+    said="$(timeout 120 "${as_crowd[@]}" "${@:2}" 2>crowd.err 8<&-)" || wrong "the crowd failed: $(tail -1 crowd.err)"
+    [ "$said" = "$1" ] || wrong "the crowd said ${said:0:200}"
+}
+
+# zombies TAG: how many children of the relay have ended and weren't asked for.
+zombies() { ps -o stat= --ppid "${pids[$1]}" 2>/dev/null | grep -c '^Z'; }
+
+# descriptors TAG: how many the relay has open.
+descriptors() { ls "/proc/${pids[$1]}/fd" | wc -l; }
+
+begin "200 clients at once behind TCP-LISTEN,fork, each with a program of its own"
+given_nothing
+UNAUDITED=yes start relay -t30 TCP4-LISTEN:0,fork,stop-after=200 EXEC:cat
+crowd '200 had their own' tcp4 "@${pids[relay]}" 200
+ended relay 0 '' ''
+finish
+
+begin "200 clients at once, each with a connection of its own to one server"
+given_nothing
+UNAUDITED=yes start server -t30 TCP4-LISTEN:0,fork,stop-after=200 PIPE
+listens server tcp4
+UNAUDITED=yes start relay -t30 TCP4-LISTEN:0,fork,stop-after=200 "TCP4:127.0.0.1:$port"
+crowd '200 had their own' tcp4 "@${pids[relay]}" 200
+ended relay 0 '' ''
+await server
+finish
+
+begin "20 clients at once, with a journal"
+given_nothing
+start relay -t10 TCP4-LISTEN:0,fork,stop-after=20 PIPE
+crowd '20 had their own' tcp4 "@${pids[relay]}" 20 echo=5000
+ended relay 0 '' ''
+finish
+
+for count in 1 2 50; do
+    begin "max-children=$count: all of 60 clients are served in the end"
+    given_nothing
+    UNAUDITED=yes start relay -t30 "TCP4-LISTEN:0,fork,max-children=$count,stop-after=60" PIPE
+    crowd '60 had their own' tcp4 "@${pids[relay]}" 60 echo=1000
+    ended relay 0 '' ''
+    finish
+done
+
+begin "500 clients that connect and leave, and then one that talks"
+given_nothing
+UNAUDITED=yes start relay -t0.1 TCP4-LISTEN:0,fork,stop-after=501 PIPE
+crowd '500 came' tcp4 "@${pids[relay]}" 500 leave
+crowd '1 had their own' tcp4 "@${pids[relay]}" 1
+await relay
+finish
+
+begin "100 clients that reset, and then one that talks"
+given_nothing
+UNAUDITED=yes start relay -t0.1 TCP4-LISTEN:0,fork,stop-after=101 PIPE
+crowd '100 came' tcp4 "@${pids[relay]}" 100 reset
+crowd '1 had their own' tcp4 "@${pids[relay]}" 1
+await relay
+finish
+
+begin "descriptors and children are let go with their sessions"
+given_nothing
+UNAUDITED=yes start relay -t30 TCP4-LISTEN:0,fork EXEC:cat
+listens relay tcp4
+before="$(descriptors relay)"
+crowd '100 had their own' tcp4 "$port" 100 echo=1000
+crowd '1 had their own' tcp4 "$port" 1
+nap 0.5
+[ "$(descriptors relay)" -le "$before" ] || wrong "it holds $(descriptors relay) descriptors, and held $before"
+[ "$(zombies relay)" -le 5 ] || wrong "$(zombies relay) children are defunct"
+lives relay
+finish
+
+begin "where descriptors run out the rest is served later"
+given_nothing
+ulimit_now="$(ulimit -Sn)"
+ulimit -Sn 64
+UNAUDITED=yes start relay -t30 TCP4-LISTEN:0,fork,max-children=40 PIPE
+ulimit -Sn "$ulimit_now"
+crowd '200 had their own' tcp4 "@${pids[relay]}" 200 echo=1000
+lives relay
+finish
+
+begin "a Unix socket with fork"
+given_nothing
+UNAUDITED=yes start relay -t30 UNIX-LISTEN:socket,fork,stop-after=50 EXEC:cat
+listens_at socket
+crowd '50 had their own' unix socket 50
+ended relay 0 '' ''
+[ ! -e socket ] || wrong "the socket is left"
+finish
+
+begin "UDP-RECVFROM with fork: each datagram is a session"
+given_nothing
+UNAUDITED=yes start relay -t0.2 UDP4-RECVFROM:0,fork,stop-after=50 PIPE
+crowd '50 had their own' udp4 "@${pids[relay]}" 50 echo=1000
+ended relay 0 '' ''
+finish
+
+begin "UDP-LISTEN with fork isn't there yet"
+given_nothing
+run 1 '' 'socat: listen failed after 1 attempts' UDP4-LISTEN:0,fork PIPE
+finish
+
+begin "SIGTERM ends it with 50 sessions"
+given_nothing
+UNAUDITED=yes start relay TCP4-LISTEN:0,fork PIPE
+listens relay tcp4
+for ((number = 1; number <= 50; number++)); do
+    start_peer connect tcp4 "/$port" send=x read=1 read
+done
+nap 1
+terminate relay
+await relay
+[ "$status" -eq 143 ] || wrong "status $status"
+finish
