@@ -55,6 +55,27 @@ got="$(seq 1 300000 | UNAUDITED=yes timeout 20 "$program" "${relay[@]}" | (sleep
 [ "$got" = "$(seq 1 300000 | cksum)"$'\n'" 0" ] || problem="got '$got'"
 report "a reader that is slow" "$problem"
 
+# --- dumps
+
+try "a dump as text" 0 'a\n' 'a\n' $'> length=2 from=0 to=1\na' -v "${relay[@]}"
+try "a dump in hexadecimal" 0 'a\n' 'a\n' $'> length=2 from=0 to=1\n 61 0a' -x "${relay[@]}"
+try "a dump of both" 0 'a\n' 'a\n' $'> length=2 from=0 to=1\n 61 0a\n> length=2 from=0 to=1\na' -v -x "${relay[@]}"
+try "a dump of each block" 0 'abcdef' 'abcdef' $'> length=4 from=0 to=3\nabcd\n> length=2 from=4 to=5\nef' -b4 -v "${relay[@]}"
+
+problem=''
+got="$(timeout 60 "$program" -x "${relay[@]}" <"$scratch/binary" 2>&1 >"$scratch/out" | grep -v '^>' | tr -d ' \n')"
+if [ "$got" != "$(od -An -v -tx1 "$scratch/binary" | tr -d ' \n')" ]; then
+    problem="other bytes were shown"
+elif [ "$(cksum <"$scratch/out")" != "$(cksum <"$scratch/binary")" ]; then
+    problem="other bytes came out"
+fi
+report "a dump of every byte value" "$problem"
+
+problem=''
+got="$(printf abc | timeout 20 "$program" -v "${relay[@]}" 2>/dev/full; echo " ${PIPESTATUS[1]}")"
+[ "$got" = "abc 0" ] || problem="got '$got'"
+report "a dump that can't be written" "$problem"
+
 # --- ends and failures from outside
 
 problem=''

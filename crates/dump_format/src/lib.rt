@@ -2,7 +2,7 @@
 #![tactic(auto)]
 
 ghost use Rattle.std.specs.Prelude.{◌≡◌, ◌≢◌, ◌+◌, ◌<◌, ◌++◌, ◌∷◌, [], length, IfOk, OnOk};
-ghost use Rattle.relay_model.specs.Dumps.{arrow, header, hex_digit, hex_byte, hex_lines, shown_byte, text_lines, text_dump, hex_dump, dump_of};
+ghost use Rattle.relay_model.specs.Dumps.{arrow, header, hex_digit, hex_lines, shown_byte, text_lines, text_dump, hex_dump, dump_of};
 
 use relay_model::{Bytes, Dump, NoMemory, Way};
 use std::alloc::Global;
@@ -21,16 +21,31 @@ pub fn dump_text(
     ensures { IfOk result (λ text. text ≡ dump_of style way from bytes.now) }
 {
     let mut text = Vec::new(alloc);
+    push_dump(&mut text, way, style, from, bytes)?;
+    Bytes::of(alloc, text.as_slice())
+}
+
+/// Puts the same text behind what there is. Where memory is wanting a front of it may stand there.
+pub fn push_dump(
+    text: &mut Vec<u8>,
+    way: Way,
+    style: Dump,
+    from: u64,
+    bytes: &[u8],
+) -> Result<(), NoMemory>
+    requires style { style ≢ Dump.Off }
+    requires some { 0 < length bytes.now }
+    ensures { OnOk result (text.new.items ≡ text.old.items ++ dump_of style way from bytes.now) }
+{
     match style {
         Dump::Off => unreachable!(),
-        Dump::Text => push_text_dump(&mut text, way, from, bytes)?,
-        Dump::Hex => push_hex_dump(&mut text, way, from, bytes)?,
+        Dump::Text => push_text_dump(text, way, from, bytes),
+        Dump::Hex => push_hex_dump(text, way, from, bytes),
         Dump::Mixed => {
-            push_hex_dump(&mut text, way, from, bytes)?;
-            push_text_dump(&mut text, way, from, bytes)?;
+            push_hex_dump(text, way, from, bytes)?;
+            push_text_dump(text, way, from, bytes)
         }
     }
-    Bytes::of(alloc, text.as_slice())
 }
 
 fn push_text_dump(text: &mut Vec<u8>, way: Way, from: u64, bytes: &[u8]) -> Result<(), NoMemory>
@@ -91,8 +106,13 @@ fn push_shown_byte(text: &mut Vec<u8>, byte: u8) -> Result<(), NoMemory>
         b'\r' => text.extend_from_slice(b"\\r")?,
         b' '..=b'~' => text.push(byte)?,
         _ => {
-            text.extend_from_slice(b"\\x")?;
-            push_hex_byte(text, byte)?;
+            let spelled = [
+                b'\\',
+                b'x',
+                hex_digit_of(byte / 16),
+                hex_digit_of(byte % 16),
+            ];
+            text.extend_from_slice(&spelled)?;
         }
     }
     Ok(())
@@ -102,20 +122,12 @@ fn push_hex_lines(text: &mut Vec<u8>, bytes: &[u8]) -> Result<(), NoMemory>
     ensures { OnOk result (text.new.items ≡ text.old.items ++ hex_lines (length bytes.now) 0 bytes.now) }
 {
     for (i, byte) in bytes.iter().enumerate() {
-        text.push(b' ')?;
-        push_hex_byte(text, *byte)?;
+        let spelled = [b' ', hex_digit_of(*byte / 16), hex_digit_of(*byte % 16)];
+        text.extend_from_slice(&spelled)?;
         if (i + 1) % 16 == 0 || i + 1 == bytes.len() {
             text.push(b'\n')?;
         }
     }
-    Ok(())
-}
-
-fn push_hex_byte(text: &mut Vec<u8>, byte: u8) -> Result<(), NoMemory>
-    ensures { OnOk result (text.new.items ≡ text.old.items ++ hex_byte byte) }
-{
-    text.push(hex_digit_of(byte / 16))?;
-    text.push(hex_digit_of(byte % 16))?;
     Ok(())
 }
 

@@ -1,5 +1,5 @@
 -- What a note leaves as it is, and what a dump is owed of.
-use Rattle.std.proofs.Common.{◌≡◌, ◌≢◌, ◌⊎◌, inl, inr, refl, sym, ap, subst, ◌∙◌, ℕ, ◌+◌, ◌-◌, ◌^◌, ◌<◌, min, Bool, true, false, List, ◌∷◌, ◌++◌, length, length-append, Option, Some, None, arith}
+use Rattle.std.proofs.Common.{◌≡◌, ◌≢◌, ◌⊎◌, inl, inr, refl, sym, ap, subst, ◌∙◌, ℕ, ◌+◌, ◌-◌, ◌^◌, min, Bool, true, false, List, ◌∷◌, ◌++◌, length, length-append, Option, Some, None, arith}
 use Rattle.std.proofs.lemmas.Bool.{true≢false, false_from_ne_true}
 use Rattle.relay_model.specs.declared.places.Place.{Place}
 use Rattle.relay_model.specs.declared.places.Side.{Side}
@@ -26,10 +26,9 @@ use Rattle.relay_core.specs.declared.states.State.{State}
 use Rattle.relay_core.specs.declared.sessions.Session.{Session}
 use Rattle.relay_core.specs.declared.wishes.Wish.{Wish}
 use Rattle.relay_core.specs.declared.wishes.Wish.TheVariants as wishes
-use Rattle.relay_core.specs.Endings.{Ends, EndingIs}
+use Rattle.relay_core.specs.Endings.{EndingIs}
 use Rattle.relay_core.specs.States.{Allowed, ClosesFor}
 use Rattle.relay_core.specs.Sessions.{Stands}
-use Rattle.session_kept.specs.Laws.{EndsByCause}
 use Rattle.session_kept.proofs.Kept.{ground_kept, stands_kept}
 use Rattle.session_driver.specs.Dumpers.{Counts, counted_at, counted_after}
 use Rattle.session_driver.specs.Noted.{note_of}

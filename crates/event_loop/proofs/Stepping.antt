@@ -1,39 +1,34 @@
 -- What a step of the loop makes of its course, where what is read is noted.
-use Rattle.std.proofs.Common.{◌≡◌, ◌≢◌, ◌⊎◌, inl, inr, refl, sym, ap, subst, ◌∙◌, ℕ, ◌<◌, ◌+◌, ◌*◌, Bool, true, false, not, List, ◌∷◌, length, Option, Some, None, arith}
+use Rattle.std.proofs.Common.{◌≡◌, ◌≢◌, ◌⊎◌, inl, inr, refl, sym, ap, subst, ◌∙◌, ℕ, ◌<◌, ◌+◌, ◌*◌, Bool, true, false, not, List, ◌∷◌, Some, None, arith}
 use Rattle.std.proofs.lemmas.Bool.{false≢true, true≢false}
 use Rattle.relay_model.specs.declared.acts.Act.{Act}
 use Rattle.relay_model.specs.declared.acts.Act.TheVariants as acts
 use Rattle.relay_model.specs.declared.acts.Why.TheVariants as whys
 use Rattle.relay_model.specs.declared.places.Place.{Place}
 use Rattle.relay_model.specs.declared.commands.Config.{Config}
-use Rattle.relay_model.specs.declared.commands.Dump.{Dump}
 use Rattle.relay_model.specs.declared.commands.Dump.TheVariants as dumps
 use Rattle.relay_model.specs.Configs.{input, way_from}
 use Rattle.relay_model.specs.Places.{same_place}
 use Rattle.relay_model.specs.Dumps.{dump_of}
-use Rattle.relay_model.specs.History.{got}
 use Rattle.relay_model.specs.Outcome.{first_fault}
-use Rattle.relay_model.specs.Cause.{closed_why}
 use Rattle.relay_model.specs.Rest.{owed}
-use Rattle.relay_model.specs.May.{May, MayRead}
+use Rattle.relay_model.specs.May.{May}
 use Rattle.relay_model.specs.Frames.{reads_bytes}
 use Rattle.legal_steps.proofs.PlaceLemmas.{same_place_self}
 use Rattle.relay_core.specs.declared.sessions.Session.{Session}
-use Rattle.relay_core.specs.declared.wishes.Wish.TheVariants as wishes
-use Rattle.relay_core.specs.Endings.{EndingIs}
 use Rattle.relay_core.specs.States.{Allowed}
 use Rattle.relay_core.specs.Sessions.{Stands, left_of, has_ended}
 use Rattle.session_driver.specs.Seen.{Seen}
 use Rattle.session_driver.specs.Steps.{Acts, Idles, StepIs}
 use Rattle.session_driver.specs.Dumpers.{counted_at}
-use Rattle.session_driver.specs.Noted.{NotedStep, ReadNoted, ReadUnnoted, UnreadIs, note_of, undumped, unread, noted, unnoted}
+use Rattle.session_driver.specs.Noted.{NotedStep, ReadNoted, ReadUnnoted, note_of, undumped, unread, noted, unnoted}
 use Rattle.session_driver.specs.declared.dumpers.Dumper.{Dumper}
 use Rattle.session_driver.specs.declared.stepped.Stepped.{Stepped}
 use Rattle.session_driver.specs.declared.stepped.Stepped.TheVariants as steps
 use Rattle.session_driver.proofs.Noting.{unread_step, unclosed_by}
 use Rattle.event_loop.specs.Answers.{told_fault}
 use Rattle.event_loop.specs.declared.drivers.Driver.{Driver}
-use Rattle.event_loop.specs.Courses.{Counted, Course, Onward, Run, Settled, unit_of}
+use Rattle.event_loop.specs.Courses.{Counted, Course, Onward, Settled, unit_of}
 use Rattle.event_loop.proofs.Going.{acted_run, idled, idled_run, noted_run, rank_cut, rank_heard, run_as}
 use Rattle.event_loop.proofs.Noting.{counted_before, counted_more, read_owes, settled_on, settled_undumped}
 

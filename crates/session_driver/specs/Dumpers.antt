@@ -1,8 +1,12 @@
--- How many bytes a dumper has counted.
-use Rattle.std.specs.Prelude.{◌≡◌, ℕ, ◌+◌, ◌-◌, ◌^◌, min}
+-- The text that a dumper made last, and how many bytes it has counted.
+use Rattle.std.specs.Prelude.{◌≡◌, ℕ, List, ◌+◌, ◌-◌, ◌^◌, min}
 use Rattle.relay_model.specs.declared.places.Side.{Side}
 use Rattle.relay_model.specs.declared.places.Side.TheVariants.{Left, Right}
 use Rattle.session_driver.specs.declared.dumpers.Dumper.{Dumper}
+
+-- the text that it made last
+abbrev pub text_of : Dumper → List ℕ
+text_of dumper = dumper.text.items
 
 -- how many bytes it counted at the place of this side
 abbrev pub counted_at : Dumper → Side → ℕ

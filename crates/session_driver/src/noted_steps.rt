@@ -108,13 +108,13 @@ fn note<W: World>(
     ensures note { NoteIs config.now (seen W.told W.held W.faults W.waits W.stops W.clock world.old) (seen W.told W.held W.faults W.waits W.stops W.clock world.new) dumper.old place bytes.now result }
     ensures counts { Counts place.side (length bytes.now) dumper.old dumper.new }
 {
-    match dumper.text(config, place, bytes) {
-        Ok(text) => match world.note(text.as_slice()) {
-            NoteAnswer::Noted => true,
-            NoteAnswer::Failed => true,
-            NoteAnswer::Memory => false,
-        },
-        Err(_) => false,
+    if dumper.dump(config, place, bytes).is_err() {
+        return false;
+    }
+    match world.note(dumper.text()) {
+        NoteAnswer::Noted => true,
+        NoteAnswer::Failed => true,
+        NoteAnswer::Memory => false,
     }
 }
 

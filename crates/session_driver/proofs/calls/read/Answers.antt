@@ -1,5 +1,4 @@
 use Rattle.std.proofs.Common.{refl}
-use Rattle.relay_model.specs.declared.acts.Act.TheVariants as acts
 use Rattle.session_driver.proofs.Noting.{unread_step}
 use Rattle.session_driver.proofs.calls.read.Goals as goal
 
