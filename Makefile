@@ -75,6 +75,7 @@ bench: bin/socat
 	bench/throughput.sh bin/socat
 	bench/sockets.sh bin/socat
 	bench/programs.sh bin/socat
+	PYTHONDONTWRITEBYTECODE=1 bench/sessions.py bin/socat $$(command -v socat)
 	bench/words.sh bin/socat
 	bench/parts.sh
 	cd crates/bench_pump && rt run </dev/null >/dev/null

@@ -64,12 +64,14 @@ crowd '1 had their own' tcp4 "@${pids[relay]}" 1
 await relay
 finish
 
-begin "descriptors and children are let go with their sessions"
+begin "descriptors and children are let go with the sessions of 500 clients"
 given_nothing
 UNAUDITED=yes start relay -t30 TCP4-LISTEN:0,fork EXEC:cat
 listens relay tcp4
 before="$(descriptors relay)"
-crowd '100 had their own' tcp4 "$port" 100 echo=1000
+for ((number = 1; number <= 5; number++)); do
+    crowd '100 had their own' tcp4 "$port" 100 echo=1000
+done
 crowd '1 had their own' tcp4 "$port" 1
 nap 0.5
 [ "$(descriptors relay)" -le "$before" ] || wrong "it holds $(descriptors relay) descriptors, and held $before"
