@@ -44,13 +44,19 @@ def addresses_of(words):
     return words[at : at + 2], ways
 
 
+def half_of(place):
+    """The half of a place such as 0LB- or 17RB-."""
+    return place.lstrip("0123456789")[1]
+
+
 def single_of(words, place):
-    """The address that a place such as 0LB- stands for: its kind, its file where it has one, and its text."""
+    """The address that a place such as 0LB- or 17RB- stands for: its kind, its file where it has one, and its text."""
     addresses, _ = addresses_of(words)
-    text = addresses["LR".index(place[1])]
+    side = place.lstrip("0123456789")[0]
+    text = addresses["LR".index(side)]
     halves = text.split(b"!!")
     if len(halves) == 2:
-        text = halves["IO".index(place[2])]
+        text = halves["IO".index(half_of(place))]
     head = text.split(b",")[0]
     kind, _, name = head.partition(b":")
     if b"/" in kind:
@@ -149,7 +155,7 @@ def check_files(run, kinds):
             run.wrong.append(f"the file has {held[:40]}, and the journal says {wrote[:40]}")
         if run.status == 0 and not in_order(held, [data for whose, data in run.told.order if whose == place]):
             run.wrong.append(f"the file hasn't what the journal says: {wrote[:40]}")
-        if place[2] == "I" and not held.startswith(read):
+        if half_of(place) == "I" and not held.startswith(read):
             run.wrong.append(f"it read {read[:40]}, and the file has {held[:40]}")
 
 
@@ -157,7 +163,7 @@ def check_echoes(run, kinds):
     for place, (kind, name, _) in kinds.items():
         if kind == "PIPE" and not name or name == b"cat":
             read, wrote = run.told.read.get(place, b""), run.told.wrote.get(place, b"")
-            if place[2] == "B" and not wrote.startswith(read):
+            if half_of(place) == "B" and not wrote.startswith(read):
                 run.wrong.append(f"{place} gave {read[:40]}, and took {wrote[:40]}")
 
 

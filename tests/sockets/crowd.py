@@ -15,6 +15,7 @@ import struct
 import sys
 
 from stand import new_socket, port_now, waited_for
+from talk import kept
 
 LIMIT = 60
 HOSTS = {"tcp4": "127.0.0.1", "tcp6": "::1", "udp4": "127.0.0.1"}
@@ -32,7 +33,7 @@ class Client:
         self.left = self.sent
         self.got = b""
         self.datagrams = kind.startswith("udp")
-        self.sock = new_socket(kind)
+        self.sock = kept(new_socket(kind))
         self.sock.settimeout(LIMIT)
         self.sock.connect(where)
         self.sock.setblocking(False)

@@ -83,7 +83,7 @@ begin "where descriptors run out the rest is served later"
 given_nothing
 ulimit_now="$(ulimit -Sn)"
 ulimit -Sn 64
-UNAUDITED=yes start relay -t30 TCP4-LISTEN:0,fork,max-children=40 PIPE
+UNAUDITED=yes start relay -t30 TCP4-LISTEN:0,fork PIPE
 ulimit -Sn "$ulimit_now"
 crowd '200 had their own' tcp4 "@${pids[relay]}" 200 echo=1000
 lives relay

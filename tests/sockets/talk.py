@@ -59,8 +59,9 @@ class Kept:
         return getattr(self.sock, name)
 
     def send(self, data):
-        self.sent.write(data)
-        return self.sock.send(data)
+        count = self.sock.send(data)
+        self.sent.write(data[:count])
+        return count
 
     def sendall(self, data):
         self.sent.write(data)

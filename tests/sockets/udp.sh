@@ -261,7 +261,7 @@ finish
 begin "UDP-RECV: what two senders send comes out together"
 given_nothing
 free_port
-start relay -T1 -u "UDP4-RECV:$port" STDOUT
+UNAUDITED=yes start relay -T1 -u "UDP4-RECV:$port" STDOUT
 listens relay udp4
 peer connect udp4 "/$port" send=one
 told 2 ''

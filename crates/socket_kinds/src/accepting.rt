@@ -19,8 +19,8 @@ use std::sync::Arc;
 
 impl AnySocket {
     /// Accepts a peer, whose socket the registry reports under `key`. It answers `NoPeer` where none waits, and where 64
-    /// connections in a row were aborted before they were accepted; `Failed` where this is no door, and where the system
-    /// refuses. At a door of datagrams the first one is the peer's, and stays to be read.
+    /// connections in a row were aborted before they were accepted or no descriptor is free; `Failed` where this is no
+    /// door, and where the system refuses. At a door of datagrams the first one is the peer's, and stays to be read.
     pub fn accept(
         &mut self,
         alloc: Global,
@@ -49,6 +49,7 @@ fn accept_at(
     ensures left_off { door.new ≡ true → result ≡ peers.NoPeer }
 {
     door.cut_short = false;
+    door.starved = false;
     match &door.listener {
         Listener::Udp(enrolled) => {
             return accept_partner(alloc, registry, &enrolled.socket, key, false);
@@ -61,7 +62,7 @@ fn accept_at(
     let nodelay = door.nodelay;
     match door.accept_stream() {
         Arrival::Came(stream, peer) => stand(registry, stream, peer, nodelay, key),
-        Arrival::Aborted | Arrival::Nobody => MadePeer::NoPeer,
+        Arrival::Aborted | Arrival::Starved | Arrival::Nobody => MadePeer::NoPeer,
         Arrival::Failed => MadePeer::Failed,
     }
 }

@@ -20,6 +20,14 @@ pub enum AnySocket {
 }
 
 impl AnySocket {
+    /// Whether this is a door whose last accepting left off since no descriptor was free.
+    pub fn is_starved(&self) -> bool {
+        match self {
+            AnySocket::Door(door) => door.starved,
+            AnySocket::Stream(_) | AnySocket::Datagrams(_) => false,
+        }
+    }
+
     /// The port at which a door listens, as the system chose it. `None` where it has none.
     pub fn local_port(&self) -> Option<u16> {
         match self {

@@ -35,6 +35,8 @@ pub(crate) enum Arrival {
     Came(Stream, Peer),
     /// The connection was aborted before it was accepted.
     Aborted,
+    /// It has to wait until a descriptor is free.
+    Starved,
     Nobody,
     Failed,
 }
@@ -56,6 +58,11 @@ impl Listener {
     }
 }
 
+/// Whether the call failed since no further descriptor can be had (errno(3), `ENFILE` and `EMFILE`).
+pub(crate) fn is_starved(error: &Error) -> bool {
+    matches!(error.raw_os_error(), Some(23 | 24))
+}
+
 /// Why the system gave no connection (accept(2), `EAGAIN` and `ECONNABORTED`).
 fn declined(error: &Error) -> Arrival
     ensures { IsDeclined error.now result }
@@ -66,6 +73,9 @@ fn declined(error: &Error) -> Arrival
     if error.kind() == ErrorKind::ConnectionAborted {
         return Arrival::Aborted;
     }
+    if is_starved(error) {
+        return Arrival::Starved;
+    }
     Arrival::Failed
 }
 
@@ -74,8 +84,9 @@ fn declined(error: &Error) -> Arrival
 pub struct Door {
     pub(crate) listener: Listener,
     pub(crate) nodelay: bool,
-    // whether the last accepting left off with connections that may wait
+    // whether the last accepting left off with connections that may wait, and whether it did so for want of descriptors
     pub(crate) cut_short: bool,
+    pub(crate) starved: bool,
 }
 
 impl Model for Door {
@@ -95,11 +106,12 @@ impl Door {
             listener,
             nodelay,
             cut_short: false,
+            starved: false,
         }
     }
 
     /// Accepts a connection, and passes over those that were aborted. After 64 of these it leaves off, and hints
-    /// that there may be more.
+    /// that there may be more; so it does where no descriptor is free.
     pub(crate) fn accept_stream(&mut self) -> Arrival
         ensures one { IsOne result }
         ensures left_off { IsTrue self.new → IsNobody result }
@@ -109,6 +121,11 @@ impl Door {
             match self.listener.accept_one() {
                 Arrival::Came(stream, peer) => return Arrival::Came(stream, peer),
                 Arrival::Aborted => {}
+                Arrival::Starved => {
+                    self.starved = true;
+                    self.cut_short = true;
+                    return Arrival::Nobody;
+                }
                 Arrival::Nobody => return Arrival::Nobody,
                 Arrival::Failed => return Arrival::Failed,
             }

@@ -24,7 +24,12 @@ use std::fs::Files;
 use std::marker::Model;
 use std::net::Net;
 use std::sync::Arc;
-use std::time::Clock;
+use std::thread;
+use std::time::{Clock, Duration};
+
+/// How long an accepting waits where no descriptor is free, so that those who wait at the door don't keep the loop busy
+/// until something is closed.
+const UNTIL_FREE: Duration = Duration::from_millis(5);
 
 /// Makes sockets that a poller waits for.
 #[derive(Drop)]
@@ -163,6 +168,9 @@ impl<R: Net + Clock + Files + Copy + Drop> Maker for SocketMaker<R> {
                 MadePeer::Came(port, peer)
             }
             MadePeer::NoPeer => {
+                if door.socket().is_starved() {
+                    thread::sleep(&self.rt, UNTIL_FREE);
+                }
                 self.count_stall();
                 MadePeer::NoPeer
             }
