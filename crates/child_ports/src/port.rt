@@ -6,11 +6,12 @@ use file_ports::Halves;
 use port_trait::{Begun, Got, Hint, Joining, Port, PortReap, Settled, Shutting, Took};
 use relay_model::Shut;
 use socket_ports::SocketPort;
+use std::io::{PipeReader, PipeWriter};
 use std::marker::Model;
-use std::process::{ChildStdin, ChildStdout, SystemProcess};
+use std::process::SystemProcess;
 
 /// The port of a program's pipes.
-pub type ProgramPipes = SocketPort<Halves<ChildStdout, ChildStdin>, ()>;
+pub type ProgramPipes = SocketPort<Halves<PipeReader, PipeWriter>, ()>;
 
 /// A program behind the port of its pipes. Each call but `reap` is that call on the port of the pipes.
 #[derive(Drop)]

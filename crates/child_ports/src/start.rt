@@ -16,14 +16,16 @@ use port_trait::Making;
 use relay_model::{NoMemory, Part, Peer, Target, Text, Texts};
 use socket_ports::SocketPort;
 use std::alloc::Global;
-use std::process::{Child, ChildStdin, ChildStdout, Command, Processes, Stdio, SystemProcess};
-use std::str;
+use std::fs::Files;
+use std::io::{PipeReader, PipeWriter, pipe};
+use std::process::{Command, Processes, Stdio, SystemProcess};
+use std::{io, str};
 
 /// Starts the program of an `EXEC` or the shell of a `SYSTEM` (socat(1)), and has the registry report its pipes under
 /// `key`. The stream that the part doesn't use is this process's own, as is standard error. `Failed` where the address
 /// is none of these, where a text of it isn't UTF-8, and where the system refuses. A program that outlives its port
 /// goes to the nursery.
-pub fn make_child<R: Processes<Started = SystemProcess>>(
+pub fn make_child<R: Files + Processes<Started = SystemProcess>>(
     rt: &R,
     alloc: Global,
     registry: &Registry,
@@ -46,14 +48,16 @@ pub fn make_child<R: Processes<Started = SystemProcess>>(
     if set_peer(alloc, &mut command, peer).is_err() {
         return Making::Memory;
     }
-    let Some(mut child) = spawn(rt, &mut command, part) else {
+    let Ok(pipes) = pipe_ends(rt, &mut command, part) else {
         return Making::Failed;
     };
-    let (output, input) = (child.stdout.take(), child.stdin.take());
+    let Ok(child) = command.spawn(rt) else {
+        return Making::Failed;
+    };
     let Ok(ward) = nursery.ward(child) else {
         return Making::Memory;
     };
-    match pipes_of(registry, key, part, output, input) {
+    match pipes_of(registry, key, part, pipes) {
         Some(pipes) => Making::Made(ChildPort::new(SocketPort::new(pipes, ()), ward)),
         None => Making::Failed,
     }
@@ -116,25 +120,36 @@ fn set_peer(alloc: Global, command: &mut Command, peer: Option<Peer>) -> Result<
     Ok(())
 }
 
-/// A stream that is used is a pipe.
-fn stream(is_used: bool) -> Stdio {
-    if is_used {
-        Stdio::piped()
-    } else {
-        Stdio::inherit()
-    }
+/// This process's ends of a program's pipes.
+#[derive(Drop)]
+struct PipeEnds {
+    output: Option<PipeReader>,
+    input: Option<PipeWriter>,
 }
 
-/// The running program, with this process's ends of its pipes.
-fn spawn<R: Processes<Started = SystemProcess>>(
-    rt: &R,
-    command: &mut Command,
-    part: Part,
-) -> Option<Child<SystemProcess>> {
-    command.stdin(stream(part != Part::Reading));
-    command.stdout(stream(part != Part::Writing));
+/// Gives the program the other ends of pipes. These are of io::pipe, since the writer of a `Child` keeps SIGPIPE away by
+/// three more system calls for each write, and this process ignores that signal.
+fn pipe_ends<R: Files>(rt: &R, command: &mut Command, part: Part) -> io::Result<PipeEnds> {
+    let mut ends = PipeEnds {
+        output: None,
+        input: None,
+    };
+    if part == Part::Reading {
+        command.stdin(Stdio::inherit());
+    } else {
+        let (theirs, ours) = pipe(rt)?;
+        command.stdin(Stdio::from(theirs));
+        ends.input = Some(ours);
+    }
+    if part == Part::Writing {
+        command.stdout(Stdio::inherit());
+    } else {
+        let (ours, theirs) = pipe(rt)?;
+        command.stdout(Stdio::from(theirs));
+        ends.output = Some(ours);
+    }
     command.stderr(Stdio::inherit());
-    command.spawn(rt).ok()
+    Ok(ends)
 }
 
 /// The pipes of the part's halves. `None` where one isn't there or can't be reported.
@@ -142,11 +157,11 @@ fn pipes_of(
     registry: &Registry,
     key: usize,
     part: Part,
-    output: Option<ChildStdout>,
-    input: Option<ChildStdin>,
-) -> Option<Halves<ChildStdout, ChildStdin>>
+    pipes: PipeEnds,
+) -> Option<Halves<PipeReader, PipeWriter>>
     ensures { IfSome result (AreOf part) }
 {
+    let PipeEnds { output, input } = pipes;
     match part {
         Part::Reading => Halves::enrolled(registry, key, Some(output?), None),
         Part::Writing => Halves::enrolled(registry, key, None, Some(input?)),

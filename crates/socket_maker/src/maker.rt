@@ -27,9 +27,9 @@ use std::sync::Arc;
 use std::thread;
 use std::time::{Clock, Duration};
 
-/// How long an accepting waits where no descriptor is free, so that those who wait at the door don't keep the loop busy
-/// until something is closed.
-const UNTIL_FREE: Duration = Duration::from_millis(5);
+/// How many milliseconds an accepting waits where no descriptor is free, so that those who wait at the door don't keep
+/// the loop busy until something is closed.
+const UNTIL_FREE: u64 = 5;
 
 /// Makes sockets that a poller waits for.
 #[derive(Drop)]
@@ -169,7 +169,7 @@ impl<R: Net + Clock + Files + Copy + Drop> Maker for SocketMaker<R> {
             }
             MadePeer::NoPeer => {
                 if door.socket().is_starved() {
-                    thread::sleep(&self.rt, UNTIL_FREE);
+                    thread::sleep(&self.rt, Duration::from_millis(UNTIL_FREE));
                 }
                 self.count_stall();
                 MadePeer::NoPeer
