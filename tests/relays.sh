@@ -197,9 +197,9 @@ start() {
     rm -f "$tag.out" "$tag.err"
     # An input without end is no input for a journal.
     [ "$input" != /dev/zero ] || local -x UNAUDITED=yes
+    begun="${EPOCHREALTIME/[.,]/}"
     "${using:-$program}" "$@" <"$input" >"$tag.out" 2>"$tag.err" 6<&- 7<&- 8<&- &
     pids[$tag]=$!
-    begun="${EPOCHREALTIME/[.,]/}"
     keep_input "${pids[$tag]}" "$input"
 }
 

@@ -343,17 +343,28 @@ settled() {
     done
 }
 
-# looks_stay NAME: it holds no more descriptors, threads and children than before.
-looks_stay() {
+# holds_more: whether it holds more of something than before.
+holds_more() {
     local before now at
-    read -ra before <<<"$looks"
-    lives relay
+    read -ra before <<<"$1"
     look_at relay
     read -ra now <<<"$looks"
     for at in 0 1 2; do
-        [ "${now[at]}" -le "${before[at]}" ] ||
-            wrong "$1: ${before[*]}, then ${now[*]} descriptors, threads and children"
+        [ "${now[at]}" -le "${before[at]}" ] || return 0
     done
+    return 1
+}
+
+# looks_stay NAME: it holds no more descriptors, threads and children than before. What is being opened just now is held
+# for a moment.
+looks_stay() {
+    local before="$looks" look
+    lives relay
+    for look in 1 2 3 4 5; do
+        holds_more "$before" || return
+        nap 0.07
+    done
+    wrong "$1: $before, then $looks descriptors, threads and children"
 }
 
 # tries_cost_nothing WORD..: the relay of these words tries to open an address again and again.
