@@ -1,0 +1,4 @@
+pub mod Command
+pub mod Left
+pub mod Scripts
+pub mod Stream

@@ -1,0 +1,10 @@
+// The generated run: a relay of many sessions over a scripted world whose bytes a number generates, and its summary.
+#![tactic(auto)]
+
+mod commands;
+mod load_worlds;
+mod streams;
+
+pub use commands::load_command;
+pub use load_worlds::load_world;
+pub use streams::Generator;
