@@ -1,2 +1,5 @@
+pub mod LeftLemmas
+pub mod NumberedLemmas
 pub mod ScriptLemmas
+pub mod StartLemmas
 pub mod StreamLemmas

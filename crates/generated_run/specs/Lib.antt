@@ -1,4 +1,5 @@
 pub mod Command
 pub mod Left
+pub mod Numbered
 pub mod Scripts
 pub mod Stream
