@@ -5,8 +5,10 @@ mod commands;
 mod load_worlds;
 mod numbered_worlds;
 mod streams;
+mod summaries;
 
 pub use commands::load_command;
 pub use load_worlds::load_world;
 pub use numbered_worlds::NumberedWorld;
 pub use streams::Generator;
+pub use summaries::Summary;
