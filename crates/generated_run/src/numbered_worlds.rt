@@ -7,7 +7,7 @@ ghost use Rattle.world_trait.specs.Recordings.{told_kept};
 ghost use Rattle.generated_run.specs.Numbered.{GivesScripted, told_named};
 
 use crate::load_worlds::load_world;
-use relay_model::{NoMemory, Peer, Place, ReadyList, Shut, Single, Why};
+use relay_model::{Journal, NoMemory, Peer, Place, ReadyList, Shut, Single, Why};
 use scripted_world::MemWorld;
 use std::alloc::Global;
 use world_trait::{
@@ -33,6 +33,13 @@ impl NumberedWorld {
     {
         let world = load_world(alloc, number)?;
         Ok(NumberedWorld { number, world })
+    }
+
+    /// What was done in it so far.
+    pub fn journal(&self) -> &Journal
+        ensures { result.now.acts ≡ self.now.world.kept.journal.acts }
+    {
+        self.world.journal()
     }
 }
 
