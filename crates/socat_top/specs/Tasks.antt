@@ -11,10 +11,11 @@ use Rattle.cmd_words.specs.declared.faults.CommandFault.TheVariants as faults
 use Rattle.cmd_words.specs.Commands.{command}
 use Rattle.socat_top.specs.Built.{is_built}
 
--- a relay, a text to be printed, or a refusal; with `Unread` there was no memory to read them
+-- a relay, a text to be printed, a generated run, or a refusal; with `Unread` there was no memory to read them
 pub data Task : Type 0 where
   Relaying : Config → Task
   Telling : List ℕ → Task
+  Loading : ℕ → Task
   Refusing : Refused → Task
   Unread : Task
 
@@ -22,12 +23,12 @@ pub data Task : Type 0 where
 abbrev pub not_built : Refused
 not_built = record { word = 0; half = 0; why = NotBuilt }
 
--- what is done about a command: relay, print or refuse
+-- what is done about a command: relay, print, make the generated run or refuse
 abbrev pub command_task : Command → Task
 command_task (commands.Relay c) = if is_built c then Relaying c else Refusing not_built
 command_task commands.Usage = Telling usage
 command_task commands.Version = Telling version
-command_task (commands.Load number) = Refusing not_built
+command_task (commands.Load number) = Loading number
 
 -- what is done about words that make a command, or are refused
 abbrev pub task_of : Result Command CommandFault → Task
