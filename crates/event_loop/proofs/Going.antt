@@ -31,12 +31,13 @@ use Rattle.event_loop.specs.Commands.{Runnable}
 use Rattle.event_loop.specs.Answers.{told_fault}
 use Rattle.event_loop.specs.declared.faults.Fault.{Fault}
 use Rattle.event_loop.specs.declared.drivers.Driver.{Driver}
-use Rattle.event_loop.specs.Courses.{Course, Run, Settled, Somewhere, SomewhereFor, Onward, KeepsFor, TurnsFor, IsOwn, OnlyOwn, Risen, unit_of}
+use Rattle.event_loop.specs.Courses.{Course, Run, Somewhere, SomewhereFor, Onward, KeepsFor, TurnsFor, IsOwn, OnlyOwn, Risen, unit_of}
 use Rattle.session_driver.specs.Steps.{extend, Acts, DidFor, OwnAsking}
-use Rattle.session_driver.specs.Dumpers.{counted_at}
+use Rattle.session_driver.specs.Dumpers.{Settled, counted_at}
 use Rattle.session_driver.specs.Noted.{MeetsUnowed, Notes, note_of}
 use Rattle.session_driver.specs.declared.dumpers.Dumper.{Dumper}
-use Rattle.event_loop.proofs.Noting.{settled_on, stands_noted}
+use Rattle.session_driver.proofs.Counting.{settled_on}
+use Rattle.event_loop.proofs.Noting.{stands_noted}
 
 -- what a world tells goes on by the act
 told_act : (act : Act) (past : List Act) (pairs : List Asking) (start : Option History) → option_map (with_act act) (option_map (extend past pairs) start) ≡ option_map (extend (act ∷ past) pairs) start
@@ -164,7 +165,7 @@ idled_run c n start old new x x' made failed past on did stands faults waits sto
       stopped = λ h. risen_kept start.stops old.stops new.stops stops (on.stopped h);
     }
 
-pub idled : (c : Config) (n : ℕ) (start old new : Seen) (r r' : Driver) (past : List Act) → Course c n start old r past → DidNothing old.told new.told old.held new.held → Stands c n past 0 r'.session → r'.made ≡ r.made → r'.fault ≡ r.fault → Settled c past r'.dumper → old.faults ≤ new.faults → new.waits ≡ old.waits → old.stops ≤ new.stops → Onward c n start new r'
+pub idled : (c : Config) (n : ℕ) (start old new : Seen) (r r' : Driver) (past : List Act) → Course c n start old r past → DidNothing old.told new.told old.held new.held → Stands c n past 0 r'.session → r'.made ≡ r.made → r'.fault ≡ r.fault → Settled c past 0 r'.dumper → old.faults ≤ new.faults → new.waits ≡ old.waits → old.stops ≤ new.stops → Onward c n start new r'
 idled c n start old new r r' past on did stands em er settled faults waits stops =
     record {
       past = past;
@@ -182,7 +183,7 @@ turned_on c n start old new r r' past until at list stop course did left rests i
     record {
       past = acts.Turn until at list stop ∷ past;
       course = record {
-        settled = settled_on c (acts.Turn until at list stop) past r.dumper r'.dumper refl ed course.settled.counted;
+        settled = settled_on c (acts.Turn until at list stop) past 0 r.dumper r'.dumper refl ed course.settled.counted;
         run = record {
           runnable = on.runnable;
           legal = ((course.settled.unowed, record { turns_left = left; rests = rests; is_until = is_until }), on.legal);
@@ -234,7 +235,7 @@ begun c n start r runnable stands em er counts free =
     }
 
 -- the session was cut, and nothing else happened
-pub recut : (c : Config) (n : ℕ) (start now : Seen) (r r' : Driver) (past : List Act) → Course c n start now r past → Stands c n past 0 r'.session → r'.made ≡ r.made → r'.fault ≡ r.fault → Settled c past r'.dumper → Course c n start now r' past
+pub recut : (c : Config) (n : ℕ) (start now : Seen) (r r' : Driver) (past : List Act) → Course c n start now r past → Stands c n past 0 r'.session → r'.made ≡ r.made → r'.fault ≡ r.fault → Settled c past 0 r'.dumper → Course c n start now r' past
 recut c n start now r r' past course stands em er settled =
     let on = course.run in
     record {
@@ -283,7 +284,7 @@ pub faulted_on : (c : Config) (past : List Act) (o o' : Option whole.Outcome) (q
 faulted_on c past o o' q half t e f g = rw g (rw (sym e) f)
 
 -- a world and a session that are as they were
-pub unmoved : (c : Config) (n : ℕ) (start old new : Seen) (r r' : Driver) (past : List Act) → Course c n start old r past → new ≡ old → r'.session ≡ r.session → r'.made ≡ r.made → r'.fault ≡ r.fault → Settled c past r'.dumper → Onward c n start new r'
+pub unmoved : (c : Config) (n : ℕ) (start old new : Seen) (r r' : Driver) (past : List Act) → Course c n start old r past → new ≡ old → r'.session ≡ r.session → r'.made ≡ r.made → r'.fault ≡ r.fault → Settled c past 0 r'.dumper → Onward c n start new r'
 unmoved c n start old new r r' past on e f em er settled =
     record { past = past; course = subst (λ (x : Seen). Course c n start x r' past) (sym e) (recut c n start old r r' past on (subst (Stands c n past 0) (sym f) on.run.stands) em er settled) }
 

@@ -1,5 +1,5 @@
 -- What a step of the loop makes of its course, where what is read is noted.
-use Rattle.std.proofs.Common.{◌≡◌, ◌≢◌, ◌⊎◌, inl, inr, refl, sym, ap, subst, ◌∙◌, ℕ, ◌<◌, ◌+◌, ◌*◌, Bool, true, false, not, List, ◌∷◌, Some, None, arith}
+use Rattle.std.proofs.Common.{◌≡◌, ◌⊎◌, inl, inr, refl, sym, ap, subst, ◌∙◌, ℕ, ◌<◌, ◌+◌, ◌*◌, Bool, true, false, not, List, ◌∷◌, Some, None, arith}
 use Rattle.std.proofs.lemmas.Bool.{false≢true, true≢false}
 use Rattle.relay_model.specs.declared.acts.Act.{Act}
 use Rattle.relay_model.specs.declared.acts.Act.TheVariants as acts
@@ -7,20 +7,17 @@ use Rattle.relay_model.specs.declared.acts.Why.TheVariants as whys
 use Rattle.relay_model.specs.declared.places.Place.{Place}
 use Rattle.relay_model.specs.declared.commands.Config.{Config}
 use Rattle.relay_model.specs.declared.commands.Dump.TheVariants as dumps
-use Rattle.relay_model.specs.Configs.{input, way_from}
-use Rattle.relay_model.specs.Places.{same_place}
+use Rattle.relay_model.specs.Configs.{way_from}
 use Rattle.relay_model.specs.Dumps.{dump_of}
 use Rattle.relay_model.specs.Outcome.{first_fault}
-use Rattle.relay_model.specs.Rest.{owed}
 use Rattle.relay_model.specs.May.{May}
 use Rattle.relay_model.specs.Frames.{reads_bytes}
-use Rattle.legal_steps.proofs.PlaceLemmas.{same_place_self}
 use Rattle.relay_core.specs.declared.sessions.Session.{Session}
 use Rattle.relay_core.specs.States.{Allowed}
 use Rattle.relay_core.specs.Sessions.{Stands, left_of, has_ended}
 use Rattle.session_driver.specs.Seen.{Seen}
 use Rattle.session_driver.specs.Steps.{Acts, Idles, StepIs}
-use Rattle.session_driver.specs.Dumpers.{counted_at}
+use Rattle.session_driver.specs.Dumpers.{Counted, Settled, counted_at}
 use Rattle.session_driver.specs.Noted.{NotedStep, ReadNoted, ReadUnnoted, note_of, undumped, unread, noted, unnoted}
 use Rattle.session_driver.specs.declared.dumpers.Dumper.{Dumper}
 use Rattle.session_driver.specs.declared.stepped.Stepped.{Stepped}
@@ -28,14 +25,14 @@ use Rattle.session_driver.specs.declared.stepped.Stepped.TheVariants as steps
 use Rattle.session_driver.proofs.Noting.{unread_step, unclosed_by}
 use Rattle.event_loop.specs.Answers.{told_fault}
 use Rattle.event_loop.specs.declared.drivers.Driver.{Driver}
-use Rattle.event_loop.specs.Courses.{Counted, Course, Onward, Settled, unit_of}
+use Rattle.event_loop.specs.Courses.{Course, Onward, unit_of}
 use Rattle.event_loop.proofs.Going.{acted_run, idled, idled_run, noted_run, rank_cut, rank_heard, run_as}
-use Rattle.event_loop.proofs.Noting.{counted_before, counted_more, read_owes, settled_on, settled_undumped}
+use Rattle.session_driver.proofs.Counting.{counted_more, note_unread, owes_by, read_at, settled_on, settled_undumped}
 
 -- ---- steps that read nothing that is dumped
 
 -- an act after which no dump is owed
-pub acted_on : (c : Config) (n : ℕ) (start old new : Seen) (r r' : Driver) (past : List Act) (act : Act) → Course c n start old r past → Acts c old new r.session r'.session act → r'.made ≡ r.made → told_fault r'.fault ≡ first_fault c (act ∷ past) 0 → Settled c (act ∷ past) r'.dumper → Onward c n start new r'
+pub acted_on : (c : Config) (n : ℕ) (start old new : Seen) (r r' : Driver) (past : List Act) (act : Act) → Course c n start old r past → Acts c old new r.session r'.session act → r'.made ≡ r.made → told_fault r'.fault ≡ first_fault c (act ∷ past) 0 → Settled c (act ∷ past) 0 r'.dumper → Onward c n start new r'
 acted_on c n start old new r r' past act on a em ef settled =
     let run = acted_run c n start old new r.session r'.session r.made r.fault r'.fault past act on.run a ((a.heard n past 0 on.run.stands).may on.settled.unowed) ef in
     record { past = act ∷ past; course = record { run = run_as c n start new r'.session r.made r'.made r'.fault r'.fault (act ∷ past) em refl run; settled = settled } }
@@ -58,50 +55,33 @@ plain_step c old new x x' dumper dumper' stepped t (noted e h) = absurd (false�
 plain_step c old new x x' dumper dumper' stepped t (unnoted e h) = absurd (false≢true (sym (ap is_plain e) ∙ t))
 
 -- what was settled stays so after an act that reads nothing, or where nothing is dumped
-pub settled_act : (c : Config) (act : Act) (past : List Act) (dumper dumper' : Dumper) → reads_bytes act ≡ false → (c.dump ≡ dumps.Off) ⊎ (dumper' ≡ dumper) → Counted c past dumper → Settled c (act ∷ past) dumper'
-settled_act c act past dumper dumper' e (inl off) counted = settled_undumped c (act ∷ past) dumper' off
-settled_act c act past dumper dumper' e (inr same) counted = settled_on c act past dumper dumper' e same counted
+pub settled_act : (c : Config) (act : Act) (past : List Act) (dumper dumper' : Dumper) → reads_bytes act ≡ false → (c.dump ≡ dumps.Off) ⊎ (dumper' ≡ dumper) → Counted c past 0 dumper → Settled c (act ∷ past) 0 dumper'
+settled_act c act past dumper dumper' e (inl off) counted = settled_undumped c (act ∷ past) 0 dumper' off
+settled_act c act past dumper dumper' e (inr same) counted = settled_on c act past 0 dumper dumper' e same counted
 
 -- and after none
-pub settled_still : (c : Config) (past : List Act) (dumper dumper' : Dumper) → (c.dump ≡ dumps.Off) ⊎ (dumper' ≡ dumper) → Settled c past dumper → Settled c past dumper'
-settled_still c past dumper dumper' (inl off) s = settled_undumped c past dumper' off
-settled_still c past dumper dumper' (inr same) s = subst (Settled c past) (sym same) s
+pub settled_still : (c : Config) (past : List Act) (dumper dumper' : Dumper) → (c.dump ≡ dumps.Off) ⊎ (dumper' ≡ dumper) → Settled c past 0 dumper → Settled c past 0 dumper'
+settled_still c past dumper dumper' (inl off) s = settled_undumped c past 0 dumper' off
+settled_still c past dumper dumper' (inr same) s = subst (Settled c past 0) (sym same) s
 
 -- ---- a read that is noted
-
--- what a read at an input of the session was
-record ReadAt (c : Config) (past : List Act) (p : Place) : Type 0 where
-  first : p.session ≡ 0
-  at : same_place p (input c p.session (way_from p.side)) ≡ true
-
-read_at : (c : Config) (n : ℕ) (old between : Seen) (x heard : Session) (past : List Act) (p : Place) (bytes : List ℕ) → owed c past ≡ None → Stands c n past 0 x → Acts c old between x heard (acts.Read p bytes) → ReadAt c past p
-read_at c n old between x heard past p bytes unowed st a =
-    record { first = ((a.here n past 0 st).own p (same_place_self p)).0; at = ((a.heard n past 0 st).may unowed).1.asks.is_input }
-
-owes_by : (c : Config) (past : List Act) (p : Place) (bytes : List ℕ) (dumper : Dumper) → c.dump ≢ dumps.Off → ReadAt c past p → Counted c past dumper → owed c (acts.Read p bytes ∷ past) ≡ Some (dump_of c.dump (way_from p.side) (counted_at dumper p.side) bytes)
-owes_by c past p bytes dumper dumped at counted =
-    read_owes c past p bytes dumped ∙ ap (λ (k : ℕ). Some (dump_of c.dump (way_from p.side) k bytes)) (sym (counted_before c past p dumper at.first at.at dumped counted))
-
-note_unread : (failed : Bool) (text : List ℕ) → reads_bytes (note_of failed text) ≡ false
-note_unread false text = refl
-note_unread true text = refl
 
 read_noted : (c : Config) (n : ℕ) (start old new : Seen) (r r' : Driver) (past : List Act) → Course c n start old r past → ReadNoted c old new r.session r'.session r.dumper r'.dumper → r'.made ≡ r.made → r'.fault ≡ r.fault → Onward c n start new r'
 read_noted c n start old new r r' past on h em er =
     let p = h.place in
     let bytes = h.bytes in
     let reading = acts.Read p bytes in
-    let at = read_at c n old h.between r.session r'.session past p bytes on.settled.unowed on.run.stands h.reads in
+    let at = read_at c n old h.between 0 r.session r'.session past p bytes on.settled.unowed on.run.stands h.reads in
     let read = acted_run c n start old h.between r.session r'.session r.made r.fault r.fault past reading on.run h.reads ((h.reads.heard n past 0 on.run.stands).may on.settled.unowed) on.run.fault in
     let text = dump_of c.dump (way_from p.side) (counted_at r.dumper p.side) bytes in
-    let owes = owes_by c past p bytes r.dumper h.dumped at on.settled.counted in
+    let owes = owes_by c past 0 p bytes r.dumper h.dumped at on.settled.counted in
     let run = noted_run c n start h.between new r'.session r.made r.fault (reading ∷ past) r.dumper p bytes text h.notes refl owes read in
     let note = note_of h.notes.failed text in
     record {
       past = note ∷ reading ∷ past;
       course = record {
         run = run_as c n start new r'.session r.made r'.made r.fault r'.fault (note ∷ reading ∷ past) em er run;
-        settled = settled_on c note (reading ∷ past) r'.dumper r'.dumper (note_unread h.notes.failed text) refl (counted_more c past p bytes r.dumper r'.dumper at.first at.at h.counts on.settled.counted);
+        settled = settled_on c note (reading ∷ past) 0 r'.dumper r'.dumper (note_unread h.notes.failed text) refl (counted_more c past 0 p bytes r.dumper r'.dumper at.first at.at h.counts on.settled.counted);
       };
     }
 
@@ -110,7 +90,7 @@ read_unnoted c n start old new r r' past on h em er =
     let p = h.place in
     let bytes = h.bytes in
     let reading = acts.Read p bytes in
-    let at = read_at c n old h.between r.session h.heard past p bytes on.settled.unowed on.run.stands h.reads in
+    let at = read_at c n old h.between 0 r.session h.heard past p bytes on.settled.unowed on.run.stands h.reads in
     let read = acted_run c n start old h.between r.session h.heard r.made r.fault r.fault past reading on.run h.reads ((h.reads.heard n past 0 on.run.stands).may on.settled.unowed) on.run.fault in
     let u = unclosed_by c n past 0 r.session.state.ending h.going on.run.stands.fields.ending_is in
     let k = h.gives_up in
@@ -124,23 +104,23 @@ read_unnoted c n start old new r r' past on h em er =
       past = closing ∷ reading ∷ past;
       course = record {
         run = run_as c n start new r'.session r.made r'.made r.fault r'.fault (closing ∷ reading ∷ past) em er run;
-        settled = settled_on c closing (reading ∷ past) r'.dumper r'.dumper refl refl (counted_more c past p bytes r.dumper r'.dumper at.first at.at h.counts on.settled.counted);
+        settled = settled_on c closing (reading ∷ past) 0 r'.dumper r'.dumper refl refl (counted_more c past 0 p bytes r.dumper r'.dumper at.first at.at h.counts on.settled.counted);
       };
     }
 
 -- ---- the steps that may have been such a read
 
 pub on_acted : (c : Config) (n : ℕ) (start old new : Seen) (r r' : Driver) (past : List Act) → Course c n start old r past → NotedStep c old new r.session r'.session r.dumper r'.dumper steps.Acted → r'.made ≡ r.made → r'.fault ≡ r.fault → Onward c n start new r'
-on_acted c n start old new r r' past on (undumped e h) em er = acted_on c n start old new r r' past h.0 on h.2 em (ap told_fault er ∙ on.run.fault ∙ sym (h.1 past 0)) (settled_undumped c (h.0 ∷ past) r'.dumper e)
-on_acted c n start old new r r' past on (unread e h) em er = acted_on c n start old new r r' past h.0 on h.3 em (ap told_fault er ∙ on.run.fault ∙ sym (h.2 past 0)) (settled_on c h.0 past r.dumper r'.dumper h.1 e on.settled.counted)
+on_acted c n start old new r r' past on (undumped e h) em er = acted_on c n start old new r r' past h.0 on h.2 em (ap told_fault er ∙ on.run.fault ∙ sym (h.1 past 0)) (settled_undumped c (h.0 ∷ past) 0 r'.dumper e)
+on_acted c n start old new r r' past on (unread e h) em er = acted_on c n start old new r r' past h.0 on h.3 em (ap told_fault er ∙ on.run.fault ∙ sym (h.2 past 0)) (settled_on c h.0 past 0 r.dumper r'.dumper h.1 e on.settled.counted)
 on_acted c n start old new r r' past on (noted e h) em er = read_noted c n start old new r r' past on h em er
 on_acted c n start old new r r' past on (unnoted e h) em er = let x : ⊥ = cc in absurd x
 
-pub on_idle : (c : Config) (n : ℕ) (start old new : Seen) (r r' : Driver) (past : List Act) → Course c n start old r past → Idles c old new r.session r'.session → r'.made ≡ r.made → r'.fault ≡ r.fault → Settled c past r'.dumper → Onward c n start new r'
+pub on_idle : (c : Config) (n : ℕ) (start old new : Seen) (r r' : Driver) (past : List Act) → Course c n start old r past → Idles c old new r.session r'.session → r'.made ≡ r.made → r'.fault ≡ r.fault → Settled c past 0 r'.dumper → Onward c n start new r'
 on_idle c n start old new r r' past on h em er settled = idled c n start old new r r' past on h.did (h.stands n past 0 on.run.stands) em er settled h.rose.later h.waitless.waits h.waitless.stops
 
 pub on_memory : (c : Config) (n : ℕ) (start old new : Seen) (r r' : Driver) (past : List Act) → Course c n start old r past → NotedStep c old new r.session r'.session r.dumper r'.dumper steps.Memory → r'.made ≡ r.made → r'.fault ≡ r.fault → Onward c n start new r'
-on_memory c n start old new r r' past on (undumped e h) em er = on_idle c n start old new r r' past on h.0 em er (settled_undumped c past r'.dumper e)
+on_memory c n start old new r r' past on (undumped e h) em er = on_idle c n start old new r r' past on h.0 em er (settled_undumped c past 0 r'.dumper e)
 on_memory c n start old new r r' past on (unread e h) em er = on_idle c n start old new r r' past on h.0 em er (settled_still c past r.dumper r'.dumper (inr e) on.settled)
 on_memory c n start old new r r' past on (noted e h) em er = let x : ⊥ = cc in absurd x
 on_memory c n start old new r r' past on (unnoted e h) em er = read_unnoted c n start old new r r' past on h em er
