@@ -2,11 +2,13 @@
 #   make            proves and builds bin/socat and bin/socat-audit
 #   make test       runs the tests of the built programs
 #   make check      runs the gate: every proof, and all its tests
+#   make endurance  runs random commands for ten minutes, or for FOR=SECONDS, and judges each run
 #   make quick      builds bin/quick/socat and bin/quick/socat-audit for a look, WITHOUT PROVING ANYTHING
 #   make install    puts programs, manual pages and completion below PREFIX, with DESTDIR in front; make uninstall
 
 PREFIX ?= /usr/local
 DESTDIR ?=
+FOR ?= 600
 BIN = $(DESTDIR)$(PREFIX)/bin
 MAN = $(DESTDIR)$(PREFIX)/share/man/man1
 COMPLETION = $(DESTDIR)$(PREFIX)/share/bash-completion/completions
@@ -14,7 +16,7 @@ PROGRAM = crates/socat_main/out/socat_main
 AUDITOR = crates/audit_main/out/audit_main
 SOURCES = $(shell find crates -name out -prune -o -type f \( -name '*.rt' -o -name '*.antt' \) -print) crates.txt
 
-.PHONY: all check test documents quick install uninstall clean bench
+.PHONY: all check test endurance documents quick install uninstall clean bench
 
 all: bin/socat bin/socat-audit
 
@@ -46,6 +48,9 @@ test: bin/socat bin/socat-audit documents
 	tests/words.sh bin/socat
 	tests/audit.sh bin/socat-audit
 	tests/audited.sh bin/socat bin/socat-audit
+
+endurance: bin/socat bin/socat-audit
+	tests/endurance.sh bin/socat bin/socat-audit --seconds $(FOR)
 
 # What the documents name and list is there.
 documents:
