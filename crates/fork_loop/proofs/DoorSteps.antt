@@ -39,7 +39,7 @@ use Rattle.session_driver.specs.Seen.{Seen}
 use Rattle.session_crew.specs.Crews.{Waker}
 use Rattle.session_crew.proofs.Members.{stays, awake, accept_ends}
 use Rattle.session_runs.specs.Runs.{Run}
-use Rattle.session_driver.specs.Dumpers.{Counted, counted_at}
+use Rattle.session_driver.specs.Dumpers.{counted_at}
 use Rattle.session_driver.proofs.Counting.{unread_owes}
 use Rattle.session_runs.specs.declared.members.Member.{Member}
 use Rattle.session_runs.proofs.Going.{AllCommands, acted_run, idle_run}

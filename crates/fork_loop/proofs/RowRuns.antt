@@ -1,11 +1,10 @@
 -- What the run of one row makes of the course of all.
-use Rattle.std.proofs.Common.{◌≡◌, ◌≢◌, refl, sym, ap, subst, ◌∙◌, ℕ, ◌⊎◌, inl, inr, false, List, Option, Some, None, arith}
+use Rattle.std.proofs.Common.{◌≡◌, ◌≢◌, refl, sym, subst, ◌∙◌, ℕ, ◌⊎◌, inl, inr, false, List, Option, Some, None, arith}
 use Rattle.std.proofs.lemmas.Bool.{cases_eq}
 use Rattle.relay_model.specs.declared.commands.Config.{Config}
 use Rattle.relay_model.specs.declared.acts.Act.{Act}
 use Rattle.relay_model.specs.declared.acts.Why.{Why}
 use Rattle.relay_model.specs.declared.acts.Why.TheVariants as whys
-use Rattle.relay_model.specs.declared.places.Place.{Place}
 use Rattle.relay_model.specs.Rest.{owed}
 use Rattle.relay_model.specs.Sessions.{admitted, holds}
 use Rattle.relay_core.specs.declared.sessions.Session.{Session}

@@ -1,21 +1,17 @@
 -- The whole rests where the door and each session do.
-use Rattle.std.proofs.Common.{◌≡◌, refl, sym, ap, subst, ◌∙◌, ℕ, suc, ◌<◌, ◌≤◌, ◌⊎◌, inl, inr, Bool, true, false, cond, not, ◌||◌, ◌&&◌, List, [], ◌∷◌, length, Option, Some, None, arith}
-use Rattle.std.proofs.lemmas.Bool.{cases_lt, or_parts, cases_eq, false≢true}
-use Rattle.std.specs.List.{list_any}
+use Rattle.std.proofs.Common.{◌≡◌, refl, sym, subst, ◌∙◌, ℕ, suc, ◌<◌, ◌≤◌, ◌⊎◌, inl, inr, Bool, true, false, cond, ◌||◌, ◌&&◌, List, Option, None, arith}
+use Rattle.std.proofs.lemmas.Bool.{cases_lt, or_parts, false≢true}
 use Rattle.relay_model.specs.declared.commands.Config.{Config}
-use Rattle.relay_model.specs.declared.acts.Why.TheVariants as whys
 use Rattle.relay_model.specs.declared.acts.Act.{Act}
-use Rattle.relay_model.specs.declared.acts.Act.TheVariants as acts
-use Rattle.relay_model.specs.Choices.{only_if, or_else, first_some, some_below}
+use Rattle.relay_model.specs.Choices.{some_below}
 use Rattle.relay_model.specs.Configs.{has_fork, program_door}
-use Rattle.relay_model.specs.History.{turns, memory_said, stop_said, accept_failed, stage, held, served, failures, Stage, Failed}
-use Rattle.relay_model.specs.Sessions.{holds, live, numbers, next_place, admitted}
-use Rattle.relay_model.specs.Openings.{out_of_tries}
-use Rattle.relay_model.specs.Outcome.{Outcome, Memory, Stopped, AcceptFailed, ListenFailed, Ended, outcome, holds_something, failed_listening, outcome_of_sessions}
+use Rattle.relay_model.specs.History.{memory_said, stop_said, accept_failed, held}
+use Rattle.relay_model.specs.Sessions.{holds, numbers}
+use Rattle.relay_model.specs.Outcome.{outcome, holds_something}
 use Rattle.relay_model.specs.Rest.{owed, SessionRests, Rest}
 use Rattle.relay_model.specs.May.{Legal}
 use Rattle.legal_steps.proofs.Resting.{rest_of_parts}
-use Rattle.program_door.specs.Wishes.{Sleeps, GoesOn, Retries}
+use Rattle.program_door.specs.Wishes.{GoesOn}
 use Rattle.program_door.proofs.Held.{rests_next}
 use Rattle.program_door.proofs.Moves.{numbers_are}
 use Rattle.session_crew.specs.Wholes.{Remains, AllRest}

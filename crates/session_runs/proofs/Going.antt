@@ -8,15 +8,14 @@ use Rattle.relay_model.specs.declared.acts.Why.TheVariants as whys
 use Rattle.relay_model.specs.declared.places.Place.{Place}
 use Rattle.relay_model.specs.declared.commands.Config.{Config}
 use Rattle.relay_model.specs.declared.commands.Dump.TheVariants as dumps
-use Rattle.relay_model.specs.Places.{same_place}
-use Rattle.relay_model.specs.Configs.{is_program_door, single, way_from}
+use Rattle.relay_model.specs.Configs.{single, way_from}
 use Rattle.relay_model.specs.Dumps.{dump_of}
 use Rattle.relay_model.specs.Journals.{History, Asking}
-use Rattle.relay_model.specs.Holding.{hold_after, standing}
-use Rattle.relay_model.specs.History.{turns, now as moment, same_why}
+use Rattle.relay_model.specs.Holding.{hold_after}
+use Rattle.relay_model.specs.History.{now as moment, same_why}
 use Rattle.relay_model.specs.Rest.{owed}
 use Rattle.relay_model.specs.May.{May}
-use Rattle.relay_model.specs.Frames.{is_turn, is_common, is_at, is_closing, reads_bytes}
+use Rattle.relay_model.specs.Frames.{is_turn, is_common, reads_bytes}
 use Rattle.legal_steps.proofs.PlaceLemmas.{same_place_self}
 use Rattle.session_birth.specs.Births.{OnlyHeldWereNamed}
 use Rattle.session_kept.proofs.Noted as kept
@@ -25,9 +24,8 @@ use Rattle.world_trait.specs.Answers.{DidNothing, Rose}
 use Rattle.relay_core.specs.declared.sessions.Session.{Session}
 use Rattle.relay_core.specs.declared.wishes.Wish.{Wish}
 use Rattle.relay_core.specs.declared.wishes.Wish.TheVariants as wishes
-use Rattle.relay_core.specs.Sessions.{Stands, wish_of, left_of, has_ended}
+use Rattle.relay_core.specs.Sessions.{Stands, wish_of, has_ended}
 use Rattle.relay_core.specs.Blames.{is_blamed}
-use Rattle.relay_core.specs.Told.{stop_turned}
 use Rattle.session_driver.specs.Seen.{Seen}
 use Rattle.session_driver.specs.Steps.{extend, Acts, DidFor, Idles, OwnAsking, IsActOf, ClosesAsWished, NoTurn, StepIs, Waitless}
 use Rattle.session_driver.specs.Dumpers.{Counted, Settled, counted_at}

@@ -1,5 +1,5 @@
 -- Runs that end for want of memory.
-use Rattle.std.proofs.Common.{◌≡◌, ℕ, true, List, [], ◌∷◌, ◌++◌, Option, Some, refl, ap, subst, sym, ◌∙◌, inl, inr, ◌⊎◌}
+use Rattle.std.proofs.Common.{◌≡◌, ℕ, List, [], ◌∷◌, ◌++◌, Option, Some, refl, ap, subst, sym, ◌∙◌, inl, inr, ◌⊎◌}
 use Rattle.relay_model.specs.declared.commands.Config.{Config}
 use Rattle.relay_model.specs.Journals.{History}
 use Rattle.exit_status.specs.declared.outcomes.Outcome.{Outcome}
@@ -11,7 +11,6 @@ use Rattle.event_loop.specs.Headline.{is_relayed}
 use Rattle.exit_status.specs.Outcomes.{IsOutcome}
 use Rattle.relay_model.specs.declared.acts.Act.{Act}
 use Rattle.socat_top.specs.Notes.{Said, Tail}
-use Rattle.cmd_words.specs.declared.commands.Command.TheVariants as commands
 use Rattle.socat_top.specs.Tasks.{Task, Relaying, Telling, Refusing, Unread}
 use Rattle.socat_top.specs.Headline.{Headline, Leaves, Answers, CompletesTask}
 

@@ -1,4 +1,4 @@
-use Rattle.std.proofs.Common.{sym, subst, ◌∙◌, Option, IfSome}
+use Rattle.std.proofs.Common.{sym, subst, Option, IfSome}
 use Rattle.session_runs.specs.Pauses.{PauseIs, SpreadsNot}
 use Rattle.session_runs.specs.declared.pauses.Pause.{Pause}
 use Rattle.session_runs.proofs.Going.{fewer_for, meets, owed_fewer, owed_runs, settled_pause, settled_runs, stays_on}
