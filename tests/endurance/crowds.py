@@ -41,13 +41,15 @@ class Visitor:
                 sock.send(self.sent)
             except OSError:
                 return
-            while not self.room.over.is_set():
+            while not self.saw_end:
+                # Once the run is over what was sent before has come.
+                over = self.room.over.is_set()
                 try:
                     self.got = sock.recv(70000)
                     self.saw_end = True
-                    return
                 except socket.timeout:
-                    continue
+                    if over:
+                        return
                 except OSError:
                     return
 

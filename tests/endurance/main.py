@@ -2,12 +2,11 @@
 """Random commands against the built program, as tests/endurance.sh says."""
 import argparse
 import concurrent.futures
+import errno
 import os
 import random
-import resource
 import shutil
 import signal
-import statistics
 import subprocess
 import sys
 import tempfile
@@ -153,13 +152,23 @@ class Endurance:
         self.passed = self.failed = 0
         self.kinds, self.statuses, self.most = {}, {}, 0
 
+    def planned(self, number):
+        """The plan of this number in a room of its own; once more where somebody else has taken a port meanwhile."""
+        for last in (False, False, True):
+            dice = random.Random(f"{self.options.seed}:{number}")
+            room = Room(tempfile.mkdtemp(dir=self.folder), self.ports, dice)
+            try:
+                return dice, room, some_plan(dice, room)
+            except OSError as error:
+                room.leave()
+                if last or error.errno != errno.EADDRINUSE:
+                    raise
+
     def one(self, number):
         seed = self.options.seed
-        dice = random.Random(f"{seed}:{number}")
-        room = Room(tempfile.mkdtemp(dir=self.folder), self.ports, dice)
-        run, plan, wrong = None, None, []
+        dice, room, plan = self.planned(number)
+        run, wrong = None, []
         try:
-            plan = some_plan(dice, room)
             run = Run(self.options.program, plan, room, f"{seed}-{number}-{os.getpid()}")
             run.begin()
             for it in plan.partners():
@@ -183,11 +192,11 @@ class Endurance:
             shutil.rmtree(room.folder, ignore_errors=True)
 
     def note(self, number, plan, run, wrong):
-        words = " ".join(plan.words()) if plan else "?"
+        words = " ".join(plan.words())
         with self.lock:
             if wrong:
                 self.failed += 1
-                signs = f" with the signals {plan.signals}" if plan and plan.signals else ""
+                signs = f" with the signals {plan.signals}" if plan.signals else ""
                 print(f"FAILED  seed {self.options.seed} run {number}: {words}{signs}")
                 for text in wrong[:5]:
                     print(f"        {text}")
@@ -196,7 +205,7 @@ class Endurance:
                 self.passed += 1
                 if self.options.show:
                     print(f"ok      run {number}: {words}: {run.status}", flush=True)
-            if plan and run:
+            if run:
                 kinds = [it.kind for it in plan.partners()]
                 if plan.crowd:
                     kinds = [plan.left.inward.text.partition(":")[0] + ",fork", plan.right.inward.text.partition(":")[0]]

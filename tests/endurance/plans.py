@@ -493,9 +493,10 @@ def crowd_plan(dice, room, plan):
                                   ("server", same)))
     endings = ("end",) if plan.calm or family == "u" else ("end", "end", "leave", "reset")
     plan.crowd = Crowd(room, family, place, answer)
-    for _ in range(count):
-        data = dice.randbytes(dice.randrange(1, 2000)) if family == "u" else some_bytes(dice, min(8000, dice.most // 4))
-        plan.crowd.client(data, dice.choice(endings))
+    for number in range(count):
+        data = dice.randbytes(dice.randrange(2000)) if family == "u" else some_bytes(dice, min(8000, dice.most // 4))
+        # Each begins with its number, by which a session is known.
+        plan.crowd.client(b"%d" % number + data, dice.choice(endings))
     if behind == "server":
         behind = f"TCP4:127.0.0.1:{plan.crowd.serve(room.port())}"
     plan.left = Side(Words(",".join([kind, *options])), None)
