@@ -1,6 +1,6 @@
 #!/usr/bin/env bash
-# Measures dumps: text and random bytes from pipe to pipe with -v and with -x, whose dump goes to /dev/null, beside Debian's
-# socat where it is installed. The median of some rounds in MB/s, and the ratio. 1 MB is 1,000,000 bytes.
+# Measures dumps: text and random bytes from pipe to pipe with -v and with -x, whose dump goes to /dev/null, beside
+# Debian's socat where it is installed. The median of some rounds in MB/s, and the ratio. 1 MB is 1,000,000 bytes.
 # Usage: bench/dumps.sh [PROGRAM]      (bin/socat where none is given)
 # ROUNDS (3) and BYTES (16 MiB) change what is run.
 set -u

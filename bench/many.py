@@ -1,6 +1,7 @@
 #!/usr/bin/env python3
-"""Measures what idle sessions cost an active one: a byte there and back through `TCP4-LISTEN,fork PIPE`, beside 10 and beside
-10,000 idle sessions, and the private memory for each. Where descriptors or a minute don't allow so many there are fewer.
+"""Measures what idle sessions cost an active one: a byte there and back through `TCP4-LISTEN,fork PIPE`, beside 10 and
+beside 10,000 idle sessions, and the private memory for each. Where descriptors or a minute don't allow so many there
+are fewer.
 
 many.py PROGRAM
 """

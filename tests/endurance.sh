@@ -1,8 +1,8 @@
 #!/usr/bin/env bash
 # Random commands of every kind against the built program, for a time: standard streams, files, pipes, sockets, programs
-# and proxies; slow, dead and resetting peers, closed streams, signals, and crowds of clients. Each run has a journal, is
-# bounded in time, its bytes are compared with what was sent, and the built auditor judges its journal. Afterwards no
-# process and no file of it may be left; relays that last the whole time may hold no more than at its beginning.
+# and proxies; slow, dead and resetting peers, closed streams, signals, and crowds of clients. Each run has a journal,
+# is bounded in time, its bytes are compared with what was sent, and the built auditor judges its journal. Afterwards
+# no process and no file of it may be left; relays that last the whole time may hold no more than at its beginning.
 # It uses the loopback and a temporary folder alone.
 # Usage: tests/endurance.sh [PROGRAM [AUDITOR [OPTION..]]]     (bin/socat and bin/socat-audit where none is given)
 #   --seconds S  how long it goes on (600)         --seed N   the same commands again, but for ports that aren't free
