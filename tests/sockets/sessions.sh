@@ -1,14 +1,5 @@
 # Commands with `fork`: crowds of clients, each in a session of its own.
 
-as_crowd=("$python" -ES -X "pycache_prefix=$scratch/compiled" "$here/tests/sockets/crowd.py")
-
-# crowd TEXT WORD..: a crowd as tests/sockets/crowd.py has it says just this line.
-crowd() {
-    local said
-    said="$(timeout 120 "${as_crowd[@]}" "${@:2}" 2>crowd.err 8<&-)" || wrong "the crowd failed: $(tail -1 crowd.err)"
-    [ "$said" = "$1" ] || wrong "the crowd said ${said:0:200}"
-}
-
 # zombies TAG: how many children of the relay have ended and weren't asked for.
 zombies() { ps -o stat= --ppid "${pids[$1]}" 2>/dev/null | grep -c '^Z'; }
 
@@ -103,11 +94,6 @@ given_nothing
 UNAUDITED=yes start relay -t0.2 UDP4-RECVFROM:0,fork,stop-after=50 PIPE
 crowd '50 had their own' udp4 "@${pids[relay]}" 50 echo=1000
 ended relay 0 '' ''
-finish
-
-begin "UDP-LISTEN with fork isn't there yet"
-given_nothing
-run 1 '' 'socat: listen failed after 1 attempts' UDP4-LISTEN:0,fork PIPE
 finish
 
 begin "SIGTERM ends it with 50 sessions"
