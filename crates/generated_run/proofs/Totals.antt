@@ -14,7 +14,7 @@ use Rattle.relay_model.specs.History.{got, met_end, put}
 use Rattle.relay_model.specs.May.{BeginsWith, Legal, MayWrite}
 use Rattle.relay_model.specs.Openings.{ready}
 use Rattle.relay_model.specs.Places.{same_place, same_side}
-use Rattle.relay_model.specs.Rest.{moves}
+use Rattle.relay_model.specs.Rest.{is_going}
 use Rattle.relay_model.specs.Sessions.{admitted, holds, live}
 use Rattle.legal_steps.proofs.Admissions.{admitted_bound}
 use Rattle.legal_steps.proofs.Holdings.{moves_running}
