@@ -18,15 +18,15 @@ pub enum RunEnd {
     Over,
     /// The run is to end for this reason: for want of memory, or since the turns are used up (`Stopped`).
     Ends(Why),
-    /// The turn says stop, and each session was cut.
+    /// The turn says stop, which no session has heard yet.
     Stops,
 }
 
 impl Crew {
-    ghost use Rattle.fork_loop.specs.Courses.{Somewhere, AllAsleep};
+    ghost use Rattle.fork_loop.specs.Courses.{Somewhere, NoWork};
     ghost use Rattle.fork_loop.specs.Turned.{TurnIs, WaitsForAll};
 
-    /// Has each session and the door make their calls, and then waits once, unless the run ends or `turns` waits were
+    /// Has each session that has work and the door make their calls, and then waits once, unless the run ends or `turns` waits were
     /// made. A wait comes only where it is in order, and lasts until the least moment that anything waits for.
     pub fn turn<W: World, L: Ledger>(
         &mut self,
@@ -62,10 +62,11 @@ impl Crew {
         turns: u64,
         steps: &mut Steps<L>,
     ) -> Option<RunEnd>
-        requires { AllAsleep self.old }
+        requires course { Somewhere config.now (seen W.told W.held W.faults W.waits W.stops W.clock world.old) self.old }
+        requires idle { NoWork self.old }
         ensures { WaitsForAll config.now turns first (seen W.told W.held W.faults W.waits W.stops W.clock world.old) (seen W.told W.held W.faults W.waits W.stops W.clock world.new) self.old self.new result }
     {
-        let until = self.least_until(first, steps);
+        let until = self.least_until(first);
         if self.made < turns {
             match self.wait(world, config, until, turns, steps) {
                 Waited::Goes => None,

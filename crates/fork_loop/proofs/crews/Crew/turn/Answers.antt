@@ -1,14 +1,25 @@
 use Rattle.std.proofs.Common.{inl, inr, arith, ◌∙◌}
 use Rattle.fork_loop.proofs.Loops.{kept_on}
-use Rattle.fork_loop.proofs.DoorSteps.{spread_ends}
-use Rattle.fork_loop.proofs.InOrder.{further_then}
+use Rattle.fork_loop.proofs.InOrder.{further_then, door_waits, door_over}
 use Rattle.fork_loop.proofs.crews.Crew.turn.Goals as goal
 
 pub returns-in-Some : goal.returns-in-Some
-returns-in-Some g c = (λ start past on. let s = c.in-Some.ensures c.args.turns start past on in spread_ends c.args.config.now c.args.turns start _ s.t c.in-Some.why _ s.spreads, tt)
+returns-in-Some g c = (λ start past on. c.in-Some.ensures c.args.turns start past on, tt)
 
 pub ask_door-requires-clause-course : goal.ask_door-requires-clause-course
 ask_door-requires-clause-course g c = kept_on c.args.config.now _ _ c.args.self.now _ c.requires.course c.in_default.ensures.0
+
+pub wait_for-requires-clause-course : goal.wait_for-requires-clause-course
+wait_for-requires-clause-course g c = door_waits c.args.config.now _ _ _ c.args.self.now c.run_rows.new.self _ c.in-Waits.first c.requires.course c.in_default.ensures.0 c.in-Waits.ensures.0
+
+pub wait_for-requires-clause-idle : goal.wait_for-requires-clause-idle
+wait_for-requires-clause-idle g c = c.in-Waits.ensures.1
+
+pub wait_for-requires-in-Some-first_from-clause-course : goal.wait_for-requires-in-Some-first_from-clause-course
+wait_for-requires-in-Some-first_from-clause-course g c = door_over c.args.config.now _ _ _ c.args.self.now c.run_rows.new.self _ c.requires.course c.in_default.ensures.0 c.in-Over.ensures.0
+
+pub wait_for-requires-in-Some-first_from-clause-idle : goal.wait_for-requires-in-Some-first_from-clause-idle
+wait_for-requires-in-Some-first_from-clause-idle g c = c.in-Over.ensures.1
 
 pub returns-in-Waits : goal.returns-in-Waits
 returns-in-Waits g c = (
