@@ -1,0 +1,68 @@
+-- The lines on an address, put together; and that each report ends with a line's end.
+use Rattle.std.proofs.Common.{◌≡◌, ℕ, List, [], ◌∷◌, ◌++◌, refl, sym, ap, ◌∙◌, subst, append_assoc}
+use Rattle.std.specs.Prelude.{decimal}
+use Rattle.std.proofs.lemmas.List.{append-nil}
+use Rattle.relay_model.specs.declared.places.Side.{Side}
+use Rattle.relay_model.specs.declared.places.Side.TheVariants.{Right}
+use Rattle.relay_model.specs.declared.commands.Config.{Config}
+use Rattle.relay_model.specs.declared.commands.Target.{Target}
+use Rattle.relay_model.specs.declared.commands.Address.{Address}
+use Rattle.relay_model.specs.declared.commands.Address.TheVariants as addresses
+use Rattle.relay_model.specs.Configs.{address}
+use Rattle.relay_model.specs.Dumps.{newline}
+use Rattle.cmd_words.specs.declared.commands.Command.{Command}
+use Rattle.cmd_words.specs.declared.commands.Command.TheVariants as commands
+use Rattle.command_report.specs.Shown.{said, EndsLine}
+use Rattle.command_report.specs.Reports.{IsTold, AreTold, AddressTold, RelayTold, Tells, ending, ending_words, ending_line}
+
+-- a last line is put behind the others
+pub with_last : (title last text : List ℕ) (target : Target) → IsTold title target [] text → IsTold title target last (text ++ last)
+with_last title last text target h = record {
+  kind = h.kind;
+  options = h.options;
+  told = ap (λ (whole : List ℕ). whole ++ last) (h.told ∙ append-nil (title ++ h.kind ++ newline ++ h.options));
+  named = h.named;
+}
+
+-- both halves, and the last line
+pub both_told : (title last first second both text : List ℕ) (reading writing : Target) → IsTold (title ++ said ", to read from: ") reading [] first → IsTold (title ++ said ", to write to: ") writing [] second → both ≡ first ++ second → text ≡ both ++ last → AreTold title reading writing last text
+both_told title last first second both text reading writing h k e f = record {
+  first = first;
+  second = second ++ last;
+  told = f ∙ ap (λ (whole : List ℕ). whole ++ last) e ∙ append_assoc first second last;
+  read = h;
+  written = with_last (title ++ said ", to write to: ") last second writing k;
+}
+
+-- what stands in front changes no end
+pub ends_behind : (front text : List ℕ) → EndsLine text → EndsLine (front ++ text)
+ends_behind front text e = record {
+  front = front ++ e.front;
+  ends = ap (λ (rest : List ℕ). front ++ rest) e.ends ∙ sym (append_assoc front e.front newline);
+}
+
+ending_ends : (c : Config) (side : Side) → EndsLine (ending_line c side)
+ending_ends c side =
+    let words = ending_words (ending c side) in
+    record {
+      front = said "  the other's end: " ++ words;
+      ends = sym (append_assoc (said "  the other's end: ") words newline);
+    }
+
+told_ends : (title last text : List ℕ) (target : Target) → IsTold title target last text → EndsLine last → EndsLine text
+told_ends title last text target h e =
+    subst EndsLine (sym h.told) (ends_behind (title ++ h.kind ++ newline ++ h.options) last e)
+
+address_ends : (title last text : List ℕ) (a : Address) → AddressTold title a last text → EndsLine last → EndsLine text
+address_ends title last text (addresses.One single) h e = told_ends (title ++ said ": ") last text single.target h e
+address_ends title last text (addresses.Two reading writing) h e =
+    subst EndsLine (sym h.told) (ends_behind h.first h.second (told_ends (title ++ said ", to write to: ") last h.second writing.target h.written e))
+
+-- each report ends with a line's end
+pub report_ends : (made : Command) (text : List ℕ) → Tells made text → EndsLine text
+report_ends (commands.Relay c) text h =
+    let right = address_ends (said "second address") (ending_line c Right) h.right (address c Right) h.right_told (ending_ends c Right) in
+    subst EndsLine (sym h.told) (ends_behind (h.settings ++ newline ++ h.left ++ newline) h.right right)
+report_ends commands.Usage text h = record { front = said "prints the usage on standard error, and opens nothing"; ends = h }
+report_ends commands.Version text h = record { front = said "prints the version on standard error, and opens nothing"; ends = h }
+report_ends (commands.Load number) text h = record { front = said "makes the generated run number " ++ decimal number; ends = h }

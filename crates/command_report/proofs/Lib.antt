@@ -1,0 +1,4 @@
+pub mod Printing
+pub mod Lines
+pub mod Growing
+pub mod Endings

@@ -1,0 +1,7 @@
+use Rattle.command_report.specs.Reports.{title_of}
+use Rattle.command_report.proofs.Endings.{both_told}
+use Rattle.command_report.proofs.sections.dual_told.Goals as goal
+
+pub returns : goal.returns
+returns c =
+    both_told (title_of c.args.side) _ _ _ _ _ _ _ c.in_ok-page.ensures c.in_ok-told.ensures c.in_ok-append.ensures c.in_ok-say_ending.ensures
