@@ -1,7 +1,7 @@
 -- How bytes are shown: printable ones as they are, any other by its number, so that no terminal is told to do anything.
-use Rattle.std.specs.Prelude.{◌≡◌, ℕ, ◌/◌, ◌%◌, Bool, true, not, ◌&&◌, ◌||◌, ◌==◌, nat_le, List, [], ◌∷◌, ◌++◌, map, codes, if◌then◌else◌}
+use Rattle.std.specs.Prelude.{◌≡◌, ℕ, ◌<◌, ◌/◌, ◌%◌, Bool, true, not, ◌&&◌, ◌||◌, ◌==◌, nat_le, List, [], ◌∷◌, ◌++◌, map, codes, if◌then◌else◌}
 use Prim.Native.String.{String}
-use Rattle.std.specs.List.{list_all, flat_map}
+use Rattle.std.specs.List.{list_all, flat_map, AllByRecursion}
 use Rattle.relay_model.specs.Dumps.{hex_digit}
 
 -- a byte that may stand in a report: a printable one of ASCII, or the end of a line
@@ -44,3 +44,11 @@ marked mark bytes = map (λ _. mark) (shown bytes)
 pub record EndsLine (text : List ℕ) : Type 0 where
   pub front : List ℕ
   pub ends : text ≡ front ++ 10 ∷ []
+
+-- each is a byte
+abbrev pub AreBytes : List ℕ → Type 0
+AreBytes bytes = AllByRecursion (λ byte. byte < 256) bytes
+
+-- no two lists of bytes look alike
+abbrev pub ShownTells : Type 0
+ShownTells = (one other : List ℕ) → AreBytes one → AreBytes other → shown one ≡ shown other → one ≡ other

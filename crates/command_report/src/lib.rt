@@ -2,6 +2,7 @@
 #![tactic(auto)]
 
 mod commands;
+mod laws;
 mod naming;
 mod opening;
 mod pages;
@@ -14,5 +15,6 @@ mod settings;
 mod values;
 
 pub use commands::explanation;
+pub use laws::shown_tells;
 pub use refusals::refusal_report;
 pub use runs::explain_run;

@@ -96,11 +96,9 @@ fn say_program(page: &mut Page, words: &Texts) -> Result<(), NoMemory>
 /// Which of a host's addresses is taken.
 fn chosen_address(family: Family) -> &'static str {
     match family {
-        Family::Any => {
-            "; of its addresses the first IPv4 one, or the first IPv6 one where there is none"
-        }
-        Family::V4 => "; of its addresses the first IPv4 one",
-        Family::V6 => "; of its addresses the first IPv6 one",
+        Family::Any => ", over IPv4 where it has such an address, else over IPv6",
+        Family::V4 => ", over IPv4",
+        Family::V6 => ", over IPv6",
     }
 }
 

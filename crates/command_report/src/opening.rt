@@ -1,7 +1,36 @@
 // How an address is opened: every option that means something for its kind, written or not.
 use crate::pages::{Page, line, named_line, numbered_line};
 use crate::values::{say_address, say_range, say_time};
-use relay_model::{Bind, Family, FileFlags, NoMemory, Options, Single, Target};
+use relay_model::{Bind, Family, FileFlags, NoMemory, Options, Part, Single, Target};
+
+/// Whether it is opened for writing.
+fn writes(part: Part) -> bool {
+    match part {
+        Part::Both | Part::Writing => true,
+        Part::Reading => false,
+    }
+}
+
+fn say_access(page: &mut Page, flags: FileFlags, part: Part) -> Result<(), NoMemory> {
+    line(
+        page,
+        match part {
+            Part::Both => "  access: for reading and writing (no rdonly, no wronly)",
+            Part::Reading if flags.rdonly => "  access: for reading alone (rdonly)",
+            Part::Reading => "  access: for reading alone, as the use asks",
+            Part::Writing if flags.wronly => "  access: for writing alone (wronly)",
+            Part::Writing => "  access: for writing alone, as the use asks",
+        },
+    )
+}
+
+/// Without write access the system neither makes nor empties a file here.
+fn say_failing(page: &mut Page) -> Result<(), NoMemory> {
+    line(
+        page,
+        "  opening: fails; making or emptying a file wants access for writing (creat, excl, trunc)",
+    )
+}
 
 fn say_making(page: &mut Page, flags: FileFlags) -> Result<(), NoMemory> {
     line(
@@ -14,66 +43,64 @@ fn say_making(page: &mut Page, flags: FileFlags) -> Result<(), NoMemory> {
     )
 }
 
-fn say_place_of_writes(page: &mut Page, flags: FileFlags) -> Result<(), NoMemory> {
+fn say_contents(page: &mut Page, flags: FileFlags) -> Result<(), NoMemory> {
     line(
         page,
         match (flags.append, flags.trunc) {
             (false, false) =>
-                "  contents: kept; written over from the beginning (no append, no trunc)",
-            (true, false) => "  contents: kept; written behind them (append)",
+                "  contents: kept, and written over from the beginning (no append, no trunc)",
+            (true, false) => "  contents: kept, and written behind (append)",
             (false, true) => "  contents: emptied first (trunc)",
-            (true, true) =>
-                "  contents: append and trunc together, at which an opening for writing fails",
+            (true, true) if flags.excl =>
+                "  contents: none yet; written behind (append, trunc, excl)",
+            (true, true) => "  opening: fails; append and trunc don't go together",
         },
     )
 }
 
-fn say_place_of_generic_writes(page: &mut Page, flags: FileFlags) -> Result<(), NoMemory> {
-    line(
-        page,
-        if flags.trunc {
-            "  contents: emptied first (trunc), then written behind them"
-        } else {
-            "  contents: kept; written behind them (no trunc)"
-        },
-    )
-}
-
-fn say_narrowing(page: &mut Page, flags: FileFlags) -> Result<(), NoMemory> {
-    line(
-        page,
-        match (flags.rdonly, flags.wronly) {
-            (false, false) => "  access: as the use asks (no rdonly, no wronly)",
-            (true, _) => "  access: only read (rdonly)",
-            (false, true) => "  access: only written (wronly)",
-        },
-    )
-}
-
-fn say_file(page: &mut Page, flags: FileFlags) -> Result<(), NoMemory> {
+fn say_file(page: &mut Page, flags: FileFlags, part: Part) -> Result<(), NoMemory> {
+    say_access(page, flags, part)?;
+    if !writes(part) {
+        if flags.creat || flags.excl || flags.trunc {
+            return say_failing(page);
+        }
+        return say_making(page, flags);
+    }
     say_making(page, flags)?;
-    say_place_of_writes(page, flags)?;
-    say_narrowing(page, flags)
+    say_contents(page, flags)
 }
 
-/// `GOPEN` makes a file by itself where it writes.
-fn say_generic_file(page: &mut Page, flags: FileFlags) -> Result<(), NoMemory> {
+/// `GOPEN` makes a file by itself, and appends to it.
+fn say_generic_file(page: &mut Page, flags: FileFlags, part: Part) -> Result<(), NoMemory> {
+    say_access(page, flags, part)?;
+    if !writes(part) && (flags.excl || flags.trunc) {
+        return say_failing(page);
+    }
     line(
         page,
         if flags.excl {
             "  making: made, and an error where it is there (excl)"
         } else {
-            "  making: made where it isn't there (no excl)"
+            "  making: made where it isn't there, with creat or without (no excl)"
         },
     )?;
-    say_place_of_generic_writes(page, flags)?;
-    say_narrowing(page, flags)
+    if writes(part) {
+        line(
+            page,
+            if flags.trunc {
+                "  contents: emptied first (trunc), and written behind, with append or without"
+            } else {
+                "  contents: kept, and written behind, with append or without (no trunc)"
+            },
+        )?;
+    }
+    Ok(())
 }
 
-fn say_files(page: &mut Page, single: &Single) -> Result<(), NoMemory> {
+fn say_files(page: &mut Page, single: &Single, part: Part) -> Result<(), NoMemory> {
     match &single.target {
-        Target::FileAt(_) => say_file(page, single.options.file),
-        Target::GenericOpen(_) => say_generic_file(page, single.options.file),
+        Target::FileAt(_) => say_file(page, single.options.file, part),
+        Target::GenericOpen(_) => say_generic_file(page, single.options.file, part),
         _ => Ok(()),
     }
 }
@@ -243,8 +270,12 @@ fn is_filtered(target: &Target) -> bool {
     )
 }
 
+fn has_filter(options: &Options) -> bool {
+    options.range.is_some() || options.sourceport.is_some() || options.lowport
+}
+
 fn say_admitted(page: &mut Page, options: &Options) -> Result<(), NoMemory> {
-    if options.range.is_none() && options.sourceport.is_none() && !options.lowport {
+    if !has_filter(options) {
         return line(
             page,
             "  let in: every peer (no range, no sourceport, no lowport)",
@@ -273,9 +304,10 @@ fn say_door(page: &mut Page, single: &Single) -> Result<(), NoMemory> {
     if !single.target.listens() {
         return Ok(());
     }
-    say_sessions(page, &single.options)?;
-    if is_filtered(&single.target) {
-        say_admitted(page, &single.options)?;
+    let options = &single.options;
+    say_sessions(page, options)?;
+    if is_filtered(&single.target) || has_filter(options) {
+        say_admitted(page, options)?;
     }
     Ok(())
 }
@@ -301,9 +333,9 @@ fn say_servers(page: &mut Page, single: &Single) -> Result<(), NoMemory> {
     }
 }
 
-/// The lines on how an address is opened and kept.
-pub(crate) fn say_opening(page: &mut Page, single: &Single) -> Result<(), NoMemory> {
-    say_files(page, single)?;
+/// The lines on how an address is opened, in this part, and kept.
+pub(crate) fn say_opening(page: &mut Page, single: &Single, part: Part) -> Result<(), NoMemory> {
+    say_files(page, single, part)?;
     say_entry(page, single)?;
     say_reuse(page, &single.target)?;
     say_local(page, single)?;

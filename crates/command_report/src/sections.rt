@@ -9,13 +9,14 @@ use crate::naming::say_kind;
 use crate::opening::say_opening;
 use crate::pages::{Page, line};
 use crate::passing::{say_reading, say_writing};
-use command_places::{formed, how, output, way_from, way_to};
-use relay_model::{Address, Config, NoMemory, Shut, Side, Single};
+use command_places::{formed, how, output, parts, way_from, way_to};
+use relay_model::{Address, Config, NoMemory, Part, Shut, Side, Single};
 use std::alloc::Global;
 
-/// What an address or a half of one is used for.
+/// How an address or a half of one is opened, and what it is used for.
 #[derive(Clone, Copy)]
 struct Use {
+    part: Part,
     read: bool,
     written: bool,
 }
@@ -71,7 +72,7 @@ fn options_told(alloc: Global, single: &Single, used: Use) -> Result<Page, NoMem
     let mut page = Page::new(alloc);
     say_use(&mut page, used)?;
     if used.read || used.written {
-        say_opening(&mut page, single)?;
+        say_opening(&mut page, single, used.part)?;
     }
     if used.read {
         say_reading(&mut page, single)?;
@@ -119,7 +120,12 @@ fn single_told(
 ) -> Result<Page, NoMemory>
     ensures { IfOk result (IsTold (title_of side ++ said ": ") single.now.target (ending_line config.now side)) }
 {
+    let part = match parts(config, side) {
+        [part, ..] => *part,
+        [] => Part::Both,
+    };
     let used = Use {
+        part,
         read: formed(config, way_from(side)),
         written: formed(config, way_to(side)),
     };
@@ -139,10 +145,12 @@ fn dual_told(
     ensures { IfOk result (AreTold (title_of side) reading.now.target writing.now.target (ending_line config.now side)) }
 {
     let read = Use {
+        part: Part::Reading,
         read: formed(config, way_from(side)),
         written: false,
     };
     let written = Use {
+        part: Part::Writing,
         read: false,
         written: formed(config, way_to(side)),
     };
