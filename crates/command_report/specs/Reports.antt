@@ -1,5 +1,5 @@
 -- What a report on a command tells, in order: what holds for the whole relay, the first address, the second.
-use Rattle.std.specs.Prelude.{◌≡◌, ℕ, ◌*◌, List, [], ◌∷◌, ◌++◌, Option, Some, None, decimal, if◌then◌else◌}
+use Rattle.std.specs.Prelude.{◌≡◌, ℕ, ◌*◌, Bool, true, false, List, [], ◌∷◌, ◌++◌, Option, Some, None, decimal, if◌then◌else◌}
 use Rattle.relay_model.specs.declared.places.Side.{Side}
 use Rattle.relay_model.specs.declared.places.Side.TheVariants.{Left, Right}
 use Rattle.relay_model.specs.declared.acts.Shut.{Shut}
@@ -8,7 +8,7 @@ use Rattle.relay_model.specs.declared.commands.Config.{Config}
 use Rattle.relay_model.specs.declared.commands.Target.{Target}
 use Rattle.relay_model.specs.declared.commands.Address.{Address}
 use Rattle.relay_model.specs.declared.commands.Address.TheVariants as addresses
-use Rattle.relay_model.specs.Configs.{address, formed, output, how, way_to}
+use Rattle.relay_model.specs.Configs.{address, formed, output, how, way_from, way_to}
 use Rattle.relay_model.specs.Dumps.{newline}
 use Rattle.cmd_words.specs.declared.commands.Command.{Command}
 use Rattle.cmd_words.specs.declared.commands.Command.TheVariants as commands
@@ -42,34 +42,49 @@ ending c side = if formed c (way_to side) then Some (how c (output c 0 (way_to s
 abbrev pub ending_line : Config → Side → List ℕ
 ending_line c side = said "  the other's end: " ++ (ending_words (ending c side) ++ newline)
 
--- one address or half: its title, its kind with each parameter, lines on its options, and this last line
-pub record IsTold (title : List ℕ) (target : Target) (last : List ℕ) (text : List ℕ) : Type 0 where
+-- whether bytes are read there, and whether they are written, in words
+abbrev pub use_words : Bool → Bool → List ℕ
+use_words true true = said "read and written"
+use_words true false = said "read alone"
+use_words false true = said "written alone"
+use_words false false = said "none; no bytes pass here"
+
+-- the line on that
+abbrev pub use_line : Bool → Bool → List ℕ
+use_line read written = said "  use: " ++ (use_words read written ++ newline)
+
+-- one address or half: its title, its kind with each parameter, its use, lines on its options, and this last line
+pub record IsTold (title : List ℕ) (target : Target) (used : List ℕ) (last : List ℕ) (text : List ℕ) : Type 0 where
   pub kind : List ℕ
   pub options : List ℕ
-  pub told : text ≡ title ++ kind ++ newline ++ options ++ last
+  pub told : text ≡ title ++ kind ++ newline ++ used ++ options ++ last
   pub named : Names (parameters target) kind
 
 -- the two halves of a dual address, the reading one first
-pub record AreTold (title : List ℕ) (reading writing : Target) (last : List ℕ) (text : List ℕ) : Type 0 where
+pub record AreTold (title : List ℕ) (reading writing : Target) (read written : Bool) (last : List ℕ) (text : List ℕ) : Type 0 where
   pub first : List ℕ
   pub second : List ℕ
   pub told : text ≡ first ++ second
-  pub read : IsTold (title ++ said ", to read from: ") reading [] first
-  pub written : IsTold (title ++ said ", to write to: ") writing last second
+  pub reading_told : IsTold (title ++ said ", to read from: ") reading (use_line read false) [] first
+  pub writing_told : IsTold (title ++ said ", to write to: ") writing (use_line false written) last second
 
 -- how the lines on a side begin
 abbrev pub title_of : Side → List ℕ
 title_of Left = said "first address"
 title_of Right = said "second address"
 
--- the lines on an address
-abbrev pub AddressTold : List ℕ → Address → List ℕ → List ℕ → Type 0
-AddressTold title (addresses.One single) last text = IsTold (title ++ said ": ") single.target last text
-AddressTold title (addresses.Two reading writing) last text = AreTold title reading.target writing.target last text
+-- the lines on an address that is read, or isn't, and written, or isn't
+abbrev pub AddressTold : List ℕ → Address → Bool → Bool → List ℕ → List ℕ → Type 0
+AddressTold title (addresses.One single) read written last text =
+    IsTold (title ++ said ": ") single.target (use_line read written) last text
+AddressTold title (addresses.Two reading writing) read written last text =
+    AreTold title reading.target writing.target read written last text
 
--- the lines on the address of a side, which end in how the end of the other is passed on there
+-- the lines on the address of a side: it is read and written where a direction is formed, and at the end stands how the
+-- end of the other is passed on there
 abbrev pub SideTold : Config → Side → List ℕ → Type 0
-SideTold c side text = AddressTold (title_of side) (address c side) (ending_line c side) text
+SideTold c side text =
+    AddressTold (title_of side) (address c side) (formed c (way_from side)) (formed c (way_to side)) (ending_line c side) text
 
 -- a relay: what holds for the whole, and each address, with an empty line between
 pub record RelayTold (c : Config) (text : List ℕ) : Type 0 where

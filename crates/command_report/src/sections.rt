@@ -1,13 +1,13 @@
 // The lines on the addresses of a relay.
 ghost use Rattle.std.specs.Prelude.{◌≡◌, ◌++◌, [], IfOk, OnOk};
-ghost use Rattle.relay_model.specs.Configs.{address};
+ghost use Rattle.relay_model.specs.Configs.{address, formed, way_from, way_to};
 ghost use Rattle.relay_model.specs.Dumps.{newline};
-ghost use Rattle.command_report.specs.Reports.{ending_words, ending, ending_line, title_of, IsTold, AreTold, AddressTold, SideTold};
+ghost use Rattle.command_report.specs.Reports.{ending_words, ending, ending_line, title_of, use_words, use_line, IsTold, AreTold, AddressTold, SideTold};
 ghost use Rattle.command_report.specs.Shown.{shown, said};
 
 use crate::naming::say_kind;
 use crate::opening::say_opening;
-use crate::pages::{Page, line};
+use crate::pages::Page;
 use crate::passing::{say_reading, say_writing};
 use command_places::{formed, how, output, parts, way_from, way_to};
 use relay_model::{Address, Config, NoMemory, Part, Shut, Side, Single};
@@ -55,22 +55,30 @@ fn say_ending(page: &mut Page, config: &Config, side: Side) -> Result<(), NoMemo
     Ok(())
 }
 
-fn say_use(page: &mut Page, used: Use) -> Result<(), NoMemory> {
-    line(
-        page,
-        match (used.read, used.written) {
-            (true, true) => "  use: read and written",
-            (true, false) => "  use: read alone",
-            (false, true) => "  use: written alone",
-            (false, false) => "  use: none; no bytes pass here",
-        },
-    )
+/// Whether bytes are read there, and whether they are written, in words.
+fn use_words(read: bool, written: bool) -> &'static str
+    ensures { shown result.now ≡ use_words read written }
+{
+    match (read, written) {
+        (true, true) => "read and written",
+        (true, false) => "read alone",
+        (false, true) => "written alone",
+        (false, false) => "none; no bytes pass here",
+    }
+}
+
+fn say_use(page: &mut Page, used: Use) -> Result<(), NoMemory>
+    ensures { OnOk result (page.new ≡ page.old ++ use_line used.read used.written) }
+{
+    page.say("  use: ")?;
+    page.say(use_words(used.read, used.written))?;
+    page.end_line()?;
+    Ok(())
 }
 
 /// The lines on the options of an address or a half: those that mean something for its kind and its use.
 fn options_told(alloc: Global, single: &Single, used: Use) -> Result<Page, NoMemory> {
     let mut page = Page::new(alloc);
-    say_use(&mut page, used)?;
     if used.read || used.written {
         say_opening(&mut page, single, used.part)?;
     }
@@ -91,13 +99,14 @@ fn told(
     single: &Single,
     used: Use,
 ) -> Result<Page, NoMemory>
-    ensures { IfOk result (IsTold (title_of side ++ shown title.now) single.now.target []) }
+    ensures { IfOk result (IsTold (title_of side ++ shown title.now) single.now.target (use_line used.read used.written) []) }
 {
     let mut page = Page::new(alloc);
     page.say(title_of(side))?;
     page.say(title)?;
     say_kind(&mut page, &single.target)?;
     page.end_line()?;
+    say_use(&mut page, used)?;
     page.append(&options_told(alloc, single, used)?)?;
     Ok(page)
 }
@@ -118,7 +127,7 @@ fn single_told(
     side: Side,
     single: &Single,
 ) -> Result<Page, NoMemory>
-    ensures { IfOk result (IsTold (title_of side ++ said ": ") single.now.target (ending_line config.now side)) }
+    ensures { IfOk result (IsTold (title_of side ++ said ": ") single.now.target (use_line (formed config.now (way_from side)) (formed config.now (way_to side))) (ending_line config.now side)) }
 {
     let part = match parts(config, side) {
         [part, ..] => *part,
@@ -142,7 +151,7 @@ fn dual_told(
     reading: &Single,
     writing: &Single,
 ) -> Result<Page, NoMemory>
-    ensures { IfOk result (AreTold (title_of side) reading.now.target writing.now.target (ending_line config.now side)) }
+    ensures { IfOk result (AreTold (title_of side) reading.now.target writing.now.target (formed config.now (way_from side)) (formed config.now (way_to side)) (ending_line config.now side)) }
 {
     let read = Use {
         part: Part::Reading,
