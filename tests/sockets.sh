@@ -3,7 +3,7 @@
 # where it is installed, against another socat; each as client and as server. One line a case, and 'N passed, M failed'
 # at the end; the status is 1 where a case failed.
 # Usage: tests/sockets.sh [PROGRAM [PART..]]      (bin/socat where none is given, and all parts)
-# MANY is the number of short relays in a row (200).
+# MANY is the number of short relays in a row (200). On a slow machine PATIENCE is how many times longer all may take.
 set -u
 
 . "$(dirname "${BASH_SOURCE[0]}")/common.sh"

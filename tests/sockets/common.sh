@@ -75,7 +75,7 @@ as_crowd=("$python" -ES -X "pycache_prefix=$scratch/compiled" "$here/tests/socke
 # crowd TEXT WORD..: a crowd as tests/sockets/crowd.py has it says just this line.
 crowd() {
     local said
-    said="$(timeout 120 "${as_crowd[@]}" "${@:2}" 2>crowd.err 8<&-)" || wrong "the crowd failed: $(tail -1 crowd.err)"
+    said="$(timeout $((120 * patience)) "${as_crowd[@]}" "${@:2}" 2>crowd.err 8<&-)" || wrong "the crowd failed: $(tail -1 crowd.err)"
     [ "$said" = "$1" ] || wrong "the crowd said ${said:0:200}"
 }
 

@@ -16,9 +16,8 @@ import struct
 import sys
 
 from stand import new_socket, port_now, waited_for
-from talk import kept
+from talk import LIMIT, kept
 
-LIMIT = 60
 HOSTS = {"tcp4": "127.0.0.1", "tcp6": "::1", "udp4": "127.0.0.1"}
 
 

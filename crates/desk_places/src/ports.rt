@@ -9,7 +9,7 @@ ghost use Rattle.relay_model.specs.declared.places.Place.{Place};
 ghost use Rattle.world_trait.specs.Answers.{accept_act, close_act, listen_act, open_act, shut_act};
 ghost use Rattle.relay_model.specs.declared.places.Half.TheVariants.{ToRead, ToWrite};
 ghost use Rattle.port_trait.specs.Counting.{Rose};
-ghost use Rattle.desk_places.specs.Causes.{AcceptCause, BeginCause, ListenCause, OpenCause, StandardCause, WelcomeCause};
+ghost use Rattle.desk_places.specs.Causes.{AcceptCause, AskedFor, BeginCause, ListenCause, OpenCause, StandardCause, WelcomeCause};
 ghost use Rattle.desk_ports.specs.Ports.{JoinsSo, MovesNothing, Reads, Sends, Settles, Shuts, Writes, seen};
 ghost use Rattle.desk_ports.specs.Harbors.{AtErrors, AtInput, AtMade, AtOutput, MadeCall, giving_pier, taking_pier};
 ghost use Rattle.desk_ports.specs.Answers.{GotFits, SaidSo, TookFits, is_got_not_yet, is_took_not_yet, is_unsaid};
@@ -40,9 +40,9 @@ impl<M: Maker + Drop, I: Port, O: Port, E: Port> Ports<M, I, O, E> {
     /// The standard ports, and no made one; takes no memory.
     pub fn new(alloc: Global, standard: Standard<I, O, E>, maker: M) -> Ports<M, I, O, E>
         ensures made { result.harbor.made.slots ≡ [] }
-        ensures input { (result.harbor.input.port ≡ seen I.gave I.took I.hints I.hinting I.counts I.ended I.joins I.child standard.stdin) × (result.harbor.input.begun ≡ false) × (result.harbor.input.finished ≡ false) }
-        ensures output { (result.harbor.output.port ≡ seen O.gave O.took O.hints O.hinting O.counts O.ended O.joins O.child standard.stdout) × (result.harbor.output.begun ≡ false) × (result.harbor.output.finished ≡ false) }
-        ensures errors { (result.harbor.errors.port ≡ seen E.gave E.took E.hints E.hinting E.counts E.ended E.joins E.child standard.stderr) × (result.harbor.errors.begun ≡ false) × (result.harbor.errors.finished ≡ false) }
+        ensures input { (result.harbor.input.port ≡ seen I.gave I.took I.shuts I.hints I.hinting I.counts I.ended I.joins I.child standard.stdin) × (result.harbor.input.begun ≡ false) × (result.harbor.input.finished ≡ false) }
+        ensures output { (result.harbor.output.port ≡ seen O.gave O.took O.shuts O.hints O.hinting O.counts O.ended O.joins O.child standard.stdout) × (result.harbor.output.begun ≡ false) × (result.harbor.output.finished ≡ false) }
+        ensures errors { (result.harbor.errors.port ≡ seen E.gave E.took E.shuts E.hints E.hinting E.counts E.ended E.joins E.child standard.stderr) × (result.harbor.errors.begun ≡ false) × (result.harbor.errors.finished ≡ false) }
         ensures parents { result.parents.items ≡ [] }
         ensures maker { result.maker ≡ maker }
     {
@@ -132,6 +132,7 @@ impl<M: Maker + Drop, I: Port, O: Port, E: Port> Ports<M, I, O, E> {
             ⊎ (Rose self.old.harbor.output.port.counts.faults self.new.harbor.output.port.counts.faults
             ⊎ Rose self.old.harbor.errors.port.counts.faults self.new.harbor.errors.port.counts.faults)) result) }
         ensures made { IfNone (standard_of place single.now.target) (OpenCause (M.faults self.old.maker) (M.faults self.new.maker) (M.stalls self.old.maker) (M.stalls self.new.maker) result) }
+        ensures asked { IfNone (standard_of place single.now.target) (AskedFor place single.now behind (M.asked self.new.maker)) }
         ensures came { M.came self.new.maker ≡ M.came self.old.maker }
         ensures input { MovesNothing self.old.harbor.input.port self.new.harbor.input.port }
         ensures output { MovesNothing self.old.harbor.output.port self.new.harbor.output.port }
@@ -184,6 +185,7 @@ impl<M: Maker + Drop, I: Port, O: Port, E: Port> Ports<M, I, O, E> {
         requires stations_room { 0 < stations.old.spare }
         requires made_room { HasRoomFor self.old.harbor.made 1 }
         ensures cause { OpenCause (M.faults self.old.maker) (M.faults self.new.maker) (M.stalls self.old.maker) (M.stalls self.new.maker) result }
+        ensures asked { AskedFor place single.now behind (M.asked self.new.maker) }
         ensures came { M.came self.new.maker ≡ M.came self.old.maker }
         ensures streams { (self.new.harbor.input ≡ self.old.harbor.input) × (self.new.harbor.output ≡ self.old.harbor.output) × (self.new.harbor.errors ≡ self.old.harbor.errors) }
         ensures sound { IsSound stations.old.entries self.old.harbor.made → IsSound stations.new.entries self.new.harbor.made }
@@ -430,16 +432,16 @@ impl<M: Maker + Drop, I: Port, O: Port, E: Port> Ports<M, I, O, E> {
     pub fn shut(&mut self, stations: &mut Stations, place: Place, how: Shut) -> Shutting
         requires { hold_at stations.old.entries place ≡ Open }
         ensures input { IfSome (base_at stations.old.entries place) (λ base. AtInput (taking_pier base)
-            (Shuts self.old.harbor.input.port self.new.harbor.input.port result)
+            (Shuts self.old.harbor.input.port self.new.harbor.input.port how result)
             (self.new.harbor.input ≡ self.old.harbor.input)) }
         ensures output { IfSome (base_at stations.old.entries place) (λ base. AtOutput (taking_pier base)
-            (Shuts self.old.harbor.output.port self.new.harbor.output.port result)
+            (Shuts self.old.harbor.output.port self.new.harbor.output.port how result)
             (self.new.harbor.output ≡ self.old.harbor.output)) }
         ensures errors { IfSome (base_at stations.old.entries place) (λ base. AtErrors (taking_pier base)
-            (Shuts self.old.harbor.errors.port self.new.harbor.errors.port result)
+            (Shuts self.old.harbor.errors.port self.new.harbor.errors.port how result)
             (self.new.harbor.errors ≡ self.old.harbor.errors)) }
         ensures made { IfSome (base_at stations.old.entries place) (λ base. AtMade (taking_pier base)
-            (λ key. MadeCall self.old.harbor.made self.new.harbor.made key (λ old new. Shuts old new result))
+            (λ key. MadeCall self.old.harbor.made self.new.harbor.made key (λ old new. Shuts old new how result))
             (self.new.harbor.made ≡ self.old.harbor.made)) }
         ensures sound { IsSound stations.old.entries self.old.harbor.made → IsSound stations.new.entries self.new.harbor.made }
         ensures station { SetsStation place (option_map (shut_down (finishes how)) (station_at stations.old.entries place)) (station_at stations.old.entries) (station_at stations.new.entries) }
@@ -558,6 +560,8 @@ impl<M: Maker + Drop, I: Port, O: Port, E: Port> Ports<M, I, O, E> {
             self.old.harbor.errors.port.took
             self.new.harbor.errors.port.took
             text.now }
+        ensures unshut { self.new.harbor.errors.port.shuts
+            ≡ self.old.harbor.errors.port.shuts }
         ensures cause { is_unsaid result ≡ true → Rose
             self.old.harbor.errors.port.counts.faults
             self.new.harbor.errors.port.counts.faults }

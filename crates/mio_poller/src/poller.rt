@@ -74,6 +74,7 @@ pub struct MioPoller<R> {
     bell: Arc<Bell, Global>,
     start: Instant,
     at: u64,
+    asked: Option<u64>,
     ghost room: { events_capacity events ≡ 128 },
 }
 
@@ -83,7 +84,7 @@ impl<R> Model for MioPoller<R> {
 
     ghost Value = { PollerState };
 
-    ghost view = { λ poller. record { clock = poller.at; seen = items poller.events } };
+    ghost view = { λ poller. record { clock = poller.at; asked = poller.asked; seen = items poller.events } };
 }
 
 impl<R: Net + Clock + Drop> MioPoller<R> {
@@ -114,6 +115,7 @@ impl<R: Net + Clock + Drop> MioPoller<R> {
                 bell,
                 start,
                 at: 0,
+                asked: None,
             }),
             Err(_) => Making::Memory,
         }
@@ -150,14 +152,18 @@ impl<R: Net + Clock + Drop> Poller for MioPoller<R> {
 
     ghost clock = { λ poller. poller.clock };
 
+    ghost asked = { λ poller. poller.asked };
+
     /// Sleeps until the moment, a socket or a wake, and names the halves that the system found ready, at most 256.
     fn poll(&mut self, until: Option<u64>, ready: &mut KeyList) -> Polled
         requires { 256 ≤ ready.old.room }
         ensures answer { result ≡ record { at = self.new.clock; stop = false } }
+        ensures asked { self.new.asked ≡ until }
         ensures clock { self.old.clock ≤ self.new.clock }
         ensures ready { ready.new ≡ record ready.old { entries = named self.new.seen } }
     {
         ready.clear();
+        self.asked = until;
         let left = time_left(self.moment(), until);
         // one that is refused has no events
         let _ = self.poll.poll(&mut self.events, left);
