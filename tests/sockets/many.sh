@@ -42,6 +42,20 @@ finish
 
 # --- one that waits
 
+# ticks_of PID: its processor time, and the times its threads gave the processor up.
+ticks_of() {
+    local fields rest switches=0 name value task
+    rest="$(<"/proc/$1/stat")"
+    # shellcheck disable=SC2206
+    fields=(${rest##*) })
+    for task in "/proc/$1/task"/*/status; do
+        while read -r name value _; do
+            [ "$name" != voluntary_ctxt_switches: ] || switches=$((switches + value))
+        done <"$task"
+    done
+    echo "$((fields[11] + fields[12])) $switches"
+}
+
 count_of() { find "$1" -mindepth 1 2>/dev/null | wc -l; }
 
 # look TAG: what it costs and holds so far.
@@ -54,7 +68,7 @@ look() {
 
 begin "relays that wait cost no processor time, and hold the same descriptors"
 given_nothing
-waiting=(listening connected served local datagrams retrying timed)
+waiting=(listening connected served local datagrams senders retrying timed)
 start listening TCP4-LISTEN:0 STDIO
 peer listen tcp4 sleep=30
 start connected -t10 STDIO "TCP4:127.0.0.1:$port"
@@ -65,6 +79,10 @@ start local UNIX-LISTEN:waited STDIO
 peer connect unix waited send=x sleep=30
 start datagrams UDP4-LISTEN:0 STDIO
 peer connect udp4 "/@${pids[datagrams]}" send=x sleep=30
+start senders UDP4-LISTEN:0,fork PIPE
+for number in 1 2 3; do
+    peer connect udp4 "/@${pids[senders]}" send=x read=1 sleep=30
+done
 start retrying STDIO TCP4:127.0.0.1:1,retry=1,interval=1000
 start timed -T100 TCP4-LISTEN:0,range=127.0.0.1/32 STDIO
 peer connect tcp4 "/@${pids[timed]}" sleep=30

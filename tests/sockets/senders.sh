@@ -63,7 +63,7 @@ listens relay udp4
 at="$port"
 peer connect udp4 "/$at" send=a, make=first wait=go send=
 until_there first
-peer connect udp4 "/$at" burst=100 sleep=0.3 make=go sleep=0.5 send=
+peer connect udp4 "/$at" burst=100 "sleep=$patience" make=go "sleep=$patience" send=
 told 1 ''
 told 2 ''
 ended relay 0 "a,$(printf '%d,' {0..63})" ''
@@ -77,7 +77,7 @@ listens relay udp4
 at="$port"
 peer connect udp4 "/$at" send=a make=first wait=go send=
 until_there first
-peer connect udp4 "/$at" sizes=30000,30000,6000,5000 sleep=0.3 make=go sleep=0.5 send=
+peer connect udp4 "/$at" sizes=30000,30000,6000,5000 "sleep=$patience" make=go "sleep=$patience" send=
 told 1 ''
 told 2 ''
 await relay
@@ -93,7 +93,7 @@ given_nothing
 UNAUDITED=yes start relay -u UDP4-LISTEN:0,fork,stop-after=3,null-eof STDOUT
 listens relay udp4
 at="$port"
-peer connect udp4 "/$at" send=a make=first wait=second send= sleep=0.2 send=c sleep=0.2 send= make=third
+peer connect udp4 "/$at" send=a make=first wait=second send= "sleep=$patience" send=c "sleep=$patience" send= make=third
 until_there first
 peer connect udp4 "/$at" send=b make=second wait=third send=d send=
 told 1 ''
@@ -151,20 +151,3 @@ if [ -n "$ipv6" ]; then
     told 2 '<two>'
     finish
 fi
-
-begin "20 peers that wait cost no processor time"
-given_nothing
-UNAUDITED=yes start relay -t10 UDP4-LISTEN:0,fork PIPE
-listens relay udp4
-at="$port"
-for ((number = 1; number <= 20; number++)); do
-    peer connect udp4 "/$at" send=x read=1 sleep=30
-done
-nap 1
-read -r ticks switches < <(ticks_of "${pids[relay]}")
-nap 2
-read -r ticks_then switches_then < <(ticks_of "${pids[relay]}")
-[ "$ticks_then" -eq "$ticks" ] || wrong "$((ticks_then - ticks)) ticks in 2 s"
-[ "$((switches_then - switches))" -le 2 ] || wrong "it woke $((switches_then - switches)) times in 2 s"
-lives relay
-finish
