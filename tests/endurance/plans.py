@@ -26,7 +26,7 @@ class Side:
 
 class Plan:
     """`calm` says that nothing fails and nobody leaves early, so that all bytes come through; `noisy` that a child may
-    write to standard error."""
+    write to standard error; `silent` that standard error is closed."""
 
     def __init__(self):
         self.flags = []
@@ -37,6 +37,7 @@ class Plan:
         self.signals = []
         self.crowd = None
         self.noisy = False
+        self.silent = False
 
     def words(self):
         flags = [part for flag in self.flags for part in flag.split(" ")]
@@ -86,7 +87,8 @@ def some_appetite(dice, hostile=False):
     if hostile and dice.randrange(2):
         return Appetite(most=dice.choice((0, 1, 10, 1000)))
     if dice.randrange(5) == 0:
-        return Appetite(size=dice.choice((100, 1000, 5000)), pause=dice.choice((0.001, 0.01)))
+        # Slow, but within the closing time.
+        return Appetite(size=max(dice.choice((100, 1000, 5000)), dice.most // 100), pause=dice.choice((0.001, 0.01)))
     return Appetite()
 
 
@@ -447,6 +449,8 @@ def some_plan(dice, room):
     if not plan.calm:
         # An end may never come: the run is over where nothing passes.
         plan.flags = ["-T1"] + [flag for flag in plan.flags if flag != "-T10"]
+    # Where there is no standard error a dump fails, and the run goes on.
+    plan.silent = dice.randrange(16) == 0
     signals(dice, plan)
     return plan
 
