@@ -10,7 +10,7 @@ GIVEN_UP = ("openfail", "listenfail", "acceptfail")
 LATE = b"socat: write failed on standard output\n"
 LONGEST_FOR_CHANGES = 200000
 # So much memory a run may take, in KiB: its bytes are at most 300,000 each way, and a journal keeps them some times.
-MOST_MEMORY = 64 << 10
+MOST_MEMORY = 128 << 10
 
 
 def due(data, inward, outward):
@@ -186,7 +186,7 @@ class Checks:
         if "2" in self.run.closed:
             return
         text = self.run.errors
-        if self.plan.noisy or self.plan.crowd:
+        if self.plan.noisy or self.plan.crowd and not journal.notes:
             return
         if not text.startswith(journal.notes):
             self.say(f"standard error has {short(text)}, and the notes are {short(journal.notes)}")

@@ -159,7 +159,7 @@ class Endurance:
             dice = random.Random(f"{self.options.seed}:{number}")
             room = Room(tempfile.mkdtemp(dir=self.folder), self.ports, dice)
             try:
-                return dice, room, some_plan(dice, room)
+                return dice, room, some_plan(dice, room, self.options.crowds)
             except OSError as error:
                 room.leave()
                 if last or error.errno != errno.EADDRINUSE:
@@ -252,6 +252,7 @@ def main():
     asked.add_argument("--first", type=int, default=0)
     asked.add_argument("--only", type=int, default=None)
     asked.add_argument("--jobs", type=int, default=3)
+    asked.add_argument("--crowds", action="store_true")
     asked.add_argument("--show", action="store_true")
     asked.add_argument("--keep", action="store_true")
     options = asked.parse_args()
