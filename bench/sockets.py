@@ -160,9 +160,20 @@ def flow(program, kind, ways, before=(), count=None):
 
 
 def proxied(program):
-    """The rates to the right through each proxy, and their ratios to that of plain TCP in the same round."""
-    plain, socks, proxy = (flow(program, kind, "right")[0] for kind in ("tcp", "socks", "proxy"))
-    return socks, proxy, socks / plain, proxy / plain
+    """The rates to the right through each proxy, and their ratios to that of plain TCP in the same round; then those of
+    the processor time."""
+    plain, socks, proxy = (flow(program, kind, "right") for kind in ("tcp", "socks", "proxy"))
+    return socks[0], proxy[0], socks[0] / plain[0], proxy[0] / plain[0], socks[1] / plain[1], proxy[1] / plain[1]
+
+
+PROXIED = [
+    "SOCKS4A to the right, MB/s",
+    "PROXY to the right, MB/s",
+    "SOCKS4A of plain TCP",
+    "PROXY of plain TCP",
+    "SOCKS4A of plain TCP, processor",
+    "PROXY of plain TCP, processor",
+]
 
 
 def echo(sock):
@@ -259,10 +270,7 @@ MEASURES = [
     flows("TCP both ways", "tcp", "both"),
     flows("Unix to the right", "unix", "right"),
     flows("Unix both ways", "unix", "both"),
-    (
-        ["SOCKS4A to the right, MB/s", "PROXY to the right, MB/s", "SOCKS4A of plain TCP", "PROXY of plain TCP"],
-        proxied,
-    ),
+    (PROXIED, proxied),
     (["TCP 64 bytes there and back, us"], lambda program: trips(program, "tcp")),
     (["Unix 64 bytes there and back, us"], lambda program: trips(program, "unix")),
     ([f"UDP lost of {DATAGRAMS} at {PACE}/s"], lambda program: lost(program, "udp")),

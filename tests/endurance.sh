@@ -7,7 +7,8 @@
 # Usage: tests/endurance.sh [PROGRAM [AUDITOR [OPTION..]]]     (bin/socat and bin/socat-audit where none is given)
 #   --seconds S  how long it goes on (600)         --seed N   the same commands again, but for ports that aren't free
 #   --only I     run number I of the seed alone    --first I  begin with this run
-#   --jobs J     so many runs at once (3)          --show     name each run          --keep  leave the folders
+#   --jobs J     so many runs at once (3)          --crowds   commands with `fork` alone
+#   --show       name each run                     --keep     leave the folders
 # The seed is printed first, and with each run that fails. 'N passed, M failed' at the end; the status is 1 where a run
 # failed.
 set -u

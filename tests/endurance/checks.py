@@ -9,6 +9,8 @@ FAULTS = ("readfault", "writefault", "shutfault")
 GIVEN_UP = ("openfail", "listenfail", "acceptfail")
 LATE = b"socat: write failed on standard output\n"
 LONGEST_FOR_CHANGES = 200000
+# So much memory a run may take, in KiB: its bytes are at most 300,000 each way, and a journal keeps them some times.
+MOST_MEMORY = 128 << 10
 
 
 def due(data, inward, outward):
@@ -173,9 +175,10 @@ class Checks:
         failed = bool(journal.faults) or any(act in GIVEN_UP for act in journal.openings.values())
         wanted = (0, 1) if self.plan.crowd and failed else (int(failed),)
         # What is written to standard output is written by a thread, which may fail once the relay is over.
-        late = not failed and status == 1 and not self.plan.calm and self.run.errors.endswith(LATE)
-        if late and any(it.kind == "STDIO" and it.writes and not it.calm for it in self.plan.partners()):
-            return
+        told = self.run.errors.endswith(LATE) or "2" in self.run.closed
+        if told and status == 1 and not failed and not self.plan.calm:
+            if any(it.kind == "STDIO" and it.writes and not it.calm for it in self.plan.partners()):
+                return
         if status not in wanted:
             self.say(f"status {status}, where the journal tells of {wanted[0]}")
         if self.plan.calm and status:
@@ -183,7 +186,7 @@ class Checks:
         if "2" in self.run.closed:
             return
         text = self.run.errors
-        if self.plan.noisy or self.plan.crowd:
+        if self.plan.noisy or self.plan.crowd and not journal.notes:
             return
         if not text.startswith(journal.notes):
             self.say(f"standard error has {short(text)}, and the notes are {short(journal.notes)}")
@@ -280,6 +283,8 @@ class Checks:
     # --- what is left
 
     def leftovers(self):
+        if self.run.most_memory > MOST_MEMORY:
+            self.say(f"it took {self.run.most_memory} KiB of memory")
         stays = {"journal", "errors", "nothing"}
         for it in self.plan.partners():
             stays.update(it.stays)

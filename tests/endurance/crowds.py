@@ -19,10 +19,10 @@ class Words:
 
 
 class Visitor:
-    """A client that sends one datagram, and takes one."""
+    """A client that sends one datagram, perhaps an empty one behind it, and takes one."""
 
-    def __init__(self, room, place, data):
-        self.room, self.place, self.sent, self.got = room, place, data, b""
+    def __init__(self, room, place, data, ends):
+        self.room, self.place, self.sent, self.got, self.ends = room, place, data, b"", ends
         self.wrong, self.saw_end, self.ending = [], False, "end"
 
     def begin(self):
@@ -39,6 +39,8 @@ class Visitor:
             sock.connect(self.place)
             try:
                 sock.send(self.sent)
+                if self.ends:
+                    sock.send(b"")
             except OSError:
                 return
             while not self.saw_end:
@@ -65,8 +67,8 @@ class Crowd:
         self.threads = []
 
     def client(self, data, ending):
-        if self.family == "u":
-            self.clients.append(Visitor(self.room, self.place, data))
+        if self.family in "uv":
+            self.clients.append(Visitor(self.room, self.place, data, self.family == "v"))
             return
         one = Caller(self.room, True, True, Gift([(data, 0)], ending), Appetite(), "client", self.family, self.place)
         one.ending = ending

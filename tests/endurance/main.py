@@ -37,6 +37,7 @@ class Run:
     def streams(self):
         """The standard streams: a partner's, a closed one, or one that has and takes nothing."""
         given = taken = None
+        self.closed = "2" if self.plan.silent else ""
         for it in self.plan.partners():
             if not isinstance(it, Standard):
                 continue
@@ -50,7 +51,7 @@ class Run:
         given, taken = self.streams()
         self.nothing = self.room.path("nothing")
         words = [self.program, "--journal=journal", *self.plan.words()]
-        closing = "".join(" <&-" if stream == "0" else " >&-" for stream in self.closed)
+        closing = "".join(" <&-" if stream == "0" else f" {stream}>&-" for stream in self.closed)
         if closing:
             words = ["/bin/sh", "-c", 'exec "$0" "$@"' + closing, *words]
         environment = {"PATH": os.environ["PATH"], "ENDURANCE": self.mark, "TMPDIR": self.room.folder}
@@ -158,7 +159,7 @@ class Endurance:
             dice = random.Random(f"{self.options.seed}:{number}")
             room = Room(tempfile.mkdtemp(dir=self.folder), self.ports, dice)
             try:
-                return dice, room, some_plan(dice, room)
+                return dice, room, some_plan(dice, room, self.options.crowds)
             except OSError as error:
                 room.leave()
                 if last or error.errno != errno.EADDRINUSE:
@@ -208,7 +209,8 @@ class Endurance:
             if run:
                 kinds = [it.kind for it in plan.partners()]
                 if plan.crowd:
-                    kinds = [plan.left.inward.text.partition(":")[0] + ",fork", plan.right.inward.text.partition(":")[0]]
+                    left, right = (half.inward.text.partition(":")[0] for half in (plan.left, plan.right))
+                    kinds = [left + ",fork", right]
                 for kind in kinds:
                     kind = "GOPEN" if "/" in kind else kind.upper()
                     self.kinds[kind] = self.kinds.get(kind, 0) + 1
@@ -250,6 +252,7 @@ def main():
     asked.add_argument("--first", type=int, default=0)
     asked.add_argument("--only", type=int, default=None)
     asked.add_argument("--jobs", type=int, default=3)
+    asked.add_argument("--crowds", action="store_true")
     asked.add_argument("--show", action="store_true")
     asked.add_argument("--keep", action="store_true")
     options = asked.parse_args()

@@ -26,7 +26,7 @@ class Side:
 
 class Plan:
     """`calm` says that nothing fails and nobody leaves early, so that all bytes come through; `noisy` that a child may
-    write to standard error."""
+    write to standard error; `silent` that standard error is closed."""
 
     def __init__(self):
         self.flags = []
@@ -37,6 +37,7 @@ class Plan:
         self.signals = []
         self.crowd = None
         self.noisy = False
+        self.silent = False
 
     def words(self):
         flags = [part for flag in self.flags for part in flag.split(" ")]
@@ -86,7 +87,8 @@ def some_appetite(dice, hostile=False):
     if hostile and dice.randrange(2):
         return Appetite(most=dice.choice((0, 1, 10, 1000)))
     if dice.randrange(5) == 0:
-        return Appetite(size=dice.choice((100, 1000, 5000)), pause=dice.choice((0.001, 0.01)))
+        # Slow, but within the closing time.
+        return Appetite(size=max(dice.choice((100, 1000, 5000)), dice.most // 100), pause=dice.choice((0.001, 0.01)))
     return Appetite()
 
 
@@ -411,12 +413,13 @@ def some_flags(dice, plan, calm):
     return flags
 
 
-def some_plan(dice, room):
+def some_plan(dice, room, crowds=False):
+    """A command at random; with `crowds` one with `fork`."""
     plan = Plan()
     plan.block = dice.choice(BLOCKS) if dice.randrange(2) else None
     dice.most = 3000 if (plan.block or 8192) < 64 else dice.choice((40000, 40000, 300000))
     shape = dice.random()
-    if shape < 0.12:
+    if crowds or shape < 0.12:
         return crowd_plan(dice, room, plan)
     plan.ways = dice.choice(("both", "both", "both", "right", "left"))
     calm = shape < 0.55
@@ -447,6 +450,8 @@ def some_plan(dice, room):
     if not plan.calm:
         # An end may never come: the run is over where nothing passes.
         plan.flags = ["-T1"] + [flag for flag in plan.flags if flag != "-T10"]
+    # Where there is no standard error a dump fails, and the run goes on.
+    plan.silent = dice.randrange(16) == 0
     signals(dice, plan)
     return plan
 
@@ -473,6 +478,9 @@ def signals(dice, plan):
 
 # --- many clients
 
+# The families of clients that send datagrams; the others are 4 for TCP and x for Unix sockets.
+DATAGRAMS = {"u": "UDP4-RECVFROM", "v": "UDP4-LISTEN"}
+
 
 def crowd_plan(dice, room, plan):
     """A command with `fork`, and clients that come at once."""
@@ -481,29 +489,35 @@ def crowd_plan(dice, room, plan):
     options = ["fork", f"stop-after={count}"]
     if dice.randrange(2):
         options.append(f"max-children={dice.randrange(1, 5)}")
-    family = dice.choice("444xu")
+    family = dice.choice("444xuv")
     if family == "x":
         name = room.name("crowd")
         kind, place = f"UNIX-LISTEN:{name}", room.path(name)
     else:
-        port = room.port(family == "u")
-        kind = f"{'UDP4-RECVFROM' if family == 'u' else dice.choice(('TCP4-LISTEN', 'TCP-L'))}:{port}"
+        port = room.port(family in DATAGRAMS)
+        kind = f"{DATAGRAMS.get(family) or dice.choice(('TCP4-LISTEN', 'TCP-L'))}:{port}"
         place = ("127.0.0.1", port)
     behind, answer = dice.choice((("PIPE", same), ("EXEC:cat", same), ("EXEC:tr a-z A-Z", upper), ("SYSTEM:cat", same),
                                   ("server", same)))
-    endings = ("end",) if plan.calm or family == "u" else ("end", "end", "leave", "reset")
+    endings = ("end",) if plan.calm or family in DATAGRAMS else ("end", "end", "leave", "reset")
     plan.crowd = Crowd(room, family, place, answer)
     for number in range(count):
-        data = dice.randbytes(dice.randrange(2000)) if family == "u" else some_bytes(dice, min(8000, dice.most // 4))
+        packet = family in DATAGRAMS
+        data = dice.randbytes(dice.randrange(2000)) if packet else some_bytes(dice, min(8000, dice.most // 4))
         # Each begins with its number, by which a session is known.
         plan.crowd.client(b"%d" % number + data, dice.choice(endings))
     if behind == "server":
         behind = f"TCP4:127.0.0.1:{plan.crowd.serve(room.port())}"
-    plan.left = Side(Words(",".join([kind, *options])), None)
-    plan.right = Side(Words(behind), None)
-    plan.flags = ["-t1" if family == "u" else "-t10"] if plan.calm else ["-t0.3", "-T2"]
-    if plan.block and family != "u":
+    if family == "v":
+        # Who has sent its datagram sends an empty one, which ends its session.
+        options.append("null-eof")
+    plan.flags = ["-t1" if family in DATAGRAMS else "-t10"] if plan.calm else ["-t0.3", "-T2"]
+    if plan.block and family not in DATAGRAMS:
         plan.flags.append(f"-b{plan.block}")
     if dice.randrange(5) == 0:
         plan.flags.append("-s")
+    if dice.randrange(6) == 0:
+        plan.flags.append(dice.choice(("-v", "-x")))
+    plan.left = Side(Words(",".join([kind, *options])), None)
+    plan.right = Side(Words(behind), None)
     return plan
