@@ -1,5 +1,5 @@
 -- What contracts see of a poller, and what a poll names.
-use Rattle.std.specs.Prelude.{ℕ, ◌+◌, ◌-◌, ◌^◌, ◌==◌, Bool, ◌||◌, List, [], ◌∷◌, ◌++◌, if◌then◌else◌}
+use Rattle.std.specs.Prelude.{ℕ, ◌-◌, ◌^◌, ◌==◌, Bool, ◌||◌, List, [], ◌∷◌, ◌++◌, if◌then◌else◌}
 use Rattle.std.specs.List.{flat_map}
 use Rattle.mio.specs.declared.event.event.Event.{Event}
 use Rattle.mio.specs.Event.{event_token, is_readable, is_writable, is_error, is_read_closed, is_write_closed}
@@ -30,3 +30,8 @@ event_keys event = if (event_token event).0 == 2 ^ 64 - 1 then [] else half_key 
 -- the keys and halves that events name
 abbrev pub named : List Event → List (ℕ × Half)
 named events = flat_map event_keys events
+
+-- the key of the watch for a descriptor that is read, and of that for one that is written; no port has them
+abbrev pub watch_key : Half → ℕ
+watch_key halves.ToRead = 2 ^ 64 - 2
+watch_key halves.ToWrite = 2 ^ 64 - 3
