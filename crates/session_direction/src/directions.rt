@@ -44,6 +44,10 @@ const PRICE: u8 = 1;
 /// What a further read costs where the output was asked since the last one: its bytes may be written for nothing.
 const GRANTING_PRICE: u8 = 2;
 
+/// How many bytes are gathered at the most: enough that small pieces don't cost a write each, and no more, since the other
+/// side waits meanwhile.
+const GATHERED: usize = 8192;
+
 /// What a direction wants to be done. `Send` is a write of one packet, and `Read` has the most bytes to ask for.
 #[derive(Clone, Copy, Debug, PartialEq, Eq)]
 pub enum Want {
@@ -289,9 +293,11 @@ impl Direction {
         read
     }
 
-    /// Whether it gathers, was asked since the last turn, and less than a block waits: then it is read before it is written.
+    /// Whether it gathers, was asked since the last turn, and less than a block waits, and less than is gathered: then it
+    /// is read before it is written.
     fn reads_on(&self) -> bool {
-        self.gathers && self.asked_in && self.flow.waiting() < self.terms.block as usize
+        let enough = GATHERED.min(self.terms.block as usize);
+        self.gathers && self.asked_in && self.flow.waiting() < enough
     }
 
     /// Whether the input is armed, and more of it counts.

@@ -11,7 +11,7 @@ use mio_poller::MioPoller;
 use relay_model::Half;
 use socket_ports::SocketPort;
 use std::alloc::Global;
-use std::fs::{File, Files, OpenOptions};
+use std::fs::{Files, OpenOptions};
 use std::io::{ErrorKind, Read, Write};
 use std::net::Net;
 use std::os::fd::{AsRawFd, RawFd};
@@ -23,8 +23,11 @@ const INPUT: &str = "/proc/self/fd/0";
 
 const OUTPUT: &str = "/proc/self/fd/1";
 
-/// What the name of a pipe's descriptor leads to begins so, where the pipe has no name of its own (pipe(7)).
+/// What the name of a pipe's descriptor leads to begins so, where the pipe has no name of its own (proc_pid_fd(5)).
 const PIPE: &str = "pipe:[";
+
+/// Under this key nothing stays registered.
+const NOBODY: Token = Token(usize::MAX - 3);
 
 /// The port of standard input, without a thread: the descriptor itself where it is always ready, and a pipe without a
 /// name opened anew, since the first opening is shared with other processes, and so mustn't be kept from waiting. `None`
@@ -39,20 +42,21 @@ where
     ensures { IfSome result IsInput }
 {
     let mut stdin = system.stdin();
+    if is_pipe(&system, alloc, INPUT) {
+        // reading nothing tells whether this descriptor may be read: a new one may in any case
+        stdin.read(&mut []).ok()?;
+        let watch = poller.watch(Half::ToRead).ok()?;
+        let mut options = OpenOptions::new();
+        options.read(true);
+        let pipe = system.open_file(&options, INPUT).ok()?;
+        let halves = Halves::enrolled(poller.registry(), watch.key(), Some(pipe), None)?;
+        return Some(DirectPort::Pipe(PipePort::new(SocketPort::new(halves, ()), watch)));
+    }
     if is_always_ready(poller.registry(), stdin.as_raw_fd()) {
         let halves = Halves::always(Some(stdin), None);
         return Some(DirectPort::Shared(SocketPort::new(halves, ())));
     }
-    // reading nothing tells whether the descriptor may be read: the new one may in any case
-    if stdin.read(&mut []).is_err() {
-        return None;
-    }
-    let watch = poller.watch(Half::ToRead).ok()?;
-    let mut options = OpenOptions::new();
-    options.read(true);
-    let pipe = open_pipe(&system, alloc, &options, INPUT)?;
-    let halves = Halves::enrolled(poller.registry(), watch.key(), Some(pipe), None)?;
-    Some(DirectPort::Pipe(PipePort::new(SocketPort::new(halves, ()), watch)))
+    None
 }
 
 /// The port of standard output, likewise.
@@ -66,45 +70,41 @@ where
     ensures { IfSome result IsOutput }
 {
     let mut stdout = system.stdout();
+    if is_pipe(&system, alloc, OUTPUT) {
+        stdout.write(&[]).ok()?;
+        let watch = poller.watch(Half::ToWrite).ok()?;
+        let mut options = OpenOptions::new();
+        options.write(true);
+        let pipe = system.open_file(&options, OUTPUT).ok()?;
+        let halves = Halves::enrolled(poller.registry(), watch.key(), None, Some(pipe))?;
+        return Some(DirectPort::Pipe(PipePort::new(SocketPort::new(halves, ()), watch)));
+    }
     if is_always_ready(poller.registry(), stdout.as_raw_fd()) {
         let halves = Halves::always(None, Some(stdout));
         return Some(DirectPort::Shared(SocketPort::new(halves, ())));
     }
-    if stdout.write(&[]).is_err() {
-        return None;
-    }
-    let watch = poller.watch(Half::ToWrite).ok()?;
-    let mut options = OpenOptions::new();
-    options.write(true);
-    let pipe = open_pipe(&system, alloc, &options, OUTPUT)?;
-    let halves = Halves::enrolled(poller.registry(), watch.key(), None, Some(pipe))?;
-    Some(DirectPort::Pipe(PipePort::new(SocketPort::new(halves, ()), watch)))
+    None
 }
 
-/// Whether the registry takes no descriptor like this since calls on it answer at once: files and most devices
-/// (epoll_ctl(2), `EPERM`).
+/// Whether this is a pipe without a name. The opening of a named one would wait for its other end (fifo(7)).
+fn is_pipe(system: &HostRuntime, alloc: Global, name: &str) -> bool {
+    match system.read_link(alloc, name) {
+        Ok(target) => match target.to_str() {
+            Some(text) => text.starts_with(PIPE),
+            None => false,
+        },
+        Err(_) => false,
+    }
+}
+
+/// Whether calls on the descriptor answer at once, so that no registry takes it: files and most devices (epoll_ctl(2),
+/// `EPERM`).
 fn is_always_ready(registry: &Registry, fd: RawFd) -> bool {
-    let nobody = Token(usize::MAX - 3);
-    match registry.register(&mut SourceFd(&fd), nobody, Interest::READABLE) {
+    match registry.register(&mut SourceFd(&fd), NOBODY, Interest::READABLE) {
         Ok(()) => {
             let _ = registry.deregister(&mut SourceFd(&fd));
             false
         }
         Err(error) => error.kind() == ErrorKind::PermissionDenied,
     }
-}
-
-/// Opens the pipe of this name anew, which doesn't wait. A named pipe isn't opened, since that would wait for its other
-/// end (fifo(7)).
-fn open_pipe(
-    system: &HostRuntime,
-    alloc: Global,
-    options: &OpenOptions,
-    name: &str,
-) -> Option<File> {
-    let target = system.read_link(alloc, name).ok()?;
-    if !target.to_str()?.starts_with(PIPE) {
-        return None;
-    }
-    system.open_file(options, name).ok()
 }
