@@ -98,6 +98,7 @@ uninstall:
 
 bench: bin/socat
 	bench/throughput.sh bin/socat
+	bench/streams.sh bin/socat
 	bench/sockets.sh bin/socat
 	bench/programs.sh bin/socat
 	PYTHONDONTWRITEBYTECODE=1 bench/sessions.py bin/socat $$(command -v socat)

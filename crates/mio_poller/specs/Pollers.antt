@@ -31,3 +31,8 @@ event_keys event = if (event_token event).0 == 2 ^ 64 - 1 then [] else half_key 
 -- the keys and halves that events name
 abbrev pub named : List Event → List (ℕ × Half)
 named events = flat_map event_keys events
+
+-- the key of the watch for a descriptor that is read, and of that for one that is written; no port has them
+abbrev pub watch_key : Half → ℕ
+watch_key halves.ToRead = 2 ^ 64 - 2
+watch_key halves.ToWrite = 2 ^ 64 - 3
