@@ -1,10 +1,10 @@
 -- A turn that sessions hear, and those that it puts into the list of work.
-use Rattle.std.proofs.Common.{◌≡◌, ◌≢◌, refl, sym, ap, subst, ◌∙◌, ℕ, ◌+◌, ◌-◌, ◌<◌, ◌≤◌, ◌⊎◌, inl, inr, Bool, true, false, cond, ◌||◌, List, [], ◌∷◌, ◌++◌, take, slice_get, Option, Some, None, is_some, Result, Ok, Err, OnOk, arith}
+use Rattle.std.proofs.Common.{◌≡◌, ◌≢◌, refl, sym, ap, subst, ◌∙◌, ℕ, ◌+◌, ◌-◌, ◌<◌, ◌≤◌, ◌⊎◌, inl, inr, Bool, true, false, cond, ◌||◌, List, [], ◌∷◌, ◌++◌, take, slice_get, length, Option, Some, None, is_some, Result, Ok, Err, OnOk, arith}
 use Rattle.std.specs.Ordering.{nat_cmp}
 use Rattle.std.specs.Cmp.{nat_cmp_total}
 use Rattle.std.specs.FinMap.{FinMap, get, remove, len, contains_key, len-remove, empty_of_len, get-empty}
 use Rattle.std.proofs.lemmas.Bool.{cases_eq, cases_lt, or_parts, true≢false, false≢true, false_from_ne_true}
-use Rattle.std.proofs.lemmas.List.{take_more}
+use Rattle.std.proofs.lemmas.List.{take_more, length-append}
 use Rattle.std.proofs.lemmas.List.Folds.{list_any-append}
 use Rattle.std.proofs.lemmas.Option.{slice_get_within, get_or_from_slice_get}
 use Rattle.relay_model.specs.declared.commands.Config.{Config}
@@ -169,12 +169,15 @@ row_queued c before mid after i e g door q w same = record { named = λ s n. go 
 -- ---- the timers
 
 pub none_moved : (crew : Crew) → Moves crew crew
-none_moved crew = record { kept = λ s h. h; moved = λ s. inl refl; same = record { table_same = refl; same = rest_itself crew } }
+none_moved crew = record { kept = λ s h. h; moved = λ s. inl refl; same = record { table_same = refl; same = rest_itself crew; ready_same = refl } }
 
 pub lists_then : (one two three : Crew) → SameButLists one two → SameButLists two three → SameButLists one three
-lists_then one two three a b = record { table_same = b.table_same ∙ a.table_same; same = rest_then one two three a.same b.same }
+lists_then one two three a b = record { table_same = b.table_same ∙ a.table_same; same = rest_then one two three a.same b.same; ready_same = b.ready_same ∙ a.ready_same }
 
 -- one more has fallen due
+pub one_longer : (work more : List ℕ) (k : ℕ) → more ≡ work ++ k ∷ [] → length more ≡ length work + 1
+one_longer work more k e = ap length e ∙ length-append work (k ∷ [])
+
 pub one_kept : (s k : ℕ) (work more : List ℕ) → more ≡ work ++ k ∷ [] → Has s work → Has s more
 one_kept s k work more w h = subst (Has s) (sym w) (has_left s work (k ∷ []) h)
 
@@ -205,6 +208,9 @@ fewer_timers m k at e = go (cases_eq (len m) 0)
     go : (len m ≡ 0) ⊎ (len m ≡ 0 → ⊥) → len (remove m k) < len m
     go (inl z) = let y : None ≡ Some at = sym (ap (λ (n : FinMap nat_cmp ℕ). get n k) (empty_of_len m z) ∙ get-empty nat_cmp k) ∙ e in let x : ⊥ = cc in absurd x
     go (inr z) = let r = removed in omega (arith, r, z)
+
+pub fewer_by : (m n : FinMap nat_cmp ℕ) (k at : ℕ) → n ≡ remove m k → get m k ≡ Some at → len n < len m
+fewer_by m n k at e g = rw e (fewer_timers m k at g)
 
 -- ---- all sessions in the list of work
 

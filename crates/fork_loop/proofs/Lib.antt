@@ -10,6 +10,7 @@ pub mod Hearing
 pub mod InOrder
 pub mod Leavings
 pub mod Lists
+pub mod Looking
 pub mod Loops
 pub mod Others
 pub mod Relayed

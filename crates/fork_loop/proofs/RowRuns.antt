@@ -1,5 +1,5 @@
 -- What the run of one row makes of the course of all.
-use Rattle.std.proofs.Common.{◌≡◌, ◌≢◌, refl, sym, ap, subst, ◌∙◌, ℕ, suc, ◌<◌, ◌⊎◌, inl, inr, true, false, List, length, Option, Some, None, arith}
+use Rattle.std.proofs.Common.{◌≡◌, ◌≢◌, refl, sym, ap, subst, ◌∙◌, ℕ, suc, ◌+◌, ◌≤◌, ◌<◌, ◌⊎◌, inl, inr, true, false, List, length, Option, Some, None, arith}
 use Rattle.std.proofs.lemmas.Bool.{cases_eq}
 use Rattle.relay_model.specs.declared.commands.Config.{Config}
 use Rattle.relay_model.specs.declared.acts.Act.{Act}
@@ -306,3 +306,22 @@ keeps_none c old mid one two three keeps t = λ n start past on.
         rows = λ s. row_listed c n a.past s two three (ap (λ (x : Table Row). row_of x s) t.table_same) t.lists (a.course.rows s);
       };
     }
+
+-- ---- all but the rows and the lists
+
+pub settled_rest : (t : ℕ) (before mid after : Crew) (pause : Pause) (result : Option Why) → SameRest before mid → Settles t pause mid after result → SameRest before after
+settled_rest t before mid after (pauses.Sleep until) None same s = rest_then before mid after same s.0.same
+settled_rest t before mid after (pauses.Sleep until) (Some why) same s = rest_then before mid after same s.0.same
+settled_rest t before mid after pauses.Done None same s = rest_then before mid after same s.same
+settled_rest t before mid after pauses.Done (Some why) same s = absurd s
+settled_rest t before mid after (pauses.Spreads why) None same s = absurd s
+settled_rest t before mid after (pauses.Spreads why) (Some other) same s = subst (SameRest before) (sym s.0) same
+
+pub absent_rest : (before after : Crew) → after ≡ before → SameRest before after
+absent_rest before after e = subst (SameRest before) (sym e) (rest_itself before)
+
+pub one_fewer : (k : ℕ) (before after : Crew) → Takes k before after → length before.work.items ≡ suc (length after.work.items)
+one_fewer k before after t = ap length t.work_is
+
+pub one_run : (k : ℕ) (before mid after : Crew) (old new ticks work : ℕ) → Takes k before mid → after.work.items ≡ mid.work.items → new ≤ old + 1 → old + length before.work.items ≤ ticks + work → new + length after.work.items ≤ ticks + work
+one_run k before mid after old new ticks work t e few l = let x = one_fewer k before mid t in let y = ap length e in omega (arith, x, y, few, l)

@@ -165,6 +165,7 @@ AllSleepIfLate crew = (s : ℕ) → SleepsIfLate crew.made (row_of crew.table s)
 pub record SameButLists (before after : Crew) : Type 0 where
   pub table_same : after.table ≡ before.table
   pub same : SameRest before after
+  pub ready_same : after.ready ≡ before.ready
 
 -- this number was the first in the list of work
 pub record Takes (k : ℕ) (before after : Crew) : Type 0 where

@@ -29,9 +29,10 @@ pub enum Asked {
 }
 
 impl Crew {
-    ghost use Rattle.fork_loop.specs.Courses.{Somewhere, NoWork};
+    ghost use Rattle.fork_loop.specs.Courses.{Somewhere, SameRest, NoWork};
     ghost use Rattle.fork_loop.specs.Asking.{AskedIs, GoesOn, TakesNext, SameButNext};
     ghost use Rattle.fork_loop.specs.Endings.{SomeFailed, EndsRows};
+    ghost use Rattle.fork_loop.specs.Looks.{LooksFew};
 
     /// Makes the calls of the door, and those of each session that its peers bring, until the door waits or is over.
     pub fn ask_door<W: World, L: Ledger>(
@@ -44,7 +45,8 @@ impl Crew {
         requires fit { Fit config.now }
         requires course { Somewhere config.now (seen W.told W.held W.faults W.waits W.stops W.clock world.old) self.old }
         requires idle { NoWork self.old }
-        ensures { AskedIs config.now (seen W.told W.held W.faults W.waits W.stops W.clock world.old) (seen W.told W.held W.faults W.waits W.stops W.clock world.new) self.old self.new result }
+        ensures asks { AskedIs config.now (seen W.told W.held W.faults W.waits W.stops W.clock world.old) (seen W.told W.held W.faults W.waits W.stops W.clock world.new) self.old self.new result }
+        ensures looks { LooksFew 0 steps.old.ticks steps.new.ticks self.old self.new }
     {
         loop {
             if let Some(asked) = self.ask_once(alloc, world, config, steps) {
@@ -64,7 +66,8 @@ impl Crew {
         requires fit { Fit config.now }
         requires course { Somewhere config.now (seen W.told W.held W.faults W.waits W.stops W.clock world.old) self.old }
         requires idle { NoWork self.old }
-        ensures { GoesOn config.now (seen W.told W.held W.faults W.waits W.stops W.clock world.old) (seen W.told W.held W.faults W.waits W.stops W.clock world.new) self.old self.new result }
+        ensures asks { GoesOn config.now (seen W.told W.held W.faults W.waits W.stops W.clock world.old) (seen W.told W.held W.faults W.waits W.stops W.clock world.new) self.old self.new result }
+        ensures looks { LooksFew 0 steps.old.ticks steps.new.ticks self.old self.new }
     {
         match self.take_next(alloc, config) {
             Ok(unborn) => self.ask_for(unborn, alloc, world, config, steps),
@@ -86,7 +89,8 @@ impl Crew {
         requires room { HasRoom self.old.table }
         requires taken { self.old.unborn ≡ None }
         requires next { (past : List Act) → self.old.table.admitted ≡ admitted config.now past → IsUnborn config.now (admitted config.now past) unborn }
-        ensures { GoesOn config.now (seen W.told W.held W.faults W.waits W.stops W.clock world.old) (seen W.told W.held W.faults W.waits W.stops W.clock world.new) self.old self.new result }
+        ensures asks { GoesOn config.now (seen W.told W.held W.faults W.waits W.stops W.clock world.old) (seen W.told W.held W.faults W.waits W.stops W.clock world.new) self.old self.new result }
+        ensures looks { LooksFew 0 steps.old.ticks steps.new.ticks self.old self.new }
     {
         let live = self.table.live();
         match step(&mut self.door, world, config, self.clock, live) {
@@ -137,7 +141,8 @@ impl Crew {
         steps: &mut Steps<L>,
     ) -> Option<Why>
         requires { SomeFailed config.now (seen W.told W.held W.faults W.waits W.stops W.clock world.old) self.old }
-        ensures { EndsRows config.now (seen W.told W.held W.faults W.waits W.stops W.clock world.old) (seen W.told W.held W.faults W.waits W.stops W.clock world.new) self.old self.new result }
+        ensures ends { EndsRows config.now (seen W.told W.held W.faults W.waits W.stops W.clock world.old) (seen W.told W.held W.faults W.waits W.stops W.clock world.new) self.old self.new result }
+        ensures rest { SameRest self.old self.new }
     {
         self.cut_rows(Why::AcceptFailed, steps);
         match self.queue_all() {

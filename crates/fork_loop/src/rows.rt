@@ -1,5 +1,5 @@
 // The sessions of the loop between two turns: those that have work, one after another.
-ghost use Rattle.std.specs.Prelude.{◌≡◌, ◌<◌, ◌+◌, OnOk};
+ghost use Rattle.std.specs.Prelude.{◌≡◌, ◌<◌, ◌≤◌, ◌+◌, length, OnOk};
 ghost use Rattle.session_driver.specs.Seen.{seen};
 ghost use Rattle.fork_table.specs.Tables.{IsFirstLive};
 ghost use Rattle.fork_loop.specs.Rows.{Roused, Sleeping};
@@ -13,7 +13,7 @@ use std::sync::ledger::Ledger;
 use world_trait::World;
 
 impl Crew {
-    ghost use Rattle.fork_loop.specs.Courses.{Somewhere, SomewhereAt, TakesWork, DrainsRow, Settles, SetsTimer, timer_of};
+    ghost use Rattle.fork_loop.specs.Courses.{Somewhere, SomewhereAt, SameRest, TakesWork, DrainsRow, Settles, SetsTimer, timer_of};
     ghost use Rattle.fork_loop.specs.Endings.{RowRuns, AllRun};
 
     /// Has each session that has work make its calls up to its next pause. Answers the reason for which the run is to be
@@ -25,7 +25,9 @@ impl Crew {
         steps: &mut Steps<L>,
     ) -> Option<Why>
         requires { Somewhere config.now (seen W.told W.held W.faults W.waits W.stops W.clock world.old) self.old }
-        ensures { AllRun config.now (seen W.told W.held W.faults W.waits W.stops W.clock world.old) (seen W.told W.held W.faults W.waits W.stops W.clock world.new) self.old self.new result }
+        ensures runs { AllRun config.now (seen W.told W.held W.faults W.waits W.stops W.clock world.old) (seen W.told W.held W.faults W.waits W.stops W.clock world.new) self.old self.new result }
+        ensures rest { SameRest self.old self.new }
+        ensures looks { steps.new.ticks ≤ steps.old.ticks + length self.old.work.items }
     {
         while let Some(number) = self.take_work() {
             if let Some(why) = self.run_row(number, world, config, steps) {
@@ -67,7 +69,9 @@ impl Crew {
         steps: &mut Steps<L>,
     ) -> Option<Why>
         requires course { SomewhereAt config.now (seen W.told W.held W.faults W.waits W.stops W.clock world.old) number self.old }
-        ensures { RowRuns config.now (seen W.told W.held W.faults W.waits W.stops W.clock world.old) (seen W.told W.held W.faults W.waits W.stops W.clock world.new) number self.old self.new result }
+        ensures runs { RowRuns config.now (seen W.told W.held W.faults W.waits W.stops W.clock world.old) (seen W.told W.held W.faults W.waits W.stops W.clock world.new) number self.old self.new result }
+        ensures rest { SameRest self.old self.new }
+        ensures looks { steps.new.ticks ≤ steps.old.ticks + 1 }
     {
         match self.drain_row(number, world, config, steps) {
             Some(pause) => self.settle(number, pause),
@@ -116,7 +120,8 @@ impl Crew {
         steps: &mut Steps<L>,
     ) -> Option<Pause>
         requires course { SomewhereAt config.now (seen W.told W.held W.faults W.waits W.stops W.clock world.old) number self.old }
-        ensures { DrainsRow config.now (seen W.told W.held W.faults W.waits W.stops W.clock world.old) (seen W.told W.held W.faults W.waits W.stops W.clock world.new) number self.old self.new result }
+        ensures drains { DrainsRow config.now (seen W.told W.held W.faults W.waits W.stops W.clock world.old) (seen W.told W.held W.faults W.waits W.stops W.clock world.new) number self.old self.new result }
+        ensures looks { steps.new.ticks ≤ steps.old.ticks + 1 }
     {
         match self.table.session_mut(number, steps) {
             Some(row) => {

@@ -1,5 +1,5 @@
 // What a turn says to the door and to the sessions that it names, or to all where it says stop.
-ghost use Rattle.std.specs.Prelude.{◌≡◌, ℕ, ◌<◌, ◌∷◌, [], List, Option, false, OnOk};
+ghost use Rattle.std.specs.Prelude.{◌≡◌, ℕ, ◌<◌, ◌≤◌, ◌+◌, ◌∷◌, [], List, length, Option, false, OnOk};
 ghost use Rattle.relay_model.specs.declared.acts.Act.{Act};
 ghost use Rattle.relay_model.specs.declared.acts.Act.TheVariants as acts;
 ghost use Rattle.relay_model.specs.declared.commands.Config.{Config as Command};
@@ -23,6 +23,7 @@ use std::sync::ledger::Ledger;
 impl Crew {
     ghost use Rattle.fork_loop.specs.Turns.{RowHeard, AllHeard, AsleepRow, AllAsleep, AllUnheard, NamedHeard, RowHearsOnce, Queues, QueuesDue};
     ghost use Rattle.fork_loop.specs.Courses.{SameButWork, SameButLists};
+    ghost use Rattle.fork_loop.specs.Looks.{WorksFew};
 
     /// Has each session hear the last turn, which says stop.
     pub fn stop_all<L: Ledger>(&mut self, steps: &mut Steps<L>)
@@ -49,7 +50,8 @@ impl Crew {
     /// Has each session hear the last turn that it names a thing of.
     pub fn hear_named<L: Ledger>(&mut self, config: &Config, steps: &mut Steps<L>)
         requires { AllUnheard self.old }
-        ensures { NamedHeard config.now self.old.ready.entries self.old self.new }
+        ensures heard { NamedHeard config.now self.old.ready.entries self.old self.new }
+        ensures looks { steps.new.ticks ≤ steps.old.ticks + length self.old.ready.entries }
     {
         for i in 0..self.ready.len() {
             let place = self.ready.get(i).place;
@@ -62,7 +64,8 @@ impl Crew {
     /// Has the session with this number hear it, if it lives and hasn't yet.
     fn hear_row<L: Ledger>(&mut self, number: u32, steps: &mut Steps<L>)
         requires { SleepsIfLate self.old.made (row_of self.old.table number) }
-        ensures { RowHearsOnce number self.old self.new }
+        ensures heard { RowHearsOnce number self.old self.new }
+        ensures looks { steps.new.ticks ≤ steps.old.ticks + 1 }
     {
         if let Some(row) = self.table.session_mut(number, steps) {
             hear_once(row, self.made, self.clock, &self.ready);
@@ -73,6 +76,7 @@ impl Crew {
     pub fn queue_named(&mut self, config: &Config) -> Result<(), NoMemory>
         ensures named { OnOk result (Queues config.now self.old.ready.entries self.old self.new) }
         ensures same { SameButWork self.old self.new }
+        ensures few { length self.new.work.items ≤ length self.old.work.items + length self.old.ready.entries }
     {
         for i in 0..self.ready.len() {
             let place = self.ready.get(i).place;
@@ -87,6 +91,7 @@ impl Crew {
     pub fn queue_due(&mut self) -> Result<(), NoMemory>
         ensures due { OnOk result (QueuesDue self.old self.new) }
         ensures same { SameButLists self.old self.new }
+        ensures few { WorksFew 0 self.old self.new }
     {
         while let Some(number) = self.timers.due(self.clock) {
             self.work.push_back(number)?;

@@ -1,5 +1,5 @@
 // One wait of the loop.
-ghost use Rattle.std.specs.Prelude.{◌<◌, ◌-◌, ◌^◌, OnOk};
+ghost use Rattle.std.specs.Prelude.{◌≡◌, ◌<◌, ◌≤◌, ◌+◌, ◌-◌, ◌^◌, length, OnOk};
 ghost use Rattle.session_driver.specs.Seen.{seen};
 
 use crate::crews::Crew;
@@ -22,6 +22,7 @@ pub enum Waited {
 impl Crew {
     ghost use Rattle.fork_loop.specs.Courses.{Somewhere, NoWork};
     ghost use Rattle.fork_loop.specs.Turns.{AllUnheard, HearsNamed, Queued, TakesTurn};
+    ghost use Rattle.fork_loop.specs.Looks.{LooksFew, WorksFew};
     ghost use Rattle.fork_loop.specs.Waited.{WaitedIs};
 
     /// Waits until this moment at the latest, and has those hear what the turn says that it concerns: the door, the
@@ -37,7 +38,9 @@ impl Crew {
         requires few { self.old.made < turns }
         requires course { Somewhere config.now (seen W.told W.held W.faults W.waits W.stops W.clock world.old) self.old }
         requires idle { NoWork self.old }
-        ensures { WaitedIs config.now turns until (seen W.told W.held W.faults W.waits W.stops W.clock world.old) (seen W.told W.held W.faults W.waits W.stops W.clock world.new) self.old self.new result }
+        ensures waits { WaitedIs config.now turns until (seen W.told W.held W.faults W.waits W.stops W.clock world.old) (seen W.told W.held W.faults W.waits W.stops W.clock world.new) self.old self.new result }
+        ensures looks { LooksFew (length self.new.ready.entries) steps.old.ticks steps.new.ticks self.old self.new }
+        ensures few { WorksFew (length self.new.ready.entries) self.old self.new }
     {
         match world.wait(until, &mut self.ready) {
             Turned::Turned { at, stop } => {
@@ -75,6 +78,9 @@ impl Crew {
         requires { AllUnheard self.old }
         ensures heard { HearsNamed config.now self.old self.new }
         ensures queued { OnOk result (Queued config.now self.old self.new) }
+        ensures ready { self.new.ready ≡ self.old.ready }
+        ensures looks { steps.new.ticks ≤ steps.old.ticks + length self.old.ready.entries }
+        ensures few { WorksFew (length self.old.ready.entries) self.old self.new }
     {
         self.hear_named(config, steps);
         self.queue_named(config)?;

@@ -8,8 +8,8 @@ rouse-requires g c = row_late c.args.config.now _ c.args.number c.args.self.now 
 pub drain-requires-clause-runs : goal.drain-requires-clause-runs
 drain-requires-clause-runs g c = drains_up c.args.config.now _ c.args.number c.args.self.now c.in-Some.row.now c.rouse.new.row c.requires.course (sym c.in-Some.ensures.value) c.rouse.ensures
 
-pub returns-in-Some : goal.returns-in-Some
-returns-in-Some g c =
+pub returns-in-Some-clause-drains : goal.returns-in-Some-clause-drains
+returns-in-Some-clause-drains g c =
     let ch = c.in-Some.ensures.changes _ in
     record {
       was = c.in-Some.row.now;

@@ -1,30 +1,44 @@
+use Rattle.std.proofs.Common.{arith}
 use Rattle.fork_loop.proofs.Loops.{keeps_all, kept_on}
-use Rattle.fork_loop.proofs.RowRuns.{rest_then, rest_itself, some_taken, taken_at, keeps_run, keeps_none, fewer_works}
+use Rattle.fork_loop.proofs.RowRuns.{rest_then, rest_itself, some_taken, taken_at, keeps_run, keeps_none, fewer_works, one_fewer, one_run}
 use Rattle.fork_loop.proofs.crews.Crew.run_rows.Goals as goal
 
 pub loop-number-init : goal.loop-number-init
-loop-number-init g c = record { keeps = keeps_all c.args.config.now _ c.args.self.now; same = rest_itself c.args.self.now }
+loop-number-init g c = record { keeps = keeps_all c.args.config.now _ c.args.self.now; same = rest_itself c.args.self.now; looks = omega arith }
 
 pub run_row-requires : goal.run_row-requires
 run_row-requires g c = record { course = some_taken c.args.config.now _ c.in-Some.number c.loop-number.self c.take_work.new.self (kept_on c.args.config.now _ _ c.args.self.now c.loop-number.self c.requires c.loop-number.invariant.keeps) c.in-Some.ensures }
 
-pub returns-in-Some-run_row : goal.returns-in-Some-run_row
-returns-in-Some-run_row g c = λ n start past on.
+pub returns-in-Some-run_row-clause-runs : goal.returns-in-Some-run_row-clause-runs
+returns-in-Some-run_row-clause-runs g c = λ n start past on.
     let a = c.loop-number.invariant.keeps n start past on in
-    c.in-Some-run_row.ensures n start a.past (taken_at c.args.config.now n start _ a.past c.in-Some.number c.loop-number.self c.take_work.new.self a.course c.in-Some.ensures)
+    c.in-Some-run_row.ensures.runs n start a.past (taken_at c.args.config.now n start _ a.past c.in-Some.number c.loop-number.self c.take_work.new.self a.course c.in-Some.ensures)
 
 pub loop-number-preserved : goal.loop-number-preserved
 loop-number-preserved g c = record {
-  keeps = keeps_run c.args.config.now _ _ _ c.in-Some.number c.args.self.now c.loop-number.self c.take_work.new.self c.run_row.new.self c.loop-number.invariant.keeps c.in-Some.ensures c.in_default-run_row.ensures;
-  same = rest_then c.args.self.now c.take_work.new.self c.run_row.new.self (rest_then c.args.self.now c.loop-number.self c.take_work.new.self c.loop-number.invariant.same c.in-Some.ensures.same) c.in_default-run_row.ensures.2;
+  keeps = keeps_run c.args.config.now _ _ _ c.in-Some.number c.args.self.now c.loop-number.self c.take_work.new.self c.run_row.new.self c.loop-number.invariant.keeps c.in-Some.ensures c.in_default-run_row.ensures.runs;
+  same = rest_then c.args.self.now c.take_work.new.self c.run_row.new.self (rest_then c.args.self.now c.loop-number.self c.take_work.new.self c.loop-number.invariant.same c.in-Some.ensures.same) c.run_row.ensures.rest;
+  looks = one_run c.in-Some.number c.loop-number.self c.take_work.new.self c.run_row.new.self _ _ _ _ c.in-Some.ensures c.in_default-run_row.ensures.runs.1 c.run_row.ensures.looks c.loop-number.invariant.looks;
 }
 
 pub loop-number-smaller : goal.loop-number-smaller
-loop-number-smaller g c = fewer_works c.in-Some.number c.loop-number.self c.take_work.new.self c.run_row.new.self c.in-Some.ensures c.in_default-run_row.ensures.1
+loop-number-smaller g c = fewer_works c.in-Some.number c.loop-number.self c.take_work.new.self c.run_row.new.self c.in-Some.ensures c.in_default-run_row.ensures.runs.1
 
-pub returns : goal.returns
-returns g c = (
+pub returns-clause-runs : goal.returns-clause-runs
+returns-clause-runs g c = (
   keeps_none c.args.config.now _ _ c.args.self.now c.loop-number.self c.take_work.new.self c.loop-number.invariant.keeps c.in_default.ensures,
   c.in_default.ensures.idle,
   rest_then c.args.self.now c.loop-number.self c.take_work.new.self c.loop-number.invariant.same c.in_default.ensures.same,
 )
+
+pub returns-clause-rest : goal.returns-clause-rest
+returns-clause-rest g c = rest_then c.args.self.now c.loop-number.self c.take_work.new.self c.loop-number.invariant.same c.in_default.ensures.same
+
+pub returns-in-Some-run_row-clause-rest : goal.returns-in-Some-run_row-clause-rest
+returns-in-Some-run_row-clause-rest g c = rest_then c.args.self.now c.take_work.new.self c.run_row.new.self (rest_then c.args.self.now c.loop-number.self c.take_work.new.self c.loop-number.invariant.same c.in-Some.ensures.same) c.run_row.ensures.rest
+
+pub returns-clause-looks : goal.returns-clause-looks
+returns-clause-looks g c = (let l = c.loop-number.invariant.looks in omega (arith, l))
+
+pub returns-in-Some-run_row-clause-looks : goal.returns-in-Some-run_row-clause-looks
+returns-in-Some-run_row-clause-looks g c = (let l = c.loop-number.invariant.looks in let m = one_fewer c.in-Some.number c.loop-number.self c.take_work.new.self c.in-Some.ensures in let n = c.run_row.ensures.looks in omega (arith, l, m, n))
