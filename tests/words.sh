@@ -137,8 +137,7 @@ refused 'socat: E01 word 1: unclosed at 2' $'\xe2\x82"' -
 
 # --- what is in order and can't be run yet
 
-for words in '-v TCP-LISTEN:1,fork TCP:localhost:2' '-x UNIX-LISTEN:x,fork STDIO' '--load 7' \
-    '--journal=/dev/null --load 7'; do
+for words in '--load 7' '--journal=/dev/null --load 7'; do
     # The words are split at spaces.
     # shellcheck disable=SC2086
     refused 'socat: E23: not built' $words

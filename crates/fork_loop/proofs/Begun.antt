@@ -9,10 +9,10 @@ use Rattle.relay_model.specs.Holding.{Free}
 use Rattle.relay_model.specs.Journals.{History}
 use Rattle.session_driver.specs.Steps.{extend}
 use Rattle.relay_model.specs.Sessions.{door_options}
-use Rattle.relay_core.specs.declared.sessions.Session.{Session}
 use Rattle.program_door.specs.Stands.{DoorStands}
 use Rattle.fork_table.specs.Tables.{row_of}
 use Rattle.session_driver.specs.Seen.{Seen}
+use Rattle.session_runs.specs.declared.members.Member.{Member}
 use Rattle.fork_loop.specs.declared.crews.Crew.{Crew}
 use Rattle.fork_loop.specs.Births.{Forks}
 use Rattle.fork_loop.specs.Courses.{RowIs, Course}
@@ -25,7 +25,7 @@ told_nothing : (o : Option History) → o ≡ option_map (extend [] []) o
 told_nothing None = refl
 told_nothing (Some h) = ap (λ xs. Some (record { acts = h.acts; asked = xs })) (sym (nil_right h.asked))
 
-no_row_yet : (c : Config) (n : ℕ) (s : ℕ) (row : Option Session) → row ≡ None → RowIs c n [] s row
+no_row_yet : (c : Config) (n : ℕ) (s : ℕ) (row : Option Member) → row ≡ None → RowIs c n [] s row
 no_row_yet c n s row e = subst (RowIs c n [] s) (sym e) (λ b. absurd (omega (arith, b)))
 
 pub begun : (c : Config) (n : ℕ) (start : Seen) (crew : Crew) → Forks c → DoorStands c [] crew.door → crew.unborn ≡ None → crew.clock ≡ 0 → crew.made ≡ 0 → crew.table.admitted ≡ 0 → crew.table.max_children ≡ (door_options c).max_children → crew.table.stop_after ≡ (door_options c).stop_after → ((s : ℕ) → row_of crew.table s ≡ None) → ((p : Place) → start.held p ≡ Free) → Course c n start start [] crew
@@ -33,7 +33,6 @@ begun c n start crew forks door eu ec em ea eb es rows free = record {
   frame = record {
     fork = forks.fork;
     run = record {
-      undumped = forks.undumped;
       legal = tt;
       named = tt;
       pairs = [];
@@ -54,6 +53,7 @@ begun c n start crew forks door eu ec em ea eb es rows free = record {
     made_is = sym em;
     unsaid = record { remembered = refl; unstopped = refl };
   };
+  unowed = refl;
   rows = λ s. no_row_yet c n s (row_of crew.table s) (rows s);
 }
 

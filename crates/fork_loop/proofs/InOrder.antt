@@ -27,27 +27,32 @@ use Rattle.session_crew.specs.Wholes.{Remains, WaitsUntil, IsLeastWait}
 use Rattle.session_crew.proofs.Rests.{all_rest}
 use Rattle.session_crew.proofs.Waits.{least_wait}
 use Rattle.fork_table.specs.Tables.{row_of}
+use Rattle.world_trait.specs.Answers.{DidNothing}
 use Rattle.session_driver.specs.Seen.{Seen}
+use Rattle.session_driver.specs.Steps.{Waitless}
+use Rattle.session_runs.specs.Runs.{Run}
+use Rattle.session_runs.proofs.Going.{idle_run}
+use Rattle.session_runs.specs.declared.members.Member.{Member}
 use Rattle.fork_loop.specs.declared.crews.Crew.{Crew}
 use Rattle.fork_loop.specs.Courses.{RowIs, NextIs, Course, Somewhere, IsAsleep, AllAsleep}
 use Rattle.fork_loop.specs.Endings.{MayEnd}
 use Rattle.fork_loop.specs.Waited.{InOrder}
 use Rattle.fork_loop.specs.Waits.{SameCrew, WaitsFor, IsLeast}
-use Rattle.fork_loop.proofs.DoorSteps.{row_may_end}
+use Rattle.fork_loop.proofs.DoorSteps.{memory_ends, row_may_end}
 
 is_sleep : (c : Config) (n : ℕ) (past : List Act) (s : ℕ) (until : Option ℕ) (x : Session) → Stands c n past s x → wish_of x ≡ sleeps.Sleep until → Sleeps c past s until
 is_sleep c n past s until x st w = subst (SessionWished c n past s) w st.allowed.0
 
 -- what one session waits for, if it has begun
-pub record RowRests (c : Config) (past : List Act) (s : ℕ) (row : Option Session) : Type 0 where
+pub record RowRests (c : Config) (past : List Act) (s : ℕ) (row : Option Member) : Type 0 where
   pub rests : SessionRests c past s
-  pub to : (m : ℕ) → session_until c past s ≡ Some m → (x : Session) × (row ≡ Some x) × (wish_of x ≡ sleeps.Sleep (Some m))
-  pub from : (m : ℕ) (x : Session) → row ≡ Some x → wish_of x ≡ sleeps.Sleep (Some m) → session_until c past s ≡ Some m
+  pub to : (m : ℕ) → session_until c past s ≡ Some m → (x : Member) × (row ≡ Some x) × (wish_of x.session ≡ sleeps.Sleep (Some m))
+  pub from : (m : ℕ) (x : Member) → row ≡ Some x → wish_of x.session ≡ sleeps.Sleep (Some m) → session_until c past s ≡ Some m
 
 gone_until : (c : Config) (past : List Act) (s : ℕ) → RestsUntil c past s None → session_until c past s ≡ None
 gone_until c past s r = rw r.no_work r.moment_is
 
-row_rests : (c : Config) (n : ℕ) (past : List Act) (s : ℕ) (row : Option Session) → has_fork c ≡ true → s < admitted c past → RowIs c n past s row → IsAsleep row → RowRests c past s row
+row_rests : (c : Config) (n : ℕ) (past : List Act) (s : ℕ) (row : Option Member) → has_fork c ≡ true → s < admitted c past → RowIs c n past s row → IsAsleep row → RowRests c past s row
 row_rests c n past s None fork below r a =
     let g = gone c past s fork (r below) in
     let u = gone_until c past s g in
@@ -57,13 +62,13 @@ row_rests c n past s None fork below r a =
       from = λ m x e w. (let y : ⊥ = cc in absurd y);
     }
 row_rests c n past s (Some x) fork below w a =
-    let k = is_sleep c n past s a.0 x w.stands a.1 in
+    let k = is_sleep c n past s a.0 x.session w.0.stands a.1 in
     record {
       rests = k.rests;
       to = λ m e. (x, refl, a.1 ∙ ap sleeps.Sleep (k.until_is ∙ e));
       from = λ m y e v. (
           let same : x ≡ y = cc in
-          let z : sleeps.Sleep a.0 ≡ sleeps.Sleep (Some m) = sym a.1 ∙ ap wish_of same ∙ v in
+          let z : sleeps.Sleep a.0 ≡ sleeps.Sleep (Some m) = sym a.1 ∙ ap (λ (z : Member). wish_of z.session) same ∙ v in
           let u : a.0 ≡ Some m = cc in
           sym k.until_is ∙ u);
     }
@@ -72,13 +77,13 @@ and_second : (a b : Bool) → (a && b) ≡ true → b ≡ true
 and_second true b e = e
 and_second false b e = absurd (false≢true e)
 
-row_holds : (c : Config) (n : ℕ) (past : List Act) (s : ℕ) (row : Option Session) → has_fork c ≡ true → RowIs c n past s row → is_some row ≡ true → (s < numbers c past) × (holds c past s ≡ true)
+row_holds : (c : Config) (n : ℕ) (past : List Act) (s : ℕ) (row : Option Member) → has_fork c ≡ true → RowIs c n past s row → is_some row ≡ true → (s < numbers c past) × (holds c past s ≡ true)
 row_holds c n past s None fork r e = absurd (false≢true e)
-row_holds c n past s (Some x) fork w e = let g = w.stands.fields.ground in (g.begun, and_second (nat_lt s (admitted c past)) (holds c past s) (rw fork at (lives_at_home c past s g.begun (λ f. g.home_held f w.unclosed))))
+row_holds c n past s (Some x) fork w e = let g = w.0.stands.fields.ground in (g.begun, and_second (nat_lt s (admitted c past)) (holds c past s) (rw fork at (lives_at_home c past s g.begun (λ f. g.home_held f w.0.unclosed))))
 
 pub in_order : (c : Config) (n : ℕ) (start now : Seen) (past : List Act) (crew : Crew) (first until : Option ℕ) → Course c n start now past crew → Rested c past first crew → AllAsleep crew → IsLeast (WaitsFor first crew) until → InOrder c past until
 in_order c n start now past crew first until on rested asleep least = record {
-  rests = all_rest c n past first on.frame.run.legal on.frame.fork on.frame.run.undumped (record { door = rested.door; remains = left rested.remains; sessions = λ s below. (each s (begun s below)).rests });
+  rests = all_rest c n past first on.frame.run.legal on.frame.fork on.unowed (record { door = rested.door; remains = left rested.remains; sessions = λ s below. (each s (begun s below)).rests });
   is_until = least_wait c past until (go until least);
 }
   where
@@ -96,8 +101,8 @@ in_order c n start now past crew first until on rested asleep least = record {
     to m (inl e) = inl (rested.door.until_is ∙ e)
     to m (inr w) = let r = (each w.0 (begun w.0 w.1)).to m w.2 in inr (w.0, r.0, r.1, r.2)
 
-    has_begun : (s : ℕ) (x : Session) → row_of crew.table s ≡ Some x → s < numbers c past
-    has_begun s x e = (subst (RowIs c n past s) e (on.rows s)).stands.fields.ground.begun
+    has_begun : (s : ℕ) (x : Member) → row_of crew.table s ≡ Some x → s < numbers c past
+    has_begun s x e = (subst (RowIs c n past s) e (on.rows s)).0.stands.fields.ground.begun
 
     from : (m : ℕ) → WaitsFor first crew m → WaitsUntil c past m
     from m (inl e) = inl (sym rested.door.until_is ∙ e)
@@ -124,11 +129,29 @@ course_same c n start now past before after on k =
         made_is = f.made_is ∙ sym same.made_same;
         unsaid = f.unsaid;
       };
+      unowed = on.unowed;
       rows = λ s. subst (RowIs c n past s) (sym (k.rows_same s)) (on.rows s);
     }
 
 pub asleep_same : (before after : Crew) → SameCrew before after → AllAsleep before → AllAsleep after
 asleep_same before after k h = λ s. subst IsAsleep (sym (k.rows_same s)) (h s)
+
+-- ---- a wait that there is no memory for
+
+-- the course over a world that looks otherwise
+course_over : (c : Config) (n : ℕ) (start old new : Seen) (past : List Act) (crew : Crew) → Run c n start new past → Course c n start old past crew → Course c n start new past crew
+course_over c n start old new past crew run on =
+    let f = on.frame in
+    record {
+      frame = record { fork = f.fork; run = run; door = f.door; counts = f.counts; next = f.next; clock_is = f.clock_is; made_is = f.made_is; unsaid = f.unsaid };
+      unowed = on.unowed;
+      rows = on.rows;
+    }
+
+pub unwaited : (c : Config) (n : ℕ) (start old new : Seen) (past : List Act) (before after : Crew) → DidNothing old.told new.told old.held new.held → old.faults ≤ new.faults → Waitless old new → SameCrew before after → Course c n start old past before → MayEnd c n start new whys.Memory after
+unwaited c n start old new past before after did faults waitless same on =
+    let run = idle_run c n start old new past on.frame.run did (record { later = faults; rose = λ e. absurd (false≢true e) }) waitless in
+    memory_ends c n start new past after (course_same c n start new past before after (course_over c n start old new past before run on) same)
 
 -- ---- the turns are used up
 
@@ -147,6 +170,7 @@ limit_ends c n start now past crew until on order used =
       frame = on.frame;
       all = refl;
       ends = inr (refl, all_used, order.rests);
+      owes = inl on.unowed;
       rows = λ s. row_may_end c n past s whys.Stopped (row_of crew.table s) (inr (refl, all_used, order.rests)) (on.rows s);
     }
 

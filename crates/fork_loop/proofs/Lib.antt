@@ -1,5 +1,6 @@
 pub mod Begun
 pub mod Closings
+pub mod Counting
 pub mod DoorClosings
 pub mod DoorSteps
 pub mod Emptying

@@ -11,7 +11,6 @@ use Rattle.relay_model.specs.History.{now as moment, turns, memory_said, stop_sa
 use Rattle.relay_model.specs.Sessions.{admitted, numbers, permits}
 use Rattle.relay_model.specs.May.{Legal}
 use Rattle.relay_model.specs.Frames.{IsForeign, is_common, is_turn, is_at}
-use Rattle.relay_core.specs.declared.sessions.Session.{Session}
 use Rattle.program_door.specs.declared.doors.Door.{Door}
 use Rattle.program_door.specs.Stands.{DoorStands}
 use Rattle.program_door.specs.Steps.{meets_left}
@@ -22,7 +21,9 @@ use Rattle.session_sleep.proofs.Slept.{passes, begun_step, session_alike}
 use Rattle.session_driver.specs.Steps.{IsActOf}
 use Rattle.session_crew.proofs.Members.{stays}
 use Rattle.session_runs.specs.Runs.{Ran, stayed, acted}
+use Rattle.session_runs.specs.declared.members.Member.{Member}
 use Rattle.fork_loop.specs.Courses.{RowIs, Unsaid}
+use Rattle.fork_loop.proofs.Counting.{counted_kept}
 
 -- what some acts leave
 pub record Leave (c : Config) (n : ℕ) (past since : List Act) (t : ℕ) : Type 0 where
@@ -31,7 +32,7 @@ pub record Leave (c : Config) (n : ℕ) (past since : List Act) (t : ℕ) : Type
   pub turns_same : turns since ≡ turns past
   pub unsaid : Unsaid past → Unsaid since
   pub door : (door : Door) → DoorStands c past door → DoorStands c since door
-  pub rows : (s : ℕ) (row : Option Session) → s ≢ t → RowIs c n past s row → RowIs c n since s row
+  pub rows : (s : ℕ) (row : Option Member) → s ≢ t → RowIs c n past s row → RowIs c n since s row
 
 -- ---- one act
 
@@ -64,13 +65,13 @@ unsaid_kept c (acts.Closed q why) past k u =
     record { remembered = said_kept (same_why why whys.Memory) (memory_said past) w.1 u.remembered; unstopped = said_kept (same_why why whys.Stopped) (stop_said past) w.0 u.unstopped }
 unsaid_kept c act past k u = record { remembered = u.remembered; unstopped = u.unstopped }
 
-row_kept : (c : Config) (n : ℕ) (act : Act) (past : List Act) (s : ℕ) (row : Option Session) → has_fork c ≡ true → IsForeign c s act → is_common c act ≡ false → admitted c (act ∷ past) ≡ admitted c past → RowIs c n past s row → RowIs c n (act ∷ past) s row
+row_kept : (c : Config) (n : ℕ) (act : Act) (past : List Act) (s : ℕ) (row : Option Member) → has_fork c ≡ true → IsForeign c s act → is_common c act ≡ false → admitted c (act ∷ past) ≡ admitted c past → RowIs c n past s row → RowIs c n (act ∷ past) s row
 row_kept c n act past s None fork f k same r = λ below.
     let b : s < admitted c past = omega (arith, below, same) in
     let e = numbers_are c past fork in
     let m : s < numbers c past = omega (arith, b, e) in
     (session_alike c s (act ∷ past) past (begun_step c act past s m) m (passes c s act past f k)).holds_same ∙ r b
-row_kept c n act past s (Some x) fork f k same r = stays c n act past s x f k r
+row_kept c n act past s (Some m) fork f k same r = (stays c n act past s m.session f k r.0, counted_kept c act past s m.dumper f r.1)
 
 pub act_leaves : (c : Config) (n : ℕ) (act : Act) (past : List Act) (t : ℕ) → has_fork c ≡ true → Legal c n (act ∷ past) → t < admitted c past → IsActOf c t act → is_common c act ≡ false → Leave c n past (act ∷ past) t
 act_leaves c n act past t fork legal begun here k =

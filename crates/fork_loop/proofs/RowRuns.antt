@@ -4,6 +4,8 @@ use Rattle.std.proofs.lemmas.Bool.{cases_eq}
 use Rattle.relay_model.specs.declared.commands.Config.{Config}
 use Rattle.relay_model.specs.declared.acts.Act.{Act}
 use Rattle.relay_model.specs.declared.acts.Why.{Why}
+use Rattle.relay_model.specs.declared.acts.Why.TheVariants as whys
+use Rattle.relay_model.specs.Rest.{owed}
 use Rattle.relay_model.specs.Sessions.{admitted, holds}
 use Rattle.relay_core.specs.declared.sessions.Session.{Session}
 use Rattle.relay_core.specs.declared.sessions.Unborn.{Unborn}
@@ -14,13 +16,14 @@ use Rattle.program_door.specs.Stands.{DoorStands}
 use Rattle.program_door.proofs.Moves.{numbers_are}
 use Rattle.fork_table.specs.Tables.{row_of}
 use Rattle.session_driver.specs.Seen.{Seen}
-use Rattle.session_crew.specs.Crews.{Waker}
 use Rattle.session_crew.proofs.Members.{awake_asleep}
-use Rattle.session_runs.specs.Runs.{Run, RunOf}
+use Rattle.session_runs.specs.Pauses.{Spreads}
+use Rattle.session_runs.specs.Runs.{Owes, Run, RunOf}
+use Rattle.session_runs.specs.declared.members.Member.{Member}
 use Rattle.session_runs.specs.declared.pauses.Pause.{Pause}
 use Rattle.session_runs.specs.declared.pauses.Pause.TheVariants as pauses
 use Rattle.fork_loop.specs.declared.crews.Crew.{Crew}
-use Rattle.fork_loop.specs.Courses.{RowIs, NextIs, Frame, Course, OthersStay, DrainsRow, RowRuns, IsAsleep, SameRest}
+use Rattle.fork_loop.specs.Courses.{OwesFor, RowIs, NextIs, Frame, Course, OthersStay, DrainsRow, RowRuns, IsAsleep, SameRest}
 use Rattle.fork_loop.proofs.Others.{Leave, ran_leaves}
 
 next_kept : (c : Config) (past since : List Act) (unborn : Option Unborn) → admitted c since ≡ admitted c past → NextIs c past unborn → NextIs c since unborn
@@ -55,17 +58,17 @@ with_row c n since t after here others s = go (cases_eq s t)
     go (inr apart) = others s apart
 
 -- where its session came to
-pub record RowWent (c : Config) (n : ℕ) (start new : Seen) (past : List Act) (t : ℕ) (before : Crew) (is : Session) : Type 0 where
+pub record RowWent (c : Config) (n : ℕ) (start new : Seen) (past : List Act) (t : ℕ) (before : Crew) (is : Member) : Type 0 where
   pub since : List Act
   pub run : RunOf c n start new since t is
   pub leave : Leave c n past since t
 
 pub row_went : (c : Config) (n : ℕ) (start old new : Seen) (past : List Act) (t : ℕ) (before after : Crew) (pause : Pause) → Course c n start old past before → (d : DrainsRow c old new t before after pause) → RowWent c n start new past t before d.is
 row_went c n start old new past t before after pause on d =
-    let w : Waker c n past t d.was = subst (RowIs c n past t) d.had (on.rows t) in
-    let o = d.runs n start past t (record { run = on.frame.run; stands = w.stands }) in
+    let w : RowIs c n past t (Some d.was) = subst (RowIs c n past t) d.had (on.rows t) in
+    let o = d.runs n start past t (record { run = on.frame.run; stands = w.0.stands; counted = w.1; owes = inl on.unowed }) in
     let e = numbers_are c past on.frame.fork in
-    let b = w.stands.fields.ground.begun in
+    let b = w.0.stands.fields.ground.begun in
     record { since = o.since; run = o.run; leave = ran_leaves c n t past o.since on.frame.fork o.run.run.legal (omega (arith, b, e)) o.ran }
 
 pub rest_itself : (crew : Crew) → SameRest crew crew
@@ -81,6 +84,19 @@ rest_then one two three r same = record {
   bounds_same = (same.bounds_same.0 ∙ r.bounds_same.0, same.bounds_same.1 ∙ r.bounds_same.1);
 }
 
+-- no dump is owed where the session wishes for no closing
+unowed_asleep : (c : Config) (past : List Act) (x : Session) (until : Option ℕ) → wish_of x ≡ wishes.Sleep until → Owes c past x → owed c past ≡ None
+unowed_asleep c past x until w (inl e) = e
+unowed_asleep c past x until w (inr (q, e, k)) = let z : wishes.Sleep until ≡ wishes.Close q whys.Memory = sym w ∙ e in let y : ⊥ = cc in absurd y
+
+unowed_done : (c : Config) (past : List Act) (x : Session) (why : Why) → wish_of x ≡ wishes.Done why → Owes c past x → owed c past ≡ None
+unowed_done c past x why w (inl e) = e
+unowed_done c past x why w (inr (q, e, k)) = let z : wishes.Done why ≡ wishes.Close q whys.Memory = sym w ∙ e in let y : ⊥ = cc in absurd y
+
+owes_spread : (c : Config) (past : List Act) (x : Session) (why : Why) → Spreads (wish_of x) why → Owes c past x → OwesFor c past why
+owes_spread c past x why w (inl e) = inl e
+owes_spread c past x why (p, d, h) (inr (q, e, k)) = let z : wishes.Close p why ≡ wishes.Close q whys.Memory = sym d ∙ e in let y : why ≡ whys.Memory = cc in inr y
+
 pub row_sleeps : (c : Config) (old new : Seen) (t : ℕ) (before after : Crew) (until : Option ℕ) → DrainsRow c old new t before after (pauses.Sleep until) → RowRuns c old new t before after None
 row_sleeps c old new t before after until d = (
   λ n start past on.
@@ -89,7 +105,8 @@ row_sleeps c old new t before after until d = (
         past = w.since;
         course = record {
           frame = frame_on c n start old new past w.since t before after on.frame w.run.run w.leave d.same;
-          rows = with_row c n w.since t after (subst (RowIs c n w.since t) (sym d.has) (awake_asleep c n w.since t until d.is w.run.stands d.paused.0))
+          unowed = unowed_asleep c w.since d.is.session until d.paused.0 w.run.owes;
+          rows = with_row c n w.since t after (subst (RowIs c n w.since t) (sym d.has) (awake_asleep c n w.since t until d.is.session w.run.stands d.paused.0, w.run.counted))
               (row_or_others c n past w.since t before after w.leave (λ s apart. on.rows s) d.others);
         };
       },
@@ -111,7 +128,8 @@ row_done c old new t before mid after d same gone stay = (
         past = w.since;
         course = record {
           frame = frame_on c n start old new past w.since t before after on.frame w.run.run w.leave (rest_then before mid after r same);
-          rows = with_row c n w.since t after (subst (RowIs c n w.since t) (sym gone) (λ below. done_holds c n w.since t d.is d.paused.0 w.run.stands d.paused.1))
+          unowed = unowed_done c w.since d.is.session d.paused.0 d.paused.1 w.run.owes;
+          rows = with_row c n w.since t after (subst (RowIs c n w.since t) (sym gone) (λ below. done_holds c n w.since t d.is.session d.paused.0 w.run.stands d.paused.1))
               (row_or_others c n past w.since t before after w.leave (λ s apart. on.rows s) (λ s apart. stay s apart ∙ d.others s apart));
         };
       },
@@ -130,10 +148,11 @@ row_spreads c old new t why before after d = (
           frame = frame_on c n start old new past w.since t before after on.frame w.run.run w.leave d.same;
           rows = row_or_others c n past w.since t before after w.leave (λ s apart. on.rows s) d.others;
         };
-        x = d.is;
+        m = d.is;
         row = d.has;
         stands = w.run.stands;
         spreads = d.paused;
+        owes = owes_spread c w.since d.is.session why d.paused w.run.owes;
       },
   d.others,
 )

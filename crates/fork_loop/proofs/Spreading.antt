@@ -25,10 +25,11 @@ use Rattle.relay_core.specs.Sessions.{Stands, IsGrounded, wish_of, ending_of}
 use Rattle.session_crew.specs.Crews.{Waker}
 use Rattle.session_runs.specs.Pauses.{Spreads, ends_all}
 use Rattle.fork_loop.specs.Courses.{Unsaid}
-use Rattle.fork_loop.specs.Endings.{MayLeave, MayLeaveRow, LeavesRow, CutRow, RunsOut}
+use Rattle.session_runs.specs.declared.members.Member.{Member}
+use Rattle.fork_loop.specs.Endings.{KeepsCount, MayLeave, MayLeaveRow, LeavesRow, CutRow, RunsOut}
 
 pub cut_none : (why : Why) (s : ℕ) → CutRow why s None None
-cut_none why s c n past h = h
+cut_none why s = (λ c n past h. h, tt)
 
 -- ---- what nothing has said
 
@@ -136,7 +137,10 @@ waker_may c n past s why x (inl e) w = record { grounded = w.stands.fields.groun
 waker_may c n past s why x (inr e) w = record { grounded = w.stands.fields.ground; ends = inr (inr e); unclosed = w.unclosed }
 
 -- a row whose session was cut
-pub row_cut : (why : Why) (t : ℕ) (before after : Option Session) (x y : Session) → before ≡ Some x → after ≡ Some y → ((c : Config) (n : ℕ) (past : List Act) (s : ℕ) → IsGrounded c past s x → Ends c n past s why → Stands c n past s y) → ending_of y ≡ Some why → CutRow why t before after
-row_cut why t before after x y had has cut ending = λ c n past may.
-    let m : MayLeave c n past t why x = subst (MayLeaveRow c n past t why) had may in
-    subst (LeavesRow c n past t why) (sym has) (record { stands = cut c n past t m.grounded m.ends; ending = ending; unclosed = m.unclosed })
+pub row_cut : (why : Why) (t : ℕ) (before after : Option Member) (x y : Member) → before ≡ Some x → after ≡ Some y → ((c : Config) (n : ℕ) (past : List Act) (s : ℕ) → IsGrounded c past s x.session → Ends c n past s why → Stands c n past s y.session) → ending_of y.session ≡ Some why → y.dumper ≡ x.dumper → CutRow why t before after
+row_cut why t before after x y had has cut ending same = (
+  λ c n past may.
+      let m : MayLeave c n past t why x.session = subst (MayLeaveRow c n past t why) had may in
+      subst (LeavesRow c n past t why) (sym has) (record { stands = cut c n past t m.grounded m.ends; ending = ending; unclosed = m.unclosed }),
+  subst (λ (a : Option Member). KeepsCount a after) (sym had) (subst (λ (a : Option Member). KeepsCount (Some x) a) (sym has) same),
+)

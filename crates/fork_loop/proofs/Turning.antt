@@ -18,7 +18,6 @@ use Rattle.legal_steps.proofs.PlaceLemmas.{same_place_equal}
 use Rattle.legal_steps.proofs.Holdings.{standing_held}
 use Rattle.world_trait.specs.Recordings.{with_act}
 use Rattle.world_trait.specs.Answers.{Did, TurnCounts, NamesHeld}
-use Rattle.relay_core.specs.declared.sessions.Session.{Session}
 use Rattle.relay_core.specs.declared.sessions.Unborn.{Unborn}
 use Rattle.relay_core.specs.Told.{stop_turned}
 use Rattle.session_sleep.specs.Sleeps.{just}
@@ -26,7 +25,8 @@ use Rattle.session_kept.proofs.Kept.{hears_kept, stopped_kept}
 use Rattle.session_driver.specs.Seen.{Seen}
 use Rattle.session_crew.proofs.Members.{awake}
 use Rattle.session_runs.specs.Runs.{Run}
-use Rattle.session_runs.proofs.Going.{told_act, undumped_owes, risen_later, risen_kept}
+use Rattle.session_runs.specs.declared.members.Member.{Member}
+use Rattle.session_runs.proofs.Going.{told_act, risen_later, risen_kept}
 use Rattle.program_door.specs.Stands.{DoorStands}
 use Rattle.fork_table.specs.Tables.{row_of, Table}
 use Rattle.fork_loop.specs.declared.crews.Crew.{Crew}
@@ -34,6 +34,7 @@ use Rattle.fork_loop.specs.Courses.{RowIs, NextIs, Course, Onward, IsAsleep, All
 use Rattle.fork_loop.specs.Endings.{LeavesRow}
 use Rattle.fork_loop.specs.Turns.{HearsRow, AllHeard}
 use Rattle.fork_loop.specs.Waited.{Leaving, InOrder}
+use Rattle.fork_loop.proofs.Counting.{counted_by}
 
 -- ---- what is named is held
 
@@ -67,8 +68,7 @@ pub record Turns (old new : Seen) (until : Option ℕ) (at : ℕ) (ready : Liste
 
 turned_run : (c : Config) (n : ℕ) (start old new : Seen) (past : List Act) (until : Option ℕ) (at : ℕ) (ready : Listed) (stop : Bool) → Run c n start old past → Turns old new until at ready stop → turns past < n → InOrder c past until → Run c n start new (Turn until at (copied_list ready) stop ∷ past)
 turned_run c n start old new past until at ready stop on t few order = record {
-  undumped = on.undumped;
-  legal = ((undumped_owes c past on.undumped, record { turns_left = few; rests = order.rests; is_until = order.is_until }), on.legal);
+  legal = ((order.rests.no_dump, record { turns_left = few; rests = order.rests; is_until = order.is_until }), on.legal);
   named = (held_named c n past new.held ready.entries on.legal (λ p. t.did.held p ∙ on.holds p) t.named, on.named);
   pairs = on.pairs;
   asked = on.asked;
@@ -84,22 +84,24 @@ turned_run c n start old new past until at ready stop on t few order = record {
 
 -- ---- rows
 
-row_turned : (c : Config) (n : ℕ) (past : List Act) (s : ℕ) (until : Option ℕ) (at : ℕ) (ready : Listed) (before after : Option Session) → RowIs c n past s before → IsAsleep before → HearsRow at ready false s before after → RowIs c n (Turn until at (copied_list ready) false ∷ past) s after
+row_turned : (c : Config) (n : ℕ) (past : List Act) (s : ℕ) (until : Option ℕ) (at : ℕ) (ready : Listed) (before after : Option Member) → RowIs c n past s before → IsAsleep before → HearsRow at ready false s before after → RowIs c n (Turn until at (copied_list ready) false ∷ past) s after
 row_turned c n past s until at ready None None r a h = r
 row_turned c n past s until at ready (Some x) (Some y) w a h =
-    let heard = h c n past s a.0 w.stands a.1 in
-    awake c n (Turn until at (copied_list ready) false ∷ past) s y (hears_kept c n s None past past until a.0 at (copied_list ready) (copied_list ready) false y w.stands.fields.ground.begun just refl heard)
+    let heard = h.0 c n past s a.0 w.0.stands a.1 in (
+      awake c n (Turn until at (copied_list ready) false ∷ past) s y.session (hears_kept c n s None past past until a.0 at (copied_list ready) (copied_list ready) false y.session w.0.stands.fields.ground.begun just refl heard),
+      counted_by c (Turn until at (copied_list ready) false) past s x.dumper y.dumper refl h.1 w.1,
+    )
 row_turned c n past s until at ready None (Some y) r a h = absurd h
 row_turned c n past s until at ready (Some x) None r a h = absurd h
 
-row_stopped : (c : Config) (n : ℕ) (past : List Act) (s : ℕ) (until : Option ℕ) (at : ℕ) (ready : Listed) (before after : Option Session) → memory_said past ≡ false → RowIs c n past s before → IsAsleep before → HearsRow at ready true s before after → LeavesRow c n (Turn until at (copied_list ready) true ∷ past) s whys.Stopped after
+row_stopped : (c : Config) (n : ℕ) (past : List Act) (s : ℕ) (until : Option ℕ) (at : ℕ) (ready : Listed) (before after : Option Member) → memory_said past ≡ false → RowIs c n past s before → IsAsleep before → HearsRow at ready true s before after → LeavesRow c n (Turn until at (copied_list ready) true ∷ past) s whys.Stopped after
 row_stopped c n past s until at ready None None m r a h = r
 row_stopped c n past s until at ready (Some x) (Some y) m w a h =
-    let l = h c n past s a.0 w.stands a.1 in
-    let k = w.unclosed in
+    let l = h.0 c n past s a.0 w.0.stands a.1 in
+    let k = w.0.unclosed in
     let e : cause c (Turn a.0 at (copied_list ready) true ∷ past) s ≡ Some whys.Stopped = rw (k, m) refl in
     record {
-      stands = stopped_kept c n s None past past until a.0 at (copied_list ready) (copied_list ready) true y w.stands.fields.ground.begun just refl (l.ending ∙ sym e) l.stands;
+      stands = stopped_kept c n s None past past until a.0 at (copied_list ready) (copied_list ready) true y.session w.0.stands.fields.ground.begun just refl (l.ending ∙ sym e) l.stands;
       ending = l.ending;
       unclosed = k;
     }
@@ -128,7 +130,7 @@ goes_on c n start old new past until at before mid after on few order asleep t w
     let f = on.frame in
     let e = f.made_is in
     let table = w.table_same in
-    let same : after.table.admitted ≡ before.table.admitted = h.same.admitted_same ∙ ap (λ (x : Table Session). x.admitted) table in
+    let same : after.table.admitted ≡ before.table.admitted = h.same.admitted_same ∙ ap (λ (x : Table Member). x.admitted) table in
     record {
       past = Turn until at (copied_list mid.ready) false ∷ past;
       course = record {
@@ -138,15 +140,16 @@ goes_on c n start old new past until at before mid after on few order asleep t w
           door = h.door c past until at (subst (DoorStands c past) (sym w.door_same) f.door);
           counts = record {
             admitted_is = same ∙ f.counts.admitted_is;
-            children_is = h.same.bounds_same.0 ∙ (ap (λ (x : Table Session). x.max_children) table ∙ f.counts.children_is);
-            stop_is = h.same.bounds_same.1 ∙ (ap (λ (x : Table Session). x.stop_after) table ∙ f.counts.stop_is);
+            children_is = h.same.bounds_same.0 ∙ (ap (λ (x : Table Member). x.max_children) table ∙ f.counts.children_is);
+            stop_is = h.same.bounds_same.1 ∙ (ap (λ (x : Table Member). x.stop_after) table ∙ f.counts.stop_is);
           };
           next = subst (NextIs c (Turn until at (copied_list mid.ready) false ∷ past)) (sym (h.same.unborn_same ∙ w.unborn_same)) (next_after_turn c past until at (copied_list mid.ready) false before.unborn f.next);
           clock_is = h.same.clock_same ∙ w.clock_is;
           made_is = one_turn (turns past) before.made after.made e (h.same.made_same ∙ w.made_is);
           unsaid = record { remembered = f.unsaid.remembered; unstopped = f.unsaid.unstopped };
         };
-        rows = λ s. row_turned c n past s until at mid.ready (row_of mid.table s) (row_of after.table s) (subst (λ (x : Table Session). RowIs c n past s (row_of x s)) (sym table) (on.rows s)) (subst (λ (x : Table Session). IsAsleep (row_of x s)) (sym table) (asleep s)) (h.rows s);
+        unowed = refl;
+        rows = λ s. row_turned c n past s until at mid.ready (row_of mid.table s) (row_of after.table s) (subst (λ (x : Table Member). RowIs c n past s (row_of x s)) (sym table) (on.rows s)) (subst (λ (x : Table Member). IsAsleep (row_of x s)) (sym table) (asleep s)) (h.rows s);
       };
     }
 
@@ -155,7 +158,7 @@ stops_all c n start old new past until at before mid after on few order asleep t
     let f = on.frame in
     let e = f.made_is in
     let table = w.table_same in
-    let same : after.table.admitted ≡ before.table.admitted = h.same.admitted_same ∙ ap (λ (x : Table Session). x.admitted) table in
+    let same : after.table.admitted ≡ before.table.admitted = h.same.admitted_same ∙ ap (λ (x : Table Member). x.admitted) table in
     record {
       past = Turn until at (copied_list mid.ready) true ∷ past;
       leaving = record {
@@ -166,14 +169,15 @@ stops_all c n start old new past until at before mid after on few order asleep t
           may = f.unsaid.remembered;
           ends = inl (refl, f.unsaid.remembered);
           stops = λ _. inl refl;
+          owes = inl refl;
         };
         counts = record {
           admitted_is = same ∙ f.counts.admitted_is;
-          children_is = h.same.bounds_same.0 ∙ (ap (λ (x : Table Session). x.max_children) table ∙ f.counts.children_is);
-          stop_is = h.same.bounds_same.1 ∙ (ap (λ (x : Table Session). x.stop_after) table ∙ f.counts.stop_is);
+          children_is = h.same.bounds_same.0 ∙ (ap (λ (x : Table Member). x.max_children) table ∙ f.counts.children_is);
+          stop_is = h.same.bounds_same.1 ∙ (ap (λ (x : Table Member). x.stop_after) table ∙ f.counts.stop_is);
         };
         made_is = one_turn (turns past) before.made after.made e (h.same.made_same ∙ w.made_is);
-        rows = λ s. row_stopped c n past s until at mid.ready (row_of mid.table s) (row_of after.table s) f.unsaid.remembered (subst (λ (x : Table Session). RowIs c n past s (row_of x s)) (sym table) (on.rows s)) (subst (λ (x : Table Session). IsAsleep (row_of x s)) (sym table) (asleep s)) (h.rows s);
+        rows = λ s. row_stopped c n past s until at mid.ready (row_of mid.table s) (row_of after.table s) f.unsaid.remembered (subst (λ (x : Table Member). RowIs c n past s (row_of x s)) (sym table) (on.rows s)) (subst (λ (x : Table Member). IsAsleep (row_of x s)) (sym table) (asleep s)) (h.rows s);
       };
     }
 

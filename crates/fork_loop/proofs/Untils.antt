@@ -3,10 +3,10 @@ use Rattle.std.proofs.Common.{◌≡◌, refl, sym, ap, subst, ◌∙◌, ℕ, �
 use Rattle.std.proofs.lemmas.Bool.{cases_lt, cases_eq}
 use Rattle.relay_model.specs.Choices.{earlier}
 use Rattle.relay_laws.proofs.Least.{LeastOf, least, none_at_all, own_least, map_least, join_least}
-use Rattle.relay_core.specs.declared.sessions.Session.{Session}
 use Rattle.relay_core.specs.declared.wishes.Wish.TheVariants as wishes
 use Rattle.relay_core.specs.Sessions.{wish_of}
 use Rattle.fork_table.specs.Tables.{row_of, IsFirstLive}
+use Rattle.session_runs.specs.declared.members.Member.{Member}
 use Rattle.fork_loop.specs.declared.crews.Crew.{Crew}
 use Rattle.fork_loop.specs.Courses.{HasRow, IsAsleep, AllAsleep}
 use Rattle.fork_loop.specs.Waits.{SameCrew, RowUntil, WaitsFor, IsLeast}
@@ -21,7 +21,7 @@ crew_then one two three a b = record { rows_same = λ s. b.rows_same s ∙ a.row
 
 -- some session of a lesser number waits for this moment
 abbrev pub RowWaits : Crew → ℕ → ℕ → Type 0
-RowWaits crew k m = (s : ℕ) × (x : Session) × (s < k) × HasRow crew s x × (wish_of x ≡ wishes.Sleep (Some m))
+RowWaits crew k m = (s : ℕ) × (x : Member) × (s < k) × HasRow crew s x × (wish_of x.session ≡ wishes.Sleep (Some m))
 
 abbrev pub WaitsBelow : Option ℕ → Crew → ℕ → ℕ → Type 0
 WaitsBelow first crew k m = (first ≡ Some m) ⊎ RowWaits crew k m
@@ -31,7 +31,7 @@ abbrev pub LeastTo : Option ℕ → Crew → Option ℕ → Option ℕ → Type 
 LeastTo first crew None answer = LeastOf (WaitsFor first crew) answer
 LeastTo first crew (Some k) answer = LeastOf (WaitsBelow first crew k) answer × (is_some (row_of crew.table k) ≡ true)
 
-no_session : {P : Type 0} (row : Option Session) (x : Session) → row ≡ None → row ≡ Some x → P
+no_session : {P : Type 0} (row : Option Member) (x : Member) → row ≡ None → row ≡ Some x → P
 no_session row x e f = let y : None ≡ Some x = sym e ∙ f in let z : ⊥ = cc in absurd z
 
 pub least_first : (first : Option ℕ) (crew : Crew) (next : Option ℕ) → IsFirstLive crew.table 0 next → LeastTo first crew next first
@@ -47,7 +47,7 @@ least_first first crew (Some k) f = (map_least (λ m. first ≡ Some m) (WaitsBe
     back m (inr (s, x, below, has, w)) = no_session (row_of crew.table s) x (f.2 s (omega arith) below) has
 
 -- one number on
-step_least : (first : Option ℕ) (crew : Crew) (k : ℕ) (least_so until : Option ℕ) (x : Session) → HasRow crew k x → wish_of x ≡ wishes.Sleep until → LeastOf (WaitsBelow first crew k) least_so → LeastOf (WaitsBelow first crew (k + 1)) (earlier least_so until)
+step_least : (first : Option ℕ) (crew : Crew) (k : ℕ) (least_so until : Option ℕ) (x : Member) → HasRow crew k x → wish_of x.session ≡ wishes.Sleep until → LeastOf (WaitsBelow first crew k) least_so → LeastOf (WaitsBelow first crew (k + 1)) (earlier least_so until)
 step_least first crew k least_so until x has w l =
     map_least (λ m. WaitsBelow first crew k m ⊎ (until ≡ Some m)) (WaitsBelow first crew (k + 1)) (earlier least_so until) up down
     (join_least (WaitsBelow first crew k) (λ m. until ≡ Some m) least_so until l (own_least until))
@@ -57,10 +57,10 @@ step_least first crew k least_so until x has w l =
     up m (inl (inr (s, y, below, h, v))) = inr (s, y, omega (arith, below), h, v)
     up m (inr e) = inr (k, x, omega arith, has, w ∙ ap wishes.Sleep e)
 
-    at_k : (m : ℕ) (y : Session) → row_of crew.table k ≡ Some y → wish_of y ≡ wishes.Sleep (Some m) → until ≡ Some m
+    at_k : (m : ℕ) (y : Member) → row_of crew.table k ≡ Some y → wish_of y.session ≡ wishes.Sleep (Some m) → until ≡ Some m
     at_k m y h v =
         let same : x ≡ y = let z : Some x ≡ Some y = sym has ∙ h in cc in
-        let e : wishes.Sleep until ≡ wishes.Sleep (Some m) = sym w ∙ ap wish_of same ∙ v in
+        let e : wishes.Sleep until ≡ wishes.Sleep (Some m) = sym w ∙ ap (λ (z : Member). wish_of z.session) same ∙ v in
         cc
 
     down : (m : ℕ) → WaitsBelow first crew (k + 1) m → WaitsBelow first crew k m ⊎ (until ≡ Some m)

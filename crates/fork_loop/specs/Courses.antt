@@ -1,12 +1,13 @@
 -- What the loop keeps true, of some history that all that it drives stands for.
-use Rattle.std.specs.Prelude.{◌≡◌, ◌≢◌, ℕ, ◌<◌, true, false, List, Option, Some, None, is_some}
+use Rattle.std.specs.Prelude.{◌≡◌, ◌≢◌, ◌⊎◌, ℕ, ◌<◌, true, false, List, Option, Some, None, is_some}
 use Rattle.relay_model.specs.declared.acts.Act.{Act}
 use Rattle.relay_model.specs.declared.acts.Why.{Why}
+use Rattle.relay_model.specs.declared.acts.Why.TheVariants as whys
 use Rattle.relay_model.specs.declared.commands.Config.{Config}
 use Rattle.relay_model.specs.Configs.{has_fork}
 use Rattle.relay_model.specs.History.{now as moment, turns, memory_said, stop_said}
+use Rattle.relay_model.specs.Rest.{owed}
 use Rattle.relay_model.specs.Sessions.{admitted, holds, door_options}
-use Rattle.relay_core.specs.declared.sessions.Session.{Session}
 use Rattle.relay_core.specs.declared.sessions.Unborn.{Unborn}
 use Rattle.relay_core.specs.declared.wishes.Wish.TheVariants as wishes
 use Rattle.relay_core.specs.Sessions.{Stands, IsUnborn, wish_of}
@@ -14,18 +15,21 @@ use Rattle.program_door.specs.Stands.{DoorStands}
 use Rattle.fork_table.specs.Tables.{Table, SameBounds, row_of}
 use Rattle.session_driver.specs.Seen.{Seen}
 use Rattle.session_crew.specs.Crews.{Waker}
+use Rattle.session_driver.specs.Dumpers.{Counted}
 use Rattle.session_runs.specs.Runs.{Run, RunsOn}
+use Rattle.session_runs.specs.declared.members.Member.{Member}
 use Rattle.session_runs.specs.Pauses.{PauseIs, Spreads}
 use Rattle.session_runs.specs.declared.pauses.Pause.{Pause}
 use Rattle.fork_loop.specs.declared.crews.Crew.{Crew}
 
--- a session that is in the table is awake; one that has begun and isn't there holds nothing any more
-abbrev pub RowIs : Config → ℕ → List Act → ℕ → Option Session → Type 0
+-- a session that is in the table is awake, and what it read is counted; one that has begun and isn't there holds nothing
+-- any more
+abbrev pub RowIs : Config → ℕ → List Act → ℕ → Option Member → Type 0
 RowIs c n past s None = s < admitted c past → holds c past s ≡ false
-RowIs c n past s (Some x) = Waker c n past s x
+RowIs c n past s (Some m) = Waker c n past s m.session × Counted c past s m.dumper
 
 -- the table counts as the history does
-pub record Counts (c : Config) (past : List Act) (table : Table Session) : Type 0 where
+pub record Counts (c : Config) (past : List Act) (table : Table Member) : Type 0 where
   pub admitted_is : table.admitted ≡ admitted c past
   pub children_is : table.max_children ≡ (door_options c).max_children
   pub stop_is : table.stop_after ≡ (door_options c).stop_after
@@ -51,9 +55,10 @@ pub record Frame (c : Config) (n : ℕ) (start now : Seen) (past : List Act) (cr
   pub made_is : turns past ≡ crew.made
   pub unsaid : Unsaid past
 
--- and all sessions, where nothing has ended the run
+-- and all sessions, where nothing has ended the run and no dump is owed
 pub record Course (c : Config) (n : ℕ) (start now : Seen) (past : List Act) (crew : Crew) : Type 0 where
   pub frame : Frame c n start now past crew
+  pub unowed : owed c past ≡ None
   pub rows : (s : ℕ) → RowIs c n past s (row_of crew.table s)
 
 -- all sessions but this one
@@ -82,8 +87,8 @@ abbrev pub OthersStay : ℕ → Crew → Crew → Type 0
 OthersStay t before after = (s : ℕ) → s ≢ t → row_of after.table s ≡ row_of before.table s
 
 -- the row of this number has this session
-abbrev pub HasRow : Crew → ℕ → Session → Type 0
-HasRow crew s x = row_of crew.table s ≡ Some x
+abbrev pub HasRow : Crew → ℕ → Member → Type 0
+HasRow crew s m = row_of crew.table s ≡ Some m
 
 -- all of a crew but its rows is as it was
 pub record SameRest (before after : Crew) : Type 0 where
@@ -96,28 +101,33 @@ pub record SameRest (before after : Crew) : Type 0 where
 
 -- the session of this number went on to its pause, over the world of all, and nothing else changed
 pub record DrainsRow (c : Config) (old new : Seen) (t : ℕ) (before after : Crew) (pause : Pause) : Type 0 where
-  pub was : Session
-  pub is : Session
+  pub was : Member
+  pub is : Member
   pub had : HasRow before t was
   pub has : HasRow after t is
   pub runs : RunsOn c old new was is
-  pub paused : PauseIs is pause
+  pub paused : PauseIs is.session pause
   pub others : OthersStay t before after
   pub same : SameRest before after
 
 -- a session that wishes to sleep
-abbrev pub IsAsleep : Option Session → Type 0
+abbrev pub IsAsleep : Option Member → Type 0
 IsAsleep None = Unit {0}
-IsAsleep (Some x) = (until : Option ℕ) × (wish_of x ≡ wishes.Sleep until)
+IsAsleep (Some m) = (until : Option ℕ) × (wish_of m.session ≡ wishes.Sleep until)
+
+-- no dump is owed, or the run is to be ended for want of memory
+abbrev pub OwesFor : Config → List Act → Why → Type 0
+OwesFor c past why = (owed c past ≡ None) ⊎ (why ≡ whys.Memory)
 
 -- it wishes for a closing that ends every session
 pub record RowSpreads (c : Config) (n : ℕ) (start now : Seen) (t : ℕ) (why : Why) (crew : Crew) : Type 0 where
   pub past : List Act
   pub course : CourseBut c n start now past t crew
-  pub x : Session
-  pub row : HasRow crew t x
-  pub stands : Stands c n past t x
-  pub spreads : Spreads (wish_of x) why
+  pub m : Member
+  pub row : HasRow crew t m
+  pub stands : Stands c n past t m.session
+  pub spreads : Spreads (wish_of m.session) why
+  pub owes : OwesFor c past why
 
 -- the session of this number waits or is gone, or wishes for a closing that ends every session
 abbrev pub RowRuns : Config → Seen → Seen → ℕ → Crew → Crew → Option Why → Type 0

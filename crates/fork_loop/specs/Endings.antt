@@ -16,7 +16,8 @@ use Rattle.session_driver.specs.Seen.{Seen}
 use Rattle.session_crew.specs.Crews.{Leaver}
 use Rattle.session_runs.specs.Pauses.{ends_all}
 use Rattle.fork_loop.specs.declared.crews.Crew.{Crew}
-use Rattle.fork_loop.specs.Courses.{Frame, SameRest, OthersStay}
+use Rattle.session_runs.specs.declared.members.Member.{Member}
+use Rattle.fork_loop.specs.Courses.{Frame, OwesFor, SameRest, OthersStay}
 
 -- a session may be cut for this reason, and nothing of it was closed yet
 pub record MayLeave (c : Config) (n : ℕ) (past : List Act) (s : ℕ) (why : Why) (x : Session) : Type 0 where
@@ -25,14 +26,14 @@ pub record MayLeave (c : Config) (n : ℕ) (past : List Act) (s : ℕ) (why : Wh
   pub unclosed : closed_why c past s ≡ None
 
 -- the same of the row of a number; where no session has it, one that began holds nothing any more
-abbrev pub MayLeaveRow : Config → ℕ → List Act → ℕ → Why → Option Session → Type 0
+abbrev pub MayLeaveRow : Config → ℕ → List Act → ℕ → Why → Option Member → Type 0
 MayLeaveRow c n past s why None = s < admitted c past → holds c past s ≡ false
-MayLeaveRow c n past s why (Some x) = MayLeave c n past s why x
+MayLeaveRow c n past s why (Some m) = MayLeave c n past s why m.session
 
 -- it was cut
-abbrev pub LeavesRow : Config → ℕ → List Act → ℕ → Why → Option Session → Type 0
+abbrev pub LeavesRow : Config → ℕ → List Act → ℕ → Why → Option Member → Type 0
 LeavesRow c n past s why None = s < admitted c past → holds c past s ≡ false
-LeavesRow c n past s why (Some x) = Leaver c n past s why x
+LeavesRow c n past s why (Some m) = Leaver c n past s why m.session
 
 -- memory is wanting, or the turns are used up while a wait is in order
 abbrev pub RunsOut : Config → ℕ → List Act → Why → Type 0
@@ -44,11 +45,18 @@ pub record MayEnd (c : Config) (n : ℕ) (start now : Seen) (why : Why) (crew : 
   pub frame : Frame c n start now past crew
   pub all : ends_all why ≡ true
   pub ends : RunsOut c n past why
+  pub owes : OwesFor c past why
   pub rows : (s : ℕ) → MayLeaveRow c n past s why (row_of crew.table s)
 
+-- what was counted of the reads of a session stays
+abbrev pub KeepsCount : Option Member → Option Member → Type 0
+KeepsCount None None = Unit {0}
+KeepsCount (Some old) (Some new) = new.dumper ≡ old.dumper
+KeepsCount old new = ⊥
+
 -- a session that may be cut is
-abbrev pub CutRow : Why → ℕ → Option Session → Option Session → Type 0
-CutRow why s before after = (c : Config) (n : ℕ) (past : List Act) → MayLeaveRow c n past s why before → LeavesRow c n past s why after
+abbrev pub CutRow : Why → ℕ → Option Member → Option Member → Type 0
+CutRow why s before after = ((c : Config) (n : ℕ) (past : List Act) → MayLeaveRow c n past s why before → LeavesRow c n past s why after) × KeepsCount before after
 
 -- each is
 pub record CutsRows (why : Why) (before after : Crew) : Type 0 where

@@ -13,6 +13,7 @@ use Rattle.program_door.specs.Stands.{DoorStands}
 use Rattle.fork_table.specs.Tables.{row_of, SameBounds}
 use Rattle.session_crew.specs.Crews.{Leaver}
 use Rattle.fork_loop.specs.declared.crews.Crew.{Crew}
+use Rattle.session_runs.specs.declared.members.Member.{Member}
 use Rattle.fork_loop.specs.Courses.{OthersStay}
 
 -- a session has heard a turn; one that says stop has cut it
@@ -29,10 +30,10 @@ HearsTurn at ready stop old new =
 abbrev pub DoorHearsTurn : Listed → Bool → Door → Door → Type 0
 DoorHearsTurn ready stop old new = (c : Config) (past : List Act) (until : Option ℕ) (at : ℕ) → DoorStands c past old → DoorStands c (Turn until at (copied_list ready) stop ∷ past) new
 
--- each session has; no row came or went
-abbrev pub HearsRow : ℕ → Listed → Bool → ℕ → Option Session → Option Session → Type 0
+-- each session has, and what was counted of it stays; no row came or went
+abbrev pub HearsRow : ℕ → Listed → Bool → ℕ → Option Member → Option Member → Type 0
 HearsRow at ready stop s None None = Unit {0}
-HearsRow at ready stop s (Some old) (Some new) = HearsTurn at ready stop old new
+HearsRow at ready stop s (Some old) (Some new) = HearsTurn at ready stop old.session new.session × (new.dumper ≡ old.dumper)
 HearsRow at ready stop s old new = ⊥
 
 -- all but the door and the rows is as it was

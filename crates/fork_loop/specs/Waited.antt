@@ -1,12 +1,12 @@
 -- What a wait makes of the loop.
-use Rattle.std.specs.Prelude.{◌≡◌, ◌⊎◌, ℕ, suc, true, List, Option}
+use Rattle.std.specs.Prelude.{◌≡◌, ◌⊎◌, ℕ, suc, true, false, List, Option, None}
 use Rattle.relay_model.specs.declared.commands.Config.{Config}
 use Rattle.relay_model.specs.declared.acts.Act.{Act}
 use Rattle.relay_model.specs.declared.acts.Why.{Why}
 use Rattle.relay_model.specs.declared.acts.Why.TheVariants as whys
 use Rattle.relay_model.specs.Configs.{has_fork}
-use Rattle.relay_model.specs.History.{turns}
-use Rattle.relay_model.specs.Rest.{Rest, until_of}
+use Rattle.relay_model.specs.History.{turns, memory_said}
+use Rattle.relay_model.specs.Rest.{Rest, owed, until_of}
 use Rattle.relay_core.specs.Told.{stop_turned}
 use Rattle.program_door.specs.declared.doors.Door.{Door}
 use Rattle.program_door.specs.Stands.{DoorStands}
@@ -24,6 +24,10 @@ use Rattle.fork_loop.specs.Endings.{LeavesRow, MayEnd, RunsOut}
 abbrev pub StopsAt : ℕ → Why → List Act → Type 0
 StopsAt n why past = why ≡ whys.Stopped → (stop_turned past ≡ true) ⊎ (turns past ≡ n)
 
+-- no dump is owed, or the first closing for want of memory is still to come
+abbrev pub OwesAtExit : Config → List Act → Why → Type 0
+OwesAtExit c past why = (owed c past ≡ None) ⊎ ((why ≡ whys.Memory) × (memory_said past ≡ false))
+
 -- the run is ended for this reason, a stop or want of memory, and a closing for it may come
 pub record Exit (c : Config) (n : ℕ) (start now : Seen) (past : List Act) (why : Why) (door : Door) : Type 0 where
   pub fork : has_fork c ≡ true
@@ -32,6 +36,7 @@ pub record Exit (c : Config) (n : ℕ) (start now : Seen) (past : List Act) (why
   pub may : MaySay why past
   pub ends : IsSaid why past ⊎ RunsOut c n past why
   pub stops : StopsAt n why past
+  pub owes : OwesAtExit c past why
 
 -- and each session was cut for it
 pub record LeavingAt (c : Config) (n : ℕ) (start now : Seen) (past : List Act) (why : Why) (crew : Crew) : Type 0 where

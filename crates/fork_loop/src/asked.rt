@@ -12,6 +12,7 @@ use door_driver::{DoorStepped, step};
 use fork_table::Steps;
 use relay_core::Unborn;
 use relay_model::{Config, NoMemory, Why};
+use session_runs::Member;
 use std::alloc::Global;
 use std::sync::ledger::Ledger;
 use world_trait::World;
@@ -65,7 +66,7 @@ impl Crew {
         ensures { GoesOn config.now (seen W.told W.held W.faults W.waits W.stops W.clock world.old) (seen W.told W.held W.faults W.waits W.stops W.clock world.new) self.old self.new result }
     {
         match self.take_next(alloc, config) {
-            Ok(unborn) => self.ask_for(unborn, world, config, steps),
+            Ok(unborn) => self.ask_for(unborn, alloc, world, config, steps),
             Err(NoMemory) => Some(Asked::Ends(Why::Memory)),
         }
     }
@@ -74,6 +75,7 @@ impl Crew {
     fn ask_for<W: World, L: Ledger>(
         &mut self,
         unborn: Unborn,
+        alloc: Global,
         world: &mut W,
         config: &Config,
         steps: &mut Steps<L>,
@@ -93,7 +95,8 @@ impl Crew {
             }
             DoorStepped::Admitted(peer) => {
                 let number = self.table.next_number();
-                self.table.admit(unborn.accepted(self.clock, peer));
+                let session = unborn.accepted(self.clock, peer);
+                self.table.admit(Member::new(alloc, session));
                 match self.run_row(number, world, config, steps) {
                     Some(why) => Some(Asked::Ends(why)),
                     None => None,

@@ -3,14 +3,15 @@ ghost use Rattle.std.specs.Prelude.{◌<◌, ◌≤◌, vec_len};
 
 use fork_table::ForkTable;
 use program_door::Door;
-use relay_core::{Session, Unborn};
+use relay_core::Unborn;
 use relay_model::ReadyList;
+use session_runs::Member;
 
 /// The program door, the session of each peer, and what the loop needs beside them.
 #[derive(Drop)]
 pub struct Crew {
     pub door: Door,
-    pub table: ForkTable<Session>,
+    pub table: ForkTable<Member>,
     /// The next session, before its peer is asked for.
     pub unborn: Option<Unborn>,
     pub ready: ReadyList,

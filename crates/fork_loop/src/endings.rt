@@ -23,8 +23,8 @@ impl Crew {
     fn cut_row<L: Ledger>(&mut self, number: u32, why: Why, steps: &mut Steps<L>)
         ensures { CutsRow number why self.old self.new }
     {
-        if let Some(session) = self.table.session_mut(number, steps) {
-            session.cut(why);
+        if let Some(member) = self.table.session_mut(number, steps) {
+            member.session.cut(why);
         }
     }
 }

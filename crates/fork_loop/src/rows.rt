@@ -81,7 +81,7 @@ impl Crew {
         ensures { DrainsRow config.now (seen W.told W.held W.faults W.waits W.stops W.clock world.old) (seen W.told W.held W.faults W.waits W.stops W.clock world.new) number self.old self.new result }
     {
         match self.table.session_mut(number, steps) {
-            Some(session) => drain(session, world, config, self.scratch.as_mut_slice()),
+            Some(member) => drain(member, world, config, self.scratch.as_mut_slice()),
             None => Pause::Done,
         }
     }

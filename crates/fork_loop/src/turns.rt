@@ -39,8 +39,8 @@ impl Crew {
         requires { IsAsleep (row_of self.old.table number) }
         ensures { RowHeard number at stop self.old self.new }
     {
-        if let Some(session) = self.table.session_mut(number, steps) {
-            hear_turn(session, at, &self.ready, stop);
+        if let Some(member) = self.table.session_mut(number, steps) {
+            hear_turn(&mut member.session, at, &self.ready, stop);
         }
     }
 }

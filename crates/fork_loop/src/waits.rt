@@ -34,7 +34,7 @@ impl Crew {
         ensures { RowUntil number self.old self.new result }
     {
         match self.table.session_mut(number, steps) {
-            Some(session) => match session.wish() {
+            Some(member) => match member.session.wish() {
                 Wish::Sleep { until } => until,
                 _ => None,
             },

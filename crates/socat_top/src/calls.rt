@@ -7,11 +7,9 @@ ghost use Rattle.cmd_words.specs.Commands.{IsFit};
 ghost use Rattle.event_loop.specs.Courses.{Risen};
 ghost use Rattle.relay_model.specs.Configs.{Fit};
 ghost use Rattle.event_loop.specs.Headline.{Completes, StopCause, is_failure, is_relayed};
-ghost use Rattle.socat_top.specs.Built.{is_built};
 ghost use Rattle.socat_top.specs.Headline.{Answers, CompletesTask, Headline, Leaves};
 ghost use Rattle.socat_top.specs.Tasks.{task, command_task, task_of};
 
-use crate::built::can_run;
 use crate::notes::{conclude, print};
 use crate::relays::relay;
 use cmd_words::{Command, CommandFault, command_of};
@@ -20,7 +18,7 @@ use relay_model::{Config, Refusal, Refused, Text};
 use std::alloc::Global;
 use world_trait::World;
 
-/// The refusal of a command that can't be run yet: no word of it is wrong.
+/// The refusal of the generated run, which can't be run yet: no word of it is wrong.
 const NOT_BUILT: Refused = Refused {
     word: 0,
     half: 0,
@@ -59,10 +57,8 @@ fn obey<W: World>(alloc: Global, world: &mut W, command: &Command, turns: u64) -
     ensures complete { CompletesTask (command_task command.now) turns (W.faults world.old) (W.faults world.new) (W.waits world.old) (W.waits world.new) (W.stops world.old) (W.stops world.new) result }
 {
     match command {
-        Command::Relay(config) if can_run(config) => run_relay(alloc, world, config, turns),
-        Command::Relay(_) | Command::Load(_) => {
-            conclude(alloc, world, Outcome::Refused(NOT_BUILT))
-        }
+        Command::Relay(config) => run_relay(alloc, world, config, turns),
+        Command::Load(_) => conclude(alloc, world, Outcome::Refused(NOT_BUILT)),
         Command::Usage => print(alloc, world, usage_text(alloc)),
         Command::Version => print(alloc, world, version_text(alloc)),
     }
@@ -71,7 +67,6 @@ fn obey<W: World>(alloc: Global, world: &mut W, command: &Command, turns: u64) -
 /// Relays, and notes the line of the outcome.
 fn run_relay<W: World>(alloc: Global, world: &mut W, config: &Config, turns: u64) -> Outcome
     requires fit { Fit config.now }
-    requires built { is_built config.now ≡ true }
     requires free { (p : Spot) → W.held world.old p ≡ Free }
     ensures free { (p : Spot) → W.held world.new p ≡ Free }
     ensures headline { (before : History) → W.told world.old ≡ Some before → Headline config.now turns before (W.told world.new) result }
