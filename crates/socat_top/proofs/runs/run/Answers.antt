@@ -9,11 +9,11 @@ pub returns-clause-headline : goal.returns-clause-headline
 returns-clause-headline g c = λ before told.
     let told_on : is_some c.into_desk.result.log.recording.told ≡ true = rw c.into_desk.ensures.desk (c.socat-outcome.ensures.tells ∙ rw (c.new-followed.ensures, told) refl) in
     let P : Option History → Type 0 = λ t. Leaves (task c.args.words.now) c.args.turns before t c.socat-outcome.result in
-    subst P (c.end.ensures.kept told_on) (rw c.into_desk.ensures.desk (c.socat-outcome.ensures.headline before (rw c.new-followed.ensures told)))
+    subst P (c.end-standard.ensures.kept told_on) (rw c.into_desk.ensures.desk (c.socat-outcome.ensures.headline before (rw c.new-followed.ensures told)))
 
 pub returns-clause-passed : goal.returns-clause-passed
 returns-clause-passed g c = λ before told.
     let told_on : is_some c.into_desk.result.log.recording.told ≡ true = rw c.into_desk.ensures.desk (c.socat-outcome.ensures.tells ∙ rw (c.new-followed.ensures, told) refl) in
-    let input = ends_still _ c.into_desk.result.ports.harbor.input.port _ _ c.end.ensures.stdin in
-    let output = ends_still _ c.into_desk.result.ports.harbor.output.port _ _ c.end.ensures.stdout in
-    passed_at c.into_desk.result.log.recording.told _ _ _ _ _ (c.end.ensures.kept told_on) c.into_desk.ensures.passed input.0 output.1
+    let input = ends_still _ c.into_desk.result.ports.harbor.input.port _ _ c.end-standard.ensures.stdin in
+    let output = ends_still _ c.into_desk.result.ports.harbor.output.port _ _ c.end-standard.ensures.stdout in
+    passed_at c.into_desk.result.log.recording.told _ _ _ _ _ (c.end-standard.ensures.kept told_on) c.into_desk.ensures.passed input.0 output.1

@@ -27,3 +27,6 @@ pub returns-clause-passed : goal.returns-clause-passed
 returns-clause-passed g c = λ before told.
     let begun : c.keep.new.self.log.recording.told ≡ Some before = c.keep.ensures.told ∙ (rw c.in-Some.ensures.0 at told) in
     rw c.with_saving-2.ensures (c.run-shipped.ensures.passed before begun)
+
+pub returns-in_default-clause-passed : goal.returns-in_default-clause-passed
+returns-in_default-clause-passed g c = λ before told. rw c.with_saving.ensures (c.run.ensures.passed before (rw c.in_default.ensures.0 at told))
