@@ -8,6 +8,7 @@ ghost use Rattle.relay_model.specs.Places.{same_place};
 ghost use Rattle.relay_model.specs.Readiness.{names};
 ghost use Rattle.world_trait.specs.Answers.{Answered, AnsweredAsking, OnlyHeldNamed, NotReaped, OnlyWhereTold, ReadFits, Rose, WaitCounts, WriteFits, accept_act, close_act, is_accept_fault, is_listen_fault, is_note_fault, is_open_fault, is_read_fault, is_send_fault, is_shut_fault, is_write_fault, listen_act, note_act, open_act, read_act, reap_act, send_act, shut_act, wait_act, wants_read_memory, wants_send_memory, wants_shut_memory, wants_turn_memory, wants_write_memory, write_act};
 ghost use Rattle.port_trait.specs.Streams.{finishes};
+ghost use Rattle.desk_places.specs.Bases.{AcceptsOn, Leaves, ListensOn, OpensOn, SameBases, SettlesOn};
 ghost use Rattle.port_desk.specs.Calls.{OnShut, OnTurned, ReadsSo, SendsSo, ShutsSo, WritesSo};
 ghost use Rattle.desk_places.specs.Causes.{AcceptCause, ListenCause, OpenAsks, OpenCause, StandardCause};
 ghost use Rattle.port_trait.specs.Counting.{Rose as Rises};
@@ -76,6 +77,7 @@ impl<M: Maker + Drop, P: Poller + Drop, I: Port, O: Port, E: Port> World for Des
         ensures errors { self.new.ports.harbor.errors.port
             ≡ self.old.ports.harbor.errors.port }
         ensures poller { OnTurned result (self.new.clock.last ≡ self.new.clock.reached) }
+        ensures bases { SameBases (base_at self.old.log.stations.entries) (base_at self.new.log.stations.entries) }
     {
         ready.clear();
         let Ok(()) = self.log.reserve(1) else {
@@ -112,6 +114,7 @@ impl<M: Maker + Drop, P: Poller + Drop, I: Port, O: Port, E: Port> World for Des
             ⊎ Rises self.old.ports.harbor.errors.port.counts.faults self.new.ports.harbor.errors.port.counts.faults)) result) }
         ensures asked { IfNone (standard_of place single.now.target) (OpenAsks place single.now behind (M.asked self.new.ports.maker) result) }
         ensures made { IfNone (standard_of place single.now.target) (OpenCause (M.faults self.old.ports.maker) (M.faults self.new.ports.maker) (M.stalls self.old.ports.maker) (M.stalls self.new.ports.maker) result) }
+        ensures bases { OpensOn (standard_of place single.now.target) place (base_at self.old.log.stations.entries) (base_at self.new.log.stations.entries) result }
     {
         let Ok(copied) = self.prepare_opening(single) else {
             return OpenAnswer::Memory;
@@ -144,6 +147,7 @@ impl<M: Maker + Drop, P: Poller + Drop, I: Port, O: Port, E: Port> World for Des
         ensures made { IfSome (base_at self.old.log.stations.entries place) (λ base. AtMade (giving_pier base)
             (λ key. SettlesMade self.old.ports.harbor.made self.new.ports.harbor.made key result)
             (self.new.ports.harbor.made ≡ self.old.ports.harbor.made)) }
+        ensures bases { SettlesOn place (base_at self.old.log.stations.entries) (base_at self.new.log.stations.entries) result }
     {
         let Ok(()) = self.log.reserve(1) else {
             return OpenAnswer::Memory;
@@ -164,6 +168,7 @@ impl<M: Maker + Drop, P: Poller + Drop, I: Port, O: Port, E: Port> World for Des
         ensures clock { self.new.clock.last ≡ self.old.clock.last }
         ensures streams { (self.new.ports.harbor.input ≡ self.old.ports.harbor.input) × (self.new.ports.harbor.output ≡ self.old.ports.harbor.output) × (self.new.ports.harbor.errors ≡ self.old.ports.harbor.errors) }
         ensures made { ListenCause (M.faults self.old.ports.maker) (M.faults self.new.ports.maker) result }
+        ensures bases { ListensOn door (base_at self.old.log.stations.entries) (base_at self.new.log.stations.entries) result }
     {
         let Ok(copied) = self.prepare_opening(single) else {
             return ListenAnswer::Memory;
@@ -185,6 +190,7 @@ impl<M: Maker + Drop, P: Poller + Drop, I: Port, O: Port, E: Port> World for Des
         ensures clock { self.new.clock.last ≡ self.old.clock.last }
         ensures streams { (self.new.ports.harbor.input ≡ self.old.ports.harbor.input) × (self.new.ports.harbor.output ≡ self.old.ports.harbor.output) × (self.new.ports.harbor.errors ≡ self.old.ports.harbor.errors) }
         ensures made { AcceptCause (M.faults self.old.ports.maker) (M.faults self.new.ports.maker) (M.stalls self.old.ports.maker) (M.stalls self.new.ports.maker) (M.came self.new.ports.maker) result }
+        ensures bases { AcceptsOn place (base_at self.old.log.stations.entries) (base_at self.new.log.stations.entries) result }
     {
         let Ok(()) = self.prepare_port() else {
             return AcceptAnswer::Memory;
@@ -224,6 +230,7 @@ impl<M: Maker + Drop, P: Poller + Drop, I: Port, O: Port, E: Port> World for Des
         ensures made { IfSome (base_at self.old.log.stations.entries place) (λ base. AtMade (giving_pier base)
             (λ key. MadeCall self.old.ports.harbor.made self.new.ports.harbor.made key (λ old new. ReadsSo into.new result old new))
             (self.new.ports.harbor.made ≡ self.old.ports.harbor.made)) }
+        ensures bases { SameBases (base_at self.old.log.stations.entries) (base_at self.new.log.stations.entries) }
     {
         let Ok(copied) = self.log.prepare(into) else {
             return ReadAnswer::Memory;
@@ -262,6 +269,7 @@ impl<M: Maker + Drop, P: Poller + Drop, I: Port, O: Port, E: Port> World for Des
         ensures made { IfSome (base_at self.old.log.stations.entries place) (λ base. AtMade (taking_pier base)
             (λ key. MadeCall self.old.ports.harbor.made self.new.ports.harbor.made key (λ old new. WritesSo bytes.now result old new))
             (self.new.ports.harbor.made ≡ self.old.ports.harbor.made)) }
+        ensures bases { SameBases (base_at self.old.log.stations.entries) (base_at self.new.log.stations.entries) }
     {
         let Ok(copied) = self.log.prepare(bytes) else {
             return WriteAnswer::Memory;
@@ -300,6 +308,7 @@ impl<M: Maker + Drop, P: Poller + Drop, I: Port, O: Port, E: Port> World for Des
         ensures made { IfSome (base_at self.old.log.stations.entries place) (λ base. AtMade (taking_pier base)
             (λ key. MadeCall self.old.ports.harbor.made self.new.ports.harbor.made key (λ old new. SendsSo bytes.now result old new))
             (self.new.ports.harbor.made ≡ self.old.ports.harbor.made)) }
+        ensures bases { SameBases (base_at self.old.log.stations.entries) (base_at self.new.log.stations.entries) }
     {
         let Ok(copied) = self.log.prepare(bytes) else {
             return SendAnswer::Memory;
@@ -337,6 +346,7 @@ impl<M: Maker + Drop, P: Poller + Drop, I: Port, O: Port, E: Port> World for Des
             (λ key. MadeCall self.old.ports.harbor.made self.new.ports.harbor.made key (λ old new. ShutsSo how result old new))
             (self.new.ports.harbor.made ≡ self.old.ports.harbor.made)) }
         ensures station { OnShut result (SetsStation place (option_map (shut_down (finishes how)) (station_at self.old.log.stations.entries place)) (station_at self.old.log.stations.entries) (station_at self.new.log.stations.entries)) }
+        ensures bases { SameBases (base_at self.old.log.stations.entries) (base_at self.new.log.stations.entries) }
     {
         let Ok(()) = self.log.reserve(1) else {
             return ShutAnswer::Memory;
@@ -360,6 +370,7 @@ impl<M: Maker + Drop, P: Poller + Drop, I: Port, O: Port, E: Port> World for Des
         ensures parents { IfSome (station_at self.old.log.stations.entries place) (λ s. LeavesParent (s.finished && is_finished why) (made_at self.old.ports.harbor.made s.base) self.old.ports.parents.items self.new.ports.parents.items) }
         ensures gone { (key : ℕ) → base_at self.old.log.stations.entries place ≡ Some (bases.Made key) → get self.new.ports.harbor.made key ≡ None }
         ensures others { (key : ℕ) → (base_at self.old.log.stations.entries place ≡ Some (bases.Made key) → ⊥) → get self.new.ports.harbor.made key ≡ get self.old.ports.harbor.made key }
+        ensures bases { Leaves place (base_at self.old.log.stations.entries) (base_at self.new.log.stations.entries) }
     {
         self.joined = self.ports.close(&mut self.log.stations, place, why);
         self.log.put(Act::Closed(place, why));
@@ -384,6 +395,7 @@ impl<M: Maker + Drop, P: Poller + Drop, I: Port, O: Port, E: Port> World for Des
         ensures errors { is_note_fault result ≡ true → Rises
             self.old.ports.harbor.errors.port.counts.faults
             self.new.ports.harbor.errors.port.counts.faults }
+        ensures bases { SameBases (base_at self.old.log.stations.entries) (base_at self.new.log.stations.entries) }
     {
         let Ok(copied) = self.log.prepare(text) else {
             return NoteAnswer::Memory;
@@ -415,6 +427,7 @@ impl<M: Maker + Drop, P: Poller + Drop, I: Port, O: Port, E: Port> World for Des
         ensures clock { self.new.clock.last ≡ self.old.clock.last }
         ensures ports { (self.new.ports.harbor ≡ self.old.ports.harbor) × (self.new.ports.maker ≡ self.old.ports.maker) }
         ensures reaped { ReapsAnswered (find (λ b. same_place b.place place) self.old.ports.parents.items) result }
+        ensures bases { SameBases (base_at self.old.log.stations.entries) (base_at self.new.log.stations.entries) }
     {
         let Ok(()) = self.log.reserve(1) else {
             return ReapAnswer::Memory;
