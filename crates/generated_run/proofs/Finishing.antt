@@ -1,9 +1,7 @@
 -- A session that was closed as finished has passed its end to the right, and so met the end of its left input.
-use Rattle.std.proofs.Common.{◌≡◌, ◌<◌, ◌≤◌, refl, sym, ap, subst, ◌∙◌, ℕ, Bool, true, false, not, cond, ◌&&◌, ◌||◌, ◌==◌, is_some, List, [], ◌∷◌, ◌++◌, Option, Some, None, inl, inr, ◌⊎◌}
+use Rattle.std.proofs.Common.{◌≡◌, refl, sym, ap, subst, ◌∙◌, ℕ, Bool, true, false, cond, ◌&&◌, ◌||◌, ◌==◌, is_some, List, [], ◌∷◌, Option, Some, None, inl, inr, ◌⊎◌}
 use Rattle.std.proofs.lemmas.Bool.{false≢true, and_from, and_parts, eq-eqb, or_cases, or_right, or_left, eqb-true}
 use Rattle.std.proofs.lemmas.Option.{same_Some}
-use Rattle.std.specs.List.{list_any}
-use Rattle.relay_model.specs.declared.places.Way.{Way}
 use Rattle.relay_model.specs.declared.places.Way.TheVariants.{LeftToRight, RightToLeft}
 use Rattle.relay_model.specs.declared.places.Place.{Place}
 use Rattle.relay_model.specs.declared.commands.Config.{Config}
@@ -14,7 +12,7 @@ use Rattle.relay_model.specs.declared.acts.Act.{Act}
 use Rattle.relay_model.specs.declared.acts.Act.TheVariants.{Shut, ShutFault, Closed, ReadEnd}
 use Rattle.relay_model.specs.Choices.{first_some, only_if}
 use Rattle.relay_model.specs.Places.{same_place}
-use Rattle.relay_model.specs.Configs.{input, output, things, is_of, formed}
+use Rattle.relay_model.specs.Configs.{things, is_of}
 use Rattle.relay_model.specs.History.{now, same_why, stop_said, memory_said, shut_at, met_end, met_empty}
 use Rattle.relay_model.specs.Transfers.{over, backlog, is_spent}
 use Rattle.relay_model.specs.Moments.{passed, closing_moment, idle_moment, reached}

@@ -1,12 +1,12 @@
 -- What the reads of a place leave of its items.
-use Rattle.std.proofs.Common.{◌≡◌, ◌≤◌, ℕ, zero, suc, Bool, true, false, ◌&&◌, ◌||◌, nat_lt, List, [], ◌∷◌, ◌++◌, length, take, drop, find, Option, Some, None, option_map, refl, sym, ap, ◌∙◌, arith, append_assoc, if◌then◌else◌}
+use Rattle.std.proofs.Common.{◌≡◌, ℕ, zero, suc, Bool, true, false, ◌&&◌, nat_lt, List, [], ◌∷◌, ◌++◌, length, take, drop, find, Option, Some, None, option_map, refl, sym, ap, ◌∙◌, arith, if◌then◌else◌}
 use Rattle.std.proofs.lemmas.Bool.{false≢true, ltb-false}
 use Rattle.std.proofs.lemmas.List.{drop_all}
 use Rattle.relay_model.specs.declared.places.Place.{Place}
 use Rattle.relay_model.specs.Places.{same_place}
 use Rattle.relay_model.specs.Choices.{joined}
 use Rattle.relay_model.specs.Transfers.{is_empty}
-use Rattle.legal_steps.proofs.PlaceLemmas.{same_place_equal, same_place_self}
+use Rattle.legal_steps.proofs.PlaceLemmas.{same_place_equal}
 use Rattle.world_scripts.specs.declared.lines.Line.{Line}
 use Rattle.world_scripts.specs.declared.reading.DueRead.{DueRead}
 use Rattle.world_scripts.specs.declared.reading.Reading.{Reading}

@@ -1,13 +1,12 @@
 -- The lists of a script, one step longer.
-use Rattle.std.proofs.Common.{◌≡◌, ◌+◌, ◌*◌, ℕ, zero, suc, List, [], ◌∷◌, ◌++◌, refl, sym, ap, ◌∙◌, arith, append_assoc, add-one}
+use Rattle.std.proofs.Common.{◌≡◌, ◌+◌, ◌*◌, ℕ, List, [], ◌∷◌, ◌++◌, refl, sym, ap, ◌∙◌, arith, append_assoc, add-one}
 use Rattle.world_scripts.specs.declared.lines.Line.{Line}
 use Rattle.world_scripts.specs.declared.reading.DueRead.{DueRead}
 use Rattle.world_scripts.specs.declared.writing.DueWrite.{DueWrite}
 use Rattle.world_scripts.specs.declared.accepting.DuePeer.{DuePeer}
 use Rattle.world_scripts.specs.declared.script.Script.{Script}
 use Rattle.world_scripts.specs.Scripts.{empty_script}
-use Rattle.relay_model.specs.declared.places.Place.{Place}
-use Rattle.generated_run.specs.Scripts.{end_line, left_place, peer_line, peers_of, piece_line, pieces, reads_of, right_place, script_of, session_reads, session_state, session_writes, taking_line, waiting_line, writes_of}
+use Rattle.generated_run.specs.Scripts.{end_line, left_place, peer_line, peers_of, piece_line, pieces, reads_of, right_place, script_of, session_state, session_writes, taking_line, waiting_line, writes_of}
 use Rattle.generated_run.specs.Stream.{first_state, state_after}
 use Rattle.generated_run.proofs.StreamLemmas.{state_after-add}
 

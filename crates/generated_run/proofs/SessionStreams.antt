@@ -1,5 +1,5 @@
 -- The bytes of all sessions together are the front of the stream.
-use Rattle.std.proofs.Common.{◌≡◌, ◌+◌, ◌*◌, ◌≤◌, ◌<◌, ◌/◌, ◌%◌, ℕ, zero, suc, List, [], ◌∷◌, ◌++◌, length, sum, refl, sym, ap, ◌∙◌, arith}
+use Rattle.std.proofs.Common.{◌≡◌, ◌+◌, ◌*◌, ◌≤◌, ℕ, zero, suc, List, sum, sym, ap, ◌∙◌, arith}
 use Rattle.std.proofs.lemmas.List.Sums.{sum_by-cons}
 use Rattle.generated_run.specs.Stream.{byte_of, bytes_after, next_state, state_after}
 use Rattle.generated_run.proofs.StreamLemmas.{bytes_after-add, bytes_after-none}

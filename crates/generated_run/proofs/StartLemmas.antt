@@ -1,5 +1,5 @@
 -- The script of a number, in which nothing was read yet.
-use Rattle.std.proofs.Common.{◌≡◌, ◌+◌, ◌*◌, ◌≤◌, ℕ, zero, suc, Bool, true, false, ◌&&◌, ◌||◌, ◌==◌, nat_eq, nat_lt, List, [], ◌∷◌, ◌++◌, refl, sym, ap, ◌∙◌, arith, append_assoc, inl, inr, ◌⊎◌, if◌then◌else◌}
+use Rattle.std.proofs.Common.{◌≡◌, ◌+◌, ◌*◌, ◌≤◌, ℕ, zero, suc, Bool, true, false, ◌&&◌, ◌||◌, ◌==◌, nat_lt, List, [], ◌∷◌, ◌++◌, refl, sym, ap, ◌∙◌, arith, append_assoc, inl, inr, ◌⊎◌, if◌then◌else◌}
 use Rattle.std.proofs.lemmas.Bool.{cases_eq, false≢true, eq-eqb, eqb-true, ne_eqb}
 use Rattle.std.proofs.lemmas.Bool.Decides.{nat_tests}
 use Rattle.relay_model.specs.declared.acts.Act.{Act}
@@ -13,7 +13,7 @@ use Rattle.world_scripts.specs.declared.reading.DueRead.{DueRead}
 use Rattle.world_scripts.specs.Reads.{bytes_of}
 use Rattle.generated_run.specs.Left.{ends_last, is_end, left_of}
 use Rattle.generated_run.specs.Numbered.{GivesScripted}
-use Rattle.generated_run.specs.Scripts.{end_line, left_place, piece_line, pieces, reads_of, right_place, scripted, session_bytes, session_reads, session_state}
+use Rattle.generated_run.specs.Scripts.{end_line, left_place, piece_line, pieces, reads_of, right_place, session_bytes, session_reads, session_state}
 use Rattle.generated_run.specs.Stream.{bytes_after, state_after}
 use Rattle.generated_run.proofs.LeftLemmas.{empty-in_order, empty_is_nil, nil_is_empty}
 use Rattle.generated_run.proofs.StreamLemmas.{bytes_after-add, bytes_after-none}

@@ -1,5 +1,5 @@
 -- The stream of a number, cut into parts.
-use Rattle.std.proofs.Common.{◌≡◌, ◌+◌, ◌*◌, ℕ, zero, suc, List, [], ◌∷◌, ◌++◌, length, refl, sym, ap, ◌∙◌, arith}
+use Rattle.std.proofs.Common.{◌≡◌, ◌+◌, ℕ, zero, suc, [], ◌∷◌, ◌++◌, length, refl, ap, ◌∙◌, arith}
 use Rattle.generated_run.specs.Stream.{byte_of, bytes_after, next_state, state_after}
 
 pub state_after-add : (a b x : ℕ) → state_after (a + b) x ≡ state_after b (state_after a x)

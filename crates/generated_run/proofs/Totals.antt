@@ -1,26 +1,24 @@
 -- What all right places got together is what each of the fifty got.
-use Rattle.std.proofs.Common.{◌≡◌, ◌+◌, ◌*◌, ◌<◌, ◌≤◌, ℕ, zero, suc, Bool, true, false, ◌&&◌, ◌==◌, is_none, nat_lt, List, [], ◌∷◌, ◌++◌, cond, refl, sym, ap, subst, ◌∙◌, arith, inl, inr, ◌⊎◌, if◌then◌else◌}
-use Rattle.std.proofs.lemmas.Bool.{and_from, and_parts, cases_eq, eq-eqb, eqb-true, false≢true, lt-ltb, ltb-true, ne_eqb}
+use Rattle.std.proofs.Common.{◌≡◌, ◌+◌, ◌<◌, ◌≤◌, ℕ, zero, suc, Bool, true, false, ◌&&◌, is_none, nat_lt, List, [], ◌∷◌, ◌++◌, refl, sym, ap, subst, ◌∙◌, arith, inl, inr, ◌⊎◌}
+use Rattle.std.proofs.lemmas.Bool.{and_parts, cases_eq, false≢true, ltb-true, ne_eqb}
 use Rattle.relay_model.specs.declared.acts.Act.{Act}
 use Rattle.relay_model.specs.declared.acts.Act.TheVariants.{Wrote}
 use Rattle.relay_model.specs.declared.places.Place.{Place}
 use Rattle.relay_model.specs.declared.places.Side.{Side}
 use Rattle.relay_model.specs.declared.places.Side.TheVariants.{Left, Right}
-use Rattle.relay_model.specs.declared.places.Way.TheVariants.{LeftToRight, RightToLeft}
 use Rattle.relay_model.specs.Cause.{cause, running}
 use Rattle.relay_model.specs.Choices.{count, joined, one_more}
 use Rattle.relay_model.specs.Configs.{output, way_to}
-use Rattle.relay_model.specs.History.{got, met_end, put}
-use Rattle.relay_model.specs.May.{BeginsWith, Legal, MayWrite}
+use Rattle.relay_model.specs.History.{put}
+use Rattle.relay_model.specs.May.{Legal, MayWrite}
 use Rattle.relay_model.specs.Openings.{ready}
-use Rattle.relay_model.specs.Places.{same_place, same_side}
-use Rattle.relay_model.specs.Rest.{is_going}
+use Rattle.relay_model.specs.Places.{same_place}
 use Rattle.relay_model.specs.Sessions.{admitted, holds, live}
 use Rattle.legal_steps.proofs.Admissions.{admitted_bound}
 use Rattle.legal_steps.proofs.Holdings.{moves_running}
 use Rattle.legal_steps.proofs.PlaceLemmas.{same_place_equal, same_place_self}
 use Rattle.generated_run.specs.Command.{load_command}
-use Rattle.generated_run.specs.Scripts.{left_place, right_place}
+use Rattle.generated_run.specs.Scripts.{right_place}
 use Rattle.generated_run.specs.Sums.{brought, delivered}
 
 -- ---- sums over sessions

@@ -1,5 +1,5 @@
 -- What a run over the world of a number brought to its right places.
-use Rattle.std.proofs.Common.{◌≡◌, ◌+◌, ◌*◌, ◌<◌, ◌≤◌, ℕ, Bool, true, false, ◌&&◌, nat_lt, List, [], ◌∷◌, ◌++◌, length, sum, Some, refl, sym, ap, subst, ◌∙◌, arith, length-append, inl, inr, ◌⊎◌, if◌then◌else◌}
+use Rattle.std.proofs.Common.{◌≡◌, ◌<◌, ◌≤◌, ℕ, true, ◌&&◌, nat_lt, List, [], ◌∷◌, ◌++◌, length, sum, Some, refl, sym, ap, subst, ◌∙◌, arith, length-append, inl, inr, ◌⊎◌, if◌then◌else◌}
 use Rattle.std.proofs.lemmas.Bool.{lt-ltb}
 use Rattle.std.proofs.lemmas.List.{same_from_push}
 use Rattle.std.proofs.lemmas.List.Sums.{sum_by-append}
@@ -7,12 +7,10 @@ use Rattle.std.proofs.lemmas.Option.{same_Some}
 use Rattle.relay_model.specs.declared.acts.Act.{Act}
 use Rattle.relay_model.specs.declared.acts.Act.TheVariants.{Note}
 use Rattle.relay_model.specs.declared.journals.Kept.{Kept}
-use Rattle.relay_model.specs.declared.places.Place.{Place}
 use Rattle.relay_model.specs.declared.places.Way.TheVariants.{LeftToRight}
 use Rattle.relay_model.specs.History.{got, put}
 use Rattle.relay_model.specs.Journals.{Asking}
 use Rattle.relay_model.specs.May.{BeginsWith, Legal}
-use Rattle.relay_model.specs.Places.{same_place}
 use Rattle.relay_model.specs.Sessions.{admitted}
 use Rattle.relay_laws.proofs.Written.{passed_whole, written_due}
 use Rattle.legal_steps.proofs.Admissions.{admitted_bound}
@@ -30,7 +28,7 @@ use Rattle.generated_run.specs.Left.{left_of}
 use Rattle.generated_run.specs.Numbered.{GivesScripted, named, told_named}
 use Rattle.generated_run.specs.Runs.{GeneratedRun}
 use Rattle.generated_run.specs.Scripts.{left_place, right_place, scripted, session_bytes}
-use Rattle.generated_run.specs.Stream.{bytes_after, first_state, stream}
+use Rattle.generated_run.specs.Stream.{first_state, stream}
 use Rattle.generated_run.specs.Summaries.{summary_of}
 use Rattle.generated_run.specs.Sums.{delivered, sessions_of, was_finished}
 use Rattle.generated_run.specs.declared.summaries.Summary.{Summary}

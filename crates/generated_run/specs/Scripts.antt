@@ -1,5 +1,5 @@
 -- What the world of a generated run is told to answer.
-use Rattle.std.specs.Prelude.{ℕ, zero, suc, ◌+◌, ◌*◌, Bool, true, false, ◌&&◌, nat_lt, List, [], ◌∷◌, ◌++◌, if◌then◌else◌}
+use Rattle.std.specs.Prelude.{ℕ, zero, suc, ◌+◌, ◌*◌, ◌&&◌, nat_lt, List, [], ◌∷◌, ◌++◌, if◌then◌else◌}
 use Rattle.relay_model.specs.declared.acts.Peer.TheVariants.{V4}
 use Rattle.relay_model.specs.declared.places.Side.TheVariants.{Left, Right}
 use Rattle.relay_model.specs.declared.places.Part.TheVariants.{Both}

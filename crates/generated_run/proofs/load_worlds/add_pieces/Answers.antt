@@ -1,4 +1,4 @@
-use Rattle.std.proofs.Common.{refl, sym, ap, ◌∙◌, ◌≡◌, ◌∷◌, [], ◌+◌, ◌*◌, arith, length}
+use Rattle.std.proofs.Common.{refl, sym, ap, ◌∙◌, ◌≡◌, ◌+◌, ◌*◌, arith, length}
 use Rattle.generated_run.specs.Scripts.{piece_line, pieces}
 use Rattle.generated_run.specs.Stream.{bytes_after, state_after}
 use Rattle.generated_run.proofs.ScriptLemmas.{piece_state-more, pieces-more, pieces-none, script-reads}

@@ -1,5 +1,5 @@
-use Rattle.std.proofs.Common.{sym, ap, ◌∙◌, ◌+◌, ◌++◌}
-use Rattle.generated_run.specs.Scripts.{pieces, session_state}
+use Rattle.std.proofs.Common.{sym, ap, ◌∙◌, ◌++◌}
+use Rattle.generated_run.specs.Scripts.{pieces}
 use Rattle.generated_run.specs.Stream.{state_after}
 use Rattle.generated_run.proofs.ScriptLemmas.{script-more, script-none, state-more}
 use Rattle.generated_run.proofs.StreamLemmas.{state_after-none}

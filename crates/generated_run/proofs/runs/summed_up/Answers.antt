@@ -1,4 +1,4 @@
-use Rattle.std.proofs.Common.{◌≡◌, ◌<◌, ◌≤◌, [], ℕ, length, sum, ap, ◌∙◌, arith, subst}
+use Rattle.std.proofs.Common.{◌≡◌, [], length, sum, ap, ◌∙◌, arith, subst}
 use Rattle.relay_model.specs.declared.commands.Config.{Config}
 use Rattle.event_loop.specs.Headline.{Headline}
 use Rattle.generated_run.specs.Command.{load_turns}

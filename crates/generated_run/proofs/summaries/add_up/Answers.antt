@@ -1,4 +1,4 @@
-use Rattle.std.proofs.Common.{◌≡◌, ◌+◌, ◌-◌, ◌≤◌, ◌<◌, ℕ, sym, ap, ◌∙◌, arith, drop, length, sum}
+use Rattle.std.proofs.Common.{◌≡◌, ◌+◌, ◌-◌, sym, ap, ◌∙◌, arith, drop, length, sum}
 use Rattle.generated_run.specs.Sums.{brought, delivered}
 use Rattle.generated_run.proofs.OldestLemmas.{delivered-drop, length-older, sum-older}
 use Rattle.generated_run.proofs.summaries.add_up.Goals as goal

@@ -1,4 +1,4 @@
-use Rattle.std.proofs.Common.{◌≡◌, ◌+◌, ◌-◌, ◌≤◌, ℕ, true, false, sym, ap, ◌∙◌, arith, drop, length, add-one}
+use Rattle.std.proofs.Common.{true, false, sym, ap, ◌∙◌, arith, add-one}
 use Rattle.relay_model.specs.Choices.{one_more}
 use Rattle.generated_run.proofs.OldestLemmas.{admitted-older}
 use Rattle.generated_run.proofs.summaries.begun_sessions.Goals as goal
