@@ -1,14 +1,5 @@
 # Commands with `fork`: crowds of clients, each in a session of its own.
 
-as_crowd=("$python" -ES -X "pycache_prefix=$scratch/compiled" "$here/tests/sockets/crowd.py")
-
-# crowd TEXT WORD..: a crowd as tests/sockets/crowd.py has it says just this line.
-crowd() {
-    local said
-    said="$(timeout 120 "${as_crowd[@]}" "${@:2}" 2>crowd.err 8<&-)" || wrong "the crowd failed: $(tail -1 crowd.err)"
-    [ "$said" = "$1" ] || wrong "the crowd said ${said:0:200}"
-}
-
 # zombies TAG: how many children of the relay have ended and weren't asked for.
 zombies() { ps -o stat= --ppid "${pids[$1]}" 2>/dev/null | grep -c '^Z'; }
 
@@ -130,11 +121,6 @@ both_in_turn -v "$(ways 2 0 1 ab && ways 2 0 1 c && ways 1 2 2 d && ways 2 2 3 '
 
 begin_own "-x with fork: each session counts its own bytes"
 both_in_turn -x "$(ways 2 0 1 ' 61 62' && ways 2 0 1 ' 63 0a' && ways 1 2 2 ' 64' && ways 2 2 3 ' 5c 09')"
-
-begin "UDP-LISTEN with fork isn't there yet"
-given_nothing
-run 1 '' 'socat: listen failed after 1 attempts' UDP4-LISTEN:0,fork PIPE
-finish
 
 begin "SIGTERM ends it with 50 sessions"
 given_nothing

@@ -7,12 +7,14 @@ use Rattle.relay_model.specs.declared.acts.Why.{Why}
 use Rattle.relay_model.specs.declared.acts.Why.TheVariants as whys
 use Rattle.relay_model.specs.History.{memory_said}
 use Rattle.program_door.specs.Stands.{DoorStands}
+use Rattle.fork_table.specs.Tables.{row_of}
 use Rattle.session_driver.specs.Seen.{Seen}
 use Rattle.session_crew.specs.Crews.{MaySay}
 use Rattle.session_runs.specs.Pauses.{ends_all}
 use Rattle.fork_loop.specs.declared.crews.Crew.{Crew}
+use Rattle.fork_loop.specs.Courses.{AllSleepIfLate, OwesFor}
 use Rattle.fork_loop.specs.Endings.{MayEnd, CutsRows, RunsOut}
-use Rattle.fork_loop.specs.Courses.{OwesFor}
+use Rattle.fork_loop.proofs.Spreading.{cut_leaves, sleeps_late}
 use Rattle.fork_loop.specs.Waited.{Leaving, OwesAtExit, StopsAt}
 
 may_say : (why : Why) (past : List Act) → ends_all why ≡ true → memory_said past ≡ false → MaySay why past
@@ -47,6 +49,9 @@ leaving c n start now why before after end cuts =
         };
         counts = record { admitted_is = same.admitted_same ∙ f.counts.admitted_is; children_is = same.bounds_same.0 ∙ f.counts.children_is; stop_is = same.bounds_same.1 ∙ f.counts.stop_is };
         made_is = f.made_is ∙ sym same.made_same;
-        rows = λ s. (cuts.rows s).0 c n end.past (end.rows s);
+        rows = λ s. cut_leaves c n end.past before.made before.clock why s (row_of before.table s) (row_of after.table s) f.made_is (sym f.clock_is) (cuts.rows s) (end.rows s);
       };
     }
+
+pub all_sleep : (c : Config) (n : ℕ) (start now : Seen) (why : Why) (crew : Crew) → MayEnd c n start now why crew → AllSleepIfLate crew
+all_sleep c n start now why crew end s = sleeps_late c n end.past s why crew.made (row_of crew.table s) end.frame.made_is (end.rows s)

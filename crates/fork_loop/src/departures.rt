@@ -55,10 +55,10 @@ impl Crew {
         requires { SomeLeaving config.now (seen W.told W.held W.faults W.waits W.stops W.clock world.old) why self.old }
         ensures { EmptiesRow config.now (seen W.told W.held W.faults W.waits W.stops W.clock world.old) (seen W.told W.held W.faults W.waits W.stops W.clock world.new) number why self.old self.new }
     {
-        if let Some(member) = self.table.session_mut(number, steps) {
+        if let Some(row) = self.table.session_mut(number, steps) {
             let scratch = self.scratch.as_mut_slice();
             close_all(
-                &mut member.session,
+                &mut row.member.session,
                 &mut self.door,
                 world,
                 config,

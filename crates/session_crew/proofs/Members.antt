@@ -76,7 +76,7 @@ now_kept : (c : Config) (act : Act) (past : List Act) → is_common c act ≡ fa
 now_kept c (Turn until at ready stop) past k = let x : ⊥ = cc in absurd x
 now_kept c act past k = refl
 
-turns_grow : (c : Config) (s : ℕ) (until : Option ℕ) (slept past : List Act) → Since c s until slept past → turns slept ≤ turns past
+pub turns_grow : (c : Config) (s : ℕ) (until : Option ℕ) (slept past : List Act) → Since c s until slept past → turns slept ≤ turns past
 turns_grow c s until slept all just = omega arith
 turns_grow c s until slept all (foreign act past f k h) = let x = turns_grow c s until slept past h in let e = same_turns c act past k in omega (arith, x, e)
 turns_grow c s until slept all (quiet wait at ready stop past q h) = let x = turns_grow c s until slept past h in omega (arith, x)

@@ -7,6 +7,7 @@ mod addresses;
 mod commands;
 mod kinds;
 mod places;
+mod reports;
 mod targets;
 mod tokens;
 mod values;
@@ -20,6 +21,7 @@ use std::process::ExitCode;
 fn ask(alloc: Global, part: &str, inputs: &mut Inputs<'_>, answers: &mut Answers) -> Answered {
     match part {
         "command" => commands::ask(alloc, inputs, answers),
+        "told" => reports::ask(alloc, inputs, answers),
         "fault" => commands::ask_fault(alloc, inputs, answers),
         "tokens" => tokens::ask(alloc, inputs, answers),
         "written" => tokens::ask_written(alloc, inputs, answers),

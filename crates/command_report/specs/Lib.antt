@@ -1,0 +1,5 @@
+pub mod Shown
+pub mod Naming
+pub mod Reports
+pub mod Refusals
+pub mod Runs

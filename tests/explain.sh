@@ -1,0 +1,290 @@
+#!/usr/bin/env bash
+# Runs the built explainer: on the texts of tests/data/explanations.txt, which were written by hand; on every kind, and on
+# every option at each kind that takes it; on words that are refused, whose first line has to be that of the relay for the
+# same words; on hostile words, of which nothing but printable bytes may come out; and where nothing can be written. One
+# line a group, and 'N passed, M failed' at the end; the status is 1 where a case failed.
+# Usage: tests/explain.sh [EXPLAINER [RELAY]]      (bin/socat-explain and bin/socat where none is given)
+set -u
+
+. "$(dirname "${BASH_SOURCE[0]}")/common.sh"
+use_program "${1:-$here/bin/socat-explain}"
+relay="${2:-$here/bin/socat}"
+case "$relay" in
+    /*) ;;
+    *) relay="$PWD/$relay" ;;
+esac
+mkdir "$scratch/empty"
+cd "$scratch/empty" || exit 1
+
+# tell PROBLEM WORD..: a case passed where no problem is named.
+tell() {
+    local problem="$1"
+    shift
+    if [ -z "$problem" ]; then
+        passed=$((passed + 1))
+    else
+        failed=$((failed + 1))
+        printf 'FAILED  %s: %s\n' "$(printf '%q ' "$@" | head -c 200)" "$problem"
+    fi
+}
+
+shopt -s nullglob dotglob
+
+# explain WORD..: runs the program. 'text' is its report, with a point behind it, and 'problem' says what is wrong with any
+# report, whatever the words are.
+explain() {
+    local made
+    timeout 60 "$program" "$@" >"$scratch/report" 2>"$scratch/err" </dev/null
+    status=$?
+    text="$(cat "$scratch/report" && printf .)"
+    problem=''
+    made=(*)
+    if [ "$status" -ne 0 ] && [ "$status" -ne 1 ]; then
+        problem="status $status"
+    elif [ -s "$scratch/err" ]; then
+        problem="said $(head -c 100 "$scratch/err")"
+    elif [ "$(LC_ALL=C tr -d ' -~\n' <"$scratch/report" | wc -c)" -ne 0 ]; then
+        problem='a byte that is neither printable nor a newline'
+    elif [[ "$text" != *$'\n.' ]]; then
+        problem='no newline at the end'
+    elif [ "${#made[@]}" -ne 0 ]; then
+        problem="something was made: ${made[0]}"
+    fi
+}
+
+# wants STATUS TEXT..: the run ended so, and each of these texts stands in its report.
+wants() {
+    local wanted="$1" sought
+    shift
+    [ -z "$problem" ] || return
+    [ "$status" -eq "$wanted" ] || problem="status $status: ${text%%$'\n'*}"
+    for sought in "$@"; do
+        [ -n "$problem" ] || [[ "$text" == *"$sought"* ]] || problem="nothing is said of $sought"
+    done
+}
+
+# --- the texts that were written by hand
+
+texts() {
+    local line count wanted words tried=0
+    while IFS= read -r line; do
+        case "$line" in
+            'case '*) ;;
+            *) continue ;;
+        esac
+        count="${line#case }"
+        words=()
+        while [ "${#words[@]}" -lt "$count" ] && IFS= read -r line; do
+            words+=("$line")
+        done
+        IFS= read -r line
+        wanted="${line#status }"
+        : >"$scratch/text"
+        while IFS= read -r line; do
+            case "$line" in
+                '| '*) printf '%s\n' "${line#| }" ;;
+                '|') echo ;;
+                *) break ;;
+            esac
+        done >>"$scratch/text"
+        explain "${words[@]}"
+        wants "$wanted"
+        if [ -z "$problem" ] && ! cmp -s "$scratch/report" "$scratch/text"; then
+            problem="$(diff "$scratch/text" "$scratch/report" | head -n 5)"
+        fi
+        tell "$problem" "${words[@]}"
+        tried=$((tried + 1))
+    done <"$1"
+    if [ "$tried" -eq 0 ] || [ "$tried" -ne "$(grep -c '^case ' "$1")" ]; then
+        tell "$tried cases were tried" "$1"
+    fi
+}
+texts "$here/tests/data/explanations.txt"
+echo "texts: $passed passed, $failed failed"
+
+# --- every kind and every option of the tables, which tests/tables.sh compares with the completion
+
+. "$here/completion/socat" 2>/dev/null
+
+# parameters KIND: what stands behind the keyword.
+parameters() {
+    case "$1" in
+        STDIO | STDIN | STDOUT | STDERR) ;;
+        PIPE | CREATE | OPEN | GOPEN | UNIX-*) echo ':./name' ;;
+        EXEC | SYSTEM) echo ':true' ;;
+        SOCKS4 | SOCKS4A | PROXY) echo ':server:host:80' ;;
+        *-LISTEN | *-L | *-RECVFROM | *-RECV) echo ':80' ;;
+        *6 | *6-*) echo ':[::1]:80' ;;
+        *) echo ':127.0.0.1:80' ;;
+    esac
+}
+
+# value OPTION: an option with a value that it takes.
+value() {
+    case "$1" in
+        readbytes= | escape= | retry= | sourceport= | socksport= | proxyport=) echo "${1}7" ;;
+        max-children= | stop-after=) echo "fork,${1}7" ;;
+        interval=) echo "${1}2.5" ;;
+        range=) echo "${1}10.0.0.0/8" ;;
+        bind=) echo "${1}10.0.0.1" ;;
+        socksuser=) echo "${1}me" ;;
+        *) echo "$1" ;;
+    esac
+}
+
+# told OPTION: a text of the report on the option. How an end is passed on is told as it comes about, and what means
+# nothing at a kind or alone isn't told.
+told() {
+    case "$1" in
+        shut-*) echo "the other's end: " ;;
+        null-eof | reuseaddr | pipes | interval= | unlink-*) ;;
+        *) echo "${1%=}" ;;
+    esac
+}
+
+# in_order ADDRESS: explains it in the first use that takes it, on the left where it may have fork.
+in_order() {
+    explain "$1" STDIO
+    [ "$status" -eq 0 ] || explain -u "$1" STDOUT
+    [ "$status" -eq 0 ] || explain -U "$1" STDIN
+}
+
+for kind in "${!_socat_groups[@]}"; do
+    address="$kind$(parameters "$kind")"
+    in_order "$address"
+    wants 0 'first address' 'second address' "the other's end: "
+    tell "$problem" "$address"
+    # The families of addresses take the same options.
+    [[ "$kind" != @(TCP|UDP)[46]* ]] || continue
+    for group in ${_socat_groups[$kind]}; do
+        for option in ${_socat_options[$group]}; do
+            word="$address,$(value "$option")"
+            in_order "$word"
+            wants 0 "$(told "$option")"
+            tell "$problem" "$word"
+        done
+    done
+done
+echo "kinds and options: $passed passed, $failed failed"
+
+# An option that is on says something else than one that is off.
+differs() {
+    local off="$1" on="$2"
+    in_order "$off"
+    mv "$scratch/report" "$scratch/off"
+    in_order "$on"
+    wants 0
+    if [ -z "$problem" ] && cmp -s "$scratch/report" "$scratch/off"; then
+        problem='the same is said without the option'
+    fi
+    tell "$problem" "$on"
+}
+for pair in STDIO,cr STDIO,crnl STDIO,ignoreeof STDIO,readbytes=1 STDIO,escape=1 OPEN:x,shut-none UDP:h:1,null-eof \
+    UDP:h:1,shut-null TCP:h:1,shut-close TCP:h:1,shut-none OPEN:x,creat OPEN:x,excl OPEN:x,append OPEN:x,trunc \
+    OPEN:x,rdonly OPEN:x,wronly OPEN:x,unlink-early OPEN:x,unlink-close UNIX-LISTEN:x,unlink-close=0 TCP:h:1,nodelay \
+    TCP-LISTEN:1,bind=1.2.3.4 TCP:h:1,retry=1 TCP:h:1,forever TCP-LISTEN:1,fork TCP-LISTEN:1,range=1.2.3.4/32 \
+    TCP-LISTEN:1,sourceport=1 TCP-LISTEN:1,lowport SOCKS4:s:h:1,socksport=1 SOCKS4:s:h:1,socksuser=u \
+    PROXY:s:h:1,proxyport=1; do
+    differs "${pair%%,*}" "$pair"
+done
+differs TCP-LISTEN:1,fork TCP-LISTEN:1,fork,max-children=2
+differs TCP-LISTEN:1,fork TCP-LISTEN:1,fork,stop-after=2
+differs TCP:h:1,forever TCP:h:1,forever,interval=2
+echo "options that are on: $passed passed, $failed failed"
+
+# --- refusals: the line of the relay, and the word with carets under it
+
+# refused WORD..: both programs refuse the words with the same line.
+refused() {
+    local line
+    explain "$@"
+    line="$(timeout 20 "$relay" "$@" 2>&1 >/dev/null </dev/null)"
+    rm -f ./*
+    wants 1
+    if [ -z "$problem" ] && [ "${text%%$'\n'*}" != "$line" ]; then
+        problem="says ${text%%$'\n'*}, and the relay $line"
+    elif [ -z "$problem" ]; then
+        case "$line" in
+            *' word '*) grep -q '^ *^^*$' "$scratch/report" || problem='no word is underlined' ;;
+        esac
+    fi
+    tell "$problem" "$@"
+}
+
+refusals() {
+    local line count words
+    while IFS= read -r line; do
+        case "$line" in
+            'case '*) ;;
+            *) continue ;;
+        esac
+        count="${line#case }"
+        words=()
+        while [ "${#words[@]}" -lt "$count" ] && IFS= read -r line; do
+            words+=("$line")
+        done
+        IFS= read -r line
+        IFS= read -r line
+        case "$line" in
+            'socat: E'*) refused "${words[@]+"${words[@]}"}" ;;
+        esac
+    done <"$here/tests/data/refusals.txt"
+}
+refusals
+refused
+refused --journal=x
+refused --journal=x -u - ''
+refused -u --journal=x - -
+
+# --- hostile words
+
+long() {
+    printf "%0$1d" 0 | tr 0 "$2"
+}
+refused ''
+refused '' ''
+refused $'\xff\xfe' -
+refused - $'\x1b[31mred\x1b[0m'
+refused $'-\x1b[2J' - -
+refused $'a!!\xc3!!\xff' -
+refused $'\xe2\x82"' -
+refused "$(long 65537 a)" -
+refused "$(long 65536 '(')" -
+refused - "$(long 65537 $'\x07')"
+bytes="$(printf '\\x%02x' {1..255})"
+# shellcheck disable=SC2059
+bytes="$(printf "$bytes")"
+refused "$bytes" -
+echo "refusals: $passed passed, $failed failed"
+
+# names SHOWN WORD..: the words make a command, and the report shows a name so.
+names() {
+    local shown="$1"
+    shift
+    explain "$@"
+    wants 0 "$shown"
+    tell "$problem" "$@"
+}
+names '"\x1b[2J\x07"' -u $'OPEN:\x1b\\[2J\x07' STDOUT
+names '"\xff\xfe"' -u $'OPEN:\xff\xfe' STDOUT
+names '"a\x0ab"' -u $'OPEN:a\nb' STDOUT
+names '"a\x5cx0ab"' -u 'OPEN:a\\x0ab' STDOUT
+names 'runs "\xc3\xa9" "\x7f"' STDIO $'EXEC:\xc3\xa9 \x7f'
+names "\"$(long 60000 n)\"" -u "OPEN:$(long 60000 n)" STDOUT
+
+# --- where nothing can be written
+
+"$program" -u STDIN STDOUT >/dev/full
+[ $? -eq 3 ] && tell '' 'a full device' || tell 'another status' 'a full device'
+"$program" -u STDIN STDOUT >&-
+[ $? -eq 3 ] && tell '' 'a closed output' || tell 'another status' 'a closed output'
+"$program" -b >/dev/full
+[ $? -eq 3 ] && tell '' 'a refusal on a full device' || tell 'another status' 'a refusal on a full device'
+{
+    "$program" "$(long 65537 a)" -
+    echo "$?" >"$scratch/ended"
+} | head -c 1 >/dev/null
+[ "$(cat "$scratch/ended")" = 3 ] && tell '' 'a reader that closed' || tell "status $(cat "$scratch/ended")" 'a reader that closed'
+
+echo "$passed passed, $failed failed"
+[ "$failed" -eq 0 ]
