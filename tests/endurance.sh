@@ -9,6 +9,7 @@
 #   --only I     run number I of the seed alone    --first I  begin with this run
 #   --jobs J     so many runs at once (3)          --crowds   commands with `fork` alone
 #   --show       name each run                     --keep     leave the folders
+# On a slow machine PATIENCE is how many times longer a run may take.
 # The seed is printed first, and with each run that fails. 'N passed, M failed' at the end; the status is 1 where a run
 # failed.
 set -u

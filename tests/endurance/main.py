@@ -18,7 +18,8 @@ from lasting import Lasting
 from partners import Ports, Room, Standard
 from plans import some_plan
 
-LIMIT = 20
+# Seconds for a run, PATIENCE times as many on a slow machine or of a program that is compiled with checks.
+LIMIT = 20 * int(os.environ.get("PATIENCE", 1))
 
 
 class Run:

@@ -173,8 +173,8 @@ def unix_server(dice, room, reads, writes, hostile):
 
 
 def some_datagrams(dice):
-    pieces = [(dice.randbytes(dice.choice((1, 2, 100, 511, 512, 1000, 1472, 8192))), dice.choice((0, 0, 0.02)))
-              for _ in range(dice.randrange(1, 12))]
+    sizes = [size for size in (1, 2, 100, 511, 512, 1000, 1472, 8192) if size < dice.most]
+    pieces = [(dice.randbytes(dice.choice(sizes)), dice.choice((0, 0, 0.02))) for _ in range(dice.randrange(1, 12))]
     return Gift(pieces, "stay")
 
 

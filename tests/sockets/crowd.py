@@ -5,7 +5,8 @@ crowd.py KIND WHERE COUNT [STEP]      KIND is tcp4, tcp6, unix or udp4, WHERE a 
 
 STEP is `echo=BYTES` (20000), which sends so many bytes, half-closes, and expects just these back; `leave`, which
 connects and closes; `reset`, which connects and resets; `read`, which says what comes, one line a client, sorted; with
-udp4 also `rounds=NUMBER`, so many times a datagram of its own, which is to come back in capitals before the next one.
+udp4 also `rounds=NUMBER`, so many times a datagram with a line of its own, which is to come back in capitals before the
+next one.
 It prints how many did so, and why the first other one didn't.
 """
 import hashlib
@@ -94,7 +95,7 @@ def rounds(kind, where, count, number):
         ready.register(client.sock, selectors.EVENT_READ, client)
     for turn in range(number):
         for place, client in enumerate(clients):
-            client.sent = b"client %d, round %d" % (place, turn)
+            client.sent = b"client %d, round %d\n" % (place, turn)
             client.got = b""
             client.sock.send(client.sent)
         left = count

@@ -1,26 +1,18 @@
 # UDP-LISTEN with fork: the datagrams of one socket, sorted by their senders, each of whom has a session.
 
-# capitals: a program that gives each datagram back in capitals at once.
-capitals="$scratch/capitals"
-cat >"$capitals" <<'EOS'
-import os
-while True:
-    data = os.read(0, 65536)
-    if not data:
-        break
-    os.write(1, data.upper())
-EOS
+# capitals: a program that gives each line back in capitals at once.
+capitals='EXEC:sed -u y/abcdefghijklmnopqrstuvwxyz/ABCDEFGHIJKLMNOPQRSTUVWXYZ/'
 
 begin "200 peers at once, each with datagrams and a program of its own"
 given_nothing
-UNAUDITED=yes start relay -t30 UDP4-LISTEN:0,fork,stop-after=200,null-eof "EXEC:$python -ES $capitals"
+UNAUDITED=yes start relay -t30 UDP4-LISTEN:0,fork,stop-after=200,null-eof "$capitals"
 crowd '200 had their own' udp4 "@${pids[relay]}" 200 rounds=5
 ended relay 0 '' ''
 finish
 
 begin "20 peers at once, with a journal"
 given_nothing
-start relay -t10 UDP4-LISTEN:0,fork,stop-after=20,null-eof "EXEC:$python -ES $capitals"
+start relay -t10 UDP4-LISTEN:0,fork,stop-after=20,null-eof "$capitals"
 crowd '20 had their own' udp4 "@${pids[relay]}" 20 rounds=5
 ended relay 0 '' ''
 finish

@@ -96,27 +96,17 @@ crowd '50 had their own' udp4 "@${pids[relay]}" 50 echo=1000
 ended relay 0 '' ''
 finish
 
-# echoes FD TEXT: sends the text there, and waits until it has come back.
-echoes() {
-    local back=''
-    printf '%s' "$2" >&"$1"
-    IFS= read -rt "$limit" -N "${#2}" -u "$1" back
-    [ "$back" = "$2" ] || wrong "it echoed ${back:0:200}"
-}
-
 # both_in_turn FLAG TEXT: two clients at once talk in turn to a relay with this flag, which says just this text.
 both_in_turn() {
-    local one two
     given_nothing
+    rm -f first second third
     start relay "$1" TCP4-LISTEN:0,fork,stop-after=2 PIPE
     listens relay tcp4
-    exec {one}<>"/dev/tcp/127.0.0.1/$port"
-    echoes "$one" ab
-    exec {two}<>"/dev/tcp/127.0.0.1/$port"
-    echoes "$two" $'c\n'
-    echoes "$one" d
-    echoes "$two" $'\\\t'
-    exec {one}<&- {two}<&-
+    peer connect tcp4 "/$port" send=ab read=2 make=first wait=second send=d read=1 make=third
+    listens relay tcp4
+    peer connect tcp4 "/$port" wait=first 'send=c\n' read=2 make=second wait=third 'send=\\\t' read=2
+    told 1 abd
+    told 2 'c\n\\\t'
     await relay
     [ "$status" -eq 0 ] || wrong "status $status"
     [ "$(cat relay.err)" = "$2" ] || wrong "it said $(head -c 400 relay.err)"

@@ -26,7 +26,7 @@ pub enum RowPeer {
     Failed,
 }
 
-/// A socket and the rows of its packets. Each call but `send_row` and `drop_row` first takes what the socket has, at most
+/// A socket and the rows of its packets. A read and an accepting first take what the socket has for all rows, at most
 /// 64 packets.
 #[derive(Drop)]
 pub struct Hub<L> {

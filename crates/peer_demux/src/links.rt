@@ -7,7 +7,7 @@ ghost use Rattle.peer_demux.specs.Tables.{risen_if};
 use port_trait::Took;
 use relay_model::Peer;
 
-/// What a receiving came to: a packet of this sender, which fills so many bytes of the buffer, none for now, or a fault.
+/// What a receiving came to: a packet of this sender, which fills so many bytes of the buffer; none for now; a fault.
 #[derive(Clone, Copy, Debug, PartialEq)]
 pub enum Received {
     Packet { from: Peer, len: usize },

@@ -50,7 +50,7 @@ quiet_all steps rows made step came took inv = record {
 
 -- ---- one row changes
 
-once : (rows : List RowState) (number p q : ℕ) → IsRising rows → Stands rows number p → Stands rows number q → p ≡ q
+pub once : (rows : List RowState) (number p q : ℕ) → IsRising rows → Stands rows number p → Stands rows number q → p ≡ q
 once rows number p q rising one other =
     elim (cases_order p q) [
       | inl e ↦ e
@@ -98,12 +98,12 @@ first_same : (packets : List (List ℕ)) (given : ℕ) (bytes : List ℕ) → (l
 first_same [] given bytes e = ap (λ (g : ℕ). take g []) (e refl) ∙ sym (ap (λ (g : ℕ). take g bytes) (e refl))
 first_same (p ∷ packets) given bytes e = refl
 
-push_below : (rows : List RowState) (x : RowState) (i : ℕ) → i < length rows → row_at (rows ++ x ∷ []) i ≡ row_at rows i
+pub push_below : (rows : List RowState) (x : RowState) (i : ℕ) → i < length rows → row_at (rows ++ x ∷ []) i ≡ row_at rows i
 push_below [] x i less = absurd (omega arith)
 push_below (r ∷ rows) x zero less = refl
 push_below (r ∷ rows) x (suc i) less = push_below rows x i (omega arith)
 
-push_here : (rows : List RowState) (x : RowState) (i : ℕ) → i ≡ length rows → row_at (rows ++ x ∷ []) i ≡ x
+pub push_here : (rows : List RowState) (x : RowState) (i : ℕ) → i ≡ length rows → row_at (rows ++ x ∷ []) i ≡ x
 push_here [] x i e = ap (row_at (x ∷ [])) e
 push_here (r ∷ rows) x zero e = absurd (omega arith)
 push_here (r ∷ rows) x (suc i) e = push_here rows x i (omega arith)
@@ -284,7 +284,7 @@ none_past [] q le = refl
 none_past (r ∷ rows) zero le = absurd (omega arith)
 none_past (r ∷ rows) (suc q) le = none_past rows q (omega arith)
 
-taken_front : (rows : List RowState) (count q : ℕ) → q < count → row_at (take count rows) q ≡ row_at rows q
+pub taken_front : (rows : List RowState) (count q : ℕ) → q < count → row_at (take count rows) q ≡ row_at rows q
 taken_front rows zero q less = absurd (omega arith)
 taken_front [] (suc count) q less = refl
 taken_front (r ∷ rows) (suc count) zero less = refl
@@ -299,12 +299,12 @@ front_stays rows count = record {
 }
 
 -- where the row stood that stands here once another has gone
-abbrev shift : ℕ → ℕ → ℕ
+abbrev pub shift : ℕ → ℕ → ℕ
 shift zero q = suc q
 shift (suc place) zero = zero
 shift (suc place) (suc q) = suc (shift place q)
 
-shift_within : (place q n : ℕ) → q + 1 < n → shift place q < n
+pub shift_within : (place q n : ℕ) → q + 1 < n → shift place q < n
 shift_within zero q n l = omega (arith, l)
 shift_within (suc place) zero n l = omega (arith, l)
 shift_within (suc place) (suc q) n l = let h = shift_within place q (n - 1) (omega (arith, l)) in omega (arith, h, l)
@@ -315,7 +315,7 @@ shift_rising (suc place) i zero less = absurd (omega (arith, less))
 shift_rising (suc place) zero (suc j) less = omega arith
 shift_rising (suc place) (suc i) (suc j) less = let h = shift_rising place i j (omega (arith, less)) in omega (arith, h)
 
-shift_row : (rows : List RowState) (place q : ℕ) → place < length rows → row_at (remove rows place) q ≡ row_at rows (shift place q)
+pub shift_row : (rows : List RowState) (place q : ℕ) → place < length rows → row_at (remove rows place) q ≡ row_at rows (shift place q)
 shift_row [] place q l = absurd (omega arith)
 shift_row (r ∷ rows) zero q l = refl
 shift_row (r ∷ rows) (suc place) zero l = refl
@@ -364,3 +364,7 @@ holds mode (step ∷ steps) table leads = step_inv steps leads.0 table step (hol
 
 pub nothing_lost : NothingIsLost
 nothing_lost mode steps table leads number place stands = (holds mode steps table leads).kept number place stands
+
+-- the rows stand in order after any calls
+pub in_order : (mode : Mode) (steps : List Step) (table : TableState) → Leads mode steps table → IsTable table.rows table.made
+in_order mode steps table leads = (holds mode steps table leads).order

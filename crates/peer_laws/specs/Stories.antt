@@ -1,8 +1,9 @@
 -- The calls of a table of senders one after another, and what they say of one row.
-use Rattle.std.specs.Prelude.{◌≡◌, ℕ, ◌==◌, List, [], ◌∷◌, ◌++◌, take, Option, if◌then◌else◌}
+use Rattle.std.specs.Prelude.{◌≡◌, ℕ, ◌==◌, ◌<◌, List, [], ◌∷◌, ◌++◌, length, take, Option, if◌then◌else◌}
 use Rattle.std.specs.List.{concat}
 use Rattle.relay_model.specs.declared.acts.Peer.{Peer}
 use Rattle.peer_demux.specs.declared.answers.Mode.{Mode}
+use Rattle.peer_demux.specs.declared.answers.Mode.TheVariants as modes
 use Rattle.peer_demux.specs.declared.answers.Put.{Put}
 use Rattle.peer_demux.specs.declared.answers.Put.TheVariants as puts
 use Rattle.peer_demux.specs.declared.answers.Taken.{Taken}
@@ -70,3 +71,26 @@ IsKept number steps row = (whole : List (List ℕ)) × (arrived number steps ≡
 -- it is so of each live row after any calls
 abbrev pub NothingIsLost : Type 0
 NothingIsLost = (mode : Mode) (steps : List Step) (table : TableState) → Leads mode steps table → (number place : ℕ) → Stands table.rows number place → IsKept number steps (row_at table.rows place)
+
+-- what the call put into the row of this number came from this peer
+abbrev pub IsFrom : ℕ → Peer → Step → Type 0
+IsFrom number peer (Came from bytes (puts.New row)) = row ≡ number → from ≡ peer
+IsFrom number peer (Came from bytes (puts.Queued row)) = row ≡ number → from ≡ peer
+IsFrom number peer (Came from bytes (puts.Dropped why)) = Unit {0}
+IsFrom number peer (HandedOut found) = Unit {0}
+IsFrom number peer (Gave row into taken) = Unit {0}
+IsFrom number peer (LetGo row) = Unit {0}
+IsFrom number peer TurnedAway = Unit {0}
+
+-- all that was put into it did
+abbrev pub AllFrom : ℕ → Peer → List Step → Type 0
+AllFrom number peer [] = Unit {0}
+AllFrom number peer (step ∷ steps) = IsFrom number peer step × AllFrom number peer steps
+
+-- what arrived at a live row came from its sender
+abbrev pub PacketsAreTheSenders : Type 0
+PacketsAreTheSenders = (mode : Mode) (steps : List Step) (table : TableState) → Leads mode steps table → (number place : ℕ) → Stands table.rows number place → AllFrom number (row_at table.rows place).peer steps
+
+-- in a table by senders no two live rows have the same one
+abbrev pub OneRowASender : Type 0
+OneRowASender = (steps : List Step) (table : TableState) → Leads modes.ByPeer steps table → (p q : ℕ) → p < length table.rows → q < length table.rows → (row_at table.rows p).peer ≡ (row_at table.rows q).peer → p ≡ q

@@ -31,9 +31,9 @@ impl Crowd {
         }
     }
 
-    /// Takes what the socket has, once a round. A round asks each port at most once, and only those that answered that they
-    /// have to wait; so a port that is asked again, or another call in between, begins the next round. `seen` is the round
-    /// in which the port was asked last; the answer is this round.
+    /// Takes what the socket has, once a round. A round asks each port at most once, and only those that answered that
+    /// they have to wait; so a port that is asked again, or another call in between, begins the next round. `seen` is
+    /// the round in which the port was asked last; the answer is this round.
     pub(crate) fn look(&mut self, seen: u64) -> u64 {
         if self.stirred || seen == self.round {
             self.stirred = false;

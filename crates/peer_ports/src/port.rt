@@ -193,7 +193,8 @@ impl Port for PeerPort {
         took
     }
 
-    /// Sends an empty datagram at `Null` (socat(1), `shut-null`). The other ways do nothing, since a datagram has no end.
+    /// Sends an empty datagram at `Null` (socat(1), `shut-null`). The other ways do nothing, since a datagram has no
+    /// end.
     fn shut(&mut self, how: Shut) -> Shutting
         ensures kept { (self.new.begun ≡ self.old.begun) × (self.new.ended ≡ self.old.ended) }
         ensures counts { Tallied (shut_event result) self.old.counts self.new.counts }

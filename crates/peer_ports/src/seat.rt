@@ -20,8 +20,8 @@ enum Role {
     Peer(u32),
 }
 
-/// A door, or a peer that was accepted at it. What they share is let go with the last of them. The loop alone calls them,
-/// so the lock is always free.
+/// A door, or a peer that was accepted at it. What they share is let go with the last of them. The loop alone calls
+/// them, so the lock is always free.
 pub(crate) struct Seat {
     crowd: Arc<Mutex<Crowd>, Global>,
     role: Role,
@@ -99,8 +99,8 @@ impl Seat {
         }
     }
 
-    /// Whether there is something to read or to accept, after a look at the socket where a round begins. `seen` is the round
-    /// of the last look, and the answer's first the one of this.
+    /// Whether there is something to read or to accept, after a look at the socket where a round begins. `seen` is the
+    /// round of the last look, and the answer's first the one of this.
     pub(crate) fn look(&self, seen: u64) -> (u64, bool) {
         let Some(mut crowd) = self.crowd.try_lock() else {
             return (seen, true);

@@ -10,9 +10,9 @@ use port_trait::{Begun, Got, Hint, Joining, Port, PortReap, Settled, Shutting, T
 use relay_model::Shut;
 use socks_port::SocksPort;
 
-/// The echo pipe, a socket, a file, a program, a connection through a proxy, or a door of datagrams or its peer. Each call
-/// is that call on the port that it is. It has no type parameters: where a maker stands for one, a port without any is
-/// compared by its name.
+/// The echo pipe, a socket, a file, a program, a connection through a proxy, or a door of datagrams or its peer. Each
+/// call is that call on the port that it is. It has no type parameters: where a maker stands for one, a port without
+/// any is compared by its name.
 #[derive(Drop)]
 pub enum RealPort {
     Echo(EchoPort),
