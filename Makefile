@@ -3,11 +3,14 @@
 #   make            proves and builds bin/socat, bin/socat-audit and bin/socat-explain
 #   make test       runs the tests of the built programs
 #   make check      runs the gate: every proof, and all its tests
+#   make endurance  runs random commands for ten minutes, or for FOR=SECONDS, and judges each run
+#   make memory     runs them with each request for memory refused in turn
 #   make quick      builds the same as bin/quick/socat and so on for a look, WITHOUT PROVING ANYTHING
 #   make install    puts programs, manual pages and completion below PREFIX, with DESTDIR in front; make uninstall
 
 PREFIX ?= /usr/local
 DESTDIR ?=
+FOR ?= 600
 BIN = $(DESTDIR)$(PREFIX)/bin
 MAN = $(DESTDIR)$(PREFIX)/share/man/man1
 COMPLETION = $(DESTDIR)$(PREFIX)/share/bash-completion/completions
@@ -16,7 +19,7 @@ AUDITOR = crates/audit_main/out/audit_main
 EXPLAINER = crates/explain_main/out/explain_main
 SOURCES = $(shell find crates -name out -prune -o -type f \( -name '*.rt' -o -name '*.antt' \) -print) crates.txt
 
-.PHONY: all check test documents quick install uninstall clean bench
+.PHONY: all check test endurance memory documents quick install uninstall clean bench
 
 all: bin/socat bin/socat-audit bin/socat-explain
 
@@ -58,6 +61,12 @@ test: bin/socat bin/socat-audit bin/socat-explain documents
 	tests/audited.sh bin/socat bin/socat-audit
 	tests/explain.sh bin/socat-explain bin/socat
 
+endurance: bin/socat bin/socat-audit
+	tests/endurance.sh bin/socat bin/socat-audit --seconds $(FOR)
+
+memory: bin/socat bin/socat-audit
+	tests/memory.sh bin/socat bin/socat-audit
+
 # What the documents name and list is there.
 documents:
 	tests/claims.sh
@@ -89,9 +98,12 @@ uninstall:
 
 bench: bin/socat
 	bench/throughput.sh bin/socat
+	bench/streams.sh bin/socat
 	bench/sockets.sh bin/socat
 	bench/programs.sh bin/socat
 	PYTHONDONTWRITEBYTECODE=1 bench/sessions.py bin/socat $$(command -v socat)
+	bench/many.py bin/socat
+	bench/dumps.sh bin/socat
 	bench/words.sh bin/socat
 	bench/parts.sh
 	cd crates/bench_pump && rt run </dev/null >/dev/null

@@ -2,12 +2,18 @@
 """Times a relay between two pipes.
 
 ping.py trips COUNT COMMAND..    the median time of one byte there and back, in tenths of a microsecond
+ping.py first COUNT COMMAND..    the median time from its start to the first byte back, in tenths of a microsecond
 ping.py idle SECONDS COMMAND..   its processor time while nothing comes, in tenths of a millisecond
+
+PIECE is the number of bytes of a trip, where it isn't to be one.
 """
 import os
 import subprocess
 import sys
 import time
+
+
+piece = b"x" * int(os.environ.get("PIECE", "1"))
 
 
 def start(command):
@@ -26,11 +32,25 @@ def trips(count, command):
     times = []
     for _ in range(count):
         before = time.perf_counter_ns()
-        os.write(there, b"x")
-        if os.read(back, 1) != b"x":
-            sys.exit("no byte came back")
+        os.write(there, piece)
+        if os.read(back, len(piece)) != piece:
+            sys.exit("other bytes came back")
         times.append(time.perf_counter_ns() - before)
     finish(relay)
+    times.sort()
+    return times[len(times) // 2] // 100
+
+
+def first(count, command):
+    times = []
+    for _ in range(count):
+        before = time.perf_counter_ns()
+        relay = start(command)
+        os.write(relay.stdin.fileno(), piece)
+        if os.read(relay.stdout.fileno(), len(piece)) != piece:
+            sys.exit("other bytes came back")
+        times.append(time.perf_counter_ns() - before)
+        finish(relay)
     times.sort()
     return times[len(times) // 2] // 100
 
@@ -43,5 +63,5 @@ def idle(seconds, command):
 
 
 if __name__ == "__main__":
-    what = {"trips": trips, "idle": idle}[sys.argv[1]]
+    what = {"trips": trips, "first": first, "idle": idle}[sys.argv[1]]
     print(what(int(sys.argv[2]), sys.argv[3:]))

@@ -48,6 +48,30 @@ def reach(family, place):
             time.sleep(0.005)
 
 
+# What stands behind a relay, by its host and port; and of a proxy how its request ends and what grants it. The proxy is
+# the far end itself, so nothing else passes the bytes on.
+BEHIND = {
+    "tcp": "TCP4:{}:{}",
+    "socks": "SOCKS4A:{}:far.example:80,socksport={},socksuser=me",
+    "proxy": "PROXY:{}:far.example:80,proxyport={}",
+}
+GRANTS = {
+    "socks": (b"far.example\0", b"\0\x5a" + bytes(6)),
+    "proxy": (b"\r\n\r\n", b"HTTP/1.0 200 OK\r\n\r\n"),
+}
+
+
+def grant(sock, last, reply):
+    """Reads a request up to its last bytes, and grants it."""
+    request = b""
+    while not request.endswith(last):
+        got = sock.recv(4096)
+        if not got:
+            sys.exit("a request to a proxy is cut short")
+        request += got
+    sock.sendall(reply)
+
+
 def start(command):
     relay = subprocess.Popen(command, stdin=subprocess.DEVNULL, stdout=subprocess.DEVNULL)
     signal.alarm(LIMIT)
@@ -68,23 +92,25 @@ class Ends:
 
     def __init__(self, program, kind, before=()):
         self.folder = tempfile.TemporaryDirectory()
-        if kind == "tcp":
-            family, far, near = socket.AF_INET, (HERE, 0), (HERE, free_port())
-        else:
+        if kind == "unix":
             family, far, near = socket.AF_UNIX, f"{self.folder.name}/far", f"{self.folder.name}/near"
+        else:
+            family, far, near = socket.AF_INET, (HERE, 0), (HERE, free_port())
         server = socket.socket(family)
         server.bind(far)
         server.listen(1)
         server.settimeout(LIMIT)
-        if kind == "tcp":
-            words = [f"TCP4-LISTEN:{near[1]}", f"TCP4:{HERE}:{server.getsockname()[1]}"]
-        else:
+        if kind == "unix":
             words = [f"UNIX-LISTEN:{near}", f"UNIX-CONNECT:{far}"]
+        else:
+            words = [f"TCP4-LISTEN:{near[1]}", BEHIND[kind].format(HERE, server.getsockname()[1])]
         self.relay = start([*before, program, "-t10", *words])
         self.near = reach(family, near)
         self.far = server.accept()[0]
         self.far.settimeout(LIMIT)
         server.close()
+        if kind in GRANTS:
+            grant(self.far, *GRANTS[kind])
 
     def end(self):
         self.near.close()
@@ -131,6 +157,23 @@ def flow(program, kind, ways, before=(), count=None):
     passed = count * len(works) // 2
     spent = ends.end()
     return passed / seconds / 1e6, spent * (1 << 30) / passed
+
+
+def proxied(program):
+    """The rates to the right through each proxy, and their ratios to that of plain TCP in the same round; then those of
+    the processor time."""
+    plain, socks, proxy = (flow(program, kind, "right") for kind in ("tcp", "socks", "proxy"))
+    return socks[0], proxy[0], socks[0] / plain[0], proxy[0] / plain[0], socks[1] / plain[1], proxy[1] / plain[1]
+
+
+PROXIED = [
+    "SOCKS4A to the right, MB/s",
+    "PROXY to the right, MB/s",
+    "SOCKS4A of plain TCP",
+    "PROXY of plain TCP",
+    "SOCKS4A of plain TCP, processor",
+    "PROXY of plain TCP, processor",
+]
 
 
 def echo(sock):
@@ -227,6 +270,7 @@ MEASURES = [
     flows("TCP both ways", "tcp", "both"),
     flows("Unix to the right", "unix", "right"),
     flows("Unix both ways", "unix", "both"),
+    (PROXIED, proxied),
     (["TCP 64 bytes there and back, us"], lambda program: trips(program, "tcp")),
     (["Unix 64 bytes there and back, us"], lambda program: trips(program, "unix")),
     ([f"UDP lost of {DATAGRAMS} at {PACE}/s"], lambda program: lost(program, "udp")),

@@ -255,4 +255,5 @@ def main(auditor, folder):
     print(f"judged {len(judged) - wrong} right, {wrong} wrong, {changes} changes, {len(runs) - len(judged)} too long")
 
 
-main(*sys.argv[1:])
+if __name__ == "__main__":
+    main(*sys.argv[1:])

@@ -1,8 +1,9 @@
 # Relays in the background, their inputs, and what is expected of them.
 # A case begins with `begin`, ends with `finish`, and has one problem at most, the first.
 
-# How many seconds a relay, a peer or what is waited for may take.
-limit=15
+# How many seconds a relay, a peer or what is waited for may take; PATIENCE times as many on a slow machine.
+patience="${PATIENCE:-1}"
+limit=$((15 * patience))
 # The processes of the case, by their tags.
 declare -A pids=()
 
@@ -254,9 +255,9 @@ run_to_end() {
     await relay
 }
 
-# between LEAST MOST: the last relay took so many milliseconds.
+# between LEAST MOST: the last relay took so many milliseconds, or up to PATIENCE times as many as the most.
 between() {
-    if [ "$took" -lt "$1" ] || [ "$took" -gt "$2" ]; then
+    if [ "$took" -lt "$1" ] || [ "$took" -gt $(($2 * patience)) ]; then
         wrong "it took $took ms"
     fi
 }

@@ -3,7 +3,7 @@
 # where it is installed, against another socat; each as client and as server. One line a case, and 'N passed, M failed'
 # at the end; the status is 1 where a case failed.
 # Usage: tests/sockets.sh [PROGRAM [PART..]]      (bin/socat where none is given, and all parts)
-# MANY is the number of short relays in a row (200).
+# MANY is the number of short relays in a row (200). On a slow machine PATIENCE is how many times longer all may take.
 set -u
 
 . "$(dirname "${BASH_SOURCE[0]}")/common.sh"
@@ -17,7 +17,7 @@ fi
 . "$here/tests/sockets/common.sh"
 
 parts=("${@:2}")
-[ "${#parts[@]}" -gt 0 ] || parts=(pairs streams ends opening filters udp unix proxies sessions many)
+[ "${#parts[@]}" -gt 0 ] || parts=(pairs streams ends opening filters udp unix proxies sessions senders many)
 for part in "${parts[@]}"; do
     . "$here/tests/sockets/$part.sh"
 done

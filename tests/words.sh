@@ -135,14 +135,27 @@ refused 'socat: E07 word 1: empty option at 3' $'\xff\xfe,,cr' -
 refused 'socat: E06 word 2: too many !! at 4' - $'a!!\xc3!!\xff'
 refused 'socat: E01 word 1: unclosed at 2' $'\xe2\x82"' -
 
-# --- what is in order and can't be run yet
+# --- the generated run
 
-for words in '-v TCP-LISTEN:1,fork TCP:localhost:2' '-x UNIX-LISTEN:x,fork STDIO' '--load 7' \
-    '--journal=/dev/null --load 7'; do
-    # The words are split at spaces.
-    # shellcheck disable=SC2086
-    refused 'socat: E23: not built' $words
+# generated NUMBER: its summary, by the formula alone.
+generated() {
+    python3 -c '
+import sys
+number = int(sys.argv[1])
+state, total = number % 2**31, 0
+for _ in range(50 * 65536):
+    state = (1103515245 * state + 12345) % 2**31
+    total += state // 65536 % 256
+print(f"load {number}: 50 sessions, {50 * 65536} bytes, sum {total}")
+' "$1"
+}
+for number in 7 0 9223372036854775808 18446744073709551615; do
+    says 0 "$(generated "$number")"$'\n' --load "$number"
 done
+says 0 "$(generated 7)"$'\n' --load 07 and more words
+says 0 "$(generated 31)"$'\n' --journal=j --load 0x1F
+refused 'socat: E20 word 1: bad flag value' --load 18446744073709551616
+refused 'socat: E19 word 1: flag without value' --load
 
 # A name that isn't UTF-8 is in order, and fails at its opening.
 refused 'socat: open failed on the left after 1 attempts' -u $'OPEN:\xff\xfe' STDOUT

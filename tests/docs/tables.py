@@ -306,8 +306,8 @@ def check_not_yet():
     rows = [cells(line) for line in (TOP / "README.md").read_text().split("\n")]
     waits = {name for row in rows if len(row) == 2 and row[1].startswith("not yet") for name in names_in(row[0])}
     runs = {name for row in rows if len(row) == 2 and row[1].startswith("run") for name in names_in(row[0])}
-    bold = [word for line in sections("socat.1")["NOT YET"] for word in bold_of(line)]
-    named = {word for word in bold if word and not word.startswith(("E23", ",", "."))}
+    bold = [word for line in sections("socat.1").get("NOT YET", []) for word in bold_of(line)]
+    named = {word for word in bold if word and not word.startswith((",", "."))}
     compare("socat.1, NOT YET, beside README.md", named, waits)
     family = re.compile(r"^(TCP|UDP)[46]")
     for keywords, _, _ in code_kinds():

@@ -133,6 +133,85 @@ status=$?
 [ "$status" -eq 1 ] || problem="status $status"
 report "a failure with standard error closed" "$problem"
 
+# --- what is shared with other programs
+
+# What a run leaves of a file is the next program's.
+problem=''
+got="$(seq 1 100000 >"$scratch/numbers"
+    (timeout 20 "$program" -u STDIN,readbytes=3 STDOUT && cat) <"$scratch/numbers" | cksum)"
+[ "$got" = "$(cksum <"$scratch/numbers")" ] || problem="other bytes came out"
+report "a file that the next program reads on" "$problem"
+
+# Output goes to where the file's position stands, and leaves it behind itself.
+problem=''
+(
+    printf one
+    printf two | timeout 20 "$program" "${relay[@]}"
+    printf three
+) >"$scratch/out"
+[ "$(cat "$scratch/out")" = onetwothree ] || problem="got $(head -c 60 "$scratch/out")"
+report "a file that other programs write too" "$problem"
+
+problem=''
+printf 'before ' >"$scratch/out"
+printf 'after' | timeout 20 "$program" "${relay[@]}" >>"$scratch/out"
+[ "$(cat "$scratch/out")" = 'before after' ] || problem="got $(head -c 60 "$scratch/out")"
+report "a file that is appended to" "$problem"
+
+# waits NUMBER: the open file of this descriptor makes its callers wait.
+waits() {
+    local name flags
+    while read -r name flags; do
+        [ "$name" != flags: ] || [ $((flags & 04000)) -eq 0 ] || return 1
+    done <"/proc/self/fdinfo/$1"
+}
+
+if [ -r /proc/self/fdinfo/0 ]; then
+    problem=''
+    printf 'ab' | (
+        waits 0 && waits 1 || echo 'they did not wait before' >&2
+        timeout 20 "$program" -u STDIN,readbytes=1 STDOUT
+        waits 0 || echo 'the input does not wait' >&2
+        waits 1 || echo 'the output does not wait' >&2
+        cat
+    ) 2>"$scratch/err" | cat >"$scratch/out"
+    [ -s "$scratch/err" ] && problem="$(head -1 "$scratch/err")"
+    [ "$(cat "$scratch/out")" = ab ] || problem="got $(head -c 60 "$scratch/out")"
+    report "pipes are shared as they were" "$problem"
+
+    # A run between two pipes has a thread for standard error alone.
+    problem=''
+    exec 5> >(sh -c 'echo "$$" >"$0"; exec "$@"' "$scratch/pid" "$program" "${relay[@]}" | cat >/dev/null)
+    sleep 0.3
+    threads=("/proc/$(cat "$scratch/pid")/task"/*)
+    exec 5>&-
+    [ "${#threads[@]}" -eq 2 ] || problem="it has ${#threads[@]}"
+    report "one thread beside its own between two pipes" "$problem"
+fi
+
+# The name of a pipe's descriptor would let it be read in any case.
+problem=''
+{
+    timeout 20 "$program" "${relay[@]}" 0>&1 2>"$scratch/err"
+    echo "status $?"
+} | cat >"$scratch/out"
+if [ "$(cat "$scratch/out")" != 'status 1' ]; then
+    problem="got $(head -c 60 "$scratch/out")"
+elif ! said "$scratch/err" 'socat: read failed on the left'; then
+    problem="said $(cat "$scratch/err")"
+fi
+report "a pipe as the input that may only be written" "$problem"
+
+problem=''
+printf abc | (
+    sleep 0.2
+    timeout 20 "$program" -u STDIN STDOUT 1<&0 2>"$scratch/err"
+    echo "status $?" >"$scratch/out"
+)
+[ "$(cat "$scratch/out")" = 'status 1' ] || problem="got $(head -c 60 "$scratch/out")"
+said_write_failed || problem="said $(cat "$scratch/err")"
+report "a pipe as the output that may only be read" "$problem"
+
 # --- memory and signals
 
 # The most memory that the process held so far, in kB.

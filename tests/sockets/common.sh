@@ -68,6 +68,17 @@ told() {
 # sum_of BYTES..: the checksum of what peers send by their lengths.
 sum_of() { peer_py sum "$@"; }
 
+# --- crowds
+
+as_crowd=("$python" -ES -X "pycache_prefix=$scratch/compiled" "$here/tests/sockets/crowd.py")
+
+# crowd TEXT WORD..: a crowd as tests/sockets/crowd.py has it says just this line.
+crowd() {
+    local said
+    said="$(timeout $((120 * patience)) "${as_crowd[@]}" "${@:2}" 2>crowd.err 8<&-)" || wrong "the crowd failed: $(tail -1 crowd.err)"
+    [ "$said" = "$1" ] || wrong "the crowd said ${said:0:200}"
+}
+
 ipv6=''
 ! can tcp6 || ipv6=yes
 [ -n "$ipv6" ] || echo "skipped IPv6: there is no ::1"

@@ -4,7 +4,8 @@
 crowd.py KIND WHERE COUNT [STEP]      KIND is tcp4, tcp6, unix or udp4, WHERE a path, PORT, or @PID of who listens there
 
 STEP is `echo=BYTES` (20000), which sends so many bytes, half-closes, and expects just these back; `leave`, which
-connects and closes; `reset`, which connects and resets; `read`, which says what comes, one line a client, sorted.
+connects and closes; `reset`, which connects and resets; `read`, which says what comes, one line a client, sorted; with
+udp4 also `rounds=NUMBER`, so many times a datagram of its own, which is to come back in capitals before the next one.
 It prints how many did so, and why the first other one didn't.
 """
 import hashlib
@@ -15,9 +16,8 @@ import struct
 import sys
 
 from stand import new_socket, port_now, waited_for
-from talk import kept
+from talk import LIMIT, kept
 
-LIMIT = 60
 HOSTS = {"tcp4": "127.0.0.1", "tcp6": "::1", "udp4": "127.0.0.1"}
 
 
@@ -85,6 +85,36 @@ def crowd(kind, where, count, size):
     return clients
 
 
+def rounds(kind, where, count, number):
+    """The clients after so many rounds, in each of which all of them send at once; what went wrong is its `wrong`."""
+    clients = [Client(kind, where, client, 0) for client in range(count)]
+    ready = selectors.DefaultSelector()
+    for client in clients:
+        client.wrong = None
+        ready.register(client.sock, selectors.EVENT_READ, client)
+    for turn in range(number):
+        for place, client in enumerate(clients):
+            client.sent = b"client %d, round %d" % (place, turn)
+            client.got = b""
+            client.sock.send(client.sent)
+        left = count
+        while left > 0:
+            events = ready.select(LIMIT)
+            if not events:
+                break
+            for key, _ in events:
+                key.data.got += key.data.sock.recv(65536)
+                left -= 1
+        for client in clients:
+            if client.wrong is None and client.got != client.sent.upper():
+                client.wrong = f"got {client.got!r} for {client.sent!r}"
+    for client in clients:
+        client.sock.send(b"")
+        client.sent = client.got = b""
+        client.sock.close()
+    return clients
+
+
 def visit(kind, where, count, resets):
     for _ in range(count):
         sock = new_socket(kind)
@@ -104,7 +134,10 @@ def main(kind, where, count, step="echo=20000"):
         visit(kind, place, int(count), name == "reset")
         print(f"{count} came")
         return
-    clients = crowd(kind, place, int(count), int(value or 0))
+    if name == "rounds":
+        clients = rounds(kind, place, int(count), int(value))
+    else:
+        clients = crowd(kind, place, int(count), int(value or 0))
     if name == "read":
         for text in sorted(client.got for client in clients):
             os.write(1, text)

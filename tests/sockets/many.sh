@@ -68,7 +68,7 @@ look() {
 
 begin "relays that wait cost no processor time, and hold the same descriptors"
 given_nothing
-waiting=(listening connected served local datagrams retrying timed)
+waiting=(listening connected served local datagrams senders retrying timed)
 start listening TCP4-LISTEN:0 STDIO
 peer listen tcp4 sleep=30
 start connected -t10 STDIO "TCP4:127.0.0.1:$port"
@@ -79,6 +79,10 @@ start local UNIX-LISTEN:waited STDIO
 peer connect unix waited send=x sleep=30
 start datagrams UDP4-LISTEN:0 STDIO
 peer connect udp4 "/@${pids[datagrams]}" send=x sleep=30
+start senders UDP4-LISTEN:0,fork PIPE
+for number in 1 2 3; do
+    peer connect udp4 "/@${pids[senders]}" send=x read=1 sleep=30
+done
 start retrying STDIO TCP4:127.0.0.1:1,retry=1,interval=1000
 start timed -T100 TCP4-LISTEN:0,range=127.0.0.1/32 STDIO
 peer connect tcp4 "/@${pids[timed]}" sleep=30

@@ -1,14 +1,5 @@
 # Commands with `fork`: crowds of clients, each in a session of its own.
 
-as_crowd=("$python" -ES -X "pycache_prefix=$scratch/compiled" "$here/tests/sockets/crowd.py")
-
-# crowd TEXT WORD..: a crowd as tests/sockets/crowd.py has it says just this line.
-crowd() {
-    local said
-    said="$(timeout 120 "${as_crowd[@]}" "${@:2}" 2>crowd.err 8<&-)" || wrong "the crowd failed: $(tail -1 crowd.err)"
-    [ "$said" = "$1" ] || wrong "the crowd said ${said:0:200}"
-}
-
 # zombies TAG: how many children of the relay have ended and weren't asked for.
 zombies() { ps -o stat= --ppid "${pids[$1]}" 2>/dev/null | grep -c '^Z'; }
 
@@ -105,10 +96,41 @@ crowd '50 had their own' udp4 "@${pids[relay]}" 50 echo=1000
 ended relay 0 '' ''
 finish
 
-begin "UDP-LISTEN with fork isn't there yet"
-given_nothing
-run 1 '' 'socat: listen failed after 1 attempts' UDP4-LISTEN:0,fork PIPE
-finish
+# echoes FD TEXT: sends the text there, and waits until it has come back.
+echoes() {
+    local back=''
+    printf '%s' "$2" >&"$1"
+    IFS= read -rt "$limit" -N "${#2}" -u "$1" back
+    [ "$back" = "$2" ] || wrong "it echoed ${back:0:200}"
+}
+
+# both_in_turn FLAG TEXT: two clients at once talk in turn to a relay with this flag, which says just this text.
+both_in_turn() {
+    local one two
+    given_nothing
+    start relay "$1" TCP4-LISTEN:0,fork,stop-after=2 PIPE
+    listens relay tcp4
+    exec {one}<>"/dev/tcp/127.0.0.1/$port"
+    echoes "$one" ab
+    exec {two}<>"/dev/tcp/127.0.0.1/$port"
+    echoes "$two" $'c\n'
+    echoes "$one" d
+    echoes "$two" $'\\\t'
+    exec {one}<&- {two}<&-
+    await relay
+    [ "$status" -eq 0 ] || wrong "status $status"
+    [ "$(cat relay.err)" = "$2" ] || wrong "it said $(head -c 400 relay.err)"
+    finish
+}
+
+# ways LENGTH FROM TO BYTES: the dump of these bytes to the right, and that of their echo.
+ways() { printf '%s length=%s from=%s to=%s\n%s\n' '>' "$@" '<' "$@"; }
+
+begin_own "-v with fork: each session counts its own bytes"
+both_in_turn -v "$(ways 2 0 1 ab && ways 2 0 1 c && ways 1 2 2 d && ways 2 2 3 '\\\t')"
+
+begin_own "-x with fork: each session counts its own bytes"
+both_in_turn -x "$(ways 2 0 1 ' 61 62' && ways 2 0 1 ' 63 0a' && ways 1 2 2 ' 64' && ways 2 2 3 ' 5c 09')"
 
 begin "SIGTERM ends it with 50 sessions"
 given_nothing

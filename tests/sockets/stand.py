@@ -5,7 +5,7 @@ import socket
 import sys
 import time
 
-from talk import LIMIT, Datagrams, Stream, say, sized, sum_of
+from talk import LIMIT, PATIENCE, Datagrams, Stream, say, sized, sum_of
 
 FAMILIES = {"4": socket.AF_INET, "6": socket.AF_INET6, "x": socket.AF_UNIX}
 HOSTS = {"4": "127.0.0.1", "6": "::1"}
@@ -66,7 +66,7 @@ def path_now(path):
 
 
 def waited_for(find, *words):
-    end = time.monotonic() + 10
+    end = time.monotonic() + 10 * PATIENCE
     while time.monotonic() < end:
         try:
             found = find(*words)

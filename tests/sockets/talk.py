@@ -6,7 +6,9 @@ import sys
 import time
 import zlib
 
-LIMIT = 60
+# How many times longer all may take.
+PATIENCE = int(os.environ.get("PATIENCE", 1))
+LIMIT = 60 * PATIENCE
 
 
 def say(text):

@@ -31,7 +31,6 @@ code_printable refusal.NoValue = refl
 code_printable refusal.BadFlagValue = refl
 code_printable (refusal.AddressCount have) = refl
 code_printable refusal.NoDirection = refl
-code_printable refusal.NotBuilt = refl
 
 text_printable : (why : Refusal) → IsPrintable (refusal_text why)
 unfolding refusal_text
@@ -60,7 +59,6 @@ text_printable refusal.NoValue = refl
 text_printable refusal.BadFlagValue = refl
 text_printable (refusal.AddressCount have) = append_printable (codes "addresses want 2 have ") (decimal have) refl (decimal_printable have)
 text_printable refusal.NoDirection = refl
-text_printable refusal.NotBuilt = refl
 
 numbered_printable : (label : List ℕ) (number : ℕ) → IsPrintable label → IsPrintable (numbered label number)
 unfolding numbered

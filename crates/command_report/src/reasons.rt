@@ -32,7 +32,6 @@ fn say_why(page: &mut Page, why: Refusal) -> Result<(), NoMemory> {
         Refusal::AddressCount { .. } =>
             "two addresses stand behind the flags, no fewer and no more",
         Refusal::NoDirection => "neither address gives bytes that the other one takes",
-        Refusal::NotBuilt => "the words are in order, and can't be run yet",
     })
 }
 

@@ -1,3 +1,4 @@
+pub mod BaseLemmas
 pub mod PlaceLemmas
 pub mod PortLemmas
 pub mod SoundLemmas

@@ -1,6 +1,9 @@
 -- Why an opening, a listening or an accepting on a made port answers what it answers.
-use Rattle.std.specs.Prelude.{◌≡◌, ◌⊎◌, ℕ, ⊤, Option, Some}
+use Rattle.std.specs.Prelude.{◌≡◌, ◌⊎◌, ℕ, ⊤, Option, Some, IfSome}
 use Rattle.relay_model.specs.declared.acts.Peer.{Peer}
+use Rattle.relay_model.specs.declared.places.Place.{Place}
+use Rattle.relay_model.specs.declared.commands.Single.{Single}
+use Rattle.port_trait.specs.declared.makers.AskedPlace.{AskedPlace}
 use Rattle.port_trait.specs.Counting.{Rose}
 use Rattle.desk_ports.specs.Ports.{PortSeen}
 use Rattle.world_trait.specs.declared.answers.OpenAnswer.{OpenAnswer}
@@ -30,6 +33,17 @@ OpenCause faults faults' stalls stalls' opens.Opened = ⊤
 OpenCause faults faults' stalls stalls' opens.Later = Rose stalls stalls'
 OpenCause faults faults' stalls stalls' opens.Failed = Rose faults faults' ⊎ Dropped
 OpenCause faults faults' stalls stalls' opens.Memory = ⊤
+
+-- what a maker tells that its last opening was asked for: this address for this place, with this peer behind it
+abbrev pub AskedFor : Place → Single → Option Peer → Option AskedPlace → Type 0
+AskedFor place single behind told = IfSome told (λ asked. asked ≡ record { place = place; single = single; behind = behind })
+
+-- the same by the answer of an opening. Where there is no memory the maker may not have been asked
+abbrev pub OpenAsks : Place → Single → Option Peer → Option AskedPlace → OpenAnswer → Type 0
+OpenAsks place single behind told opens.Opened = AskedFor place single behind told
+OpenAsks place single behind told opens.Later = AskedFor place single behind told
+OpenAsks place single behind told opens.Failed = AskedFor place single behind told
+OpenAsks place single behind told opens.Memory = ⊤
 
 -- why a listening answered so
 abbrev pub ListenCause : ℕ → ℕ → ListenAnswer → Type 0

@@ -1,3 +1,4 @@
+pub mod Bases
 pub mod Causes
 pub mod Changes
 pub mod Footing

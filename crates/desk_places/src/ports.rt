@@ -9,11 +9,12 @@ ghost use Rattle.relay_model.specs.declared.places.Place.{Place};
 ghost use Rattle.world_trait.specs.Answers.{accept_act, close_act, listen_act, open_act, shut_act};
 ghost use Rattle.relay_model.specs.declared.places.Half.TheVariants.{ToRead, ToWrite};
 ghost use Rattle.port_trait.specs.Counting.{Rose};
-ghost use Rattle.desk_places.specs.Causes.{AcceptCause, BeginCause, ListenCause, OpenCause, StandardCause, WelcomeCause};
+ghost use Rattle.desk_places.specs.Causes.{AcceptCause, AskedFor, BeginCause, ListenCause, OpenCause, StandardCause, WelcomeCause};
 ghost use Rattle.desk_ports.specs.Ports.{JoinsSo, MovesNothing, Reads, Sends, Settles, Shuts, Writes, seen};
 ghost use Rattle.desk_ports.specs.Harbors.{AtErrors, AtInput, AtMade, AtOutput, MadeCall, giving_pier, taking_pier};
 ghost use Rattle.desk_ports.specs.Answers.{GotFits, SaidSo, TookFits, is_got_not_yet, is_took_not_yet, is_unsaid};
 ghost use Rattle.desk_places.specs.Changes.{HeldAfter, HeldSo, LeavesParent, LeftSo, ReapsKept, SettlesMade, SettlesSo, is_finished, joined_answer, made_at, shut_answer};
+ghost use Rattle.desk_places.specs.Bases.{AcceptsOn, BeginsOn, Leaves, ListensOn, OpensOn, SameBases, SettlesOn};
 ghost use Rattle.desk_places.specs.Footing.{IsSound};
 ghost use Rattle.desk_ports.specs.Bases.{IsStandard, key_of, standard_of};
 ghost use Rattle.port_trait.specs.Streams.{finishes};
@@ -40,9 +41,9 @@ impl<M: Maker + Drop, I: Port, O: Port, E: Port> Ports<M, I, O, E> {
     /// The standard ports, and no made one; takes no memory.
     pub fn new(alloc: Global, standard: Standard<I, O, E>, maker: M) -> Ports<M, I, O, E>
         ensures made { result.harbor.made.slots ≡ [] }
-        ensures input { (result.harbor.input.port ≡ seen I.gave I.took I.hints I.hinting I.counts I.ended I.joins I.child standard.stdin) × (result.harbor.input.begun ≡ false) × (result.harbor.input.finished ≡ false) }
-        ensures output { (result.harbor.output.port ≡ seen O.gave O.took O.hints O.hinting O.counts O.ended O.joins O.child standard.stdout) × (result.harbor.output.begun ≡ false) × (result.harbor.output.finished ≡ false) }
-        ensures errors { (result.harbor.errors.port ≡ seen E.gave E.took E.hints E.hinting E.counts E.ended E.joins E.child standard.stderr) × (result.harbor.errors.begun ≡ false) × (result.harbor.errors.finished ≡ false) }
+        ensures input { (result.harbor.input.port ≡ seen I.gave I.took I.shuts I.hints I.hinting I.counts I.ended I.joins I.child standard.stdin) × (result.harbor.input.begun ≡ false) × (result.harbor.input.finished ≡ false) }
+        ensures output { (result.harbor.output.port ≡ seen O.gave O.took O.shuts O.hints O.hinting O.counts O.ended O.joins O.child standard.stdout) × (result.harbor.output.begun ≡ false) × (result.harbor.output.finished ≡ false) }
+        ensures errors { (result.harbor.errors.port ≡ seen E.gave E.took E.shuts E.hints E.hinting E.counts E.ended E.joins E.child standard.stderr) × (result.harbor.errors.begun ≡ false) × (result.harbor.errors.finished ≡ false) }
         ensures parents { result.parents.items ≡ [] }
         ensures maker { result.maker ≡ maker }
     {
@@ -95,6 +96,7 @@ impl<M: Maker + Drop, I: Port, O: Port, E: Port> Ports<M, I, O, E> {
         requires made_room { HasRoomFor self.old.harbor.made 1 }
         ensures cause { BeginCause result }
         ensures streams { (self.new.harbor.input ≡ self.old.harbor.input) × (self.new.harbor.output ≡ self.old.harbor.output) × (self.new.harbor.errors ≡ self.old.harbor.errors) }
+        ensures bases { BeginsOn place (base_at stations.old.entries) (base_at stations.new.entries) result }
         ensures sound { IsSound stations.old.entries self.old.harbor.made → IsSound stations.new.entries self.new.harbor.made }
         ensures held { HeldSo result settling place (hold_at stations.old.entries) (hold_at stations.new.entries) }
         ensures one_more { length stations.new.entries ≤ length stations.old.entries + 1 }
@@ -132,10 +134,12 @@ impl<M: Maker + Drop, I: Port, O: Port, E: Port> Ports<M, I, O, E> {
             ⊎ (Rose self.old.harbor.output.port.counts.faults self.new.harbor.output.port.counts.faults
             ⊎ Rose self.old.harbor.errors.port.counts.faults self.new.harbor.errors.port.counts.faults)) result) }
         ensures made { IfNone (standard_of place single.now.target) (OpenCause (M.faults self.old.maker) (M.faults self.new.maker) (M.stalls self.old.maker) (M.stalls self.new.maker) result) }
+        ensures asked { IfNone (standard_of place single.now.target) (AskedFor place single.now behind (M.asked self.new.maker)) }
         ensures came { M.came self.new.maker ≡ M.came self.old.maker }
         ensures input { MovesNothing self.old.harbor.input.port self.new.harbor.input.port }
         ensures output { MovesNothing self.old.harbor.output.port self.new.harbor.output.port }
         ensures errors { MovesNothing self.old.harbor.errors.port self.new.harbor.errors.port }
+        ensures bases { OpensOn (standard_of place single.now.target) place (base_at stations.old.entries) (base_at stations.new.entries) result }
         ensures sound { IsSound stations.old.entries self.old.harbor.made → IsSound stations.new.entries self.new.harbor.made }
         ensures held { HeldAfter (open_act place result) (hold_at stations.old.entries) (hold_at stations.new.entries) }
         ensures one_more { length stations.new.entries ≤ length stations.old.entries + 1 }
@@ -158,6 +162,7 @@ impl<M: Maker + Drop, I: Port, O: Port, E: Port> Ports<M, I, O, E> {
         ensures input { MovesNothing self.old.harbor.input.port self.new.harbor.input.port }
         ensures output { MovesNothing self.old.harbor.output.port self.new.harbor.output.port }
         ensures errors { MovesNothing self.old.harbor.errors.port self.new.harbor.errors.port }
+        ensures bases { OpensOn (Some base) place (base_at stations.old.entries) (base_at stations.new.entries) result }
         ensures sound { IsSound stations.old.entries self.old.harbor.made → IsSound stations.new.entries self.new.harbor.made }
         ensures held { HeldAfter (open_act place result) (hold_at stations.old.entries) (hold_at stations.new.entries) }
         ensures one_more { length stations.new.entries ≤ length stations.old.entries + 1 }
@@ -184,8 +189,10 @@ impl<M: Maker + Drop, I: Port, O: Port, E: Port> Ports<M, I, O, E> {
         requires stations_room { 0 < stations.old.spare }
         requires made_room { HasRoomFor self.old.harbor.made 1 }
         ensures cause { OpenCause (M.faults self.old.maker) (M.faults self.new.maker) (M.stalls self.old.maker) (M.stalls self.new.maker) result }
+        ensures asked { AskedFor place single.now behind (M.asked self.new.maker) }
         ensures came { M.came self.new.maker ≡ M.came self.old.maker }
         ensures streams { (self.new.harbor.input ≡ self.old.harbor.input) × (self.new.harbor.output ≡ self.old.harbor.output) × (self.new.harbor.errors ≡ self.old.harbor.errors) }
+        ensures bases { OpensOn None place (base_at stations.old.entries) (base_at stations.new.entries) result }
         ensures sound { IsSound stations.old.entries self.old.harbor.made → IsSound stations.new.entries self.new.harbor.made }
         ensures held { HeldAfter (open_act place result) (hold_at stations.old.entries) (hold_at stations.new.entries) }
         ensures one_more { length stations.new.entries ≤ length stations.old.entries + 1 }
@@ -225,6 +232,7 @@ impl<M: Maker + Drop, I: Port, O: Port, E: Port> Ports<M, I, O, E> {
             (λ key. SettlesMade self.old.harbor.made self.new.harbor.made key result)
             (self.new.harbor.made ≡ self.old.harbor.made)) }
         ensures maker { self.new.maker ≡ self.old.maker }
+        ensures bases { SettlesOn place (base_at stations.old.entries) (base_at stations.new.entries) result }
         ensures sound { IsSound stations.old.entries self.old.harbor.made → IsSound stations.new.entries self.new.harbor.made }
         ensures held { HeldAfter (open_act place result) (hold_at stations.old.entries) (hold_at stations.new.entries) }
         ensures no_more { length stations.new.entries ≤ length stations.old.entries }
@@ -256,6 +264,7 @@ impl<M: Maker + Drop, I: Port, O: Port, E: Port> Ports<M, I, O, E> {
         ensures cause { ListenCause (M.faults self.old.maker) (M.faults self.new.maker) result }
         ensures came { M.came self.new.maker ≡ M.came self.old.maker }
         ensures streams { (self.new.harbor.input ≡ self.old.harbor.input) × (self.new.harbor.output ≡ self.old.harbor.output) × (self.new.harbor.errors ≡ self.old.harbor.errors) }
+        ensures bases { ListensOn door (base_at stations.old.entries) (base_at stations.new.entries) result }
         ensures sound { IsSound stations.old.entries self.old.harbor.made → IsSound stations.new.entries self.new.harbor.made }
         ensures held { HeldAfter (listen_act door result) (hold_at stations.old.entries) (hold_at stations.new.entries) }
         ensures one_more { length stations.new.entries ≤ length stations.old.entries + 1 }
@@ -283,6 +292,7 @@ impl<M: Maker + Drop, I: Port, O: Port, E: Port> Ports<M, I, O, E> {
         requires made_room { HasRoomFor self.old.harbor.made 1 }
         ensures cause { AcceptCause (M.faults self.old.maker) (M.faults self.new.maker) (M.stalls self.old.maker) (M.stalls self.new.maker) (M.came self.new.maker) result }
         ensures streams { (self.new.harbor.input ≡ self.old.harbor.input) × (self.new.harbor.output ≡ self.old.harbor.output) × (self.new.harbor.errors ≡ self.old.harbor.errors) }
+        ensures bases { AcceptsOn place (base_at stations.old.entries) (base_at stations.new.entries) result }
         ensures sound { IsSound stations.old.entries self.old.harbor.made → IsSound stations.new.entries self.new.harbor.made }
         ensures held { HeldAfter (accept_act door place result) (hold_at stations.old.entries) (hold_at stations.new.entries) }
         ensures one_more { length stations.new.entries ≤ length stations.old.entries + 1 }
@@ -322,6 +332,7 @@ impl<M: Maker + Drop, I: Port, O: Port, E: Port> Ports<M, I, O, E> {
         ensures cause { WelcomeCause peer result }
         ensures maker { self.new.maker ≡ self.old.maker }
         ensures streams { (self.new.harbor.input ≡ self.old.harbor.input) × (self.new.harbor.output ≡ self.old.harbor.output) × (self.new.harbor.errors ≡ self.old.harbor.errors) }
+        ensures bases { AcceptsOn place (base_at stations.old.entries) (base_at stations.new.entries) result }
         ensures sound { IsSound stations.old.entries self.old.harbor.made → IsSound stations.new.entries self.new.harbor.made }
         ensures held { HeldAfter (accept_act door place result) (hold_at stations.old.entries) (hold_at stations.new.entries) }
         ensures one_more { length stations.new.entries ≤ length stations.old.entries + 1 }
@@ -358,6 +369,7 @@ impl<M: Maker + Drop, I: Port, O: Port, E: Port> Ports<M, I, O, E> {
             (λ key. MadeCall self.old.harbor.made self.new.harbor.made key (λ old new. Reads old new into.new result))
             (self.new.harbor.made ≡ self.old.harbor.made)) }
         ensures marks { SetsStation place (option_map (with_half ToRead (is_got_not_yet result)) (station_at stations.old.entries place)) (station_at stations.old.entries) (station_at stations.new.entries) }
+        ensures bases { SameBases (base_at stations.old.entries) (base_at stations.new.entries) }
         ensures sound { IsSound stations.old.entries self.old.harbor.made → IsSound stations.new.entries self.new.harbor.made }
         ensures held { SameHold (hold_at stations.old.entries) (hold_at stations.new.entries) }
         ensures no_more { length stations.new.entries ≤ length stations.old.entries }
@@ -387,6 +399,7 @@ impl<M: Maker + Drop, I: Port, O: Port, E: Port> Ports<M, I, O, E> {
             (λ key. MadeCall self.old.harbor.made self.new.harbor.made key (λ old new. Writes old new bytes.now result))
             (self.new.harbor.made ≡ self.old.harbor.made)) }
         ensures marks { SetsStation place (option_map (with_half ToWrite (is_took_not_yet result)) (station_at stations.old.entries place)) (station_at stations.old.entries) (station_at stations.new.entries) }
+        ensures bases { SameBases (base_at stations.old.entries) (base_at stations.new.entries) }
         ensures sound { IsSound stations.old.entries self.old.harbor.made → IsSound stations.new.entries self.new.harbor.made }
         ensures held { SameHold (hold_at stations.old.entries) (hold_at stations.new.entries) }
         ensures no_more { length stations.new.entries ≤ length stations.old.entries }
@@ -415,6 +428,7 @@ impl<M: Maker + Drop, I: Port, O: Port, E: Port> Ports<M, I, O, E> {
             (λ key. MadeCall self.old.harbor.made self.new.harbor.made key (λ old new. Sends old new bytes.now result))
             (self.new.harbor.made ≡ self.old.harbor.made)) }
         ensures marks { SetsStation place (option_map (with_half ToWrite (is_took_not_yet result)) (station_at stations.old.entries place)) (station_at stations.old.entries) (station_at stations.new.entries) }
+        ensures bases { SameBases (base_at stations.old.entries) (base_at stations.new.entries) }
         ensures sound { IsSound stations.old.entries self.old.harbor.made → IsSound stations.new.entries self.new.harbor.made }
         ensures held { SameHold (hold_at stations.old.entries) (hold_at stations.new.entries) }
         ensures no_more { length stations.new.entries ≤ length stations.old.entries }
@@ -430,17 +444,18 @@ impl<M: Maker + Drop, I: Port, O: Port, E: Port> Ports<M, I, O, E> {
     pub fn shut(&mut self, stations: &mut Stations, place: Place, how: Shut) -> Shutting
         requires { hold_at stations.old.entries place ≡ Open }
         ensures input { IfSome (base_at stations.old.entries place) (λ base. AtInput (taking_pier base)
-            (Shuts self.old.harbor.input.port self.new.harbor.input.port result)
+            (Shuts self.old.harbor.input.port self.new.harbor.input.port how result)
             (self.new.harbor.input ≡ self.old.harbor.input)) }
         ensures output { IfSome (base_at stations.old.entries place) (λ base. AtOutput (taking_pier base)
-            (Shuts self.old.harbor.output.port self.new.harbor.output.port result)
+            (Shuts self.old.harbor.output.port self.new.harbor.output.port how result)
             (self.new.harbor.output ≡ self.old.harbor.output)) }
         ensures errors { IfSome (base_at stations.old.entries place) (λ base. AtErrors (taking_pier base)
-            (Shuts self.old.harbor.errors.port self.new.harbor.errors.port result)
+            (Shuts self.old.harbor.errors.port self.new.harbor.errors.port how result)
             (self.new.harbor.errors ≡ self.old.harbor.errors)) }
         ensures made { IfSome (base_at stations.old.entries place) (λ base. AtMade (taking_pier base)
-            (λ key. MadeCall self.old.harbor.made self.new.harbor.made key (λ old new. Shuts old new result))
+            (λ key. MadeCall self.old.harbor.made self.new.harbor.made key (λ old new. Shuts old new how result))
             (self.new.harbor.made ≡ self.old.harbor.made)) }
+        ensures bases { SameBases (base_at stations.old.entries) (base_at stations.new.entries) }
         ensures sound { IsSound stations.old.entries self.old.harbor.made → IsSound stations.new.entries self.new.harbor.made }
         ensures station { SetsStation place (option_map (shut_down (finishes how)) (station_at stations.old.entries place)) (station_at stations.old.entries) (station_at stations.new.entries) }
         ensures held { HeldAfter (shut_act place how (shut_answer result)) (hold_at stations.old.entries) (hold_at stations.new.entries) }
@@ -467,6 +482,7 @@ impl<M: Maker + Drop, I: Port, O: Port, E: Port> Ports<M, I, O, E> {
         ensures gone { (key : ℕ) → base_at stations.old.entries place ≡ Some (bases.Made key) → get self.new.harbor.made key ≡ None }
         ensures others { (key : ℕ) → (base_at stations.old.entries place ≡ Some (bases.Made key) → ⊥) → get self.new.harbor.made key ≡ get self.old.harbor.made key }
         ensures maker { self.new.maker ≡ self.old.maker }
+        ensures bases { Leaves place (base_at stations.old.entries) (base_at stations.new.entries) }
         ensures sound { IsSound stations.old.entries self.old.harbor.made → IsSound stations.new.entries self.new.harbor.made }
         ensures joined { IfSome (station_at stations.old.entries place) (λ s. result ≡ joined_answer (s.finished && is_finished why) (made_at self.old.harbor.made s.base)) }
         ensures parents { IfSome (station_at stations.old.entries place) (λ s. LeavesParent (s.finished && is_finished why) (made_at self.old.harbor.made s.base) self.old.parents.items self.new.parents.items) }
@@ -495,6 +511,7 @@ impl<M: Maker + Drop, I: Port, O: Port, E: Port> Ports<M, I, O, E> {
         ensures others { (key : ℕ) → (base_at stations.old.entries place ≡ Some (bases.Made key) → ⊥) → get self.new.harbor.made key ≡ get self.old.harbor.made key }
         ensures standard { key_of base ≡ None → self.new.harbor.made ≡ self.old.harbor.made }
         ensures maker { self.new.maker ≡ self.old.maker }
+        ensures bases { Leaves place (base_at stations.old.entries) (base_at stations.new.entries) }
         ensures sound { IsSound stations.old.entries self.old.harbor.made → IsSound stations.new.entries self.new.harbor.made }
         ensures joined { result ≡ joined_answer joined (made_at self.old.harbor.made base) }
         ensures parents { LeavesParent joined (made_at self.old.harbor.made base) self.old.parents.items self.new.parents.items }
@@ -558,6 +575,8 @@ impl<M: Maker + Drop, I: Port, O: Port, E: Port> Ports<M, I, O, E> {
             self.old.harbor.errors.port.took
             self.new.harbor.errors.port.took
             text.now }
+        ensures unshut { self.new.harbor.errors.port.shuts
+            ≡ self.old.harbor.errors.port.shuts }
         ensures cause { is_unsaid result ≡ true → Rose
             self.old.harbor.errors.port.counts.faults
             self.new.harbor.errors.port.counts.faults }

@@ -1,6 +1,7 @@
 -- What becomes of a standard port at the end.
 use Rattle.std.specs.Prelude.{◌≡◌, Bool, true, false, not, ⊤}
 use Rattle.port_trait.specs.declared.answers.Shutting.{Shutting}
+use Rattle.relay_model.specs.declared.acts.Shut.TheVariants as ways
 use Rattle.desk_ports.specs.declared.endings.Back.{Back}
 use Rattle.desk_ports.specs.declared.endings.Back.TheVariants as backs
 use Rattle.desk_ports.specs.Ports.{PortSeen, Shuts, MovesNothing}
@@ -26,9 +27,9 @@ pub record StandsAfter (before now : PortSeen) : Type 0 where
   pub counts : now.counts ≡ before.counts
   pub ended : now.ended ≡ before.ended
 
--- the port was shut where its end was still to be passed on, and else nothing was done
+-- the port was closed where its end was still to be passed on, and else nothing was done
 abbrev pub PassedEnd : Bool → PortSeen → PortSeen → Type 0
-PassedEnd true before now = (answer : Shutting) × Shuts before now answer
+PassedEnd true before now = (answer : Shutting) × Shuts before now ways.Close answer
 PassedEnd false before now = now ≡ before
 
 -- a port is left exactly where it doesn't join after that

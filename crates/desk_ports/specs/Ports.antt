@@ -3,7 +3,8 @@ use Rattle.std.specs.Prelude.{◌≡◌, ℕ, Bool, List, Option, IfSome, true}
 use Rattle.port_trait.specs.Counting.{Tallied}
 use Rattle.port_trait.specs.Hinting.{StaysHinting}
 use Rattle.relay_model.specs.declared.places.Place.{Place}
-use Rattle.port_trait.specs.Meanings.{Gives, Accepts, AcceptsWhole, AcceptsAll, ReapsChild, Behind, OnJoined, join_answer, begun_after, is_end, begin_event, settle_event, read_event, write_event, shut_event}
+use Rattle.relay_model.specs.declared.acts.Shut.{Shut}
+use Rattle.port_trait.specs.Meanings.{Gives, Accepts, AcceptsWhole, AcceptsAll, ReapsChild, Behind, OnJoined, join_answer, begun_after, is_end, begin_event, settle_event, read_event, write_event, shut_event, noted}
 use Rattle.port_trait.specs.declared.counts.Counts.{Counts}
 use Rattle.port_trait.specs.declared.answers.Hint.{Hint}
 use Rattle.port_trait.specs.declared.answers.Begun.{Begun as BeginAnswer}
@@ -18,6 +19,7 @@ use Rattle.port_trait.specs.declared.answers.Joining.{Joining}
 pub record PortSeen : Type 0 where
   pub gave : Option (List ℕ)
   pub took : Option (List ℕ)
+  pub shuts : Option (List Shut)
   pub hints : Option Hint
   pub hinting : Bool
   pub counts : Counts
@@ -36,10 +38,11 @@ pub record StreamSeen : Type 0 where
   pub begun : Bool
   pub finished : Bool
 
--- no byte was given or taken
+-- no byte was given or taken, and no end was passed on
 pub record MovesNothing (before now : PortSeen) : Type 0 where
   pub gave : now.gave ≡ before.gave
   pub took : now.took ≡ before.took
+  pub unshut : now.shuts ≡ before.shuts
 
 -- whether a port may hint is known for good
 abbrev pub StaysSo : PortSeen → PortSeen → Type 0
@@ -72,6 +75,7 @@ pub record Reads (before now : PortSeen) (into : List ℕ) (answer : Got) : Type
   pub took : now.took ≡ before.took
   pub child : now.child ≡ before.child
   pub counts : Tallied (read_event answer) before.counts now.counts
+  pub unshut : now.shuts ≡ before.shuts
 
 -- a write takes bytes as its answer says
 pub record Writes (before now : PortSeen) (bytes : List ℕ) (answer : WriteAnswer) : Type 0 where
@@ -81,6 +85,7 @@ pub record Writes (before now : PortSeen) (bytes : List ℕ) (answer : WriteAnsw
   pub gave : now.gave ≡ before.gave
   pub child : now.child ≡ before.child
   pub counts : Tallied (write_event answer) before.counts now.counts
+  pub unshut : now.shuts ≡ before.shuts
 
 -- a packet is taken whole or not at all
 pub record Sends (before now : PortSeen) (bytes : List ℕ) (answer : WriteAnswer) : Type 0 where
@@ -90,6 +95,7 @@ pub record Sends (before now : PortSeen) (bytes : List ℕ) (answer : WriteAnswe
   pub gave : now.gave ≡ before.gave
   pub child : now.child ≡ before.child
   pub counts : Tallied (write_event answer) before.counts now.counts
+  pub unshut : now.shuts ≡ before.shuts
 
 -- bytes are put whole or the call failed
 pub record PutsAll (before now : PortSeen) (bytes : List ℕ) (answer : WriteAnswer) : Type 0 where
@@ -99,14 +105,17 @@ pub record PutsAll (before now : PortSeen) (bytes : List ℕ) (answer : WriteAns
   pub gave : now.gave ≡ before.gave
   pub child : now.child ≡ before.child
   pub counts : Tallied (write_event answer) before.counts now.counts
+  pub unshut : now.shuts ≡ before.shuts
 
--- a shut moves no bytes, and counts as its answer says
-pub record Shuts (before now : PortSeen) (answer : Shutting) : Type 0 where
+-- a shut is passed on as it was asked for, moves no bytes, and counts as its answer says
+pub record Shuts (before now : PortSeen) (how : Shut) (answer : Shutting) : Type 0 where
   pub hinting : StaysSo before now
   pub ended : now.ended ≡ before.ended
-  pub still : MovesNothing before now
+  pub gave : now.gave ≡ before.gave
+  pub took : now.took ≡ before.took
   pub child : now.child ≡ before.child
   pub counts : Tallied (shut_event answer) before.counts now.counts
+  pub told : now.shuts ≡ noted how before.shuts
 
 -- where the port tells its hints, this is it; nothing changes
 pub record HintsSo (before now : PortSeen) (hint : Hint) : Type 0 where
@@ -132,5 +141,5 @@ pub record JoinsSo (before now : PortSeen) (answer : Joining) : Type 0 where
   pub child : now.child ≡ before.child
 
 -- what a port tells, by its meanings
-abbrev pub seen : {S : Type 0} → (S → Option (List ℕ)) → (S → Option (List ℕ)) → (S → Option Hint) → (S → Bool) → (S → Counts) → (S → Bool) → (S → Bool) → (S → Bool) → S → PortSeen
-seen gave took hints hinting counts ended joins child port = record { gave = gave port; took = took port; hints = hints port; hinting = hinting port; counts = counts port; ended = ended port; joins = joins port; child = child port }
+abbrev pub seen : {S : Type 0} → (S → Option (List ℕ)) → (S → Option (List ℕ)) → (S → Option (List Shut)) → (S → Option Hint) → (S → Bool) → (S → Counts) → (S → Bool) → (S → Bool) → (S → Bool) → S → PortSeen
+seen gave took shuts hints hinting counts ended joins child port = record { gave = gave port; took = took port; shuts = shuts port; hints = hints port; hinting = hinting port; counts = counts port; ended = ended port; joins = joins port; child = child port }

@@ -22,14 +22,14 @@ impl<T: Port> Model for Berth<T> {
 
     ghost Value = { BerthSeen };
 
-    ghost view = { λ berth. record { place = berth.place; port = seen T.gave T.took T.hints T.hinting T.counts T.ended T.joins T.child berth.port } };
+    ghost view = { λ berth. record { place = berth.place; port = seen T.gave T.took T.shuts T.hints T.hinting T.counts T.ended T.joins T.child berth.port } };
 }
 
 impl<T: Port> Berth<T> {
     /// The port, as it was made for the place.
     pub fn new(place: Place, port: T) -> Berth<T>
         ensures place { result.place ≡ place }
-        ensures port { result.port ≡ seen T.gave T.took T.hints T.hinting T.counts T.ended T.joins T.child port }
+        ensures port { result.port ≡ seen T.gave T.took T.shuts T.hints T.hinting T.counts T.ended T.joins T.child port }
     {
         Berth { place, port }
     }
@@ -95,7 +95,7 @@ impl<T: Port> Berth<T> {
     }
 
     pub fn shut(&mut self, how: Shut) -> Shutting
-        ensures call { Shuts self.old.port self.new.port result }
+        ensures call { Shuts self.old.port self.new.port how result }
         ensures place { self.new.place ≡ self.old.place }
     {
         self.port.shut(how)

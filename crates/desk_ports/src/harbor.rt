@@ -30,9 +30,9 @@ impl<T: Port, I: Port, O: Port, E: Port> Harbor<T, I, O, E> {
     /// The standard streams, and no made port; takes no memory.
     pub fn new(alloc: Global, standard: Standard<I, O, E>) -> Harbor<T, I, O, E>
         ensures made { result.made.slots ≡ [] }
-        ensures input { (result.input.port ≡ seen I.gave I.took I.hints I.hinting I.counts I.ended I.joins I.child standard.stdin) × (result.input.begun ≡ false) × (result.input.finished ≡ false) }
-        ensures output { (result.output.port ≡ seen O.gave O.took O.hints O.hinting O.counts O.ended O.joins O.child standard.stdout) × (result.output.begun ≡ false) × (result.output.finished ≡ false) }
-        ensures errors { (result.errors.port ≡ seen E.gave E.took E.hints E.hinting E.counts E.ended E.joins E.child standard.stderr) × (result.errors.begun ≡ false) × (result.errors.finished ≡ false) }
+        ensures input { (result.input.port ≡ seen I.gave I.took I.shuts I.hints I.hinting I.counts I.ended I.joins I.child standard.stdin) × (result.input.begun ≡ false) × (result.input.finished ≡ false) }
+        ensures output { (result.output.port ≡ seen O.gave O.took O.shuts O.hints O.hinting O.counts O.ended O.joins O.child standard.stdout) × (result.output.begun ≡ false) × (result.output.finished ≡ false) }
+        ensures errors { (result.errors.port ≡ seen E.gave E.took E.shuts E.hints E.hinting E.counts E.ended E.joins E.child standard.stderr) × (result.errors.begun ≡ false) × (result.errors.finished ≡ false) }
     {
         let Standard {
             stdin,
@@ -269,7 +269,7 @@ impl<T: Port, I: Port, O: Port, E: Port> Harbor<T, I, O, E> {
     }
 
     fn shut_made(&mut self, key: usize, how: Shut) -> Shutting
-        ensures made { MadeCall self.old.made self.new.made key (λ old new. Shuts old new result) }
+        ensures made { MadeCall self.old.made self.new.made key (λ old new. Shuts old new how result) }
         ensures streams { (self.new.input ≡ self.old.input) × (self.new.output ≡ self.old.output) × (self.new.errors ≡ self.old.errors) }
     {
         match self.made.get_mut(key) {
@@ -280,16 +280,16 @@ impl<T: Port, I: Port, O: Port, E: Port> Harbor<T, I, O, E> {
 
     pub fn shut(&mut self, base: Base, how: Shut) -> Shutting
         ensures input { AtInput (taking_pier base)
-            (Shuts self.old.input.port self.new.input.port result)
+            (Shuts self.old.input.port self.new.input.port how result)
             (self.new.input ≡ self.old.input) }
         ensures output { AtOutput (taking_pier base)
-            (Shuts self.old.output.port self.new.output.port result)
+            (Shuts self.old.output.port self.new.output.port how result)
             (self.new.output ≡ self.old.output) }
         ensures errors { AtErrors (taking_pier base)
-            (Shuts self.old.errors.port self.new.errors.port result)
+            (Shuts self.old.errors.port self.new.errors.port how result)
             (self.new.errors ≡ self.old.errors) }
         ensures made { AtMade (taking_pier base)
-            (λ key. MadeCall self.old.made self.new.made key (λ old new. Shuts old new result))
+            (λ key. MadeCall self.old.made self.new.made key (λ old new. Shuts old new how result))
             (self.new.made ≡ self.old.made) }
     {
         match base {
@@ -308,6 +308,8 @@ impl<T: Port, I: Port, O: Port, E: Port> Harbor<T, I, O, E> {
             self.old.errors.port.took
             self.new.errors.port.took
             text.now }
+        ensures unshut { self.new.errors.port.shuts
+            ≡ self.old.errors.port.shuts }
         ensures cause { is_unsaid result ≡ true → Rose
             self.old.errors.port.counts.faults
             self.new.errors.port.counts.faults }

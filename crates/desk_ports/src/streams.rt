@@ -32,7 +32,7 @@ impl<T: Port> Model for Stream<T> {
 
     ghost Value = { StreamSeen };
 
-    ghost view = { λ stream. record { port = seen T.gave T.took T.hints T.hinting T.counts T.ended T.joins T.child stream.port; begun = stream.begun; finished = stream.finished } };
+    ghost view = { λ stream. record { port = seen T.gave T.took T.shuts T.hints T.hinting T.counts T.ended T.joins T.child stream.port; begun = stream.begun; finished = stream.finished } };
 }
 
 /// Whether a shut of this kind passes the end of the output on.
@@ -45,7 +45,7 @@ pub fn is_final(how: Shut) -> bool
 impl<T: Port> Stream<T> {
     /// The stream of a port that nobody has begun here.
     pub fn new(port: T) -> Stream<T>
-        ensures port { result.port ≡ seen T.gave T.took T.hints T.hinting T.counts T.ended T.joins T.child port }
+        ensures port { result.port ≡ seen T.gave T.took T.shuts T.hints T.hinting T.counts T.ended T.joins T.child port }
         ensures fresh { (result.begun ≡ false) × (result.finished ≡ false) }
     {
         Stream {
@@ -114,7 +114,7 @@ impl<T: Port> Stream<T> {
     }
 
     pub fn shut(&mut self, how: Shut) -> Shutting
-        ensures port { Shuts self.old.port self.new.port result }
+        ensures port { Shuts self.old.port self.new.port how result }
         ensures begun { self.new.begun ≡ self.old.begun }
         ensures finished { self.new.finished ≡ self.old.finished || finishes how }
     {
@@ -143,7 +143,7 @@ impl<T: Port> Stream<T> {
     /// Joins the port, and hands it back.
     fn into_back(self) -> Back<T>
         ensures left { is_left result ≡ not self.port.joins }
-        ensures stands { StandsAfter self.port (seen T.gave T.took T.hints T.hinting T.counts T.ended T.joins T.child (handed result)) }
+        ensures stands { StandsAfter self.port (seen T.gave T.took T.shuts T.hints T.hinting T.counts T.ended T.joins T.child (handed result)) }
         ensures behind { OnJoinedBack (λ port. Behind (T.gave port) (T.took port) (T.behind_gave port) (T.behind_took port) (T.behind_left port) (T.behind_faults port) (T.ended port)) result }
     {
         let Stream {
@@ -159,7 +159,7 @@ impl<T: Port> Stream<T> {
 
     /// Passes the end on where that is still to be done, joins the port, and hands it back.
     pub fn end(self) -> Back<T>
-        ensures ends { EndsSo (self.begun && not self.finished) self.port (is_left result) (seen T.gave T.took T.hints T.hinting T.counts T.ended T.joins T.child (handed result)) }
+        ensures ends { EndsSo (self.begun && not self.finished) self.port (is_left result) (seen T.gave T.took T.shuts T.hints T.hinting T.counts T.ended T.joins T.child (handed result)) }
         ensures behind { OnJoinedBack (λ port. Behind (T.gave port) (T.took port) (T.behind_gave port) (T.behind_took port) (T.behind_left port) (T.behind_faults port) (T.ended port)) result }
     {
         let mut stream = self;

@@ -1,4 +1,7 @@
 // A run as the program makes one: over a desk whose standard streams and whose file of the journal are in memory.
+ghost use Rattle.std.specs.Prelude.{◌≡◌, [], IfOk};
+ghost use Rattle.port_objects.specs.Scripts.{given_of};
+
 use port_desk::{Desk, Standard};
 use port_objects::{MemMaker, MemPoller, MemPort, MemSink, PortItem};
 use relay_model::{Act, NoMemory, Side, Text};
@@ -11,7 +14,9 @@ use world_trait::Recorder;
 const ROOM: usize = 65_536;
 
 /// Adds what the act makes standard input answer, if it is a read at the left.
-fn add_item(stdin: &mut MemPort, act: &Act) -> Result<bool, NoMemory> {
+fn add_item(stdin: &mut MemPort, act: &Act) -> Result<bool, NoMemory>
+    ensures { given_of stdin.new.script ≡ given_of stdin.old.script }
+{
     match act {
         Act::Read(place, bytes) if place.side == Side::Left && bytes.len() > 0 => {
             stdin.add(PortItem::Bytes(bytes.copy()?))?;
@@ -25,7 +30,9 @@ fn add_item(stdin: &mut MemPort, act: &Act) -> Result<bool, NoMemory> {
 }
 
 /// Adds what a line of a script says to standard input. There is no moment but 0.
-fn add_line(alloc: Global, stdin: &mut MemPort, line: Line<'_>) -> Result<(), RowFault> {
+fn add_line(alloc: Global, stdin: &mut MemPort, line: Line<'_>) -> Result<(), RowFault>
+    ensures { given_of stdin.new.script ≡ given_of stdin.old.script }
+{
     let (moment, item) = line.parts();
     let item = unquoted(alloc, item)?.ok_or(line.fault())?;
     let added = match act_of(alloc, item.as_str())? {
@@ -35,8 +42,10 @@ fn add_line(alloc: Global, stdin: &mut MemPort, line: Line<'_>) -> Result<(), Ro
     if added { Ok(()) } else { Err(line.fault()) }
 }
 
-/// The standard input of a script.
-fn stdin_of(alloc: Global, script: &[Line<'_>]) -> Result<MemPort, RowFault> {
+/// The standard input of a script, which has given nothing yet.
+fn stdin_of(alloc: Global, script: &[Line<'_>]) -> Result<MemPort, RowFault>
+    ensures { IfOk result (λ port. given_of port.script ≡ []) }
+{
     let mut stdin = MemPort::new(alloc, 0)?;
     for line in script {
         add_line(alloc, &mut stdin, *line)?;

@@ -92,6 +92,7 @@ acts_for c For Other old new before after act to a = record {
   heard = λ n past f. a.heard n past (to n past f);
   apart = λ n past f. a.apart n past (to n past f);
   untimed = a.untimed;
+  unread = a.unread;
   no_turn = a.no_turn;
   rose = a.rose;
   blameless = a.blameless;

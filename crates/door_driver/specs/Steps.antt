@@ -14,7 +14,7 @@ use Rattle.relay_model.specs.Sessions.{admitted, live_count, next_place, permits
 use Rattle.relay_model.specs.Openings.{Accept}
 use Rattle.relay_model.specs.Calls.{door_call}
 use Rattle.relay_model.specs.May.{Legal}
-use Rattle.relay_model.specs.Frames.{is_turn, is_common, IsForeign}
+use Rattle.relay_model.specs.Frames.{is_turn, is_common, reads_bytes, IsForeign}
 use Rattle.world_trait.specs.Answers.{DidNothing, Rose}
 use Rattle.relay_core.specs.Blames.{is_blamed}
 use Rattle.program_door.specs.declared.doors.Door.{Door}
@@ -65,6 +65,7 @@ pub record DoorActs (c : Config) (For : ℕ → List Act → Type 0) (old new : 
   pub heard : (n : ℕ) (past : List Act) → For n past → DoorHeard c n past act before after
   pub apart : (n : ℕ) (past : List Act) → For n past → (s : ℕ) → s < admitted c past → IsForeign c s act
   pub untimed : is_turn act ≡ false
+  pub unread : reads_bytes act ≡ false
   pub no_turn : NoTurn act
   pub rose : Rose old.faults new.faults failed
   pub blameless : failed ≡ false → (past : List Act) → is_blamed (act ∷ past) ≡ is_blamed past

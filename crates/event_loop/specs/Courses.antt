@@ -1,13 +1,11 @@
 -- What the loop keeps true, of some history that its session stands for.
-use Rattle.std.specs.Prelude.{◌≡◌, ◌≢◌, ◌⊎◌, ℕ, ◌+◌, ◌-◌, ◌*◌, ◌^◌, ◌≤◌, Bool, true, false, not, List, [], ◌∷◌, length, Option, None, option_map, min}
+use Rattle.std.specs.Prelude.{◌≡◌, ◌⊎◌, ℕ, ◌+◌, ◌-◌, ◌*◌, ◌^◌, ◌≤◌, Bool, true, false, not, List, [], ◌∷◌, Option, None, option_map, min}
 use Rattle.relay_model.specs.declared.acts.Act.{Act}
 use Rattle.relay_model.specs.declared.places.Place.{Place}
-use Rattle.relay_model.specs.declared.places.Side.{Side}
-use Rattle.relay_model.specs.declared.commands.Dump.TheVariants as dumps
 use Rattle.relay_model.specs.declared.commands.Config.{Config}
 use Rattle.relay_model.specs.Journals.{Asking}
 use Rattle.relay_model.specs.Holding.{Free, standing}
-use Rattle.relay_model.specs.History.{got, turns}
+use Rattle.relay_model.specs.History.{turns}
 use Rattle.relay_model.specs.Outcome.{first_fault}
 use Rattle.relay_model.specs.Rest.{Rest, owed, until_of}
 use Rattle.relay_model.specs.May.{Legal}
@@ -19,9 +17,8 @@ use Rattle.relay_core.specs.Told.{stop_turned}
 use Rattle.relay_core.specs.declared.wishes.Wish.TheVariants as wishes
 use Rattle.session_driver.specs.Seen.{Seen}
 use Rattle.session_driver.specs.Steps.{extend}
-use Rattle.session_driver.specs.Dumpers.{counted_at}
-use Rattle.session_driver.specs.declared.dumpers.Dumper.{Dumper}
-use Rattle.relay_model.specs.Configs.{has_fork, input, is_of, single, way_from, program_door}
+use Rattle.session_driver.specs.Dumpers.{Settled}
+use Rattle.relay_model.specs.Configs.{has_fork, is_of, single, program_door}
 use Rattle.event_loop.specs.Commands.{Runnable}
 use Rattle.event_loop.specs.Answers.{told_fault}
 use Rattle.event_loop.specs.declared.faults.Fault.{Fault}
@@ -42,11 +39,6 @@ OnlyOwn c (asking ∷ more) = IsOwn c asking.0 × (asking.1 ≡ single c asking.
 abbrev pub Risen : ℕ → ℕ → Type 0
 Risen before now = min (before + 1) (2 ^ 64 - 1) ≤ now
 
--- where the command dumps, the dumper has counted what was read at the input on each side
-abbrev pub Counted : Config → List Act → Dumper → Type 0
-Counted c past dumper =
-    c.dump ≢ dumps.Off → (side : Side) → counted_at dumper side ≡ min (length (got past (input c 0 (way_from side)))) (2 ^ 64 - 1)
-
 -- the run began where the world looked like `start`; it looks like `now`, the session has come this far with so many turns
 -- and this first fault, and the acts since then are `past`
 pub record Run (c : Config) (n : ℕ) (start now : Seen) (session : Session) (made : ℕ) (failed : Option Fault) (past : List Act) : Type 0 where
@@ -65,15 +57,10 @@ pub record Run (c : Config) (n : ℕ) (start now : Seen) (session : Session) (ma
   pub later_stops : start.stops ≤ now.stops
   pub stopped : stop_turned past ≡ true → Risen start.stops now.stops
 
--- no dump is owed after these acts, and what was read is counted
-pub record Settled (c : Config) (past : List Act) (dumper : Dumper) : Type 0 where
-  pub unowed : owed c past ≡ None
-  pub counted : Counted c past dumper
-
 -- such a run of the loop, between two steps
 pub record Course (c : Config) (n : ℕ) (start now : Seen) (r : Driver) (past : List Act) : Type 0 where
   pub run : Run c n start now r.session r.made r.fault past
-  pub settled : Settled c past r.dumper
+  pub settled : Settled c past 0 r.dumper
 
 -- some run led here
 pub record Somewhere (now : Seen) (r : Driver) : Type 0 where

@@ -47,7 +47,6 @@ refusal_code refusal.NoValue = codes "19"
 refusal_code refusal.BadFlagValue = codes "20"
 refusal_code (refusal.AddressCount have) = codes "21"
 refusal_code refusal.NoDirection = codes "22"
-refusal_code refusal.NotBuilt = codes "23"
 
 -- what is wrong, in words
 unfoldable pub refusal_text : Refusal → List ℕ
@@ -73,7 +72,6 @@ refusal_text refusal.NoValue = codes "flag without value"
 refusal_text refusal.BadFlagValue = codes "bad flag value"
 refusal_text (refusal.AddressCount have) = codes "addresses want 2 have " ++ decimal have
 refusal_text refusal.NoDirection = codes "no direction"
-refusal_text refusal.NotBuilt = codes "not built"
 
 -- the label and the number, or nothing for 0
 unfoldable pub numbered : List ℕ → ℕ → List ℕ

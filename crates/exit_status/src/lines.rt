@@ -50,7 +50,6 @@ fn code_of(why: Refusal) -> &'static str
         Refusal::BadFlagValue => "20",
         Refusal::AddressCount { .. } => "21",
         Refusal::NoDirection => "22",
-        Refusal::NotBuilt => "23",
     }
 }
 
@@ -83,7 +82,6 @@ fn reason_of(alloc: Global, why: Refusal) -> Result<String, AllocError>
         Refusal::BadFlagValue => String::from_str(alloc, "bad flag value"),
         Refusal::AddressCount { have } => format!(in alloc; "addresses want 2 have {have}"),
         Refusal::NoDirection => String::from_str(alloc, "no direction"),
-        Refusal::NotBuilt => String::from_str(alloc, "not built"),
     }
 }
 

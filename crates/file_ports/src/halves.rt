@@ -8,6 +8,7 @@ ghost use Rattle.port_trait.specs.declared.answers.Shutting.TheVariants as shuts
 ghost use Rattle.port_trait.specs.declared.answers.Took.TheVariants as writes;
 ghost use Rattle.socket_kinds.specs.Sockets.{hint_told};
 ghost use Rattle.file_ports.specs.Halves.{halves_hint};
+ghost use Rattle.file_ports.specs.declared.halves.Readiness.TheVariants as readiness;
 
 use mio::unix::SourceFd;
 use mio::{Interest, Registry, Token};
@@ -65,6 +66,33 @@ impl<I: AsRawFd + Drop, O: AsRawFd + Drop> Halves<I, O> {
             writing,
             readiness,
         })
+    }
+}
+
+impl<I, O> Halves<I, O> {
+    /// Halves that are always ready, which no registry reports.
+    pub fn always(reading: Option<I>, writing: Option<O>) -> Halves<I, O>
+        ensures { result ≡ record { reads = is_some reading; writes = is_some writing; readiness = readiness.Always } }
+    {
+        Halves {
+            reading,
+            writing,
+            readiness: Readiness::Always,
+        }
+    }
+
+    /// Whether there is something to read from.
+    pub fn reads(&self) -> bool
+        ensures { result ≡ self.now.reads }
+    {
+        self.reading.is_some()
+    }
+
+    /// Whether there is something to write to.
+    pub fn writes(&self) -> bool
+        ensures { result ≡ self.now.writes }
+    {
+        self.writing.is_some()
     }
 }
 

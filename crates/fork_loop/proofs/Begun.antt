@@ -1,6 +1,8 @@
 -- A run that has just begun.
 use Rattle.std.proofs.Common.{◌≡◌, refl, sym, ap, subst, ◌∙◌, ℕ, List, [], ◌∷◌, ◌++◌, Option, Some, None, arith}
 use Rattle.std.specs.Option.{option_map}
+use Rattle.std.specs.Ordering.{nat_cmp}
+use Rattle.std.specs.FinMap.{empty, get-empty}
 use Rattle.relay_model.specs.declared.commands.Config.{Config}
 use Rattle.relay_model.specs.declared.places.Place.{Place}
 use Rattle.relay_model.specs.declared.commands.Options.{Options}
@@ -9,13 +11,14 @@ use Rattle.relay_model.specs.Holding.{Free}
 use Rattle.relay_model.specs.Journals.{History}
 use Rattle.session_driver.specs.Steps.{extend}
 use Rattle.relay_model.specs.Sessions.{door_options}
-use Rattle.relay_core.specs.declared.sessions.Session.{Session}
 use Rattle.program_door.specs.Stands.{DoorStands}
 use Rattle.fork_table.specs.Tables.{row_of}
 use Rattle.session_driver.specs.Seen.{Seen}
 use Rattle.fork_loop.specs.declared.crews.Crew.{Crew}
 use Rattle.fork_loop.specs.Births.{Forks}
-use Rattle.fork_loop.specs.Courses.{RowIs, Course}
+use Rattle.fork_loop.specs.declared.crews.Row.{Row}
+use Rattle.fork_loop.specs.Rows.{RowIs}
+use Rattle.fork_loop.specs.Courses.{Course, timer_of}
 
 nil_right : {A : Type 0} (xs : List A) → xs ++ [] ≡ xs
 nil_right [] = refl
@@ -25,15 +28,14 @@ told_nothing : (o : Option History) → o ≡ option_map (extend [] []) o
 told_nothing None = refl
 told_nothing (Some h) = ap (λ xs. Some (record { acts = h.acts; asked = xs })) (sym (nil_right h.asked))
 
-no_row_yet : (c : Config) (n : ℕ) (s : ℕ) (row : Option Session) → row ≡ None → RowIs c n [] s row
-no_row_yet c n s row e = subst (RowIs c n [] s) (sym e) (λ b. absurd (omega (arith, b)))
+no_row_yet : (c : Config) (n : ℕ) (s : ℕ) (work : List ℕ) (timer : Option ℕ) (row : Option Row) → row ≡ None → timer ≡ None → RowIs c n [] s work timer row
+no_row_yet c n s work timer row e t = subst (RowIs c n [] s work timer) (sym e) (λ b. absurd (omega (arith, b)), t)
 
-pub begun : (c : Config) (n : ℕ) (start : Seen) (crew : Crew) → Forks c → DoorStands c [] crew.door → crew.unborn ≡ None → crew.clock ≡ 0 → crew.made ≡ 0 → crew.table.admitted ≡ 0 → crew.table.max_children ≡ (door_options c).max_children → crew.table.stop_after ≡ (door_options c).stop_after → ((s : ℕ) → row_of crew.table s ≡ None) → ((p : Place) → start.held p ≡ Free) → Course c n start start [] crew
-begun c n start crew forks door eu ec em ea eb es rows free = record {
+pub begun : (c : Config) (n : ℕ) (start : Seen) (crew : Crew) → Forks c → DoorStands c [] crew.door → crew.unborn ≡ None → crew.clock ≡ 0 → crew.made ≡ 0 → crew.table.admitted ≡ 0 → crew.table.max_children ≡ (door_options c).max_children → crew.table.stop_after ≡ (door_options c).stop_after → ((s : ℕ) → row_of crew.table s ≡ None) → crew.timers.moments ≡ empty → ((p : Place) → start.held p ≡ Free) → Course c n start start [] crew
+begun c n start crew forks door eu ec em ea eb es rows et free = record {
   frame = record {
     fork = forks.fork;
     run = record {
-      undumped = forks.undumped;
       legal = tt;
       named = tt;
       pairs = [];
@@ -54,7 +56,8 @@ begun c n start crew forks door eu ec em ea eb es rows free = record {
     made_is = sym em;
     unsaid = record { remembered = refl; unstopped = refl };
   };
-  rows = λ s. no_row_yet c n s (row_of crew.table s) (rows s);
+  unowed = refl;
+  rows = λ s. no_row_yet c n s crew.work.items (timer_of crew s) (row_of crew.table s) (rows s) (rw et (get-empty nat_cmp s));
 }
 
 pub door_asked : (c : Config) (p : Place) (o : Options) → p ≡ program_door → o ≡ options_of c p → o ≡ door_options c

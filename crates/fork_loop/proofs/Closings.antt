@@ -13,7 +13,9 @@ use Rattle.relay_model.specs.History.{turns, memory_said, stop_said, same_why}
 use Rattle.relay_model.specs.Journals.{Asking}
 use Rattle.relay_model.specs.Sessions.{admitted, holds}
 use Rattle.relay_model.specs.Cause.{closed_why}
-use Rattle.relay_model.specs.Frames.{is_at, is_common, is_closing}
+use Rattle.relay_model.specs.Rest.{owed}
+use Rattle.relay_model.specs.May.{May}
+use Rattle.relay_model.specs.Frames.{is_at, is_common, is_closing, reads_bytes}
 use Rattle.relay_core.specs.declared.sessions.Session.{Session}
 use Rattle.relay_core.specs.declared.wishes.Wish.{Wish}
 use Rattle.relay_core.specs.declared.wishes.Wish.TheVariants as wishes
@@ -29,12 +31,13 @@ use Rattle.program_door.proofs.Apart.{apart as left_apart}
 use Rattle.program_door.proofs.Held.{of_session}
 use Rattle.program_door.proofs.Moves.{numbers_are}
 use Rattle.session_driver.specs.Seen.{Seen}
-use Rattle.session_driver.specs.Steps.{Acts, ClosesAsWished, Idles, IsActOf, OwnAsking}
+use Rattle.session_driver.specs.Steps.{Acts, ClosesAsWished, Idles, IsActOf, OwnAsking, ReadsAsWished}
 use Rattle.session_crew.specs.Crews.{IsSaid, MaySay}
 use Rattle.session_runs.specs.Runs.{Run}
-use Rattle.session_runs.proofs.Going.{AllCommands, acted_run, idle_run, undumped_owes, uncommon}
+use Rattle.session_driver.proofs.Counting.{unread_owes}
+use Rattle.session_runs.proofs.Going.{AllCommands, acted_run, idle_run, uncommon}
 use Rattle.fork_loop.specs.Closings.{Leaves, SomeLeaves, LeftBy, stayed, closed, acted, LeftTo, LeavesOn, closes}
-use Rattle.fork_loop.specs.Waited.{StopsAt}
+use Rattle.fork_loop.specs.Waited.{OwesAtExit, StopsAt}
 
 -- ---- what is said stays said
 
@@ -142,11 +145,31 @@ asked_own : (c : Config) (s : ℕ) (asked : Option Asking) → OwnAsking c s ask
 asked_own c s None own = tt
 asked_own c s (Some asking) own = (inl (s, own.0), own.1)
 
+-- ---- what is owed
+
+-- a closing for the reason may come where a dump is owed
+may_by : (c : Config) (n : ℕ) (past : List Act) (s : ℕ) (x : Session) (q : Place) (why : Why) → OwesAtExit c past why → Allowed c n past s x.state (wishes.Close q why) → May c n past (acts.Closed q why)
+may_by c n past s x q why owes a = record { is_held = a.0.is_held; licensed = a.0.licensed; timely = timely owes }
+  where
+    timely : OwesAtExit c past why → (owed c past ≡ None) ⊎ (why ≡ whys.Memory)
+    timely (inl e) = inl e
+    timely (inr k) = inr k.0
+
+-- once one came nothing is owed
+unowed_said : (c : Config) (past : List Act) (why : Why) → OwesAtExit c past why → IsSaid why past → owed c past ≡ None
+unowed_said c past why (inl e) said = e
+unowed_said c past why (inr k) said = let m : memory_said past ≡ true = subst (λ (w : Why). IsSaid w past) k.0 said in absurd (true≢false (sym m ∙ k.1))
+
+-- a session that was cut reads no more
+unread_by : (c : Config) (n : ℕ) (past : List Act) (s : ℕ) (x : Session) (why : Why) (act : Act) → ending_of x ≡ Some why → (wish : Wish) → Allowed c n past s x.state wish → ReadsAsWished wish act → reads_bytes act ≡ false
+unread_by c n past s x why act end (wishes.Read p m) a e = uncut x.state.ending why end a.1.0
+unread_by c n past s x why act end wish a e = e
+
 -- ---- the run goes on
 
-run_next : (c : Config) (n : ℕ) (start old new : Seen) (past : List Act) (s : ℕ) (why : Why) (x y : Session) (door : Door) (act : Act) → Leaves c n start old past s why x door → Acts c old new x y act → Run c n start new (act ∷ past)
-run_next c n start old new past s why x y door act l a =
-    acted_run c n start old new past act a.asked a.failed l.exit.run a.did (asked_own c s a.asked (a.own n past s l.stands)) ((a.heard n past s l.stands).may (undumped_owes c past l.exit.run.undumped)) (a.here n past s l.stands).untimed a.no_turn a.rose (λ e. a.blameless e past) a.waitless
+run_next : (c : Config) (n : ℕ) (start old new : Seen) (past : List Act) (s : ℕ) (why : Why) (x y : Session) (door : Door) (act : Act) → Leaves c n start old past s why x door → Acts c old new x y act → May c n past act → Run c n start new (act ∷ past)
+run_next c n start old new past s why x y door act l a may =
+    acted_run c n start old new past act a.asked a.failed l.exit.run a.did (asked_own c s a.asked (a.own n past s l.stands)) may (a.here n past s l.stands).untimed a.no_turn a.rose (λ e. a.blameless e past) a.waitless
 
 stops_on : (n : ℕ) (why : Why) (act : Act) (past : List Act) → turns (act ∷ past) ≡ turns past → stop_turned (act ∷ past) ≡ stop_turned past → StopsAt n why past → StopsAt n why (act ∷ past)
 stops_on n why act past t m h e = go (h e)
@@ -156,8 +179,8 @@ stops_on n why act past t m h e = go (h e)
     go (inr k) = inr (t ∙ k)
 
 -- a closing for the reason, of which the door heard
-closed_for : (c : Config) (n : ℕ) (start old new : Seen) (past : List Act) (s : ℕ) (why : Why) (x y : Session) (door after : Door) (q : Place) → Leaves c n start old past s why x door → Acts c old new x y (acts.Closed q why) → (DoorStands c past door → ClosesElsewhere c past q why → DoorStands c (acts.Closed q why ∷ past) after) → LeftTo c n start new past s why y after
-closed_for c n start old new past s why x y door after q l a hears =
+closed_for : (c : Config) (n : ℕ) (start old new : Seen) (past : List Act) (s : ℕ) (why : Why) (x y : Session) (door after : Door) (q : Place) → Leaves c n start old past s why x door → Acts c old new x y (acts.Closed q why) → May c n past (acts.Closed q why) → (DoorStands c past door → ClosesElsewhere c past q why → DoorStands c (acts.Closed q why ∷ past) after) → LeftTo c n start new past s why y after
+closed_for c n start old new past s why x y door after q l a may hears =
     let o = l.exit in
     let h = a.heard n past s l.stands in
     let here = a.here n past s l.stands in
@@ -167,11 +190,12 @@ closed_for c n start old new past s why x y door after q l a hears =
       leaves = record {
         exit = record {
           fork = o.fork;
-          run = run_next c n start old new past s why x y door (acts.Closed q why) l a;
+          run = run_next c n start old new past s why x y door (acts.Closed q why) l a may;
           stands = hears o.stands (elsewhere_for c past s q why o.fork (has_begun c n past s x o.fork l.stands) here);
           may = may_still past q why o.may;
           ends = inl (now_said past q why o.may);
           stops = stops_on n why (acts.Closed q why) past refl refl o.stops;
+          owes = inl refl;
         };
         stands = h.stands;
         ending = a.ending n past s l.stands (ended_of x why l.ending) ∙ l.ending;
@@ -185,7 +209,7 @@ closing_on c n start old new past s why x y door after act l a k hears =
     let allowed : Allowed c n past s x.state (wishes.Close w.0 w.1) = subst (Allowed c n past s x.state) w.2 l.stands.allowed in
     let for = closes_for c past s x.state.ending w.0 w.1 why l.ending allowed.1 in
     let is : act ≡ acts.Closed w.0 why = subst (λ (v : Wish). ClosesAsWished v act) w.2 a.closes ∙ ap (acts.Closed w.0) for in
-    closed_for c n start old new past s why x y door after w.0 l (subst (Acts c old new x y) is a) (hears w.0)
+    closed_for c n start old new past s why x y door after w.0 l (subst (Acts c old new x y) is a) (may_by c n past s x w.0 why l.exit.owes (subst (λ (v : Why). Allowed c n past s x.state (wishes.Close w.0 v)) for allowed)) (hears w.0)
 
 no_closing : (wish : Wish) (act : Act) → closes wish ≡ false → ClosesAsWished wish act → is_closing act ≡ false
 no_closing (wishes.Close q w) act k e = absurd (true≢false k)
@@ -199,7 +223,7 @@ other_on c n start old new past s why x y door act l a k =
     let here = a.here n past s l.stands in
     let said = said_by c n start old past s why x door l k in
     let none = uncommon c s (wishes.Done why) act here (no_closing (wish_of x) act k a.closes) tt in
-    let run = run_next c n start old new past s why x y door act l a in
+    let run = run_next c n start old new past s why x y door act l a (h.may (unowed_said c past why o.owes said)) in
     record {
       since = act ∷ past;
       left = acted act past here none said stayed;
@@ -211,6 +235,7 @@ other_on c n start old new past s why x y door act l a k =
           may = may_on c act past why none o.may;
           ends = inl (said_on c act past why none said);
           stops = stops_on n why act past (a.no_turn.turns_same past) (a.no_turn.stops_same past) o.stops;
+          owes = inl (unread_owes c act past (unread_by c n past s x why act l.ending (wish_of x) l.stands.allowed a.reads));
         };
         stands = h.stands;
         ending = a.ending n past s l.stands (ended_of x why l.ending) ∙ l.ending;
@@ -232,7 +257,7 @@ idle_on c n start old new past s why x y door l a =
       since = past;
       left = stayed;
       leaves = record {
-        exit = record { fork = o.fork; run = idle_run c n start old new past o.run a.did a.rose a.waitless; stands = o.stands; may = o.may; ends = o.ends; stops = o.stops };
+        exit = record { fork = o.fork; run = idle_run c n start old new past o.run a.did a.rose a.waitless; stands = o.stands; may = o.may; ends = o.ends; stops = o.stops; owes = o.owes };
         stands = a.stands n past s l.stands;
         ending = a.ending n past s l.stands (ended_of x why l.ending) ∙ l.ending;
         said = l.said;

@@ -14,7 +14,7 @@ use Rattle.relay_model.specs.Configs.{has_fork, program_door, parts, things}
 use Rattle.relay_model.specs.History.{turns, held, holds_at, stage, memory_said, stop_said, Gone}
 use Rattle.relay_model.specs.Sessions.{admitted, next_place, first_part}
 use Rattle.relay_model.specs.Cause.{cause, closed_why}
-use Rattle.relay_model.specs.Rest.{Rest}
+use Rattle.relay_model.specs.Rest.{Rest, owed}
 use Rattle.relay_model.specs.May.{MayClose, Licensed, by_cause, by_door, for_stop}
 use Rattle.legal_steps.proofs.PlaceLemmas.{same_place_equal, same_place_self}
 use Rattle.legal_steps.proofs.OwnThings.{place_own}
@@ -26,11 +26,11 @@ use Rattle.program_door.specs.Turns.{first_held}
 use Rattle.session_driver.specs.Seen.{Seen}
 use Rattle.session_driver.specs.Steps.{Waitless}
 use Rattle.session_crew.specs.Crews.{IsSaid, MaySay}
-use Rattle.session_runs.proofs.Going.{acted_run, undumped_owes}
+use Rattle.session_runs.proofs.Going.{acted_run}
 use Rattle.fork_loop.specs.declared.crews.Crew.{Crew}
 use Rattle.fork_loop.specs.Endings.{LeavesRow, RunsOut}
 use Rattle.fork_loop.specs.Turned.{NoneLives}
-use Rattle.fork_loop.specs.Waited.{Exit, LeavingAt}
+use Rattle.fork_loop.specs.Waited.{Exit, LeavingAt, OwesAtExit}
 use Rattle.fork_loop.specs.Vacated.{Vacated, SomeVacated, HoldsLess, ClosesFirst, Empty}
 use Rattle.fork_loop.proofs.Closings.{now_said, may_still}
 use Rattle.fork_loop.proofs.Emptying.{none_held}
@@ -84,15 +84,20 @@ pub record MayCloseFirst (c : Config) (n : ℕ) (past : List Act) (q : Place) : 
   pub memory : MayClose c n past q whys.Memory
   pub limit : turns past ≡ n → Rest c past → MayClose c n past q whys.Stopped
 
+-- a stop comes where no dump is owed
+unowed_stop : (c : Config) (past : List Act) → OwesAtExit c past whys.Stopped → (owed c past ≡ None) ⊎ (whys.Stopped ≡ whys.Memory)
+unowed_stop c past (inl e) = inl e
+unowed_stop c past (inr k) = inr k.0
+
 pub may_close : (c : Config) (n : ℕ) (start now : Seen) (past : List Act) (why : Why) (door : Door) (q : Place) → Exit c n start now past why door → first_held c past ≡ Some q → MayCloseFirst c n past q → MayClose c n past q why
-may_close c n start now past why door q o e m = go why o.may o.ends
+may_close c n start now past why door q o e m = go why o.may o.ends o.owes
   where
-    go : (w : Why) → MaySay w past → IsSaid w past ⊎ RunsOut c n past w → MayClose c n past q w
-    go whys.Memory may ends = m.memory
-    go whys.Stopped may (inl said) = record { is_held = first_is_held c past q e; licensed = stop_licence c n past door q o.fork o.stands said e; timely = inl (undumped_owes c past o.run.undumped) }
-    go whys.Stopped may (inr (inl k)) = let x : ⊥ = cc in absurd x
-    go whys.Stopped may (inr (inr k)) = m.limit k.1 k.2
-    go w may ends = absurd may
+    go : (w : Why) → MaySay w past → IsSaid w past ⊎ RunsOut c n past w → OwesAtExit c past w → MayClose c n past q w
+    go whys.Memory may ends owes = m.memory
+    go whys.Stopped may (inl said) owes = record { is_held = first_is_held c past q e; licensed = stop_licence c n past door q o.fork o.stands said e; timely = unowed_stop c past owes }
+    go whys.Stopped may (inr (inl k)) owes = let x : ⊥ = cc in absurd x
+    go whys.Stopped may (inr (inr k)) owes = m.limit k.1 k.2
+    go w may ends owes = absurd may
 
 pub a_stop_or_memory : (past : List Act) (why : Why) → MaySay why past → (why ≡ whys.Stopped) ⊎ (why ≡ whys.Memory)
 a_stop_or_memory past whys.Stopped m = inl refl
@@ -123,6 +128,7 @@ first_closed c n start old new past why before after q v e m w door made =
           may = may_still past q why o.may;
           ends = inl (now_said past q why o.may);
           stops = o.stops;
+          owes = inl refl;
         };
         made_is = v.made_is ∙ sym made;
         none = λ s below. none_held past q why (things c s) (v.none s below);

@@ -1,6 +1,6 @@
 -- What the acts of the program door make of the course of all.
 use Rattle.std.proofs.Common.{◌≡◌, ◌≢◌, refl, sym, ap, subst, ◌∙◌, ℕ, zero, suc, ◌<◌, ◌≤◌, ◌+◌, ◌⊎◌, inl, inr, Bool, true, false, nat_lt, List, [], ◌∷◌, Option, Some, None, is_some, arith}
-use Rattle.std.proofs.lemmas.Bool.{cases_lt, cases_eq, true≢false, and_right, and_from, lt-ltb, leb-false}
+use Rattle.std.proofs.lemmas.Bool.{cases_lt, true≢false, and_right, and_from, lt-ltb, leb-false}
 use Rattle.relay_model.specs.declared.commands.Config.{Config}
 use Rattle.relay_model.specs.declared.places.Place.{Place}
 use Rattle.relay_model.specs.declared.acts.Peer.{Peer}
@@ -10,8 +10,10 @@ use Rattle.relay_model.specs.declared.acts.Why.{Why}
 use Rattle.relay_model.specs.declared.acts.Why.TheVariants as whys
 use Rattle.relay_model.specs.Choices.{only_if, first_some, one_more, count}
 use Rattle.relay_model.specs.Configs.{has_fork, single, program_door}
-use Rattle.relay_model.specs.History.{now as moment, memory_said, stop_said, accept_failed}
+use Rattle.relay_model.specs.History.{now as moment, turns, memory_said, stop_said, accept_failed}
 use Rattle.relay_model.specs.Journals.{Asking}
+use Rattle.relay_model.specs.declared.places.Side.{Side}
+use Rattle.relay_model.specs.Rest.{owed}
 use Rattle.relay_model.specs.Sessions.{admitted, holds, live, live_count, numbers, next_place, permits, door_options}
 use Rattle.relay_model.specs.Cause.{cause}
 use Rattle.relay_model.specs.Calls.{door_call}
@@ -24,7 +26,6 @@ use Rattle.relay_core.specs.declared.sessions.Unborn.{Unborn}
 use Rattle.relay_core.specs.Sessions.{Hears, IsUnborn}
 use Rattle.relay_core.specs.States.{home}
 use Rattle.relay_core.specs.Births.{Begins}
-use Rattle.relay_core.proofs.Homes.{lives_at_home}
 use Rattle.program_door.specs.Stands.{DoorStands}
 use Rattle.program_door.specs.declared.wishes.DoorWish.TheVariants as wishes
 use Rattle.program_door.specs.Steps.{steps_of}
@@ -35,18 +36,26 @@ use Rattle.session_sleep.proofs.Slept.{passes, begun_step, session_alike}
 use Rattle.session_kept.proofs.Beginnings.{next}
 use Rattle.session_driver.specs.Seen.{Seen}
 use Rattle.session_crew.specs.Crews.{Waker}
-use Rattle.session_crew.proofs.Members.{stays, awake, accept_ends}
+use Rattle.session_crew.proofs.Members.{through_acts, awake, accept_ends}
+use Rattle.session_runs.specs.Pauses.{ends_all}
 use Rattle.session_runs.specs.Runs.{Run}
-use Rattle.session_runs.proofs.Going.{AllCommands, acted_run, idle_run, undumped_owes}
+use Rattle.session_driver.specs.Dumpers.{Counted, counted_at}
+use Rattle.session_driver.proofs.Counting.{unread_owes}
+use Rattle.session_runs.proofs.Going.{AllCommands, acted_run, idle_run}
 use Rattle.door_driver.specs.Steps.{DoorFor, DoorMeets, DoorActs, DoorAsking, DoorIdles, EndsNone, AdmitsNone, Admits}
 use Rattle.fork_loop.specs.declared.crews.Crew.{Crew}
-use Rattle.fork_loop.specs.Courses.{RowIs, NextIs, Counts, Unsaid, Frame, Course, Somewhere, Onward, Keeps, OthersStay, RowSpreads, RowRuns, AllRun, IsAsleep, AllAsleep}
-use Rattle.fork_loop.specs.Endings.{MayLeave, MayLeaveRow, LeavesRow, MayEnd, CutsRows, RunsOut}
+use Rattle.fork_loop.specs.declared.crews.Row.{Row}
+use Rattle.fork_loop.specs.Rows.{Has, RowIs, UpRow, SleepsIfLate}
+use Rattle.fork_loop.specs.Courses.{RowOf, NextIs, Counts, Unsaid, Frame, Course, CourseAt, Somewhere, SomewhereAt, Onward, Keeps, NoWork, SameLists, SameButWork, AllSleepIfLate, timer_of}
+use Rattle.fork_loop.specs.Endings.{MayLeave, MayLeaveRow, MayEnd, CutRow, CutsRows, RunsOut, RowRuns, AllRun, AllUp, AllQueued, FailedAt, Failed, SomeFailed, EndsRows}
 use Rattle.fork_loop.specs.declared.asked.Asked.{Asked}
 use Rattle.fork_loop.specs.declared.asked.Asked.TheVariants as asks
 use Rattle.fork_loop.specs.Asking.{SameButNext, TakesNext, AskedIs, GoesOn}
 use Rattle.fork_loop.proofs.Others.{unsaid_kept, moment_kept, turns_kept}
-use Rattle.fork_loop.proofs.Spreading.{spread_tells, waker_may}
+use Rattle.fork_loop.proofs.Counting.{counted_kept, counted_by, counted_first}
+use Rattle.fork_loop.proofs.RowLaws.{rouses_kept, awake_rouses, sleeper_rouses, row_up, row_listed, up_listed, same_timer}
+use Rattle.fork_loop.proofs.RowRuns.{frame_rest, rest_then}
+use Rattle.fork_loop.proofs.Spreading.{up_may}
 
 -- ---- how many live
 
@@ -54,15 +63,15 @@ count_same : (one other : ℕ → Bool) (k : ℕ) → ((s : ℕ) → s < k → o
 count_same one other zero h = refl
 count_same one other (suc k) h = let x = h k (omega arith) in let y = count_same one other k (λ s b. h s (omega (arith, b))) in λ i. one_more (x i) (y i)
 
-row_lives : (c : Config) (n : ℕ) (past : List Act) (s : ℕ) (row : Option Session) → has_fork c ≡ true → s < admitted c past → RowIs c n past s row → is_some row ≡ live c past s
-row_lives c n past s None fork b r = let h = r b in rw fork (sym (and_right (nat_lt s (admitted c past)) (holds c past s) h))
-row_lives c n past s (Some x) fork b w = let g = w.stands.fields.ground in sym (lives_at_home c past s g.begun (λ f. g.home_held f w.unclosed))
+row_lives : (c : Config) (n : ℕ) (past : List Act) (s : ℕ) (timer : Option ℕ) (row : Option Row) → has_fork c ≡ true → s < admitted c past → UpRow c n past s timer row → is_some row ≡ live c past s
+row_lives c n past s timer None fork b r = let h = r.0 b in rw fork (sym (and_right (nat_lt s (admitted c past)) (holds c past s) h))
+row_lives c n past s timer (Some row) fork b r = sym r.lives
 
 pub live_is : (c : Config) (n : ℕ) (start now : Seen) (past : List Act) (crew : Crew) → Course c n start now past crew → live_in crew.table ≡ live_count c past
 live_is c n start now past crew on =
     let e = on.frame.counts.admitted_is in
     ap (count (λ s. is_some (row_of crew.table s))) e
-    ∙ count_same (λ s. is_some (row_of crew.table s)) (live c past) (admitted c past) (λ s b. row_lives c n past s (row_of crew.table s) on.frame.fork b (on.rows s))
+    ∙ count_same (λ s. is_some (row_of crew.table s)) (live c past) (admitted c past) (λ s b. row_lives c n past s (timer_of crew s) (row_of crew.table s) on.frame.fork b (row_up c n past s crew.work.items (timer_of crew s) (row_of crew.table s) (on.rows s)))
 
 pub door_for : (c : Config) (n : ℕ) (start now : Seen) (past : List Act) (crew : Crew) (live : ℕ) → live ≡ live_in crew.table → Course c n start now past crew → DoorFor c n past crew.clock live crew.door
 door_for c n start now past crew live e on = record { legal = on.frame.run.legal; stands = on.frame.door; at_is = on.frame.clock_is; live_is = e ∙ live_is c n start now past crew on }
@@ -89,26 +98,35 @@ uncommon c past act u (inr k) =
     let w = failed_alone (memory_said past) (stop_said past) (accept_failed past program_door) k.1 u.remembered u.unstopped k.3 in
     subst (λ (a : Act). is_common c a ≡ false) (sym (k.2 ∙ ap (acts.Closed k.0) w)) refl
 
-row_on : (c : Config) (n : ℕ) (act : Act) (past : List Act) (s : ℕ) (row : Option Session) → has_fork c ≡ true → (s < admitted c past → IsForeign c s act) → is_common c act ≡ false → (s < admitted c (act ∷ past) → s < admitted c past) → RowIs c n past s row → RowIs c n (act ∷ past) s row
-row_on c n act past s None fork f k back r = λ below.
-    let b = back below in
+row_on : (c : Config) (n : ℕ) (act : Act) (past : List Act) (s : ℕ) (work : List ℕ) (timer : Option ℕ) (row : Option Row) → has_fork c ≡ true → (s < admitted c past → IsForeign c s act) → is_common c act ≡ false → (s < admitted c (act ∷ past) → s < admitted c past) → RowIs c n past s work timer row → RowIs c n (act ∷ past) s work timer row
+row_on c n act past s work timer None fork f k back r = (
+  λ below.
+      let b = back below in
+      let e = numbers_are c past fork in
+      let m : s < numbers c past = omega (arith, b, e) in
+      (session_alike c s (act ∷ past) past (begun_step c act past s m) m (passes c s act past (f b) k)).holds_same ∙ r.0 b,
+  r.1,
+)
+row_on c n act past s work timer (Some row) fork f k back (inl r) =
+    let g = r.1.begun in
     let e = numbers_are c past fork in
-    let m : s < numbers c past = omega (arith, b, e) in
-    (session_alike c s (act ∷ past) past (begun_step c act past s m) m (passes c s act past (f b) k)).holds_same ∙ r b
-row_on c n act past s (Some x) fork f k back r =
-    let g = r.stands.fields.ground.begun in
+    inl (r.0, rouses_kept c n act past s row (f (omega (arith, g, e))) k r.1)
+row_on c n act past s work timer (Some row) fork f k back (inr o) =
+    let g = (sleeper_rouses c n past s timer row o.0 o.1).begun in
     let e = numbers_are c past fork in
-    stays c n act past s x (f (omega (arith, g, e))) k r
+    let away = f (omega (arith, g, e)) in
+    inr (through_acts c n act past s timer row.turn row.member.session away k o.0, counted_kept c act past s row.member.dumper away o.1)
 
-run_on : (c : Config) (n : ℕ) (start old new : Seen) (past : List Act) (For : ℕ → List Act → Type 0) (before after : Crew) (act : Act) → Frame c n start old past before → For n past → DoorActs c For old new before.door after.door act → Run c n start new (act ∷ past)
-run_on c n start old new past For before after act f for a =
-    acted_run c n start old new past act a.asked a.failed f.run a.did (commands_of c a.asked a.own) ((a.heard n past for).may (undumped_owes c past f.run.undumped)) a.untimed a.no_turn a.rose (λ e. a.blameless e past) a.waitless
+run_on : (c : Config) (n : ℕ) (start old new : Seen) (past : List Act) (For : ℕ → List Act → Type 0) (before after : Crew) (act : Act) → Frame c n start old past before → owed c past ≡ None → For n past → DoorActs c For old new before.door after.door act → Run c n start new (act ∷ past)
+run_on c n start old new past For before after act f unowed for a =
+    acted_run c n start old new past act a.asked a.failed f.run a.did (commands_of c a.asked a.own) ((a.heard n past for).may unowed) a.untimed a.no_turn a.rose (λ e. a.blameless e past) a.waitless
 
 -- all of the loop but the door is as it was, with the next session put back
 pub record KeptBack (c : Config) (before after : Crew) : Type 0 where
   pub clock_same : after.clock ≡ before.clock
   pub made_same : after.made ≡ before.made
   pub table_same : after.table ≡ before.table
+  pub lists : SameLists before after
   pub next : (past : List Act) → before.table.admitted ≡ admitted c past → NextIs c past after.unborn
 
 pub door_acted : (c : Config) (n : ℕ) (start old new : Seen) (past : List Act) (live : ℕ) (before after : Crew) (act : Act) → live ≡ live_in before.table → Course c n start old past before → DoorActs c (λ m p. DoorFor c m p before.clock live before.door) old new before.door after.door act → ((m : ℕ) (p : List Act) → DoorFor c m p before.clock live before.door → AdmitsNone c p act) → KeptBack c before after → Onward c n start new after
@@ -125,7 +143,7 @@ door_acted c n start old new past live before after act e on a none kept =
       course = record {
         frame = record {
           fork = f.fork;
-          run = run_on c n start old new past (λ m p. DoorFor c m p before.clock live before.door) before after act f for a;
+          run = run_on c n start old new past (λ m p. DoorFor c m p before.clock live before.door) before after act f on.unowed for a;
           door = h.stands;
           counts = subst (Counts c (act ∷ past)) (sym table) (record { admitted_is = f.counts.admitted_is ∙ sym same; children_is = f.counts.children_is; stop_is = f.counts.stop_is });
           next = kept.next (act ∷ past) (f.counts.admitted_is ∙ sym same);
@@ -133,7 +151,8 @@ door_acted c n start old new past live before after act e on a none kept =
           made_is = turns_kept act past a.untimed ∙ f.made_is ∙ sym kept.made_same;
           unsaid = unsaid_kept c act past k f.unsaid;
         };
-        rows = λ s. subst (λ (t : Table Session). RowIs c n (act ∷ past) s (row_of t s)) (sym table) (row_on c n act past s (row_of before.table s) f.fork (a.apart n past for s) k (λ b. omega (arith, b, same)) (on.rows s));
+        unowed = unread_owes c act past a.unread;
+        rows = λ s. row_listed c n (act ∷ past) s before after (ap (λ (t : Table Row). row_of t s) table) kept.lists (row_on c n act past s before.work.items (timer_of before s) (row_of before.table s) f.fork (a.apart n past for s) k (λ b. omega (arith, b, same)) (on.rows s));
       };
     }
 
@@ -156,7 +175,8 @@ door_idled c n start old new past before after on d kept =
         made_is = f.made_is ∙ sym kept.made_same;
         unsaid = f.unsaid;
       };
-      rows = λ s. subst (λ (t : Table Session). RowIs c n past s (row_of t s)) (sym table) (on.rows s);
+      unowed = on.unowed;
+      rows = λ s. row_listed c n past s before after (ap (λ (t : Table Row). row_of t s) table) kept.lists (on.rows s);
     }
 
 pub door_unmoved : (c : Config) (n : ℕ) (start old new : Seen) (past : List Act) (before after : Crew) → Course c n start old past before → new ≡ old → after.door ≡ before.door → KeptBack c before after → Course c n start new past after
@@ -174,11 +194,12 @@ door_unmoved c n start old new past before after on e d kept =
         made_is = f.made_is ∙ sym kept.made_same;
         unsaid = f.unsaid;
       };
-      rows = λ s. subst (λ (t : Table Session). RowIs c n past s (row_of t s)) (sym table) (on.rows s);
+      unowed = on.unowed;
+      rows = λ s. row_listed c n past s before after (ap (λ (t : Table Row). row_of t s) table) kept.lists (on.rows s);
     }
 
-pub asleep_as : (before after : Crew) → after.table ≡ before.table → AllAsleep before → AllAsleep after
-asleep_as before after e h = λ s. subst (λ (t : Table Session). IsAsleep (row_of t s)) (sym e) (h s)
+pub idle_as : (before after : Crew) → SameLists before after → NoWork before → NoWork after
+idle_as before after e h = e.work_same ∙ h
 
 -- ---- the next session taken out
 
@@ -196,35 +217,30 @@ next_taken c n start now past before after on same =
         made_is = f.made_is ∙ sym same.made_same;
         unsaid = f.unsaid;
       };
-      rows = λ s. subst (RowIs c n past s) (sym (same.rows_same s)) (on.rows s);
+      unowed = on.unowed;
+      rows = λ s. row_listed c n past s before after (same.rows_same s) same.lists (on.rows s);
     }
 
-pub asleep_but_next : (before after : Crew) → SameButNext before after → AllAsleep before → AllAsleep after
-asleep_but_next before after same h = λ s. subst IsAsleep (sym (same.rows_same s)) (h s)
+pub idle_but_next : (before after : Crew) → SameButNext before after → NoWork before → NoWork after
+idle_but_next before after same h = idle_as before after same.lists h
 
 -- ---- the run may be ended
 
-pub row_may_end : (c : Config) (n : ℕ) (past : List Act) (s : ℕ) (why : Why) (row : Option Session) → RunsOut c n past why → RowIs c n past s row → MayLeaveRow c n past s why row
-row_may_end c n past s why None e r = r
-row_may_end c n past s why (Some x) e r = waker_may c n past s why x e r
+pub course_may_end : (c : Config) (n : ℕ) (start now : Seen) (past : List Act) (why : Why) (crew : Crew) → ends_all why ≡ true → RunsOut c n past why → Course c n start now past crew → MayEnd c n start now why crew
+course_may_end c n start now past why crew all ends on = record {
+  past = past;
+  frame = on.frame;
+  all = all;
+  ends = ends;
+  owes = inl on.unowed;
+  rows = λ s. up_may c n past s why (timer_of crew s) (row_of crew.table s) ends (row_up c n past s crew.work.items (timer_of crew s) (row_of crew.table s) (on.rows s));
+}
+
+pub memory_rows : (c : Config) (n : ℕ) (start now : Seen) (past : List Act) (crew : Crew) → Course c n start now past crew → (s : ℕ) → MayLeaveRow c n past s whys.Memory (row_of crew.table s)
+memory_rows c n start now past crew on s = up_may c n past s whys.Memory (timer_of crew s) (row_of crew.table s) (inl refl) (row_up c n past s crew.work.items (timer_of crew s) (row_of crew.table s) (on.rows s))
 
 pub memory_ends : (c : Config) (n : ℕ) (start now : Seen) (past : List Act) (crew : Crew) → Course c n start now past crew → MayEnd c n start now whys.Memory crew
-memory_ends c n start now past crew on = record { past = past; frame = on.frame; all = refl; ends = inl refl; rows = λ s. row_may_end c n past s whys.Memory (row_of crew.table s) (inl refl) (on.rows s) }
-
-pub spread_ends : (c : Config) (n : ℕ) (start now : Seen) (t : ℕ) (why : Why) (crew : Crew) → RowSpreads c n start now t why crew → MayEnd c n start now why crew
-spread_ends c n start now t why crew r =
-    let told = spread_tells c n r.past t why r.x r.course.frame.unsaid r.stands r.spreads in
-    record {
-      past = r.past;
-      frame = r.course.frame;
-      all = r.spreads.2;
-      ends = told.ends;
-      rows = λ s. each s told.ends told.may (cases_eq s t);
-    }
-  where
-    each : (s : ℕ) → RunsOut c n r.past why → MayLeave c n r.past t why r.x → (s ≡ t) ⊎ (s ≡ t → ⊥) → MayLeaveRow c n r.past s why (row_of crew.table s)
-    each s ends may (inl e) = subst (λ (k : ℕ). MayLeaveRow c n r.past k why (row_of crew.table k)) (sym e) (subst (MayLeaveRow c n r.past t why) (sym r.row) may)
-    each s ends may (inr apart) = row_may_end c n r.past s why (row_of crew.table s) ends (r.course.rows s apart)
+memory_ends c n start now past crew on = course_may_end c n start now past whys.Memory crew refl (inl refl) on
 
 -- ---- a peer of the next session
 
@@ -239,12 +255,15 @@ may_accept c n start now past crew on called =
     let o = on.frame.counts.stop_is in
     and_from (nat_lt (live_in crew.table) crew.table.max_children) (nat_lt crew.table.admitted crew.table.stop_after) (lt-ltb (live_in crew.table) crew.table.max_children (omega (arith, y, l, m))) (lt-ltb crew.table.admitted crew.table.stop_after (omega (arith, x, e, o)))
 
--- the table has one row more
-pub record OneMore (session : Session) (before after : Crew) : Type 0 where
+-- the table has one row more, of a session that has read nothing
+pub record OneMore (born : Row) (before after : Crew) : Type 0 where
   pub clock_same : after.clock ≡ before.clock
   pub made_same : after.made ≡ before.made
   pub unborn_is : after.unborn ≡ None
-  pub row : row_of after.table before.table.admitted ≡ Some session
+  pub row : row_of after.table before.table.admitted ≡ Some born
+  pub heard : born.turn ≡ before.made
+  pub unread : (side : Side) → counted_at born.member.dumper side ≡ 0
+  pub lists : SameLists before after
   pub others : (s : ℕ) → s ≢ before.table.admitted → row_of after.table s ≡ row_of before.table s
   pub admitted_is : after.table.admitted ≡ before.table.admitted + 1
   pub bounds_same : SameBounds before.table after.table
@@ -252,9 +271,9 @@ pub record OneMore (session : Session) (before after : Crew) : Type 0 where
 no_next : (c : Config) (past : List Act) (unborn : Option Unborn) → unborn ≡ None → NextIs c past unborn
 no_next c past unborn e = subst (NextIs c past) (sym e) tt
 
-pub door_admitted : (c : Config) (n : ℕ) (start old new : Seen) (past : List Act) (live : ℕ) (before after : Crew) (place : Place) (peer : Peer) (session : Session) → live ≡ live_in before.table → Course c n start old past before → DoorActs c (λ m p. DoorFor c m p before.clock live before.door) old new before.door after.door (acts.Accepted place peer) → ((m : ℕ) (p : List Act) → DoorFor c m p before.clock live before.door → Admits c p place peer) →
-    (Begins c n past (admitted c past) peer → Hears c n (acts.Accepted (home c (admitted c past)) peer ∷ past) (admitted c past) session) → OneMore session before after → Course c n start new (acts.Accepted place peer ∷ past) after
-door_admitted c n start old new past live before after place peer session e on a admits hears more =
+pub door_admitted : (c : Config) (n : ℕ) (start old new : Seen) (past : List Act) (live : ℕ) (before after : Crew) (place : Place) (peer : Peer) (row : Row) → live ≡ live_in before.table → Course c n start old past before → DoorActs c (λ m p. DoorFor c m p before.clock live before.door) old new before.door after.door (acts.Accepted place peer) → ((m : ℕ) (p : List Act) → DoorFor c m p before.clock live before.door → Admits c p place peer) →
+    (Begins c n past (admitted c past) peer → Hears c n (acts.Accepted (home c (admitted c past)) peer ∷ past) (admitted c past) row.member.session) → OneMore row before after → CourseAt c n start new (acts.Accepted place peer ∷ past) before.table.admitted after
+door_admitted c n start old new past live before after place peer row e on a admits hears more =
     let f = on.frame in
     let for = door_for c n start old past before live e on in
     let h = a.heard n past for in
@@ -262,14 +281,14 @@ door_admitted c n start old new past live before after place peer session e on a
     let at = z.place_is in
     let permitted : permits c (next_place c past) peer ≡ true = subst (λ (p : Place). permits c p peer ≡ true) at z.permitted in
     let began = hears (next c n past peer f.fork f.run.legal f.run.named z.called permitted) in
-    let w : Waker c n (acts.Accepted place peer ∷ past) (admitted c past) session = awake c n (acts.Accepted place peer ∷ past) (admitted c past) session (subst (λ (p : Place). Hears c n (acts.Accepted p peer ∷ past) (admitted c past) session) (sym at) began) in
+    let w : Waker c n (acts.Accepted place peer ∷ past) (admitted c past) row.member.session = awake c n (acts.Accepted place peer ∷ past) (admitted c past) row.member.session (subst (λ (p : Place). Hears c n (acts.Accepted p peer ∷ past) (admitted c past) row.member.session) (sym at) began) in
     let grown : admitted c (acts.Accepted place peer ∷ past) ≡ suc (admitted c past) = subst (λ (p : Place). admitted c (acts.Accepted p peer ∷ past) ≡ suc (admitted c past)) (sym at) (admitted_more c past peer (and_from (has_fork c) (permits c (next_place c past) peer) f.fork permitted)) in
     let was = f.counts.admitted_is in
     let is = more.admitted_is in
     record {
       frame = record {
         fork = f.fork;
-        run = run_on c n start old new past (λ m p. DoorFor c m p before.clock live before.door) before after (acts.Accepted place peer) f for a;
+        run = run_on c n start old new past (λ m p. DoorFor c m p before.clock live before.door) before after (acts.Accepted place peer) f on.unowed for a;
         door = h.stands;
         counts = record { admitted_is = omega (arith, was, is, grown); children_is = more.bounds_same.0 ∙ f.counts.children_is; stop_is = more.bounds_same.1 ∙ f.counts.stop_is };
         next = no_next c (acts.Accepted place peer ∷ past) after.unborn more.unborn_is;
@@ -277,14 +296,17 @@ door_admitted c n start old new past live before after place peer session e on a
         made_is = f.made_is ∙ sym more.made_same;
         unsaid = record { remembered = f.unsaid.remembered; unstopped = f.unsaid.unstopped };
       };
-      rows = λ s. each s w grown was for (cases_eq s before.table.admitted);
+      unowed = refl;
+      rows = λ s apart. each s grown was for apart;
+      here = subst (UpRow c n (acts.Accepted place peer ∷ past) before.table.admitted (timer_of after before.table.admitted)) (sym more.row)
+          (awake_rouses c n (acts.Accepted place peer ∷ past) before.table.admitted row (subst (λ (x : ℕ). Waker c n (acts.Accepted place peer ∷ past) x row.member.session) (sym was) w) (more.heard ∙ sym f.made_is)
+          (counted_first c n past (acts.Accepted place peer) before.table.admitted row.member.dumper f.fork f.run.legal was refl more.unread));
     }
   where
-    each : (s : ℕ) → Waker c n (acts.Accepted place peer ∷ past) (admitted c past) session → admitted c (acts.Accepted place peer ∷ past) ≡ suc (admitted c past) → before.table.admitted ≡ admitted c past → DoorFor c n past before.clock live before.door → (s ≡ before.table.admitted) ⊎ (s ≡ before.table.admitted → ⊥) → RowIs c n (acts.Accepted place peer ∷ past) s (row_of after.table s)
-    each s w grown was for (inl k) = subst (λ (x : ℕ). RowIs c n (acts.Accepted place peer ∷ past) x (row_of after.table x)) (sym k) (subst (RowIs c n (acts.Accepted place peer ∷ past) before.table.admitted) (sym more.row) (subst (λ (x : ℕ). Waker c n (acts.Accepted place peer ∷ past) x session) (sym was) w))
-    each s w grown was for (inr apart) =
-        subst (RowIs c n (acts.Accepted place peer ∷ past) s) (sym (more.others s apart))
-        (row_on c n (acts.Accepted place peer) past s (row_of before.table s) on.frame.fork (a.apart n past for s) refl (λ b. nearer (cases_lt s (admitted c past)) b) (on.rows s))
+    each : (s : ℕ) → admitted c (acts.Accepted place peer ∷ past) ≡ suc (admitted c past) → before.table.admitted ≡ admitted c past → DoorFor c n past before.clock live before.door → (s ≡ before.table.admitted → ⊥) → RowOf c n (acts.Accepted place peer ∷ past) after s
+    each s grown was for apart =
+        row_listed c n (acts.Accepted place peer ∷ past) s before after (more.others s apart) more.lists
+        (row_on c n (acts.Accepted place peer) past s before.work.items (timer_of before s) (row_of before.table s) on.frame.fork (a.apart n past for s) refl (λ b. nearer (cases_lt s (admitted c past)) b) (on.rows s))
       where
         nearer : (s < admitted c past) ⊎ (admitted c past ≤ s) → s < admitted c (acts.Accepted place peer ∷ past) → s < admitted c past
         nearer (inl h) b = h
@@ -292,57 +314,113 @@ door_admitted c n start old new past live before after place peer session e on a
 
 -- ---- a failed accepting
 
-row_fails : (c : Config) (n : ℕ) (past : List Act) (s : ℕ) (row : Option Session) → has_fork c ≡ true → Unsaid past → RowIs c n past s row → MayLeaveRow c n (acts.AcceptFailed program_door ∷ past) s whys.AcceptFailed row
-row_fails c n past s None fork u r = r
-row_fails c n past s (Some x) fork u w = let e = accept_ends c n past s x fork u.remembered u.unstopped w in record { grounded = e.0; ends = inl e.1; unclosed = e.2 }
+waker_fails : (c : Config) (n : ℕ) (past : List Act) (s : ℕ) (x : Session) → has_fork c ≡ true → Unsaid past → Waker c n past s x → MayLeave c n (acts.AcceptFailed program_door ∷ past) s whys.AcceptFailed x
+waker_fails c n past s x fork u w = let e = accept_ends c n past s x fork u.remembered u.unstopped w in record { grounded = e.0; ends = inl e.1; unclosed = e.2 }
 
-row_wakes : (c : Config) (n : ℕ) (past : List Act) (s : ℕ) (row : Option Session) → has_fork c ≡ true → Unsaid past → LeavesRow c n (acts.AcceptFailed program_door ∷ past) s whys.AcceptFailed row → RowIs c n (acts.AcceptFailed program_door ∷ past) s row
-row_wakes c n past s None fork u r = r
-row_wakes c n past s (Some x) fork u l =
+row_fails : (c : Config) (n : ℕ) (past : List Act) (s : ℕ) (timer : Option ℕ) (row : Option Row) → has_fork c ≡ true → Unsaid past → UpRow c n past s timer row → FailedAt c n (acts.AcceptFailed program_door ∷ past) s timer row
+row_fails c n past s timer None fork u r = r
+row_fails c n past s timer (Some row) fork u r = record {
+  may = record {
+    current = λ h. waker_fails c n past s row.member.session fork u (r.current h);
+    late = λ h. let t = r.late h in (t.sleeps, λ new w. waker_fails c n past s new fork u (t.woken new w));
+  };
+  begun = r.begun;
+  lives = r.lives;
+  counted = counted_by c (acts.AcceptFailed program_door) past s row.member.dumper row.member.dumper refl refl r.counted;
+}
+
+row_rises : (c : Config) (n : ℕ) (past : List Act) (s made at : ℕ) (timer : Option ℕ) (before after : Option Row) → has_fork c ≡ true → Unsaid past → turns past ≡ made → moment past ≡ at → FailedAt c n (acts.AcceptFailed program_door ∷ past) s timer before → CutRow made at whys.AcceptFailed s before after → UpRow c n (acts.AcceptFailed program_door ∷ past) s timer after
+row_rises c n past s made at timer None None fork u e m r cut = r
+row_rises c n past s made at timer (Some old) (Some new) fork u e m r cut =
+    let l = cut.2 c n (acts.AcceptFailed program_door ∷ past) e m r.may in
     let k = l.unclosed in
-    let m = u.remembered in
+    let h = u.remembered in
     let t = u.unstopped in
-    let e : cause c (acts.AcceptFailed program_door ∷ past) s ≡ Some whys.AcceptFailed = rw (k, m, t, fork) refl in
-    record { stands = l.stands; ending = l.ending ∙ sym e; unclosed = k }
+    let caused : cause c (acts.AcceptFailed program_door ∷ past) s ≡ Some whys.AcceptFailed = rw (k, h, t, fork) refl in
+    awake_rouses c n (acts.AcceptFailed program_door ∷ past) s new (record { stands = l.stands; ending = l.ending ∙ sym caused; unclosed = k }) (cut.0 ∙ sym e) (subst (Counted c (acts.AcceptFailed program_door ∷ past) s) (sym cut.1) r.counted)
+row_rises c n past s made at timer None (Some new) fork u e m r cut = absurd cut
+row_rises c n past s made at timer (Some old) None fork u e m r cut = absurd cut
 
-pub door_failed : (c : Config) (n : ℕ) (start old new : Seen) (past : List Act) (live : ℕ) (before mid after : Crew) → live ≡ live_in before.table → Course c n start old past before → DoorActs c (λ m p. DoorFor c m p before.clock live before.door) old new before.door mid.door (acts.AcceptFailed program_door) → KeptBack c before mid → CutsRows whys.AcceptFailed mid after → Course c n start new (acts.AcceptFailed program_door ∷ past) after
-door_failed c n start old new past live before mid after e on a kept cuts =
+pub door_failed : (c : Config) (n : ℕ) (start old new : Seen) (past : List Act) (live : ℕ) (before mid : Crew) → live ≡ live_in before.table → Course c n start old past before → NoWork before → DoorActs c (λ m p. DoorFor c m p before.clock live before.door) old new before.door mid.door (acts.AcceptFailed program_door) → KeptBack c before mid → Failed c n start new past mid
+door_failed c n start old new past live before mid e on idle a kept =
     let f = on.frame in
     let for = door_for c n start old past before live e on in
     let h = a.heard n past for in
-    let r = cuts.same in
     let table = kept.table_same in
-    let was = f.counts.admitted_is in
-    let same : after.table.admitted ≡ before.table.admitted = r.admitted_same ∙ ap (λ (t : Table Session). t.admitted) table in
     record {
       frame = record {
         fork = f.fork;
-        run = run_on c n start old new past (λ m p. DoorFor c m p before.clock live before.door) before mid (acts.AcceptFailed program_door) f for a;
-        door = subst (DoorStands c (acts.AcceptFailed program_door ∷ past)) (sym r.door_same) h.stands;
-        counts = record {
-          admitted_is = same ∙ was;
-          children_is = r.bounds_same.0 ∙ (ap (λ (t : Table Session). t.max_children) table ∙ f.counts.children_is);
-          stop_is = r.bounds_same.1 ∙ (ap (λ (t : Table Session). t.stop_after) table ∙ f.counts.stop_is);
-        };
-        next = subst (NextIs c (acts.AcceptFailed program_door ∷ past)) (sym r.unborn_same) (kept.next (acts.AcceptFailed program_door ∷ past) was);
-        clock_is = r.clock_same ∙ kept.clock_same ∙ f.clock_is;
-        made_is = f.made_is ∙ sym (r.made_same ∙ kept.made_same);
+        run = run_on c n start old new past (λ m p. DoorFor c m p before.clock live before.door) before mid (acts.AcceptFailed program_door) f on.unowed for a;
+        door = h.stands;
+        counts = subst (Counts c (acts.AcceptFailed program_door ∷ past)) (sym table) (record { admitted_is = f.counts.admitted_is; children_is = f.counts.children_is; stop_is = f.counts.stop_is });
+        next = kept.next (acts.AcceptFailed program_door ∷ past) f.counts.admitted_is;
+        clock_is = kept.clock_same ∙ f.clock_is;
+        made_is = f.made_is ∙ sym kept.made_same;
         unsaid = record { remembered = f.unsaid.remembered; unstopped = f.unsaid.unstopped };
       };
-      rows = λ s. row_wakes c n past s (row_of after.table s) f.fork f.unsaid (cuts.rows s c n (acts.AcceptFailed program_door ∷ past) (subst (λ (t : Table Session). MayLeaveRow c n (acts.AcceptFailed program_door ∷ past) s whys.AcceptFailed (row_of t s)) (sym table) (row_fails c n past s (row_of before.table s) f.fork f.unsaid (on.rows s))));
+      rows = λ s.
+          subst (λ (k : Option ℕ). FailedAt c n (acts.AcceptFailed program_door ∷ past) s k (row_of mid.table s)) (sym (same_timer s before mid kept.lists.timers_same))
+          (subst (λ (t : Table Row). FailedAt c n (acts.AcceptFailed program_door ∷ past) s (timer_of before s) (row_of t s)) (sym table)
+          (row_fails c n past s (timer_of before s) (row_of before.table s) f.fork f.unsaid (row_up c n past s before.work.items (timer_of before s) (row_of before.table s) (on.rows s))));
+      idle = kept.lists.work_same ∙ idle;
     }
+
+-- each session was cut
+pub failed_cut : (c : Config) (n : ℕ) (start now : Seen) (past : List Act) (before after : Crew) → Failed c n start now past before → CutsRows whys.AcceptFailed before after → AllUp c n start now (acts.AcceptFailed program_door ∷ past) after
+failed_cut c n start now past before after failed cuts =
+    let f = failed.frame in
+    record {
+      frame = frame_rest c n start now (acts.AcceptFailed program_door ∷ past) before after f cuts.same;
+      unowed = refl;
+      rows = λ s.
+          subst (λ (k : Option ℕ). UpRow c n (acts.AcceptFailed program_door ∷ past) s k (row_of after.table s)) (sym (same_timer s before after cuts.lists.timers_same))
+          (row_rises c n past s before.made before.clock (timer_of before s) (row_of before.table s) (row_of after.table s) f.fork (record { remembered = f.unsaid.remembered; unstopped = f.unsaid.unstopped }) f.made_is (sym f.clock_is) (failed.rows s) (cuts.rows s));
+    }
+
+-- and is in the list of work
+row_queued : (c : Config) (n : ℕ) (past : List Act) (s : ℕ) (work : List ℕ) (timer : Option ℕ) (row : Option Row) → (is_some row ≡ true → Has s work) → UpRow c n past s timer row → RowIs c n past s work timer row
+row_queued c n past s work timer None h r = r
+row_queued c n past s work timer (Some row) h r = inl (h refl, r)
+
+pub all_queued : (c : Config) (n : ℕ) (start now : Seen) (past : List Act) (before after : Crew) → AllUp c n start now past before → SameButWork before after → AllQueued after → Course c n start now past after
+all_queued c n start now past before after up same queued = record {
+  frame = frame_rest c n start now past before after up.frame same.same;
+  unowed = up.unowed;
+  rows = λ s. row_queued c n past s after.work.items (timer_of after s) (row_of after.table s) (queued s) (up_listed c n past s before after (ap (λ (t : Table Row). row_of t s) same.table_same) (same_timer s before after same.timers_same) (up.rows s));
+}
+
+pub up_memory : (c : Config) (n : ℕ) (start now : Seen) (past : List Act) (before after : Crew) → AllUp c n start now past before → SameButWork before after → MayEnd c n start now whys.Memory after
+up_memory c n start now past before after up same = record {
+  past = past;
+  frame = frame_rest c n start now past before after up.frame same.same;
+  all = refl;
+  ends = inl refl;
+  owes = inr refl;
+  rows = λ s. up_may c n past s whys.Memory (timer_of after s) (row_of after.table s) (inl refl) (up_listed c n past s before after (ap (λ (t : Table Row). row_of t s) same.table_same) (same_timer s before after same.timers_same) (up.rows s));
+}
+
+fails_late : (c : Config) (n : ℕ) (past : List Act) (s made : ℕ) (timer : Option ℕ) (row : Option Row) → turns past ≡ made → FailedAt c n past s timer row → SleepsIfLate made row
+fails_late c n past s made timer None e r = tt
+fails_late c n past s made timer (Some row) e r = λ h. (r.may.late (omega (arith, h, e))).0
+
+pub failed_sleep : (c : Config) (now : Seen) (crew : Crew) → SomeFailed c now crew → AllSleepIfLate crew
+failed_sleep c now crew at s = fails_late c at.n (acts.AcceptFailed program_door ∷ at.past) s crew.made (timer_of crew s) (row_of crew.table s) at.failed.frame.made_is (at.failed.rows s)
+
+pub some_queued : (c : Config) (now : Seen) (before mid after : Crew) → SomeFailed c now before → CutsRows whys.AcceptFailed before mid → SameButWork mid after → AllQueued after → Somewhere c now after
+some_queued c now before mid after at cuts same queued = record { n = at.n; start = at.start; past = acts.AcceptFailed program_door ∷ at.past; course = all_queued c at.n at.start now (acts.AcceptFailed program_door ∷ at.past) mid after (failed_cut c at.n at.start now at.past before mid at.failed cuts) same queued }
+
+pub ends_after : (c : Config) (old new : Seen) (before cut mid after : Crew) (why : Option Why) → CutsRows whys.AcceptFailed before cut → SameButWork cut mid → AllQueued mid → AllRun c old new mid after why → EndsRows c old new before after why
+ends_after c old new before cut mid after None cuts same queued run = (
+  λ n start past f. run.0 n start (acts.AcceptFailed program_door ∷ past) (all_queued c n start old (acts.AcceptFailed program_door ∷ past) cut mid (failed_cut c n start old past before cut f cuts) same queued),
+  run.1,
+  rest_then before mid after (rest_then before cut mid cuts.same same.same) run.2,
+)
+ends_after c old new before cut mid after (Some why) cuts same queued run = λ n start past f. run n start (acts.AcceptFailed program_door ∷ past) (all_queued c n start old (acts.AcceptFailed program_door ∷ past) cut mid (failed_cut c n start old past before cut f cuts) same queued)
 
 -- ---- steps of a door that stayed as it was
 
 pub fewer_kept : (one two three : Crew) → steps_of two.door < steps_of one.door → three.door ≡ two.door → steps_of three.door < steps_of one.door
 fewer_kept one two three h e = let x = ap steps_of e in omega (arith, h, x)
-
-pub asleep_after : (t : ℕ) (before mid after : Crew) → ((s : ℕ) → s ≢ t → row_of mid.table s ≡ row_of before.table s) → IsAsleep (row_of after.table t) → OthersStay t mid after → AllAsleep before → AllAsleep after
-asleep_after t before mid after stay here others h s = go (cases_eq s t)
-  where
-    go : (s ≡ t) ⊎ (s ≡ t → ⊥) → IsAsleep (row_of after.table s)
-    go (inl e) = subst (λ (x : ℕ). IsAsleep (row_of after.table x)) (sym e) here
-    go (inr apart) = subst IsAsleep (sym (others s apart ∙ stay s apart)) (h s)
 
 -- ---- before the next session was taken out
 
@@ -371,25 +449,25 @@ asked_then c old mid new one two three (asks.Ends why) k m r = λ n start past o
 
 -- ---- each answer of the door, whole
 
-pub goes_acted : (c : Config) (old new : Seen) (live : ℕ) (before after : Crew) (act : Act) → live ≡ live_in before.table → Somewhere c old before → AllAsleep before → DoorActs c (λ m p. DoorFor c m p before.clock live before.door) old new before.door after.door act → ((m : ℕ) (p : List Act) → DoorFor c m p before.clock live before.door → AdmitsNone c p act) → KeptBack c before after → GoesOn c old new before after None
-goes_acted c old new live before after act e at asleep a none kept = (
+pub goes_acted : (c : Config) (old new : Seen) (live : ℕ) (before after : Crew) (act : Act) → live ≡ live_in before.table → Somewhere c old before → NoWork before → DoorActs c (λ m p. DoorFor c m p before.clock live before.door) old new before.door after.door act → ((m : ℕ) (p : List Act) → DoorFor c m p before.clock live before.door → AdmitsNone c p act) → KeptBack c before after → GoesOn c old new before after None
+goes_acted c old new live before after act e at idle a none kept = (
   λ n start past on. door_acted c n start old new past live before after act e on a none kept,
-  asleep_as before after kept.table_same asleep,
+  idle_as before after kept.lists idle,
   steps_fewer c old new live before after act e at a,
   kept.made_same,
 )
 
-pub goes_waiting : (c : Config) (old new : Seen) (live : ℕ) (before after : Crew) (until : Option ℕ) → live ≡ live_in before.table → AllAsleep before → new ≡ old → after.door ≡ before.door → ((m : ℕ) (p : List Act) → DoorFor c m p before.clock live before.door → Wished c p (wishes.Sleep until)) → KeptBack c before after → AskedIs c old new before after (asks.Waits until)
-goes_waiting c old new live before after until e asleep same door wished kept = (
+pub goes_waiting : (c : Config) (old new : Seen) (live : ℕ) (before after : Crew) (until : Option ℕ) → live ≡ live_in before.table → NoWork before → new ≡ old → after.door ≡ before.door → ((m : ℕ) (p : List Act) → DoorFor c m p before.clock live before.door → Wished c p (wishes.Sleep until)) → KeptBack c before after → AskedIs c old new before after (asks.Waits until)
+goes_waiting c old new live before after until e idle same door wished kept = (
   λ n start past on. record { past = past; course = door_unmoved c n start old new past before after on same door kept; wished = wished n past (door_for c n start old past before live e on) },
-  asleep_as before after kept.table_same asleep,
+  idle_as before after kept.lists idle,
   kept.made_same,
 )
 
-pub goes_over : (c : Config) (old new : Seen) (live : ℕ) (before after : Crew) → live ≡ live_in before.table → AllAsleep before → new ≡ old → after.door ≡ before.door → ((m : ℕ) (p : List Act) → DoorFor c m p before.clock live before.door → Wished c p wishes.Done) → KeptBack c before after → AskedIs c old new before after asks.Over
-goes_over c old new live before after e asleep same door wished kept = (
+pub goes_over : (c : Config) (old new : Seen) (live : ℕ) (before after : Crew) → live ≡ live_in before.table → NoWork before → new ≡ old → after.door ≡ before.door → ((m : ℕ) (p : List Act) → DoorFor c m p before.clock live before.door → Wished c p wishes.Done) → KeptBack c before after → AskedIs c old new before after asks.Over
+goes_over c old new live before after e idle same door wished kept = (
   λ n start past on. record { past = past; course = door_unmoved c n start old new past before after on same door kept; wished = wished n past (door_for c n start old past before live e on) },
-  asleep_as before after kept.table_same asleep,
+  idle_as before after kept.lists idle,
   kept.made_same,
 )
 
@@ -397,35 +475,39 @@ goes_over c old new live before after e asleep same door wished kept = (
 abbrev pub BornAs : Config → Crew → Peer → Session → Type 0
 BornAs c before peer session = (n : ℕ) (past : List Act) → Begins c n past (admitted c past) peer → before.table.admitted ≡ admitted c past → before.clock ≡ moment past → Hears c n (acts.Accepted (home c (admitted c past)) peer ∷ past) (admitted c past) session
 
-born_on : (c : Config) (n : ℕ) (start old new : Seen) (past : List Act) (live : ℕ) (before after : Crew) (place : Place) (peer : Peer) (session : Session) → live ≡ live_in before.table → Course c n start old past before → DoorActs c (λ m p. DoorFor c m p before.clock live before.door) old new before.door after.door (acts.Accepted place peer) → ((m : ℕ) (p : List Act) → DoorFor c m p before.clock live before.door → Admits c p place peer) → BornAs c before peer session → OneMore session before after → Course c n start new (acts.Accepted place peer ∷ past) after
-born_on c n start old new past live before after place peer session e on a admits born more = door_admitted c n start old new past live before after place peer session e on a admits (λ b. born n past b on.frame.counts.admitted_is on.frame.clock_is) more
+-- what a session has heard is said of it in the table too
+pub born_as : (c : Config) (n : ℕ) (past : List Act) (peer : Peer) (x y : Session) → y ≡ x → Hears c n (acts.Accepted (home c (admitted c past)) peer ∷ past) (admitted c past) x → Hears c n (acts.Accepted (home c (admitted c past)) peer ∷ past) (admitted c past) y
+born_as c n past peer x y e h = subst (Hears c n (acts.Accepted (home c (admitted c past)) peer ∷ past) (admitted c past)) (sym e) h
 
-pub some_admitted : (c : Config) (old new : Seen) (live : ℕ) (before after : Crew) (place : Place) (peer : Peer) (session : Session) → live ≡ live_in before.table → Somewhere c old before → DoorActs c (λ m p. DoorFor c m p before.clock live before.door) old new before.door after.door (acts.Accepted place peer) → ((m : ℕ) (p : List Act) → DoorFor c m p before.clock live before.door → Admits c p place peer) → BornAs c before peer session → OneMore session before after → Somewhere c new after
-some_admitted c old new live before after place peer session e at a admits born more = record { n = at.n; start = at.start; past = acts.Accepted place peer ∷ at.past; course = born_on c at.n at.start old new at.past live before after place peer session e at.course a admits born more }
+born_on : (c : Config) (n : ℕ) (start old new : Seen) (past : List Act) (live number : ℕ) (before after : Crew) (place : Place) (peer : Peer) (row : Row) → live ≡ live_in before.table → Course c n start old past before → DoorActs c (λ m p. DoorFor c m p before.clock live before.door) old new before.door after.door (acts.Accepted place peer) → ((m : ℕ) (p : List Act) → DoorFor c m p before.clock live before.door → Admits c p place peer) → BornAs c before peer row.member.session → OneMore row before after → number ≡ before.table.admitted → CourseAt c n start new (acts.Accepted place peer ∷ past) number after
+born_on c n start old new past live number before after place peer row e on a admits born more same =
+    subst (λ (k : ℕ). CourseAt c n start new (acts.Accepted place peer ∷ past) k after) (sym same)
+    (door_admitted c n start old new past live before after place peer row e on a admits (λ b. born n past b on.frame.counts.admitted_is on.frame.clock_is) more)
 
-pub goes_admitted : (c : Config) (old mid_seen new : Seen) (live number : ℕ) (before mid after : Crew) (place : Place) (peer : Peer) (session : Session) → live ≡ live_in before.table → Somewhere c old before → AllAsleep before → DoorActs c (λ m p. DoorFor c m p before.clock live before.door) old mid_seen before.door mid.door (acts.Accepted place peer) → ((m : ℕ) (p : List Act) → DoorFor c m p before.clock live before.door → Admits c p place peer) → BornAs c before peer session → OneMore session before mid → number ≡ before.table.admitted → RowRuns c mid_seen new number mid after None → GoesOn c old new before after None
-goes_admitted c old mid_seen new live number before mid after place peer session e at asleep a admits born more same run = (
-  λ n start past on. run.0 n start (acts.Accepted place peer ∷ past) (born_on c n start old mid_seen past live before mid place peer session e on a admits born more),
-  asleep_after number before mid after (λ s apart. more.others s (λ x. apart (x ∙ sym same))) run.1 run.2 asleep,
-  fewer_kept before mid after (steps_fewer c old mid_seen live before mid (acts.Accepted place peer) e at a) run.3.door_same,
-  run.3.made_same ∙ more.made_same,
+pub some_admitted : (c : Config) (old new : Seen) (live number : ℕ) (before after : Crew) (place : Place) (peer : Peer) (row : Row) → live ≡ live_in before.table → Somewhere c old before → DoorActs c (λ m p. DoorFor c m p before.clock live before.door) old new before.door after.door (acts.Accepted place peer) → ((m : ℕ) (p : List Act) → DoorFor c m p before.clock live before.door → Admits c p place peer) → BornAs c before peer row.member.session → OneMore row before after → number ≡ before.table.admitted → SomewhereAt c new number after
+some_admitted c old new live number before after place peer row e at a admits born more same = record { n = at.n; start = at.start; past = acts.Accepted place peer ∷ at.past; course = born_on c at.n at.start old new at.past live number before after place peer row e at.course a admits born more same }
+
+pub goes_admitted : (c : Config) (old mid_seen new : Seen) (live number : ℕ) (before mid after : Crew) (place : Place) (peer : Peer) (row : Row) → live ≡ live_in before.table → Somewhere c old before → NoWork before → DoorActs c (λ m p. DoorFor c m p before.clock live before.door) old mid_seen before.door mid.door (acts.Accepted place peer) → ((m : ℕ) (p : List Act) → DoorFor c m p before.clock live before.door → Admits c p place peer) → BornAs c before peer row.member.session → OneMore row before mid → number ≡ before.table.admitted → RowRuns c mid_seen new number mid after None → GoesOn c old new before after None
+goes_admitted c old mid_seen new live number before mid after place peer row e at idle a admits born more same run = (
+  λ n start past on. run.0 n start (acts.Accepted place peer ∷ past) (born_on c n start old mid_seen past live number before mid place peer row e on a admits born more same),
+  run.1 ∙ (more.lists.work_same ∙ idle),
+  fewer_kept before mid after (steps_fewer c old mid_seen live before mid (acts.Accepted place peer) e at a) run.2.door_same,
+  run.2.made_same ∙ more.made_same,
 )
 
-pub ends_admitted : (c : Config) (old mid_seen new : Seen) (live number : ℕ) (why : Why) (before mid after : Crew) (place : Place) (peer : Peer) (session : Session) → live ≡ live_in before.table → DoorActs c (λ m p. DoorFor c m p before.clock live before.door) old mid_seen before.door mid.door (acts.Accepted place peer) → ((m : ℕ) (p : List Act) → DoorFor c m p before.clock live before.door → Admits c p place peer) → BornAs c before peer session → OneMore session before mid → RowRuns c mid_seen new number mid after (Some why) → AskedIs c old new before after (asks.Ends why)
-ends_admitted c old mid_seen new live number why before mid after place peer session e a admits born more run = λ n start past on. spread_ends c n start new number why after (run.0 n start (acts.Accepted place peer ∷ past) (born_on c n start old mid_seen past live before mid place peer session e on a admits born more))
+pub ends_admitted : (c : Config) (old mid_seen new : Seen) (live number : ℕ) (why : Why) (before mid after : Crew) (place : Place) (peer : Peer) (row : Row) → live ≡ live_in before.table → DoorActs c (λ m p. DoorFor c m p before.clock live before.door) old mid_seen before.door mid.door (acts.Accepted place peer) → ((m : ℕ) (p : List Act) → DoorFor c m p before.clock live before.door → Admits c p place peer) → BornAs c before peer row.member.session → OneMore row before mid → number ≡ before.table.admitted → RowRuns c mid_seen new number mid after (Some why) → AskedIs c old new before after (asks.Ends why)
+ends_admitted c old mid_seen new live number why before mid after place peer row e a admits born more same run = λ n start past on. run n start (acts.Accepted place peer ∷ past) (born_on c n start old mid_seen past live number before mid place peer row e on a admits born more same)
 
-pub some_failed : (c : Config) (old new : Seen) (live : ℕ) (before mid after : Crew) → live ≡ live_in before.table → Somewhere c old before → DoorActs c (λ m p. DoorFor c m p before.clock live before.door) old new before.door mid.door (acts.AcceptFailed program_door) → KeptBack c before mid → CutsRows whys.AcceptFailed mid after → Somewhere c new after
-some_failed c old new live before mid after e at a kept cuts = record { n = at.n; start = at.start; past = acts.AcceptFailed program_door ∷ at.past; course = door_failed c at.n at.start old new at.past live before mid after e at.course a kept cuts }
+pub some_failed : (c : Config) (old new : Seen) (live : ℕ) (before mid : Crew) → live ≡ live_in before.table → Somewhere c old before → NoWork before → DoorActs c (λ m p. DoorFor c m p before.clock live before.door) old new before.door mid.door (acts.AcceptFailed program_door) → KeptBack c before mid → SomeFailed c new mid
+some_failed c old new live before mid e at idle a kept = record { n = at.n; start = at.start; past = at.past; failed = door_failed c at.n at.start old new at.past live before mid e at.course idle a kept }
 
-pub goes_failed : (c : Config) (old mid_seen new : Seen) (live : ℕ) (before mid cut after : Crew) → live ≡ live_in before.table → Somewhere c old before → DoorActs c (λ m p. DoorFor c m p before.clock live before.door) old mid_seen before.door mid.door (acts.AcceptFailed program_door) → KeptBack c before mid → CutsRows whys.AcceptFailed mid cut → AllRun c mid_seen new cut after None → GoesOn c old new before after None
-goes_failed c old mid_seen new live before mid cut after e at a kept cuts run = (
-  λ n start past on. run.0 n start (acts.AcceptFailed program_door ∷ past) (door_failed c n start old mid_seen past live before mid cut e on a kept cuts),
+pub goes_failed : (c : Config) (old mid_seen new : Seen) (live : ℕ) (before mid after : Crew) → live ≡ live_in before.table → Somewhere c old before → NoWork before → DoorActs c (λ m p. DoorFor c m p before.clock live before.door) old mid_seen before.door mid.door (acts.AcceptFailed program_door) → KeptBack c before mid → EndsRows c mid_seen new mid after None → GoesOn c old new before after None
+goes_failed c old mid_seen new live before mid after e at idle a kept run = (
+  λ n start past on. run.0 n start past (door_failed c n start old mid_seen past live before mid e on idle a kept),
   run.1,
-  fewer_kept before mid after (steps_fewer c old mid_seen live before mid (acts.AcceptFailed program_door) e at a) (run.2.door_same ∙ cuts.same.door_same),
-  run.2.made_same ∙ (cuts.same.made_same ∙ kept.made_same),
+  fewer_kept before mid after (steps_fewer c old mid_seen live before mid (acts.AcceptFailed program_door) e at a) run.2.door_same,
+  run.2.made_same ∙ kept.made_same,
 )
 
-pub ends_failed : (c : Config) (old mid_seen new : Seen) (live : ℕ) (why : Why) (before mid cut after : Crew) → live ≡ live_in before.table → DoorActs c (λ m p. DoorFor c m p before.clock live before.door) old mid_seen before.door mid.door (acts.AcceptFailed program_door) → KeptBack c before mid → CutsRows whys.AcceptFailed mid cut → AllRun c mid_seen new cut after (Some why) → AskedIs c old new before after (asks.Ends why)
-ends_failed c old mid_seen new live why before mid cut after e a kept cuts run = λ n start past on.
-    let s = run n start (acts.AcceptFailed program_door ∷ past) (door_failed c n start old mid_seen past live before mid cut e on a kept cuts) in
-    spread_ends c n start new s.t why after s.spreads
+pub ends_failed : (c : Config) (old mid_seen new : Seen) (live : ℕ) (why : Why) (before mid after : Crew) → live ≡ live_in before.table → NoWork before → DoorActs c (λ m p. DoorFor c m p before.clock live before.door) old mid_seen before.door mid.door (acts.AcceptFailed program_door) → KeptBack c before mid → EndsRows c mid_seen new mid after (Some why) → AskedIs c old new before after (asks.Ends why)
+ends_failed c old mid_seen new live why before mid after e idle a kept run = λ n start past on. run n start past (door_failed c n start old mid_seen past live before mid e on idle a kept)

@@ -23,6 +23,7 @@ use Rattle.session_driver.specs.Seen.{Seen}
 use Rattle.session_crew.specs.Crews.{Leaver, MaySay}
 use Rattle.session_crew.proofs.Members.{closings_leave, acts_leave}
 use Rattle.fork_loop.specs.declared.crews.Crew.{Crew}
+use Rattle.fork_loop.specs.declared.crews.Row.{Row}
 use Rattle.fork_loop.specs.Courses.{OthersStay}
 use Rattle.fork_loop.specs.Endings.{LeavesRow}
 use Rattle.fork_loop.specs.Waited.{Exit, LeavingAt}
@@ -49,7 +50,7 @@ pub record LeftOthers (c : Config) (n : ℕ) (past since : List Act) (t : ℕ) (
   pub admitted_same : admitted c since ≡ admitted c past
   pub turns_same : turns since ≡ turns past
   pub may : MaySay why since
-  pub rows : (s : ℕ) (row : Option Session) → s ≢ t → LeavesRow c n past s why row → LeavesRow c n since s why row
+  pub rows : (s : ℕ) (row : Option Row) → s ≢ t → LeavesRow c n past s why row → LeavesRow c n since s why row
 
 pub left_others : (c : Config) (n t : ℕ) (why : Why) (past since : List Act) → has_fork c ≡ true → Legal c n since → t < admitted c past → MaySay why past → LeftBy c t why past since → LeftOthers c n past since t why
 left_others c n t why past all fork legal begun may stayed = record { admitted_same = refl; turns_same = refl; may = may; rows = λ s row apart r. r }
@@ -62,9 +63,9 @@ left_others c n t why past all fork legal begun may (closed q since here l) =
       rows = λ s row apart r. each s row apart one.may (one.rows s row apart r);
     }
   where
-    each : (s : ℕ) (row : Option Session) → s ≢ t → MaySay why since → LeavesRow c n since s why row → LeavesRow c n (Closed q why ∷ since) s why row
+    each : (s : ℕ) (row : Option Row) → s ≢ t → MaySay why since → LeavesRow c n since s why row → LeavesRow c n (Closed q why ∷ since) s why row
     each s None apart m r = λ below. none_held since q why (things c s) (r below)
-    each s (Some x) apart m r = closings_leave c n since s q why x (foreign_to c s t (Closed q why) here apart) m r
+    each s (Some row) apart m r = closings_leave c n since s q why row.member.session (foreign_to c s t (Closed q why) here apart) m r
 left_others c n t why past all fork legal begun may (acted act since here k said l) =
     let one = left_others c n t why past since fork legal.1 begun may l in
     let same = one.admitted_same in
@@ -73,21 +74,21 @@ left_others c n t why past all fork legal begun may (acted act since here k said
       admitted_same = two.admitted_same ∙ one.admitted_same;
       turns_same = two.turns_same ∙ one.turns_same;
       may = may_on c act since why k one.may;
-      rows = λ s row apart r. each s row apart (λ h. two.rows s None apart h) (one.rows s row apart r);
+      rows = λ s row apart r. each s row apart (λ h. (two.rows s [] None None apart (h, refl)).0) (one.rows s row apart r);
     }
   where
-    each : (s : ℕ) (row : Option Session) → s ≢ t → ((s < admitted c since → holds c since s ≡ false) → s < admitted c (act ∷ since) → holds c (act ∷ since) s ≡ false) → LeavesRow c n since s why row → LeavesRow c n (act ∷ since) s why row
+    each : (s : ℕ) (row : Option Row) → s ≢ t → ((s < admitted c since → holds c since s ≡ false) → s < admitted c (act ∷ since) → holds c (act ∷ since) s ≡ false) → LeavesRow c n since s why row → LeavesRow c n (act ∷ since) s why row
     each s None apart gone r = gone r
-    each s (Some x) apart gone r = acts_leave c n act since s why x (foreign_to c s t act here apart) k said r
+    each s (Some row) apart gone r = acts_leave c n act since s why row.member.session (foreign_to c s t act here apart) k said r
 
 -- ---- a row
 
-leaves_at : (c : Config) (n : ℕ) (start now : Seen) (past : List Act) (t : ℕ) (why : Why) (crew : Crew) (x : Session) → LeavingAt c n start now past why crew → row_of crew.table t ≡ Some x → Leaves c n start now past t why x crew.door
+leaves_at : (c : Config) (n : ℕ) (start now : Seen) (past : List Act) (t : ℕ) (why : Why) (crew : Crew) (x : Row) → LeavingAt c n start now past why crew → row_of crew.table t ≡ Some x → Leaves c n start now past t why x.member.session crew.door
 leaves_at c n start now past t why crew x l had =
-    let o : Leaver c n past t why x = subst (LeavesRow c n past t why) had (l.rows t) in
+    let o : Leaver c n past t why x.member.session = subst (LeavesRow c n past t why) had (l.rows t) in
     record { exit = l.exit; stands = o.stands; ending = o.ending; said = inl o.unclosed }
 
-pub some_leaves : (c : Config) (now : Seen) (t : ℕ) (why : Why) (crew : Crew) (x : Session) → SomeLeaving c now why crew → row_of crew.table t ≡ Some x → SomeLeaves c now why x crew.door
+pub some_leaves : (c : Config) (now : Seen) (t : ℕ) (why : Why) (crew : Crew) (x : Row) → SomeLeaving c now why crew → row_of crew.table t ≡ Some x → SomeLeaves c now why x.member.session crew.door
 some_leaves c now t why crew x at had = record { n = at.n; start = at.start; past = at.past; s = t; leaves = leaves_at c at.n at.start now at.past t why crew x at.leaving had }
 
 -- all but the door and the row of this number is as it was
@@ -100,7 +101,7 @@ pub record SameBut (t : ℕ) (before after : Crew) : Type 0 where
 over_holds : (c : Config) (n : ℕ) (past : List Act) (t : ℕ) (x : Session) → Stands c n past t x → IsOver x → holds c past t ≡ false
 over_holds c n past t x st over = (subst (Wished c n past t) over.1 st.allowed.0).nothing_held
 
-pub row_emptied : (c : Config) (old new : Seen) (t : ℕ) (why : Why) (before after : Crew) (x y : Session) → row_of before.table t ≡ Some x → LeavesOn c old new why x y before.door after.door → IsOver y → SameBut t before after → EmptiesRow c old new t why before after
+pub row_emptied : (c : Config) (old new : Seen) (t : ℕ) (why : Why) (before after : Crew) (x : Row) (y : Session) → row_of before.table t ≡ Some x → LeavesOn c old new why x.member.session y before.door after.door → IsOver y → SameBut t before after → EmptiesRow c old new t why before after
 row_emptied c old new t why before after x y had run over same = record {
   emptied = λ n start past l.
       let at = leaves_at c n start old past t why before x l had in
@@ -161,7 +162,7 @@ row_gone c old new t why before mid after e door same gone = record {
 
 -- ---- all rows
 
-abbrev pub IsGone : ℕ → Option Session → Option Session → Type 0
+abbrev pub IsGone : ℕ → Option Row → Option Row → Type 0
 IsGone s before after = after ≡ None
 
 pub gone_first : (crew : Crew) (first : Option ℕ) → IsFirstLive crew.table 0 first → RowsTo IsGone first crew crew

@@ -26,7 +26,6 @@ use Rattle.exit_status.specs.declared.outcomes.Outcome.TheVariants as outcomes
 use Rattle.exit_status.specs.declared.outcomes.EndWhy.TheVariants as ends
 use Rattle.exit_status.specs.Outcomes.{IsOutcome}
 use Rattle.event_loop.specs.Headline.{is_failure, is_relayed}
-use Rattle.fork_table.specs.Tables.{row_of}
 use Rattle.session_driver.specs.Seen.{Seen}
 use Rattle.session_crew.specs.Crews.{IsSaid, MaySay}
 use Rattle.session_crew.specs.Wholes.{told_by_door}
@@ -34,7 +33,8 @@ use Rattle.session_crew.proofs.Ends.{told_outcome}
 use Rattle.session_runs.specs.Runs.{Run}
 use Rattle.fork_loop.specs.declared.crews.Crew.{Crew}
 use Rattle.fork_loop.specs.Asking.{DoorIsOver}
-use Rattle.fork_loop.specs.Courses.{RowIs}
+use Rattle.fork_loop.specs.Rows.{RowIs}
+use Rattle.fork_loop.specs.Courses.{RowOf, timer_of}
 use Rattle.fork_loop.specs.Endings.{RunsOut}
 use Rattle.fork_loop.specs.Turned.{NoneLives}
 use Rattle.fork_loop.specs.Waited.{StopsAt}
@@ -150,8 +150,8 @@ answer_by c n past None (Some attempts) legal e spends told = for_listening c n 
 answer_by c n past (Some whys.AcceptFailed) listening legal e spends told = for_accept c n past (accept_said (memory_said past) (stop_said past) (accept_failed past program_door) (sym e)) (told whole.AcceptFailed (subst (λ (k : Option Why). told_by_door c past k whole.AcceptFailed) e refl))
 answer_by c n past (Some why) listening legal e spends told = for_memory c n past
 
-none_of_rows : (c : Config) (n : ℕ) (past : List Act) (s : ℕ) (crew : Crew) → NoneLives crew → RowIs c n past s (row_of crew.table s) → s < admitted c past → holds c past s ≡ false
-none_of_rows c n past s crew none r = subst (RowIs c n past s) (none s) r
+none_of_rows : (c : Config) (n : ℕ) (past : List Act) (s : ℕ) (crew : Crew) → NoneLives crew → RowOf c n past crew s → s < admitted c past → holds c past s ≡ false
+none_of_rows c n past s crew none r = (subst (RowIs c n past s crew.work.items (timer_of crew s)) (none s) r).0
 
 pub ended_over : (c : Config) (n : ℕ) (start now : Seen) (crew : Crew) (cause : Option Why) (listening : Option ℕ) → (over : DoorIsOver c n start now crew) → NoneLives crew → cause ≡ door_cause over.past → Spends (door_options c).retry (door_options c).forever (failures over.past program_door) listening → Ended c n start now (ended_by cause listening)
 ended_over c n start now crew cause listening over none e spends =

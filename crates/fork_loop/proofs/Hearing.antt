@@ -1,43 +1,273 @@
--- A turn that all hear.
-use Rattle.std.proofs.Common.{◌≡◌, sym, ap, subst, ◌∙◌, ℕ, ◌+◌, Bool, List, [], ◌∷◌, ◌++◌, take, slice_get, Option, Some, None}
-use Rattle.std.proofs.lemmas.List.{take_more}
+-- A turn that sessions hear, and those that it puts into the list of work.
+use Rattle.std.proofs.Common.{◌≡◌, ◌≢◌, refl, sym, ap, subst, ◌∙◌, ℕ, ◌+◌, ◌-◌, ◌<◌, ◌≤◌, ◌⊎◌, inl, inr, Bool, true, false, cond, ◌||◌, List, [], ◌∷◌, ◌++◌, take, slice_get, length, Option, Some, None, is_some, Result, Ok, Err, OnOk, arith}
+use Rattle.std.specs.Ordering.{nat_cmp}
+use Rattle.std.specs.Cmp.{nat_cmp_total}
+use Rattle.std.specs.FinMap.{FinMap, get, remove, len, contains_key, len-remove, empty_of_len, get-empty}
+use Rattle.std.proofs.lemmas.Bool.{cases_eq, cases_lt, or_parts, true≢false, false≢true, false_from_ne_true}
+use Rattle.std.proofs.lemmas.List.{take_more, length-append}
+use Rattle.std.proofs.lemmas.List.Folds.{list_any-append}
 use Rattle.std.proofs.lemmas.Option.{slice_get_within, get_or_from_slice_get}
+use Rattle.relay_model.specs.declared.commands.Config.{Config}
+use Rattle.relay_model.specs.declared.places.Place.{Place}
+use Rattle.relay_model.specs.declared.readiness.ReadyAt.{ReadyAt}
+use Rattle.relay_model.specs.Configs.{is_program_door}
 use Rattle.relay_model.specs.Readiness.{Listed}
-use Rattle.relay_core.specs.declared.sessions.Session.{Session}
-use Rattle.fork_table.specs.Tables.{row_of, IsFirstLive, Table}
+use Rattle.relay_laws.specs.Stories.{is_own_place, own_entries}
+use Rattle.relay_laws.proofs.Alike.{own_from, own_is}
+use Rattle.timer_set.proofs.Told.{got_left, got_removed}
+use Rattle.fork_table.specs.Tables.{Table, row_of, IsFirstLive}
 use Rattle.fork_loop.specs.declared.crews.Crew.{Crew}
-use Rattle.fork_loop.specs.Turns.{HearsTurn, HearsRow, SameBesides, RowHeard}
-use Rattle.fork_loop.proofs.Loops.{RowsTo, rows_first, rows_next}
+use Rattle.fork_loop.specs.declared.crews.Row.{Row}
+use Rattle.fork_loop.specs.Rows.{Has, SleepsIfLate}
+use Rattle.fork_loop.specs.Courses.{SameButWork, SameButLists, timer_of}
+use Rattle.fork_loop.specs.Turns.{HearsTurn, HearsRow, SameBesides, RowHeard, UnheardRow, AllUnheard, names_own, NamedRow, NamedHeard, HearsOnce, RowHearsOnce, Queues, Moves, QueuesDue, Queued}
+use Rattle.fork_loop.proofs.Lists.{has_left, has_last}
+use Rattle.fork_loop.proofs.Loops.{RowsTo, rows_next}
+use Rattle.fork_loop.proofs.RowLaws.{same_timer}
+use Rattle.fork_loop.proofs.RowRuns.{rest_itself, rest_then}
 
 pub take_next : {A : Type 0} (xs : List A) (i : ℕ) (x : A) → slice_get xs i ≡ Some x → take (i + 1) xs ≡ take i xs ++ x ∷ []
 take_next xs i x e = take_more xs i x (slice_get_within xs i x e) ∙ ap (λ y. take i xs ++ y ∷ []) (get_or_from_slice_get xs i x x e)
 
-pub heard_none : (at : ℕ) (ready : Listed) (stop : Bool) (s : ℕ) → HearsRow at ready stop s None None
-heard_none at ready stop s = tt
+pub heard_none : (made at : ℕ) (ready : Listed) (stop : Bool) (s : ℕ) → HearsRow made at ready stop None None
+heard_none made at ready stop s = tt
 
-pub row_hears : (at : ℕ) (ready : Listed) (stop : Bool) (t : ℕ) (before after : Option Session) (x y : Session) → before ≡ Some x → after ≡ Some y → HearsTurn at ready stop x y → HearsRow at ready stop t before after
-row_hears at ready stop t before after x y had has h = subst (λ (a : Option Session). HearsRow at ready stop t a after) (sym had) (subst (λ (a : Option Session). HearsRow at ready stop t (Some x) a) (sym has) h)
+-- a row whose session heard a turn
+pub row_hears : (made at : ℕ) (ready : Listed) (stop : Bool) (before after : Option Row) (x y : Row) → before ≡ Some x → after ≡ Some y → HearsTurn at ready stop x.member.session y.member.session → y.turn ≡ made → y.member.dumper ≡ x.member.dumper → HearsRow made at ready stop before after
+row_hears made at ready stop before after x y had has h e d = subst (λ (a : Option Row). HearsRow made at ready stop a after) (sym had) (subst (λ (a : Option Row). HearsRow made at ready stop (Some x) a) (sym has) (h, e, d))
+
+pub besides_itself : (crew : Crew) → SameBesides crew crew
+besides_itself crew = record { same = rest_itself crew; lists = record { work_same = refl; timers_same = refl }; ready_same = refl }
 
 pub besides_then : (one two three : Crew) → SameBesides one two → SameBesides two three → SameBesides one three
-besides_then one two three a b = record {
-  unborn_same = b.unborn_same ∙ a.unborn_same;
-  clock_same = b.clock_same ∙ a.clock_same;
-  made_same = b.made_same ∙ a.made_same;
-  ready_same = b.ready_same ∙ a.ready_same;
-  admitted_same = b.admitted_same ∙ a.admitted_same;
-  bounds_same = (b.bounds_same.0 ∙ a.bounds_same.0, b.bounds_same.1 ∙ a.bounds_same.1);
+besides_then one two three a b = record { same = rest_then one two three a.same b.same; lists = record { work_same = b.lists.work_same ∙ a.lists.work_same; timers_same = b.lists.timers_same ∙ a.lists.timers_same }; ready_same = b.ready_same ∙ a.ready_same }
+
+pub rows_heard_next : (k : ℕ) (before mid after : Crew) (next : Option ℕ) → RowsTo (λ s. HearsRow before.made before.clock before.ready true) (Some k) before mid → SameBesides before mid → RowHeard k mid after → IsFirstLive after.table (k + 1) next → RowsTo (λ s. HearsRow before.made before.clock before.ready true) next before after
+rows_heard_next k before mid after next done same r first =
+    rows_next (λ s. HearsRow before.made before.clock before.ready true) (heard_none before.made before.clock before.ready true) k before mid after next done
+    (subst (λ (l : Listed). HearsRow before.made before.clock l true (row_of mid.table k) (row_of after.table k)) same.ready_same
+    (subst (λ (m : ℕ). HearsRow before.made m mid.ready true (row_of mid.table k) (row_of after.table k)) same.same.clock_same
+    (subst (λ (m : ℕ). HearsRow m mid.clock mid.ready true (row_of mid.table k) (row_of after.table k)) same.same.made_same r.row))) r.others first
+
+-- ---- the entries of a turn, one after another
+
+or_false : (b : Bool) → (b || false) ≡ b
+or_false true = refl
+or_false false = refl
+
+or_true : (b : Bool) → (b || true) ≡ true
+or_true true = refl
+or_true false = refl
+
+pub names_more : (c : Config) (s : ℕ) (entries : List ReadyAt) (i : ℕ) (e : ReadyAt) → slice_get entries i ≡ Some e → names_own c s (take (i + 1) entries) ≡ (names_own c s (take i entries) || is_own_place c s e.place)
+names_more c s entries i e g =
+    ap (names_own c s) (take_next entries i e g)
+    ∙ (list_any-append (λ (x : ReadyAt). is_own_place c s x.place) (take i entries) (e ∷ [])
+    ∙ ap (λ b. names_own c s (take i entries) || b) (or_false (is_own_place c s e.place)))
+
+not_own : (c : Config) (s : ℕ) (q : Place) → (s ≡ q.session → is_program_door c q ≡ false → ⊥) → is_own_place c s q ≡ false
+not_own c s q h = false_from_ne_true (is_own_place c s q) (λ o. let k = own_is c s q o in h (sym k.0) k.1)
+
+names_same : (c : Config) (s : ℕ) (entries : List ReadyAt) (i : ℕ) (e : ReadyAt) → slice_get entries i ≡ Some e → is_own_place c s e.place ≡ false → names_own c s (take (i + 1) entries) ≡ names_own c s (take i entries)
+names_same c s entries i e g k = names_more c s entries i e g ∙ (ap (λ b. names_own c s (take i entries) || b) k ∙ or_false (names_own c s (take i entries)))
+
+names_now : (c : Config) (s : ℕ) (entries : List ReadyAt) (i : ℕ) (e : ReadyAt) → slice_get entries i ≡ Some e → is_own_place c s e.place ≡ true → names_own c s (take (i + 1) entries) ≡ true
+names_now c s entries i e g k = names_more c s entries i e g ∙ (ap (λ b. names_own c s (take i entries) || b) k ∙ or_true (names_own c s (take i entries)))
+
+-- an entry of the program door
+pub door_named : (c : Config) (before after : Crew) (i : ℕ) (e : ReadyAt) → slice_get before.ready.entries i ≡ Some e → is_program_door c e.place ≡ true → NamedHeard c (take i before.ready.entries) before after → NamedHeard c (take (i + 1) before.ready.entries) before after
+door_named c before after i e g door h = record {
+  rows = λ s. subst (λ b. NamedRow before.made before.clock before.ready b (row_of before.table s) (row_of after.table s)) (sym (names_same c s before.ready.entries i e g (not_own c s e.place (λ k f. true≢false (sym door ∙ f))))) (h.rows s);
+  same = h.same;
 }
 
-pub rows_heard_first : (at : ℕ) (stop : Bool) (before now : Crew) (next : Option ℕ) → now.table ≡ before.table → IsFirstLive now.table 0 next → RowsTo (HearsRow at before.ready stop) next before now
-rows_heard_first at stop before now next e f = go next (subst (λ (t : Table Session). IsFirstLive t 0 next) e f)
-  where
-    go : (o : Option ℕ) → IsFirstLive before.table 0 o → RowsTo (HearsRow at before.ready stop) o before now
-    go None k = λ s. subst (λ (t : Table Session). HearsRow at before.ready stop s (row_of before.table s) (row_of t s)) (sym e) (rows_first (HearsRow at before.ready stop) (heard_none at before.ready stop) before None k s)
-    go (Some j) k =
-        let r = rows_first (HearsRow at before.ready stop) (heard_none at before.ready stop) before (Some j) k in
-        (λ s b. subst (λ (t : Table Session). HearsRow at before.ready stop s (row_of before.table s) (row_of t s)) (sym e) (r.0 s b), λ s b. ap (λ (t : Table Session). row_of t s) e)
+twice_heard : (made at : ℕ) (ready : Listed) (before mid after : Option Row) → HearsRow made at ready false before mid → HearsOnce made at ready mid after → HearsRow made at ready false before after
+twice_heard made at ready None None None h o = tt
+twice_heard made at ready (Some x) (Some y) (Some z) h o = (let e = h.1 in subst (HearsTurn at ready false x.member.session) (sym (o.kept (omega (arith, e)))) h.0, o.turn_is, o.dumper_same ∙ h.2)
+twice_heard made at ready None None (Some z) h o = absurd o
+twice_heard made at ready None (Some y) after h o = absurd h
+twice_heard made at ready (Some x) None after h o = absurd h
+twice_heard made at ready (Some x) (Some y) None h o = absurd o
 
-pub rows_heard_next : (at : ℕ) (stop : Bool) (k : ℕ) (before mid after : Crew) (next : Option ℕ) → RowsTo (HearsRow at before.ready stop) (Some k) before mid → SameBesides before mid → RowHeard k at stop mid after → IsFirstLive after.table (k + 1) next → RowsTo (HearsRow at before.ready stop) next before after
-rows_heard_next at stop k before mid after next done same r first =
-    rows_next (HearsRow at before.ready stop) (heard_none at before.ready stop) k before mid after next done
-    (subst (λ (l : Listed). HearsRow at l stop k (row_of mid.table k) (row_of after.table k)) same.ready_same r.row) r.others first
+once_heard : (made at : ℕ) (ready : Listed) (before after : Option Row) → UnheardRow made before → HearsOnce made at ready before after → HearsRow made at ready false before after
+once_heard made at ready None None u o = tt
+once_heard made at ready (Some x) (Some y) u o = (o.hears u.0, o.turn_is, o.dumper_same)
+once_heard made at ready None (Some y) u o = absurd o
+once_heard made at ready (Some x) None u o = absurd o
+
+named_once : (made at : ℕ) (ready : Listed) (b : Bool) (before mid after : Option Row) → UnheardRow made before → NamedRow made at ready b before mid → HearsOnce made at ready mid after → HearsRow made at ready false before after
+named_once made at ready true before mid after u h o = twice_heard made at ready before mid after h o
+named_once made at ready false before mid after u h o = once_heard made at ready before after u (subst (λ (r : Option Row). HearsOnce made at ready r after) h o)
+
+-- an entry of a session
+pub row_named : (c : Config) (before mid after : Crew) (i : ℕ) (e : ReadyAt) → AllUnheard before → slice_get before.ready.entries i ≡ Some e → is_program_door c e.place ≡ false → NamedHeard c (take i before.ready.entries) before mid → RowHearsOnce e.place.session mid after → NamedHeard c (take (i + 1) before.ready.entries) before after
+row_named c before mid after i e unheard g door h r = record { rows = λ s. go s (cases_eq s e.place.session); same = besides_then before mid after h.same r.same }
+  where
+    once : HearsOnce before.made before.clock before.ready (row_of mid.table e.place.session) (row_of after.table e.place.session)
+    once =
+        subst (λ (l : Listed). HearsOnce before.made before.clock l (row_of mid.table e.place.session) (row_of after.table e.place.session)) h.same.ready_same
+        (subst (λ (m : ℕ). HearsOnce before.made m mid.ready (row_of mid.table e.place.session) (row_of after.table e.place.session)) h.same.same.clock_same
+        (subst (λ (m : ℕ). HearsOnce m mid.clock mid.ready (row_of mid.table e.place.session) (row_of after.table e.place.session)) h.same.same.made_same r.row))
+
+    here : NamedRow before.made before.clock before.ready (names_own c e.place.session (take (i + 1) before.ready.entries)) (row_of before.table e.place.session) (row_of after.table e.place.session)
+    here =
+        subst (λ b. NamedRow before.made before.clock before.ready b (row_of before.table e.place.session) (row_of after.table e.place.session)) (sym (names_now c e.place.session before.ready.entries i e g (own_from c e.place.session e.place refl door)))
+        (named_once before.made before.clock before.ready (names_own c e.place.session (take i before.ready.entries)) (row_of before.table e.place.session) (row_of mid.table e.place.session) (row_of after.table e.place.session) (unheard e.place.session) (h.rows e.place.session) once)
+
+    go : (s : ℕ) → (s ≡ e.place.session) ⊎ (s ≡ e.place.session → ⊥) → NamedRow before.made before.clock before.ready (names_own c s (take (i + 1) before.ready.entries)) (row_of before.table s) (row_of after.table s)
+    go s (inl k) = subst (λ (x : ℕ). NamedRow before.made before.clock before.ready (names_own c x (take (i + 1) before.ready.entries)) (row_of before.table x) (row_of after.table x)) (sym k) here
+    go s (inr apart) =
+        subst (λ b. NamedRow before.made before.clock before.ready b (row_of before.table s) (row_of after.table s)) (sym (names_same c s before.ready.entries i e g (not_own c s e.place (λ k f. apart k))))
+        (subst (NamedRow before.made before.clock before.ready (names_own c s (take i before.ready.entries)) (row_of before.table s)) (sym (r.others s apart)) (h.rows s))
+
+named_sleeps : (made at : ℕ) (ready : Listed) (b : Bool) (before mid : Option Row) → UnheardRow made before → NamedRow made at ready b before mid → SleepsIfLate made mid
+named_sleeps made at ready false before mid u h = subst (SleepsIfLate made) (sym h) (unheard_sleeps before u)
+  where
+    unheard_sleeps : (row : Option Row) → UnheardRow made row → SleepsIfLate made row
+    unheard_sleeps None v = tt
+    unheard_sleeps (Some x) v = λ l. v.1
+named_sleeps made at ready true None None u h = tt
+named_sleeps made at ready true (Some x) (Some y) u h = let e = h.1 in λ l. absurd (omega (arith, l, e))
+named_sleeps made at ready true None (Some y) u h = absurd h
+named_sleeps made at ready true (Some x) None u h = absurd h
+
+pub sleeps_there : (c : Config) (before mid : Crew) (entries : List ReadyAt) (s : ℕ) → AllUnheard before → NamedHeard c entries before mid → SleepsIfLate mid.made (row_of mid.table s)
+sleeps_there c before mid entries s unheard h = subst (λ (m : ℕ). SleepsIfLate m (row_of mid.table s)) (sym h.same.same.made_same) (named_sleeps before.made before.clock before.ready (names_own c s entries) (row_of before.table s) (row_of mid.table s) (unheard s) (h.rows s))
+
+-- nothing was named yet
+pub none_named : (c : Config) (crew : Crew) → NamedHeard c [] crew crew
+none_named c crew = record { rows = λ s. refl; same = besides_itself crew }
+
+-- ---- the list of work
+
+pub none_queued : (c : Config) (crew : Crew) → Queues c [] crew crew
+none_queued c crew = record { named = λ s e. absurd (true≢false (sym e)); kept = λ s h. h; same = record { table_same = refl; timers_same = refl; same = rest_itself crew; ready_same = refl } }
+
+pub work_itself : (crew : Crew) → SameButWork crew crew
+work_itself crew = record { table_same = refl; timers_same = refl; same = rest_itself crew; ready_same = refl }
+
+pub work_then : (one two three : Crew) → SameButWork one two → SameButWork two three → SameButWork one three
+work_then one two three a b = record { table_same = b.table_same ∙ a.table_same; timers_same = b.timers_same ∙ a.timers_same; same = rest_then one two three a.same b.same; ready_same = b.ready_same ∙ a.ready_same }
+
+pub door_queued : (c : Config) (before after : Crew) (i : ℕ) (e : ReadyAt) → slice_get before.ready.entries i ≡ Some e → is_program_door c e.place ≡ true → Queues c (take i before.ready.entries) before after → Queues c (take (i + 1) before.ready.entries) before after
+door_queued c before after i e g door q = record {
+  named = λ s n. q.named s (sym (names_same c s before.ready.entries i e g (not_own c s e.place (λ k f. true≢false (sym door ∙ f)))) ∙ n);
+  kept = q.kept;
+  same = q.same;
+}
+
+pub row_queued : (c : Config) (before mid after : Crew) (i : ℕ) (e : ReadyAt) → slice_get before.ready.entries i ≡ Some e → is_program_door c e.place ≡ false → Queues c (take i before.ready.entries) before mid → after.work.items ≡ mid.work.items ++ e.place.session ∷ [] → SameButWork mid after → Queues c (take (i + 1) before.ready.entries) before after
+row_queued c before mid after i e g door q w same = record { named = λ s n. go s n (cases_eq s e.place.session); kept = λ s h. more s (q.kept s h); same = work_then before mid after q.same same }
+  where
+    more : (s : ℕ) → Has s mid.work.items → Has s after.work.items
+    more s h = subst (Has s) (sym w) (has_left s mid.work.items (e.place.session ∷ []) h)
+
+    go : (s : ℕ) → names_own c s (take (i + 1) before.ready.entries) ≡ true → (s ≡ e.place.session) ⊎ (s ≡ e.place.session → ⊥) → Has s after.work.items
+    go s n (inl k) = subst (λ (x : ℕ). Has x after.work.items) (sym k) (subst (Has e.place.session) (sym w) (has_last e.place.session mid.work.items))
+    go s n (inr apart) = more s (q.named s (sym (names_same c s before.ready.entries i e g (not_own c s e.place (λ k f. apart k))) ∙ n))
+
+-- ---- the timers
+
+pub none_moved : (crew : Crew) → Moves crew crew
+none_moved crew = record { kept = λ s h. h; moved = λ s. inl refl; same = record { table_same = refl; same = rest_itself crew; ready_same = refl } }
+
+pub lists_then : (one two three : Crew) → SameButLists one two → SameButLists two three → SameButLists one three
+lists_then one two three a b = record { table_same = b.table_same ∙ a.table_same; same = rest_then one two three a.same b.same; ready_same = b.ready_same ∙ a.ready_same }
+
+-- one more has fallen due
+pub one_longer : (work more : List ℕ) (k : ℕ) → more ≡ work ++ k ∷ [] → length more ≡ length work + 1
+one_longer work more k e = ap length e ∙ length-append work (k ∷ [])
+
+pub one_kept : (s k : ℕ) (work more : List ℕ) → more ≡ work ++ k ∷ [] → Has s work → Has s more
+one_kept s k work more w h = subst (Has s) (sym w) (has_left s work (k ∷ []) h)
+
+pub one_moved : (s k : ℕ) (work more : List ℕ) (old mid new : FinMap nat_cmp ℕ) → new ≡ remove mid k → more ≡ work ++ k ∷ [] → (get mid s ≡ get old s) ⊎ (Has s work × (get mid s ≡ None)) → (get new s ≡ get old s) ⊎ (Has s more × (get new s ≡ None))
+one_moved s k work more old mid new t w m = go (cases_eq s k) m
+  where
+    left : s ≢ k → get new s ≡ get mid s
+    left apart = rw t (got_left mid k s apart)
+
+    gone : s ≡ k → get new s ≡ None
+    gone e = rw t (got_removed mid k s e)
+
+    go : (s ≡ k) ⊎ (s ≡ k → ⊥) → (get mid s ≡ get old s) ⊎ (Has s work × (get mid s ≡ None)) → (get new s ≡ get old s) ⊎ (Has s more × (get new s ≡ None))
+    go (inl e) m = inr (subst (λ (x : ℕ). Has x more) (sym e) (subst (Has k) (sym w) (has_last k work)), gone e)
+    go (inr apart) (inl e) = inl (left apart ∙ e)
+    go (inr apart) (inr h) = inr (one_kept s k work more w h.0, left apart ∙ h.1)
+
+-- the key that has fallen due is taken out
+pub fewer_timers : (m : FinMap nat_cmp ℕ) (k at : ℕ) → get m k ≡ Some at → len (remove m k) < len m
+fewer_timers m k at e = go (cases_eq (len m) 0)
+  where
+    there : contains_key m k ≡ true
+    there = ap is_some e
+
+    removed : len (remove m k) ≡ len m - 1
+    removed = len-remove nat_cmp_total m k ∙ ap (λ b. cond b (len m - 1) (len m)) there
+
+    go : (len m ≡ 0) ⊎ (len m ≡ 0 → ⊥) → len (remove m k) < len m
+    go (inl z) = let y : None ≡ Some at = sym (ap (λ (n : FinMap nat_cmp ℕ). get n k) (empty_of_len m z) ∙ get-empty nat_cmp k) ∙ e in let x : ⊥ = cc in absurd x
+    go (inr z) = let r = removed in omega (arith, r, z)
+
+pub fewer_by : (m n : FinMap nat_cmp ℕ) (k at : ℕ) → n ≡ remove m k → get m k ≡ Some at → len n < len m
+fewer_by m n k at e g = rw e (fewer_timers m k at g)
+
+-- ---- all sessions in the list of work
+
+abbrev pub QueuedTo : Option ℕ → Table Row → List ℕ → Type 0
+QueuedTo None table work = (s : ℕ) → is_some (row_of table s) ≡ true → Has s work
+QueuedTo (Some k) table work = (s : ℕ) → s < k → is_some (row_of table s) ≡ true → Has s work
+
+no_row : {P : Type 0} (row : Option Row) → row ≡ None → is_some row ≡ true → P
+no_row row e f = absurd (false≢true (sym (ap is_some e) ∙ f))
+
+pub queued_first : (crew : Crew) (first : Option ℕ) → IsFirstLive crew.table 0 first → QueuedTo first crew.table crew.work.items
+queued_first crew None f = λ s e. no_row (row_of crew.table s) (f s (omega arith)) e
+queued_first crew (Some k) f = λ s b e. no_row (row_of crew.table s) (f.2 s (omega arith) b) e
+
+pub queued_next : (k : ℕ) (table : Table Row) (work more : List ℕ) (next : Option ℕ) → QueuedTo (Some k) table work → more ≡ work ++ k ∷ [] → IsFirstLive table (k + 1) next → QueuedTo next table more
+queued_next k table work more next q w f = go next f
+  where
+    one : (s : ℕ) → (s < k) ⊎ (k ≤ s) → s < k + 1 → is_some (row_of table s) ≡ true → Has s more
+    one s (inl b) l e = subst (Has s) (sym w) (has_left s work (k ∷ []) (q s b e))
+    one s (inr b) l e = let same : s ≡ k = omega (arith, b, l) in subst (λ (x : ℕ). Has x more) (sym same) (subst (Has k) (sym w) (has_last k work))
+
+    go : (o : Option ℕ) → IsFirstLive table (k + 1) o → QueuedTo o table more
+    go None h = λ s e. each s (cases_lt s (k + 1)) e
+      where
+        each : (s : ℕ) → (s < k + 1) ⊎ (k + 1 ≤ s) → is_some (row_of table s) ≡ true → Has s more
+        each s (inl l) e = one s (cases_lt s k) l e
+        each s (inr l) e = no_row (row_of table s) (h s l) e
+    go (Some j) h = λ s b e. each s (cases_lt s (k + 1)) b e
+      where
+        each : (s : ℕ) → (s < k + 1) ⊎ (k + 1 ≤ s) → s < j → is_some (row_of table s) ≡ true → Has s more
+        each s (inl l) b e = one s (cases_lt s k) l e
+        each s (inr l) b e = no_row (row_of table s) (h.2 s l b) e
+
+-- ---- after a turn
+
+pub on_ok : {A E P Q : Type 0} (r : Result A E) → (P → Q) → OnOk r P → OnOk r Q
+on_ok (Ok x) f p = f p
+on_ok (Err e) f p = tt
+
+pub all_queued : (c : Config) (before heard named after : Crew) → SameBesides before heard → Queues c heard.ready.entries heard named → QueuesDue named after → Queued c before after
+all_queued c before heard named after h q d = record {
+  named = λ s n. d.moves.kept s (q.named s (ap (λ (l : Listed). names_own c s l.entries) h.ready_same ∙ n));
+  moved = λ s. go s (d.moves.moved s);
+  ahead = λ s at e. (let k = d.ahead s at e in let l = q.same.same.clock_same in let m = h.same.clock_same in omega (arith, k, l, m));
+}
+  where
+    same : (s : ℕ) → timer_of named s ≡ timer_of before s
+    same s = same_timer s heard named q.same.timers_same ∙ same_timer s before heard h.lists.timers_same
+
+    go : (s : ℕ) → (timer_of after s ≡ timer_of named s) ⊎ (Has s after.work.items × (timer_of after s ≡ None)) → (timer_of after s ≡ timer_of before s) ⊎ (Has s after.work.items × (timer_of after s ≡ None))
+    go s (inl e) = inl (e ∙ same s)
+    go s (inr e) = inr e
+
+-- ---- what a turn that names nothing of a session leaves
+
+pub unnamed_own : (c : Config) (s : ℕ) (entries : List ReadyAt) → names_own c s entries ≡ false → own_entries c s entries ≡ []
+unnamed_own c s [] e = refl
+unnamed_own c s (x ∷ entries) e =
+    let p = or_parts (is_own_place c s x.place) (names_own c s entries) e in
+    (λ i. cond (p.0 i) (x ∷ own_entries c s entries) (own_entries c s entries)) ∙ unnamed_own c s entries p.1

@@ -1,5 +1,5 @@
 -- Where the door and all sessions wait, a wait is in order, until the least moment that one of them waits for.
-use Rattle.std.proofs.Common.{◌≡◌, refl, sym, ap, subst, ◌∙◌, ℕ, suc, ◌-◌, ◌<◌, ◌≤◌, ◌⊎◌, inl, inr, Bool, true, false, ◌&&◌, nat_lt, List, [], ◌∷◌, Option, Some, None, is_some, arith}
+use Rattle.std.proofs.Common.{◌≡◌, refl, sym, ap, ◌∙◌, ℕ, suc, ◌-◌, ◌<◌, ◌≤◌, ◌⊎◌, inl, inr, Bool, true, false, ◌&&◌, nat_lt, List, [], ◌∷◌, Option, Some, None, is_some, arith}
 use Rattle.std.proofs.lemmas.Bool.{false≢true}
 use Rattle.relay_model.specs.declared.commands.Config.{Config}
 use Rattle.relay_model.specs.declared.acts.Act.{Act}
@@ -10,125 +10,89 @@ use Rattle.relay_model.specs.Sessions.{admitted, holds, numbers}
 use Rattle.relay_model.specs.May.{Legal}
 use Rattle.relay_model.specs.declared.acts.Act.TheVariants as acts
 use Rattle.relay_model.specs.Rest.{SessionRests}
-use Rattle.relay_core.specs.declared.sessions.Session.{Session}
-use Rattle.relay_core.specs.declared.wishes.Wish.TheVariants as sleeps
-use Rattle.relay_core.specs.Sessions.{Stands, wish_of}
-use Rattle.relay_core.specs.States.{Sleeps, Wished as SessionWished}
 use Rattle.relay_core.specs.Timers.{session_until}
-use Rattle.program_door.specs.Stands.{DoorStands}
 use Rattle.program_door.specs.Wishes.{GoesOn}
-use Rattle.relay_core.proofs.Homes.{lives_at_home}
 use Rattle.fork_loop.specs.declared.turned.RunEnd.{RunEnd}
 use Rattle.fork_loop.specs.Turned.{Rested, Further, Within, KeepsTo}
 use Rattle.program_door.proofs.Moves.{numbers_are}
 use Rattle.session_sleep.specs.Sleeps.{RestsUntil}
 use Rattle.session_sleep.proofs.Resting.{gone}
 use Rattle.session_crew.specs.Wholes.{Remains, WaitsUntil, IsLeastWait}
+use Rattle.session_crew.proofs.Members.{resting}
 use Rattle.session_crew.proofs.Rests.{all_rest}
 use Rattle.session_crew.proofs.Waits.{least_wait}
 use Rattle.fork_table.specs.Tables.{row_of}
 use Rattle.session_driver.specs.Seen.{Seen}
 use Rattle.fork_loop.specs.declared.crews.Crew.{Crew}
-use Rattle.fork_loop.specs.Courses.{RowIs, NextIs, Course, Somewhere, IsAsleep, AllAsleep}
+use Rattle.fork_loop.specs.declared.crews.Row.{Row}
+use Rattle.fork_loop.specs.Rows.{UpRow, RowIs}
+use Rattle.fork_loop.specs.Courses.{Course, Somewhere, Keeps, NoWork, timer_of}
+use Rattle.fork_loop.specs.Asking.{DoorWaits, DoorIsOver}
 use Rattle.fork_loop.specs.Endings.{MayEnd}
 use Rattle.fork_loop.specs.Waited.{InOrder}
-use Rattle.fork_loop.specs.Waits.{SameCrew, WaitsFor, IsLeast}
-use Rattle.fork_loop.proofs.DoorSteps.{row_may_end}
-
-is_sleep : (c : Config) (n : ℕ) (past : List Act) (s : ℕ) (until : Option ℕ) (x : Session) → Stands c n past s x → wish_of x ≡ sleeps.Sleep until → Sleeps c past s until
-is_sleep c n past s until x st w = subst (SessionWished c n past s) w st.allowed.0
+use Rattle.fork_loop.specs.Waits.{WaitsFor, IsLeast}
+use Rattle.fork_loop.proofs.Lists.{has_none}
+use Rattle.fork_loop.proofs.RowLaws.{row_up}
+use Rattle.fork_loop.proofs.DoorSteps.{course_may_end}
 
 -- what one session waits for, if it has begun
-pub record RowRests (c : Config) (past : List Act) (s : ℕ) (row : Option Session) : Type 0 where
+pub record RowRests (c : Config) (past : List Act) (s : ℕ) (timer : Option ℕ) : Type 0 where
   pub rests : SessionRests c past s
-  pub to : (m : ℕ) → session_until c past s ≡ Some m → (x : Session) × (row ≡ Some x) × (wish_of x ≡ sleeps.Sleep (Some m))
-  pub from : (m : ℕ) (x : Session) → row ≡ Some x → wish_of x ≡ sleeps.Sleep (Some m) → session_until c past s ≡ Some m
+  pub until_is : session_until c past s ≡ timer
 
 gone_until : (c : Config) (past : List Act) (s : ℕ) → RestsUntil c past s None → session_until c past s ≡ None
 gone_until c past s r = rw r.no_work r.moment_is
 
-row_rests : (c : Config) (n : ℕ) (past : List Act) (s : ℕ) (row : Option Session) → has_fork c ≡ true → s < admitted c past → RowIs c n past s row → IsAsleep row → RowRests c past s row
-row_rests c n past s None fork below r a =
-    let g = gone c past s fork (r below) in
-    let u = gone_until c past s g in
-    record {
-      rests = g.rests;
-      to = λ m e. (let z : None ≡ Some m = sym u ∙ e in let y : ⊥ = cc in absurd y);
-      from = λ m x e w. (let y : ⊥ = cc in absurd y);
-    }
-row_rests c n past s (Some x) fork below w a =
-    let k = is_sleep c n past s a.0 x w.stands a.1 in
-    record {
-      rests = k.rests;
-      to = λ m e. (x, refl, a.1 ∙ ap sleeps.Sleep (k.until_is ∙ e));
-      from = λ m y e v. (
-          let same : x ≡ y = cc in
-          let z : sleeps.Sleep a.0 ≡ sleeps.Sleep (Some m) = sym a.1 ∙ ap wish_of same ∙ v in
-          let u : a.0 ≡ Some m = cc in
-          sym k.until_is ∙ u);
-    }
+row_rests : (c : Config) (n : ℕ) (past : List Act) (s : ℕ) (work : List ℕ) (timer : Option ℕ) (row : Option Row) → has_fork c ≡ true → s < admitted c past → work ≡ [] → RowIs c n past s work timer row → RowRests c past s timer
+row_rests c n past s work timer None fork below e r =
+    let g = gone c past s fork (r.0 below) in
+    record { rests = g.rests; until_is = gone_until c past s g ∙ sym r.1 }
+row_rests c n past s work timer (Some row) fork below e (inl r) = has_none s work e r.0
+row_rests c n past s work timer (Some row) fork below e (inr o) = let k = resting c n past s timer row.turn row.member.session o.0 in record { rests = k.0; until_is = k.1 }
 
 and_second : (a b : Bool) → (a && b) ≡ true → b ≡ true
 and_second true b e = e
 and_second false b e = absurd (false≢true e)
 
-row_holds : (c : Config) (n : ℕ) (past : List Act) (s : ℕ) (row : Option Session) → has_fork c ≡ true → RowIs c n past s row → is_some row ≡ true → (s < numbers c past) × (holds c past s ≡ true)
-row_holds c n past s None fork r e = absurd (false≢true e)
-row_holds c n past s (Some x) fork w e = let g = w.stands.fields.ground in (g.begun, and_second (nat_lt s (admitted c past)) (holds c past s) (rw fork at (lives_at_home c past s g.begun (λ f. g.home_held f w.unclosed))))
+row_holds : (c : Config) (n : ℕ) (past : List Act) (s : ℕ) (timer : Option ℕ) (row : Option Row) → has_fork c ≡ true → UpRow c n past s timer row → is_some row ≡ true → (s < numbers c past) × (holds c past s ≡ true)
+row_holds c n past s timer None fork r e = absurd (false≢true e)
+row_holds c n past s timer (Some row) fork r e = (r.begun, and_second (nat_lt s (admitted c past)) (holds c past s) (rw fork at r.lives))
 
-pub in_order : (c : Config) (n : ℕ) (start now : Seen) (past : List Act) (crew : Crew) (first until : Option ℕ) → Course c n start now past crew → Rested c past first crew → AllAsleep crew → IsLeast (WaitsFor first crew) until → InOrder c past until
-in_order c n start now past crew first until on rested asleep least = record {
-  rests = all_rest c n past first on.frame.run.legal on.frame.fork on.frame.run.undumped (record { door = rested.door; remains = left rested.remains; sessions = λ s below. (each s (begun s below)).rests });
+-- a timer that is set is that of a session that has begun
+set_begun : (c : Config) (n : ℕ) (past : List Act) (s m : ℕ) (timer : Option ℕ) (row : Option Row) → timer ≡ Some m → UpRow c n past s timer row → s < numbers c past
+set_begun c n past s m timer None e r = let y : None ≡ Some m = sym r.1 ∙ e in let x : ⊥ = cc in absurd x
+set_begun c n past s m timer (Some row) e r = r.begun
+
+pub in_order : (c : Config) (n : ℕ) (start now : Seen) (past : List Act) (crew : Crew) (first until : Option ℕ) → Course c n start now past crew → Rested c past first crew → NoWork crew → IsLeast (WaitsFor first crew) until → InOrder c past until
+in_order c n start now past crew first until on rested idle least = record {
+  rests = all_rest c n past first on.frame.run.legal on.frame.fork on.unowed (record { door = rested.door; remains = left rested.remains; sessions = λ s below. (each s (begun s below)).rests });
   is_until = least_wait c past until (go until least);
 }
   where
+    up : (s : ℕ) → UpRow c n past s (timer_of crew s) (row_of crew.table s)
+    up s = row_up c n past s crew.work.items (timer_of crew s) (row_of crew.table s) (on.rows s)
+
     left : GoesOn c past ⊎ ((s : ℕ) × (is_some (row_of crew.table s) ≡ true)) → Remains c past
     left (inl g) = inl g
-    left (inr w) = let h = row_holds c n past w.0 (row_of crew.table w.0) on.frame.fork (on.rows w.0) w.1 in inr (w.0, h.0, h.1)
+    left (inr w) = let h = row_holds c n past w.0 (timer_of crew w.0) (row_of crew.table w.0) on.frame.fork (up w.0) w.1 in inr (w.0, h.0, h.1)
 
     begun : (s : ℕ) → s < numbers c past → s < admitted c past
     begun s below = let e = numbers_are c past on.frame.fork in omega (arith, below, e)
 
-    each : (s : ℕ) → s < admitted c past → RowRests c past s (row_of crew.table s)
-    each s below = row_rests c n past s (row_of crew.table s) on.frame.fork below (on.rows s) (asleep s)
+    each : (s : ℕ) → s < admitted c past → RowRests c past s (timer_of crew s)
+    each s below = row_rests c n past s crew.work.items (timer_of crew s) (row_of crew.table s) on.frame.fork below idle (on.rows s)
 
     to : (m : ℕ) → WaitsUntil c past m → WaitsFor first crew m
     to m (inl e) = inl (rested.door.until_is ∙ e)
-    to m (inr w) = let r = (each w.0 (begun w.0 w.1)).to m w.2 in inr (w.0, r.0, r.1, r.2)
-
-    has_begun : (s : ℕ) (x : Session) → row_of crew.table s ≡ Some x → s < numbers c past
-    has_begun s x e = (subst (RowIs c n past s) e (on.rows s)).stands.fields.ground.begun
+    to m (inr w) = inr (w.0, sym (each w.0 (begun w.0 w.1)).until_is ∙ w.2)
 
     from : (m : ℕ) → WaitsFor first crew m → WaitsUntil c past m
     from m (inl e) = inl (sym rested.door.until_is ∙ e)
-    from m (inr w) = let b = has_begun w.0 w.1 w.2 in inr (w.0, b, (each w.0 (begun w.0 b)).from m w.1 w.2 w.3)
+    from m (inr w) = let b = set_begun c n past w.0 m (timer_of crew w.0) (row_of crew.table w.0) w.1 (up w.0) in inr (w.0, b, (each w.0 (begun w.0 b)).until_is ∙ w.1)
 
     go : (o : Option ℕ) → IsLeast (WaitsFor first crew) o → IsLeastWait c past o
     go None l = λ m w. l m (to m w)
     go (Some m) l = (from m l.0, λ k w. l.1 k (to k w))
-
--- ---- a crew of which nothing changed
-
-pub course_same : (c : Config) (n : ℕ) (start now : Seen) (past : List Act) (before after : Crew) → Course c n start now past before → SameCrew before after → Course c n start now past after
-course_same c n start now past before after on k =
-    let f = on.frame in
-    let same = k.same in
-    record {
-      frame = record {
-        fork = f.fork;
-        run = f.run;
-        door = subst (DoorStands c past) (sym same.door_same) f.door;
-        counts = record { admitted_is = same.admitted_same ∙ f.counts.admitted_is; children_is = same.bounds_same.0 ∙ f.counts.children_is; stop_is = same.bounds_same.1 ∙ f.counts.stop_is };
-        next = subst (NextIs c past) (sym same.unborn_same) f.next;
-        clock_is = same.clock_same ∙ f.clock_is;
-        made_is = f.made_is ∙ sym same.made_same;
-        unsaid = f.unsaid;
-      };
-      rows = λ s. subst (RowIs c n past s) (sym (k.rows_same s)) (on.rows s);
-    }
-
-pub asleep_same : (before after : Crew) → SameCrew before after → AllAsleep before → AllAsleep after
-asleep_same before after k h = λ s. subst IsAsleep (sym (k.rows_same s)) (h s)
 
 -- ---- the turns are used up
 
@@ -142,18 +106,9 @@ limit_ends c n start now past crew until on order used =
     let e = on.frame.made_is in
     let within = turns_within c n past on.frame.run.legal in
     let all_used : turns past ≡ n = omega (arith, e, within, used) in
-    record {
-      past = past;
-      frame = on.frame;
-      all = refl;
-      ends = inr (refl, all_used, order.rests);
-      rows = λ s. row_may_end c n past s whys.Stopped (row_of crew.table s) (inr (refl, all_used, order.rests)) (on.rows s);
-    }
+    course_may_end c n start now past whys.Stopped crew refl (inr (refl, all_used, order.rests)) on
 
 -- ---- one more turn
-
-pub further_same : (n : ℕ) (before mid after : Crew) → SameCrew before mid → mid.made < n → after.made ≡ suc mid.made → (before.made < n) × (after.made ≡ suc before.made)
-further_same n before mid after k few e = let m = k.same.made_same in (omega (arith, m, few), e ∙ ap suc m)
 
 pub further_made : (n : ℕ) (before mid after : Crew) → mid.made ≡ before.made → (mid.made < n) × (after.made ≡ suc mid.made) → (before.made < n) × (after.made ≡ suc before.made)
 further_made n before mid after m r = let few = r.0 in (omega (arith, m, few), r.1 ∙ ap suc m)
@@ -161,6 +116,14 @@ further_made n before mid after m r = let few = r.0 in (omega (arith, m, few), r
 pub further_then : (n : ℕ) (before mid after : Crew) (end : Option RunEnd) → mid.made ≡ before.made → Further n mid after end → Further n before after end
 further_then n before mid after None m r = further_made n before mid after m r
 further_then n before mid after (Some end) m r = r
+
+-- ---- after the door's calls
+
+pub door_waits : (c : Config) (old mid new : Seen) (one two three : Crew) (first : Option ℕ) → Somewhere c old one → Keeps c old mid one two → ((n : ℕ) (start : Seen) (past : List Act) → Course c n start mid past two → DoorWaits c n start new first three) → Somewhere c new three
+door_waits c old mid new one two three first at k w = let o = k at.n at.start at.past at.course in let d = w at.n at.start o.past o.course in record { n = at.n; start = at.start; past = d.past; course = d.course }
+
+pub door_over : (c : Config) (old mid new : Seen) (one two three : Crew) → Somewhere c old one → Keeps c old mid one two → ((n : ℕ) (start : Seen) (past : List Act) → Course c n start mid past two → DoorIsOver c n start new three) → Somewhere c new three
+door_over c old mid new one two three at k w = let o = k at.n at.start at.past at.course in let d = w at.n at.start o.past o.course in record { n = at.n; start = at.start; past = d.past; course = d.course }
 
 -- ---- until the loop ends
 

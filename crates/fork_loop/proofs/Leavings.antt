@@ -7,12 +7,15 @@ use Rattle.relay_model.specs.declared.acts.Why.{Why}
 use Rattle.relay_model.specs.declared.acts.Why.TheVariants as whys
 use Rattle.relay_model.specs.History.{memory_said}
 use Rattle.program_door.specs.Stands.{DoorStands}
+use Rattle.fork_table.specs.Tables.{row_of}
 use Rattle.session_driver.specs.Seen.{Seen}
 use Rattle.session_crew.specs.Crews.{MaySay}
 use Rattle.session_runs.specs.Pauses.{ends_all}
 use Rattle.fork_loop.specs.declared.crews.Crew.{Crew}
+use Rattle.fork_loop.specs.Courses.{AllSleepIfLate, OwesFor}
 use Rattle.fork_loop.specs.Endings.{MayEnd, CutsRows, RunsOut}
-use Rattle.fork_loop.specs.Waited.{Leaving, StopsAt}
+use Rattle.fork_loop.proofs.Spreading.{cut_leaves, sleeps_late}
+use Rattle.fork_loop.specs.Waited.{Leaving, OwesAtExit, StopsAt}
 
 may_say : (why : Why) (past : List Act) → ends_all why ≡ true → memory_said past ≡ false → MaySay why past
 may_say whys.Memory past e m = tt
@@ -23,6 +26,10 @@ may_say why past e m = absurd (false≢true e)
 stops_at : (c : Config) (n : ℕ) (past : List Act) (why : Why) → RunsOut c n past why → StopsAt n why past
 stops_at c n past why (inl m) e = let x : ⊥ = cc in absurd x
 stops_at c n past why (inr o) e = inr o.1
+
+owes_at : (c : Config) (past : List Act) (why : Why) → memory_said past ≡ false → OwesFor c past why → OwesAtExit c past why
+owes_at c past why m (inl e) = inl e
+owes_at c past why m (inr k) = inr (k, m)
 
 pub leaving : (c : Config) (n : ℕ) (start now : Seen) (why : Why) (before after : Crew) → MayEnd c n start now why before → CutsRows why before after → Leaving c n start now why after
 leaving c n start now why before after end cuts =
@@ -38,9 +45,13 @@ leaving c n start now why before after end cuts =
           may = may_say why end.past end.all f.unsaid.remembered;
           ends = inr end.ends;
           stops = stops_at c n end.past why end.ends;
+          owes = owes_at c end.past why f.unsaid.remembered end.owes;
         };
         counts = record { admitted_is = same.admitted_same ∙ f.counts.admitted_is; children_is = same.bounds_same.0 ∙ f.counts.children_is; stop_is = same.bounds_same.1 ∙ f.counts.stop_is };
         made_is = f.made_is ∙ sym same.made_same;
-        rows = λ s. cuts.rows s c n end.past (end.rows s);
+        rows = λ s. cut_leaves c n end.past before.made before.clock why s (row_of before.table s) (row_of after.table s) f.made_is (sym f.clock_is) (cuts.rows s) (end.rows s);
       };
     }
+
+pub all_sleep : (c : Config) (n : ℕ) (start now : Seen) (why : Why) (crew : Crew) → MayEnd c n start now why crew → AllSleepIfLate crew
+all_sleep c n start now why crew end s = sleeps_late c n end.past s why crew.made (row_of crew.table s) end.frame.made_is (end.rows s)

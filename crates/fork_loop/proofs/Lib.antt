@@ -1,5 +1,6 @@
 pub mod Begun
 pub mod Closings
+pub mod Counting
 pub mod DoorClosings
 pub mod DoorSteps
 pub mod Emptying
@@ -8,9 +9,12 @@ pub mod Freeing
 pub mod Hearing
 pub mod InOrder
 pub mod Leavings
+pub mod Lists
+pub mod Looking
 pub mod Loops
 pub mod Others
 pub mod Relayed
+pub mod RowLaws
 pub mod RowRuns
 pub mod Spreading
 pub mod Turning

@@ -2,13 +2,11 @@
 use Rattle.std.proofs.Common.{◌≡◌, refl, sym, subst, ◌∙◌, ℕ, ◌+◌, ◌-◌, ◌^◌, ◌<◌, ◌≤◌, ◌⊎◌, inl, inr, true, Option, Some, None, is_some, arith}
 use Rattle.std.proofs.lemmas.Bool.{cases_lt, cases_eq, false≢true}
 use Rattle.relay_model.specs.declared.commands.Config.{Config}
-use Rattle.relay_core.specs.declared.sessions.Session.{Session}
-use Rattle.program_door.proofs.Moves.{numbers_are}
 use Rattle.fork_table.specs.Tables.{row_of, IsFirstLive}
 use Rattle.session_driver.specs.Seen.{Seen}
-use Rattle.session_crew.specs.Crews.{Waker}
 use Rattle.fork_loop.specs.declared.crews.Crew.{Crew}
-use Rattle.fork_loop.specs.Courses.{RowIs, Keeps, OthersStay, IsAsleep, AsleepUpTo, Somewhere}
+use Rattle.fork_loop.specs.declared.crews.Row.{Row}
+use Rattle.fork_loop.specs.Courses.{Keeps, OthersStay, Somewhere}
 
 -- how many numbers are still ahead
 abbrev pub ahead : Option ℕ → ℕ
@@ -24,54 +22,9 @@ keeps_all c now crew = λ n start past on. record { past = past; course = on }
 pub keeps_then : (c : Config) (old mid new : Seen) (one two three : Crew) → Keeps c old mid one two → Keeps c mid new two three → Keeps c old new one three
 keeps_then c old mid new one two three f g = λ n start past on. let a = f n start past on in g n start a.past a.course
 
-no_row : (row : Option Session) → row ≡ None → IsAsleep row
-no_row row e = subst IsAsleep (sym e) tt
-
--- before the first one there are none
-pub from_first : (crew : Crew) (first : Option ℕ) → IsFirstLive crew.table 0 first → AsleepUpTo first crew
-from_first crew None f = λ s. no_row (row_of crew.table s) (f s (omega arith))
-from_first crew (Some k) f = (f.1, λ s b. no_row (row_of crew.table s) (f.2 s (omega arith) b))
-
 pub some_row : {T : Type 0} (o : Option T) → is_some o ≡ true → (x : T) × (o ≡ Some x)
 some_row None e = absurd (false≢true e)
 some_row (Some x) e = (x, refl)
-
--- a number with a row was admitted
-pub row_begun : (c : Config) (now : Seen) (crew : Crew) (k : ℕ) → Somewhere c now crew → is_some (row_of crew.table k) ≡ true → k < crew.table.admitted
-row_begun c now crew k at live =
-    let x = some_row (row_of crew.table k) live in
-    let w : Waker c at.n at.past k x.0 = subst (RowIs c at.n at.past k) x.1 (at.course.rows k) in
-    let b = w.stands.fields.ground.begun in
-    let e = numbers_are c at.past at.course.frame.fork in
-    let f = at.course.frame.counts.admitted_is in
-    omega (arith, b, e, f)
-
--- the row at k waits or is gone, and so all before the next one
-pub up_to_next : (k : ℕ) (before after : Crew) (next : Option ℕ) → ((s : ℕ) → s < k → IsAsleep (row_of before.table s)) → IsAsleep (row_of after.table k) → OthersStay k before after → IsFirstLive after.table (k + 1) next → AsleepUpTo next after
-up_to_next k before after next below here stay first = go next first
-  where
-    one : (s : ℕ) → s < k + 1 → IsAsleep (row_of after.table s)
-    one s b = split (cases_eq s k)
-      where
-        split : (s ≡ k) ⊎ (s ≡ k → ⊥) → IsAsleep (row_of after.table s)
-        split (inl e) = subst (λ (x : ℕ). IsAsleep (row_of after.table x)) (sym e) here
-        split (inr apart) = subst IsAsleep (sym (stay s apart)) (below s (lesser (cases_lt s k)))
-          where
-            lesser : (s < k) ⊎ (k ≤ s) → s < k
-            lesser (inl h) = h
-            lesser (inr h) = absurd (apart (omega (arith, b, h)))
-
-    go : (o : Option ℕ) → IsFirstLive after.table (k + 1) o → AsleepUpTo o after
-    go None f = λ s. each s (cases_lt s (k + 1))
-      where
-        each : (s : ℕ) → (s < k + 1) ⊎ (k + 1 ≤ s) → IsAsleep (row_of after.table s)
-        each s (inl h) = one s h
-        each s (inr h) = no_row (row_of after.table s) (f s h)
-    go (Some m) f = (f.1, λ s b. each s b (cases_lt s (k + 1)))
-      where
-        each : (s : ℕ) → s < m → (s < k + 1) ⊎ (k + 1 ≤ s) → IsAsleep (row_of after.table s)
-        each s b (inl h) = one s h
-        each s b (inr h) = no_row (row_of after.table s) (f.2 s h b)
 
 -- fewer are ahead
 pub fewer_ahead : (k : ℕ) (crew : Crew) (next : Option ℕ) → k < 2 ^ 32 → IsFirstLive crew.table (k + 1) next → ahead next < ahead (Some k)
@@ -81,18 +34,18 @@ fewer_ahead k crew (Some m) small f = let b = f.0 in omega (arith, small, b)
 -- ---- a loop that makes of each row another
 
 -- the rows before the next one were made others, and the rest are as they were
-abbrev pub RowsTo : (ℕ → Option Session → Option Session → Type 0) → Option ℕ → Crew → Crew → Type 0
+abbrev pub RowsTo : (ℕ → Option Row → Option Row → Type 0) → Option ℕ → Crew → Crew → Type 0
 RowsTo R None before after = (s : ℕ) → R s (row_of before.table s) (row_of after.table s)
 RowsTo R (Some k) before after = ((s : ℕ) → s < k → R s (row_of before.table s) (row_of after.table s)) × ((s : ℕ) → k ≤ s → row_of after.table s ≡ row_of before.table s)
 
-empty_rows : (R : ℕ → Option Session → Option Session → Type 0) → ((s : ℕ) → R s None None) → (s : ℕ) (one other : Option Session) → one ≡ None → other ≡ None → R s one other
-empty_rows R none s one other e f = subst (λ (x : Option Session). R s x other) (sym e) (subst (λ (x : Option Session). R s None x) (sym f) (none s))
+empty_rows : (R : ℕ → Option Row → Option Row → Type 0) → ((s : ℕ) → R s None None) → (s : ℕ) (one other : Option Row) → one ≡ None → other ≡ None → R s one other
+empty_rows R none s one other e f = subst (λ (x : Option Row). R s x other) (sym e) (subst (λ (x : Option Row). R s None x) (sym f) (none s))
 
-pub rows_first : (R : ℕ → Option Session → Option Session → Type 0) → ((s : ℕ) → R s None None) → (crew : Crew) (first : Option ℕ) → IsFirstLive crew.table 0 first → RowsTo R first crew crew
+pub rows_first : (R : ℕ → Option Row → Option Row → Type 0) → ((s : ℕ) → R s None None) → (crew : Crew) (first : Option ℕ) → IsFirstLive crew.table 0 first → RowsTo R first crew crew
 rows_first R none crew None f = λ s. empty_rows R none s (row_of crew.table s) (row_of crew.table s) (f s (omega arith)) (f s (omega arith))
 rows_first R none crew (Some k) f = (λ s b. empty_rows R none s (row_of crew.table s) (row_of crew.table s) (f.2 s (omega arith) b) (f.2 s (omega arith) b), λ s b. refl)
 
-pub rows_next : (R : ℕ → Option Session → Option Session → Type 0) → ((s : ℕ) → R s None None) → (k : ℕ) (before mid after : Crew) (next : Option ℕ) → RowsTo R (Some k) before mid → R k (row_of mid.table k) (row_of after.table k) → OthersStay k mid after → IsFirstLive after.table (k + 1) next → RowsTo R next before after
+pub rows_next : (R : ℕ → Option Row → Option Row → Type 0) → ((s : ℕ) → R s None None) → (k : ℕ) (before mid after : Crew) (next : Option ℕ) → RowsTo R (Some k) before mid → R k (row_of mid.table k) (row_of after.table k) → OthersStay k mid after → IsFirstLive after.table (k + 1) next → RowsTo R next before after
 rows_next R none k before mid after next done here stay first = go next first
   where
     same : (s : ℕ) → k < s → row_of after.table s ≡ row_of before.table s
@@ -102,8 +55,8 @@ rows_next R none k before mid after next done here stay first = go next first
     one s b = split (cases_eq s k)
       where
         split : (s ≡ k) ⊎ (s ≡ k → ⊥) → R s (row_of before.table s) (row_of after.table s)
-        split (inl e) = subst (λ (x : ℕ). R x (row_of before.table x) (row_of after.table x)) (sym e) (subst (λ (x : Option Session). R k x (row_of after.table k)) (done.1 k (omega arith)) here)
-        split (inr apart) = subst (λ (x : Option Session). R s (row_of before.table s) x) (sym (stay s apart)) (done.0 s (lesser (cases_lt s k)))
+        split (inl e) = subst (λ (x : ℕ). R x (row_of before.table x) (row_of after.table x)) (sym e) (subst (λ (x : Option Row). R k x (row_of after.table k)) (done.1 k (omega arith)) here)
+        split (inr apart) = subst (λ (x : Option Row). R s (row_of before.table s) x) (sym (stay s apart)) (done.0 s (lesser (cases_lt s k)))
           where
             lesser : (s < k) ⊎ (k ≤ s) → s < k
             lesser (inl h) = h

@@ -1,5 +1,5 @@
 -- What the acts of one session leave of the door and of all other sessions.
-use Rattle.std.proofs.Common.{◌≡◌, ◌≢◌, refl, sym, ◌∙◌, ℕ, ◌<◌, Bool, true, false, ◌||◌, ◌&&◌, List, ◌∷◌, Option, Some, None, arith}
+use Rattle.std.proofs.Common.{◌≡◌, ◌≢◌, refl, sym, ◌∙◌, ℕ, ◌<◌, inl, inr, Bool, true, false, ◌||◌, ◌&&◌, List, ◌∷◌, Option, Some, None, arith}
 use Rattle.std.proofs.lemmas.Bool.{false≢true, or_parts, false_from_ne_true}
 use Rattle.relay_model.specs.declared.commands.Config.{Config}
 use Rattle.relay_model.specs.declared.acts.Why.TheVariants as whys
@@ -11,7 +11,6 @@ use Rattle.relay_model.specs.History.{now as moment, turns, memory_said, stop_sa
 use Rattle.relay_model.specs.Sessions.{admitted, numbers, permits}
 use Rattle.relay_model.specs.May.{Legal}
 use Rattle.relay_model.specs.Frames.{IsForeign, is_common, is_turn, is_at}
-use Rattle.relay_core.specs.declared.sessions.Session.{Session}
 use Rattle.program_door.specs.declared.doors.Door.{Door}
 use Rattle.program_door.specs.Stands.{DoorStands}
 use Rattle.program_door.specs.Steps.{meets_left}
@@ -20,9 +19,13 @@ use Rattle.program_door.proofs.Held.{of_session}
 use Rattle.program_door.proofs.Moves.{numbers_are}
 use Rattle.session_sleep.proofs.Slept.{passes, begun_step, session_alike}
 use Rattle.session_driver.specs.Steps.{IsActOf}
-use Rattle.session_crew.proofs.Members.{stays}
+use Rattle.session_crew.proofs.Members.{through_acts}
 use Rattle.session_runs.specs.Runs.{Ran, stayed, acted}
-use Rattle.fork_loop.specs.Courses.{RowIs, Unsaid}
+use Rattle.fork_loop.specs.declared.crews.Row.{Row}
+use Rattle.fork_loop.specs.Rows.{RowIs}
+use Rattle.fork_loop.specs.Courses.{Unsaid}
+use Rattle.fork_loop.proofs.Counting.{counted_kept}
+use Rattle.fork_loop.proofs.RowLaws.{rouses_kept}
 
 -- what some acts leave
 pub record Leave (c : Config) (n : ℕ) (past since : List Act) (t : ℕ) : Type 0 where
@@ -31,7 +34,7 @@ pub record Leave (c : Config) (n : ℕ) (past since : List Act) (t : ℕ) : Type
   pub turns_same : turns since ≡ turns past
   pub unsaid : Unsaid past → Unsaid since
   pub door : (door : Door) → DoorStands c past door → DoorStands c since door
-  pub rows : (s : ℕ) (row : Option Session) → s ≢ t → RowIs c n past s row → RowIs c n since s row
+  pub rows : (s : ℕ) (work : List ℕ) (timer : Option ℕ) (row : Option Row) → s ≢ t → RowIs c n past s work timer row → RowIs c n since s work timer row
 
 -- ---- one act
 
@@ -64,13 +67,17 @@ unsaid_kept c (acts.Closed q why) past k u =
     record { remembered = said_kept (same_why why whys.Memory) (memory_said past) w.1 u.remembered; unstopped = said_kept (same_why why whys.Stopped) (stop_said past) w.0 u.unstopped }
 unsaid_kept c act past k u = record { remembered = u.remembered; unstopped = u.unstopped }
 
-row_kept : (c : Config) (n : ℕ) (act : Act) (past : List Act) (s : ℕ) (row : Option Session) → has_fork c ≡ true → IsForeign c s act → is_common c act ≡ false → admitted c (act ∷ past) ≡ admitted c past → RowIs c n past s row → RowIs c n (act ∷ past) s row
-row_kept c n act past s None fork f k same r = λ below.
-    let b : s < admitted c past = omega (arith, below, same) in
-    let e = numbers_are c past fork in
-    let m : s < numbers c past = omega (arith, b, e) in
-    (session_alike c s (act ∷ past) past (begun_step c act past s m) m (passes c s act past f k)).holds_same ∙ r b
-row_kept c n act past s (Some x) fork f k same r = stays c n act past s x f k r
+row_kept : (c : Config) (n : ℕ) (act : Act) (past : List Act) (s : ℕ) (work : List ℕ) (timer : Option ℕ) (row : Option Row) → has_fork c ≡ true → IsForeign c s act → is_common c act ≡ false → admitted c (act ∷ past) ≡ admitted c past → RowIs c n past s work timer row → RowIs c n (act ∷ past) s work timer row
+row_kept c n act past s work timer None fork f k same r = (
+  λ below.
+      let b : s < admitted c past = omega (arith, below, same) in
+      let e = numbers_are c past fork in
+      let m : s < numbers c past = omega (arith, b, e) in
+      (session_alike c s (act ∷ past) past (begun_step c act past s m) m (passes c s act past f k)).holds_same ∙ r.0 b,
+  r.1,
+)
+row_kept c n act past s work timer (Some row) fork f k same (inl r) = inl (r.0, rouses_kept c n act past s row f k r.1)
+row_kept c n act past s work timer (Some row) fork f k same (inr o) = inr (through_acts c n act past s timer row.turn row.member.session f k o.0, counted_kept c act past s row.member.dumper f o.1)
 
 pub act_leaves : (c : Config) (n : ℕ) (act : Act) (past : List Act) (t : ℕ) → has_fork c ≡ true → Legal c n (act ∷ past) → t < admitted c past → IsActOf c t act → is_common c act ≡ false → Leave c n past (act ∷ past) t
 act_leaves c n act past t fork legal begun here k =
@@ -82,13 +89,13 @@ act_leaves c n act past t fork legal begun here k =
       turns_same = turns_kept act past here.untimed;
       unsaid = unsaid_kept c act past k;
       door = λ door d. left_apart c act past door d p;
-      rows = λ s row apart r. row_kept c n act past s row fork (foreign_to c s t act here apart) k same r;
+      rows = λ s work timer row apart r. row_kept c n act past s work timer row fork (foreign_to c s t act here apart) k same r;
     }
 
 -- ---- all acts of one session
 
 pub ran_leaves : (c : Config) (n t : ℕ) (past since : List Act) → has_fork c ≡ true → Legal c n since → t < admitted c past → Ran c t past since → Leave c n past since t
-ran_leaves c n t past all fork legal begun stayed = record { admitted_same = refl; moment_same = refl; turns_same = refl; unsaid = λ u. u; door = λ door d. d; rows = λ s row apart r. r }
+ran_leaves c n t past all fork legal begun stayed = record { admitted_same = refl; moment_same = refl; turns_same = refl; unsaid = λ u. u; door = λ door d. d; rows = λ s work timer row apart r. r }
 ran_leaves c n t past all fork legal begun (acted act since here k ran) =
     let one = ran_leaves c n t past since fork legal.1 begun ran in
     let same = one.admitted_same in
@@ -99,5 +106,5 @@ ran_leaves c n t past all fork legal begun (acted act since here k ran) =
       turns_same = two.turns_same ∙ one.turns_same;
       unsaid = λ u. two.unsaid (one.unsaid u);
       door = λ door d. two.door door (one.door door d);
-      rows = λ s row apart r. two.rows s row apart (one.rows s row apart r);
+      rows = λ s work timer row apart r. two.rows s work timer row apart (one.rows s work timer row apart r);
     }

@@ -1,7 +1,7 @@
 -- When a closing of one session may end all others.
-use Rattle.std.proofs.Common.{◌≡◌, refl, sym, ap, subst, ◌∙◌, ℕ, inl, inr, Bool, true, false, ◌||◌, ◌&&◌, List, [], ◌∷◌, Option, Some, None, is_some, cond}
+use Rattle.std.proofs.Common.{◌≡◌, refl, sym, ap, subst, ◌∙◌, ℕ, ◌<◌, ◌≤◌, ◌⊎◌, arith, inl, inr, Bool, true, false, ◌||◌, ◌&&◌, List, [], ◌∷◌, Option, Some, None, is_some, cond}
 use Rattle.std.specs.List.{list_any}
-use Rattle.std.proofs.lemmas.Bool.{true≢false, false≢true, or_parts}
+use Rattle.std.proofs.lemmas.Bool.{true≢false, false≢true, or_parts, cases_lt}
 use Rattle.relay_model.specs.declared.commands.Config.{Config}
 use Rattle.relay_model.specs.declared.places.Place.{Place}
 use Rattle.relay_model.specs.declared.acts.Act.{Act}
@@ -11,7 +11,7 @@ use Rattle.relay_model.specs.declared.acts.Why.TheVariants as whys
 use Rattle.relay_model.specs.Choices.{only_if, first_some}
 use Rattle.relay_model.specs.Places.{same_place}
 use Rattle.relay_model.specs.Configs.{is_of, things}
-use Rattle.relay_model.specs.History.{now, held, memory_said, stop_said, same_why}
+use Rattle.relay_model.specs.History.{now, now as moment, turns, held, memory_said, stop_said, same_why}
 use Rattle.relay_model.specs.Moments.{closing_moment, idle_moment, reached}
 use Rattle.relay_model.specs.Openings.{ready}
 use Rattle.relay_model.specs.Cause.{cause, closed_why, is_end, accept_failed_for, listening_failed, opening_failed, faulted, finished}
@@ -22,13 +22,15 @@ use Rattle.relay_core.specs.declared.wishes.Wish.TheVariants as wishes
 use Rattle.relay_core.specs.Endings.{Ends, EndingIs}
 use Rattle.relay_core.specs.States.{Allowed, ClosesFor}
 use Rattle.relay_core.specs.Sessions.{Stands, IsGrounded, wish_of, ending_of}
-use Rattle.session_crew.specs.Crews.{Waker}
+use Rattle.session_crew.specs.Crews.{Waker, Woke, Leaver}
 use Rattle.session_runs.specs.Pauses.{Spreads, ends_all}
 use Rattle.fork_loop.specs.Courses.{Unsaid}
-use Rattle.fork_loop.specs.Endings.{MayLeave, MayLeaveRow, LeavesRow, CutRow, RunsOut}
+use Rattle.fork_loop.specs.declared.crews.Row.{Row}
+use Rattle.fork_loop.specs.Rows.{Roused, UpRow, SleepsIfLate}
+use Rattle.fork_loop.specs.Endings.{MayLeave, MayLeaveThen, MayLeaveRow, LeavesRow, CutRow, RunsOut}
 
-pub cut_none : (why : Why) (s : ℕ) → CutRow why s None None
-cut_none why s c n past h = h
+pub cut_none : (made at : ℕ) (why : Why) (s : ℕ) → CutRow made at why s None None
+cut_none made at why s = tt
 
 -- ---- what nothing has said
 
@@ -135,8 +137,37 @@ pub waker_may : (c : Config) (n : ℕ) (past : List Act) (s : ℕ) (why : Why) (
 waker_may c n past s why x (inl e) w = record { grounded = w.stands.fields.ground; ends = inr (inl (e, w.unclosed)); unclosed = w.unclosed }
 waker_may c n past s why x (inr e) w = record { grounded = w.stands.fields.ground; ends = inr (inr e); unclosed = w.unclosed }
 
+pub up_may : (c : Config) (n : ℕ) (past : List Act) (s : ℕ) (why : Why) (timer : Option ℕ) (row : Option Row) → RunsOut c n past why → UpRow c n past s timer row → MayLeaveRow c n past s why row
+up_may c n past s why timer None e r = r.0
+up_may c n past s why timer (Some row) e r = record {
+  current = λ h. waker_may c n past s why row.member.session e (r.current h);
+  late = λ h. let t = r.late h in (t.sleeps, λ new w. waker_may c n past s why new e (t.woken new w));
+}
+
+-- one that has heard the last turn
+pub heard_may : (c : Config) (n : ℕ) (past : List Act) (s : ℕ) (why : Why) (row : Row) → row.turn ≡ turns past → MayLeave c n past s why row.member.session → MayLeaveThen c n past s why row
+heard_may c n past s why row e m = record { current = λ h. m; late = λ h. absurd (omega (arith, h, e)) }
+
+-- then it sleeps where it hasn't heard that turn
+pub sleeps_late : (c : Config) (n : ℕ) (past : List Act) (s : ℕ) (why : Why) (made : ℕ) (row : Option Row) → turns past ≡ made → MayLeaveRow c n past s why row → SleepsIfLate made row
+sleeps_late c n past s why made None e m = tt
+sleeps_late c n past s why made (Some row) e m = λ h. (m.late (omega (arith, h, e))).0
+
 -- a row whose session was cut
-pub row_cut : (why : Why) (t : ℕ) (before after : Option Session) (x y : Session) → before ≡ Some x → after ≡ Some y → ((c : Config) (n : ℕ) (past : List Act) (s : ℕ) → IsGrounded c past s x → Ends c n past s why → Stands c n past s y) → ending_of y ≡ Some why → CutRow why t before after
-row_cut why t before after x y had has cut ending = λ c n past may.
-    let m : MayLeave c n past t why x = subst (MayLeaveRow c n past t why) had may in
-    subst (LeavesRow c n past t why) (sym has) (record { stands = cut c n past t m.grounded m.ends; ending = ending; unclosed = m.unclosed })
+pub row_cut : (made at : ℕ) (why : Why) (t : ℕ) (before after : Option Row) (x y z : Row) → before ≡ Some x → after ≡ Some z → Roused made at x y → z.turn ≡ y.turn → ((c : Config) (n : ℕ) (past : List Act) (s : ℕ) → IsGrounded c past s y.member.session → Ends c n past s why → Stands c n past s z.member.session) → ending_of z.member.session ≡ Some why → z.member.dumper ≡ y.member.dumper → CutRow made at why t before after
+row_cut made at why t before after x y z had has roused same cut ending counts =
+    subst (λ (r : Option Row). CutRow made at why t r after) (sym had)
+    (subst (CutRow made at why t (Some x)) (sym has) (same ∙ roused.turn_is, counts ∙ roused.dumper_same, λ c n past e m may. leaves c n past (brought c n past e m may (cases_lt x.turn made))))
+  where
+    brought : (c : Config) (n : ℕ) (past : List Act) → turns past ≡ made → moment past ≡ at → MayLeaveThen c n past t why x → (x.turn < made) ⊎ (made ≤ x.turn) → MayLeave c n past t why y.member.session
+    brought c n past e m may (inl b) = (may.late (omega (arith, b, e))).1 y.member.session (subst (λ (k : ℕ). Woke c n t k x.member.session y.member.session) (sym m) (roused.woken b c n t))
+    brought c n past e m may (inr b) = subst (MayLeave c n past t why) (sym (roused.kept b)) (may.current (omega (arith, b, e)))
+
+    leaves : (c : Config) (n : ℕ) (past : List Act) → MayLeave c n past t why y.member.session → Leaver c n past t why z.member.session
+    leaves c n past m = record { stands = cut c n past t m.grounded m.ends; ending = ending; unclosed = m.unclosed }
+
+pub cut_leaves : (c : Config) (n : ℕ) (past : List Act) (made at : ℕ) (why : Why) (s : ℕ) (before after : Option Row) → turns past ≡ made → moment past ≡ at → CutRow made at why s before after → MayLeaveRow c n past s why before → LeavesRow c n past s why after
+cut_leaves c n past made at why s None None e m cut may = may
+cut_leaves c n past made at why s (Some old) (Some new) e m cut may = cut.2 c n past e m may
+cut_leaves c n past made at why s None (Some new) e m cut may = absurd cut
+cut_leaves c n past made at why s (Some old) None e m cut may = absurd cut

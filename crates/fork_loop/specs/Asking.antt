@@ -13,7 +13,7 @@ use Rattle.session_driver.specs.Seen.{Seen}
 use Rattle.fork_loop.specs.declared.crews.Crew.{Crew}
 use Rattle.fork_loop.specs.declared.asked.Asked.{Asked}
 use Rattle.fork_loop.specs.declared.asked.Asked.TheVariants as asks
-use Rattle.fork_loop.specs.Courses.{NextIs, Course, Keeps, AllAsleep}
+use Rattle.fork_loop.specs.Courses.{NextIs, Course, Keeps, NoWork, SameLists}
 use Rattle.fork_loop.specs.Endings.{MayEnd}
 
 -- the next session is taken out, and nothing else changed
@@ -24,6 +24,7 @@ pub record SameButNext (before after : Crew) : Type 0 where
   pub admitted_same : after.table.admitted ≡ before.table.admitted
   pub bounds_same : SameBounds before.table after.table
   pub rows_same : (s : ℕ) → row_of after.table s ≡ row_of before.table s
+  pub lists : SameLists before after
   pub next : (c : Config) (past : List Act) → NextIs c past before.unborn → NextIs c past after.unborn
 
 -- it is the next one, and there is room for it
@@ -46,11 +47,11 @@ pub record DoorIsOver (c : Config) (n : ℕ) (start now : Seen) (crew : Crew) : 
 
 -- the door and all sessions came to this
 abbrev pub AskedIs : Config → Seen → Seen → Crew → Crew → Asked → Type 0
-AskedIs c old new before after (asks.Waits until) = ((n : ℕ) (start : Seen) (past : List Act) → Course c n start old past before → DoorWaits c n start new until after) × AllAsleep after × (after.made ≡ before.made)
-AskedIs c old new before after asks.Over = ((n : ℕ) (start : Seen) (past : List Act) → Course c n start old past before → DoorIsOver c n start new after) × AllAsleep after × (after.made ≡ before.made)
+AskedIs c old new before after (asks.Waits until) = ((n : ℕ) (start : Seen) (past : List Act) → Course c n start old past before → DoorWaits c n start new until after) × NoWork after × (after.made ≡ before.made)
+AskedIs c old new before after asks.Over = ((n : ℕ) (start : Seen) (past : List Act) → Course c n start old past before → DoorIsOver c n start new after) × NoWork after × (after.made ≡ before.made)
 AskedIs c old new before after (asks.Ends why) = (n : ℕ) (start : Seen) (past : List Act) → Course c n start old past before → MayEnd c n start new why after
 
 -- they did, or one more call of the door was made
 abbrev pub GoesOn : Config → Seen → Seen → Crew → Crew → Option Asked → Type 0
-GoesOn c old new before after None = Keeps c old new before after × AllAsleep after × (steps_of after.door < steps_of before.door) × (after.made ≡ before.made)
+GoesOn c old new before after None = Keeps c old new before after × NoWork after × (steps_of after.door < steps_of before.door) × (after.made ≡ before.made)
 GoesOn c old new before after (Some asked) = AskedIs c old new before after asked

@@ -1,7 +1,6 @@
 -- The loop at the beginning of a history.
 use Rattle.std.specs.Prelude.{◌≡◌, ℕ, true, []}
 use Rattle.relay_model.specs.declared.commands.Config.{Config}
-use Rattle.relay_model.specs.declared.commands.Dump.TheVariants as dumps
 use Rattle.relay_model.specs.declared.places.Place.{Place}
 use Rattle.relay_model.specs.Configs.{Fit, has_fork}
 use Rattle.relay_model.specs.Holding.{Free}
@@ -9,11 +8,10 @@ use Rattle.session_driver.specs.Seen.{Seen}
 use Rattle.fork_loop.specs.declared.crews.Crew.{Crew}
 use Rattle.fork_loop.specs.Courses.{Course}
 
--- a command with `fork` and without dumps
+-- a command with `fork`
 pub record Forks (c : Config) : Type 0 where
   pub fit : Fit c
   pub fork : has_fork c ≡ true
-  pub undumped : c.dump ≡ dumps.Off
 
 -- a run begins wherever nothing is held
 abbrev pub BeginsAll : Config → Crew → Type 0

@@ -1,22 +1,27 @@
 -- How the run of all sessions is ended.
-use Rattle.std.specs.Prelude.{◌≡◌, ◌⊎◌, ℕ, ◌<◌, true, false, List, Option, Some, None}
+use Rattle.std.specs.Prelude.{◌≡◌, ◌⊎◌, ℕ, ◌<◌, ◌≤◌, true, false, List, ◌∷◌, Option, Some, None, is_some}
 use Rattle.relay_model.specs.declared.commands.Config.{Config}
 use Rattle.relay_model.specs.declared.acts.Act.{Act}
+use Rattle.relay_model.specs.declared.acts.Act.TheVariants.{AcceptFailed}
 use Rattle.relay_model.specs.declared.acts.Why.{Why}
 use Rattle.relay_model.specs.declared.acts.Why.TheVariants as whys
-use Rattle.relay_model.specs.History.{turns}
-use Rattle.relay_model.specs.Rest.{Rest}
-use Rattle.relay_model.specs.Sessions.{admitted, holds}
+use Rattle.relay_model.specs.History.{now as moment, turns}
+use Rattle.relay_model.specs.Rest.{Rest, owed}
+use Rattle.relay_model.specs.Configs.{program_door}
+use Rattle.relay_model.specs.Sessions.{admitted, holds, live, numbers}
 use Rattle.relay_model.specs.Cause.{closed_why}
 use Rattle.relay_core.specs.declared.sessions.Session.{Session}
 use Rattle.relay_core.specs.Endings.{Ends}
 use Rattle.relay_core.specs.Sessions.{IsGrounded}
 use Rattle.fork_table.specs.Tables.{row_of}
 use Rattle.session_driver.specs.Seen.{Seen}
-use Rattle.session_crew.specs.Crews.{Leaver}
+use Rattle.session_driver.specs.Dumpers.{Counted}
+use Rattle.session_crew.specs.Crews.{Leaver, Woke}
 use Rattle.session_runs.specs.Pauses.{ends_all}
 use Rattle.fork_loop.specs.declared.crews.Crew.{Crew}
-use Rattle.fork_loop.specs.Courses.{Frame, SameRest, OthersStay}
+use Rattle.fork_loop.specs.declared.crews.Row.{Row}
+use Rattle.fork_loop.specs.Rows.{Sleeping, Has, UpRow}
+use Rattle.fork_loop.specs.Courses.{Frame, OwesFor, Course, CourseAt, Onward, Keeps, NoWork, SameRest, SameLists, OthersStay, timer_of}
 
 -- a session may be cut for this reason, and nothing of it was closed yet
 pub record MayLeave (c : Config) (n : ℕ) (past : List Act) (s : ℕ) (why : Why) (x : Session) : Type 0 where
@@ -24,15 +29,20 @@ pub record MayLeave (c : Config) (n : ℕ) (past : List Act) (s : ℕ) (why : Wh
   pub ends : Ends c n past s why
   pub unclosed : closed_why c past s ≡ None
 
+-- the same of a session, once it has heard the last turn
+pub record MayLeaveThen (c : Config) (n : ℕ) (past : List Act) (s : ℕ) (why : Why) (row : Row) : Type 0 where
+  pub current : turns past ≤ row.turn → MayLeave c n past s why row.member.session
+  pub late : row.turn < turns past → Sleeping row.member.session × ((new : Session) → Woke c n s (moment past) row.member.session new → MayLeave c n past s why new)
+
 -- the same of the row of a number; where no session has it, one that began holds nothing any more
-abbrev pub MayLeaveRow : Config → ℕ → List Act → ℕ → Why → Option Session → Type 0
+abbrev pub MayLeaveRow : Config → ℕ → List Act → ℕ → Why → Option Row → Type 0
 MayLeaveRow c n past s why None = s < admitted c past → holds c past s ≡ false
-MayLeaveRow c n past s why (Some x) = MayLeave c n past s why x
+MayLeaveRow c n past s why (Some row) = MayLeaveThen c n past s why row
 
 -- it was cut
-abbrev pub LeavesRow : Config → ℕ → List Act → ℕ → Why → Option Session → Type 0
+abbrev pub LeavesRow : Config → ℕ → List Act → ℕ → Why → Option Row → Type 0
 LeavesRow c n past s why None = s < admitted c past → holds c past s ≡ false
-LeavesRow c n past s why (Some x) = Leaver c n past s why x
+LeavesRow c n past s why (Some row) = Leaver c n past s why row.member.session
 
 -- memory is wanting, or the turns are used up while a wait is in order
 abbrev pub RunsOut : Config → ℕ → List Act → Why → Type 0
@@ -44,19 +54,82 @@ pub record MayEnd (c : Config) (n : ℕ) (start now : Seen) (why : Why) (crew : 
   pub frame : Frame c n start now past crew
   pub all : ends_all why ≡ true
   pub ends : RunsOut c n past why
+  pub owes : OwesFor c past why
   pub rows : (s : ℕ) → MayLeaveRow c n past s why (row_of crew.table s)
 
--- a session that may be cut is
-abbrev pub CutRow : Why → ℕ → Option Session → Option Session → Type 0
-CutRow why s before after = (c : Config) (n : ℕ) (past : List Act) → MayLeaveRow c n past s why before → LeavesRow c n past s why after
+-- after so many turns, of which the last came at this moment, a session that may be cut is, and no row comes or goes
+abbrev pub CutRow : ℕ → ℕ → Why → ℕ → Option Row → Option Row → Type 0
+CutRow made at why s None None = Unit {0}
+CutRow made at why s (Some old) (Some new) =
+    (new.turn ≡ made)
+    × (new.member.dumper ≡ old.member.dumper)
+    × ((c : Config) (n : ℕ) (past : List Act) → turns past ≡ made → moment past ≡ at → MayLeaveThen c n past s why old → Leaver c n past s why new.member.session)
+CutRow made at why s old new = ⊥
 
 -- each is
 pub record CutsRows (why : Why) (before after : Crew) : Type 0 where
-  pub rows : (s : ℕ) → CutRow why s (row_of before.table s) (row_of after.table s)
+  pub rows : (s : ℕ) → CutRow before.made before.clock why s (row_of before.table s) (row_of after.table s)
   pub same : SameRest before after
+  pub lists : SameLists before after
 
 -- that of this number is, and nothing else changed
 pub record CutsRow (t : ℕ) (why : Why) (before after : Crew) : Type 0 where
-  pub row : CutRow why t (row_of before.table t) (row_of after.table t)
+  pub row : CutRow before.made before.clock why t (row_of before.table t) (row_of after.table t)
   pub others : OthersStay t before after
   pub same : SameRest before after
+  pub lists : SameLists before after
+
+-- ---- the calls of sessions
+
+-- the session of this number waits or is gone, or the run may be ended
+abbrev pub RowRuns : Config → Seen → Seen → ℕ → Crew → Crew → Option Why → Type 0
+RowRuns c old new t before after None =
+    ((n : ℕ) (start : Seen) (past : List Act) → CourseAt c n start old past t before → Onward c n start new after) × (after.work.items ≡ before.work.items) × SameRest before after
+RowRuns c old new t before after (Some why) = (n : ℕ) (start : Seen) (past : List Act) → CourseAt c n start old past t before → MayEnd c n start new why after
+
+-- no session has work any more, or the run may be ended
+abbrev pub AllRun : Config → Seen → Seen → Crew → Crew → Option Why → Type 0
+AllRun c old new before after None = Keeps c old new before after × NoWork after × SameRest before after
+AllRun c old new before after (Some why) = (n : ℕ) (start : Seen) (past : List Act) → Course c n start old past before → MayEnd c n start new why after
+
+-- each session that lives is awake or is to hear a turn
+pub record AllUp (c : Config) (n : ℕ) (start now : Seen) (past : List Act) (crew : Crew) : Type 0 where
+  pub frame : Frame c n start now past crew
+  pub unowed : owed c past ≡ None
+  pub rows : (s : ℕ) → UpRow c n past s (timer_of crew s) (row_of crew.table s)
+
+-- each session that lives is in the list of work
+abbrev pub AllQueued : Crew → Type 0
+AllQueued crew = (s : ℕ) → is_some (row_of crew.table s) ≡ true → Has s crew.work.items
+
+-- ---- a failed accepting
+
+-- the session may be cut for a failed accepting; it lives, and what it read is counted
+pub record FailedRow (c : Config) (n : ℕ) (past : List Act) (s : ℕ) (row : Row) : Type 0 where
+  pub may : MayLeaveThen c n past s whys.AcceptFailed row
+  pub begun : s < numbers c past
+  pub lives : live c past s ≡ true
+  pub counted : Counted c past s row.member.dumper
+
+-- the same of a number; where no session has it, one that began holds nothing any more, and its timer isn't set
+abbrev pub FailedAt : Config → ℕ → List Act → ℕ → Option ℕ → Option Row → Type 0
+FailedAt c n past s timer None = (s < admitted c past → holds c past s ≡ false) × (timer ≡ None)
+FailedAt c n past s timer (Some row) = FailedRow c n past s row
+
+-- accepting a peer has just failed
+pub record Failed (c : Config) (n : ℕ) (start now : Seen) (past : List Act) (crew : Crew) : Type 0 where
+  pub frame : Frame c n start now (AcceptFailed program_door ∷ past) crew
+  pub rows : (s : ℕ) → FailedAt c n (AcceptFailed program_door ∷ past) s (timer_of crew s) (row_of crew.table s)
+  pub idle : NoWork crew
+
+-- some run led here
+pub record SomeFailed (c : Config) (now : Seen) (crew : Crew) : Type 0 where
+  pub n : ℕ
+  pub start : Seen
+  pub past : List Act
+  pub failed : Failed c n start now past crew
+
+-- each session was cut and has closed all, or the run may be ended
+abbrev pub EndsRows : Config → Seen → Seen → Crew → Crew → Option Why → Type 0
+EndsRows c old new before after None = ((n : ℕ) (start : Seen) (past : List Act) → Failed c n start old past before → Onward c n start new after) × NoWork after × SameRest before after
+EndsRows c old new before after (Some why) = (n : ℕ) (start : Seen) (past : List Act) → Failed c n start old past before → MayEnd c n start new why after

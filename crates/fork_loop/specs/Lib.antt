@@ -4,6 +4,8 @@ pub mod Closings
 pub mod Courses
 pub mod Endings
 pub mod Left
+pub mod Looks
+pub mod Rows
 pub mod Turned
 pub mod Turns
 pub mod Vacated

@@ -2,7 +2,6 @@
 use Rattle.std.specs.Prelude.{◌≡◌, ◌⊎◌, ℕ, suc, ◌<◌, true, List, Option, Some, None, is_some}
 use Rattle.relay_model.specs.declared.commands.Config.{Config}
 use Rattle.relay_model.specs.declared.acts.Act.{Act}
-use Rattle.relay_model.specs.declared.acts.Why.TheVariants as whys
 use Rattle.program_door.specs.Wishes.{Sleeps, GoesOn}
 use Rattle.fork_table.specs.Tables.{row_of}
 use Rattle.session_driver.specs.Seen.{Seen}
@@ -12,7 +11,7 @@ use Rattle.fork_loop.specs.declared.turned.RunEnd.TheVariants as ends
 use Rattle.fork_loop.specs.Asking.{DoorIsOver}
 use Rattle.fork_loop.specs.Courses.{Course, Onward}
 use Rattle.fork_loop.specs.Endings.{MayEnd}
-use Rattle.fork_loop.specs.Waited.{Leaving}
+use Rattle.fork_loop.specs.Waited.{Stopping}
 
 -- no session lives
 abbrev pub NoneLives : Crew → Type 0
@@ -28,7 +27,7 @@ abbrev pub RunIs : Config → ℕ → Seen → Seen → Crew → Option RunEnd �
 RunIs c n start new after None = Onward c n start new after
 RunIs c n start new after (Some ends.Over) = DoorIsOver c n start new after × NoneLives after
 RunIs c n start new after (Some (ends.Ends why)) = MayEnd c n start new why after
-RunIs c n start new after (Some ends.Stops) = Leaving c n start new whys.Stopped after
+RunIs c n start new after (Some ends.Stops) = Stopping c n start new after
 
 -- a turn that goes on was one more of at most n
 abbrev pub Further : ℕ → Crew → Crew → Option RunEnd → Type 0

@@ -1,28 +1,36 @@
 -- What a wait makes of the loop.
-use Rattle.std.specs.Prelude.{◌≡◌, ◌⊎◌, ℕ, suc, true, List, Option}
+use Rattle.std.specs.Prelude.{◌≡◌, ◌⊎◌, ℕ, suc, ◌<◌, true, false, List, ◌∷◌, Option, Some, None}
 use Rattle.relay_model.specs.declared.commands.Config.{Config}
 use Rattle.relay_model.specs.declared.acts.Act.{Act}
+use Rattle.relay_model.specs.declared.acts.Act.TheVariants.{Turn}
 use Rattle.relay_model.specs.declared.acts.Why.{Why}
 use Rattle.relay_model.specs.declared.acts.Why.TheVariants as whys
 use Rattle.relay_model.specs.Configs.{has_fork}
-use Rattle.relay_model.specs.History.{turns}
-use Rattle.relay_model.specs.Rest.{Rest, until_of}
+use Rattle.relay_model.specs.Readiness.{copied_list}
+use Rattle.relay_model.specs.History.{turns, memory_said}
+use Rattle.relay_model.specs.Sessions.{admitted, holds}
+use Rattle.relay_model.specs.Rest.{Rest, owed, until_of}
 use Rattle.relay_core.specs.Told.{stop_turned}
 use Rattle.program_door.specs.declared.doors.Door.{Door}
 use Rattle.program_door.specs.Stands.{DoorStands}
 use Rattle.fork_table.specs.Tables.{row_of}
 use Rattle.session_driver.specs.Seen.{Seen}
-use Rattle.session_crew.specs.Crews.{IsSaid, MaySay}
+use Rattle.session_crew.specs.Crews.{IsSaid, MaySay, Sleeper}
 use Rattle.session_runs.specs.Runs.{Run}
 use Rattle.fork_loop.specs.declared.crews.Crew.{Crew}
+use Rattle.fork_loop.specs.declared.crews.Row.{Row}
 use Rattle.fork_loop.specs.declared.waited.Waited.{Waited}
 use Rattle.fork_loop.specs.declared.waited.Waited.TheVariants as waits
-use Rattle.fork_loop.specs.Courses.{Counts, Course, Onward}
+use Rattle.fork_loop.specs.Courses.{Counts, Unsaid, Course, Onward}
 use Rattle.fork_loop.specs.Endings.{LeavesRow, MayEnd, RunsOut}
 
 -- where it is a stop, a turn says stop, or the turns are used up
 abbrev pub StopsAt : ℕ → Why → List Act → Type 0
 StopsAt n why past = why ≡ whys.Stopped → (stop_turned past ≡ true) ⊎ (turns past ≡ n)
+
+-- no dump is owed, or the first closing for want of memory is still to come
+abbrev pub OwesAtExit : Config → List Act → Why → Type 0
+OwesAtExit c past why = (owed c past ≡ None) ⊎ ((why ≡ whys.Memory) × (memory_said past ≡ false))
 
 -- the run is ended for this reason, a stop or want of memory, and a closing for it may come
 pub record Exit (c : Config) (n : ℕ) (start now : Seen) (past : List Act) (why : Why) (door : Door) : Type 0 where
@@ -32,6 +40,7 @@ pub record Exit (c : Config) (n : ℕ) (start now : Seen) (past : List Act) (why
   pub may : MaySay why past
   pub ends : IsSaid why past ⊎ RunsOut c n past why
   pub stops : StopsAt n why past
+  pub owes : OwesAtExit c past why
 
 -- and each session was cut for it
 pub record LeavingAt (c : Config) (n : ℕ) (start now : Seen) (past : List Act) (why : Why) (crew : Crew) : Type 0 where
@@ -45,6 +54,25 @@ pub record Leaving (c : Config) (n : ℕ) (start now : Seen) (why : Why) (crew :
   pub past : List Act
   pub leaving : LeavingAt c n start now past why crew
 
+-- a session that sleeps
+abbrev pub SleepsRow : Config → ℕ → List Act → ℕ → Option Row → Type 0
+SleepsRow c n past s None = s < admitted c past → holds c past s ≡ false
+SleepsRow c n past s (Some row) = (until : Option ℕ) × (turn : ℕ) × Sleeper c n past s until turn row.member.session
+
+-- a turn that says stop came after these acts, and no session has heard it yet
+pub record StoppingAt (c : Config) (n : ℕ) (start now : Seen) (past : List Act) (until : Option ℕ) (crew : Crew) : Type 0 where
+  pub exit : Exit c n start now (Turn until crew.clock (copied_list crew.ready) true ∷ past) whys.Stopped crew.door
+  pub counts : Counts c past crew.table
+  pub made_is : suc (turns past) ≡ crew.made
+  pub unsaid : Unsaid past
+  pub rows : (s : ℕ) → SleepsRow c n past s (row_of crew.table s)
+
+-- so of some acts
+pub record Stopping (c : Config) (n : ℕ) (start now : Seen) (crew : Crew) : Type 0 where
+  pub past : List Act
+  pub until : Option ℕ
+  pub stopping : StoppingAt c n start now past until crew
+
 -- a wait was in order, until this moment
 pub record InOrder (c : Config) (past : List Act) (until : Option ℕ) : Type 0 where
   pub rests : Rest c past
@@ -53,5 +81,5 @@ pub record InOrder (c : Config) (past : List Act) (until : Option ℕ) : Type 0 
 -- where it was, the run goes on after the turn, or is stopped by it
 abbrev pub WaitedIs : Config → ℕ → Option ℕ → Seen → Seen → Crew → Crew → Waited → Type 0
 WaitedIs c n until old new before after waits.Goes = ((start : Seen) (past : List Act) → Course c n start old past before → InOrder c past until → Onward c n start new after) × (after.made ≡ suc before.made)
-WaitedIs c n until old new before after waits.Stops = (start : Seen) (past : List Act) → Course c n start old past before → InOrder c past until → Leaving c n start new whys.Stopped after
-WaitedIs c n until old new before after waits.Memory = (start : Seen) (past : List Act) → Course c n start old past before → MayEnd c n start new whys.Memory after
+WaitedIs c n until old new before after waits.Stops = (start : Seen) (past : List Act) → Course c n start old past before → InOrder c past until → Stopping c n start new after
+WaitedIs c n until old new before after waits.Memory = (start : Seen) (past : List Act) → Course c n start old past before → InOrder c past until → MayEnd c n start new whys.Memory after

@@ -7,11 +7,12 @@ ghost use Rattle.fork_table.specs.Tables.{HasRoom};
 ghost use Rattle.relay_model.specs.Configs.{Fit};
 ghost use Rattle.session_driver.specs.Seen.{seen};
 
-use crate::crews::Crew;
+use crate::crews::{Crew, Row};
 use door_driver::{DoorStepped, step};
 use fork_table::Steps;
 use relay_core::Unborn;
 use relay_model::{Config, NoMemory, Why};
+use session_runs::Member;
 use std::alloc::Global;
 use std::sync::ledger::Ledger;
 use world_trait::World;
@@ -28,8 +29,10 @@ pub enum Asked {
 }
 
 impl Crew {
-    ghost use Rattle.fork_loop.specs.Courses.{Somewhere, AllAsleep};
+    ghost use Rattle.fork_loop.specs.Courses.{Somewhere, SameRest, NoWork};
     ghost use Rattle.fork_loop.specs.Asking.{AskedIs, GoesOn, TakesNext, SameButNext};
+    ghost use Rattle.fork_loop.specs.Endings.{SomeFailed, EndsRows};
+    ghost use Rattle.fork_loop.specs.Looks.{LooksFew};
 
     /// Makes the calls of the door, and those of each session that its peers bring, until the door waits or is over.
     pub fn ask_door<W: World, L: Ledger>(
@@ -41,8 +44,9 @@ impl Crew {
     ) -> Asked
         requires fit { Fit config.now }
         requires course { Somewhere config.now (seen W.told W.held W.faults W.waits W.stops W.clock world.old) self.old }
-        requires asleep { AllAsleep self.old }
-        ensures { AskedIs config.now (seen W.told W.held W.faults W.waits W.stops W.clock world.old) (seen W.told W.held W.faults W.waits W.stops W.clock world.new) self.old self.new result }
+        requires idle { NoWork self.old }
+        ensures asks { AskedIs config.now (seen W.told W.held W.faults W.waits W.stops W.clock world.old) (seen W.told W.held W.faults W.waits W.stops W.clock world.new) self.old self.new result }
+        ensures looks { LooksFew 0 steps.old.ticks steps.new.ticks self.old self.new }
     {
         loop {
             if let Some(asked) = self.ask_once(alloc, world, config, steps) {
@@ -61,11 +65,12 @@ impl Crew {
     ) -> Option<Asked>
         requires fit { Fit config.now }
         requires course { Somewhere config.now (seen W.told W.held W.faults W.waits W.stops W.clock world.old) self.old }
-        requires asleep { AllAsleep self.old }
-        ensures { GoesOn config.now (seen W.told W.held W.faults W.waits W.stops W.clock world.old) (seen W.told W.held W.faults W.waits W.stops W.clock world.new) self.old self.new result }
+        requires idle { NoWork self.old }
+        ensures asks { GoesOn config.now (seen W.told W.held W.faults W.waits W.stops W.clock world.old) (seen W.told W.held W.faults W.waits W.stops W.clock world.new) self.old self.new result }
+        ensures looks { LooksFew 0 steps.old.ticks steps.new.ticks self.old self.new }
     {
         match self.take_next(alloc, config) {
-            Ok(unborn) => self.ask_for(unborn, world, config, steps),
+            Ok(unborn) => self.ask_for(unborn, alloc, world, config, steps),
             Err(NoMemory) => Some(Asked::Ends(Why::Memory)),
         }
     }
@@ -74,16 +79,18 @@ impl Crew {
     fn ask_for<W: World, L: Ledger>(
         &mut self,
         unborn: Unborn,
+        alloc: Global,
         world: &mut W,
         config: &Config,
         steps: &mut Steps<L>,
     ) -> Option<Asked>
         requires course { Somewhere config.now (seen W.told W.held W.faults W.waits W.stops W.clock world.old) self.old }
-        requires asleep { AllAsleep self.old }
+        requires idle { NoWork self.old }
         requires room { HasRoom self.old.table }
         requires taken { self.old.unborn ≡ None }
         requires next { (past : List Act) → self.old.table.admitted ≡ admitted config.now past → IsUnborn config.now (admitted config.now past) unborn }
-        ensures { GoesOn config.now (seen W.told W.held W.faults W.waits W.stops W.clock world.old) (seen W.told W.held W.faults W.waits W.stops W.clock world.new) self.old self.new result }
+        ensures asks { GoesOn config.now (seen W.told W.held W.faults W.waits W.stops W.clock world.old) (seen W.told W.held W.faults W.waits W.stops W.clock world.new) self.old self.new result }
+        ensures looks { LooksFew 0 steps.old.ticks steps.new.ticks self.old self.new }
     {
         let live = self.table.live();
         match step(&mut self.door, world, config, self.clock, live) {
@@ -93,7 +100,11 @@ impl Crew {
             }
             DoorStepped::Admitted(peer) => {
                 let number = self.table.next_number();
-                self.table.admit(unborn.accepted(self.clock, peer));
+                let session = unborn.accepted(self.clock, peer);
+                self.table.admit(Row {
+                    member: Member::new(alloc, session),
+                    turn: self.made,
+                });
                 match self.run_row(number, world, config, steps) {
                     Some(why) => Some(Asked::Ends(why)),
                     None => None,
@@ -101,8 +112,7 @@ impl Crew {
             }
             DoorStepped::AcceptFailed => {
                 self.unborn = Some(unborn);
-                self.cut_rows(Why::AcceptFailed, steps);
-                match self.run_rows(world, config, steps) {
+                match self.end_rows(world, config, steps) {
                     Some(why) => Some(Asked::Ends(why)),
                     None => None,
                 }
@@ -122,13 +132,36 @@ impl Crew {
         }
     }
 
-    /// The session that the next peer gets, with all its memory, and room for it in the table.
+    /// Cuts each session, since accepting a peer has failed, and has it close all that it holds. Answers the reason for
+    /// which the run is to be ended, if there is one.
+    fn end_rows<W: World, L: Ledger>(
+        &mut self,
+        world: &mut W,
+        config: &Config,
+        steps: &mut Steps<L>,
+    ) -> Option<Why>
+        requires { SomeFailed config.now (seen W.told W.held W.faults W.waits W.stops W.clock world.old) self.old }
+        ensures ends { EndsRows config.now (seen W.told W.held W.faults W.waits W.stops W.clock world.old) (seen W.told W.held W.faults W.waits W.stops W.clock world.new) self.old self.new result }
+        ensures rest { SameRest self.old self.new }
+    {
+        self.cut_rows(Why::AcceptFailed, steps);
+        match self.queue_all() {
+            Ok(()) => self.run_rows(world, config, steps),
+            Err(NoMemory) => Some(Why::Memory),
+        }
+    }
+
+    /// The session that the next peer gets, with all its memory, and room for it in the table, in the list of work and
+    /// among the timers.
     fn take_next(&mut self, alloc: Global, config: &Config) -> Result<Unborn, NoMemory>
         requires { Fit config.now }
         ensures taken { IfOk result (λ unborn. TakesNext config.now unborn self.old self.new) }
         ensures same { SameButNext self.old self.new }
     {
         self.table.reserve()?;
+        let most = self.table.live() as usize + 1;
+        self.work.reserve(most)?;
+        self.timers.reserve(most)?;
         match self.unborn.take() {
             Some(unborn) => Ok(unborn),
             None => Unborn::new(alloc, config, self.table.next_number()),

@@ -7,6 +7,8 @@ use fork_table::ForkTable;
 use program_door::Door;
 use relay_model::{Config, NoMemory, ReadyList};
 use std::alloc::Global;
+use std::collections::VecDeque;
+use timer_set::TimerSet;
 
 impl Crew {
     ghost use Rattle.fork_loop.specs.Births.{Forks, BeginsAll};
@@ -21,9 +23,12 @@ impl Crew {
         let scratch = vec![in alloc; 0; config.block as usize]?;
         let door = Door::new(config);
         let table = ForkTable::new(alloc, options.max_children, options.stop_after);
+        let timers = TimerSet::new(alloc);
         Ok(Crew {
             door,
             table,
+            work: VecDeque::new(alloc),
+            timers,
             unborn: None,
             ready,
             scratch,

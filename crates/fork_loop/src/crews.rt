@@ -3,14 +3,30 @@ ghost use Rattle.std.specs.Prelude.{◌<◌, ◌≤◌, vec_len};
 
 use fork_table::ForkTable;
 use program_door::Door;
-use relay_core::{Session, Unborn};
+use relay_core::Unborn;
 use relay_model::ReadyList;
+use session_runs::Member;
+use std::collections::VecDeque;
+use timer_set::TimerSet;
+
+/// A session that lives.
+#[derive(Drop)]
+pub struct Row {
+    pub member: Member,
+    /// How many turns were made when it last heard one. It sleeps through those that came since, or is to hear the
+    /// last.
+    pub turn: u64,
+}
 
 /// The program door, the session of each peer, and what the loop needs beside them.
 #[derive(Drop)]
 pub struct Crew {
     pub door: Door,
-    pub table: ForkTable<Session>,
+    pub table: ForkTable<Row>,
+    /// The numbers of the sessions that have work. All others sleep.
+    pub work: VecDeque<u32>,
+    /// The moment that each session waits for that waits for one, by its number.
+    pub timers: TimerSet,
     /// The next session, before its peer is asked for.
     pub unborn: Option<Unborn>,
     pub ready: ReadyList,

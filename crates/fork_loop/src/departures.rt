@@ -55,9 +55,16 @@ impl Crew {
         requires { SomeLeaving config.now (seen W.told W.held W.faults W.waits W.stops W.clock world.old) why self.old }
         ensures { EmptiesRow config.now (seen W.told W.held W.faults W.waits W.stops W.clock world.old) (seen W.told W.held W.faults W.waits W.stops W.clock world.new) number why self.old self.new }
     {
-        if let Some(session) = self.table.session_mut(number, steps) {
+        if let Some(row) = self.table.session_mut(number, steps) {
             let scratch = self.scratch.as_mut_slice();
-            close_all(session, &mut self.door, world, config, scratch, why);
+            close_all(
+                &mut row.member.session,
+                &mut self.door,
+                world,
+                config,
+                scratch,
+                why,
+            );
         }
     }
 }

@@ -1,16 +1,21 @@
 // The end of all sessions.
-ghost use Rattle.std.specs.Prelude.{◌≡◌};
+ghost use Rattle.std.specs.Prelude.{OnOk};
+ghost use Rattle.fork_loop.specs.Rows.{SleepsIfLate};
+ghost use Rattle.fork_table.specs.Tables.{row_of};
 
 use crate::crews::Crew;
+use crate::rows::rouse;
 use fork_table::Steps;
-use relay_model::Why;
+use relay_model::{NoMemory, Why};
 use std::sync::ledger::Ledger;
 
 impl Crew {
-    ghost use Rattle.fork_loop.specs.Endings.{CutsRow, CutsRows};
+    ghost use Rattle.fork_loop.specs.Courses.{AllSleepIfLate, SameButWork};
+    ghost use Rattle.fork_loop.specs.Endings.{CutsRow, CutsRows, AllQueued};
 
-    /// Cuts each session for this reason.
+    /// Cuts each session for this reason, once it has heard the last turn.
     pub fn cut_rows<L: Ledger>(&mut self, why: Why, steps: &mut Steps<L>)
+        requires { AllSleepIfLate self.old }
         ensures { CutsRows why self.old self.new }
     {
         let mut next = self.table.first_from(0);
@@ -21,10 +26,25 @@ impl Crew {
     }
 
     fn cut_row<L: Ledger>(&mut self, number: u32, why: Why, steps: &mut Steps<L>)
+        requires { SleepsIfLate self.old.made (row_of self.old.table number) }
         ensures { CutsRow number why self.old self.new }
     {
-        if let Some(session) = self.table.session_mut(number, steps) {
-            session.cut(why);
+        if let Some(row) = self.table.session_mut(number, steps) {
+            rouse(row, self.made, self.clock);
+            row.member.session.cut(why);
         }
+    }
+
+    /// Puts each session into the list of work. After an error some are there.
+    pub fn queue_all(&mut self) -> Result<(), NoMemory>
+        ensures all { OnOk result (AllQueued self.new) }
+        ensures same { SameButWork self.old self.new }
+    {
+        let mut next = self.table.first_from(0);
+        while let Some(number) = next {
+            self.work.push_back(number)?;
+            next = self.next_after(number);
+        }
+        Ok(())
     }
 }

@@ -34,7 +34,10 @@ impl Crew {
                 self.cut_rows(why, steps);
                 Some(why)
             }
-            RunEnd::Stops => Some(Why::Stopped),
+            RunEnd::Stops => {
+                self.stop_all(steps);
+                Some(Why::Stopped)
+            }
         }
     }
 }

@@ -1,20 +1,23 @@
-// The sessions of the loop between two turns, one after another.
-ghost use Rattle.std.specs.Prelude.{◌≡◌, ◌<◌, ◌+◌, true, is_some};
+// The sessions of the loop between two turns: those that have work, one after another.
+ghost use Rattle.std.specs.Prelude.{◌≡◌, ◌<◌, ◌≤◌, ◌+◌, length, OnOk};
 ghost use Rattle.session_driver.specs.Seen.{seen};
-ghost use Rattle.fork_table.specs.Tables.{IsFirstLive, row_of};
+ghost use Rattle.fork_table.specs.Tables.{IsFirstLive};
+ghost use Rattle.fork_loop.specs.Rows.{Roused, Sleeping};
 
-use crate::crews::Crew;
+use crate::crews::{Crew, Row};
 use fork_table::Steps;
-use relay_model::{Config, Why};
+use relay_core::Answer;
+use relay_model::{Config, NoMemory, Why};
 use session_runs::{Pause, drain};
 use std::sync::ledger::Ledger;
 use world_trait::World;
 
 impl Crew {
-    ghost use Rattle.fork_loop.specs.Courses.{Somewhere, DrainsRow, RowRuns, AllRun};
+    ghost use Rattle.fork_loop.specs.Courses.{Somewhere, SomewhereAt, SameRest, TakesWork, DrainsRow, Settles, SetsTimer, timer_of};
+    ghost use Rattle.fork_loop.specs.Endings.{RowRuns, AllRun};
 
-    /// Has each session make its calls up to its next pause. Answers the reason of a closing that would end every session,
-    /// as soon as one wishes for it.
+    /// Has each session that has work make its calls up to its next pause. Answers the reason for which the run is to be
+    /// ended, as soon as there is one: a session wishes for a closing that would end every session, or memory is wanting.
     pub fn run_rows<W: World, L: Ledger>(
         &mut self,
         world: &mut W,
@@ -22,16 +25,26 @@ impl Crew {
         steps: &mut Steps<L>,
     ) -> Option<Why>
         requires { Somewhere config.now (seen W.told W.held W.faults W.waits W.stops W.clock world.old) self.old }
-        ensures { AllRun config.now (seen W.told W.held W.faults W.waits W.stops W.clock world.old) (seen W.told W.held W.faults W.waits W.stops W.clock world.new) self.old self.new result }
+        ensures runs { AllRun config.now (seen W.told W.held W.faults W.waits W.stops W.clock world.old) (seen W.told W.held W.faults W.waits W.stops W.clock world.new) self.old self.new result }
+        ensures rest { SameRest self.old self.new }
+        ensures looks { steps.new.ticks ≤ steps.old.ticks + length self.old.work.items }
     {
-        let mut next = self.table.first_from(0);
-        while let Some(number) = next {
+        while let Some(number) = self.take_work() {
             if let Some(why) = self.run_row(number, world, config, steps) {
                 return Some(why);
             }
-            next = self.next_after(number);
         }
         None
+    }
+
+    /// Takes the first number out of the list of work.
+    fn take_work(&mut self) -> Option<u32>
+        ensures { TakesWork self.old self.new result }
+    {
+        match self.work.pop_front() {
+            Some(number) => Some(number),
+            None => None,
+        }
     }
 
     /// The least number after this one whose session lives.
@@ -46,8 +59,8 @@ impl Crew {
         }
     }
 
-    /// Has the session with this number make its calls up to its next pause. Answers the reason of a closing that would
-    /// end every session, where it wishes for one.
+    /// Has the session with this number, if it lives, make its calls up to its next pause, and sets its timer. Answers
+    /// the reason for which the run is to be ended, if there is one.
     pub fn run_row<W: World, L: Ledger>(
         &mut self,
         number: u32,
@@ -55,18 +68,48 @@ impl Crew {
         config: &Config,
         steps: &mut Steps<L>,
     ) -> Option<Why>
-        requires live { is_some (row_of self.old.table number) ≡ true }
-        requires course { Somewhere config.now (seen W.told W.held W.faults W.waits W.stops W.clock world.old) self.old }
-        ensures { RowRuns config.now (seen W.told W.held W.faults W.waits W.stops W.clock world.old) (seen W.told W.held W.faults W.waits W.stops W.clock world.new) number self.old self.new result }
+        requires course { SomewhereAt config.now (seen W.told W.held W.faults W.waits W.stops W.clock world.old) number self.old }
+        ensures runs { RowRuns config.now (seen W.told W.held W.faults W.waits W.stops W.clock world.old) (seen W.told W.held W.faults W.waits W.stops W.clock world.new) number self.old self.new result }
+        ensures rest { SameRest self.old self.new }
+        ensures looks { steps.new.ticks ≤ steps.old.ticks + 1 }
     {
         match self.drain_row(number, world, config, steps) {
-            Pause::Sleep(_until) => None,
+            Some(pause) => self.settle(number, pause),
+            None => None,
+        }
+    }
+
+    /// What comes of the pause of the session with this number.
+    fn settle(&mut self, number: u32, pause: Pause) -> Option<Why>
+        ensures { Settles number pause self.old self.new result }
+    {
+        match pause {
+            Pause::Sleep(until) => match self.set_timer(number, until) {
+                Ok(()) => None,
+                Err(NoMemory) => Some(Why::Memory),
+            },
             Pause::Done => {
                 self.table.retire(number);
+                self.timers.clear(number);
                 None
             }
             Pause::Spreads(why) => Some(why),
         }
+    }
+
+    /// The session with this number waits until this moment, if until any. After an error its timer is as it was.
+    fn set_timer(&mut self, number: u32, until: Option<u64>) -> Result<(), NoMemory>
+        ensures set { OnOk result (timer_of self.new number ≡ until) }
+        ensures kept { SetsTimer number self.old self.new }
+    {
+        match until {
+            Some(at) => {
+                self.timers.reserve(1)?;
+                self.timers.set(number, at);
+            }
+            None => self.timers.clear(number),
+        }
+        Ok(())
     }
 
     fn drain_row<W: World, L: Ledger>(
@@ -75,14 +118,28 @@ impl Crew {
         world: &mut W,
         config: &Config,
         steps: &mut Steps<L>,
-    ) -> Pause
-        requires live { is_some (row_of self.old.table number) ≡ true }
-        requires course { Somewhere config.now (seen W.told W.held W.faults W.waits W.stops W.clock world.old) self.old }
-        ensures { DrainsRow config.now (seen W.told W.held W.faults W.waits W.stops W.clock world.old) (seen W.told W.held W.faults W.waits W.stops W.clock world.new) number self.old self.new result }
+    ) -> Option<Pause>
+        requires course { SomewhereAt config.now (seen W.told W.held W.faults W.waits W.stops W.clock world.old) number self.old }
+        ensures drains { DrainsRow config.now (seen W.told W.held W.faults W.waits W.stops W.clock world.old) (seen W.told W.held W.faults W.waits W.stops W.clock world.new) number self.old self.new result }
+        ensures looks { steps.new.ticks ≤ steps.old.ticks + 1 }
     {
         match self.table.session_mut(number, steps) {
-            Some(session) => drain(session, world, config, self.scratch.as_mut_slice()),
-            None => Pause::Done,
+            Some(row) => {
+                rouse(row, self.made, self.clock);
+                Some(drain(&mut row.member, world, config, self.scratch.as_mut_slice()))
+            }
+            None => None,
         }
     }
+}
+
+/// Has the session hear that a turn came, the last one of these at this moment, where it hasn't yet.
+pub fn rouse(row: &mut Row, made: u64, at: u64)
+    requires { row.old.turn < made → Sleeping row.old.member.session }
+    ensures { Roused made at row.old row.new }
+{
+    if row.turn < made {
+        row.member.session.heard(at, Answer::Woken);
+    }
+    row.turn = made;
 }

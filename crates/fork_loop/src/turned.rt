@@ -1,4 +1,5 @@
 // One turn of the loop: all calls that are called for, and then one wait.
+ghost use Rattle.std.specs.Prelude.{◌+◌, length};
 ghost use Rattle.relay_model.specs.Configs.{Fit};
 ghost use Rattle.session_driver.specs.Seen.{seen};
 
@@ -18,15 +19,16 @@ pub enum RunEnd {
     Over,
     /// The run is to end for this reason: for want of memory, or since the turns are used up (`Stopped`).
     Ends(Why),
-    /// The turn says stop, and each session was cut.
+    /// The turn says stop, which no session has heard yet.
     Stops,
 }
 
 impl Crew {
-    ghost use Rattle.fork_loop.specs.Courses.{Somewhere, AllAsleep};
+    ghost use Rattle.fork_loop.specs.Courses.{Somewhere, NoWork};
+    ghost use Rattle.fork_loop.specs.Looks.{LooksFew};
     ghost use Rattle.fork_loop.specs.Turned.{TurnIs, WaitsForAll};
 
-    /// Has each session and the door make their calls, and then waits once, unless the run ends or `turns` waits were
+    /// Has each session that has work and the door make their calls, and then waits once, unless the run ends or `turns` waits were
     /// made. A wait comes only where it is in order, and lasts until the least moment that anything waits for.
     pub fn turn<W: World, L: Ledger>(
         &mut self,
@@ -38,7 +40,8 @@ impl Crew {
     ) -> Option<RunEnd>
         requires fit { Fit config.now }
         requires course { Somewhere config.now (seen W.told W.held W.faults W.waits W.stops W.clock world.old) self.old }
-        ensures { TurnIs config.now turns (seen W.told W.held W.faults W.waits W.stops W.clock world.old) (seen W.told W.held W.faults W.waits W.stops W.clock world.new) self.old self.new result }
+        ensures turns { TurnIs config.now turns (seen W.told W.held W.faults W.waits W.stops W.clock world.old) (seen W.told W.held W.faults W.waits W.stops W.clock world.new) self.old self.new result }
+        ensures looks { LooksFew (length self.old.work.items + length self.new.ready.entries) steps.old.ticks steps.new.ticks self.old self.new }
     {
         if let Some(why) = self.run_rows(world, config, steps) {
             return Some(RunEnd::Ends(why));
@@ -62,10 +65,12 @@ impl Crew {
         turns: u64,
         steps: &mut Steps<L>,
     ) -> Option<RunEnd>
-        requires { AllAsleep self.old }
-        ensures { WaitsForAll config.now turns first (seen W.told W.held W.faults W.waits W.stops W.clock world.old) (seen W.told W.held W.faults W.waits W.stops W.clock world.new) self.old self.new result }
+        requires course { Somewhere config.now (seen W.told W.held W.faults W.waits W.stops W.clock world.old) self.old }
+        requires idle { NoWork self.old }
+        ensures waits { WaitsForAll config.now turns first (seen W.told W.held W.faults W.waits W.stops W.clock world.old) (seen W.told W.held W.faults W.waits W.stops W.clock world.new) self.old self.new result }
+        ensures looks { LooksFew (length self.new.ready.entries) steps.old.ticks steps.new.ticks self.old self.new }
     {
-        let until = self.least_until(first, steps);
+        let until = self.least_until(first);
         if self.made < turns {
             match self.wait(world, config, until, turns, steps) {
                 Waited::Goes => None,

@@ -1,5 +1,5 @@
-// What a turn says to the door and to all sessions.
-ghost use Rattle.std.specs.Prelude.{◌≡◌, ℕ, ◌∷◌, [], List, Option, false};
+// What a turn says to the door and to the sessions that it names, or to all where it says stop.
+ghost use Rattle.std.specs.Prelude.{◌≡◌, ℕ, ◌<◌, ◌≤◌, ◌+◌, ◌∷◌, [], List, length, Option, false, OnOk};
 ghost use Rattle.relay_model.specs.declared.acts.Act.{Act};
 ghost use Rattle.relay_model.specs.declared.acts.Act.TheVariants as acts;
 ghost use Rattle.relay_model.specs.declared.commands.Config.{Config as Command};
@@ -9,40 +9,106 @@ ghost use Rattle.relay_core.specs.declared.wishes.Wish.TheVariants as wishes;
 ghost use Rattle.relay_core.specs.Sessions.{Hears, wish_of};
 ghost use Rattle.fork_table.specs.Tables.{row_of};
 ghost use Rattle.program_door.specs.Stands.{DoorStands};
-ghost use Rattle.fork_loop.specs.Turns.{HearsTurn, DoorHearsTurn};
+ghost use Rattle.fork_loop.specs.Rows.{Sleeping, SleepsIfLate};
+ghost use Rattle.fork_loop.specs.Turns.{HearsTurn, HeardOnce, DoorHearsTurn};
 
-use crate::crews::Crew;
+use crate::crews::{Crew, Row};
+use command_places::is_program_door;
 use fork_table::Steps;
 use program_door::Door;
 use relay_core::{Answer, Session};
-use relay_model::{ReadyList, Why};
+use relay_model::{Config, NoMemory, ReadyList, Why};
 use std::sync::ledger::Ledger;
 
 impl Crew {
-    ghost use Rattle.fork_loop.specs.Courses.{IsAsleep, AllAsleep};
-    ghost use Rattle.fork_loop.specs.Turns.{RowHeard, AllHeard};
+    ghost use Rattle.fork_loop.specs.Turns.{RowHeard, AllHeard, AsleepRow, AllAsleep, AllUnheard, NamedHeard, RowHearsOnce, Queues, QueuesDue};
+    ghost use Rattle.fork_loop.specs.Courses.{SameButWork, SameButLists};
+    ghost use Rattle.fork_loop.specs.Looks.{WorksFew};
 
-    /// Has the door and each session hear the turn that came at this moment, with what it names.
-    pub fn hear_all<L: Ledger>(&mut self, at: u64, stop: bool, steps: &mut Steps<L>)
+    /// Has each session hear the last turn, which says stop.
+    pub fn stop_all<L: Ledger>(&mut self, steps: &mut Steps<L>)
         requires { AllAsleep self.old }
-        ensures { AllHeard at stop self.old self.new }
+        ensures { AllHeard self.old self.new }
     {
-        hear_door(&mut self.door, &self.ready, stop);
         let mut next = self.table.first_from(0);
         while let Some(number) = next {
-            self.hear_row(number, at, stop, steps);
+            self.stop_row(number, steps);
             next = self.next_after(number);
         }
     }
 
-    fn hear_row<L: Ledger>(&mut self, number: u32, at: u64, stop: bool, steps: &mut Steps<L>)
-        requires { IsAsleep (row_of self.old.table number) }
-        ensures { RowHeard number at stop self.old self.new }
+    fn stop_row<L: Ledger>(&mut self, number: u32, steps: &mut Steps<L>)
+        requires { AsleepRow (row_of self.old.table number) }
+        ensures { RowHeard number self.old self.new }
     {
-        if let Some(session) = self.table.session_mut(number, steps) {
-            hear_turn(session, at, &self.ready, stop);
+        if let Some(row) = self.table.session_mut(number, steps) {
+            hear_turn(&mut row.member.session, self.clock, &self.ready, true);
+            row.turn = self.made;
         }
     }
+
+    /// Has each session hear the last turn that it names a thing of.
+    pub fn hear_named<L: Ledger>(&mut self, config: &Config, steps: &mut Steps<L>)
+        requires { AllUnheard self.old }
+        ensures heard { NamedHeard config.now self.old.ready.entries self.old self.new }
+        ensures looks { steps.new.ticks ≤ steps.old.ticks + length self.old.ready.entries }
+    {
+        for i in 0..self.ready.len() {
+            let place = self.ready.get(i).place;
+            if !is_program_door(config, place) {
+                self.hear_row(place.session, steps);
+            }
+        }
+    }
+
+    /// Has the session with this number hear it, if it lives and hasn't yet.
+    fn hear_row<L: Ledger>(&mut self, number: u32, steps: &mut Steps<L>)
+        requires { SleepsIfLate self.old.made (row_of self.old.table number) }
+        ensures heard { RowHearsOnce number self.old self.new }
+        ensures looks { steps.new.ticks ≤ steps.old.ticks + 1 }
+    {
+        if let Some(row) = self.table.session_mut(number, steps) {
+            hear_once(row, self.made, self.clock, &self.ready);
+        }
+    }
+
+    /// Puts each session that the last turn names a thing of into the list of work. After an error some are there.
+    pub fn queue_named(&mut self, config: &Config) -> Result<(), NoMemory>
+        ensures named { OnOk result (Queues config.now self.old.ready.entries self.old self.new) }
+        ensures same { SameButWork self.old self.new }
+        ensures few { length self.new.work.items ≤ length self.old.work.items + length self.old.ready.entries }
+    {
+        for i in 0..self.ready.len() {
+            let place = self.ready.get(i).place;
+            if !is_program_door(config, place) {
+                self.work.push_back(place.session)?;
+            }
+        }
+        Ok(())
+    }
+
+    /// Puts each session into the list of work whose timer has fallen due. After an error some are there.
+    pub fn queue_due(&mut self) -> Result<(), NoMemory>
+        ensures due { OnOk result (QueuesDue self.old self.new) }
+        ensures same { SameButLists self.old self.new }
+        ensures few { WorksFew 0 self.old self.new }
+    {
+        while let Some(number) = self.timers.due(self.clock) {
+            self.work.push_back(number)?;
+        }
+        Ok(())
+    }
+}
+
+/// Has the session of this row hear the last turn, if it hasn't yet.
+fn hear_once(row: &mut Row, made: u64, at: u64, ready: &ReadyList)
+    requires { row.old.turn < made → Sleeping row.old.member.session }
+    ensures { HeardOnce made at ready.now row.old row.new }
+{
+    if row.turn < made {
+        hear_turn(&mut row.member.session, at, ready, false);
+    }
+    row.turn = made;
 }
 
 /// Hears a turn: its moment, the halves that it names, and whether it says stop.
@@ -67,7 +133,7 @@ fn name_all(session: &mut Session, ready: &ReadyList)
 }
 
 /// The door hears it too.
-fn hear_door(door: &mut Door, ready: &ReadyList, stop: bool)
+pub fn hear_door(door: &mut Door, ready: &ReadyList, stop: bool)
     ensures { DoorHearsTurn ready.now stop door.old door.new }
 {
     door.woken();

@@ -8,7 +8,7 @@ use Rattle.relay_model.specs.Configs.{input, output}
 use Rattle.relay_model.specs.Arming.{read_arming, armed_to_write, armed_to_accept, asked_to_read, asked_to_write, asked_to_accept}
 use Rattle.relay_model.specs.History.{now, turns, stop_said, memory_said, stage, failures, woken, accept_failed, was_closed, was_reaped, got, put, met_end, met_empty, shut_at, read_fault_at, write_fault_at}
 use Rattle.relay_model.specs.Sessions.{admitted}
-use Rattle.relay_model.specs.Moments.{moved}
+use Rattle.relay_model.specs.Moments.{moved_at}
 use Rattle.relay_model.specs.Cause.{closed_why}
 use Rattle.relay_model.specs.declared.acts.Why.{Why}
 use Rattle.fact_tables.specs.declared.placed.Placed.{Placed}
@@ -162,7 +162,7 @@ pub record TrafficTold (t : Traffic) (past : List Act) : Type 0 where
 
 -- the table has when each session last moved
 abbrev pub MovesTold : Config → Numbered ℕ → List Act → Type 0
-MovesTold c table past = (s : ℕ) → numbered table s ≡ moved c past s
+MovesTold c table past = (s : ℕ) → numbered table s ≡ moved_at c past s
 
 -- the table has the reason of each session's closing
 abbrev pub CausesTold : Config → Numbered (Option Why) → List Act → Type 0

@@ -3,7 +3,7 @@ ghost use Rattle.std.specs.Prelude.{◌≡◌, ◌<◌, ◌^◌, length};
 ghost use Rattle.relay_model.specs.Tries.{next_due};
 ghost use Rattle.relay_model.specs.History.{now, turns, stop_said, memory_said, stage, held, served, failures, woken, accept_failed, was_closed, was_reaped, got, put, met_end, met_empty, shut_at, read_fault_at, write_fault_at};
 ghost use Rattle.relay_model.specs.Sessions.{admitted};
-ghost use Rattle.relay_model.specs.Moments.{moved};
+ghost use Rattle.relay_model.specs.Moments.{moved_at};
 ghost use Rattle.relay_model.specs.Cause.{closed_why};
 ghost use Rattle.history_facts.specs.Answers.{as_stage};
 
@@ -173,8 +173,8 @@ pub fn write_fault_at(past: &Past, place: Place) -> Option<u64>
 
 /// The moment at which a place of the session was last opened or accepted, or bytes were last read or written
 /// at one.
-pub fn moved(past: &Past, session: u32) -> u64
-    ensures { result ≡ moved past.now.config past.now.acts session }
+pub fn moved_at(past: &Past, session: u32) -> u64
+    ensures { result ≡ moved_at past.now.config past.now.acts session }
 {
     past.sessions.moved.at(u64::from(session))
 }

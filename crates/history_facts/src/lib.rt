@@ -22,8 +22,8 @@ pub use choices::{earlier, later, or_else};
 pub use clock::Clock;
 pub use history::{
     accept_failed, admitted, closed_why, failure_count, got_length, held, memory_said, met_empty,
-    met_end, moved, next_due, now, put_length, read_fault_at, served, shut_at, stage_of, stop_said,
-    turns, was_closed, was_reaped, woken, write_fault_at,
+    met_end, moved_at, next_due, now, put_length, read_fault_at, served, shut_at, stage_of,
+    stop_said, turns, was_closed, was_reaped, woken, write_fault_at,
 };
 pub use openings::{Openings, Stage};
 pub use past::Past;

@@ -13,7 +13,7 @@ use Rattle.relay_model.specs.History.{got, put, sent}
 use Rattle.relay_model.specs.Arming.{armed_to_write}
 use Rattle.relay_model.specs.Transfers.{due, due_pieces, backlog}
 use Rattle.relay_model.specs.Moments.{passed}
-use Rattle.relay_model.specs.Rest.{moves}
+use Rattle.relay_model.specs.Rest.{is_going}
 use Rattle.relay_model.specs.May.{BeginsWith}
 use Rattle.relay_model.specs.Audit.{same_list, begins, begins_pieces, may_offer}
 use Rattle.relay_laws.specs.Packets.{at_most_one}
@@ -70,7 +70,7 @@ next_of written bytes all before pieces some e one =
 is_output : (c : Config) (past : List Act) (p : Place) → may_offer c past p ≡ true → p ≡ output c p.session (way_to p.side)
 is_output c past p e =
     let same = same_place p (output c p.session (way_to p.side)) in
-    let goes = moves c past p.session (way_to p.side) in
+    let goes = is_going c past p.session (way_to p.side) in
     let before = not (passed c past p.session (way_to p.side)) in
     let a = and_parts (same && goes && before) (armed_to_write past p) e in
     let b = and_parts (same && goes) before a.0 in

@@ -12,13 +12,13 @@ ghost use Rattle.relay_model.specs.Sessions.{admitted, live};
 ghost use Rattle.relay_model.specs.Cause.{cause, running};
 ghost use Rattle.relay_model.specs.Configs.{input, output, way_to, medium_of, is_program, keeps_borders};
 ghost use Rattle.relay_model.specs.Transfers.{due, due_pieces, backlog, is_spent};
-ghost use Rattle.relay_model.specs.Rest.{owed, moves, may_read, may_write, until_of};
+ghost use Rattle.relay_model.specs.Rest.{owed, is_going, owes_read, owes_write, until_of};
 ghost use Rattle.relay_model.specs.Audit.{implies, accept_tried, way_rests, session_rests, door_rests, rests, same_number, same_list, same_text, begins, begins_pieces, same_shut, opens, listens_to, accepts_for, accepts_at, closes, may_ask, may_take, may_offer, may_put, may_shut, door_ends, is_cause, may_close, may_come};
 ghost use Rattle.legal_judge.specs.Pasts.{reads_some, awaits_dump, may_end, WrittenStands, OnePieceWaits};
 ghost use Rattle.session_facts.specs.Answers.{as_call};
 
 use crate::rest::{
-    known_running, may_read, may_write, moves, must_pass, owes_nothing, presses, until_of,
+    is_going, known_running, must_pass, owes_nothing, owes_read, owes_write, presses, until_of,
 };
 use command_places::{
     has_fork, how, input, is_program, is_program_door, keeps_borders, medium_of, output,
@@ -36,7 +36,7 @@ use session_facts::{
     passed, running,
 };
 use std::alloc::Global;
-use transfer_facts::{Ledger, backlog, due_after, is_spent, over, room};
+use transfer_facts::{Ledger, backlog, due_after, greatest_read, is_spent, over};
 
 // ---- rest
 
@@ -53,26 +53,26 @@ fn accept_tried(past: &Ledger, call: Call) -> bool
 #[tactic(auto, using(crate::proofs::Implied::implies_met, crate::proofs::Implied::implies_unmet))]
 fn reading_rests(past: &Ledger, session: u32, way: Way, runs: bool) -> bool
     requires { runs ≡ running past.now.config past.now.acts session }
-    ensures { result ≡ implies (may_read past.now.config past.now.acts session way) (asked_to_read past.now.acts (input past.now.config session way)) }
+    ensures { result ≡ implies (owes_read past.now.config past.now.acts session way) (asked_to_read past.now.acts (input past.now.config session way)) }
 {
     let config = past.facts().config();
     if asked_to_read(past.facts(), input(config, session, way)) {
         return true;
     }
-    !may_read(past, session, way, runs)
+    !owes_read(past, session, way, runs)
 }
 
 /// Whether a write that may come was tried since the last turn and the last read.
 #[tactic(auto, using(crate::proofs::Implied::implies_met, crate::proofs::Implied::implies_unmet))]
 fn writing_rests(past: &Ledger, session: u32, way: Way, runs: bool) -> bool
     requires { runs ≡ running past.now.config past.now.acts session }
-    ensures { result ≡ implies (may_write past.now.config past.now.acts session way) (asked_to_write past.now.acts (input past.now.config session way) (output past.now.config session way)) }
+    ensures { result ≡ implies (owes_write past.now.config past.now.acts session way) (asked_to_write past.now.acts (input past.now.config session way) (output past.now.config session way)) }
 {
     let config = past.facts().config();
     if asked_to_write(past.facts(), session, way) {
         return true;
     }
-    !may_write(past, session, way, runs)
+    !owes_write(past, session, way, runs)
 }
 
 fn way_rests(past: &Ledger, session: u32, way: Way, runs: bool) -> bool
@@ -304,7 +304,7 @@ fn may_ask(past: &Ledger, place: Place) -> bool
         return false;
     }
     let runs = running(past.facts(), session);
-    if !moves(past, session, way, runs) || passed(past.facts(), session, way) {
+    if !is_going(past, session, way, runs) || passed(past.facts(), session, way) {
         return false;
     }
     if over(past, place) {
@@ -321,7 +321,7 @@ fn may_take(past: &Ledger, place: Place, count: usize) -> bool
     if !may_ask(past, place) {
         return false;
     }
-    let most = room(past, place.session, way_from(place.side));
+    let most = greatest_read(past, place.session, way_from(place.side));
     count >= 1 && count as u64 <= most
 }
 
@@ -333,7 +333,7 @@ fn may_offer(past: &Ledger, place: Place) -> bool
     let session = place.session;
     let way = way_to(place.side);
     place.is(output(config, session, way))
-        && moves(past, session, way, running(past.facts(), session))
+        && is_going(past, session, way, running(past.facts(), session))
         && !passed(past.facts(), session, way)
         && armed_to_write(past.facts(), place)
 }
@@ -397,12 +397,12 @@ fn may_put(past: &Ledger, place: Place, bytes: &[u8]) -> bool
 /// Whether the end of a direction may be passed on at the place.
 fn may_pass(past: &Ledger, place: Place) -> bool
     requires { admitted past.now.config past.now.acts < 2 ^ 32 }
-    ensures { result ≡ (same_place place (output past.now.config place.session (way_to place.side)) && moves past.now.config past.now.acts place.session (way_to place.side) && is_spent past.now.config past.now.acts place.session (way_to place.side) && not (passed past.now.config past.now.acts place.session (way_to place.side))) }
+    ensures { result ≡ (same_place place (output past.now.config place.session (way_to place.side)) && is_going past.now.config past.now.acts place.session (way_to place.side) && is_spent past.now.config past.now.acts place.session (way_to place.side) && not (passed past.now.config past.now.acts place.session (way_to place.side))) }
 {
     let session = place.session;
     let way = way_to(place.side);
     place.is(output(past.facts().config(), session, way))
-        && moves(past, session, way, running(past.facts(), session))
+        && is_going(past, session, way, running(past.facts(), session))
         && is_spent(past, session, way)
         && !passed(past.facts(), session, way)
 }

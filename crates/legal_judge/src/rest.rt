@@ -3,7 +3,7 @@ ghost use Rattle.std.specs.Prelude.{◌≡◌, ◌<◌, ◌^◌, IfOk, is_none};
 ghost use Rattle.relay_model.specs.Choices.{some_below, least_below};
 ghost use Rattle.relay_model.specs.Sessions.{admitted, live};
 ghost use Rattle.relay_model.specs.Cause.{cause, running};
-ghost use Rattle.relay_model.specs.Rest.{owed, goes, moves, may_read, may_write, must_pass, accepts, presses, way_work, session_work, try_moment, input_moment, timer_moment, session_moment, door_moment, until_of};
+ghost use Rattle.relay_model.specs.Rest.{owed, goes, is_going, owes_read, owes_write, must_pass, accepts, presses, way_work, session_work, try_moment, input_moment, timer_moment, session_moment, door_moment, until_of};
 ghost use Rattle.session_facts.specs.Answers.{as_call};
 
 use command_places::{formed, input, output};
@@ -43,21 +43,21 @@ fn goes(past: &Ledger, session: u32, way: Way) -> bool
 }
 
 /// A direction that goes, where it is known whether its session runs.
-pub fn moves(past: &Ledger, session: u32, way: Way, runs: bool) -> bool
+pub fn is_going(past: &Ledger, session: u32, way: Way, runs: bool) -> bool
     requires { runs ≡ running past.now.config past.now.acts session }
-    ensures { result ≡ moves past.now.config past.now.acts session way }
+    ensures { result ≡ is_going past.now.config past.now.acts session way }
 {
     goes(past, session, way) && runs
 }
 
 /// An armed input that may bring more, where nothing waits to be written.
-pub fn may_read(past: &Ledger, session: u32, way: Way, runs: bool) -> bool
+pub fn owes_read(past: &Ledger, session: u32, way: Way, runs: bool) -> bool
     requires { runs ≡ running past.now.config past.now.acts session }
-    ensures { result ≡ may_read past.now.config past.now.acts session way }
+    ensures { result ≡ owes_read past.now.config past.now.acts session way }
 {
     let config = past.facts().config();
     let place = input(config, session, way);
-    if !moves(past, session, way, runs) || !armed_to_read(past.facts(), place) {
+    if !is_going(past, session, way, runs) || !armed_to_read(past.facts(), place) {
         return false;
     }
     if over(past, place) {
@@ -67,13 +67,13 @@ pub fn may_read(past: &Ledger, session: u32, way: Way, runs: bool) -> bool
 }
 
 /// An armed output for which bytes wait.
-pub fn may_write(past: &Ledger, session: u32, way: Way, runs: bool) -> bool
+pub fn owes_write(past: &Ledger, session: u32, way: Way, runs: bool) -> bool
     requires { runs ≡ running past.now.config past.now.acts session }
-    ensures { result ≡ may_write past.now.config past.now.acts session way }
+    ensures { result ≡ owes_write past.now.config past.now.acts session way }
 {
     let config = past.facts().config();
     let place = output(config, session, way);
-    if !moves(past, session, way, runs) || !armed_to_write(past.facts(), place) {
+    if !is_going(past, session, way, runs) || !armed_to_write(past.facts(), place) {
         return false;
     }
     backlog(past, session, way) > 0
@@ -84,7 +84,7 @@ pub fn must_pass(past: &Ledger, session: u32, way: Way, runs: bool) -> bool
     requires { runs ≡ running past.now.config past.now.acts session }
     ensures { result ≡ must_pass past.now.config past.now.acts session way }
 {
-    if !moves(past, session, way, runs) {
+    if !is_going(past, session, way, runs) {
         return false;
     }
     if !is_spent(past, session, way) {
@@ -121,10 +121,10 @@ fn way_work(past: &Ledger, session: u32, way: Way, runs: bool) -> bool
     requires { runs ≡ running past.now.config past.now.acts session }
     ensures { result ≡ way_work past.now.config past.now.acts session way }
 {
-    if may_read(past, session, way, runs) {
+    if owes_read(past, session, way, runs) {
         return true;
     }
-    may_write(past, session, way, runs)
+    owes_write(past, session, way, runs)
 }
 
 /// Whether the session runs, where it is known whether it lives and why it has to end.
@@ -170,7 +170,7 @@ fn input_moment(past: &Ledger, session: u32, way: Way, runs: bool) -> Option<u12
 {
     let config = past.facts().config();
     let place = input(config, session, way);
-    if !moves(past, session, way, runs) {
+    if !is_going(past, session, way, runs) {
         return None;
     }
     if over(past, place) {

@@ -15,7 +15,7 @@ use Rattle.relay_model.specs.History.{now, turns, stop_said, memory_said, Usable
 use Rattle.relay_model.specs.Arming.{Disarmed, Armed, AtEnd, read_arming, armed_to_write, armed_to_accept, asked_to_read, asked_to_write, asked_to_accept}
 use Rattle.relay_model.specs.Sessions.{admitted}
 use Rattle.relay_model.specs.Transfers.{due_part, due_pieces, is_empty}
-use Rattle.relay_model.specs.Moments.{moved}
+use Rattle.relay_model.specs.Moments.{moved_at}
 use Rattle.relay_model.specs.Cause.{closed_why, is_end}
 use Rattle.relay_model.specs.Outcome.{Outcome, Faulted, first_fault}
 use Rattle.relay_model.specs.Frames.{is_at, is_turn, is_among, names_or_is_at, SameAt, Leaves, opens_or_closes, opens_shuts_or_closes, fails_to_open, fails_to_accept, fails_to_transfer, is_closing, reaps, closes_or_reaps, reads_bytes, writes_bytes, meets_end, meets_empty, passes_end, fails_to_read, fails_to_write, wakes_or_unsettles, turns_or_closes, arms_to_read, arms_to_write, arms_to_accept, asks_to_read, asks_to_write, asks_to_accept, moves_session, meets_peer}
@@ -173,11 +173,11 @@ pub due_pieces_left : (act : Act) (past : List Act) (c : Config) (s : ℕ) (w : 
 due_pieces_left (Read q bytes) past c s w e = λ i. joined (e i && not (is_empty (due_part c w (got past (input c s w)) bytes))) (due_pieces c past s w) (due_part c w (got past (input c s w)) bytes ∷ [])
 due_pieces_left act past c s w e = refl
 
-moved_left : (act : Act) (past : List Act) (c : Config) (s : ℕ) → (moves_session act && is_among act (places c s)) ≡ false → moved c (act ∷ past) s ≡ moved c past s
-moved_left (Opened q) past c s e = λ i. cond (e i) (now past) (moved c past s)
-moved_left (Accepted q peer) past c s e = λ i. cond (e i) (now past) (moved c past s)
-moved_left (Read q bytes) past c s e = λ i. cond (e i) (now past) (moved c past s)
-moved_left (Wrote q bytes) past c s e = λ i. cond (e i) (now past) (moved c past s)
+moved_left : (act : Act) (past : List Act) (c : Config) (s : ℕ) → (moves_session act && is_among act (places c s)) ≡ false → moved_at c (act ∷ past) s ≡ moved_at c past s
+moved_left (Opened q) past c s e = λ i. cond (e i) (now past) (moved_at c past s)
+moved_left (Accepted q peer) past c s e = λ i. cond (e i) (now past) (moved_at c past s)
+moved_left (Read q bytes) past c s e = λ i. cond (e i) (now past) (moved_at c past s)
+moved_left (Wrote q bytes) past c s e = λ i. cond (e i) (now past) (moved_at c past s)
 moved_left act past c s e = refl
 
 closed_why_left : (act : Act) (past : List Act) (c : Config) (s : ℕ) → (is_closing act && is_among act (things c s)) ≡ false → closed_why c (act ∷ past) s ≡ closed_why c past s

@@ -25,7 +25,7 @@ use Rattle.relay_model.specs.Openings as calls
 use Rattle.relay_model.specs.Cause.{running, cause}
 use Rattle.relay_model.specs.Sessions.{live}
 use Rattle.relay_model.specs.Moments.{broken}
-use Rattle.relay_model.specs.Rest.{moves, goes}
+use Rattle.relay_model.specs.Rest.{is_going, goes}
 use Rattle.relay_model.specs.Calls.{called_at}
 use Rattle.relay_model.specs.May.{Legal, MayAsk}
 use Rattle.relay_model.specs.Laws.{uses, begins_holding, Tells}
@@ -67,10 +67,10 @@ output_passes c test s LeftToRight f all = part_passes test s Right ToWrite (par
 output_passes c test s RightToLeft f all = part_passes test s Left ToWrite (parts c Left) (and_parts (is_some (part_with ToRead (parts c Right))) (is_some (part_with ToWrite (parts c Left))) f).1 (sides_pass c test s all).0
 
 -- a direction that moves is formed, and its session is ready
-pub moves_formed : (c : Config) (past : List Act) (s : ℕ) (w : Way) → moves c past s w ≡ true → formed c w ≡ true
+pub moves_formed : (c : Config) (past : List Act) (s : ℕ) (w : Way) → is_going c past s w ≡ true → formed c w ≡ true
 moves_formed c past s w m = (and_parts (formed c w) (not (broken c past s w)) (and_parts (goes c past s w) (running c past s) m).0).0
 
-pub moves_running : (c : Config) (past : List Act) (s : ℕ) (w : Way) → moves c past s w ≡ true → running c past s ≡ true
+pub moves_running : (c : Config) (past : List Act) (s : ℕ) (w : Way) → is_going c past s w ≡ true → running c past s ≡ true
 moves_running c past s w m = (and_parts (goes c past s w) (running c past s) m).1
 
 pub running_ready : (c : Config) (past : List Act) (s : ℕ) → running c past s ≡ true → ready c past s ≡ true
@@ -82,7 +82,7 @@ asks_held c past p m =
     let r = input_passes c (is_ready c past) p.session w (moves_formed c past p.session w m.moving) (running_ready c past p.session (moves_running c past p.session w m.moving)) in
     subst (λ q. held past q ≡ true) (sym (same_place_equal p (input c p.session w) m.is_input)) (ready_is_held c past (input c p.session w) r)
 
-output_held : (c : Config) (past : List Act) (p : Place) → same_place p (output c p.session (way_to p.side)) ≡ true → moves c past p.session (way_to p.side) ≡ true → held past p ≡ true
+output_held : (c : Config) (past : List Act) (p : Place) → same_place p (output c p.session (way_to p.side)) ≡ true → is_going c past p.session (way_to p.side) ≡ true → held past p ≡ true
 output_held c past p same moving =
     let w = way_to p.side in
     let r = output_passes c (is_ready c past) p.session w (moves_formed c past p.session w moving) (running_ready c past p.session (moves_running c past p.session w moving)) in

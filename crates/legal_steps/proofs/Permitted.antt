@@ -9,7 +9,7 @@ use Rattle.relay_model.specs.declared.acts.Act.{Act}
 use Rattle.relay_model.specs.Places.{same_place}
 use Rattle.relay_model.specs.Configs.{input, output}
 use Rattle.relay_model.specs.History.{got, put}
-use Rattle.relay_model.specs.Transfers.{due, room, is_spent}
+use Rattle.relay_model.specs.Transfers.{due, greatest_read, is_spent}
 use Rattle.relay_model.specs.Moments.{passed}
 use Rattle.relay_model.specs.May.{BeginsWith, MayAsk, MayRead, MayOffer, MayWrite, MayShut}
 use Rattle.legal_steps.proofs.PlaceLemmas.{same_place_equal}
@@ -18,7 +18,7 @@ pub writes_due : (c : Config) (past : List Act) (s : ℕ) (w : Way) (bytes : Lis
 writes_due c past s LeftToRight bytes m = m.is_due
 writes_due c past s RightToLeft bytes m = m.is_due
 
-pub reads_in_room : (c : Config) (past : List Act) (s : ℕ) (w : Way) (n : ℕ) → MayRead c past (input c s w) n → n ≤ room c past s w
+pub reads_in_room : (c : Config) (past : List Act) (s : ℕ) (w : Way) (n : ℕ) → MayRead c past (input c s w) n → n ≤ greatest_read c past s w
 reads_in_room c past s LeftToRight n m = m.in_room
 reads_in_room c past s RightToLeft n m = m.in_room
 

@@ -13,7 +13,7 @@ use Rattle.relay_model.specs.Openings.{Nothing, ready, first_call}
 use Rattle.relay_model.specs.Cause.{cause, running}
 use Rattle.relay_model.specs.Calls.{call}
 use Rattle.relay_model.specs.Outcome.{outcome}
-use Rattle.relay_model.specs.Rest.{owed, goes, moves, presses, AcceptTried, SessionRests, DoorRests, Rest}
+use Rattle.relay_model.specs.Rest.{owed, goes, is_going, presses, AcceptTried, SessionRests, DoorRests, Rest}
 use Rattle.relay_model.specs.May.{Legal}
 use Rattle.legal_steps.proofs.Begun.{unbegun_holds, unbegun_live}
 
@@ -33,16 +33,16 @@ pub silent : (c : Config) (past : List Act) (s : ℕ) → live c past s ≡ fals
 silent c past s dead empty = record {
   ended = λ _. empty;
   no_call = subst (λ k. presses k ≡ false) (sym no_call_there) refl;
-  read_tried = λ w h. refuted (sym (stuck3 (moves c past s w) (armed_to_read past (input c s w)) (not (over c past (input c s w))) (backlog c past s w == 0) (still w)) ∙ h);
-  write_tried = λ w h. refuted (sym (not_running (moves c past s w) (armed_to_write past (output c s w)) (nat_lt 0 (backlog c past s w)) (still w)) ∙ h);
-  passed_on = λ w. not_running (moves c past s w) (is_spent c past s w) (not (passed c past s w)) (still w);
+  read_tried = λ w h. refuted (sym (stuck3 (is_going c past s w) (armed_to_read past (input c s w)) (not (over c past (input c s w))) (backlog c past s w == 0) (still w)) ∙ h);
+  write_tried = λ w h. refuted (sym (not_running (is_going c past s w) (armed_to_write past (output c s w)) (nat_lt 0 (backlog c past s w)) (still w)) ∙ h);
+  passed_on = λ w. not_running (is_going c past s w) (is_spent c past s w) (not (passed c past s w)) (still w);
   accept_tried = subst (AcceptTried c past) (sym no_call_there) tt;
 }
   where
     no_call_there : call c past s ≡ Nothing
     no_call_there = ap (λ l. cond (l && is_none (cause c past s)) (first_call c past (places c s)) Nothing) dead
 
-    still : (w : Way) → moves c past s w ≡ false
+    still : (w : Way) → is_going c past s w ≡ false
     still w = and_right (goes c past s w) (running c past s) (not_running (live c past s) (ready c past s) (is_none (cause c past s)) dead)
 
 pub rest_of_parts :

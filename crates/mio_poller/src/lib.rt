@@ -2,5 +2,7 @@
 #![tactic(auto)]
 
 mod poller;
+mod watches;
 
 pub use poller::{MioPoller, MioWake};
+pub use watches::Watch;

@@ -1,10 +1,11 @@
 // The poller over the system's readiness, and what wakes it.
-ghost use Rattle.std.specs.Prelude.{◌≡◌, ◌≤◌, ◌-◌, ◌*◌, ◌/◌, ◌^◌, ◌<◌, ◌++◌, ◌∷◌, [], length, min, false, option_map};
+ghost use Rattle.std.specs.Prelude.{◌≡◌, ◌≤◌, ◌-◌, ◌*◌, ◌/◌, ◌^◌, ◌<◌, ◌++◌, ◌∷◌, [], length, min, false, option_map, IfOk};
 ghost use Rattle.std.specs.Duration.{as_nanos};
 ghost use Rattle.mio.specs.Events.{capacity as events_capacity};
 ghost use Rattle.port_trait.specs.Made.{IsAtOnce};
-ghost use Rattle.mio_poller.specs.Pollers.{named, event_keys};
+ghost use Rattle.mio_poller.specs.Pollers.{named, event_keys, watch_key};
 
+use crate::watches::{Watch, Watches};
 use mio::event::Event;
 use mio::{Events, Poll, Registry, Token, Waker};
 use port_trait::{KeyList, Making, Polled, Poller, Wake};
@@ -72,8 +73,10 @@ pub struct MioPoller<R> {
     poll: Poll,
     events: Events,
     bell: Arc<Bell, Global>,
+    watches: Watches,
     start: Instant,
     at: u64,
+    asked: Option<u64>,
     ghost room: { events_capacity events ≡ 128 },
 }
 
@@ -83,7 +86,7 @@ impl<R> Model for MioPoller<R> {
 
     ghost Value = { PollerState };
 
-    ghost view = { λ poller. record { clock = poller.at; seen = items poller.events } };
+    ghost view = { λ poller. record { clock = poller.at; asked = poller.asked; seen = items poller.events } };
 }
 
 impl<R: Net + Clock + Drop> MioPoller<R> {
@@ -97,7 +100,10 @@ impl<R: Net + Clock + Drop> MioPoller<R> {
         let Ok(waker) = Waker::new(poll.registry(), WAKE) else {
             return Making::Failed;
         };
-        let Ok(events) = Events::with_capacity(alloc, MOST_EVENTS) else {
+        let (Ok(events), Ok(watches)) = (
+            Events::with_capacity(alloc, MOST_EVENTS),
+            Watches::new(alloc),
+        ) else {
             return Making::Memory;
         };
         match Arc::new(
@@ -112,8 +118,10 @@ impl<R: Net + Clock + Drop> MioPoller<R> {
                 poll,
                 events,
                 bell,
+                watches,
                 start,
                 at: 0,
+                asked: None,
             }),
             Err(_) => Making::Memory,
         }
@@ -127,6 +135,13 @@ impl<R: Net + Clock + Drop> MioPoller<R> {
             Ok(bell) => Making::Made(MioWake { bell }),
             Err(_) => Making::Memory,
         }
+    }
+
+    /// Its watch for a descriptor that is read, or for one that is written.
+    pub fn watch(&self, half: Half) -> Result<Watch, NoMemory>
+        ensures { IfOk result (λ watch. watch ≡ watch_key half) }
+    {
+        self.watches.share(half)
     }
 
     /// Where the sockets are registered that it waits for.
@@ -150,18 +165,23 @@ impl<R: Net + Clock + Drop> Poller for MioPoller<R> {
 
     ghost clock = { λ poller. poller.clock };
 
+    ghost asked = { λ poller. poller.asked };
+
     /// Sleeps until the moment, a socket or a wake, and names the halves that the system found ready, at most 256.
     fn poll(&mut self, until: Option<u64>, ready: &mut KeyList) -> Polled
         requires { 256 ≤ ready.old.room }
         ensures answer { result ≡ record { at = self.new.clock; stop = false } }
+        ensures asked { self.new.asked ≡ until }
         ensures clock { self.old.clock ≤ self.new.clock }
         ensures ready { ready.new ≡ record ready.old { entries = named self.new.seen } }
     {
         ready.clear();
+        self.asked = until;
         let left = time_left(self.moment(), until);
         // one that is refused has no events
         let _ = self.poll.poll(&mut self.events, left);
         self.bell.hear();
+        self.watches.hear(self.events.iter().as_slice());
         name_events(self.events.iter().as_slice(), ready);
         self.at = self.moment();
         Polled {

@@ -42,9 +42,9 @@ sends_so (tooks.Took n) bytes before now call = (n, call)
 sends_so tooks.NotYet bytes before now call = call
 sends_so tooks.Failed bytes before now call = call
 
-pub shuts_so : (answer : Shutting) (before now : PortSeen) → Shuts before now answer → ShutsSo (shut_answer answer) before now
-shuts_so shuttings.Done before now call = call
-shuts_so shuttings.Failed before now call = call
+pub shuts_so : (how : Shut) (answer : Shutting) (before now : PortSeen) → Shuts before now how answer → ShutsSo how (shut_answer answer) before now
+shuts_so how shuttings.Done before now call = call
+shuts_so how shuttings.Failed before now call = call
 
 -- a fact of the call, where it was made on this port
 input_step : (pier : Pier) (A B E : Type 0) → (A → B) → AtInput pier A E → AtInput pier B E

@@ -19,7 +19,7 @@ use Rattle.desk_places.specs.Stations.{AreListed, SetsStation, half_disarmed, is
 use Rattle.desk_places.proofs.PlaceLemmas.{same_place-eq}
 use Rattle.desk_places.proofs.SoundLemmas.{IsMoored, StandsOn, StandsSo, so_is}
 use Rattle.desk_places.proofs.StationLemmas.{asked_index, found_place}
-use Rattle.port_desk.specs.Naming.{Grown, HintNamed, IsNamed, NamesHinting, StationNamed, half_pier, is_hinted}
+use Rattle.port_desk.specs.Naming.{Grown, HintNamed, IsHinted, IsHinting, IsNamed, NamesHinting, PollsUntil, StationNamed, half_pier, is_hinted}
 use Rattle.port_desk.proofs.NamingLemmas.{below_or_last, named_on, within}
 
 -- ---- hints
@@ -75,6 +75,37 @@ slot_on (Some station) told xs ys grown named = station_on told station xs ys gr
 
 pub hinting_on : (told : Pier → Option Hint) (stations : List Station) (xs ys : List ReadyAt) → Grown xs ys → NamesHinting told stations xs → NamesHinting told stations ys
 hinting_on told stations xs ys grown named = λ p. slot_on (station_at stations p) told xs ys grown (named p)
+
+-- ---- until when a turn polls
+
+unnamed : (ready : List ReadyAt) (p : Place) (half : Half) → length ready ≤ 0 → IsNamed ready p half → ⊥
+unnamed [] p half none (inl e) = cc
+unnamed [] p half none (inr full) = omega (arith, full)
+unnamed (x ∷ xs) p half none named = omega (arith, none)
+
+unhinted : (slot : Option Hint) (half : Half) (place : Place) (ready : List ReadyAt) → length ready ≤ 0 → IfSome slot (λ hint. is_hinted half hint ≡ true → IsNamed ready place half) → IsHinted half slot → ⊥
+unhinted None half place ready none named hinted = hinted
+unhinted (Some hint) half place ready none named hinted = unnamed ready place half none (named hinted)
+
+unhinting : (slot : Option Station) (told : Pier → Option Hint) (half : Half) (ready : List ReadyAt) → length ready ≤ 0 → IfSome slot (λ station. StationNamed told station ready) → IsHinting told slot half → ⊥
+unhinting None told half ready none named hinting = hinting
+unhinting (Some station) told half ready none named hinting = unhinted (told (half_pier half station.base)) half station.place ready none (named half hinting.0) hinting.1
+
+-- no half hints, and the poll waits as the turn asks
+pub polls_on : (told : Pier → Option Hint) (stations : List Station) (hinting ready : List ReadyAt) (last : ℕ) (until asked : Option ℕ) → length hinting ≤ 0 → NamesHinting told stations hinting → asked ≡ until → PollsUntil told stations ready last until asked
+polls_on told stations hinting ready last until asked none named is = record {
+  at_once = λ p half h. absurd (unhinting (station_at stations p) told half hinting none (named p) h);
+  waits = λ empty. is;
+  either = inr is;
+}
+
+-- a half hints, and the poll doesn't wait
+pub polls_at_once : (told : Pier → Option Hint) (stations : List Station) (hinting ready : List ReadyAt) (last : ℕ) (until asked : Option ℕ) → 0 < length hinting → Grown hinting ready → asked ≡ Some last → PollsUntil told stations ready last until asked
+polls_at_once told stations hinting ready last until asked some grown is = record {
+  at_once = λ p half h. is;
+  waits = λ empty. absurd (let none : length ready ≡ 0 = ap length empty in omega (arith, none, some, grown.longer));
+  either = inl is;
+}
 
 -- the place is gone through
 abbrev pub PlaceNamed : (Pier → Option Hint) → List Station → Place → List ReadyAt → Type 0

@@ -1,5 +1,6 @@
 -- The one call on a port that stands behind an answer of a desk. After `Memory` none was made.
 use Rattle.std.specs.Prelude.{◌≡◌, ℕ, List, ⊤}
+use Rattle.relay_model.specs.declared.acts.Shut.{Shut}
 use Rattle.desk_ports.specs.Ports.{PortSeen, Reads, Writes, Sends, Shuts}
 use Rattle.port_trait.specs.declared.answers.Got.TheVariants as gots
 use Rattle.port_trait.specs.declared.answers.Took.TheVariants as tooks
@@ -39,12 +40,18 @@ SendsSo bytes sends.Failed before now = Sends before now bytes tooks.Failed
 SendsSo bytes sends.Memory before now = now ≡ before
 
 -- a shut of the desk that wanted no memory is one of the port
-abbrev pub ShutsSo : ShutAnswer → PortSeen → PortSeen → Type 0
-ShutsSo shuts.Done before now = Shuts before now shuttings.Done
-ShutsSo shuts.Failed before now = Shuts before now shuttings.Failed
-ShutsSo shuts.Memory before now = now ≡ before
+abbrev pub ShutsSo : Shut → ShutAnswer → PortSeen → PortSeen → Type 0
+ShutsSo how shuts.Done before now = Shuts before now how shuttings.Done
+ShutsSo how shuts.Failed before now = Shuts before now how shuttings.Failed
+ShutsSo how shuts.Memory before now = now ≡ before
 
 -- a fact of a wait that came to its end
 abbrev pub OnTurned : Turned → Type 0 → Type 0
 OnTurned (turns.Turned at stop) P = P
 OnTurned turns.Memory P = ⊤
+
+-- a fact of a shut that didn't want memory
+abbrev pub OnShut : ShutAnswer → Type 0 → Type 0
+OnShut shuts.Done P = P
+OnShut shuts.Failed P = P
+OnShut shuts.Memory P = ⊤

@@ -1,5 +1,5 @@
 -- What a turn is to name: halves whose key a poller named, and disarmed ones whose port hints that they are ready.
-use Rattle.std.specs.Prelude.{◌≡◌, ◌≤◌, ◌⊎◌, ℕ, Bool, true, List, length, slice_get, Option, None, Some, IfSome}
+use Rattle.std.specs.Prelude.{◌≡◌, ◌≤◌, ◌⊎◌, ℕ, Bool, true, List, [], length, slice_get, Option, None, Some, IfSome}
 use Rattle.relay_model.specs.declared.places.Place.{Place}
 use Rattle.relay_model.specs.declared.places.Half.{Half}
 use Rattle.relay_model.specs.declared.places.Half.TheVariants.{ToRead, ToWrite}
@@ -50,3 +50,20 @@ StationNamed told station ready = (half : Half) → half_disarmed half (Some sta
 -- each disarmed half whose port tells that it is ready is named
 abbrev pub NamesHinting : (Pier → Option Hint) → List Station → List ReadyAt → Type 0
 NamesHinting told stations ready = (p : Place) → IfSome (station_at stations p) (λ station. StationNamed told station ready)
+
+-- a hint that is told tells of this half
+abbrev pub IsHinted : Half → Option Hint → Type 0
+IsHinted half None = ⊥
+IsHinted half (Some hint) = is_hinted half hint ≡ true
+
+-- the half of the station is disarmed, and its port tells that it is ready
+abbrev pub IsHinting : (Pier → Option Hint) → Option Station → Half → Type 0
+IsHinting told None half = ⊥
+IsHinting told (Some station) half = (half_disarmed half (Some station) ≡ true) × IsHinted half (told (half_pier half station.base))
+
+-- until when a poll is asked to wait: where a half hints it is asked for the moment of the last turn, and so doesn't
+-- wait, and where nothing came to be named it was asked as the turn was
+pub record PollsUntil (told : Pier → Option Hint) (stations : List Station) (ready : List ReadyAt) (last : ℕ) (until asked : Option ℕ) : Type 0 where
+  pub at_once : (p : Place) (half : Half) → IsHinting told (station_at stations p) half → asked ≡ Some last
+  pub waits : ready ≡ [] → asked ≡ until
+  pub either : (asked ≡ Some last) ⊎ (asked ≡ until)

@@ -1,5 +1,5 @@
 -- The acts by which a desk keeps what it did, and the answers that stand for those of a port.
-use Rattle.std.specs.Prelude.{◌≡◌, ℕ, ◌+◌, ◌-◌, ◌^◌, min, ◌≤◌, Bool, true, false, List, length, take, Option, None, Some, option_map, if◌then◌else◌}
+use Rattle.std.specs.Prelude.{◌≡◌, ℕ, ◌+◌, ◌-◌, ◌^◌, min, ◌≤◌, Bool, true, false, List, [], ◌∷◌, length, take, Option, None, Some, option_map, if◌then◌else◌}
 use Rattle.relay_model.specs.declared.acts.Act.{Act}
 use Rattle.relay_model.specs.Journals.{History, Asking}
 use Rattle.world_trait.specs.Recordings.{with_act, with_asking}
@@ -22,6 +22,16 @@ use Rattle.world_trait.specs.declared.answers.NoteAnswer.{NoteAnswer}
 use Rattle.world_trait.specs.declared.answers.NoteAnswer.TheVariants as notes
 use Rattle.world_trait.specs.declared.answers.ReapAnswer.{ReapAnswer}
 use Rattle.world_trait.specs.declared.answers.ReapAnswer.TheVariants as reaps
+
+-- there are no acts
+abbrev pub are_none : List Act → Bool
+are_none [] = true
+are_none (act ∷ past) = false
+
+-- nothing is told that was done
+abbrev pub has_no_acts : Option History → Bool
+has_no_acts None = true
+has_no_acts (Some history) = are_none history.acts
 
 -- a count rises by one where something happened, and nowhere else; it stays at its last value
 abbrev pub CountsOnce : ℕ → ℕ → Bool → Type 0

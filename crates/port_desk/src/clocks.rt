@@ -20,7 +20,7 @@ impl<P: Poller + Drop> Model for Clock<P> {
 
     ghost Value = { ClockSeen };
 
-    ghost view = { λ c. record { last = c.last; reached = P.clock c.poller; keys = c.keys.entries; named = P.named c.poller } };
+    ghost view = { λ c. record { last = c.last; reached = P.clock c.poller; asked = P.asked c.poller; keys = c.keys.entries; named = P.named c.poller } };
 
     ghost invariant = { λ c. (c.last ≤ P.clock c.poller) × (256 ≤ c.keys.room) };
 }
@@ -54,6 +54,7 @@ impl<P: Poller + Drop> Clock<P> {
     /// Waits until something is ready, at most until the moment.
     pub fn poll(&mut self, until: Option<u64>) -> Polled
         ensures last { self.new.last ≡ self.old.last }
+        ensures asked { self.new.asked ≡ until }
         ensures at { result.at ≡ self.new.reached }
         ensures later { self.old.last ≤ result.at }
         ensures named { IfSome self.new.named (λ entries. entries ≡ self.new.keys) }
@@ -65,7 +66,7 @@ impl<P: Poller + Drop> Clock<P> {
     pub fn turn(&mut self, at: u64)
         requires { at ≤ self.old.reached }
         ensures last { self.new.last ≡ at }
-        ensures same { (self.new.reached ≡ self.old.reached) × (self.new.keys ≡ self.old.keys) × (self.new.named ≡ self.old.named) }
+        ensures same { (self.new.reached ≡ self.old.reached) × (self.new.asked ≡ self.old.asked) × (self.new.keys ≡ self.old.keys) × (self.new.named ≡ self.old.named) }
     {
         self.last = at;
     }

@@ -13,7 +13,7 @@ ghost use Rattle.desk_ports.specs.Ports.{seen};
 ghost use Rattle.desk_ports.specs.Harbors.{hint_told};
 ghost use Rattle.desk_places.specs.Footing.{IsSound};
 ghost use Rattle.desk_places.specs.Stations.{hold_at};
-ghost use Rattle.port_desk.specs.Naming.{NamesHinting, NamesKeyed};
+ghost use Rattle.port_desk.specs.Naming.{NamesHinting, NamesKeyed, PollsUntil};
 
 use crate::clocks::Clock;
 use crate::endings::{Backs, Counts, Ended};
@@ -21,7 +21,7 @@ use crate::naming::{name_hinting, name_keyed};
 use crate::records::Log;
 use desk_places::Ports;
 use desk_ports::Standard;
-use port_trait::{Maker, Polled, Poller, Port};
+use port_trait::{Joining, Maker, Polled, Poller, Port};
 use relay_model::{Kept, NoMemory, Place, ReadyList, Single};
 use std::alloc::Global;
 use world_trait::{Recorder, Standing, World};
@@ -35,6 +35,8 @@ pub struct Desk<M: Maker + Drop, P: Poller + Drop, I: Port, O: Port, E: Port> {
     pub(crate) log: Log,
     pub(crate) waits: u64,
     pub(crate) stops: u64,
+    // what the join of the port that the last closing let go answered; none where it wasn't joined
+    pub(crate) joined: Option<Joining>,
     ghost sound: { IsSound log.stations.entries ports.harbor.made },
     ghost parents_room: { length log.stations.entries + vec_len ports.parents ≤ vec_capacity ports.parents },
 }
@@ -51,9 +53,9 @@ impl<M: Maker + Drop, P: Poller + Drop, I: Port, O: Port, E: Port> Desk<M, P, I,
         ensures told { IfOk result (λ desk. ⟦<Desk<M, P, I, O, E> as World>⟧.told desk ≡ told_by recorder (record { acts = []; spare = 0 }) (record { pairs = []; spare = 0 })) }
         ensures fresh { let w = ⟦<Desk<M, P, I, O, E> as World>⟧ in IfOk result (λ desk. IsFresh (w.held desk) (w.faults desk) (w.waits desk) (w.stops desk) (w.clock desk)) }
         ensures untouched { IfOk result (λ desk. desk.log.acted ≡ false) }
-        ensures stdin { IfOk result (λ desk. (desk.ports.harbor.input.port ≡ seen I.gave I.took I.hints I.hinting I.counts I.ended I.joins I.child standard.stdin) × (desk.ports.harbor.input.begun ≡ false) × (desk.ports.harbor.input.finished ≡ false)) }
-        ensures stdout { IfOk result (λ desk. (desk.ports.harbor.output.port ≡ seen O.gave O.took O.hints O.hinting O.counts O.ended O.joins O.child standard.stdout) × (desk.ports.harbor.output.begun ≡ false) × (desk.ports.harbor.output.finished ≡ false)) }
-        ensures stderr { IfOk result (λ desk. (desk.ports.harbor.errors.port ≡ seen E.gave E.took E.hints E.hinting E.counts E.ended E.joins E.child standard.stderr) × (desk.ports.harbor.errors.begun ≡ false) × (desk.ports.harbor.errors.finished ≡ false)) }
+        ensures stdin { IfOk result (λ desk. (desk.ports.harbor.input.port ≡ seen I.gave I.took I.shuts I.hints I.hinting I.counts I.ended I.joins I.child standard.stdin) × (desk.ports.harbor.input.begun ≡ false) × (desk.ports.harbor.input.finished ≡ false)) }
+        ensures stdout { IfOk result (λ desk. (desk.ports.harbor.output.port ≡ seen O.gave O.took O.shuts O.hints O.hinting O.counts O.ended O.joins O.child standard.stdout) × (desk.ports.harbor.output.begun ≡ false) × (desk.ports.harbor.output.finished ≡ false)) }
+        ensures stderr { IfOk result (λ desk. (desk.ports.harbor.errors.port ≡ seen E.gave E.took E.shuts E.hints E.hinting E.counts E.ended E.joins E.child standard.stderr) × (desk.ports.harbor.errors.begun ≡ false) × (desk.ports.harbor.errors.finished ≡ false)) }
     {
         Ok(Desk {
             ports: Ports::new(alloc, standard, maker),
@@ -61,6 +63,7 @@ impl<M: Maker + Drop, P: Poller + Drop, I: Port, O: Port, E: Port> Desk<M, P, I,
             log: Log::new(alloc, recorder),
             waits: 0,
             stops: 0,
+            joined: None,
         })
     }
 
@@ -102,11 +105,11 @@ impl<M: Maker + Drop, P: Poller + Drop, I: Port, O: Port, E: Port> Desk<M, P, I,
     /// is shut with `Close`; then each is joined. Takes no memory.
     pub fn end(self) -> Ended<I, O, E>
         requires { (p : Place) → ⟦<Desk<M, P, I, O, E> as World>⟧.held self p ≡ Free }
-        ensures stdin { EndsSo (self.ports.harbor.input.begun && not self.ports.harbor.input.finished) self.ports.harbor.input.port (is_left result.standard.stdin) (seen I.gave I.took I.hints I.hinting I.counts I.ended I.joins I.child (handed result.standard.stdin)) }
+        ensures stdin { EndsSo (self.ports.harbor.input.begun && not self.ports.harbor.input.finished) self.ports.harbor.input.port (is_left result.standard.stdin) (seen I.gave I.took I.shuts I.hints I.hinting I.counts I.ended I.joins I.child (handed result.standard.stdin)) }
         ensures stdin_behind { OnJoinedBack (λ port. Behind (I.gave port) (I.took port) (I.behind_gave port) (I.behind_took port) (I.behind_left port) (I.behind_faults port) (I.ended port)) result.standard.stdin }
-        ensures stdout { EndsSo (self.ports.harbor.output.begun && not self.ports.harbor.output.finished) self.ports.harbor.output.port (is_left result.standard.stdout) (seen O.gave O.took O.hints O.hinting O.counts O.ended O.joins O.child (handed result.standard.stdout)) }
+        ensures stdout { EndsSo (self.ports.harbor.output.begun && not self.ports.harbor.output.finished) self.ports.harbor.output.port (is_left result.standard.stdout) (seen O.gave O.took O.shuts O.hints O.hinting O.counts O.ended O.joins O.child (handed result.standard.stdout)) }
         ensures stdout_behind { OnJoinedBack (λ port. Behind (O.gave port) (O.took port) (O.behind_gave port) (O.behind_took port) (O.behind_left port) (O.behind_faults port) (O.ended port)) result.standard.stdout }
-        ensures stderr { EndsSo (self.ports.harbor.errors.begun && not self.ports.harbor.errors.finished) self.ports.harbor.errors.port (is_left result.standard.stderr) (seen E.gave E.took E.hints E.hinting E.counts E.ended E.joins E.child (handed result.standard.stderr)) }
+        ensures stderr { EndsSo (self.ports.harbor.errors.begun && not self.ports.harbor.errors.finished) self.ports.harbor.errors.port (is_left result.standard.stderr) (seen E.gave E.took E.shuts E.hints E.hinting E.counts E.ended E.joins E.child (handed result.standard.stderr)) }
         ensures stderr_behind { OnJoinedBack (λ port. Behind (E.gave port) (E.took port) (E.behind_gave port) (E.behind_took port) (E.behind_left port) (E.behind_faults port) (E.ended port)) result.standard.stderr }
         ensures skipped { is_some (⟦<Desk<M, P, I, O, E> as World>⟧.told self) ≡ false → KeepsNothing result.kept }
         ensures kept { let w = ⟦<Desk<M, P, I, O, E> as World>⟧ in is_some (w.told self) ≡ true → w.told self ≡ Some (record { acts = result.kept.journal.acts; asked = result.kept.asked.pairs }) }
@@ -119,6 +122,7 @@ impl<M: Maker + Drop, P: Poller + Drop, I: Port, O: Port, E: Port> Desk<M, P, I,
             log,
             waits: _,
             stops: _,
+            joined: _,
         } = self;
         let (input, output, errors) = ports.into_streams();
         Ended {
@@ -186,6 +190,11 @@ impl<M: Maker + Drop, P: Poller + Drop, I: Port, O: Port, E: Port> Desk<M, P, I,
             self.old.ports.harbor.output.port.hints
             self.old.ports.harbor.errors.port.hints
             self.old.ports.harbor.made) self.old.log.stations.entries ready.new.entries }
+        ensures until { PollsUntil (hint_told
+            self.old.ports.harbor.input.port.hints
+            self.old.ports.harbor.output.port.hints
+            self.old.ports.harbor.errors.port.hints
+            self.old.ports.harbor.made) self.old.log.stations.entries ready.new.entries self.old.clock.last until self.new.clock.asked }
         ensures keyed { IfSome self.new.clock.named (λ entries. NamesKeyed entries self.old.log.stations.entries ready.new.entries) }
         ensures input { self.new.ports.harbor.input.port
             ≡ self.old.ports.harbor.input.port }

@@ -1,11 +1,11 @@
 // The held places of a desk, and what it keeps and counts of its acts.
-ghost use Rattle.std.specs.Prelude.{◌≡◌, ◌≤◌, ◌<◌, ◌+◌, ◌-◌, ◌^◌, [], None, Some, true, false, is_some, length, min, OnOk, OnErr, IfOk, MatchOption, option_map};
+ghost use Rattle.std.specs.Prelude.{◌≡◌, ◌||◌, ◌≤◌, ◌<◌, ◌+◌, ◌-◌, ◌^◌, [], None, Some, true, false, is_some, length, min, OnOk, OnErr, IfOk, MatchOption, option_map};
 ghost use Rattle.relay_model.specs.Readiness.{copied_list};
 ghost use Rattle.world_trait.specs.Recordings.{HasRoom, HasAskingRoom, KeepsNothing, told_by, with_act, with_asking};
 ghost use Rattle.world_trait.specs.Answers.{ReadFits, Rose, WriteFits, accept_act, is_accept_fault, is_listen_fault, is_open_fault, is_read_fault, is_send_fault, is_shut_fault, is_write_fault, listen_act, open_act, read_act, reap_act, send_act, shut_act, write_act};
 ghost use Rattle.desk_ports.specs.Answers.{GotFits, TookFits};
 ghost use Rattle.desk_places.specs.Changes.{shut_answer};
-ghost use Rattle.port_desk.specs.Records.{CountsOnce, Tells, TellsAsking, read_answer, reap_answer, send_answer, write_answer};
+ghost use Rattle.port_desk.specs.Records.{CountsOnce, has_no_acts, Tells, TellsAsking, read_answer, reap_answer, send_answer, write_answer};
 
 use desk_places::Stations;
 use port_trait::{Got, PortReap, Shutting, Took};
@@ -26,6 +26,7 @@ pub struct Log {
     pub acted: bool,
     pub alloc: Global,
     ghost room: { HasRoom (length stations.entries) recording },
+    ghost unacted: { (acted || has_no_acts recording.told) ≡ true },
 }
 
 impl Log {

@@ -1,5 +1,5 @@
 // The calls of the relay on a desk.
-ghost use Rattle.std.specs.Prelude.{◌≡◌, ◌≤◌, ◌<◌, ◌&&◌, ℕ, None, Some, true, false, not, find, length, ◌⊎◌, IfSome, IfNone};
+ghost use Rattle.std.specs.Prelude.{◌≡◌, ◌≤◌, ◌<◌, ◌&&◌, ℕ, None, Some, true, false, not, find, length, option_map, ◌⊎◌, IfSome, IfNone};
 ghost use Rattle.slab.specs.Slab.{get};
 ghost use Rattle.relay_model.specs.declared.places.Place.{Place};
 ghost use Rattle.relay_model.specs.declared.places.Half.{Half};
@@ -7,16 +7,18 @@ ghost use Rattle.relay_model.specs.Holding.{Free, Open, Settling, is_free, is_op
 ghost use Rattle.relay_model.specs.Places.{same_place};
 ghost use Rattle.relay_model.specs.Readiness.{names};
 ghost use Rattle.world_trait.specs.Answers.{Answered, AnsweredAsking, OnlyHeldNamed, NotReaped, OnlyWhereTold, ReadFits, Rose, WaitCounts, WriteFits, accept_act, close_act, is_accept_fault, is_listen_fault, is_note_fault, is_open_fault, is_read_fault, is_send_fault, is_shut_fault, is_write_fault, listen_act, note_act, open_act, read_act, reap_act, send_act, shut_act, wait_act, wants_read_memory, wants_send_memory, wants_shut_memory, wants_turn_memory, wants_write_memory, write_act};
-ghost use Rattle.port_desk.specs.Calls.{OnTurned, ReadsSo, SendsSo, ShutsSo, WritesSo};
-ghost use Rattle.desk_places.specs.Causes.{AcceptCause, ListenCause, OpenCause, StandardCause};
+ghost use Rattle.port_trait.specs.Streams.{finishes};
+ghost use Rattle.desk_places.specs.Bases.{AcceptsOn, Leaves, ListensOn, OpensOn, SameBases, SettlesOn};
+ghost use Rattle.port_desk.specs.Calls.{OnShut, OnTurned, ReadsSo, SendsSo, ShutsSo, WritesSo};
+ghost use Rattle.desk_places.specs.Causes.{AcceptCause, ListenCause, OpenAsks, OpenCause, StandardCause};
 ghost use Rattle.port_trait.specs.Counting.{Rose as Rises};
 ghost use Rattle.desk_ports.specs.Bases.{standard_of};
 ghost use Rattle.desk_ports.specs.Harbors.{AtErrors, AtInput, AtMade, AtOutput, MadeCall, giving_pier, hint_told, taking_pier};
-ghost use Rattle.desk_places.specs.Changes.{ReapsAnswered, SettlesMade, SettlesSo};
-ghost use Rattle.port_desk.specs.Naming.{NamesHinting, NamesKeyed};
+ghost use Rattle.desk_places.specs.Changes.{LeavesParent, ReapsAnswered, SettlesMade, SettlesSo, is_finished, joined_answer, made_at};
+ghost use Rattle.port_desk.specs.Naming.{NamesHinting, NamesKeyed, PollsUntil};
 ghost use Rattle.desk_ports.specs.Ports.{MovesNothing, seen};
 ghost use Rattle.port_desk.specs.Records.{CountsOnce, CountsStop, NotedSo};
-ghost use Rattle.desk_places.specs.Stations.{base_at, hold_at, is_disarmed};
+ghost use Rattle.desk_places.specs.Stations.{SetsStation, base_at, hold_at, is_disarmed, shut_down, station_at};
 ghost use Rattle.desk_ports.specs.declared.bases.Base.TheVariants as bases;
 
 use crate::desk::Desk;
@@ -60,6 +62,13 @@ impl<M: Maker + Drop, P: Poller + Drop, I: Port, O: Port, E: Port> World for Des
             self.old.ports.harbor.errors.port.hints
             self.old.ports.harbor.made)
             self.old.log.stations.entries ready.new.entries) }
+        ensures until { OnTurned result (PollsUntil
+            (hint_told
+            self.old.ports.harbor.input.port.hints
+            self.old.ports.harbor.output.port.hints
+            self.old.ports.harbor.errors.port.hints
+            self.old.ports.harbor.made)
+            self.old.log.stations.entries ready.new.entries self.old.clock.last until self.new.clock.asked) }
         ensures armed { OnTurned result ((p : Place) (half : Half) → is_disarmed self.new.log.stations.entries p half ≡ (is_disarmed self.old.log.stations.entries p half && not (names ready.new.entries p half))) }
         ensures input { self.new.ports.harbor.input.port
             ≡ self.old.ports.harbor.input.port }
@@ -68,6 +77,7 @@ impl<M: Maker + Drop, P: Poller + Drop, I: Port, O: Port, E: Port> World for Des
         ensures errors { self.new.ports.harbor.errors.port
             ≡ self.old.ports.harbor.errors.port }
         ensures poller { OnTurned result (self.new.clock.last ≡ self.new.clock.reached) }
+        ensures bases { SameBases (base_at self.old.log.stations.entries) (base_at self.new.log.stations.entries) }
     {
         ready.clear();
         let Ok(()) = self.log.reserve(1) else {
@@ -102,7 +112,9 @@ impl<M: Maker + Drop, P: Poller + Drop, I: Port, O: Port, E: Port> World for Des
         ensures standard { IfSome (standard_of place single.now.target) (λ base. StandardCause (Rises self.old.ports.harbor.input.port.counts.faults self.new.ports.harbor.input.port.counts.faults
             ⊎ (Rises self.old.ports.harbor.output.port.counts.faults self.new.ports.harbor.output.port.counts.faults
             ⊎ Rises self.old.ports.harbor.errors.port.counts.faults self.new.ports.harbor.errors.port.counts.faults)) result) }
+        ensures asked { IfNone (standard_of place single.now.target) (OpenAsks place single.now behind (M.asked self.new.ports.maker) result) }
         ensures made { IfNone (standard_of place single.now.target) (OpenCause (M.faults self.old.ports.maker) (M.faults self.new.ports.maker) (M.stalls self.old.ports.maker) (M.stalls self.new.ports.maker) result) }
+        ensures bases { OpensOn (standard_of place single.now.target) place (base_at self.old.log.stations.entries) (base_at self.new.log.stations.entries) result }
     {
         let Ok(copied) = self.prepare_opening(single) else {
             return OpenAnswer::Memory;
@@ -135,6 +147,7 @@ impl<M: Maker + Drop, P: Poller + Drop, I: Port, O: Port, E: Port> World for Des
         ensures made { IfSome (base_at self.old.log.stations.entries place) (λ base. AtMade (giving_pier base)
             (λ key. SettlesMade self.old.ports.harbor.made self.new.ports.harbor.made key result)
             (self.new.ports.harbor.made ≡ self.old.ports.harbor.made)) }
+        ensures bases { SettlesOn place (base_at self.old.log.stations.entries) (base_at self.new.log.stations.entries) result }
     {
         let Ok(()) = self.log.reserve(1) else {
             return OpenAnswer::Memory;
@@ -155,6 +168,7 @@ impl<M: Maker + Drop, P: Poller + Drop, I: Port, O: Port, E: Port> World for Des
         ensures clock { self.new.clock.last ≡ self.old.clock.last }
         ensures streams { (self.new.ports.harbor.input ≡ self.old.ports.harbor.input) × (self.new.ports.harbor.output ≡ self.old.ports.harbor.output) × (self.new.ports.harbor.errors ≡ self.old.ports.harbor.errors) }
         ensures made { ListenCause (M.faults self.old.ports.maker) (M.faults self.new.ports.maker) result }
+        ensures bases { ListensOn door (base_at self.old.log.stations.entries) (base_at self.new.log.stations.entries) result }
     {
         let Ok(copied) = self.prepare_opening(single) else {
             return ListenAnswer::Memory;
@@ -176,6 +190,7 @@ impl<M: Maker + Drop, P: Poller + Drop, I: Port, O: Port, E: Port> World for Des
         ensures clock { self.new.clock.last ≡ self.old.clock.last }
         ensures streams { (self.new.ports.harbor.input ≡ self.old.ports.harbor.input) × (self.new.ports.harbor.output ≡ self.old.ports.harbor.output) × (self.new.ports.harbor.errors ≡ self.old.ports.harbor.errors) }
         ensures made { AcceptCause (M.faults self.old.ports.maker) (M.faults self.new.ports.maker) (M.stalls self.old.ports.maker) (M.stalls self.new.ports.maker) (M.came self.new.ports.maker) result }
+        ensures bases { AcceptsOn place (base_at self.old.log.stations.entries) (base_at self.new.log.stations.entries) result }
     {
         let Ok(()) = self.prepare_port() else {
             return AcceptAnswer::Memory;
@@ -215,6 +230,7 @@ impl<M: Maker + Drop, P: Poller + Drop, I: Port, O: Port, E: Port> World for Des
         ensures made { IfSome (base_at self.old.log.stations.entries place) (λ base. AtMade (giving_pier base)
             (λ key. MadeCall self.old.ports.harbor.made self.new.ports.harbor.made key (λ old new. ReadsSo into.new result old new))
             (self.new.ports.harbor.made ≡ self.old.ports.harbor.made)) }
+        ensures bases { SameBases (base_at self.old.log.stations.entries) (base_at self.new.log.stations.entries) }
     {
         let Ok(copied) = self.log.prepare(into) else {
             return ReadAnswer::Memory;
@@ -253,6 +269,7 @@ impl<M: Maker + Drop, P: Poller + Drop, I: Port, O: Port, E: Port> World for Des
         ensures made { IfSome (base_at self.old.log.stations.entries place) (λ base. AtMade (taking_pier base)
             (λ key. MadeCall self.old.ports.harbor.made self.new.ports.harbor.made key (λ old new. WritesSo bytes.now result old new))
             (self.new.ports.harbor.made ≡ self.old.ports.harbor.made)) }
+        ensures bases { SameBases (base_at self.old.log.stations.entries) (base_at self.new.log.stations.entries) }
     {
         let Ok(copied) = self.log.prepare(bytes) else {
             return WriteAnswer::Memory;
@@ -291,6 +308,7 @@ impl<M: Maker + Drop, P: Poller + Drop, I: Port, O: Port, E: Port> World for Des
         ensures made { IfSome (base_at self.old.log.stations.entries place) (λ base. AtMade (taking_pier base)
             (λ key. MadeCall self.old.ports.harbor.made self.new.ports.harbor.made key (λ old new. SendsSo bytes.now result old new))
             (self.new.ports.harbor.made ≡ self.old.ports.harbor.made)) }
+        ensures bases { SameBases (base_at self.old.log.stations.entries) (base_at self.new.log.stations.entries) }
     {
         let Ok(copied) = self.log.prepare(bytes) else {
             return SendAnswer::Memory;
@@ -310,23 +328,25 @@ impl<M: Maker + Drop, P: Poller + Drop, I: Port, O: Port, E: Port> World for Des
         ensures clock { self.new.clock.last ≡ self.old.clock.last }
         ensures memory { OnlyWhereTold self.old.log.recording.told (wants_shut_memory result) }
         ensures input { IfSome (base_at self.old.log.stations.entries place) (λ base. AtInput (taking_pier base)
-            (ShutsSo result
+            (ShutsSo how result
             self.old.ports.harbor.input.port
             self.new.ports.harbor.input.port)
             (self.new.ports.harbor.input ≡ self.old.ports.harbor.input)) }
         ensures output { IfSome (base_at self.old.log.stations.entries place) (λ base. AtOutput (taking_pier base)
-            (ShutsSo result
+            (ShutsSo how result
             self.old.ports.harbor.output.port
             self.new.ports.harbor.output.port)
             (self.new.ports.harbor.output ≡ self.old.ports.harbor.output)) }
         ensures errors { IfSome (base_at self.old.log.stations.entries place) (λ base. AtErrors (taking_pier base)
-            (ShutsSo result
+            (ShutsSo how result
             self.old.ports.harbor.errors.port
             self.new.ports.harbor.errors.port)
             (self.new.ports.harbor.errors ≡ self.old.ports.harbor.errors)) }
         ensures made { IfSome (base_at self.old.log.stations.entries place) (λ base. AtMade (taking_pier base)
-            (λ key. MadeCall self.old.ports.harbor.made self.new.ports.harbor.made key (λ old new. ShutsSo result old new))
+            (λ key. MadeCall self.old.ports.harbor.made self.new.ports.harbor.made key (λ old new. ShutsSo how result old new))
             (self.new.ports.harbor.made ≡ self.old.ports.harbor.made)) }
+        ensures station { OnShut result (SetsStation place (option_map (shut_down (finishes how)) (station_at self.old.log.stations.entries place)) (station_at self.old.log.stations.entries) (station_at self.new.log.stations.entries)) }
+        ensures bases { SameBases (base_at self.old.log.stations.entries) (base_at self.new.log.stations.entries) }
     {
         let Ok(()) = self.log.reserve(1) else {
             return ShutAnswer::Memory;
@@ -346,10 +366,13 @@ impl<M: Maker + Drop, P: Poller + Drop, I: Port, O: Port, E: Port> World for Des
         ensures unstopped { self.new.stops ≡ self.old.stops }
         ensures clock { self.new.clock.last ≡ self.old.clock.last }
         ensures streams { (self.new.ports.harbor.input ≡ self.old.ports.harbor.input) × (self.new.ports.harbor.output ≡ self.old.ports.harbor.output) × (self.new.ports.harbor.errors ≡ self.old.ports.harbor.errors) }
+        ensures joined { IfSome (station_at self.old.log.stations.entries place) (λ s. self.new.joined ≡ joined_answer (s.finished && is_finished why) (made_at self.old.ports.harbor.made s.base)) }
+        ensures parents { IfSome (station_at self.old.log.stations.entries place) (λ s. LeavesParent (s.finished && is_finished why) (made_at self.old.ports.harbor.made s.base) self.old.ports.parents.items self.new.ports.parents.items) }
         ensures gone { (key : ℕ) → base_at self.old.log.stations.entries place ≡ Some (bases.Made key) → get self.new.ports.harbor.made key ≡ None }
         ensures others { (key : ℕ) → (base_at self.old.log.stations.entries place ≡ Some (bases.Made key) → ⊥) → get self.new.ports.harbor.made key ≡ get self.old.ports.harbor.made key }
+        ensures bases { Leaves place (base_at self.old.log.stations.entries) (base_at self.new.log.stations.entries) }
     {
-        let _joined = self.ports.close(&mut self.log.stations, place, why);
+        self.joined = self.ports.close(&mut self.log.stations, place, why);
         self.log.put(Act::Closed(place, why));
     }
 
@@ -367,9 +390,12 @@ impl<M: Maker + Drop, P: Poller + Drop, I: Port, O: Port, E: Port> World for Des
             self.old.ports.harbor.errors.port.took
             self.new.ports.harbor.errors.port.took
             text.now }
+        ensures unshut { self.new.ports.harbor.errors.port.shuts
+            ≡ self.old.ports.harbor.errors.port.shuts }
         ensures errors { is_note_fault result ≡ true → Rises
             self.old.ports.harbor.errors.port.counts.faults
             self.new.ports.harbor.errors.port.counts.faults }
+        ensures bases { SameBases (base_at self.old.log.stations.entries) (base_at self.new.log.stations.entries) }
     {
         let Ok(copied) = self.log.prepare(text) else {
             return NoteAnswer::Memory;
@@ -401,6 +427,7 @@ impl<M: Maker + Drop, P: Poller + Drop, I: Port, O: Port, E: Port> World for Des
         ensures clock { self.new.clock.last ≡ self.old.clock.last }
         ensures ports { (self.new.ports.harbor ≡ self.old.ports.harbor) × (self.new.ports.maker ≡ self.old.ports.maker) }
         ensures reaped { ReapsAnswered (find (λ b. same_place b.place place) self.old.ports.parents.items) result }
+        ensures bases { SameBases (base_at self.old.log.stations.entries) (base_at self.new.log.stations.entries) }
     {
         let Ok(()) = self.log.reserve(1) else {
             return ReapAnswer::Memory;

@@ -1,6 +1,7 @@
--- A maker in memory: the items that are left, and what its calls answer.
+-- A maker in memory: the items that are left, what it was asked for, and what its calls answer.
 use Rattle.std.specs.Prelude.{ℕ, List, [], ◌∷◌, Option, None}
 use Rattle.relay_model.specs.declared.acts.Peer.{Peer as PeerAddress}
+use Rattle.port_trait.specs.declared.makers.AskedPlace.{AskedPlace}
 use Rattle.port_trait.specs.declared.makers.Making.{Making}
 use Rattle.port_trait.specs.declared.makers.Making.TheVariants as makings
 use Rattle.port_trait.specs.declared.makers.MadePeer.{MadePeer}
@@ -13,12 +14,13 @@ use Rattle.port_objects.specs.Ports.{PortState}
 pub record MakerState : Type 0 where
   pub items : List MakeItem
   pub came : Option PeerAddress
+  pub asked : Option AskedPlace
   pub faults : ℕ
   pub stalls : ℕ
 
 -- a maker without items
 abbrev pub fresh_maker : MakerState
-fresh_maker = record { items = []; came = None; faults = 0; stalls = 0 }
+fresh_maker = record { items = []; came = None; asked = None; faults = 0; stalls = 0 }
 
 -- only a port can be made
 abbrev pub scripted_make : List MakeItem → Making PortState

@@ -1,4 +1,5 @@
--- A poller in memory: the moment that it has come to, what it names next and what it named last.
+-- A poller in memory: the moment that it has come to, the one until which it was asked to wait last, what it names next
+-- and what it named last.
 use Rattle.std.specs.Prelude.{ℕ, max, List, [], Option, None, Some}
 use Rattle.relay_model.specs.declared.places.Half.{Half}
 use Rattle.port_trait.specs.Keys.{KeysListed}
@@ -6,12 +7,13 @@ use Rattle.port_trait.specs.Keys.{KeysListed}
 -- what contracts see of a poller in memory
 pub record PollerState : Type 0 where
   pub clock : ℕ
+  pub asked : Option ℕ
   pub next : List (ℕ × Half)
   pub last : List (ℕ × Half)
 
 -- a poller that will name these keys
 abbrev pub fresh_poller : List (ℕ × Half) → PollerState
-fresh_poller keys = record { clock = 0; next = keys; last = [] }
+fresh_poller keys = record { clock = 0; asked = None; next = keys; last = [] }
 
 -- the keys of a list, if there is one
 abbrev pub entries_of : Option KeysListed → List (ℕ × Half)

@@ -1,11 +1,11 @@
 // A maker in memory.
-ghost use Rattle.std.specs.Prelude.{◌≡◌, ◌++◌, ◌∷◌, [], OnOk, OnErr};
+ghost use Rattle.std.specs.Prelude.{◌≡◌, ◌++◌, ◌∷◌, [], IfSome, OnOk, OnErr};
 ghost use Rattle.port_trait.specs.Counting.{Counted};
 ghost use Rattle.port_trait.specs.Made.{making_failed, making_stalled, peer_failed, peer_stalled, came_after};
 ghost use Rattle.port_objects.specs.Makers.{fresh_maker, scripted_make, items_after_make, scripted_accept, items_after_accept};
 
 use crate::ports::MemPort;
-use port_trait::{MadePeer, Maker, Making};
+use port_trait::{AskedPlace, MadePeer, Maker, Making};
 use relay_model::{NoMemory, Peer, Place, Single};
 use std::alloc::Global;
 use std::collections::VecDeque;
@@ -24,6 +24,7 @@ pub enum MakeItem {
 pub struct MemMaker {
     items: VecDeque<MakeItem>,
     came: Option<Peer>,
+    asked: Option<AskedPlace>,
     faults: u64,
     stalls: u64,
 }
@@ -33,7 +34,7 @@ impl Model for MemMaker {
 
     ghost Value = { MakerState };
 
-    ghost view = { λ maker. record { items = maker.items.items; came = maker.came; faults = maker.faults; stalls = maker.stalls } };
+    ghost view = { λ maker. record { items = maker.items.items; came = maker.came; asked = maker.asked; faults = maker.faults; stalls = maker.stalls } };
 }
 
 impl MemMaker {
@@ -44,6 +45,7 @@ impl MemMaker {
         MemMaker {
             items: VecDeque::new(alloc),
             came: None,
+            asked: None,
             faults: 0,
             stalls: 0,
         }
@@ -63,6 +65,7 @@ impl MemMaker {
         ensures answer { result ≡ scripted_make self.old.items }
         ensures items { self.new.items ≡ items_after_make self.old.items }
         ensures came { self.new.came ≡ self.old.came }
+        ensures asked { self.new.asked ≡ self.old.asked }
         ensures stalls { self.new.stalls ≡ self.old.stalls }
         ensures faults { Counted (making_failed result) self.old.faults self.new.faults }
     {
@@ -83,19 +86,23 @@ impl Maker for MemMaker {
 
     ghost came = { λ maker. maker.came };
 
+    ghost asked = { λ maker. maker.asked };
+
     fn make(
         &mut self,
         _key: usize,
-        _place: Place,
-        _single: &Single,
-        _behind: Option<Peer>,
+        place: Place,
+        single: &Single,
+        behind: Option<Peer>,
     ) -> Making<MemPort>
+        ensures asked { IfSome self.new.asked (λ told. told ≡ record { place = place; single = single.now; behind = behind }) }
         ensures answer { result ≡ scripted_make self.old.items }
         ensures items { self.new.items ≡ items_after_make self.old.items }
         ensures came { self.new.came ≡ self.old.came }
         ensures faults { Counted (making_failed result) self.old.faults self.new.faults }
         ensures stalls { self.new.stalls ≡ self.old.stalls }
     {
+        self.asked = asked_for(place, single, behind);
         self.take_port()
     }
 
@@ -103,6 +110,7 @@ impl Maker for MemMaker {
         ensures answer { result ≡ scripted_make self.old.items }
         ensures items { self.new.items ≡ items_after_make self.old.items }
         ensures came { self.new.came ≡ self.old.came }
+        ensures asked { self.new.asked ≡ self.old.asked }
         ensures faults { Counted (making_failed result) self.old.faults self.new.faults }
         ensures stalls { self.new.stalls ≡ self.old.stalls }
     {
@@ -114,6 +122,7 @@ impl Maker for MemMaker {
         ensures answer { result ≡ scripted_accept self.old.items }
         ensures items { self.new.items ≡ items_after_accept self.old.items }
         ensures door { door.new ≡ door.old }
+        ensures asked { self.new.asked ≡ self.old.asked }
         ensures came { self.new.came ≡ came_after self.old.came result }
         ensures faults { Counted (peer_failed result) self.old.faults self.new.faults }
         ensures stalls { Counted (peer_stalled result) self.old.stalls self.new.stalls }
@@ -132,5 +141,19 @@ impl Maker for MemMaker {
         }
         self.faults = self.faults.saturating_add(1);
         MadePeer::Failed
+    }
+}
+
+/// What is asked for, where there is memory to tell it.
+fn asked_for(place: Place, single: &Single, behind: Option<Peer>) -> Option<AskedPlace>
+    ensures { IfSome result (λ told. told ≡ record { place = place; single = single.now; behind = behind }) }
+{
+    match single.copy() {
+        Ok(single) => Some(AskedPlace {
+            place,
+            single,
+            behind,
+        }),
+        Err(NoMemory) => None,
     }
 }

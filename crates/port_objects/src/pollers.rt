@@ -10,6 +10,7 @@ use std::thread;
 #[derive(Drop)]
 pub struct MemPoller {
     clock: u64,
+    asked: Option<u64>,
     next: Option<KeyList>,
     last: Option<KeyList>,
 }
@@ -19,7 +20,7 @@ impl Model for MemPoller {
 
     ghost Value = { PollerState };
 
-    ghost view = { λ poller. record { clock = poller.clock; next = entries_of poller.next; last = entries_of poller.last } };
+    ghost view = { λ poller. record { clock = poller.clock; asked = poller.asked; next = entries_of poller.next; last = entries_of poller.last } };
 }
 
 impl MemPoller {
@@ -29,6 +30,7 @@ impl MemPoller {
     {
         MemPoller {
             clock: 0,
+            asked: None,
             next: None,
             last: None,
         }
@@ -40,6 +42,7 @@ impl MemPoller {
     {
         MemPoller {
             clock: 0,
+            asked: None,
             next: Some(keys),
             last: None,
         }
@@ -53,15 +56,19 @@ impl Poller for MemPoller {
 
     ghost clock = { λ poller. poller.clock };
 
+    ghost asked = { λ poller. poller.asked };
+
     /// Comes to the moment, or without one lets other threads run.
     fn poll(&mut self, until: Option<u64>, ready: &mut KeyList) -> Polled
         requires { 256 ≤ ready.old.room }
         ensures answer { result ≡ record { at = self.new.clock; stop = false } }
         ensures clock { self.new.clock ≡ clock_after self.old.clock until }
+        ensures asked { self.new.asked ≡ until }
         ensures grows { self.old.clock ≤ self.new.clock }
         ensures named { (self.new.last ≡ self.old.next) × (self.new.next ≡ []) }
         ensures ready { ready.new ≡ record ready.old { entries = self.old.next } }
     {
+        self.asked = until;
         match until {
             Some(moment) => self.clock = self.clock.max(moment),
             None => thread::yield_now(),

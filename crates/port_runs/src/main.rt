@@ -9,6 +9,7 @@ mod memory;
 mod proxies;
 mod queues;
 mod rings;
+mod senders;
 mod spellings;
 
 use calls::{PATIENCE, make_calls};
@@ -37,6 +38,8 @@ fn main(rt: HostRuntime) -> io::Result<ExitCode> {
                 let mut ring = RingWriter::new(alloc, sink, &mut spawner, NoWake)?;
                 make_calls(alloc, &mut ring, Some(&tap), PATIENCE, inputs, answers)
             }
+            "senders" => senders::ask_table(alloc, inputs, answers),
+            "hub" => senders::ask_hub(alloc, inputs, answers),
             "file" => files::ask(&rt, rt, alloc, inputs, answers),
             "queue" => queues::ask_queue(&rt, alloc, inputs, answers),
             "numbers" => queues::ask_numbers(&rt, alloc, inputs, answers),

@@ -1,5 +1,6 @@
 -- What the calls of a port do to what it gave and took. A meaning that isn't told is None before and after.
-use Rattle.std.specs.Prelude.{◌≡◌, ℕ, ◌≤◌, Bool, true, false, List, [], ◌++◌, length, take, Option, None, Some, option_map, IfSome, if◌then◌else◌}
+use Rattle.std.specs.Prelude.{◌≡◌, ℕ, ◌≤◌, Bool, true, false, List, [], ◌∷◌, ◌++◌, length, take, Option, None, Some, option_map, IfSome, if◌then◌else◌}
+use Rattle.relay_model.specs.declared.acts.Shut.{Shut}
 use Rattle.port_trait.specs.declared.answers.Begun.{Begun as BeginAnswer}
 use Rattle.port_trait.specs.declared.answers.Begun.TheVariants as begins
 use Rattle.port_trait.specs.declared.answers.Settled.{Settled}
@@ -79,6 +80,10 @@ IsOfStream reads.Empty = ⊥
 IsOfStream reads.End = Unit {0}
 IsOfStream reads.NotYet = ⊥
 IsOfStream reads.Failed = Unit {0}
+
+-- one way more that an end was passed on
+abbrev pub noted : Shut → Option (List Shut) → Option (List Shut)
+noted how before = option_map (λ all. all ++ how ∷ []) before
 
 -- these bytes were added to what is told
 abbrev pub Adds : Option (List ℕ) → Option (List ℕ) → List ℕ → Type 0

@@ -18,7 +18,7 @@ pub use answers::{
 pub use counts::Counts;
 pub use direct::{DirectReader, DirectWriter};
 pub use keys::KeyList;
-pub use makers::{MadePeer, Maker, Making};
+pub use makers::{AskedPlace, MadePeer, Maker, Making};
 pub use pollers::{Polled, Poller};
 pub use ports::Port;
 pub use spawning::{Spawner, StdSpawner, Task, Wake};

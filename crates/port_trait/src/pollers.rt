@@ -18,12 +18,15 @@ pub trait Poller {
     ghost named: { Self → Option (List (ℕ × Half)) } = { λ _. None };
 
     ghost stops: { Self → ℕ };
-    // the moment of the last poll
+    // the moment of the last poll, and the one until which it was asked to wait at most
     ghost clock: { Self → ℕ };
+
+    ghost asked: { Self → Option ℕ };
 
     /// Empties `ready`, waits, at most until the moment `until`, and names there what is ready.
     fn poll(&mut self, until: Option<u64>, ready: &mut KeyList) -> Polled
         requires { 256 ≤ ready.old.room }
+        ensures asked { asked self.new ≡ until }
         ensures room { ready.new.room ≡ ready.old.room }
         ensures named { IfSome (named self.new) (λ entries. entries ≡ ready.new.entries) }
         ensures at { (clock self.old ≤ clock self.new) × (result.at ≡ clock self.new) }

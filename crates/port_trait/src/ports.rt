@@ -2,11 +2,12 @@
 ghost use Rattle.std.specs.Prelude.{◌≡◌, ◌<◌, ℕ, Bool, true, false, ◌&&◌, List, length, Option, None, IfSome};
 ghost use Rattle.port_trait.specs.Counting.{Tallied};
 ghost use Rattle.port_trait.specs.Hinting.{StaysHinting, no_hint};
-ghost use Rattle.port_trait.specs.Meanings.{Gives, Accepts, AcceptsWhole, AcceptsAll, ReapsChild, Behind, FinishedBehind, OnJoined, join_answer, begun_after, is_end, begin_event, settle_event, read_event, write_event, shut_event};
+ghost use Rattle.port_trait.specs.Meanings.{Gives, Accepts, AcceptsWhole, AcceptsAll, ReapsChild, Behind, FinishedBehind, OnJoined, join_answer, begun_after, is_end, begin_event, settle_event, read_event, write_event, shut_event, noted};
 ghost use Rattle.port_trait.specs.Serving.{Serving, Called, Shuts, MisusesCounted, Explained, is_begin_served};
 ghost use Rattle.port_trait.specs.declared.answers.Hint.{Hint};
 ghost use Rattle.port_trait.specs.declared.answers.Begun.TheVariants as begins;
 ghost use Rattle.port_trait.specs.declared.counts.Counts.{Counts};
+ghost use Rattle.relay_model.specs.declared.acts.Shut.{Shut};
 
 use crate::answers::{Begun, Got, Hint, Joining, PortReap, Settled, Shutting, Took};
 use relay_model::Shut;
@@ -18,6 +19,8 @@ pub trait Port: Drop {
     ghost gave: { Self → Option (List ℕ) } = { λ _. None };
     // the bytes that `write`, `put_all` and `send` accepted
     ghost took: { Self → Option (List ℕ) } = { λ _. None };
+    // how it was told that no more will be written, each time
+    ghost shuts: { Self → Option (List Shut) } = { λ _. None };
     // since `begin`: what the source gave, what the sink took before its first fault, how far their counts of
     // faults and ends rose, and what the source has left
     ghost behind_gave: { Self → Option (List ℕ) } = { λ _. None };
@@ -53,6 +56,7 @@ pub trait Port: Drop {
         ensures again { begun self.old ≡ true → (result ≡ begins.Begun) × (self.new ≡ self.old) }
         ensures begun { begun self.new ≡ begun_after (begun self.old) result }
         ensures kept { (gave self.new ≡ gave self.old) × (took self.new ≡ took self.old) × (ended self.new ≡ ended self.old) }
+        ensures unshut { shuts self.new ≡ shuts self.old }
         ensures served { Called (λ _. is_begin_served result) (served self.old) (served self.new) }
         ensures misused { result ≡ begins.Begun → MisusesCounted (served self.new) (counts self.new) }
         ensures hinting { StaysHinting (hinting self.old) (hinting self.new) (hints self.new) }
@@ -61,6 +65,7 @@ pub trait Port: Drop {
     /// Asks once, without waiting, whether what was begun stands.
     fn settle(&mut self) -> Settled
         ensures kept { (gave self.new ≡ gave self.old) × (took self.new ≡ took self.old) × (begun self.new ≡ begun self.old) × (ended self.new ≡ ended self.old) × (child self.new ≡ child self.old) }
+        ensures unshut { shuts self.new ≡ shuts self.old }
         ensures served { served self.new ≡ served self.old }
         ensures hinting { StaysHinting (hinting self.old) (hinting self.new) (hints self.new) }
         ensures counts { Tallied (settle_event result) (counts self.old) (counts self.new) };
@@ -71,6 +76,7 @@ pub trait Port: Drop {
         ensures gives { Gives (gave self.old) (gave self.new) into.new result }
         ensures ended { ended self.new ≡ is_end result }
         ensures kept { (took self.new ≡ took self.old) × (begun self.new ≡ begun self.old) × (child self.new ≡ child self.old) }
+        ensures unshut { shuts self.new ≡ shuts self.old }
         ensures served { Called (λ serving. serving.reads) (served self.old) (served self.new) }
         ensures hinting { StaysHinting (hinting self.old) (hinting self.new) (hints self.new) }
         ensures counts { Tallied (read_event result) (counts self.old) (counts self.new) };
@@ -80,6 +86,7 @@ pub trait Port: Drop {
         requires { 0 < length bytes.now }
         ensures accepts { Accepts (took self.old) (took self.new) bytes.now result }
         ensures kept { (gave self.new ≡ gave self.old) × (begun self.new ≡ begun self.old) × (ended self.new ≡ ended self.old) × (child self.new ≡ child self.old) }
+        ensures unshut { shuts self.new ≡ shuts self.old }
         ensures served { Called (λ serving. begun self.old && serving.writes) (served self.old) (served self.new) }
         ensures hinting { StaysHinting (hinting self.old) (hinting self.new) (hints self.new) }
         ensures counts { Tallied (write_event result) (counts self.old) (counts self.new) };
@@ -89,6 +96,7 @@ pub trait Port: Drop {
         requires { 0 < length bytes.now }
         ensures accepts { AcceptsWhole (took self.old) (took self.new) bytes.now result }
         ensures kept { (gave self.new ≡ gave self.old) × (begun self.new ≡ begun self.old) × (ended self.new ≡ ended self.old) × (child self.new ≡ child self.old) }
+        ensures unshut { shuts self.new ≡ shuts self.old }
         ensures served { Called (λ _. false) (served self.old) (served self.new) }
         ensures hinting { StaysHinting (hinting self.old) (hinting self.new) (hints self.new) }
         ensures counts { Tallied (write_event result) (counts self.old) (counts self.new) };
@@ -97,6 +105,7 @@ pub trait Port: Drop {
     fn put_all(&mut self, bytes: &[u8]) -> Took
         ensures accepts { AcceptsAll (took self.old) (took self.new) bytes.now result }
         ensures kept { (gave self.new ≡ gave self.old) × (begun self.new ≡ begun self.old) × (ended self.new ≡ ended self.old) × (child self.new ≡ child self.old) }
+        ensures unshut { shuts self.new ≡ shuts self.old }
         ensures served { Called (λ serving. begun self.old && serving.writes) (served self.old) (served self.new) }
         ensures hinting { StaysHinting (hinting self.old) (hinting self.new) (hints self.new) }
         ensures counts { Tallied (write_event result) (counts self.old) (counts self.new) };
@@ -104,6 +113,7 @@ pub trait Port: Drop {
     /// Passes on that no more bytes will be written.
     fn shut(&mut self, how: Shut) -> Shutting
         ensures kept { (gave self.new ≡ gave self.old) × (took self.new ≡ took self.old) × (begun self.new ≡ begun self.old) × (ended self.new ≡ ended self.old) × (child self.new ≡ child self.old) }
+        ensures told { shuts self.new ≡ noted how (shuts self.old) }
         ensures served { Shuts how (served self.old) (served self.new) }
         ensures hinting { StaysHinting (hinting self.old) (hinting self.new) (hints self.new) }
         ensures counts { Tallied (shut_event result) (counts self.old) (counts self.new) };
@@ -115,6 +125,7 @@ pub trait Port: Drop {
         ensures kept { (gave self.new ≡ gave self.old) × (took self.new ≡ took self.old) × (hints self.new ≡ hints self.old) × (counts self.new ≡ counts self.old) × (begun self.new ≡ begun self.old) × (ended self.new ≡ ended self.old) × (joins self.new ≡ joins self.old) × (child self.new ≡ child self.old) }
         ensures behind { (behind_gave self.new ≡ behind_gave self.old) × (behind_took self.new ≡ behind_took self.old) × (behind_faults self.new ≡ behind_faults self.old) × (behind_ends self.new ≡ behind_ends self.old) × (behind_left self.new ≡ behind_left self.old) × (behind_finished self.new ≡ behind_finished self.old) }
         ensures hinting { StaysHinting (hinting self.old) (hinting self.new) (hints self.new) }
+        ensures unshut { shuts self.new ≡ shuts self.old }
         ensures served { served self.new ≡ served self.old };
 
     /// Whether the port may ever hint. Where it may not, nobody has to ask it, now or later.
@@ -129,6 +140,7 @@ pub trait Port: Drop {
     fn reap(&mut self) -> PortReap
         ensures reaped { ReapsChild (child self.old) result }
         ensures kept { (gave self.new ≡ gave self.old) × (took self.new ≡ took self.old) × (begun self.new ≡ begun self.old) × (ended self.new ≡ ended self.old) × (child self.new ≡ child self.old) }
+        ensures unshut { shuts self.new ≡ shuts self.old }
         ensures served { served self.new ≡ served self.old }
         ensures hinting { StaysHinting (hinting self.old) (hinting self.new) (hints self.new) }
         ensures counts { Tallied None (counts self.old) (counts self.new) };
@@ -137,6 +149,7 @@ pub trait Port: Drop {
     fn join(&mut self) -> Joining
         ensures joined { result ≡ join_answer (joins self.old) }
         ensures kept { (gave self.new ≡ gave self.old) × (took self.new ≡ took self.old) × (counts self.new ≡ counts self.old) × (begun self.new ≡ begun self.old) × (ended self.new ≡ ended self.old) × (joins self.new ≡ joins self.old) × (child self.new ≡ child self.old) }
+        ensures unshut { shuts self.new ≡ shuts self.old }
         ensures served { served self.new ≡ served self.old }
         ensures explained { OnJoined result (Explained (served self.new) (counts self.new) (behind_faults self.new) (behind_ends self.new)) }
         ensures behind { OnJoined result (Behind (gave self.new) (took self.new) (behind_gave self.new) (behind_took self.new) (behind_left self.new) (behind_faults self.new) (ended self.new)) }

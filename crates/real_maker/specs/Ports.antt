@@ -7,14 +7,16 @@ use Rattle.file_ports.specs.declared.stream.FileStream.{FileStream}
 use Rattle.tunnel_port.specs.Tunnels.{TunnelState}
 use Rattle.socks_port.specs.Replies.{SocksState}
 use Rattle.connect_port.specs.Replies.{ConnectState}
+use Rattle.peer_ports.specs.Ports.{PeerState}
 use Rattle.socket_ports.specs.Sockets.{PortState}
 use Rattle.socket_kinds.specs.declared.any_socket.AnySocket.{AnySocket}
 
 -- what the port that it is tells
-abbrev pub of_port : {T : Type 0} → (EchoState → T) → (PortState AnySocket → T) → (PortState FileStream → T) → (PortState HalvesState → T) → (TunnelState (PortState AnySocket) SocksState → T) → (TunnelState (PortState AnySocket) ConnectState → T) → RealPort → T
-of_port echo socket file child socks proxy (ports.Echo port) = echo port
-of_port echo socket file child socks proxy (ports.Socket port) = socket port
-of_port echo socket file child socks proxy (ports.File port) = file port
-of_port echo socket file child socks proxy (ports.Child port) = child port
-of_port echo socket file child socks proxy (ports.Socks port) = socks port
-of_port echo socket file child socks proxy (ports.Proxy port) = proxy port
+abbrev pub of_port : {T : Type 0} → (EchoState → T) → (PortState AnySocket → T) → (PortState FileStream → T) → (PortState HalvesState → T) → (TunnelState (PortState AnySocket) SocksState → T) → (TunnelState (PortState AnySocket) ConnectState → T) → (PeerState → T) → RealPort → T
+of_port echo socket file child socks proxy peer (ports.Echo port) = echo port
+of_port echo socket file child socks proxy peer (ports.Socket port) = socket port
+of_port echo socket file child socks proxy peer (ports.File port) = file port
+of_port echo socket file child socks proxy peer (ports.Child port) = child port
+of_port echo socket file child socks proxy peer (ports.Socks port) = socks port
+of_port echo socket file child socks proxy peer (ports.Proxy port) = proxy port
+of_port echo socket file child socks proxy peer (ports.Peer port) = peer port

@@ -14,13 +14,14 @@ use child_ports::{Nursery, make_child};
 use file_ports::make_file;
 use mio::Registry;
 use mio_poller::MioPoller;
+use peer_ports::PeerPort;
 use port_trait::{MadePeer, Maker, Making, Port};
 use relay_model::{Part, Peer, Place, Single, Target};
-use socket_maker::SocketMaker;
+use socket_maker::{SocketMaker, bind_udp, door_address};
 use std::alloc::Global;
 use std::fs::Files;
 use std::marker::Model;
-use std::net::Net;
+use std::net::{Net, SocketAddr};
 use std::process::SystemProcess;
 use std::rt::HostRuntime;
 use std::thread::Threads;
@@ -193,6 +194,36 @@ where
         }
     }
 
+    /// Listens at the address, without counting. A door of datagrams with `fork` shares its socket with its peers.
+    fn open_door(&mut self, key: usize, single: &Single) -> Making<RealPort>
+        ensures at_once { IsAtOnce result }
+        ensures same { self.new ≡ self.old }
+    {
+        match &single.target {
+            Target::UdpListen { family, port } if single.options.fork => {
+                self.gather(door_address(single.options.bind, *family, *port))
+            }
+            _ => of_socket(self.sockets.listen(key, single)),
+        }
+    }
+
+    /// The door of datagrams at this address.
+    fn gather(&self, addr: Option<SocketAddr>) -> Making<RealPort>
+        ensures { IsAtOnce result }
+    {
+        let Some(addr) = addr else {
+            return Making::Failed;
+        };
+        let Some(socket) = bind_udp(&self.rt, addr) else {
+            return Making::Failed;
+        };
+        match PeerPort::door(self.alloc, &self.registry, socket) {
+            Making::Made(port) => Making::Made(RealPort::Peer(port)),
+            Making::Later(_) | Making::Failed => Making::Failed,
+            Making::Memory => Making::Memory,
+        }
+    }
+
     /// Takes a peer at the door of a socket, without counting.
     fn take_peer(&mut self, door: &mut RealPort, key: usize) -> MadePeer<RealPort>
         ensures same { self.new ≡ self.old }
@@ -201,6 +232,7 @@ where
     {
         match door {
             RealPort::Socket(socket) => peer_of(self.sockets.accept(socket, key)),
+            RealPort::Peer(door) => gathered(door.accept()),
             _ => {
                 let _ = door.hint();
                 MadePeer::Failed
@@ -232,6 +264,16 @@ fn peer_of(peer: MadePeer<OfSocket>) -> MadePeer<RealPort> {
     }
 }
 
+/// A peer of a shared socket as a port of any kind.
+fn gathered(peer: MadePeer<PeerPort>) -> MadePeer<RealPort> {
+    match peer {
+        MadePeer::Came(port, peer) => MadePeer::Came(RealPort::Peer(port), peer),
+        MadePeer::NoPeer => MadePeer::NoPeer,
+        MadePeer::Failed => MadePeer::Failed,
+        MadePeer::Memory => MadePeer::Memory,
+    }
+}
+
 impl<R> Maker for RealMaker<R>
 where
     R: Files + Net + Clock + Threads + Copy + Drop,
@@ -257,7 +299,7 @@ where
     }
 
     fn listen(&mut self, key: usize, single: &Single) -> Making<RealPort> {
-        let making = of_socket(self.sockets.listen(key, single));
+        let making = self.open_door(key, single);
         self.count_making(&making);
         making
     }

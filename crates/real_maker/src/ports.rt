@@ -5,12 +5,14 @@ use crate::opening::OfSocket;
 use child_ports::ChildPort;
 use connect_port::ConnectPort;
 use file_ports::{EchoPort, FilePort};
+use peer_ports::PeerPort;
 use port_trait::{Begun, Got, Hint, Joining, Port, PortReap, Settled, Shutting, Took};
 use relay_model::Shut;
 use socks_port::SocksPort;
 
-/// The echo pipe, a socket, a file, a program or a connection through a proxy. Each call is that call on the port that it is. It has no type
-/// parameters: where a maker stands for one, a port without any is compared by its name.
+/// The echo pipe, a socket, a file, a program, a connection through a proxy, or a door of datagrams or its peer. Each
+/// call is that call on the port that it is. It has no type parameters: where a maker stands for one, a port without
+/// any is compared by its name.
 #[derive(Drop)]
 pub enum RealPort {
     Echo(EchoPort),
@@ -19,40 +21,41 @@ pub enum RealPort {
     Child(ChildPort),
     Socks(SocksPort<OfSocket>),
     Proxy(ConnectPort<OfSocket>),
+    Peer(PeerPort),
 }
 
 impl Port for RealPort {
-    ghost gave = { of_port ⟦<EchoPort as Port>⟧.gave ⟦<OfSocket as Port>⟧.gave ⟦<FilePort as Port>⟧.gave ⟦<ChildPort as Port>⟧.gave ⟦<SocksPort<OfSocket> as Port>⟧.gave ⟦<ConnectPort<OfSocket> as Port>⟧.gave };
+    ghost gave = { of_port ⟦<EchoPort as Port>⟧.gave ⟦<OfSocket as Port>⟧.gave ⟦<FilePort as Port>⟧.gave ⟦<ChildPort as Port>⟧.gave ⟦<SocksPort<OfSocket> as Port>⟧.gave ⟦<ConnectPort<OfSocket> as Port>⟧.gave ⟦<PeerPort as Port>⟧.gave };
 
-    ghost took = { of_port ⟦<EchoPort as Port>⟧.took ⟦<OfSocket as Port>⟧.took ⟦<FilePort as Port>⟧.took ⟦<ChildPort as Port>⟧.took ⟦<SocksPort<OfSocket> as Port>⟧.took ⟦<ConnectPort<OfSocket> as Port>⟧.took };
+    ghost took = { of_port ⟦<EchoPort as Port>⟧.took ⟦<OfSocket as Port>⟧.took ⟦<FilePort as Port>⟧.took ⟦<ChildPort as Port>⟧.took ⟦<SocksPort<OfSocket> as Port>⟧.took ⟦<ConnectPort<OfSocket> as Port>⟧.took ⟦<PeerPort as Port>⟧.took };
 
-    ghost behind_gave = { of_port ⟦<EchoPort as Port>⟧.behind_gave ⟦<OfSocket as Port>⟧.behind_gave ⟦<FilePort as Port>⟧.behind_gave ⟦<ChildPort as Port>⟧.behind_gave ⟦<SocksPort<OfSocket> as Port>⟧.behind_gave ⟦<ConnectPort<OfSocket> as Port>⟧.behind_gave };
+    ghost behind_gave = { of_port ⟦<EchoPort as Port>⟧.behind_gave ⟦<OfSocket as Port>⟧.behind_gave ⟦<FilePort as Port>⟧.behind_gave ⟦<ChildPort as Port>⟧.behind_gave ⟦<SocksPort<OfSocket> as Port>⟧.behind_gave ⟦<ConnectPort<OfSocket> as Port>⟧.behind_gave ⟦<PeerPort as Port>⟧.behind_gave };
 
-    ghost behind_took = { of_port ⟦<EchoPort as Port>⟧.behind_took ⟦<OfSocket as Port>⟧.behind_took ⟦<FilePort as Port>⟧.behind_took ⟦<ChildPort as Port>⟧.behind_took ⟦<SocksPort<OfSocket> as Port>⟧.behind_took ⟦<ConnectPort<OfSocket> as Port>⟧.behind_took };
+    ghost behind_took = { of_port ⟦<EchoPort as Port>⟧.behind_took ⟦<OfSocket as Port>⟧.behind_took ⟦<FilePort as Port>⟧.behind_took ⟦<ChildPort as Port>⟧.behind_took ⟦<SocksPort<OfSocket> as Port>⟧.behind_took ⟦<ConnectPort<OfSocket> as Port>⟧.behind_took ⟦<PeerPort as Port>⟧.behind_took };
 
-    ghost behind_faults = { of_port ⟦<EchoPort as Port>⟧.behind_faults ⟦<OfSocket as Port>⟧.behind_faults ⟦<FilePort as Port>⟧.behind_faults ⟦<ChildPort as Port>⟧.behind_faults ⟦<SocksPort<OfSocket> as Port>⟧.behind_faults ⟦<ConnectPort<OfSocket> as Port>⟧.behind_faults };
+    ghost behind_faults = { of_port ⟦<EchoPort as Port>⟧.behind_faults ⟦<OfSocket as Port>⟧.behind_faults ⟦<FilePort as Port>⟧.behind_faults ⟦<ChildPort as Port>⟧.behind_faults ⟦<SocksPort<OfSocket> as Port>⟧.behind_faults ⟦<ConnectPort<OfSocket> as Port>⟧.behind_faults ⟦<PeerPort as Port>⟧.behind_faults };
 
-    ghost behind_ends = { of_port ⟦<EchoPort as Port>⟧.behind_ends ⟦<OfSocket as Port>⟧.behind_ends ⟦<FilePort as Port>⟧.behind_ends ⟦<ChildPort as Port>⟧.behind_ends ⟦<SocksPort<OfSocket> as Port>⟧.behind_ends ⟦<ConnectPort<OfSocket> as Port>⟧.behind_ends };
+    ghost behind_ends = { of_port ⟦<EchoPort as Port>⟧.behind_ends ⟦<OfSocket as Port>⟧.behind_ends ⟦<FilePort as Port>⟧.behind_ends ⟦<ChildPort as Port>⟧.behind_ends ⟦<SocksPort<OfSocket> as Port>⟧.behind_ends ⟦<ConnectPort<OfSocket> as Port>⟧.behind_ends ⟦<PeerPort as Port>⟧.behind_ends };
 
-    ghost behind_left = { of_port ⟦<EchoPort as Port>⟧.behind_left ⟦<OfSocket as Port>⟧.behind_left ⟦<FilePort as Port>⟧.behind_left ⟦<ChildPort as Port>⟧.behind_left ⟦<SocksPort<OfSocket> as Port>⟧.behind_left ⟦<ConnectPort<OfSocket> as Port>⟧.behind_left };
+    ghost behind_left = { of_port ⟦<EchoPort as Port>⟧.behind_left ⟦<OfSocket as Port>⟧.behind_left ⟦<FilePort as Port>⟧.behind_left ⟦<ChildPort as Port>⟧.behind_left ⟦<SocksPort<OfSocket> as Port>⟧.behind_left ⟦<ConnectPort<OfSocket> as Port>⟧.behind_left ⟦<PeerPort as Port>⟧.behind_left };
 
-    ghost served = { of_port ⟦<EchoPort as Port>⟧.served ⟦<OfSocket as Port>⟧.served ⟦<FilePort as Port>⟧.served ⟦<ChildPort as Port>⟧.served ⟦<SocksPort<OfSocket> as Port>⟧.served ⟦<ConnectPort<OfSocket> as Port>⟧.served };
+    ghost served = { of_port ⟦<EchoPort as Port>⟧.served ⟦<OfSocket as Port>⟧.served ⟦<FilePort as Port>⟧.served ⟦<ChildPort as Port>⟧.served ⟦<SocksPort<OfSocket> as Port>⟧.served ⟦<ConnectPort<OfSocket> as Port>⟧.served ⟦<PeerPort as Port>⟧.served };
 
-    ghost hints = { of_port ⟦<EchoPort as Port>⟧.hints ⟦<OfSocket as Port>⟧.hints ⟦<FilePort as Port>⟧.hints ⟦<ChildPort as Port>⟧.hints ⟦<SocksPort<OfSocket> as Port>⟧.hints ⟦<ConnectPort<OfSocket> as Port>⟧.hints };
+    ghost hints = { of_port ⟦<EchoPort as Port>⟧.hints ⟦<OfSocket as Port>⟧.hints ⟦<FilePort as Port>⟧.hints ⟦<ChildPort as Port>⟧.hints ⟦<SocksPort<OfSocket> as Port>⟧.hints ⟦<ConnectPort<OfSocket> as Port>⟧.hints ⟦<PeerPort as Port>⟧.hints };
 
-    ghost hinting = { of_port ⟦<EchoPort as Port>⟧.hinting ⟦<OfSocket as Port>⟧.hinting ⟦<FilePort as Port>⟧.hinting ⟦<ChildPort as Port>⟧.hinting ⟦<SocksPort<OfSocket> as Port>⟧.hinting ⟦<ConnectPort<OfSocket> as Port>⟧.hinting };
+    ghost hinting = { of_port ⟦<EchoPort as Port>⟧.hinting ⟦<OfSocket as Port>⟧.hinting ⟦<FilePort as Port>⟧.hinting ⟦<ChildPort as Port>⟧.hinting ⟦<SocksPort<OfSocket> as Port>⟧.hinting ⟦<ConnectPort<OfSocket> as Port>⟧.hinting ⟦<PeerPort as Port>⟧.hinting };
 
-    ghost behind_finished = { of_port ⟦<EchoPort as Port>⟧.behind_finished ⟦<OfSocket as Port>⟧.behind_finished ⟦<FilePort as Port>⟧.behind_finished ⟦<ChildPort as Port>⟧.behind_finished ⟦<SocksPort<OfSocket> as Port>⟧.behind_finished ⟦<ConnectPort<OfSocket> as Port>⟧.behind_finished };
+    ghost behind_finished = { of_port ⟦<EchoPort as Port>⟧.behind_finished ⟦<OfSocket as Port>⟧.behind_finished ⟦<FilePort as Port>⟧.behind_finished ⟦<ChildPort as Port>⟧.behind_finished ⟦<SocksPort<OfSocket> as Port>⟧.behind_finished ⟦<ConnectPort<OfSocket> as Port>⟧.behind_finished ⟦<PeerPort as Port>⟧.behind_finished };
 
-    ghost counts = { of_port ⟦<EchoPort as Port>⟧.counts ⟦<OfSocket as Port>⟧.counts ⟦<FilePort as Port>⟧.counts ⟦<ChildPort as Port>⟧.counts ⟦<SocksPort<OfSocket> as Port>⟧.counts ⟦<ConnectPort<OfSocket> as Port>⟧.counts };
+    ghost counts = { of_port ⟦<EchoPort as Port>⟧.counts ⟦<OfSocket as Port>⟧.counts ⟦<FilePort as Port>⟧.counts ⟦<ChildPort as Port>⟧.counts ⟦<SocksPort<OfSocket> as Port>⟧.counts ⟦<ConnectPort<OfSocket> as Port>⟧.counts ⟦<PeerPort as Port>⟧.counts };
 
-    ghost begun = { of_port ⟦<EchoPort as Port>⟧.begun ⟦<OfSocket as Port>⟧.begun ⟦<FilePort as Port>⟧.begun ⟦<ChildPort as Port>⟧.begun ⟦<SocksPort<OfSocket> as Port>⟧.begun ⟦<ConnectPort<OfSocket> as Port>⟧.begun };
+    ghost begun = { of_port ⟦<EchoPort as Port>⟧.begun ⟦<OfSocket as Port>⟧.begun ⟦<FilePort as Port>⟧.begun ⟦<ChildPort as Port>⟧.begun ⟦<SocksPort<OfSocket> as Port>⟧.begun ⟦<ConnectPort<OfSocket> as Port>⟧.begun ⟦<PeerPort as Port>⟧.begun };
 
-    ghost ended = { of_port ⟦<EchoPort as Port>⟧.ended ⟦<OfSocket as Port>⟧.ended ⟦<FilePort as Port>⟧.ended ⟦<ChildPort as Port>⟧.ended ⟦<SocksPort<OfSocket> as Port>⟧.ended ⟦<ConnectPort<OfSocket> as Port>⟧.ended };
+    ghost ended = { of_port ⟦<EchoPort as Port>⟧.ended ⟦<OfSocket as Port>⟧.ended ⟦<FilePort as Port>⟧.ended ⟦<ChildPort as Port>⟧.ended ⟦<SocksPort<OfSocket> as Port>⟧.ended ⟦<ConnectPort<OfSocket> as Port>⟧.ended ⟦<PeerPort as Port>⟧.ended };
 
-    ghost joins = { of_port ⟦<EchoPort as Port>⟧.joins ⟦<OfSocket as Port>⟧.joins ⟦<FilePort as Port>⟧.joins ⟦<ChildPort as Port>⟧.joins ⟦<SocksPort<OfSocket> as Port>⟧.joins ⟦<ConnectPort<OfSocket> as Port>⟧.joins };
+    ghost joins = { of_port ⟦<EchoPort as Port>⟧.joins ⟦<OfSocket as Port>⟧.joins ⟦<FilePort as Port>⟧.joins ⟦<ChildPort as Port>⟧.joins ⟦<SocksPort<OfSocket> as Port>⟧.joins ⟦<ConnectPort<OfSocket> as Port>⟧.joins ⟦<PeerPort as Port>⟧.joins };
 
-    ghost child = { of_port ⟦<EchoPort as Port>⟧.child ⟦<OfSocket as Port>⟧.child ⟦<FilePort as Port>⟧.child ⟦<ChildPort as Port>⟧.child ⟦<SocksPort<OfSocket> as Port>⟧.child ⟦<ConnectPort<OfSocket> as Port>⟧.child };
+    ghost child = { of_port ⟦<EchoPort as Port>⟧.child ⟦<OfSocket as Port>⟧.child ⟦<FilePort as Port>⟧.child ⟦<ChildPort as Port>⟧.child ⟦<SocksPort<OfSocket> as Port>⟧.child ⟦<ConnectPort<OfSocket> as Port>⟧.child ⟦<PeerPort as Port>⟧.child };
 
     fn begin(&mut self) -> Begun {
         match self {
@@ -62,6 +65,7 @@ impl Port for RealPort {
             RealPort::Child(port) => port.begin(),
             RealPort::Socks(port) => port.begin(),
             RealPort::Proxy(port) => port.begin(),
+            RealPort::Peer(port) => port.begin(),
         }
     }
 
@@ -73,6 +77,7 @@ impl Port for RealPort {
             RealPort::Child(port) => port.settle(),
             RealPort::Socks(port) => port.settle(),
             RealPort::Proxy(port) => port.settle(),
+            RealPort::Peer(port) => port.settle(),
         }
     }
 
@@ -84,6 +89,7 @@ impl Port for RealPort {
             RealPort::Child(port) => port.read(into),
             RealPort::Socks(port) => port.read(into),
             RealPort::Proxy(port) => port.read(into),
+            RealPort::Peer(port) => port.read(into),
         }
     }
 
@@ -95,6 +101,7 @@ impl Port for RealPort {
             RealPort::Child(port) => port.write(bytes),
             RealPort::Socks(port) => port.write(bytes),
             RealPort::Proxy(port) => port.write(bytes),
+            RealPort::Peer(port) => port.write(bytes),
         }
     }
 
@@ -106,6 +113,7 @@ impl Port for RealPort {
             RealPort::Child(port) => port.send(bytes),
             RealPort::Socks(port) => port.send(bytes),
             RealPort::Proxy(port) => port.send(bytes),
+            RealPort::Peer(port) => port.send(bytes),
         }
     }
 
@@ -117,6 +125,7 @@ impl Port for RealPort {
             RealPort::Child(port) => port.put_all(bytes),
             RealPort::Socks(port) => port.put_all(bytes),
             RealPort::Proxy(port) => port.put_all(bytes),
+            RealPort::Peer(port) => port.put_all(bytes),
         }
     }
 
@@ -128,6 +137,7 @@ impl Port for RealPort {
             RealPort::Child(port) => port.shut(how),
             RealPort::Socks(port) => port.shut(how),
             RealPort::Proxy(port) => port.shut(how),
+            RealPort::Peer(port) => port.shut(how),
         }
     }
 
@@ -139,6 +149,7 @@ impl Port for RealPort {
             RealPort::Child(port) => port.hint(),
             RealPort::Socks(port) => port.hint(),
             RealPort::Proxy(port) => port.hint(),
+            RealPort::Peer(port) => port.hint(),
         }
     }
 
@@ -150,6 +161,7 @@ impl Port for RealPort {
             RealPort::Child(port) => port.may_hint(),
             RealPort::Socks(port) => port.may_hint(),
             RealPort::Proxy(port) => port.may_hint(),
+            RealPort::Peer(port) => port.may_hint(),
         }
     }
 
@@ -161,6 +173,7 @@ impl Port for RealPort {
             RealPort::Child(port) => port.has_child(),
             RealPort::Socks(port) => port.has_child(),
             RealPort::Proxy(port) => port.has_child(),
+            RealPort::Peer(port) => port.has_child(),
         }
     }
 
@@ -172,6 +185,7 @@ impl Port for RealPort {
             RealPort::Child(port) => port.reap(),
             RealPort::Socks(port) => port.reap(),
             RealPort::Proxy(port) => port.reap(),
+            RealPort::Peer(port) => port.reap(),
         }
     }
 
@@ -183,6 +197,7 @@ impl Port for RealPort {
             RealPort::Child(port) => port.join(),
             RealPort::Socks(port) => port.join(),
             RealPort::Proxy(port) => port.join(),
+            RealPort::Peer(port) => port.join(),
         }
     }
 }

@@ -28,7 +28,7 @@ use Rattle.relay_model.specs.History.{now, stage, Untried, Met, holds_at, stop_s
 use Rattle.relay_model.specs.Arming.{Armed, read_arming, armed_to_write, armed_to_accept, asked_to_read, asked_to_write, asked_to_accept}
 use Rattle.relay_model.specs.Transfers.{over, due_pieces}
 use Rattle.relay_model.specs.Conversions.{is_over}
-use Rattle.relay_model.specs.Moments.{moved, broken_at, done, broken}
+use Rattle.relay_model.specs.Moments.{moved_at, broken_at, done, broken}
 use Rattle.relay_model.specs.Sessions.{admitted, numbers, permits, is_admission, next_place, first_part}
 use Rattle.relay_model.specs.Tries.{is_out_of_tries}
 use Rattle.relay_model.specs.Openings.{Call, Nothing, Accept, Serve, out_of_tries, ready, is_ready, stands_ready}
@@ -519,7 +519,7 @@ born_home c n past s peer old mid new o b openings lanes clock move fault closin
       openings_are = record { each = each_born c n past s peer h (places c s) mid.openings (λ p e. e) openings.each };
       lanes_are = record { to_right_is = lane_born c n past s peer LeftToRight mid.lanes.to_right h lanes.to_right_is; to_left_is = lane_born c n past s peer RightToLeft mid.lanes.to_left h lanes.to_left_is };
       clock_is = clock;
-      moved_is = noted (is_place_of c s (home c s)) (now past) mid.moved (moved c past s) (home_is_own c s) move;
+      moved_is = noted (is_place_of c s (home c s)) (now past) mid.moved (moved_at c past s) (home_is_own c s) move;
       faulted_is = fault ∙ o.faulted_is ∙ sym (faultless_of c n past s h);
       closing_is = closing ∙ o.closing_is;
       idle_is = idle ∙ o.idle_is;

@@ -14,7 +14,7 @@ use Rattle.relay_model.specs.Sessions.{live}
 use Rattle.relay_model.specs.Openings.{Nothing, first_call}
 use Rattle.relay_model.specs.Cause.{cause}
 use Rattle.relay_model.specs.Calls.{call}
-use Rattle.relay_model.specs.Rest.{moves}
+use Rattle.relay_model.specs.Rest.{is_going}
 use Rattle.legal_steps.proofs.PlaceLemmas.{same_place_equal}
 use Rattle.legal_steps.proofs.Holdings.{input_passes, output_passes, moves_formed}
 use Rattle.session_direction.proofs.Wanted.{waits_is}
@@ -60,14 +60,14 @@ each_among : (c : Config) (s : ℕ) (ps : List Place) → AllStand c s ps → li
 each_among c s [] h = refl
 each_among c s (p ∷ ps) h = let here = h.0.place.among in let there = each_among c s ps h.1 in both (is_place_of c s p) (list_all (is_place_of c s) ps) here there
 
-input_own : (c : Config) (past : List Act) (p : Place) → same_place p (input c p.session (way_from p.side)) ≡ true → moves c past p.session (way_from p.side) ≡ true → is_place_of c p.session p ≡ true
+input_own : (c : Config) (past : List Act) (p : Place) → same_place p (input c p.session (way_from p.side)) ≡ true → is_going c past p.session (way_from p.side) ≡ true → is_place_of c p.session p ≡ true
 input_own c past p same moving =
     let w = way_from p.side in
     let s = p.session in
     let h = input_passes c (is_place_of c s) s w (moves_formed c past s w moving) (each_among c s (places c s) (all_stand c s)) in
     subst (λ q. is_place_of c s q ≡ true) (sym (same_place_equal p (input c s w) same)) h
 
-output_own : (c : Config) (past : List Act) (p : Place) → same_place p (output c p.session (way_to p.side)) ≡ true → moves c past p.session (way_to p.side) ≡ true → is_place_of c p.session p ≡ true
+output_own : (c : Config) (past : List Act) (p : Place) → same_place p (output c p.session (way_to p.side)) ≡ true → is_going c past p.session (way_to p.side) ≡ true → is_place_of c p.session p ≡ true
 output_own c past p same moving =
     let w = way_to p.side in
     let s = p.session in

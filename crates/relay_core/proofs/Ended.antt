@@ -19,7 +19,7 @@ use Rattle.relay_model.specs.Cause.{cause, closed_why, is_end, accept_failed_for
 use Rattle.relay_model.specs.Calls.{called_at}
 use Rattle.relay_model.specs.Outcome as outcomes
 use Rattle.relay_model.specs.Outcome.{Outcome, outcome, outcome_by, holds_something, first_fault, failed_listening, failed_opening}
-use Rattle.relay_model.specs.Rest.{moves, Rest}
+use Rattle.relay_model.specs.Rest.{is_going, Rest}
 use Rattle.relay_model.specs.May.{Legal, MayOpen, MayAccept, Licensed, by_cause, by_refusal, by_service, by_door, by_memory, by_turns}
 use Rattle.legal_steps.proofs.Holdings.{moves_running}
 use Rattle.relay_core.specs.Told.{told}
@@ -171,7 +171,7 @@ none_there : (o : Option Why) → is_some o ≡ true → is_none o ≡ true → 
 none_there None e f = false≢true e
 none_there (Some why) e f = false≢true f
 
-never_moves : (c : Config) (past : List Act) (s : ℕ) (w : Way) → has_fork c ≡ false → is_some (cause c past 0) ≡ true → moves c past s w ≡ true → ⊥
+never_moves : (c : Config) (past : List Act) (s : ℕ) (w : Way) → has_fork c ≡ false → is_some (cause c past 0) ≡ true → is_going c past s w ≡ true → ⊥
 never_moves c past s w alone e m =
     let r = and_parts (live c past s && ready c past s) (is_none (cause c past s)) (moves_running c past s w m) in
     let z = lives_alone c past s alone (and_parts (live c past s) (ready c past s) r.0).0 in

@@ -8,10 +8,10 @@ use Rattle.relay_model.specs.declared.acts.Act.{Act}
 use Rattle.relay_model.specs.declared.acts.Shut.{Shut as Shutting}
 use Rattle.relay_model.specs.Places.{same_place}
 use Rattle.relay_model.specs.Configs.{input, output, way_from, way_to, keeps_borders, formed}
-use Rattle.relay_model.specs.Transfers.{over, room}
+use Rattle.relay_model.specs.Transfers.{over, greatest_read}
 use Rattle.relay_model.specs.Moments.{passed, broken}
 use Rattle.relay_model.specs.Cause.{running}
-use Rattle.relay_model.specs.Rest.{goes, moves}
+use Rattle.relay_model.specs.Rest.{goes, is_going}
 use Rattle.relay_model.specs.May.{MayRead, MayTryWrite, MayOffer, MayShut}
 use Rattle.legal_steps.proofs.PlaceLemmas.{same_place_equal}
 use Rattle.std.proofs.lemmas.Bool.{and_parts}
@@ -63,7 +63,7 @@ offers_of c past s w d keeps g want can p e =
 pub record ReadsAt (c : Config) (past : List Act) (s : ℕ) (w : Way) (n : ℕ) : Type 0 where
   pub more : over c past (input c s w) ≡ false
   pub going : passed c past s w ≡ false
-  pub in_room : n ≤ room c past s w
+  pub in_room : n ≤ greatest_read c past s w
 
 pub reads_at : (c : Config) (past : List Act) (s : ℕ) (w : Way) (n : ℕ) → MayRead c past (input c s w) n → ReadsAt c past s w n
 reads_at c past s LeftToRight n may = record { more = may.asks.not_over; going = may.asks.not_passed; in_room = may.in_room }
@@ -74,7 +74,7 @@ pub record WritesAt (c : Config) (past : List Act) (s : ℕ) (w : Way) : Type 0 
   pub going : passed c past s w ≡ false
   pub whole : broken c past s w ≡ false
 
-unbroken : (c : Config) (past : List Act) (s : ℕ) (w : Way) → moves c past s w ≡ true → broken c past s w ≡ false
+unbroken : (c : Config) (past : List Act) (s : ℕ) (w : Way) → is_going c past s w ≡ true → broken c past s w ≡ false
 unbroken c past s w m = not-true (broken c past s w) (and_parts (formed c w) (not (broken c past s w)) (and_parts (goes c past s w) (running c past s) m).0).1
   where
     not-true : (b : Bool) → not b ≡ true → b ≡ false
@@ -220,7 +220,7 @@ unconcerned c past s w d p (transfers.Shut how) g way e = writes_other c past s 
 unconcerned c past s w d p (transfers.ShutFailed how) g way e = writes_other c past s w d p g way e
 
 -- a direction that may transfer is formed
-moving_of : (c : Config) (past : List Act) (p : Place) (waiting : List ℕ) (t : Transfer) → MayTransfer c past p waiting t → moves c past p.session (way_of p t) ≡ true
+moving_of : (c : Config) (past : List Act) (p : Place) (waiting : List ℕ) (t : Transfer) → MayTransfer c past p waiting t → is_going c past p.session (way_of p t) ≡ true
 moving_of c past p waiting (transfers.Read bytes) may = may.asks.moving
 moving_of c past p waiting transfers.ReadEmpty may = may.asks.moving
 moving_of c past p waiting transfers.ReadEnd may = may.asks.moving

@@ -23,7 +23,7 @@ use Rattle.relay_model.specs.Openings.{Call, Nothing, TryAt, Accept, Listen, Ref
 use Rattle.relay_model.specs.Openings as calls
 use Rattle.relay_model.specs.Cause.{cause, closed_why, is_end, accept_failed_for, listening_failed, opening_failed, faulted, finished}
 use Rattle.relay_model.specs.Calls.{call, called_at, door_call}
-use Rattle.relay_model.specs.Rest.{moves, Rest, SessionRests, until_of}
+use Rattle.relay_model.specs.Rest.{is_going, Rest, SessionRests, until_of}
 use Rattle.relay_model.specs.Laws.{Tells, DoorTells}
 use Rattle.legal_steps.proofs.Admissions.{door_says}
 use Rattle.relay_model.specs.May.{Legal, Licensed, by_cause, by_refusal, by_service, by_door, by_memory, by_turns, MayOpen}
@@ -74,7 +74,7 @@ open_where_ready c n past p legal r = ready_open c past p (stage past p) (standi
 
 -- ---- reads and writes
 
-input_ready : (c : Config) (past : List Act) (p : Place) → same_place p (input c p.session (way_from p.side)) ≡ true → moves c past p.session (way_from p.side) ≡ true → is_ready c past p ≡ true
+input_ready : (c : Config) (past : List Act) (p : Place) → same_place p (input c p.session (way_from p.side)) ≡ true → is_going c past p.session (way_from p.side) ≡ true → is_ready c past p ≡ true
 input_ready c past p same moving =
     let w = way_from p.side in
     let r = input_passes c (is_ready c past) p.session w (moves_formed c past p.session w moving) (running_ready c past p.session (moves_running c past p.session w moving)) in
@@ -85,7 +85,7 @@ never_shut None e = refl
 never_shut (Some at) e = absurd (true≢false e)
 
 -- the output of a direction that moves and hasn't passed its end is plainly open
-output_open : (c : Config) (n : ℕ) (past : List Act) (p : Place) → Legal c n past → same_place p (output c p.session (way_to p.side)) ≡ true → moves c past p.session (way_to p.side) ≡ true → passed c past p.session (way_to p.side) ≡ false → standing past p ≡ Open
+output_open : (c : Config) (n : ℕ) (past : List Act) (p : Place) → Legal c n past → same_place p (output c p.session (way_to p.side)) ≡ true → is_going c past p.session (way_to p.side) ≡ true → passed c past p.session (way_to p.side) ≡ false → standing past p ≡ Open
 output_open c n past p legal same moving unpassed =
     open_where_unshut past p (open_where_ready c n past p legal (output_ready c past p same moving))
     (never_shut (shut_at past p) (subst (λ q. is_some (shut_at past q) ≡ false) (sym (same_place_equal p (output c p.session (way_to p.side)) same)) unpassed))

@@ -15,7 +15,7 @@ use Rattle.relay_model.specs.Moments.{passed}
 use Rattle.relay_model.specs.Openings.{Nothing, ready}
 use Rattle.relay_model.specs.Cause.{cause, running}
 use Rattle.relay_model.specs.Calls.{call}
-use Rattle.relay_model.specs.Rest.{goes, moves, may_read, may_write, must_pass, accepts, presses, AcceptTried, SessionRests, way_work, try_moment, input_moment, timer_moment}
+use Rattle.relay_model.specs.Rest.{goes, is_going, owes_read, owes_write, must_pass, accepts, presses, AcceptTried, SessionRests, way_work, try_moment, input_moment, timer_moment}
 use Rattle.relay_core.specs.Timers.{session_until}
 use Rattle.relay_core.proofs.TimerLemmas.{earlier_none}
 
@@ -43,7 +43,7 @@ still : (m : Bool) (b d : Bool) → m ≡ false → (m && b && d) ≡ false
 still true b d e = absurd (false≢true (sym e))
 still false b d e = refl
 
-moves_not : (c : Config) (past : List Act) (s : ℕ) (w : Way) → running c past s ≡ false → moves c past s w ≡ false
+moves_not : (c : Config) (past : List Act) (s : ℕ) (w : Way) → running c past s ≡ false → is_going c past s w ≡ false
 moves_not c past s w e = go (goes c past s w) (running c past s) e
   where
     go : (a b : Bool) → b ≡ false → (a && b) ≡ false
@@ -56,16 +56,16 @@ rests_unready c past s e r p a =
     record {
       ended = none_is_some c past s e;
       no_call = p;
-      read_tried = λ w h. absurd (false≢true (sym (moves_not c past s w (not_running c past s r)) ∙ first_part (moves c past s w) (armed_to_read past (input c s w)) (not (over c past (input c s w))) (backlog c past s w == 0) h));
-      write_tried = λ w h. absurd (false≢true (sym (still (moves c past s w) _ _ (moves_not c past s w (not_running c past s r))) ∙ h));
-      passed_on = λ w. still (moves c past s w) (is_spent c past s w) (not (passed c past s w)) (moves_not c past s w (not_running c past s r));
+      read_tried = λ w h. absurd (false≢true (sym (moves_not c past s w (not_running c past s r)) ∙ first_part (is_going c past s w) (armed_to_read past (input c s w)) (not (over c past (input c s w))) (backlog c past s w == 0) h));
+      write_tried = λ w h. absurd (false≢true (sym (still (is_going c past s w) _ _ (moves_not c past s w (not_running c past s r))) ∙ h));
+      passed_on = λ w. still (is_going c past s w) (is_spent c past s w) (not (passed c past s w)) (moves_not c past s w (not_running c past s r));
       accept_tried = a;
     }
 
 -- a running session rests where its directions do
 pub rests_running : (c : Config) (past : List Act) (s : ℕ) → cause c past s ≡ None → call c past s ≡ Nothing →
-    ((w : Way) → may_read c past s w ≡ true → asked_to_read past (input c s w) ≡ true) →
-    ((w : Way) → may_write c past s w ≡ true → asked_to_write past (input c s w) (output c s w) ≡ true) →
+    ((w : Way) → owes_read c past s w ≡ true → asked_to_read past (input c s w) ≡ true) →
+    ((w : Way) → owes_write c past s w ≡ true → asked_to_write past (input c s w) (output c s w) ≡ true) →
     ((w : Way) → must_pass c past s w ≡ false) → SessionRests c past s
 rests_running c past s e k r w p =
     record {
@@ -80,7 +80,7 @@ rests_running c past s e k r w p =
 -- ---- until when
 
 no_work : (c : Config) (past : List Act) (s : ℕ) (w : Way) → running c past s ≡ false → way_work c past s w ≡ false
-no_work c past s w e = let m = moves_not c past s w e in go (moves c past s w) (armed_to_read past (input c s w)) (not (over c past (input c s w))) (backlog c past s w == 0) (armed_to_write past (output c s w)) (nat_lt 0 (backlog c past s w)) m
+no_work c past s w e = let m = moves_not c past s w e in go (is_going c past s w) (armed_to_read past (input c s w)) (not (over c past (input c s w))) (backlog c past s w == 0) (armed_to_write past (output c s w)) (nat_lt 0 (backlog c past s w)) m
   where
     go : (m a o b d f : Bool) → m ≡ false → (m && a && o && b || m && d && f) ≡ false
     go true a o b d f h = absurd (false≢true (sym h))

@@ -10,7 +10,7 @@ use Rattle.relay_model.specs.Configs.{output, way_to}
 use Rattle.relay_model.specs.Holding.{Hold, Free, Settling, Open, ShutDown, standing, is_open}
 use Rattle.relay_model.specs.History.{now, Stage, Untried, Usable, Unsettled, Failed, Met, Waiting, Gone, stage, shut_at}
 use Rattle.relay_model.specs.Openings.{is_ready, stands_ready}
-use Rattle.relay_model.specs.Rest.{moves}
+use Rattle.relay_model.specs.Rest.{is_going}
 use Rattle.relay_model.specs.May.{Legal}
 use Rattle.legal_steps.proofs.PlaceLemmas.{same_place_equal}
 use Rattle.legal_steps.proofs.Holdings.{output_passes, moves_formed, moves_running, running_ready}
@@ -32,7 +32,7 @@ ready_shut c past p Waiting e = absurd (false≢true e)
 ready_shut c past p (Gone why) e = absurd (false≢true e)
 
 -- the output of a direction that moves is ready
-pub output_ready : (c : Config) (past : List Act) (p : Place) → same_place p (output c p.session (way_to p.side)) ≡ true → moves c past p.session (way_to p.side) ≡ true → is_ready c past p ≡ true
+pub output_ready : (c : Config) (past : List Act) (p : Place) → same_place p (output c p.session (way_to p.side)) ≡ true → is_going c past p.session (way_to p.side) ≡ true → is_ready c past p ≡ true
 output_ready c past p same moving =
     let w = way_to p.side in
     let r = output_passes c (is_ready c past) p.session w (moves_formed c past p.session w moving) (running_ready c past p.session (moves_running c past p.session w moving)) in
@@ -43,7 +43,7 @@ shut : (b : Bool) (hold : Hold) (st : Stage) → (b ≡ true → StandsFor st Sh
 shut true hold st here there = here refl
 shut false hold st here there = there
 
-shut_stands : (c : Config) (past : List Act) (q p : Place) → same_place q (output c q.session (way_to q.side)) ≡ true → moves c past q.session (way_to q.side) ≡ true → same_place q p ≡ true → StandsFor (stage past p) ShutDown
+shut_stands : (c : Config) (past : List Act) (q p : Place) → same_place q (output c q.session (way_to q.side)) ≡ true → is_going c past q.session (way_to q.side) ≡ true → same_place q p ≡ true → StandsFor (stage past p) ShutDown
 shut_stands c past q p same moving e = subst (λ x. StandsFor (stage past x) ShutDown) (same_place_equal q p e) (ready_shut c past q (stage past q) (output_ready c past q same moving))
 
 -- in a legal list a thing stands as its stage says

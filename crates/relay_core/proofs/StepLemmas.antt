@@ -19,7 +19,7 @@ use Rattle.relay_model.specs.Sessions.{numbers}
 use Rattle.relay_model.specs.Choices.{only_if, first_some}
 use Rattle.relay_model.specs.declared.places.Side.TheVariants.{Left}
 use Rattle.relay_core.proofs.Homes.{begun_after, NamesThing, called_here, held_away}
-use Rattle.relay_model.specs.Moments.{moved, closing_moment, idle_moment, reached}
+use Rattle.relay_model.specs.Moments.{moved_at, closing_moment, idle_moment, reached}
 use Rattle.relay_model.specs.Openings.{Call, Accept, Refuse, Serve, first_call, ready}
 use Rattle.relay_model.specs.Cause.{cause, closed_why, fault_stands, accept_failed_for, is_end, listening_failed, opening_failed, faulted, finished}
 use Rattle.relay_model.specs.Calls.{call, called_at}
@@ -61,7 +61,7 @@ pub record Steady (old new : State) : Type 0 where
   pub idle_same : new.idle ≡ old.idle
   pub sloppy_same : new.sloppy ≡ old.sloppy
 
-pub ground_after : (c : Config) (past later : List Act) (s : ℕ) (old new : State) → Ground c past s old → s < numbers c later → (has_fork c ≡ true → closed_why c later s ≡ None → held later (home c s) ≡ true) → now later ≡ now past → Steady old new → AreOpenings c later s new.openings → AreLanes c later s new.lanes → new.moved ≡ moved c later s → new.faulted ≡ fault_stands c later s → Ground c later s new
+pub ground_after : (c : Config) (past later : List Act) (s : ℕ) (old new : State) → Ground c past s old → s < numbers c later → (has_fork c ≡ true → closed_why c later s ≡ None → held later (home c s) ≡ true) → now later ≡ now past → Steady old new → AreOpenings c later s new.openings → AreLanes c later s new.lanes → new.moved ≡ moved_at c later s → new.faulted ≡ fault_stands c later s → Ground c later s new
 ground_after c past later s old new g begun home_held at same openings lanes move fault =
     record {
       fit = g.fit;
@@ -134,7 +134,7 @@ home_after c n past s act old f e away fork u = away fork ∙ f.ground.home_held
 
 pub opening_step : (c : Config) (n : ℕ) (past : List Act) (s : ℕ) (act : Act) (old mid new : State) → Fields c n past s old → old.ending ≡ None → (has_fork c ≡ true → held (act ∷ past) (home c s) ≡ held past (home c s)) → keeps_quiet act ≡ true → now (act ∷ past) ≡ now past →
     (owed c past ≡ None → May c n past act) → Steady old mid → AreOpenings c (act ∷ past) s mid.openings → AreLanes c (act ∷ past) s mid.lanes →
-    mid.moved ≡ moved c (act ∷ past) s → mid.faulted ≡ fault_stands c (act ∷ past) s →
+    mid.moved ≡ moved_at c (act ∷ past) s → mid.faulted ≡ fault_stands c (act ∷ past) s →
     EndsAs mid new → (Ground c (act ∷ past) s mid → Quiet c (act ∷ past) s → new.ending ≡ cause c (act ∷ past) s) →
     steps_in mid.openings < steps_in old.openings → lanes_steps mid.lanes ≡ lanes_steps old.lanes → Absorbed c n past s act old new
 opening_step c n past s act old mid new f e away quiet at may same openings lanes move fault again ending fewer lanes_same =
@@ -144,7 +144,7 @@ opening_step c n past s act old mid new f e away quiet at may same openings lane
 
 pub transfer_step : (c : Config) (n : ℕ) (past : List Act) (s : ℕ) (act : Act) (old mid new : State) → Fields c n past s old → old.ending ≡ None → (has_fork c ≡ true → held (act ∷ past) (home c s) ≡ held past (home c s)) → keeps_quiet act ≡ true → now (act ∷ past) ≡ now past →
     (owed c past ≡ None → May c n past act) → Steady old mid → AreOpenings c (act ∷ past) s mid.openings → AreLanes c (act ∷ past) s mid.lanes →
-    mid.moved ≡ moved c (act ∷ past) s → mid.faulted ≡ fault_stands c (act ∷ past) s →
+    mid.moved ≡ moved_at c (act ∷ past) s → mid.faulted ≡ fault_stands c (act ∷ past) s →
     EndsAs mid new → (Ground c (act ∷ past) s mid → Quiet c (act ∷ past) s → new.ending ≡ cause c (act ∷ past) s) →
     steps_in mid.openings ≡ steps_in old.openings → lanes_steps mid.lanes < lanes_steps old.lanes → Absorbed c n past s act old new
 transfer_step c n past s act old mid new f e away quiet at may same openings lanes move fault again ending openings_same fewer =
@@ -155,7 +155,7 @@ transfer_step c n past s act old mid new f e away quiet at may same openings lan
 -- an act after which the session has ended for this reason
 pub ending_step : (c : Config) (n : ℕ) (past : List Act) (s : ℕ) (act : Act) (old new : State) (why : Why) → Fields c n past s old → old.ending ≡ None → (has_fork c ≡ true → held (act ∷ past) (home c s) ≡ held past (home c s)) → now (act ∷ past) ≡ now past →
     (owed c past ≡ None → May c n past act) → Steady old new → AreOpenings c (act ∷ past) s new.openings → AreLanes c (act ∷ past) s new.lanes →
-    new.moved ≡ moved c (act ∷ past) s → new.faulted ≡ fault_stands c (act ∷ past) s →
+    new.moved ≡ moved_at c (act ∷ past) s → new.faulted ≡ fault_stands c (act ∷ past) s →
     new.ending ≡ Some why → Ends c n (act ∷ past) s why →
     steps_in new.openings < steps_in old.openings → lanes_steps new.lanes ≡ lanes_steps old.lanes → Absorbed c n past s act old new
 ending_step c n past s act old new why f e away at may same openings lanes move fault ending ends fewer lanes_same =
@@ -269,13 +269,13 @@ transfer_untouched c s p waiting transfers.WriteFailed = refl
 transfer_untouched c s p waiting (transfers.Shut how) = refl
 transfer_untouched c s p waiting (transfers.ShutFailed how) = refl
 
-pub transfer_moved : (c : Config) (past : List Act) (s : ℕ) (p : Place) (waiting : List ℕ) (t : Transfer) (clock before : ℕ) → p.session ≡ s → MayTransfer c past p waiting t → clock ≡ now past → before ≡ moved c past s → cond (moves_bytes t) clock before ≡ moved c (transfer_act p waiting t ∷ past) s
-transfer_moved c past s p waiting (transfers.Read bytes) clock before own may at was = noted (is_place_of c s p) (now past) clock (moved c past s) (read_own c past s p (length bytes.now) own may) at
+pub transfer_moved : (c : Config) (past : List Act) (s : ℕ) (p : Place) (waiting : List ℕ) (t : Transfer) (clock before : ℕ) → p.session ≡ s → MayTransfer c past p waiting t → clock ≡ now past → before ≡ moved_at c past s → cond (moves_bytes t) clock before ≡ moved_at c (transfer_act p waiting t ∷ past) s
+transfer_moved c past s p waiting (transfers.Read bytes) clock before own may at was = noted (is_place_of c s p) (now past) clock (moved_at c past s) (read_own c past s p (length bytes.now) own may) at
 transfer_moved c past s p waiting transfers.ReadEmpty clock before own may at was = was
 transfer_moved c past s p waiting transfers.ReadEnd clock before own may at was = was
 transfer_moved c past s p waiting transfers.ReadNotYet clock before own may at was = was
 transfer_moved c past s p waiting transfers.ReadFailed clock before own may at was = was
-transfer_moved c past s p waiting (transfers.Wrote count) clock before own may at was = noted (is_place_of c s p) (now past) clock (moved c past s) (offer_own c past s p own may.0.offers) at
+transfer_moved c past s p waiting (transfers.Wrote count) clock before own may at was = noted (is_place_of c s p) (now past) clock (moved_at c past s) (offer_own c past s p own may.0.offers) at
 transfer_moved c past s p waiting transfers.WriteNotYet clock before own may at was = was
 transfer_moved c past s p waiting transfers.WriteFailed clock before own may at was = was
 transfer_moved c past s p waiting (transfers.Shut how) clock before own may at was = was
@@ -466,7 +466,7 @@ childless_step c n past s old new f same openings lanes move fault ending fewer 
 
 -- ---- turns
 
-pub heeds_step : (c : Config) (past later : List Act) (s : ℕ) (old mid new : State) → Ground c past s old → s < numbers c later → (has_fork c ≡ true → closed_why c later s ≡ None → held later (home c s) ≡ true) → AreOpenings c later s mid.openings → AreLanes c later s mid.lanes → mid.clock ≡ now later → mid.moved ≡ moved c later s → mid.faulted ≡ fault_stands c later s →
+pub heeds_step : (c : Config) (past later : List Act) (s : ℕ) (old mid new : State) → Ground c past s old → s < numbers c later → (has_fork c ≡ true → closed_why c later s ≡ None → held later (home c s) ≡ true) → AreOpenings c later s mid.openings → AreLanes c later s mid.lanes → mid.clock ≡ now later → mid.moved ≡ moved_at c later s → mid.faulted ≡ fault_stands c later s →
     mid.closing ≡ old.closing → mid.idle ≡ old.idle → mid.sloppy ≡ old.sloppy → EndsAs mid new → Quiet c later s → (Ground c later s mid → Quiet c later s → new.ending ≡ cause c later s) → Heeds c later s new
 heeds_step c past later s old mid new o begun home_held openings lanes clock move fault closing idle sloppy again q ending =
     let g : Ground c later s mid = record { fit = o.fit; begun = begun; home_held = home_held; openings_are = openings; lanes_are = lanes; clock_is = clock; moved_is = move; faulted_is = fault; closing_is = closing ∙ o.closing_is; idle_is = idle ∙ o.idle_is; sloppy_is = sloppy ∙ o.sloppy_is } in

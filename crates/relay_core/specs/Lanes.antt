@@ -10,7 +10,7 @@ use Rattle.relay_buffer.specs.Flows.{room_in}
 use Rattle.session_direction.specs.States.{can_read, can_write, steps_in}
 use Rattle.relay_model.specs.declared.acts.Shut.{Shut as Shutting}
 use Rattle.relay_model.specs.Configs.{keeps_borders}
-use Rattle.relay_model.specs.Transfers.{room}
+use Rattle.relay_model.specs.Transfers.{greatest_read}
 use Rattle.relay_model.specs.May.{MayRead, MayTryWrite, MayShut}
 use Rattle.session_direction.specs.Directions.{IsDirection, WantsNothing}
 use Rattle.relay_core.specs.declared.wishes.Wish.{Wish}
@@ -94,7 +94,7 @@ can_write_at lanes p = can_write_in (lane_at lanes (way_to p.side))
 pub record Reads (c : Config) (past : List Act) (s : ℕ) (p : Place) (n : ℕ) : Type 0 where
   pub own : p.session ≡ s
   pub may : MayRead c past p n
-  pub size : n ≡ room c past s (way_from p.side)
+  pub size : n ≡ greatest_read c past s (way_from p.side)
 
 -- what waits may be offered to a place of the session
 pub record Offers (c : Config) (past : List Act) (s : ℕ) (p : Place) (borders : Bool) : Type 0 where

@@ -11,7 +11,7 @@ use Rattle.relay_model.specs.Configs.{has_fork, is_of, parts, place_at, Fit}
 use Rattle.relay_model.specs.History.{now, held}
 use Rattle.relay_model.specs.Arming.{asked_to_accept}
 use Rattle.relay_model.specs.Sessions.{holds, numbers, first_part}
-use Rattle.relay_model.specs.Moments.{moved}
+use Rattle.relay_model.specs.Moments.{moved_at}
 use Rattle.relay_model.specs.Openings.{Call}
 use Rattle.relay_model.specs.Openings as calls
 use Rattle.relay_model.specs.Cause.{closed_why, fault_stands, running}
@@ -41,7 +41,7 @@ pub record Ground (c : Config) (past : List Act) (s : ℕ) (st : State) : Type 0
   pub openings_are : AreOpenings c past s st.openings
   pub lanes_are : AreLanes c past s st.lanes
   pub clock_is : st.clock ≡ now past
-  pub moved_is : st.moved ≡ moved c past s
+  pub moved_is : st.moved ≡ moved_at c past s
   pub faulted_is : st.faulted ≡ fault_stands c past s
   pub closing_is : st.closing ≡ c.closing
   pub idle_is : st.idle ≡ c.idle

@@ -17,7 +17,7 @@ use Rattle.relay_model.specs.Configs.{input, output, has_fork, program_door, is_
 use Rattle.relay_model.specs.History.{now, Usable, Unsettled, Failed, Met, Waiting, Gone, stage, failures, woken, accept_failed, was_closed, was_reaped, reaped_since, got, put, sent, met_end, met_empty, shut_at, read_fault_at, write_fault_at, stop_said, memory_said, same_why}
 use Rattle.relay_model.specs.Arming.{Disarmed, Armed, AtEnd, read_arming, armed_to_write, armed_to_accept, asked_to_read, asked_to_write, asked_to_accept}
 use Rattle.relay_model.specs.Transfers.{due_part, due_pieces, is_empty}
-use Rattle.relay_model.specs.Moments.{moved}
+use Rattle.relay_model.specs.Moments.{moved_at}
 use Rattle.relay_model.specs.Cause.{closed_why, is_end}
 use Rattle.relay_model.specs.Frames.{SameAt}
 use Rattle.relay_laws.specs.Stories.{is_own_place, own_entries}
@@ -201,7 +201,7 @@ closed_kept : (c : Config) (s : ℕ) (act : Act) (a b : List Act) → closed_why
 closed_kept c s (Closed q why) a b h = ap (cond (is_of c s q && is_end q why) (Some why)) h
 closed_kept c s act a b h = h
 
-moved_kept : (c : Config) (s : ℕ) (act : Act) (a b : List Act) → now a ≡ now b → moved c a s ≡ moved c b s → moved c (act ∷ a) s ≡ moved c (seen c s act ∷ b) s
+moved_kept : (c : Config) (s : ℕ) (act : Act) (a b : List Act) → now a ≡ now b → moved_at c a s ≡ moved_at c b s → moved_at c (act ∷ a) s ≡ moved_at c (seen c s act ∷ b) s
 moved_kept c s (Opened q) a b n h = λ i. cond (is_place_of c s q) (n i) (h i)
 moved_kept c s (Accepted q peer) a b n h = λ i. cond (is_place_of c s q) (n i) (h i)
 moved_kept c s (Read q bytes) a b n h = λ i. cond (is_place_of c s q) (n i) (h i)

@@ -19,13 +19,13 @@ use Rattle.relay_model.specs.Conversions.{is_over}
 use Rattle.relay_model.specs.History.{now, Stage, Unsettled, Failed, Met, Waiting, stage, held, holds_at, is_gone_with, served, stop_said, memory_said, same_why, accept_failed}
 use Rattle.relay_model.specs.Sessions.{permits, holds, live, admitted, is_admission, numbers}
 use Rattle.relay_model.specs.Tries.{next_due, is_out_of_tries}
-use Rattle.relay_model.specs.Moments.{moved, passed_at, broken_at, done_at, after_one, closing_moment, idle_moment, reached}
+use Rattle.relay_model.specs.Moments.{moved_at, passed_at, broken_at, done_at, after_one, closing_moment, idle_moment, reached}
 use Rattle.relay_model.specs.Openings.{Call, Nothing, Open, Settle, Listen, Accept, Refuse, Serve, out_of_tries, when_due, try_again, stands_ready, is_ready, ready, opening_call, listening_call, peer_call, place_call, first_call}
 use Rattle.relay_model.specs.Arming.{is_armed, arming_moment, asked_to_write, asked_to_accept}
 use Rattle.relay_model.specs.Transfers.{due, due_pieces, over, backlog}
 use Rattle.relay_model.specs.Cause.{is_end, closed_why, fault_at, faulted, finished, cause, running}
 use Rattle.relay_model.specs.Calls.{call}
-use Rattle.relay_model.specs.Rest.{moves, may_read, may_write, accepts, session_work, try_moment, input_moment, timer_moment, session_moment}
+use Rattle.relay_model.specs.Rest.{is_going, owes_read, owes_write, accepts, session_work, try_moment, input_moment, timer_moment, session_moment}
 use Rattle.relay_model.specs.Frames.{is_at, is_turn, reads_bytes, SameAt, IsForeign, is_common, SameSession}
 use Rattle.legal_steps.proofs.PlaceLemmas.{same_place_equal, same_place_self}
 use Rattle.legal_steps.proofs.Elsewhere.{elsewhere, due_pieces_left}
@@ -50,7 +50,7 @@ pub record Base (c : Config) (s : ℕ) (one other : List Act) : Type 0 where
   pub stop_same : stop_said one ≡ stop_said other
   pub door_same : (has_fork c && accept_failed one program_door) ≡ (has_fork c && accept_failed other program_door)
   pub closed_same : closed_why c one s ≡ closed_why c other s
-  pub moved_same : moved c one s ≡ moved c other s
+  pub moved_same : moved_at c one s ≡ moved_at c other s
 
 held_same : (c : Config) (s : ℕ) (a b : List Act) → Base c s a b → (p : Place) → p.session ≡ s → is_program_door c p ≡ false → held a p ≡ held b p
 held_same c s a b base p e d = ap holds_at (base.own p e d).stage_same
@@ -214,10 +214,10 @@ backlog_same c s a b base w =
     let u = (base.own (output c s w) refl (output_own c s w)).put_same in
     λ i. length (due c w (g i)) - length (u i)
 
-pub moves_same : (c : Config) (s : ℕ) (a b : List Act) → Base c s a b → running c a s ≡ running c b s → (w : Way) → moves c a s w ≡ moves c b s w
+pub moves_same : (c : Config) (s : ℕ) (a b : List Act) → Base c s a b → running c a s ≡ running c b s → (w : Way) → is_going c a s w ≡ is_going c b s w
 moves_same c s a b base run w = let u = breaking_same c s a b base w in λ i. formed c w && not (is_some (u i)) && run i
 
-reads_same : (c : Config) (s : ℕ) (a b : List Act) → Base c s a b → running c a s ≡ running c b s → (w : Way) → may_read c a s w ≡ may_read c b s w
+reads_same : (c : Config) (s : ℕ) (a b : List Act) → Base c s a b → running c a s ≡ running c b s → (w : Way) → owes_read c a s w ≡ owes_read c b s w
 reads_same c s a b base run w =
     let m = moves_same c s a b base run w in
     let r = (base.own (input c s w) refl (input_own c s w)).read_arming_same in
@@ -226,7 +226,7 @@ reads_same c s a b base run w =
     let k = backlog_same c s a b base w in
     λ i. m i && is_armed (r i) (at i) && not (o i) && k i == 0
 
-writes_same : (c : Config) (s : ℕ) (a b : List Act) → Base c s a b → running c a s ≡ running c b s → (w : Way) → may_write c a s w ≡ may_write c b s w
+writes_same : (c : Config) (s : ℕ) (a b : List Act) → Base c s a b → running c a s ≡ running c b s → (w : Way) → owes_write c a s w ≡ owes_write c b s w
 writes_same c s a b base run w =
     let m = moves_same c s a b base run w in
     let r = (base.own (output c s w) refl (output_own c s w)).armed_to_write_same in
@@ -275,11 +275,11 @@ pub closed_step : (c : Config) (act : Act) (past : List Act) (s : ℕ) → IsFor
 closed_step c (Closed q why) past s f = let e = foreign_of c s q f in λ i. cond (e i && is_end q why) (Some why) (closed_why c past s)
 closed_step c act past s f = refl
 
-moved_step : (c : Config) (act : Act) (past : List Act) (s : ℕ) → IsForeign c s act → moved c (act ∷ past) s ≡ moved c past s
-moved_step c (Opened q) past s f = let e = foreign_place c s q f in λ i. cond (e i) (now past) (moved c past s)
-moved_step c (Accepted q peer) past s f = let e = foreign_place c s q f in λ i. cond (e i) (now past) (moved c past s)
-moved_step c (Read q bytes) past s f = let e = foreign_place c s q f in λ i. cond (e i) (now past) (moved c past s)
-moved_step c (Wrote q bytes) past s f = let e = foreign_place c s q f in λ i. cond (e i) (now past) (moved c past s)
+moved_step : (c : Config) (act : Act) (past : List Act) (s : ℕ) → IsForeign c s act → moved_at c (act ∷ past) s ≡ moved_at c past s
+moved_step c (Opened q) past s f = let e = foreign_place c s q f in λ i. cond (e i) (now past) (moved_at c past s)
+moved_step c (Accepted q peer) past s f = let e = foreign_place c s q f in λ i. cond (e i) (now past) (moved_at c past s)
+moved_step c (Read q bytes) past s f = let e = foreign_place c s q f in λ i. cond (e i) (now past) (moved_at c past s)
+moved_step c (Wrote q bytes) past s f = let e = foreign_place c s q f in λ i. cond (e i) (now past) (moved_at c past s)
 moved_step c act past s f = refl
 
 now_step : (c : Config) (act : Act) (past : List Act) → is_common c act ≡ false → now (act ∷ past) ≡ now past

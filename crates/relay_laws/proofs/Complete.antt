@@ -17,13 +17,13 @@ use Rattle.relay_model.specs.Configs.{input, output, way_from, way_to, is_progra
 use Rattle.relay_model.specs.History.{turns, held, got, put, sent, was_closed, was_reaped, same_why}
 use Rattle.relay_model.specs.Arming.{armed_to_read, armed_to_write, asked_to_read, asked_to_write}
 use Rattle.relay_model.specs.Sessions.{holds, numbers}
-use Rattle.relay_model.specs.Transfers.{due, due_pieces, over, backlog, room, is_spent}
+use Rattle.relay_model.specs.Transfers.{due, due_pieces, over, backlog, greatest_read, is_spent}
 use Rattle.relay_model.specs.Moments.{passed}
 use Rattle.relay_model.specs.Openings.{Call, Nothing, TryAt, Open, Settle, Listen, Accept, Refuse, Serve}
 use Rattle.relay_model.specs.Cause.{cause, closed_why}
 use Rattle.relay_model.specs.Calls.{called_at, call, door_call, door_cut}
 use Rattle.relay_model.specs.Outcome.{outcome}
-use Rattle.relay_model.specs.Rest.{owed, moves, may_read, may_write, must_pass, presses, AcceptTried, SessionRests, DoorRests, Rest, until_of}
+use Rattle.relay_model.specs.Rest.{owed, is_going, owes_read, owes_write, must_pass, presses, AcceptTried, SessionRests, DoorRests, Rest, until_of}
 use Rattle.relay_model.specs.May.{MayAsk, MayRead, MayOffer, MayWrite, MayTryWrite, MayShut, MayClose, MayTurn, MayReap, DoorEnds, for_memory, for_stop, for_accept, Licensed, by_cause, by_refusal, by_service, by_door, by_memory, by_turns, BeginsWith, KeepsBorders, May, Legal}
 use Rattle.relay_model.specs.Audit.{implies, accept_tried, way_rests, session_rests, door_rests, rests, same_number, same_list, same_text, begins, begins_pieces, same_shut, opens, listens_to, accepts_for, accepts_at, closes, may_ask, may_take, may_offer, may_put, may_shut, door_ends, is_cause, may_close, timely, may_come, first_of_two, first_illegal}
 use Rattle.legal_steps.proofs.PlaceLemmas.{same_place_self}
@@ -128,10 +128,10 @@ tried_test c past (Serve d) h = refl
 
 way_test : (c : Config) (past : List Act) (s : ℕ) (w : Way) → SessionRests c past s → way_rests c past s w ≡ true
 way_test c past s w r =
-    and_from (implies (may_read c past s w) (asked_to_read past (input c s w)) && implies (may_write c past s w) (asked_to_write past (input c s w) (output c s w))) (not (must_pass c past s w))
-    (and_from (implies (may_read c past s w) (asked_to_read past (input c s w))) (implies (may_write c past s w) (asked_to_write past (input c s w) (output c s w)))
-    (implies_is (may_read c past s w) (asked_to_read past (input c s w)) (r.read_tried w))
-    (implies_is (may_write c past s w) (asked_to_write past (input c s w) (output c s w)) (r.write_tried w)))
+    and_from (implies (owes_read c past s w) (asked_to_read past (input c s w)) && implies (owes_write c past s w) (asked_to_write past (input c s w) (output c s w))) (not (must_pass c past s w))
+    (and_from (implies (owes_read c past s w) (asked_to_read past (input c s w))) (implies (owes_write c past s w) (asked_to_write past (input c s w) (output c s w)))
+    (implies_is (owes_read c past s w) (asked_to_read past (input c s w)) (r.read_tried w))
+    (implies_is (owes_write c past s w) (asked_to_write past (input c s w) (output c s w)) (r.write_tried w)))
     (not_from_false (must_pass c past s w) (r.passed_on w))
 
 session_test : (c : Config) (past : List Act) (s : ℕ) → SessionRests c past s → session_rests c past s ≡ true
@@ -167,26 +167,26 @@ rest_test c past r =
 ask_test : (c : Config) (past : List Act) (p : Place) → MayAsk c past p → may_ask c past p ≡ true
 ask_test c past p m =
     let w = way_from p.side in
-    and_from (same_place p (input c p.session w) && moves c past p.session w && not (passed c past p.session w) && not (over c past p)) (armed_to_read past p)
-    (and_from (same_place p (input c p.session w) && moves c past p.session w && not (passed c past p.session w)) (not (over c past p))
-    (and_from (same_place p (input c p.session w) && moves c past p.session w) (not (passed c past p.session w))
-    (and_from (same_place p (input c p.session w)) (moves c past p.session w) m.is_input m.moving)
+    and_from (same_place p (input c p.session w) && is_going c past p.session w && not (passed c past p.session w) && not (over c past p)) (armed_to_read past p)
+    (and_from (same_place p (input c p.session w) && is_going c past p.session w && not (passed c past p.session w)) (not (over c past p))
+    (and_from (same_place p (input c p.session w) && is_going c past p.session w) (not (passed c past p.session w))
+    (and_from (same_place p (input c p.session w)) (is_going c past p.session w) m.is_input m.moving)
     (not_from_false (passed c past p.session w) m.not_passed))
     (not_from_false (over c past p) m.not_over))
     m.armed
 
 take_test : (c : Config) (past : List Act) (p : Place) (n : ℕ) → MayRead c past p n → may_take c past p n ≡ true
 take_test c past p n m =
-    and_from (may_ask c past p && nat_le 1 n) (nat_le n (room c past p.session (way_from p.side)))
+    and_from (may_ask c past p && nat_le 1 n) (nat_le n (greatest_read c past p.session (way_from p.side)))
     (and_from (may_ask c past p) (nat_le 1 n) (ask_test c past p m.asks) (le-leb 1 n m.some_bytes))
-    (le-leb n (room c past p.session (way_from p.side)) m.in_room)
+    (le-leb n (greatest_read c past p.session (way_from p.side)) m.in_room)
 
 offer_test : (c : Config) (past : List Act) (p : Place) → MayOffer c past p → may_offer c past p ≡ true
 offer_test c past p m =
     let w = way_to p.side in
-    and_from (same_place p (output c p.session w) && moves c past p.session w && not (passed c past p.session w)) (armed_to_write past p)
-    (and_from (same_place p (output c p.session w) && moves c past p.session w) (not (passed c past p.session w))
-    (and_from (same_place p (output c p.session w)) (moves c past p.session w) m.is_output m.moving)
+    and_from (same_place p (output c p.session w) && is_going c past p.session w && not (passed c past p.session w)) (armed_to_write past p)
+    (and_from (same_place p (output c p.session w) && is_going c past p.session w) (not (passed c past p.session w))
+    (and_from (same_place p (output c p.session w)) (is_going c past p.session w) m.is_output m.moving)
     (not_from_false (passed c past p.session w) m.not_passed))
     m.armed
 
@@ -206,10 +206,10 @@ try_write_test c past p m = and_from (may_offer c past p) (nat_le 1 (backlog c p
 shut_test : (c : Config) (past : List Act) (p : Place) (way : Shutting) → MayShut c past p way → may_shut c past p way ≡ true
 shut_test c past p way m =
     let w = way_to p.side in
-    and_from (same_place p (output c p.session w) && moves c past p.session w && is_spent c past p.session w && not (passed c past p.session w)) (same_shut way (how c p))
-    (and_from (same_place p (output c p.session w) && moves c past p.session w && is_spent c past p.session w) (not (passed c past p.session w))
-    (and_from (same_place p (output c p.session w) && moves c past p.session w) (is_spent c past p.session w)
-    (and_from (same_place p (output c p.session w)) (moves c past p.session w) m.is_output m.moving)
+    and_from (same_place p (output c p.session w) && is_going c past p.session w && is_spent c past p.session w && not (passed c past p.session w)) (same_shut way (how c p))
+    (and_from (same_place p (output c p.session w) && is_going c past p.session w && is_spent c past p.session w) (not (passed c past p.session w))
+    (and_from (same_place p (output c p.session w) && is_going c past p.session w) (is_spent c past p.session w)
+    (and_from (same_place p (output c p.session w)) (is_going c past p.session w) m.is_output m.moving)
     m.spent)
     (not_from_false (passed c past p.session w) m.not_passed))
     (subst (λ x. same_shut way x ≡ true) m.is_how (shut_same way))

@@ -29,7 +29,7 @@ use Rattle.relay_model.specs.Moments.{passed, done, broken, closing_moment, idle
 use Rattle.relay_model.specs.Openings.{Call, Nothing, TryAt, Open, Settle, Listen, Accept, Refuse, Serve, out_of_tries, when_due, try_again, stands_ready, is_ready, ready, opening_call, listening_call, peer_call, place_call, first_call}
 use Rattle.relay_model.specs.Cause.{is_end, closed_why, accept_failed_for, listening_failed, opening_failed, fault_at, fault_stands, each_formed, some_formed, faulted, finished, cause}
 use Rattle.relay_model.specs.Calls.{call, door_cut, program_door_call, door_call, called_at}
-use Rattle.relay_model.specs.Rest.{moves}
+use Rattle.relay_model.specs.Rest.{is_going}
 use Rattle.relay_model.specs.May.{Legal, Licensed, by_cause, by_refusal, by_service, by_door, by_memory, by_turns}
 use Rattle.relay_model.specs.Laws.{uses, DoorTells}
 use Rattle.relay_model.specs.Frames.{is_at, reaps, fails_to_open, fails_to_accept, fails_to_read, fails_to_write}
@@ -142,7 +142,7 @@ unborn c past s fork below =
     let early : nat_lt s (admitted c past) ≡ false = false_from_ne_true (nat_lt s (admitted c past)) (λ e. let l = ltb-true s (admitted c past) e in omega (arith, l, below)) in
     ap (λ f. cond f (nat_lt s (admitted c past) && holds c past s) (s == 0)) fork ∙ and_left (nat_lt s (admitted c past)) (holds c past s) early
 
-no_motion : (c : Config) (past : List Act) (q p : Place) (w : Way) → has_fork c ≡ true → admitted c past ≤ p.session → same_place q p ≡ true → moves c past q.session w ≡ true → ⊥
+no_motion : (c : Config) (past : List Act) (q p : Place) (w : Way) → has_fork c ≡ true → admitted c past ≤ p.session → same_place q p ≡ true → is_going c past q.session w ≡ true → ⊥
 no_motion c past q p w fork below e m =
     let there : admitted c past ≤ q.session = subst (λ (x : Place). admitted c past ≤ x.session) (sym (same_place_equal q p e)) below in
     let r = moves_running c past q.session w m in

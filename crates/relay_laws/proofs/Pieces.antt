@@ -13,7 +13,7 @@ use Rattle.relay_model.specs.Choices.{joined}
 use Rattle.relay_model.specs.Configs.{input, output, options_of, keeps_borders}
 use Rattle.relay_model.specs.Conversions.{at_most_left, read_size, packet_size, packet_cap}
 use Rattle.relay_model.specs.History.{got, put, sent}
-use Rattle.relay_model.specs.Transfers.{due, due_part, due_pieces, is_empty, backlog, room}
+use Rattle.relay_model.specs.Transfers.{due, due_part, due_pieces, is_empty, backlog, greatest_read}
 use Rattle.relay_model.specs.May.{Legal, BeginsWith, KeepsBorders, MayRead, MayWrite}
 use Rattle.relay_laws.specs.Packets.{at_most_one}
 use Rattle.legal_steps.proofs.Growth.{due_nil}
@@ -35,7 +35,7 @@ room_free true block cap o count b n keeps some in_room = go (b == 0) refl in_ro
     go true e h = eqb-true b 0 e
     go false e h = omega (arith, h, some)
 
-reads_when_free : (c : Config) (past : List Act) (s : ℕ) (w : Way) (n : ℕ) → keeps_borders c w ≡ true → 1 ≤ n → n ≤ room c past s w → backlog c past s w ≡ 0
+reads_when_free : (c : Config) (past : List Act) (s : ℕ) (w : Way) (n : ℕ) → keeps_borders c w ≡ true → 1 ≤ n → n ≤ greatest_read c past s w → backlog c past s w ≡ 0
 reads_when_free c past s w n keeps some in_room = room_free (keeps_borders c w) c.block (packet_cap (options_of c (output c 0 w)).conv) (options_of c (input c 0 w)).readbytes (length (got past (input c s w))) (backlog c past s w) n keeps some in_room
 
 -- where nothing waits, as many bytes were written as are due

@@ -17,13 +17,13 @@ use Rattle.relay_model.specs.Configs.{input, output, way_from, way_to, is_progra
 use Rattle.relay_model.specs.History.{turns, held, got, put, sent, was_closed, was_reaped, same_why}
 use Rattle.relay_model.specs.Arming.{armed_to_read, armed_to_write, asked_to_read, asked_to_write}
 use Rattle.relay_model.specs.Sessions.{holds, numbers}
-use Rattle.relay_model.specs.Transfers.{due, due_pieces, over, backlog, room, is_spent}
+use Rattle.relay_model.specs.Transfers.{due, due_pieces, over, backlog, greatest_read, is_spent}
 use Rattle.relay_model.specs.Moments.{passed}
 use Rattle.relay_model.specs.Openings.{Call, Nothing, TryAt, Open, Settle, Listen, Accept, Refuse, Serve, ready}
 use Rattle.relay_model.specs.Cause.{cause, closed_why}
 use Rattle.relay_model.specs.Calls.{called_at, call, door_call, door_cut}
 use Rattle.relay_model.specs.Outcome.{outcome}
-use Rattle.relay_model.specs.Rest.{owed, moves, may_read, may_write, must_pass, presses, AcceptTried, SessionRests, DoorRests, Rest, until_of}
+use Rattle.relay_model.specs.Rest.{owed, is_going, owes_read, owes_write, must_pass, presses, AcceptTried, SessionRests, DoorRests, Rest, until_of}
 use Rattle.relay_model.specs.May.{MayAsk, MayRead, MayOffer, MayWrite, MayTryWrite, MayShut, MayOpen, MayAccept, MayClose, MayTurn, MayReap, DoorEnds, for_memory, for_stop, for_accept, Licensed, by_cause, by_refusal, by_service, by_door, by_memory, by_turns, BeginsWith, KeepsBorders, May, Legal}
 use Rattle.relay_model.specs.Audit.{implies, accept_tried, way_rests, session_rests, door_rests, rests, same_number, same_list, same_text, begins, begins_pieces, same_shut, opens, listens_to, accepts_for, accepts_at, closes, may_ask, may_take, may_offer, may_put, may_shut, door_ends, is_cause, may_close, timely, may_come, first_of_two, first_illegal}
 use Rattle.legal_steps.proofs.PlaceLemmas.{same_place_equal}
@@ -155,15 +155,15 @@ tried_is c past (Serve d) e = tt
 -- ---- rest
 
 pub record WayRests (c : Config) (past : List Act) (s : ℕ) (w : Way) : Type 0 where
-  pub read_tried : may_read c past s w ≡ true → asked_to_read past (input c s w) ≡ true
-  pub write_tried : may_write c past s w ≡ true → asked_to_write past (input c s w) (output c s w) ≡ true
+  pub read_tried : owes_read c past s w ≡ true → asked_to_read past (input c s w) ≡ true
+  pub write_tried : owes_write c past s w ≡ true → asked_to_write past (input c s w) (output c s w) ≡ true
   pub passed_on : must_pass c past s w ≡ false
 
 way_is : (c : Config) (past : List Act) (s : ℕ) (w : Way) → way_rests c past s w ≡ true → WayRests c past s w
 way_is c past s w e =
-    let a = and_parts (implies (may_read c past s w) (asked_to_read past (input c s w)) && implies (may_write c past s w) (asked_to_write past (input c s w) (output c s w))) (not (must_pass c past s w)) e in
-    let b = and_parts (implies (may_read c past s w) (asked_to_read past (input c s w))) (implies (may_write c past s w) (asked_to_write past (input c s w) (output c s w))) a.0 in
-    record { read_tried = implied (may_read c past s w) (asked_to_read past (input c s w)) b.0; write_tried = implied (may_write c past s w) (asked_to_write past (input c s w) (output c s w)) b.1; passed_on = not-true (must_pass c past s w) a.1 }
+    let a = and_parts (implies (owes_read c past s w) (asked_to_read past (input c s w)) && implies (owes_write c past s w) (asked_to_write past (input c s w) (output c s w))) (not (must_pass c past s w)) e in
+    let b = and_parts (implies (owes_read c past s w) (asked_to_read past (input c s w))) (implies (owes_write c past s w) (asked_to_write past (input c s w) (output c s w))) a.0 in
+    record { read_tried = implied (owes_read c past s w) (asked_to_read past (input c s w)) b.0; write_tried = implied (owes_write c past s w) (asked_to_write past (input c s w) (output c s w)) b.1; passed_on = not-true (must_pass c past s w) a.1 }
 
 session_is : (c : Config) (past : List Act) (s : ℕ) → session_rests c past s ≡ true → SessionRests c past s
 session_is c past s e = record {
@@ -216,24 +216,24 @@ rest_is c n past legal e =
 ask_is : (c : Config) (past : List Act) (p : Place) → may_ask c past p ≡ true → MayAsk c past p
 ask_is c past p e =
     let w = way_from p.side in
-    let a = and_parts (same_place p (input c p.session w) && moves c past p.session w && not (passed c past p.session w) && not (over c past p)) (armed_to_read past p) e in
-    let b = and_parts (same_place p (input c p.session w) && moves c past p.session w && not (passed c past p.session w)) (not (over c past p)) a.0 in
-    let d = and_parts (same_place p (input c p.session w) && moves c past p.session w) (not (passed c past p.session w)) b.0 in
-    let f = and_parts (same_place p (input c p.session w)) (moves c past p.session w) d.0 in
+    let a = and_parts (same_place p (input c p.session w) && is_going c past p.session w && not (passed c past p.session w) && not (over c past p)) (armed_to_read past p) e in
+    let b = and_parts (same_place p (input c p.session w) && is_going c past p.session w && not (passed c past p.session w)) (not (over c past p)) a.0 in
+    let d = and_parts (same_place p (input c p.session w) && is_going c past p.session w) (not (passed c past p.session w)) b.0 in
+    let f = and_parts (same_place p (input c p.session w)) (is_going c past p.session w) d.0 in
     record { is_input = f.0; moving = f.1; not_passed = not-true (passed c past p.session w) d.1; not_over = not-true (over c past p) b.1; armed = a.1 }
 
 take_is : (c : Config) (past : List Act) (p : Place) (n : ℕ) → may_take c past p n ≡ true → MayRead c past p n
 take_is c past p n e =
-    let a = and_parts (may_ask c past p && nat_le 1 n) (nat_le n (room c past p.session (way_from p.side))) e in
+    let a = and_parts (may_ask c past p && nat_le 1 n) (nat_le n (greatest_read c past p.session (way_from p.side))) e in
     let b = and_parts (may_ask c past p) (nat_le 1 n) a.0 in
-    record { asks = ask_is c past p b.0; some_bytes = leb-true 1 n b.1; in_room = leb-true n (room c past p.session (way_from p.side)) a.1 }
+    record { asks = ask_is c past p b.0; some_bytes = leb-true 1 n b.1; in_room = leb-true n (greatest_read c past p.session (way_from p.side)) a.1 }
 
 offer_is : (c : Config) (past : List Act) (p : Place) → may_offer c past p ≡ true → MayOffer c past p
 offer_is c past p e =
     let w = way_to p.side in
-    let b = and_parts (same_place p (output c p.session w) && moves c past p.session w && not (passed c past p.session w)) (armed_to_write past p) e in
-    let d = and_parts (same_place p (output c p.session w) && moves c past p.session w) (not (passed c past p.session w)) b.0 in
-    let f = and_parts (same_place p (output c p.session w)) (moves c past p.session w) d.0 in
+    let b = and_parts (same_place p (output c p.session w) && is_going c past p.session w && not (passed c past p.session w)) (armed_to_write past p) e in
+    let d = and_parts (same_place p (output c p.session w) && is_going c past p.session w) (not (passed c past p.session w)) b.0 in
+    let f = and_parts (same_place p (output c p.session w)) (is_going c past p.session w) d.0 in
     record { is_output = f.0; moving = f.1; not_passed = not-true (passed c past p.session w) d.1; armed = b.1 }
 
 put_is : (c : Config) (past : List Act) (p : Place) (bytes : List ℕ) → may_put c past p bytes ≡ true → MayWrite c past p bytes
@@ -253,10 +253,10 @@ try_write_is c past p e =
 shut_is : (c : Config) (past : List Act) (p : Place) (way : Shutting) → may_shut c past p way ≡ true → MayShut c past p way
 shut_is c past p way e =
     let w = way_to p.side in
-    let a = and_parts (same_place p (output c p.session w) && moves c past p.session w && is_spent c past p.session w && not (passed c past p.session w)) (same_shut way (how c p)) e in
-    let b = and_parts (same_place p (output c p.session w) && moves c past p.session w && is_spent c past p.session w) (not (passed c past p.session w)) a.0 in
-    let d = and_parts (same_place p (output c p.session w) && moves c past p.session w) (is_spent c past p.session w) b.0 in
-    let f = and_parts (same_place p (output c p.session w)) (moves c past p.session w) d.0 in
+    let a = and_parts (same_place p (output c p.session w) && is_going c past p.session w && is_spent c past p.session w && not (passed c past p.session w)) (same_shut way (how c p)) e in
+    let b = and_parts (same_place p (output c p.session w) && is_going c past p.session w && is_spent c past p.session w) (not (passed c past p.session w)) a.0 in
+    let d = and_parts (same_place p (output c p.session w) && is_going c past p.session w) (is_spent c past p.session w) b.0 in
+    let f = and_parts (same_place p (output c p.session w)) (is_going c past p.session w) d.0 in
     record { is_output = f.0; moving = f.1; spent = d.1; not_passed = not-true (passed c past p.session w) b.1; is_how = same_shut_equal way (how c p) a.1 }
 
 -- ---- closings

@@ -15,12 +15,12 @@ use Rattle.relay_model.specs.Configs.{place_at, input, output, options_of, keeps
 use Rattle.relay_model.specs.Choices.{only_if}
 use Rattle.relay_model.specs.History.{put, got, sent, stop_said, memory_said, same_why}
 use Rattle.relay_model.specs.Sessions.{numbers}
-use Rattle.relay_model.specs.Transfers.{due, due_pieces, room, is_spent}
+use Rattle.relay_model.specs.Transfers.{due, due_pieces, greatest_read, is_spent}
 use Rattle.relay_model.specs.Conversions.{read_size, packet_size, packet_cap}
 use Rattle.relay_model.specs.Arming.{armed_to_read, is_armed}
 use Rattle.relay_model.specs.Moments.{passed}
 use Rattle.relay_model.specs.Cause.{running}
-use Rattle.relay_model.specs.Rest.{owed, moves}
+use Rattle.relay_model.specs.Rest.{owed, is_going}
 use Rattle.relay_model.specs.May.{MayAsk, MayRead, MayOffer, MayWrite, MayTryWrite, MayShut, BeginsWith, KeepsBorders, May}
 use Rattle.relay_model.specs.declared.acts.Shut.{Shut as Shutting}
 use Rattle.relay_model.specs.Frames.{IsForeign, is_common, is_turn, SameSession}
@@ -181,13 +181,13 @@ record Here (c : Config) (p : Place) (one other : List Act) : Type 0 where
 here_turned : (c : Config) (p : Place) (one other : List Act) → Here c p one other → Here c p other one
 here_turned c p one other h = record { alike = alike_turned c p.session one other h.alike; runs = sym h.runs; own = h.own }
 
-moving_after : (c : Config) (one other : List Act) (p : Place) (w : Way) → Here c p one other → moves c one p.session w ≡ true → moves c other p.session w ≡ true
+moving_after : (c : Config) (one other : List Act) (p : Place) (w : Way) → Here c p one other → is_going c one p.session w ≡ true → is_going c other p.session w ≡ true
 moving_after c one other p w h m = sym (moves_same c p.session one other h.alike.base h.runs w) ∙ m
 
 unpassed_after : (c : Config) (one other : List Act) (p : Place) (w : Way) → Here c p one other → passed c one p.session w ≡ false → passed c other p.session w ≡ false
 unpassed_after c one other p w h m = ap is_some (sym (passing_same c p.session one other h.alike.base w)) ∙ m
 
-room_same : (c : Config) (s : ℕ) (one other : List Act) → Base c s one other → (w : Way) → room c one s w ≡ room c other s w
+room_same : (c : Config) (s : ℕ) (one other : List Act) → Base c s one other → (w : Way) → greatest_read c one s w ≡ greatest_read c other s w
 room_same c s one other base w =
     let g = (base.own (input c s w) refl (input_own c s w)).got_same in
     let k = backlog_same c s one other base w in

@@ -16,13 +16,13 @@ use Rattle.relay_model.specs.Configs.{input, output, things, way_from, way_to, i
 use Rattle.relay_model.specs.History.{turns, held, got, put, sent, stop_said, memory_said, accept_failed, was_closed, was_reaped, same_why}
 use Rattle.relay_model.specs.Arming.{armed_to_read, armed_to_write, asked_to_read, asked_to_write, asked_to_accept}
 use Rattle.relay_model.specs.Sessions.{holds, numbers}
-use Rattle.relay_model.specs.Transfers.{due, due_pieces, over, backlog, room, is_spent}
+use Rattle.relay_model.specs.Transfers.{due, due_pieces, over, backlog, greatest_read, is_spent}
 use Rattle.relay_model.specs.Moments.{passed}
 use Rattle.relay_model.specs.Openings.{Call, Open, Settle, Listen, Accept, Refuse, Serve}
 use Rattle.relay_model.specs.Cause.{cause, closed_why}
 use Rattle.relay_model.specs.Calls.{called_at, call, door_call, door_cut}
 use Rattle.relay_model.specs.Outcome.{outcome}
-use Rattle.relay_model.specs.Rest.{owed, moves, may_read, may_write, must_pass, presses, until_of}
+use Rattle.relay_model.specs.Rest.{owed, is_going, owes_read, owes_write, must_pass, presses, until_of}
 
 -- the second test holds, or the first doesn't
 abbrev pub implies : Bool → Bool → Bool
@@ -37,8 +37,8 @@ accept_tried c past other = true
 -- what is armed and worth asking of a direction was asked since the last turn, and an end that is due was passed
 abbrev pub way_rests : Config → List Act → ℕ → Way → Bool
 way_rests c past s w =
-    implies (may_read c past s w) (asked_to_read past (input c s w))
-    && implies (may_write c past s w) (asked_to_write past (input c s w) (output c s w))
+    implies (owes_read c past s w) (asked_to_read past (input c s w))
+    && implies (owes_write c past s w) (asked_to_write past (input c s w) (output c s w))
     && not (must_pass c past s w)
 
 -- a session with a cause holds nothing, nothing is called for at once, and its directions rest
@@ -129,20 +129,20 @@ closes other q why = false
 abbrev pub may_ask : Config → List Act → Place → Bool
 may_ask c past p =
     same_place p (input c p.session (way_from p.side))
-    && moves c past p.session (way_from p.side)
+    && is_going c past p.session (way_from p.side)
     && not (passed c past p.session (way_from p.side))
     && not (over c past p)
     && armed_to_read past p
 
 -- whether so many bytes can come of a place
 abbrev pub may_take : Config → List Act → Place → ℕ → Bool
-may_take c past p n = may_ask c past p && nat_le 1 n && nat_le n (room c past p.session (way_from p.side))
+may_take c past p n = may_ask c past p && nat_le 1 n && nat_le n (greatest_read c past p.session (way_from p.side))
 
 -- whether a place can be written at
 abbrev pub may_offer : Config → List Act → Place → Bool
 may_offer c past p =
     same_place p (output c p.session (way_to p.side))
-    && moves c past p.session (way_to p.side)
+    && is_going c past p.session (way_to p.side)
     && not (passed c past p.session (way_to p.side))
     && armed_to_write past p
 
@@ -158,7 +158,7 @@ may_put c past p bytes =
 abbrev pub may_shut : Config → List Act → Place → Shutting → Bool
 may_shut c past p way =
     same_place p (output c p.session (way_to p.side))
-    && moves c past p.session (way_to p.side)
+    && is_going c past p.session (way_to p.side)
     && is_spent c past p.session (way_to p.side)
     && not (passed c past p.session (way_to p.side))
     && same_shut way (how c p)

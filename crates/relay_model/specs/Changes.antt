@@ -17,7 +17,7 @@ use Rattle.relay_model.specs.History.{now, turns, stop_said, memory_said, same_w
 use Rattle.relay_model.specs.Arming.{Armed, Disarmed, AtEnd, read_arming, armed_to_write, armed_to_accept, asked_to_read, asked_to_write, asked_to_accept}
 use Rattle.relay_model.specs.Sessions.{admitted, is_admission}
 use Rattle.relay_model.specs.Transfers.{due_part, due_pieces, is_empty}
-use Rattle.relay_model.specs.Moments.{moved}
+use Rattle.relay_model.specs.Moments.{moved_at}
 use Rattle.relay_model.specs.Cause.{closed_why, is_end}
 use Rattle.relay_model.specs.Outcome.{Faulted, first_fault}
 
@@ -40,7 +40,7 @@ pub record OpenedMakes (p : Place) (past : List Act) : Type 0 where
   pub standing_is : standing (Opened p ∷ past) p ≡ Open
   pub read_arming_is : read_arming (Opened p ∷ past) p ≡ Armed
   pub write_arming_is : armed_to_write (Opened p ∷ past) p ≡ true
-  pub moved_is : (c : Config) (s : ℕ) → is_place_of c s p ≡ true → moved c (Opened p ∷ past) s ≡ now past
+  pub moved_is : (c : Config) (s : ℕ) → is_place_of c s p ≡ true → moved_at c (Opened p ∷ past) s ≡ now past
 
 -- one that is under way waits for a turn that names it
 pub record OpenLaterMakes (p : Place) (past : List Act) : Type 0 where
@@ -73,7 +73,7 @@ pub record AcceptedMakes (p : Place) (peer : Peer) (past : List Act) : Type 0 wh
   pub read_arming_is : read_arming (Accepted p peer ∷ past) p ≡ Armed
   pub write_arming_is : armed_to_write (Accepted p peer ∷ past) p ≡ true
   pub accept_asked : (c : Config) → asked_to_accept c (Accepted p peer ∷ past) (accepting_door c p) ≡ true
-  pub moved_is : (c : Config) (s : ℕ) → is_place_of c s p ≡ true → moved c (Accepted p peer ∷ past) s ≡ now past
+  pub moved_is : (c : Config) (s : ℕ) → is_place_of c s p ≡ true → moved_at c (Accepted p peer ∷ past) s ≡ now past
   pub admitted_is : (c : Config) → admitted c (Accepted p peer ∷ past) ≡ one_more (is_admission c p peer) (admitted c past)
 
 -- no peer was there: the door is disarmed and was asked
@@ -91,7 +91,7 @@ pub record ReadMakes (p : Place) (bytes : List ℕ) (past : List Act) : Type 0 w
   pub got_is : got (Read p bytes ∷ past) p ≡ got past p ++ bytes
   pub read_asked : asked_to_read (Read p bytes ∷ past) p ≡ true
   pub write_unasked : (o : Place) → asked_to_write (Read p bytes ∷ past) p o ≡ false
-  pub moved_is : (c : Config) (s : ℕ) → is_place_of c s p ≡ true → moved c (Read p bytes ∷ past) s ≡ now past
+  pub moved_is : (c : Config) (s : ℕ) → is_place_of c s p ≡ true → moved_at c (Read p bytes ∷ past) s ≡ now past
   pub due_pieces_are :
       (c : Config) (s : ℕ) (w : Way) → p ≡ input c s w → is_empty (due_part c w (got past p) bytes) ≡ false →
       due_pieces c (Read p bytes ∷ past) s w ≡ due_pieces c past s w ++ due_part c w (got past p) bytes ∷ []
@@ -123,7 +123,7 @@ pub record WroteMakes (p : Place) (bytes : List ℕ) (past : List Act) : Type 0 
   pub put_is : put (Wrote p bytes ∷ past) p ≡ put past p ++ bytes
   pub sent_is : sent (Wrote p bytes ∷ past) p ≡ sent past p ++ bytes ∷ []
   pub write_asked : (i : Place) → asked_to_write (Wrote p bytes ∷ past) i p ≡ true
-  pub moved_is : (c : Config) (s : ℕ) → is_place_of c s p ≡ true → moved c (Wrote p bytes ∷ past) s ≡ now past
+  pub moved_is : (c : Config) (s : ℕ) → is_place_of c s p ≡ true → moved_at c (Wrote p bytes ∷ past) s ≡ now past
 
 -- nothing was taken yet: the output is disarmed and was asked
 pub record WriteNotYetMakes (p : Place) (past : List Act) : Type 0 where

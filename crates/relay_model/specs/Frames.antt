@@ -15,7 +15,7 @@ use Rattle.relay_model.specs.History.{now, turns, same_why, stop_said, memory_sa
 use Rattle.relay_model.specs.Arming.{read_arming, armed_to_write, armed_to_accept, asked_to_read, asked_to_write, asked_to_accept}
 use Rattle.relay_model.specs.Sessions.{admitted, numbers, live, holds}
 use Rattle.relay_model.specs.Transfers.{due_pieces}
-use Rattle.relay_model.specs.Moments.{moved, closing_moment, idle_moment}
+use Rattle.relay_model.specs.Moments.{moved_at, closing_moment, idle_moment}
 use Rattle.relay_model.specs.Openings.{ready}
 use Rattle.relay_model.specs.Cause.{closed_why, cause, running}
 use Rattle.relay_model.specs.Outcome.{first_fault}
@@ -285,7 +285,7 @@ pub record Leaves (act : Act) (past : List Act) : Type 0 where
   -- an accepting is at the place of its peer, and not at the door that it asks
   pub asked_to_accept_same : (c : Config) (d : Place) → asks_to_accept act ≡ false → asked_to_accept c (act ∷ past) d ≡ asked_to_accept c past d
   pub due_pieces_same : (c : Config) (s : ℕ) (w : Way) → (reads_bytes act && is_at act (input c s w)) ≡ false → due_pieces c (act ∷ past) s w ≡ due_pieces c past s w
-  pub moved_same : (c : Config) (s : ℕ) → (moves_session act && is_among act (places c s)) ≡ false → moved c (act ∷ past) s ≡ moved c past s
+  pub moved_same : (c : Config) (s : ℕ) → (moves_session act && is_among act (places c s)) ≡ false → moved_at c (act ∷ past) s ≡ moved_at c past s
   pub closed_why_same : (c : Config) (s : ℕ) → (is_closing act && is_among act (things c s)) ≡ false → closed_why c (act ∷ past) s ≡ closed_why c past s
   pub first_fault_same : (c : Config) (s : ℕ) → (fails_to_transfer act && is_among act (places c s)) ≡ false → first_fault c (act ∷ past) s ≡ first_fault c past s
   -- with `fork` a peer at any left place is counted
@@ -318,7 +318,7 @@ pub record SameSession (c : Config) (s : ℕ) (one other : List Act) : Type 0 wh
   pub cause_same : cause c one s ≡ cause c other s
   pub call_same : call c one s ≡ call c other s
   pub running_same : running c one s ≡ running c other s
-  pub moved_same : moved c one s ≡ moved c other s
+  pub moved_same : moved_at c one s ≡ moved_at c other s
   pub closing_moment_same : closing_moment c one s ≡ closing_moment c other s
   pub idle_moment_same : idle_moment c one s ≡ idle_moment c other s
   pub session_work_same : session_work c one s ≡ session_work c other s

@@ -11,19 +11,19 @@ use Rattle.relay_model.specs.Places.{same_place}
 use Rattle.relay_model.specs.Configs.{input, output, way_from, way_to, is_program_door, program_door, medium_of, is_program, keeps_borders, how}
 use Rattle.relay_model.specs.History.{turns, held, got, put, sent, stop_said, memory_said, accept_failed, was_closed, was_reaped}
 use Rattle.relay_model.specs.Arming.{armed_to_read, armed_to_write}
-use Rattle.relay_model.specs.Transfers.{due, due_pieces, over, backlog, room, is_spent}
+use Rattle.relay_model.specs.Transfers.{due, due_pieces, over, backlog, greatest_read, is_spent}
 use Rattle.relay_model.specs.Moments.{passed}
 use Rattle.relay_model.specs.Openings.{Open, Settle, Listen, Accept, Refuse, Serve}
 use Rattle.relay_model.specs.Cause.{cause, closed_why}
 use Rattle.relay_model.specs.Calls.{called_at}
-use Rattle.relay_model.specs.Rest.{owed, moves, Rest, until_of}
+use Rattle.relay_model.specs.Rest.{owed, is_going, Rest, until_of}
 
 -- ---- reads and writes
 
 -- the place is the input of a direction that can be read on
 pub record MayAsk (c : Config) (past : List Act) (p : Place) : Type 0 where
   pub is_input : same_place p (input c p.session (way_from p.side)) ≡ true
-  pub moving : moves c past p.session (way_from p.side) ≡ true
+  pub moving : is_going c past p.session (way_from p.side) ≡ true
   pub not_passed : passed c past p.session (way_from p.side) ≡ false
   pub not_over : over c past p ≡ false
   pub armed : armed_to_read past p ≡ true
@@ -32,12 +32,12 @@ pub record MayAsk (c : Config) (past : List Act) (p : Place) : Type 0 where
 pub record MayRead (c : Config) (past : List Act) (p : Place) (n : ℕ) : Type 0 where
   pub asks : MayAsk c past p
   pub some_bytes : 1 ≤ n
-  pub in_room : n ≤ room c past p.session (way_from p.side)
+  pub in_room : n ≤ greatest_read c past p.session (way_from p.side)
 
 -- the place is the output of a direction that can be written on
 pub record MayOffer (c : Config) (past : List Act) (p : Place) : Type 0 where
   pub is_output : same_place p (output c p.session (way_to p.side)) ≡ true
-  pub moving : moves c past p.session (way_to p.side) ≡ true
+  pub moving : is_going c past p.session (way_to p.side) ≡ true
   pub not_passed : passed c past p.session (way_to p.side) ≡ false
   pub armed : armed_to_write past p ≡ true
 
@@ -65,7 +65,7 @@ pub record MayTryWrite (c : Config) (past : List Act) (p : Place) : Type 0 where
 -- the end of the direction is passed on at this place, in this way
 pub record MayShut (c : Config) (past : List Act) (p : Place) (way : Shutting) : Type 0 where
   pub is_output : same_place p (output c p.session (way_to p.side)) ≡ true
-  pub moving : moves c past p.session (way_to p.side) ≡ true
+  pub moving : is_going c past p.session (way_to p.side) ≡ true
   pub spent : is_spent c past p.session (way_to p.side) ≡ true
   pub not_passed : passed c past p.session (way_to p.side) ≡ false
   pub is_how : way ≡ how c p

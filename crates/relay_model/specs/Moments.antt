@@ -10,13 +10,13 @@ use Rattle.relay_model.specs.Configs.{input, output, formed, is_place_of}
 use Rattle.relay_model.specs.History.{now, shut_at, read_fault_at, write_fault_at}
 
 -- the moment at which a place of the session was last opened or accepted, or bytes were last read or written at one
-abbrev pub moved : Config → List Act → ℕ → ℕ
-moved c [] s = 0
-moved c (Opened q ∷ past) s = if is_place_of c s q then now past else moved c past s
-moved c (Accepted q peer ∷ past) s = if is_place_of c s q then now past else moved c past s
-moved c (Read q bytes ∷ past) s = if is_place_of c s q then now past else moved c past s
-moved c (Wrote q bytes ∷ past) s = if is_place_of c s q then now past else moved c past s
-moved c (act ∷ past) s = moved c past s
+abbrev pub moved_at : Config → List Act → ℕ → ℕ
+moved_at c [] s = 0
+moved_at c (Opened q ∷ past) s = if is_place_of c s q then now past else moved_at c past s
+moved_at c (Accepted q peer ∷ past) s = if is_place_of c s q then now past else moved_at c past s
+moved_at c (Read q bytes ∷ past) s = if is_place_of c s q then now past else moved_at c past s
+moved_at c (Wrote q bytes ∷ past) s = if is_place_of c s q then now past else moved_at c past s
+moved_at c (act ∷ past) s = moved_at c past s
 
 -- the moment at which the direction passed its end
 abbrev pub passed_at : Config → List Act → ℕ → Way → Option ℕ
@@ -62,7 +62,7 @@ is_unfinished c past s = formed c LeftToRight && not (done c past s LeftToRight)
 
 -- when inactivity ends the session
 abbrev pub idle_moment : Config → List Act → ℕ → Option ℕ
-idle_moment c past s = if nat_lt 0 c.idle && is_unfinished c past s then Some (moved c past s + c.idle) else None
+idle_moment c past s = if nat_lt 0 c.idle && is_unfinished c past s then Some (moved_at c past s + c.idle) else None
 
 -- there is such a moment, and it has come
 abbrev pub reached : Option ℕ → ℕ → Bool

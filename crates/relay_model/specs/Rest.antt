@@ -42,20 +42,20 @@ abbrev pub goes : Config → List Act → ℕ → Way → Bool
 goes c past s w = formed c w && not (broken c past s w)
 
 -- a direction of a running session that goes
-abbrev pub moves : Config → List Act → ℕ → Way → Bool
-moves c past s w = goes c past s w && running c past s
+abbrev pub is_going : Config → List Act → ℕ → Way → Bool
+is_going c past s w = goes c past s w && running c past s
 
 -- an armed input that may bring more, where nothing waits to be written
-abbrev pub may_read : Config → List Act → ℕ → Way → Bool
-may_read c past s w = moves c past s w && armed_to_read past (input c s w) && not (over c past (input c s w)) && backlog c past s w == 0
+abbrev pub owes_read : Config → List Act → ℕ → Way → Bool
+owes_read c past s w = is_going c past s w && armed_to_read past (input c s w) && not (over c past (input c s w)) && backlog c past s w == 0
 
 -- an armed output for which bytes wait
-abbrev pub may_write : Config → List Act → ℕ → Way → Bool
-may_write c past s w = moves c past s w && armed_to_write past (output c s w) && nat_lt 0 (backlog c past s w)
+abbrev pub owes_write : Config → List Act → ℕ → Way → Bool
+owes_write c past s w = is_going c past s w && armed_to_write past (output c s w) && nat_lt 0 (backlog c past s w)
 
 -- the end is to be passed on
 abbrev pub must_pass : Config → List Act → ℕ → Way → Bool
-must_pass c past s w = moves c past s w && is_spent c past s w && not (passed c past s w)
+must_pass c past s w = is_going c past s w && is_spent c past s w && not (passed c past s w)
 
 -- an accepting is called for
 abbrev pub accepts : Call → Bool
@@ -84,8 +84,8 @@ AcceptTried c past other = Unit {0}
 pub record SessionRests (c : Config) (past : List Act) (s : ℕ) : Type 0 where
   pub ended : is_some (cause c past s) ≡ true → holds c past s ≡ false
   pub no_call : presses (call c past s) ≡ false
-  pub read_tried : (w : Way) → may_read c past s w ≡ true → asked_to_read past (input c s w) ≡ true
-  pub write_tried : (w : Way) → may_write c past s w ≡ true → asked_to_write past (input c s w) (output c s w) ≡ true
+  pub read_tried : (w : Way) → owes_read c past s w ≡ true → asked_to_read past (input c s w) ≡ true
+  pub write_tried : (w : Way) → owes_write c past s w ≡ true → asked_to_write past (input c s w) (output c s w) ≡ true
   pub passed_on : (w : Way) → must_pass c past s w ≡ false
   pub accept_tried : AcceptTried c past (call c past s)
 
@@ -106,7 +106,7 @@ pub record Rest (c : Config) (past : List Act) : Type 0 where
 
 -- a read or a write of the direction is armed
 abbrev pub way_work : Config → List Act → ℕ → Way → Bool
-way_work c past s w = may_read c past s w || may_write c past s w
+way_work c past s w = owes_read c past s w || owes_write c past s w
 
 -- armed work is left in the session
 abbrev pub session_work : Config → List Act → ℕ → Bool
@@ -119,7 +119,7 @@ try_moment other = None
 
 -- the moment at which an input that met an end is tried again
 abbrev pub input_moment : Config → List Act → ℕ → Way → Option ℕ
-input_moment c past s w = if moves c past s w && not (over c past (input c s w)) then arming_moment (read_arming past (input c s w)) else None
+input_moment c past s w = if is_going c past s w && not (over c past (input c s w)) then arming_moment (read_arming past (input c s w)) else None
 
 -- the nearest later moment of the closing time or inactivity, of a session that runs
 abbrev pub timer_moment : Config → List Act → ℕ → Option ℕ

@@ -45,8 +45,8 @@ abbrev pub backlog : Config → List Act → ℕ → Way → ℕ
 backlog c past s w = length (due c w (got past (input c s w))) - length (put past (output c s w))
 
 -- how many bytes the next read asks for at most
-abbrev pub room : Config → List Act → ℕ → Way → ℕ
-room c past s w =
+abbrev pub greatest_read : Config → List Act → ℕ → Way → ℕ
+greatest_read c past s w =
     if keeps_borders c w
     then packet_size c.block (packet_cap (options_of c (output c 0 w)).conv) (options_of c (input c 0 w)).readbytes (length (got past (input c s w))) (backlog c past s w)
     else read_size c.block (options_of c (input c 0 w)).readbytes (length (got past (input c s w))) (backlog c past s w)

@@ -24,8 +24,6 @@ pub enum Refusal {
     BadFlagValue,
     AddressCount { have: u32 },
     NoDirection,
-    /// The words are in order, but this build can't run them yet.
-    NotBuilt,
 }
 
 /// A refusal with the word it is about, counted from 1, and the half of a dual address, 1 or 2. A 0 stands

@@ -21,7 +21,7 @@ use Rattle.relay_model.specs.Arming.{Armed}
 use Rattle.relay_model.specs.Sessions.{admitted, is_admission, live, holds, next_place, first_part}
 use Rattle.relay_model.specs.Openings.{Nothing, Accept}
 use Rattle.relay_model.specs.Calls.{call, called_at, door_call}
-use Rattle.relay_model.specs.Rest.{moves}
+use Rattle.relay_model.specs.Rest.{is_going}
 use Rattle.relay_model.specs.May.{Legal}
 use Rattle.relay_model.specs.Laws.{DoorTells}
 use Rattle.relay_model.specs.Frames.{is_at, is_turn, reaps, SameAt}
@@ -178,7 +178,7 @@ unborn c past p h = dead (has_fork c) p.session (admitted c past) (holds c past 
 uncalled : (c : Config) (past : List Act) (p : Place) → Ahead c past p → call c past p.session ≡ Nothing
 uncalled c past p h = call_of_dead c past p.session (unborn c past p h)
 
-unmoved : (c : Config) (past : List Act) (p : Place) (w : Way) → Ahead c past p → moves c past p.session w ≡ true → ⊥
+unmoved : (c : Config) (past : List Act) (p : Place) (w : Way) → Ahead c past p → is_going c past p.session w ≡ true → ⊥
 unmoved c past p w h m =
     let r = moves_running c past p.session w m in
     true≢false (sym (and_parts (live c past p.session) _ (and_parts (live c past p.session && _) _ r).0).0 ∙ unborn c past p h)
@@ -219,16 +219,16 @@ unworked c n (ListenFailed q) past p legal h e = absurd (let t = same_place_equa
 unworked c n (Accepted q peer) past p legal h e = absurd (false≢true e)
 unworked c n (NoPeer q) past p legal h e = absurd (unasked c past p legal.0.1.0 h (subst (λ (x : Place). called_at c past x ≡ Accept x legal.0.1.0) (same_place_equal q p e) legal.0.1.1))
 unworked c n (AcceptFailed q) past p legal h e = absurd (unasked c past p legal.0.1.0 h (subst (λ (x : Place). called_at c past x ≡ Accept x legal.0.1.0) (same_place_equal q p e) legal.0.1.1))
-unworked c n (Read q bytes) past p legal h e = absurd (unmoved c past p (way_from p.side) h (subst (λ (x : Place). moves c past x.session (way_from x.side) ≡ true) (same_place_equal q p e) legal.0.1.asks.moving))
-unworked c n (ReadEmpty q) past p legal h e = absurd (unmoved c past p (way_from p.side) h (subst (λ (x : Place). moves c past x.session (way_from x.side) ≡ true) (same_place_equal q p e) legal.0.1.asks.moving))
-unworked c n (ReadEnd q) past p legal h e = absurd (unmoved c past p (way_from p.side) h (subst (λ (x : Place). moves c past x.session (way_from x.side) ≡ true) (same_place_equal q p e) legal.0.1.asks.moving))
-unworked c n (ReadNotYet q) past p legal h e = absurd (unmoved c past p (way_from p.side) h (subst (λ (x : Place). moves c past x.session (way_from x.side) ≡ true) (same_place_equal q p e) legal.0.1.asks.moving))
-unworked c n (ReadFault q) past p legal h e = absurd (unmoved c past p (way_from p.side) h (subst (λ (x : Place). moves c past x.session (way_from x.side) ≡ true) (same_place_equal q p e) legal.0.1.asks.moving))
-unworked c n (Wrote q bytes) past p legal h e = absurd (unmoved c past p (way_to p.side) h (subst (λ (x : Place). moves c past x.session (way_to x.side) ≡ true) (same_place_equal q p e) legal.0.1.offers.moving))
-unworked c n (WriteNotYet q) past p legal h e = absurd (unmoved c past p (way_to p.side) h (subst (λ (x : Place). moves c past x.session (way_to x.side) ≡ true) (same_place_equal q p e) legal.0.1.offers.moving))
-unworked c n (WriteFault q) past p legal h e = absurd (unmoved c past p (way_to p.side) h (subst (λ (x : Place). moves c past x.session (way_to x.side) ≡ true) (same_place_equal q p e) legal.0.1.offers.moving))
-unworked c n (Shut q way) past p legal h e = absurd (unmoved c past p (way_to p.side) h (subst (λ (x : Place). moves c past x.session (way_to x.side) ≡ true) (same_place_equal q p e) legal.0.1.moving))
-unworked c n (ShutFault q way) past p legal h e = absurd (unmoved c past p (way_to p.side) h (subst (λ (x : Place). moves c past x.session (way_to x.side) ≡ true) (same_place_equal q p e) legal.0.1.moving))
+unworked c n (Read q bytes) past p legal h e = absurd (unmoved c past p (way_from p.side) h (subst (λ (x : Place). is_going c past x.session (way_from x.side) ≡ true) (same_place_equal q p e) legal.0.1.asks.moving))
+unworked c n (ReadEmpty q) past p legal h e = absurd (unmoved c past p (way_from p.side) h (subst (λ (x : Place). is_going c past x.session (way_from x.side) ≡ true) (same_place_equal q p e) legal.0.1.asks.moving))
+unworked c n (ReadEnd q) past p legal h e = absurd (unmoved c past p (way_from p.side) h (subst (λ (x : Place). is_going c past x.session (way_from x.side) ≡ true) (same_place_equal q p e) legal.0.1.asks.moving))
+unworked c n (ReadNotYet q) past p legal h e = absurd (unmoved c past p (way_from p.side) h (subst (λ (x : Place). is_going c past x.session (way_from x.side) ≡ true) (same_place_equal q p e) legal.0.1.asks.moving))
+unworked c n (ReadFault q) past p legal h e = absurd (unmoved c past p (way_from p.side) h (subst (λ (x : Place). is_going c past x.session (way_from x.side) ≡ true) (same_place_equal q p e) legal.0.1.asks.moving))
+unworked c n (Wrote q bytes) past p legal h e = absurd (unmoved c past p (way_to p.side) h (subst (λ (x : Place). is_going c past x.session (way_to x.side) ≡ true) (same_place_equal q p e) legal.0.1.offers.moving))
+unworked c n (WriteNotYet q) past p legal h e = absurd (unmoved c past p (way_to p.side) h (subst (λ (x : Place). is_going c past x.session (way_to x.side) ≡ true) (same_place_equal q p e) legal.0.1.offers.moving))
+unworked c n (WriteFault q) past p legal h e = absurd (unmoved c past p (way_to p.side) h (subst (λ (x : Place). is_going c past x.session (way_to x.side) ≡ true) (same_place_equal q p e) legal.0.1.offers.moving))
+unworked c n (Shut q way) past p legal h e = absurd (unmoved c past p (way_to p.side) h (subst (λ (x : Place). is_going c past x.session (way_to x.side) ≡ true) (same_place_equal q p e) legal.0.1.moving))
+unworked c n (ShutFault q way) past p legal h e = absurd (unmoved c past p (way_to p.side) h (subst (λ (x : Place). is_going c past x.session (way_to x.side) ≡ true) (same_place_equal q p e) legal.0.1.moving))
 unworked c n (Closed q why) past p legal h e = absurd (false≢true e)
 unworked c n (Reaped q end) past p legal h e = inr refl
 unworked c n (Note text) past p legal h e = absurd (false≢true e)

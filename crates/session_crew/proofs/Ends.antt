@@ -10,7 +10,7 @@ use Rattle.relay_model.specs.declared.acts.Act.TheVariants as acts
 use Rattle.relay_model.specs.Places.{same_place}
 use Rattle.std.specs.List.{list_any}
 use Rattle.relay_model.specs.Choices.{only_if, or_else, first_some, some_below}
-use Rattle.relay_model.specs.Configs.{has_fork, program_door, is_program_door, own_doors}
+use Rattle.relay_model.specs.Configs.{has_fork, program_door, own_doors}
 use Rattle.relay_model.specs.History.{turns, memory_said, stop_said, same_why, is_gone_with, accept_failed, stage, held, served, failures, Stage, Usable, Unsettled, Failed, Met, Waiting, Gone}
 use Rattle.relay_model.specs.Sessions.{admitted, holds, live, numbers, next_place}
 use Rattle.relay_model.specs.Openings.{Refuse, out_of_tries}

@@ -1,6 +1,6 @@
 -- Sessions that wait, that are awake, and that leave, while others act.
-use Rattle.std.proofs.Common.{◌≡◌, refl, sym, ap, subst, ◌∙◌, ℕ, suc, ◌<◌, ◌≤◌, ◌^◌, ◌⊎◌, inl, inr, Bool, true, false, ◌||◌, ◌&&◌, List, [], ◌∷◌, Option, Some, None, arith}
-use Rattle.std.proofs.lemmas.Bool.{cases_eq, false≢true}
+use Rattle.std.proofs.Common.{◌≡◌, refl, sym, ap, subst, ◌∙◌, ℕ, ◌<◌, ◌≤◌, ◌⊎◌, inl, inr, Bool, true, false, List, [], ◌∷◌, Option, Some, None, arith}
+use Rattle.std.proofs.lemmas.Bool.{cases_eq}
 use Rattle.relay_model.specs.declared.commands.Config.{Config}
 use Rattle.relay_model.specs.declared.places.Place.{Place}
 use Rattle.relay_model.specs.declared.readiness.ReadyAt.{ReadyAt}
@@ -9,22 +9,19 @@ use Rattle.relay_model.specs.declared.acts.Why.TheVariants as whys
 use Rattle.relay_model.specs.declared.acts.Act.{Act}
 use Rattle.relay_model.specs.declared.acts.Act.TheVariants.{Turn, AcceptFailed, Closed}
 use Rattle.relay_model.specs.Readiness.{Listed}
-use Rattle.relay_model.specs.Configs.{has_fork, is_program_door, program_door, input, output}
+use Rattle.relay_model.specs.Configs.{has_fork, program_door}
 use Rattle.relay_model.specs.History.{now, turns, memory_said, stop_said}
 use Rattle.relay_model.specs.Sessions.{numbers}
 use Rattle.relay_model.specs.Cause.{cause, closed_why}
-use Rattle.relay_model.specs.Rest.{SessionRests, session_work, session_moment}
-use Rattle.relay_model.specs.Frames.{IsForeign, is_common, is_at, is_turn}
+use Rattle.relay_model.specs.Rest.{SessionRests}
+use Rattle.relay_model.specs.Frames.{IsForeign, is_common}
 use Rattle.legal_steps.proofs.Elsewhere.{elsewhere}
 use Rattle.session_direction.specs.Directions.{listed}
 use Rattle.relay_laws.specs.Stories.{own_entries}
 use Rattle.relay_laws.proofs.Apart.{closed_step}
 use Rattle.relay_core.specs.declared.sessions.Session.{Session}
-use Rattle.relay_core.specs.declared.states.State.{State}
-use Rattle.relay_core.specs.declared.wishes.Wish.{Wish}
 use Rattle.relay_core.specs.declared.wishes.Wish.TheVariants as wishes
-use Rattle.relay_core.specs.Endings.{EndingIs}
-use Rattle.relay_core.specs.States.{Sleeps, Allowed, Wished, Ground}
+use Rattle.relay_core.specs.States.{Sleeps, Wished}
 use Rattle.relay_core.specs.Timers.{session_until}
 use Rattle.relay_core.specs.Sessions.{Stands, Hears, IsGrounded, wish_of, ending_of}
 use Rattle.relay_core.proofs.Lives.{asleep as unended}
@@ -79,7 +76,7 @@ now_kept : (c : Config) (act : Act) (past : List Act) → is_common c act ≡ fa
 now_kept c (Turn until at ready stop) past k = let x : ⊥ = cc in absurd x
 now_kept c act past k = refl
 
-turns_grow : (c : Config) (s : ℕ) (until : Option ℕ) (slept past : List Act) → Since c s until slept past → turns slept ≤ turns past
+pub turns_grow : (c : Config) (s : ℕ) (until : Option ℕ) (slept past : List Act) → Since c s until slept past → turns slept ≤ turns past
 turns_grow c s until slept all just = omega arith
 turns_grow c s until slept all (foreign act past f k h) = let x = turns_grow c s until slept past h in let e = same_turns c act past k in omega (arith, x, e)
 turns_grow c s until slept all (quiet wait at ready stop past q h) = let x = turns_grow c s until slept past h in omega (arith, x)

@@ -1,34 +1,21 @@
 -- The whole rests where the door and each session do.
-use Rattle.std.proofs.Common.{◌≡◌, refl, sym, ap, subst, ◌∙◌, ℕ, suc, ◌<◌, ◌≤◌, ◌⊎◌, inl, inr, Bool, true, false, cond, not, ◌||◌, ◌&&◌, List, [], ◌∷◌, length, Option, Some, None, arith}
-use Rattle.std.proofs.lemmas.Bool.{cases_lt, or_parts, cases_eq, false≢true}
-use Rattle.std.specs.List.{list_any}
+use Rattle.std.proofs.Common.{◌≡◌, refl, sym, subst, ◌∙◌, ℕ, suc, ◌<◌, ◌≤◌, ◌⊎◌, inl, inr, Bool, true, false, cond, ◌||◌, ◌&&◌, List, Option, None, arith}
+use Rattle.std.proofs.lemmas.Bool.{cases_lt, or_parts, false≢true}
 use Rattle.relay_model.specs.declared.commands.Config.{Config}
-use Rattle.relay_model.specs.declared.commands.Dump.TheVariants as dumps
-use Rattle.relay_model.specs.declared.acts.Why.TheVariants as whys
 use Rattle.relay_model.specs.declared.acts.Act.{Act}
-use Rattle.relay_model.specs.declared.acts.Act.TheVariants as acts
-use Rattle.relay_model.specs.Choices.{only_if, or_else, first_some, some_below}
+use Rattle.relay_model.specs.Choices.{some_below}
 use Rattle.relay_model.specs.Configs.{has_fork, program_door}
-use Rattle.relay_model.specs.History.{turns, memory_said, stop_said, accept_failed, stage, held, served, failures, Stage, Failed}
-use Rattle.relay_model.specs.Sessions.{holds, live, numbers, next_place, admitted}
-use Rattle.relay_model.specs.Openings.{out_of_tries}
-use Rattle.relay_model.specs.Outcome.{Outcome, Memory, Stopped, AcceptFailed, ListenFailed, Ended, outcome, holds_something, failed_listening, outcome_of_sessions}
+use Rattle.relay_model.specs.History.{memory_said, stop_said, accept_failed, held}
+use Rattle.relay_model.specs.Sessions.{holds, numbers}
+use Rattle.relay_model.specs.Outcome.{outcome, holds_something}
 use Rattle.relay_model.specs.Rest.{owed, SessionRests, Rest}
 use Rattle.relay_model.specs.May.{Legal}
 use Rattle.legal_steps.proofs.Resting.{rest_of_parts}
-use Rattle.program_door.specs.Wishes.{Sleeps, GoesOn, Retries}
+use Rattle.program_door.specs.Wishes.{GoesOn}
 use Rattle.program_door.proofs.Held.{rests_next}
 use Rattle.program_door.proofs.Moves.{numbers_are}
 use Rattle.session_crew.specs.Wholes.{Remains, AllRest}
 use Rattle.session_crew.proofs.Waits.{none_found}
-
--- ---- dumps
-
--- without dumps none is owed
-pub undumped_owes : (c : Config) (past : List Act) → c.dump ≡ dumps.Off → owed c past ≡ None
-undumped_owes c [] e = refl
-undumped_owes c (acts.Read p bytes ∷ past) e = rw e refl
-undumped_owes c (act ∷ past) e = refl
 
 -- ---- no outcome while the door goes on
 
@@ -65,9 +52,9 @@ no_outcome c past fork (inr w) =
     let b = w.1 in
     rw (or_first (some_below (holds c past) (suc (numbers c past))) (has_fork c && held past program_door) (some_left (holds c past) (suc (numbers c past)) s (omega (arith, b)) w.2)) refl
 
-pub all_rest : (c : Config) (n : ℕ) (past : List Act) (until : Option ℕ) → Legal c n past → has_fork c ≡ true → c.dump ≡ dumps.Off → AllRest c past until → Rest c past
-all_rest c n past until legal fork undumped r =
-    rest_of_parts c n past legal (no_outcome c past fork r.remains) (undumped_owes c past undumped) (λ s near. one s (cases_lt s (numbers c past)) near) r.door.rests
+pub all_rest : (c : Config) (n : ℕ) (past : List Act) (until : Option ℕ) → Legal c n past → has_fork c ≡ true → owed c past ≡ None → AllRest c past until → Rest c past
+all_rest c n past until legal fork unowed r =
+    rest_of_parts c n past legal (no_outcome c past fork r.remains) unowed (λ s near. one s (cases_lt s (numbers c past)) near) r.door.rests
   where
     one : (s : ℕ) → (s < numbers c past) ⊎ (numbers c past ≤ s) → s < suc (numbers c past) → SessionRests c past s
     one s (inl below) near = r.sessions s below

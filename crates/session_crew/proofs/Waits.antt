@@ -1,6 +1,6 @@
 -- The whole waits until the least moment that a part waits for.
-use Rattle.std.proofs.Common.{◌≡◌, refl, sym, ap, subst, ◌∙◌, ℕ, zero, suc, ◌<◌, ◌≤◌, ◌^◌, ◌⊎◌, inl, inr, Bool, true, false, cond, min, ◌||◌, ◌&&◌, nat_lt, List, Option, Some, None, arith}
-use Rattle.std.proofs.lemmas.Bool.{cases_lt, ltb-true, or_parts, false≢true, cases_Bool}
+use Rattle.std.proofs.Common.{◌≡◌, refl, sym, ap, ◌∙◌, ℕ, zero, suc, ◌<◌, ◌≤◌, ◌^◌, ◌⊎◌, inl, inr, Bool, true, false, cond, min, ◌||◌, ◌&&◌, nat_lt, List, Option, Some, None, arith}
+use Rattle.std.proofs.lemmas.Bool.{cases_lt, ltb-true, or_parts, cases_Bool}
 use Rattle.relay_model.specs.declared.places.Way.TheVariants.{LeftToRight, RightToLeft}
 use Rattle.relay_model.specs.declared.commands.Config.{Config}
 use Rattle.relay_model.specs.declared.acts.Act.{Act}
@@ -13,8 +13,6 @@ use Rattle.relay_model.specs.Calls.{call, door_call}
 use Rattle.relay_model.specs.Rest.{accepts, try_moment, input_moment, timer_moment, session_work, session_moment, door_moment, until_of}
 use Rattle.relay_model.specs.Waits.{works}
 use Rattle.relay_laws.proofs.Least.{LeastOf, least, none_at_all, own_least, join_least, below_least, Among}
-use Rattle.relay_core.specs.Timers.{session_until}
-use Rattle.program_door.specs.Wishes.{door_until}
 use Rattle.session_crew.specs.Wholes.{WaitsUntil, IsLeastWait}
 
 -- ---- moments ahead

@@ -10,7 +10,6 @@ use Rattle.relay_model.specs.declared.acts.Act.TheVariants.{Turn, AcceptFailed, 
 use Rattle.relay_model.specs.Readiness.{Listed}
 use Rattle.relay_model.specs.Configs.{has_fork, program_door}
 use Rattle.relay_model.specs.History.{now, turns, memory_said, stop_said}
-use Rattle.relay_model.specs.Sessions.{numbers}
 use Rattle.relay_model.specs.Cause.{cause, closed_why}
 use Rattle.relay_model.specs.Rest.{SessionRests}
 use Rattle.relay_model.specs.Frames.{IsForeign, is_common}

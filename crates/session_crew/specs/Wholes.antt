@@ -1,16 +1,15 @@
 -- The whole of a command with `fork`: when it rests, until when it waits, and how it ends.
 use Rattle.std.specs.Prelude.{◌≡◌, ◌⊎◌, ℕ, ◌<◌, ◌≤◌, true, false, List, length, Option, Some, None}
 use Rattle.relay_model.specs.declared.commands.Config.{Config}
-use Rattle.relay_model.specs.declared.commands.Dump.TheVariants as dumps
 use Rattle.relay_model.specs.declared.acts.Why.{Why}
 use Rattle.relay_model.specs.declared.acts.Why.TheVariants as whys
 use Rattle.relay_model.specs.declared.acts.Act.{Act}
 use Rattle.relay_model.specs.Configs.{has_fork, program_door}
-use Rattle.relay_model.specs.History.{turns, held, failures}
+use Rattle.relay_model.specs.History.{turns, failures}
 use Rattle.relay_model.specs.Sessions.{admitted, holds, numbers}
 use Rattle.relay_model.specs.Openings.{out_of_tries}
 use Rattle.relay_model.specs.Outcome.{Outcome, Memory, Stopped, AcceptFailed, ListenFailed, Ended, outcome}
-use Rattle.relay_model.specs.Rest.{SessionRests, Rest, until_of}
+use Rattle.relay_model.specs.Rest.{SessionRests, Rest, owed, until_of}
 use Rattle.relay_model.specs.May.{Legal}
 use Rattle.relay_core.specs.Timers.{session_until}
 use Rattle.program_door.specs.Causes.{door_cause}
@@ -26,9 +25,9 @@ pub record AllRest (c : Config) (past : List Act) (until : Option ℕ) : Type 0 
   pub remains : Remains c past
   pub sessions : (s : ℕ) → s < numbers c past → SessionRests c past s
 
--- then a wait is in order
+-- then a wait is in order, where no dump is owed
 abbrev pub AllRestIsRest : Type 0
-AllRestIsRest = (c : Config) (n : ℕ) (past : List Act) (until : Option ℕ) → Legal c n past → has_fork c ≡ true → c.dump ≡ dumps.Off → AllRest c past until → Rest c past
+AllRestIsRest = (c : Config) (n : ℕ) (past : List Act) (until : Option ℕ) → Legal c n past → has_fork c ≡ true → owed c past ≡ None → AllRest c past until → Rest c past
 
 -- the door waits until this moment, or some session that has begun
 abbrev pub WaitsUntil : Config → List Act → ℕ → Type 0

@@ -15,10 +15,10 @@ use Rattle.relay_model.specs.Conversions.{packet_cap, is_over, is_used_up, is_me
 use Rattle.relay_model.specs.History.{got, put, sent}
 use Rattle.relay_model.specs.Arming.{armed_to_read, armed_to_write, asked_to_read, asked_to_write}
 use Rattle.relay_model.specs.Cause.{running}
-use Rattle.relay_model.specs.Transfers.{due, due_pieces, over, backlog, room, is_spent}
+use Rattle.relay_model.specs.Transfers.{due, due_pieces, over, backlog, greatest_read, is_spent}
 use Rattle.relay_model.specs.Moments.{passed, broken}
 use Rattle.relay_model.specs.May.{BeginsWith, KeepsBorders, MayAsk, MayRead, MayOffer, MayWrite, MayTryWrite, MayShut}
-use Rattle.relay_model.specs.Rest.{moves, may_write, must_pass, way_work}
+use Rattle.relay_model.specs.Rest.{is_going, owes_write, must_pass, way_work}
 use Rattle.legal_steps.proofs.PlaceLemmas.{same_place_self}
 use Rattle.legal_steps.proofs.Permitted.{shuts_when_spent}
 use Rattle.relay_buffer.specs.declared.lanes.Lane.{Lane}
@@ -72,10 +72,10 @@ may_write_some c past s RightToLeft d n some within whole f may =
 
 -- ---- moving
 
-pub moves_is : (c : Config) (past : List Act) (s : ℕ) (w : Way) → formed c w ≡ true → running c past s ≡ true → broken c past s w ≡ false → moves c past s w ≡ true
+pub moves_is : (c : Config) (past : List Act) (s : ℕ) (w : Way) → formed c w ≡ true → running c past s ≡ true → broken c past s w ≡ false → is_going c past s w ≡ true
 moves_is c past s w formed runs whole = ap (λ b. b && not (broken c past s w) && running c past s) formed ∙ ap (λ b. not b && running c past s) whole ∙ runs
 
-not_moving : (c : Config) (past : List Act) (s : ℕ) (w : Way) → broken c past s w ≡ true → moves c past s w ≡ false
+not_moving : (c : Config) (past : List Act) (s : ℕ) (w : Way) → broken c past s w ≡ true → is_going c past s w ≡ false
 not_moving c past s w broke = ap (λ b. formed c w && not b && running c past s) broke ∙ go (formed c w)
   where
     go : (b : Bool) → (b && false && running c past s) ≡ false
@@ -116,10 +116,10 @@ pub broken_wants_nothing : (c : Config) (past : List Act) (s : ℕ) (w : Way) �
 broken_wants_nothing c past s w broke =
     let still = not_moving c past s w broke in
     record {
-      read_tried = λ e. both (moves c past s w) (four_parts (moves c past s w) (armed_to_read past (input c s w)) (not (over c past (input c s w))) (backlog c past s w == 0) e).0 still;
-      write_tried = λ e. both (moves c past s w) (three_parts (moves c past s w) (armed_to_write past (output c s w)) (nat_lt 0 (backlog c past s w)) e).0 still;
-      passed_on = never (must_pass c past s w) (λ e. both (moves c past s w) (three_parts (moves c past s w) (is_spent c past s w) (not (passed c past s w)) e).0 still);
-      read_ahead = λ e. both (moves c past s w) e still;
+      read_tried = λ e. both (is_going c past s w) (four_parts (is_going c past s w) (armed_to_read past (input c s w)) (not (over c past (input c s w))) (backlog c past s w == 0) e).0 still;
+      write_tried = λ e. both (is_going c past s w) (three_parts (is_going c past s w) (armed_to_write past (output c s w)) (nat_lt 0 (backlog c past s w)) e).0 still;
+      passed_on = never (must_pass c past s w) (λ e. both (is_going c past s w) (three_parts (is_going c past s w) (is_spent c past s w) (not (passed c past s w)) e).0 still);
+      read_ahead = λ e. both (is_going c past s w) e still;
     }
 
 pub passed_wants_nothing : (c : Config) (past : List Act) (s : ℕ) (w : Way) (d : DirectionState) → IsDirection c past s w d → passed c past s w ≡ true → WantsNothing c past s w
@@ -127,9 +127,9 @@ passed_wants_nothing c past s w d f done =
     let spent = f.passed_is_spent (ap is_some f.passed_is ∙ done) in
     let none : backlog c past s w ≡ 0 = waits_is c past s w d f ∙ ap length spent.emptied in
     record {
-      read_tried = λ e. both (over c past (input c s w)) spent.is_over (not_true (over c past (input c s w)) (four_parts (moves c past s w) (armed_to_read past (input c s w)) (not (over c past (input c s w))) (backlog c past s w == 0) e).2);
-      write_tried = λ e. both (nat_lt 0 (backlog c past s w)) (three_parts (moves c past s w) (armed_to_write past (output c s w)) (nat_lt 0 (backlog c past s w)) e).2 (ap (nat_lt 0) none);
-      passed_on = never (must_pass c past s w) (λ e. both (passed c past s w) done (not_true (passed c past s w) (three_parts (moves c past s w) (is_spent c past s w) (not (passed c past s w)) e).2));
+      read_tried = λ e. both (over c past (input c s w)) spent.is_over (not_true (over c past (input c s w)) (four_parts (is_going c past s w) (armed_to_read past (input c s w)) (not (over c past (input c s w))) (backlog c past s w == 0) e).2);
+      write_tried = λ e. both (nat_lt 0 (backlog c past s w)) (three_parts (is_going c past s w) (armed_to_write past (output c s w)) (nat_lt 0 (backlog c past s w)) e).2 (ap (nat_lt 0) none);
+      passed_on = never (must_pass c past s w) (λ e. both (passed c past s w) done (not_true (passed c past s w) (three_parts (is_going c past s w) (is_spent c past s w) (not (passed c past s w)) e).2));
       read_ahead = λ _ _ going. both (over c past (input c s w)) spent.is_over going;
     }
 
@@ -156,7 +156,7 @@ bytes_go_on : (c : Config) (past : List Act) (s : ℕ) (w : Way) → over c past
 bytes_go_on c past s w going = (neither (met_last c past s w) (is_over (terms_of c w).readbytes (terms_of c w).escape (got past (input c s w))) going).1
 
 -- where nothing waits, something may be read
-pub room_some : (c : Config) (past : List Act) (s : ℕ) (w : Way) → 1 ≤ c.block → over c past (input c s w) ≡ false → backlog c past s w ≡ 0 → 1 ≤ room c past s w
+pub room_some : (c : Config) (past : List Act) (s : ℕ) (w : Way) → 1 ≤ c.block → over c past (input c s w) ≡ false → backlog c past s w ≡ 0 → 1 ≤ greatest_read c past s w
 room_some c past s w blocks going none =
     let t = terms_of c w in
     let more = (neither (is_used_up t.readbytes (got past (input c s w))) (is_met t.readbytes t.escape (got past (input c s w))) (bytes_go_on c past s w going)).0 in
@@ -167,7 +167,7 @@ size_is true c w count waits = refl
 size_is false c w count waits = refl
 
 -- a flow's room is the direction's
-pub room_is : (c : Config) (past : List Act) (s : ℕ) (w : Way) → over c past (input c s w) ≡ false → room_of (terms_of c w) (got past (input c s w)) (put past (output c s w)) ≡ room c past s w
+pub room_is : (c : Config) (past : List Act) (s : ℕ) (w : Way) → over c past (input c s w) ≡ false → room_of (terms_of c w) (got past (input c s w)) (put past (output c s w)) ≡ greatest_read c past s w
 room_is c past s w going =
     ap (λ b. cond b 0 (size_by (terms_of c w).packets (terms_of c w) (length (got past (input c s w))) (waiting (terms_of c w) (got past (input c s w)) (put past (output c s w))))) (bytes_go_on c past s w going)
     ∙ size_is (keeps_borders c w) c w (length (got past (input c s w))) (backlog c past s w)
@@ -178,7 +178,7 @@ pub wants_shut : (c : Config) (past : List Act) (s : ℕ) (w : Way) → formed c
 wants_shut c past s LeftToRight formed runs whole going spent = record { is_output = same_place_self (output c s LeftToRight); moving = moves_is c past s LeftToRight formed runs whole; spent = spent; not_passed = going; is_how = refl }
 wants_shut c past s RightToLeft formed runs whole going spent = record { is_output = same_place_self (output c s RightToLeft); moving = moves_is c past s RightToLeft formed runs whole; spent = spent; not_passed = going; is_how = refl }
 
-may_offer : (c : Config) (past : List Act) (s : ℕ) (w : Way) → moves c past s w ≡ true → passed c past s w ≡ false → armed_to_write past (output c s w) ≡ true → MayOffer c past (output c s w)
+may_offer : (c : Config) (past : List Act) (s : ℕ) (w : Way) → is_going c past s w ≡ true → passed c past s w ≡ false → armed_to_write past (output c s w) ≡ true → MayOffer c past (output c s w)
 may_offer c past s LeftToRight moving going armed = record { is_output = same_place_self (output c s LeftToRight); moving = moving; not_passed = going; armed = armed }
 may_offer c past s RightToLeft moving going armed = record { is_output = same_place_self (output c s RightToLeft); moving = moving; not_passed = going; armed = armed }
 
@@ -189,16 +189,16 @@ may_try : (c : Config) (past : List Act) (s : ℕ) (w : Way) → MayOffer c past
 may_try c past s LeftToRight may some = record { offers = may; waiting = some }
 may_try c past s RightToLeft may some = record { offers = may; waiting = some }
 
-pub wants_write : (c : Config) (past : List Act) (s : ℕ) (w : Way) (keeps : Bool) → may_write c past s w ≡ true → passed c past s w ≡ false → keeps_borders c w ≡ keeps → WantsWrite c past s w keeps
+pub wants_write : (c : Config) (past : List Act) (s : ℕ) (w : Way) (keeps : Bool) → owes_write c past s w ≡ true → passed c past s w ≡ false → keeps_borders c w ≡ keeps → WantsWrite c past s w keeps
 wants_write c past s w keeps may going borders =
-    let parts = three_parts (moves c past s w) (armed_to_write past (output c s w)) (nat_lt 0 (backlog c past s w)) may in
+    let parts = three_parts (is_going c past s w) (armed_to_write past (output c s w)) (nat_lt 0 (backlog c past s w)) may in
     record { may = may_try c past s w (may_offer c past s w parts.0 going parts.1) (some_waits (backlog c past s w) parts.2); borders = borders }
 
-may_ask : (c : Config) (past : List Act) (s : ℕ) (w : Way) → moves c past s w ≡ true → passed c past s w ≡ false → over c past (input c s w) ≡ false → armed_to_read past (input c s w) ≡ true → MayAsk c past (input c s w)
+may_ask : (c : Config) (past : List Act) (s : ℕ) (w : Way) → is_going c past s w ≡ true → passed c past s w ≡ false → over c past (input c s w) ≡ false → armed_to_read past (input c s w) ≡ true → MayAsk c past (input c s w)
 may_ask c past s LeftToRight moving going more armed = record { is_input = same_place_self (input c s LeftToRight); moving = moving; not_passed = going; not_over = more; armed = armed }
 may_ask c past s RightToLeft moving going more armed = record { is_input = same_place_self (input c s RightToLeft); moving = moving; not_passed = going; not_over = more; armed = armed }
 
-may_read_some : (c : Config) (past : List Act) (s : ℕ) (w : Way) (n : ℕ) → MayAsk c past (input c s w) → 1 ≤ n → n ≤ room c past s w → MayRead c past (input c s w) n
+may_read_some : (c : Config) (past : List Act) (s : ℕ) (w : Way) (n : ℕ) → MayAsk c past (input c s w) → 1 ≤ n → n ≤ greatest_read c past s w → MayRead c past (input c s w) n
 may_read_some c past s LeftToRight n may some within = record { asks = may; some_bytes = some; in_room = within }
 may_read_some c past s RightToLeft n may some within = record { asks = may; some_bytes = some; in_room = within }
 
@@ -206,23 +206,23 @@ pub wants_read : (c : Config) (past : List Act) (s : ℕ) (w : Way) (n : ℕ) �
 wants_read c past s w n formed runs whole going worth some is =
     let parts = and_parts (armed_to_read past (input c s w)) (not (over c past (input c s w))) worth in
     let more = not_true (over c past (input c s w)) parts.1 in
-    let size : n ≡ room c past s w = is ∙ room_is c past s w more in
+    let size : n ≡ greatest_read c past s w = is ∙ room_is c past s w more in
     record {
       may = may_read_some c past s w n (may_ask c past s w (moves_is c past s w formed runs whole) going more parts.0) some (omega (arith, size));
       size = size;
     }
 
 -- nothing is to be read: then nothing is left, where the rest was tried
-pub wants_nothing : (c : Config) (past : List Act) (s : ℕ) (w : Way) → 1 ≤ c.block → is_spent c past s w ≡ false → (may_write c past s w ≡ true → asked_to_write past (input c s w) (output c s w) ≡ true) → (armed_to_read past (input c s w) ≡ true → over c past (input c s w) ≡ false → backlog c past s w ≤ c.block → 1 ≤ room c past s w → asked_to_read past (input c s w) ≡ true) → WantsNothing c past s w
+pub wants_nothing : (c : Config) (past : List Act) (s : ℕ) (w : Way) → 1 ≤ c.block → is_spent c past s w ≡ false → (owes_write c past s w ≡ true → asked_to_write past (input c s w) (output c s w) ≡ true) → (armed_to_read past (input c s w) ≡ true → over c past (input c s w) ≡ false → backlog c past s w ≤ c.block → 1 ≤ greatest_read c past s w → asked_to_read past (input c s w) ≡ true) → WantsNothing c past s w
 wants_nothing c past s w blocks unspent written tried =
     record {
       read_tried = λ e.
-          let parts = four_parts (moves c past s w) (armed_to_read past (input c s w)) (not (over c past (input c s w))) (backlog c past s w == 0) e in
+          let parts = four_parts (is_going c past s w) (armed_to_read past (input c s w)) (not (over c past (input c s w))) (backlog c past s w == 0) e in
           let more = not_true (over c past (input c s w)) parts.2 in
           let none = eqb-true (backlog c past s w) 0 parts.3 in
           tried parts.1 more (omega (arith, none)) (room_some c past s w blocks more none);
       write_tried = written;
-      passed_on = never (must_pass c past s w) (λ e. both (is_spent c past s w) (three_parts (moves c past s w) (is_spent c past s w) (not (passed c past s w)) e).1 unspent);
+      passed_on = never (must_pass c past s w) (λ e. both (is_spent c past s w) (three_parts (is_going c past s w) (is_spent c past s w) (not (passed c past s w)) e).1 unspent);
       read_ahead = λ _ armed more within some. tried armed more within some;
     }
 
@@ -251,7 +251,7 @@ work_some true false false = refl
 work_some false more true = refl
 work_some false more false = refl
 
-pub work_spent : (c : Config) (past : List Act) (s : ℕ) (w : Way) → moves c past s w ≡ true → backlog c past s w ≡ 0 → (armed_to_read past (input c s w) && not (over c past (input c s w))) ≡ way_work c past s w
+pub work_spent : (c : Config) (past : List Act) (s : ℕ) (w : Way) → is_going c past s w ≡ true → backlog c past s w ≡ 0 → (armed_to_read past (input c s w) && not (over c past (input c s w))) ≡ way_work c past s w
 work_spent c past s w moving none =
     work_none (armed_to_read past (input c s w)) (not (over c past (input c s w))) (armed_to_write past (output c s w))
     ∙ ap (λ n. (armed_to_read past (input c s w) && not (over c past (input c s w)) && n == 0) || (armed_to_write past (output c s w) && nat_lt 0 n)) (sym none)
@@ -260,7 +260,7 @@ work_spent c past s w moving none =
 some_is : (n : ℕ) → (n == 0) ≡ false → nat_lt 0 n ≡ true
 some_is n e = grind (arith, e)
 
-pub work_waits : (c : Config) (past : List Act) (s : ℕ) (w : Way) → moves c past s w ≡ true → (backlog c past s w == 0) ≡ false → armed_to_write past (output c s w) ≡ way_work c past s w
+pub work_waits : (c : Config) (past : List Act) (s : ℕ) (w : Way) → is_going c past s w ≡ true → (backlog c past s w == 0) ≡ false → armed_to_write past (output c s w) ≡ way_work c past s w
 work_waits c past s w moving some =
     work_some (armed_to_read past (input c s w)) (not (over c past (input c s w))) (armed_to_write past (output c s w))
     ∙ ap (λ e. (armed_to_read past (input c s w) && not (over c past (input c s w)) && e) || (armed_to_write past (output c s w) && true)) (sym some)

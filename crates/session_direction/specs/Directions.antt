@@ -11,9 +11,9 @@ use Rattle.relay_model.specs.Configs.{Medium, Standard, Storage, Program, Connec
 use Rattle.relay_model.specs.Conversions.{packet_cap}
 use Rattle.relay_model.specs.History.{got, put, sent, met_end, met_empty}
 use Rattle.relay_model.specs.Arming.{read_arming, armed_to_read, armed_to_write, asked_to_read, asked_to_write}
-use Rattle.relay_model.specs.Transfers.{due_pieces, over, backlog, room}
+use Rattle.relay_model.specs.Transfers.{due_pieces, over, backlog, greatest_read}
 use Rattle.relay_model.specs.Moments.{passed_at, broken_at}
-use Rattle.relay_model.specs.Rest.{moves, may_read, may_write, must_pass}
+use Rattle.relay_model.specs.Rest.{is_going, owes_read, owes_write, must_pass}
 use Rattle.relay_model.specs.May.{MayRead, MayTryWrite, MayShut}
 use Rattle.relay_buffer.specs.declared.lanes.Lane.{Lane}
 use Rattle.relay_buffer.specs.Flows.{IsFlow, room_in}
@@ -97,14 +97,14 @@ pub record WantsWrite (c : Config) (past : List Act) (s : ℕ) (w : Way) (keeps 
 -- so many bytes may be read, as many as there is room for
 pub record WantsRead (c : Config) (past : List Act) (s : ℕ) (w : Way) (n : ℕ) : Type 0 where
   pub may : MayRead c past (input c s w) n
-  pub size : n ≡ room c past s w
+  pub size : n ≡ greatest_read c past s w
 
 -- nothing is left to be done before the next turn
 pub record WantsNothing (c : Config) (past : List Act) (s : ℕ) (w : Way) : Type 0 where
-  pub read_tried : may_read c past s w ≡ true → asked_to_read past (input c s w) ≡ true
-  pub write_tried : may_write c past s w ≡ true → asked_to_write past (input c s w) (output c s w) ≡ true
+  pub read_tried : owes_read c past s w ≡ true → asked_to_read past (input c s w) ≡ true
+  pub write_tried : owes_write c past s w ≡ true → asked_to_write past (input c s w) (output c s w) ≡ true
   pub passed_on : must_pass c past s w ≡ false
-  pub read_ahead : moves c past s w ≡ true → armed_to_read past (input c s w) ≡ true → over c past (input c s w) ≡ false → backlog c past s w ≤ c.block → 1 ≤ room c past s w → asked_to_read past (input c s w) ≡ true
+  pub read_ahead : is_going c past s w ≡ true → armed_to_read past (input c s w) ≡ true → over c past (input c s w) ≡ false → backlog c past s w ≤ c.block → 1 ≤ greatest_read c past s w → asked_to_read past (input c s w) ≡ true
 
 -- what a want says of the acts: what is wanted may come, or nothing is left to be done before the next turn
 abbrev pub Wants : Config → List Act → ℕ → Way → Want → Type 0

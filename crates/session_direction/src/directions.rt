@@ -14,8 +14,8 @@ ghost use Rattle.relay_model.specs.Cause.{running};
 ghost use Rattle.relay_model.specs.History.{now};
 ghost use Rattle.relay_model.specs.Moments.{broken, done_at, passed};
 ghost use Rattle.relay_model.specs.May.{MayOffer, MayShut, MayWrite};
-ghost use Rattle.relay_model.specs.Rest.{input_moment, may_write, way_work};
-ghost use Rattle.relay_model.specs.Transfers.{is_spent, over, room, backlog};
+ghost use Rattle.relay_model.specs.Rest.{input_moment, owes_write, way_work};
+ghost use Rattle.relay_model.specs.Transfers.{is_spent, over, greatest_read, backlog};
 ghost use Rattle.relay_model.specs.Arming.{armed_to_read, asked_to_write};
 ghost use Rattle.relay_buffer.specs.Flows.{room_in};
 ghost use Rattle.command_places.specs.Media.{as_medium};
@@ -43,6 +43,10 @@ const PRICE: u8 = 1;
 
 /// What a further read costs where the output was asked since the last one: its bytes may be written for nothing.
 const GRANTING_PRICE: u8 = 2;
+
+/// How many bytes are gathered at the most: enough that small pieces don't cost a write each, and no more, since the other
+/// side waits meanwhile.
+const GATHERED: usize = 8192;
 
 /// What a direction wants to be done. `Send` is a write of one packet, and `Read` has the most bytes to ask for.
 #[derive(Clone, Copy, Debug, PartialEq, Eq)]
@@ -188,7 +192,7 @@ impl Direction {
     /// How many bytes may be read next.
     pub fn room(&self) -> usize
         ensures state { result ≡ room_in self.now.flow }
-        ensures stands { (c : Command) (past : List Act) (s : ℕ) (w : WayOf) → IsDirection c past s w self.now → over c past (input c s w) ≡ false → result ≡ room c past s w }
+        ensures stands { (c : Command) (past : List Act) (s : ℕ) (w : WayOf) → IsDirection c past s w self.now → over c past (input c s w) ≡ false → result ≡ greatest_read c past s w }
     {
         self.flow.room()
     }
@@ -219,7 +223,7 @@ impl Direction {
 
     /// Whether bytes wait for an output that is armed.
     fn may_write(&self) -> bool
-        ensures { (c : Command) (past : List Act) (s : ℕ) (w : WayOf) → IsDirection c past s w self.now → running c past s ≡ true → broken c past s w ≡ false → result ≡ may_write c past s w }
+        ensures { (c : Command) (past : List Act) (s : ℕ) (w : WayOf) → IsDirection c past s w self.now → running c past s ≡ true → broken c past s w ≡ false → result ≡ owes_write c past s w }
     {
         self.armed_out && !self.flow.spent()
     }
@@ -251,7 +255,7 @@ impl Direction {
 
     /// A write of the bytes that wait.
     fn want_to_write(&self) -> Want
-        ensures wants { (c : Command) (past : List Act) (s : ℕ) (w : WayOf) → IsDirection c past s w self.now → passed c past s w ≡ false → may_write c past s w ≡ true → Wants c past s w result }
+        ensures wants { (c : Command) (past : List Act) (s : ℕ) (w : WayOf) → IsDirection c past s w self.now → passed c past s w ≡ false → owes_write c past s w ≡ true → Wants c past s w result }
         ensures affords { can_write self.now ≡ true → Affords self.now result }
         ensures fits { FitsRoom self.now result }
     {
@@ -289,9 +293,11 @@ impl Direction {
         read
     }
 
-    /// Whether it gathers, was asked since the last turn, and less than a block waits: then it is read before it is written.
+    /// Whether it gathers, was asked since the last turn, and less than a block waits, and less than is gathered: then it
+    /// is read before it is written.
     fn reads_on(&self) -> bool {
-        self.gathers && self.asked_in && self.flow.waiting() < self.terms.block as usize
+        let enough = GATHERED.min(self.terms.block as usize);
+        self.gathers && self.asked_in && self.flow.waiting() < enough
     }
 
     /// Whether the input is armed, and more of it counts.
@@ -303,7 +309,7 @@ impl Direction {
 
     /// A read, where the input is worth asking. While more than a block waits in one piece, nothing more is read.
     fn want_to_read(&self, at: u64) -> Want
-        ensures wants { (c : Command) (past : List Act) (s : ℕ) (w : WayOf) → IsDirection c past s w self.now → at ≡ now past → running c past s ≡ true → 1 ≤ c.block → broken c past s w ≡ false → passed c past s w ≡ false → is_spent c past s w ≡ false → (may_write c past s w ≡ true → asked_to_write past (input c s w) (output c s w) ≡ true) → Wants c past s w result }
+        ensures wants { (c : Command) (past : List Act) (s : ℕ) (w : WayOf) → IsDirection c past s w self.now → at ≡ now past → running c past s ≡ true → 1 ≤ c.block → broken c past s w ≡ false → passed c past s w ≡ false → is_spent c past s w ≡ false → (owes_write c past s w ≡ true → asked_to_write past (input c s w) (output c s w) ≡ true) → Wants c past s w result }
         ensures reads { (c : Command) (past : List Act) (s : ℕ) (w : WayOf) (n : ℕ) → IsDirection c past s w self.now → at ≡ now past → running c past s ≡ true → broken c past s w ≡ false → passed c past s w ≡ false → result ≡ wants.Read n → WantsRead c past s w n }
         ensures affords { Affords self.now result }
         ensures fits { FitsRoom self.now result }

@@ -1,3 +1,4 @@
+pub mod Counting
 pub mod Hearing
 pub mod Noting
 pub mod Owning

@@ -20,14 +20,17 @@ use Rattle.relay_core.specs.declared.sessions.Session.{Session}
 use Rattle.relay_core.specs.declared.wishes.Wish.{Wish}
 use Rattle.relay_core.specs.declared.wishes.Wish.TheVariants as wishes
 use Rattle.relay_core.specs.States.{Allowed, ClosesFor}
-use Rattle.relay_core.specs.Sessions.{Stands, wish_of, ending_of, has_ended}
+use Rattle.relay_core.specs.Sessions.{Stands, wish_of, left_of, ending_of, has_ended}
 use Rattle.relay_core.specs.Endings.{EndingIs}
 use Rattle.legal_steps.proofs.Holdings.{standing_held}
 use Rattle.relay_core.proofs.Held.{among}
 use Rattle.relay_core.proofs.Possible.{child_over}
 use Rattle.session_driver.specs.Seen.{Seen}
 use Rattle.session_driver.specs.Steps.{Acts, ClosesAsWished, DidFor, IsOwn, StepIs}
-use Rattle.session_driver.specs.Noted.{MeetsHeld, MeetsUnowed, Untouched, UnreadIs}
+use Rattle.session_driver.specs.Noted.{GivesUp, MeetsHeld, MeetsUnowed, NotedStep, Untouched, UnreadIs}
+use Rattle.session_driver.specs.Noted as noting
+use Rattle.session_driver.specs.Owing.{ClosesShort, CutShort, IsShort, ReadOwed, SettledStep, undumped, unread, noted}
+use Rattle.session_driver.specs.declared.dumpers.Dumper.{Dumper}
 use Rattle.session_driver.specs.declared.stepped.Stepped.{Stepped}
 use Rattle.session_driver.specs.declared.stepped.Stepped.TheVariants as steps
 
@@ -90,9 +93,46 @@ closing_act c old new before after q why e h =
 pub closing_as : (c : Config) (old new : Seen) (before after : Session) (q : Place) (why : Why) (stepped : Stepped) → wish_of before ≡ wishes.Close q why → stepped ≡ steps.Acted → StepIs c old new before after stepped → Acts c old new before after (acts.Closed q why)
 closing_as c old new before after q why stepped e t h = closing_act c old new before after q why e (subst (λ (x : Stepped). StepIs c old new before after x) t h)
 
--- what the closing wish is
-pub wish_is : (past : List Act) (wish : Wish) (q : Place) (why : Why) → wishes.Close q why ≡ wish → ClosesFirst past wish → why ≡ whys.Memory
-wish_is past wish q why e f = let x : wishes.Close q why ≡ wishes.Close f.thing whys.Memory = e ∙ f.is in cc
+-- what the closing wish names is held
+pub short_held : (now : Seen) (session : Session) (q : Place) (why : Why) → wishes.Close q why ≡ wish_of session → IsShort now session → is_free (now.held q) ≡ false
+short_held now session q why e k =
+    let x : wishes.Close q why ≡ wishes.Close k.thing whys.Memory = e ∙ k.wish in
+    let same : q ≡ k.thing = cc in
+    ap (λ (p : Place). is_free (now.held p)) same ∙ k.is_held
+
+-- a session that was cut for want of memory while it held something is to close the first thing
+pub cut_short : (c : Config) (now : Seen) (before after : Session) → (at : MeetsHeld c now before) → ((n : ℕ) (past : List Act) (s : ℕ) → Stands c n past s before → closed_why c past s ≡ None → Stands c n past s after) → ending_of after ≡ Some whys.Memory → left_of after ≡ left_of before → has_ended after ≡ true → CutShort c now before after
+cut_short c now before after at stands ending left over =
+    let first = closes_first c at.n at.past at.s at.at after at.legal (stands at.n at.past at.s at.stands at.unclosed) ending at.unclosed at.own at.is_held in
+    record {
+      short = record { thing = first.thing; wish = first.is; is_held = ap is_free (at.holds first.thing) ∙ standing_held c at.n at.past first.thing at.legal ∙ ap not first.is_held };
+      stands = stands;
+      left = left;
+      over = over;
+    }
+
+-- a step after which no dump is owed
+pub settled_step : (c : Config) (old new : Seen) (before after : Session) (dumper dumper' : Dumper) (stepped : Stepped) → SettledStep c old new before after dumper dumper' stepped → NotedStep c old new before after dumper dumper' stepped
+settled_step c old new before after dumper dumper' stepped (undumped e h) = noting.undumped e h
+settled_step c old new before after dumper dumper' stepped (unread e h) = noting.unread e h
+settled_step c old new before after dumper dumper' stepped (noted e h) = noting.noted e h
+
+-- one after which one is, and the closing
+pub owing_step : (c : Config) (old late new : Seen) (before cut after : Session) (dumper dumper' : Dumper) → ReadOwed c old late before cut dumper dumper' → ClosesShort c late new cut after → NotedStep c old new before after dumper dumper' steps.Memory
+owing_step c old late new before cut after dumper dumper' h closes =
+    let k = h.cut in
+    noting.unnoted refl (record {
+      place = h.place;
+      bytes = h.bytes;
+      between = h.between;
+      late = late;
+      heard = h.heard;
+      going = h.going;
+      reads = h.reads;
+      nothing = h.nothing;
+      gives_up = record { cut = cut; thing = k.short.thing; stands = k.stands; wish = k.short.wish; left = k.left; over = k.over; closes = closes k.short.thing k.short.wish };
+      counts = h.counts;
+    })
 
 -- ---- a session that has just read
 

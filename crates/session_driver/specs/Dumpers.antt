@@ -1,7 +1,13 @@
 -- The text that a dumper made last, and how many bytes it has counted.
-use Rattle.std.specs.Prelude.{◌≡◌, ℕ, List, ◌+◌, ◌-◌, ◌^◌, min}
+use Rattle.std.specs.Prelude.{◌≡◌, ◌≢◌, ℕ, List, length, None, ◌+◌, ◌-◌, ◌^◌, min}
 use Rattle.relay_model.specs.declared.places.Side.{Side}
 use Rattle.relay_model.specs.declared.places.Side.TheVariants.{Left, Right}
+use Rattle.relay_model.specs.declared.acts.Act.{Act}
+use Rattle.relay_model.specs.declared.commands.Config.{Config}
+use Rattle.relay_model.specs.declared.commands.Dump.TheVariants as dumps
+use Rattle.relay_model.specs.Configs.{input, way_from}
+use Rattle.relay_model.specs.History.{got}
+use Rattle.relay_model.specs.Rest.{owed}
 use Rattle.session_driver.specs.declared.dumpers.Dumper.{Dumper}
 
 -- the text that it made last
@@ -27,3 +33,13 @@ counted_after Right n dumper Right = raised dumper.right n
 -- the dumper counted so many bytes more at the place of this side
 abbrev pub Counts : Side → ℕ → Dumper → Dumper → Type 0
 Counts at n old new = (side : Side) → counted_at new side ≡ counted_after at n old side
+
+-- where the command dumps, the dumper has counted what was read at the input of the session on each side
+abbrev pub Counted : Config → List Act → ℕ → Dumper → Type 0
+Counted c past s dumper =
+    c.dump ≢ dumps.Off → (side : Side) → counted_at dumper side ≡ min (length (got past (input c s (way_from side)))) (2 ^ 64 - 1)
+
+-- no dump is owed after these acts, and what the session read is counted
+pub record Settled (c : Config) (past : List Act) (s : ℕ) (dumper : Dumper) : Type 0 where
+  pub unowed : owed c past ≡ None
+  pub counted : Counted c past s dumper

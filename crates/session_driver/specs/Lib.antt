@@ -1,4 +1,5 @@
 pub mod Dumpers
 pub mod Noted
+pub mod Owing
 pub mod Seen
 pub mod Steps

@@ -10,6 +10,6 @@ mod stepped;
 mod steps;
 
 pub use dumpers::Dumper;
-pub use noted_steps::step_noted;
+pub use noted_steps::{step_noted, step_owing};
 pub use stepped::Stepped;
 pub use steps::step;

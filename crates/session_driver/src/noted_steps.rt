@@ -1,4 +1,5 @@
-// The next step of a session whose reads are dumped: the text of what was read is noted before anything else.
+// The next step of a session whose reads are dumped: the text of what was read is noted before anything else. Where there
+// is no memory for that, a closing for want of memory is the one act that may come instead.
 ghost use Rattle.std.specs.Prelude.{◌≡◌, ◌≢◌, ◌<◌, ◌≤◌, length, true, false};
 ghost use Rattle.relay_model.specs.Holding.{is_open};
 ghost use Rattle.relay_core.specs.Sessions.{wish_of, has_ended};
@@ -6,7 +7,8 @@ ghost use Rattle.relay_core.specs.declared.wishes.Wish.TheVariants as wishes;
 ghost use Rattle.session_driver.specs.Seen.{seen};
 ghost use Rattle.session_driver.specs.Steps.{IsOwn};
 ghost use Rattle.session_driver.specs.Dumpers.{Counts};
-ghost use Rattle.session_driver.specs.Noted.{GivesUp, MeetsHeld, MeetsUnowed, NotedStep, NoteIs};
+ghost use Rattle.session_driver.specs.Noted.{MeetsUnowed, NotedStep, NoteIs};
+ghost use Rattle.session_driver.specs.Owing.{ClosesShort, IsShort, OwingStep};
 
 use crate::calls::{close, fetch};
 use crate::dumpers::Dumper;
@@ -30,8 +32,32 @@ pub fn step_noted<W: World>(
     ensures step { NotedStep config.now (seen W.told W.held W.faults W.waits W.stops W.clock world.old) (seen W.told W.held W.faults W.waits W.stops W.clock world.new) session.old session.new dumper.old dumper.new result }
     ensures scratch { length scratch.new ≡ length scratch.old }
 {
+    match step_owing(session, world, config, scratch, dumper) {
+        Some(stepped) => stepped,
+        None => {
+            close_first(session, world, config);
+            Stepped::Memory
+        }
+    }
+}
+
+/// Makes the next call that the session wishes for, and has it hear the answer. What was read is noted at once where the
+/// command dumps it. `None` where there is no memory for that: the session is cut, and is to close something that it
+/// holds before anything else is done.
+pub fn step_owing<W: World>(
+    session: &mut Session,
+    world: &mut W,
+    config: &Config,
+    scratch: &mut [u8],
+    dumper: &mut Dumper,
+) -> Option<Stepped>
+    requires scratch { 0 < length scratch.old }
+    requires meets { MeetsUnowed config.now (seen W.told W.held W.faults W.waits W.stops W.clock world.old) session.old }
+    ensures step { OwingStep config.now (seen W.told W.held W.faults W.waits W.stops W.clock world.old) (seen W.told W.held W.faults W.waits W.stops W.clock world.new) session.old session.new dumper.old dumper.new result }
+    ensures scratch { length scratch.new ≡ length scratch.old }
+{
     match config.dump {
-        Dump::Off => step(session, world, config, scratch),
+        Dump::Off => Some(step(session, world, config, scratch)),
         _ => step_dumped(session, world, config, scratch, dumper),
     }
 }
@@ -43,11 +69,11 @@ fn step_dumped<W: World>(
     config: &Config,
     scratch: &mut [u8],
     dumper: &mut Dumper,
-) -> Stepped
+) -> Option<Stepped>
     requires dumped { config.now.dump ≢ Dump.Off }
     requires scratch { 0 < length scratch.old }
     requires meets { MeetsUnowed config.now (seen W.told W.held W.faults W.waits W.stops W.clock world.old) session.old }
-    ensures step { NotedStep config.now (seen W.told W.held W.faults W.waits W.stops W.clock world.old) (seen W.told W.held W.faults W.waits W.stops W.clock world.new) session.old session.new dumper.old dumper.new result }
+    ensures step { OwingStep config.now (seen W.told W.held W.faults W.waits W.stops W.clock world.old) (seen W.told W.held W.faults W.waits W.stops W.clock world.new) session.old session.new dumper.old dumper.new result }
     ensures scratch { length scratch.new ≡ length scratch.old }
 {
     match session.wish() {
@@ -56,7 +82,7 @@ fn step_dumped<W: World>(
             let into = &mut scratch[..most];
             read_noted(session, world, config, into, dumper, place, at_most)
         }
-        _ => step(session, world, config, scratch),
+        _ => Some(step(session, world, config, scratch)),
     }
 }
 
@@ -69,7 +95,7 @@ fn read_noted<W: World>(
     dumper: &mut Dumper,
     place: Place,
     at_most: usize,
-) -> Stepped
+) -> Option<Stepped>
     requires dumped { config.now.dump ≢ Dump.Off }
     requires wish { wish_of session.old ≡ wishes.Read place at_most }
     requires open { is_open (W.held world.old place) ≡ true }
@@ -78,19 +104,19 @@ fn read_noted<W: World>(
     requires room { length into.old ≤ at_most }
     requires going { has_ended session.old ≡ false }
     requires meets { MeetsUnowed config.now (seen W.told W.held W.faults W.waits W.stops W.clock world.old) session.old }
-    ensures step { NotedStep config.now (seen W.told W.held W.faults W.waits W.stops W.clock world.old) (seen W.told W.held W.faults W.waits W.stops W.clock world.new) session.old session.new dumper.old dumper.new result }
+    ensures step { OwingStep config.now (seen W.told W.held W.faults W.waits W.stops W.clock world.old) (seen W.told W.held W.faults W.waits W.stops W.clock world.new) session.old session.new dumper.old dumper.new result }
     ensures scratch { length into.new ≡ length into.old }
 {
     match fetch(session, world, config, into, place, at_most) {
         Fetched::Bytes(count) => {
             if note(world, config, dumper, place, &into[..count]) {
-                Stepped::Acted
+                Some(Stepped::Acted)
             } else {
-                give_up(session, world, config);
-                Stepped::Memory
+                session.cut(Why::Memory);
+                None
             }
         }
-        Fetched::Other(stepped) => stepped,
+        Fetched::Other(stepped) => Some(stepped),
     }
 }
 
@@ -118,12 +144,11 @@ fn note<W: World>(
     }
 }
 
-/// Cuts the session for want of memory, and closes the first thing that it holds.
-fn give_up<W: World>(session: &mut Session, world: &mut W, config: &Config)
-    requires { MeetsHeld config.now (seen W.told W.held W.faults W.waits W.stops W.clock world.old) session.old }
-    ensures { GivesUp config.now (seen W.told W.held W.faults W.waits W.stops W.clock world.old) (seen W.told W.held W.faults W.waits W.stops W.clock world.new) session.old session.new }
+/// Closes the first thing that a session holds which was cut for want of memory.
+fn close_first<W: World>(session: &mut Session, world: &mut W, config: &Config)
+    requires { IsShort (seen W.told W.held W.faults W.waits W.stops W.clock world.old) session.old }
+    ensures { ClosesShort config.now (seen W.told W.held W.faults W.waits W.stops W.clock world.old) (seen W.told W.held W.faults W.waits W.stops W.clock world.new) session.old session.new }
 {
-    session.cut(Why::Memory);
     match session.wish() {
         Wish::Close(thing, why) => {
             close(session, world, config, thing, why);

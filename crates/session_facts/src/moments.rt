@@ -3,7 +3,7 @@ ghost use Rattle.std.specs.Prelude.{◌≡◌};
 ghost use Rattle.relay_model.specs.Moments.{passed_at, passed, broken_at, broken, done_at, done, after_one, closing_moment, is_unfinished, idle_moment, reached};
 
 use command_places::{formed, input, output};
-use history_facts::{Past, moved, or_else, read_fault_at, shut_at, write_fault_at};
+use history_facts::{Past, moved_at, or_else, read_fault_at, shut_at, write_fault_at};
 use relay_model::Way;
 
 /// The moment at which the direction passed its end.
@@ -106,7 +106,7 @@ pub fn idle_moment(past: &Past, session: u32) -> Option<u128>
 {
     let config = past.config();
     if config.idle > 0 && is_unfinished(past, session) {
-        Some(moved(past, session) as u128 + config.idle as u128)
+        Some(moved_at(past, session) as u128 + config.idle as u128)
     } else {
         None
     }

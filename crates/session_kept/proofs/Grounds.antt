@@ -26,7 +26,7 @@ use Rattle.relay_core.specs.declared.lanes.Lane.TheVariants.{Unformed, Formed}
 use Rattle.relay_core.specs.Lanes.{IsLane}
 use Rattle.relay_core.specs.States.{Ground, home}
 use Rattle.relay_model.specs.Arming.{asked_to_accept, asked_to_write}
-use Rattle.relay_model.specs.Moments.{moved}
+use Rattle.relay_model.specs.Moments.{moved_at}
 use Rattle.relay_model.specs.Frames.{SameAt}
 use Rattle.session_sleep.proofs.Slept.{faults_by, idle_at, way_same}
 
@@ -36,7 +36,7 @@ pub record Near (c : Config) (s : ℕ) (one other : List Act) : Type 0 where
   pub unclosed : closed_why c one s ≡ None → closed_why c other s ≡ None
   pub own : (p : Place) → p.session ≡ s → is_program_door c p ≡ false → SameAt p one other
   pub now_same : now one ≡ now other
-  pub moved_same : moved c one s ≡ moved c other s
+  pub moved_same : moved_at c one s ≡ moved_at c other s
   pub written : (w : Way) → asked_to_write one (input c s w) (output c s w) ≡ asked_to_write other (input c s w) (output c s w)
   pub accepted : (d : Place) → d.session ≡ s → is_program_door c d ≡ false → asked_to_accept c one d ≡ asked_to_accept c other d
   pub pieces : (w : Way) → due_pieces c one s w ≡ due_pieces c other s w

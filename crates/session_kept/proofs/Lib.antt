@@ -2,4 +2,5 @@ pub mod Beginnings
 pub mod Ending
 pub mod Grounds
 pub mod Kept
+pub mod Noted
 pub mod Standing

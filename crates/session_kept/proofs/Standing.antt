@@ -22,7 +22,7 @@ use Rattle.relay_model.specs.Sessions.{numbers, admitted, live}
 use Rattle.relay_model.specs.Openings.{Call, Nothing, TryAt, Open, Settle, Listen, Accept, Refuse, Serve, first_call}
 use Rattle.relay_model.specs.Cause.{cause}
 use Rattle.relay_model.specs.Calls.{call, door_call}
-use Rattle.relay_model.specs.Rest.{moves, may_read, may_write, must_pass, presses, AcceptTried, SessionRests}
+use Rattle.relay_model.specs.Rest.{is_going, owes_read, owes_write, must_pass, presses, AcceptTried, SessionRests}
 use Rattle.relay_model.specs.May.{MayRead, MayOffer, MayTryWrite, MayShut, Licensed, by_cause, by_refusal, by_service, by_door, by_memory, by_turns}
 use Rattle.relay_model.specs.Laws.{DoorTells}
 use Rattle.relay_model.specs.Frames.{SameSession}
@@ -85,7 +85,7 @@ pub record IsOwn (c : Config) (s : ℕ) (p : Place) : Type 0 where
   pub at : p.session ≡ s
   pub apart : is_program_door c p ≡ false
 
-moving_alike : (c : Config) (n s : ℕ) (one other : List Act) (w : Way) → Like c n s one other → moves c one s w ≡ moves c other s w
+moving_alike : (c : Config) (n s : ℕ) (one other : List Act) (w : Way) → Like c n s one other → is_going c one s w ≡ is_going c other s w
 moving_alike c n s one other w h = moves_same c s one other h.alike.base h.same.running_same w
 
 -- a place that is an input or an output of its session is no door
@@ -229,7 +229,7 @@ armed_alike c n s one other w h =
     let y = h.alike.base.now_same in
     λ i. is_armed (x i) (y i)
 
-reading_alike : (c : Config) (n s : ℕ) (one other : List Act) (w : Way) → Like c n s one other → may_read c one s w ≡ may_read c other s w
+reading_alike : (c : Config) (n s : ℕ) (one other : List Act) (w : Way) → Like c n s one other → owes_read c one s w ≡ owes_read c other s w
 reading_alike c n s one other w h =
     let m = moving_alike c n s one other w h in
     let a = armed_alike c n s one other w h in
@@ -237,7 +237,7 @@ reading_alike c n s one other w h =
     let k = backlog_same c s one other h.alike.base w in
     λ i. m i && a i && not (v i) && k i == 0
 
-writing_alike : (c : Config) (n s : ℕ) (one other : List Act) (w : Way) → Like c n s one other → may_write c one s w ≡ may_write c other s w
+writing_alike : (c : Config) (n s : ℕ) (one other : List Act) (w : Way) → Like c n s one other → owes_write c one s w ≡ owes_write c other s w
 writing_alike c n s one other w h =
     let m = moving_alike c n s one other w h in
     let a = (h.alike.base.own (output c s w) refl (output_own c s w)).armed_to_write_same in

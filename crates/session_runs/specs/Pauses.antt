@@ -7,6 +7,8 @@ use Rattle.relay_core.specs.declared.sessions.Session.{Session}
 use Rattle.relay_core.specs.declared.wishes.Wish.{Wish}
 use Rattle.relay_core.specs.declared.wishes.Wish.TheVariants as wishes
 use Rattle.relay_core.specs.Sessions.{wish_of, has_ended}
+use Rattle.session_driver.specs.declared.stepped.Stepped.{Stepped}
+use Rattle.session_driver.specs.declared.stepped.Stepped.TheVariants as steps
 use Rattle.session_runs.specs.declared.pauses.Pause.{Pause}
 use Rattle.session_runs.specs.declared.pauses.Pause.TheVariants as pauses
 
@@ -29,6 +31,12 @@ SpreadsNot wish = Unit {0}
 abbrev pub SpreadIs : Wish → Option Why → Type 0
 SpreadIs wish None = SpreadsNot wish
 SpreadIs wish (Some why) = Spreads wish why
+
+-- the pause that a step came to
+abbrev pub pause_of : Stepped → Option Pause
+pause_of (steps.Sleep until) = Some (pauses.Sleep until)
+pause_of (steps.Done why) = Some pauses.Done
+pause_of stepped = None
 
 -- the session has come to this pause
 abbrev pub PauseIs : Session → Pause → Type 0

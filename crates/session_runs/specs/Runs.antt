@@ -1,22 +1,26 @@
 -- A run of many sessions over one world, and what one of them makes of it.
-use Rattle.std.specs.Prelude.{◌≡◌, ◌⊎◌, ℕ, ◌+◌, ◌-◌, ◌*◌, ◌^◌, ◌≤◌, Bool, true, false, not, List, [], ◌∷◌, Option, option_map, min}
+use Rattle.std.specs.Prelude.{◌≡◌, ◌⊎◌, ℕ, ◌+◌, ◌-◌, ◌*◌, ◌^◌, ◌≤◌, Bool, true, false, not, List, [], ◌∷◌, None, option_map, min}
 use Rattle.relay_model.specs.declared.acts.Act.{Act}
+use Rattle.relay_model.specs.declared.acts.Why.TheVariants as whys
 use Rattle.relay_model.specs.declared.places.Place.{Place}
 use Rattle.relay_model.specs.declared.commands.Config.{Config}
-use Rattle.relay_model.specs.declared.commands.Dump.TheVariants as dumps
 use Rattle.relay_model.specs.Configs.{is_of, single, program_door}
 use Rattle.relay_model.specs.Holding.{standing}
 use Rattle.relay_model.specs.Journals.{Asking}
 use Rattle.relay_model.specs.History.{now as moment, turns}
+use Rattle.relay_model.specs.Rest.{owed}
 use Rattle.relay_model.specs.May.{Legal}
 use Rattle.relay_model.specs.Frames.{is_common}
 use Rattle.session_birth.specs.Births.{OnlyHeldWereNamed}
 use Rattle.relay_core.specs.declared.sessions.Session.{Session}
-use Rattle.relay_core.specs.Sessions.{Stands, left_of, has_ended}
+use Rattle.relay_core.specs.Sessions.{Stands, wish_of, left_of, has_ended}
 use Rattle.relay_core.specs.Blames.{is_blamed}
 use Rattle.relay_core.specs.Told.{stop_turned}
 use Rattle.session_driver.specs.Seen.{Seen}
 use Rattle.session_driver.specs.Steps.{extend, IsActOf}
+use Rattle.session_driver.specs.Dumpers.{Counted}
+use Rattle.session_runs.specs.Pauses.{Spreads}
+use Rattle.session_runs.specs.declared.members.Member.{Member}
 
 -- the place or door is one of the command's: some session's, or the program door
 abbrev pub IsCommands : Config → Place → Type 0
@@ -31,10 +35,8 @@ OnlyCommands c (asking ∷ more) = IsCommands c asking.0 × (asking.1 ≡ single
 abbrev pub HasRisen : ℕ → ℕ → Type 0
 HasRisen before now = min (before + 1) (2 ^ 64 - 1) ≤ now
 
--- the run of a command that dumps nothing began where the world looked like `start`; it looks like `now`, and the acts
--- since then are `past`
+-- the run began where the world looked like `start`; it looks like `now`, and the acts since then are `past`
 pub record Run (c : Config) (n : ℕ) (start now : Seen) (past : List Act) : Type 0 where
-  pub undumped : c.dump ≡ dumps.Off
   pub legal : Legal c n past
   pub named : OnlyHeldWereNamed past
   pub pairs : List Asking
@@ -48,18 +50,24 @@ pub record Run (c : Config) (n : ℕ) (start now : Seen) (past : List Act) : Typ
   pub stopped : stop_turned past ≡ true → HasRisen start.stops now.stops
   pub clock : moment past ≤ now.clock
 
--- one of its sessions stands for these acts
-pub record RunOf (c : Config) (n : ℕ) (start now : Seen) (past : List Act) (s : ℕ) (x : Session) : Type 0 where
+-- no dump is owed, or the session is to close something for want of memory
+abbrev pub Owes : Config → List Act → Session → Type 0
+Owes c past x = (owed c past ≡ None) ⊎ Spreads (wish_of x) whys.Memory
+
+-- one of its sessions stands for these acts, and what it read is counted
+pub record RunOf (c : Config) (n : ℕ) (start now : Seen) (past : List Act) (s : ℕ) (m : Member) : Type 0 where
   pub run : Run c n start now past
-  pub stands : Stands c n past s x
+  pub stands : Stands c n past s m.session
+  pub counted : Counted c past s m.dumper
+  pub owes : Owes c past m.session
 
 -- some run led here
-pub record Runs (c : Config) (now : Seen) (x : Session) : Type 0 where
+pub record Runs (c : Config) (now : Seen) (m : Member) : Type 0 where
   pub n : ℕ
   pub start : Seen
   pub past : List Act
   pub s : ℕ
-  pub run : RunOf c n start now past s x
+  pub run : RunOf c n start now past s m
 
 -- since then only this session acted, and none of its acts ends every session
 pub data Ran (c : Config) (s : ℕ) (past : List Act) : List Act → Type 0 where
@@ -67,13 +75,13 @@ pub data Ran (c : Config) (s : ℕ) (past : List Act) : List Act → Type 0 wher
   acted : (act : Act) (since : List Act) → IsActOf c s act → is_common c act ≡ false → Ran c s past since → Ran c s past (act ∷ since)
 
 -- the run goes on to here, by acts of this session alone
-pub record WentOn (c : Config) (n : ℕ) (start now : Seen) (past : List Act) (s : ℕ) (x : Session) : Type 0 where
+pub record WentOn (c : Config) (n : ℕ) (start now : Seen) (past : List Act) (s : ℕ) (m : Member) : Type 0 where
   pub since : List Act
   pub ran : Ran c s past since
-  pub run : RunOf c n start now since s x
+  pub run : RunOf c n start now since s m
 
 -- so of every run that led to the beginning
-abbrev pub RunsOn : Config → Seen → Seen → Session → Session → Type 0
+abbrev pub RunsOn : Config → Seen → Seen → Member → Member → Type 0
 RunsOn c old new before after = (n : ℕ) (start : Seen) (past : List Act) (s : ℕ) → RunOf c n start old past s before → WentOn c n start new past s after
 
 -- one where it is so, else none

@@ -1,30 +1,31 @@
 // The calls of a session up to its next pause.
 ghost use Rattle.std.specs.Prelude.{◌≡◌, ◌<◌, length, IfSome, IfNone};
 ghost use Rattle.session_driver.specs.Seen.{seen};
-ghost use Rattle.session_runs.specs.Pauses.{PauseIs};
+ghost use Rattle.session_runs.specs.Pauses.{PauseIs, pause_of};
 ghost use Rattle.session_runs.specs.Runs.{Runs, RunsOn, rank};
 
+use crate::members::Member;
 use crate::pauses::{Pause, spreading};
-use relay_core::Session;
 use relay_model::Config;
-use session_driver::{Stepped, step};
+use session_driver::{Stepped, step_owing};
 use world_trait::World;
 
-/// Makes the calls that the session wishes for, up to its next pause.
+/// Makes the calls that the session wishes for, up to its next pause, and notes what it reads where the command dumps
+/// that. Where there is no memory for a note, it pauses at a closing for want of memory, and the dump stays owed.
 pub fn drain<W: World>(
-    session: &mut Session,
+    member: &mut Member,
     world: &mut W,
     config: &Config,
     scratch: &mut [u8],
 ) -> Pause
     requires scratch { 0 < length scratch.old }
-    requires runs { Runs config.now (seen W.told W.held W.faults W.waits W.stops W.clock world.old) session.old }
-    ensures runs { RunsOn config.now (seen W.told W.held W.faults W.waits W.stops W.clock world.old) (seen W.told W.held W.faults W.waits W.stops W.clock world.new) session.old session.new }
-    ensures pause { PauseIs session.new result }
+    requires runs { Runs config.now (seen W.told W.held W.faults W.waits W.stops W.clock world.old) member.old }
+    ensures runs { RunsOn config.now (seen W.told W.held W.faults W.waits W.stops W.clock world.old) (seen W.told W.held W.faults W.waits W.stops W.clock world.new) member.old member.new }
+    ensures pause { PauseIs member.new.session result }
     ensures scratch { length scratch.new ≡ length scratch.old }
 {
     loop {
-        if let Some(pause) = go_on(session, world, config, scratch) {
+        if let Some(pause) = go_on(member, world, config, scratch) {
             return pause;
         }
     }
@@ -32,28 +33,40 @@ pub fn drain<W: World>(
 
 /// Makes the next call, unless it pauses.
 fn go_on<W: World>(
-    session: &mut Session,
+    member: &mut Member,
     world: &mut W,
     config: &Config,
     scratch: &mut [u8],
 ) -> Option<Pause>
     requires scratch { 0 < length scratch.old }
-    requires runs { Runs config.now (seen W.told W.held W.faults W.waits W.stops W.clock world.old) session.old }
-    ensures runs { RunsOn config.now (seen W.told W.held W.faults W.waits W.stops W.clock world.old) (seen W.told W.held W.faults W.waits W.stops W.clock world.new) session.old session.new }
-    ensures pause { IfSome result (PauseIs session.new) }
-    ensures fewer { IfNone result (rank session.new < rank session.old) }
+    requires runs { Runs config.now (seen W.told W.held W.faults W.waits W.stops W.clock world.old) member.old }
+    ensures runs { RunsOn config.now (seen W.told W.held W.faults W.waits W.stops W.clock world.old) (seen W.told W.held W.faults W.waits W.stops W.clock world.new) member.old member.new }
+    ensures pause { IfSome result (PauseIs member.new.session) }
+    ensures fewer { IfNone result (rank member.new.session < rank member.old.session) }
     ensures scratch { length scratch.new ≡ length scratch.old }
 {
-    if let Some(why) = spreading(session.wish()) {
+    if let Some(why) = spreading(member.session.wish()) {
         return Some(Pause::Spreads(why));
     }
-    match step(session, world, config, scratch) {
-        Stepped::Acted => None,
-        Stepped::ReadFailed(_place) => None,
-        Stepped::WriteFailed(_place) => None,
-        Stepped::Childless => None,
-        Stepped::Memory => None,
+    match step_owing(
+        &mut member.session,
+        world,
+        config,
+        scratch,
+        &mut member.dumper,
+    ) {
+        Some(stepped) => paused(stepped),
+        None => None,
+    }
+}
+
+/// The pause that a step came to.
+fn paused(stepped: Stepped) -> Option<Pause>
+    ensures { result ≡ pause_of stepped }
+{
+    match stepped {
         Stepped::Sleep(until) => Some(Pause::Sleep(until)),
         Stepped::Done(_why) => Some(Pause::Done),
+        _ => None,
     }
 }

@@ -3,7 +3,9 @@
 #![tactic(auto)]
 
 mod drains;
+mod members;
 mod pauses;
 
 pub use drains::drain;
+pub use members::Member;
 pub use pauses::Pause;

@@ -17,7 +17,7 @@ use Rattle.relay_model.specs.Moments.{passed, closing_moment, idle_moment, reach
 use Rattle.relay_model.specs.Openings.{Call, Nothing, TryAt, Open, Settle, Listen, Accept, Refuse, Serve, ready, first_call}
 use Rattle.relay_model.specs.Cause.{closed_why, accept_failed_for, listening_failed, opening_failed, faulted, finished, cause, running}
 use Rattle.relay_model.specs.Calls.{call}
-use Rattle.relay_model.specs.Rest.{goes, moves, may_read, may_write, must_pass, accepts, presses, AcceptTried, SessionRests, way_work, session_work, try_moment, input_moment, timer_moment, session_moment}
+use Rattle.relay_model.specs.Rest.{goes, is_going, owes_read, owes_write, must_pass, accepts, presses, AcceptTried, SessionRests, way_work, session_work, try_moment, input_moment, timer_moment, session_moment}
 use Rattle.relay_model.specs.Frames.{SameSession}
 use Rattle.relay_laws.proofs.Apart.{moves_same, over_same, backlog_same, passing_same, cause_from}
 use Rattle.legal_steps.proofs.OwnThings.{input_own}
@@ -43,14 +43,14 @@ no_first_of false b d e h = refl
 no_last : (a b d : Bool) → d ≡ false → (a && b && d) ≡ false
 no_last a b d e = and_right (a && b) d e
 
-still_moves : (c : Config) (past : List Act) (s : ℕ) (w : Way) → IsStill c past s → moves c past s w ≡ false
+still_moves : (c : Config) (past : List Act) (s : ℕ) (w : Way) → IsStill c past s → is_going c past s w ≡ false
 still_moves c past s w q = and_right (goes c past s w) (running c past s) q.stands
 
-still_read : (c : Config) (past : List Act) (s : ℕ) (w : Way) → IsStill c past s → may_read c past s w ≡ false
-still_read c past s w q = no_first_of (moves c past s w) (armed_to_read past (input c s w)) (not (over c past (input c s w))) (backlog c past s w == 0) (still_moves c past s w q)
+still_read : (c : Config) (past : List Act) (s : ℕ) (w : Way) → IsStill c past s → owes_read c past s w ≡ false
+still_read c past s w q = no_first_of (is_going c past s w) (armed_to_read past (input c s w)) (not (over c past (input c s w))) (backlog c past s w == 0) (still_moves c past s w q)
 
-still_write : (c : Config) (past : List Act) (s : ℕ) (w : Way) → IsStill c past s → may_write c past s w ≡ false
-still_write c past s w q = no_first (moves c past s w) (armed_to_write past (output c s w)) (nat_lt 0 (backlog c past s w)) (still_moves c past s w q)
+still_write : (c : Config) (past : List Act) (s : ℕ) (w : Way) → IsStill c past s → owes_write c past s w ≡ false
+still_write c past s w q = no_first (is_going c past s w) (armed_to_write past (output c s w)) (nat_lt 0 (backlog c past s w)) (still_moves c past s w q)
 
 still_rests : (c : Config) (past : List Act) (s : ℕ) → IsStill c past s → holds c past s ≡ false → SessionRests c past s
 still_rests c past s q empty = record {
@@ -58,7 +58,7 @@ still_rests c past s q empty = record {
   no_call = ap presses q.silent;
   read_tried = λ w h. absurd (true≢false (sym h ∙ still_read c past s w q));
   write_tried = λ w h. absurd (true≢false (sym h ∙ still_write c past s w q));
-  passed_on = λ w. no_first (moves c past s w) (is_spent c past s w) (not (passed c past s w)) (still_moves c past s w q);
+  passed_on = λ w. no_first (is_going c past s w) (is_spent c past s w) (not (passed c past s w)) (still_moves c past s w q);
   accept_tried = subst (AcceptTried c past) (sym q.silent) tt;
 }
 
@@ -228,7 +228,7 @@ timer_kept k at x y new true e f h =
     let v = later_kept k at y f b.1 in
     λ i. cond (e i) (earlier (u i) (v i)) None
 
-moves_kept : (c : Config) (past : List Act) (s at : ℕ) (w : Way) → running c (tick at ∷ past) s ≡ running c past s → moves c (tick at ∷ past) s w ≡ moves c past s w
+moves_kept : (c : Config) (past : List Act) (s at : ℕ) (w : Way) → running c (tick at ∷ past) s ≡ running c past s → is_going c (tick at ∷ past) s w ≡ is_going c past s w
 moves_kept c past s at w r = λ i. goes c past s w && r i
 
 input_kept : (c : Config) (past : List Act) (s at : ℕ) (w : Way) → running c (tick at ∷ past) s ≡ running c past s → now past ≤ at → IsBefore at (later (now past) (input_moment c past s w)) → later at (input_moment c (tick at ∷ past) s w) ≡ later (now past) (input_moment c past s w)
@@ -254,15 +254,15 @@ reading_kept true true false true z f = refl
 reading_kept true false true true z f = refl
 reading_kept true false false true z f = refl
 
-read_kept : (c : Config) (past : List Act) (s at : ℕ) (w : Way) → Ticks c past s at → running c (tick at ∷ past) s ≡ running c past s → may_read c (tick at ∷ past) s w ≡ may_read c past s w
+read_kept : (c : Config) (past : List Act) (s at : ℕ) (w : Way) → Ticks c past s at → running c (tick at ∷ past) s ≡ running c past s → owes_read c (tick at ∷ past) s w ≡ owes_read c past s w
 read_kept c past s at w t r =
     let m = moves_kept c past s at w r in
     let b = (before_parts c past s at t.before).1 w in
     (λ i. m i && is_armed (read_arming past (input c s w)) at && not (over c past (input c s w)) && backlog c past s w == 0)
-    ∙ reading_kept (moves c past s w) (is_armed (read_arming past (input c s w)) at) (armed_to_read past (input c s w)) (over c past (input c s w)) (backlog c past s w == 0)
+    ∙ reading_kept (is_going c past s w) (is_armed (read_arming past (input c s w)) at) (armed_to_read past (input c s w)) (over c past (input c s w)) (backlog c past s w == 0)
     (λ e. arming_kept (now past) at (read_arming past (input c s w)) t.forward t.on_clock (subst (λ (x : Bool). IsBefore at (later (now past) (cond x (arming_moment (read_arming past (input c s w))) None))) e b))
 
-write_kept : (c : Config) (past : List Act) (s at : ℕ) (w : Way) → running c (tick at ∷ past) s ≡ running c past s → may_write c (tick at ∷ past) s w ≡ may_write c past s w
+write_kept : (c : Config) (past : List Act) (s at : ℕ) (w : Way) → running c (tick at ∷ past) s ≡ running c past s → owes_write c (tick at ∷ past) s w ≡ owes_write c past s w
 write_kept c past s at w r = let m = moves_kept c past s at w r in λ i. m i && armed_to_write past (output c s w) && nat_lt 0 (backlog c past s w)
 
 pass_kept : (c : Config) (past : List Act) (s at : ℕ) (w : Way) → running c (tick at ∷ past) s ≡ running c past s → must_pass c (tick at ∷ past) s w ≡ must_pass c past s w
@@ -270,17 +270,17 @@ pass_kept c past s at w r = let m = moves_kept c past s at w r in λ i. m i && i
 
 -- no direction has work
 record Workless (c : Config) (past : List Act) (s : ℕ) : Type 0 where
-  no_read : (w : Way) → may_read c past s w ≡ false
-  no_write : (w : Way) → may_write c past s w ≡ false
+  no_read : (w : Way) → owes_read c past s w ≡ false
+  no_write : (w : Way) → owes_write c past s w ≡ false
   no_accept : accepts (call c past s) ≡ false
 
 workless : (c : Config) (past : List Act) (s : ℕ) → session_work c past s ≡ false → Workless c past s
 workless c past s e =
     let a = or_parts (way_work c past s LeftToRight || way_work c past s RightToLeft) (accepts (call c past s)) e in
     let b = or_parts (way_work c past s LeftToRight) (way_work c past s RightToLeft) a.0 in
-    let l = or_parts (may_read c past s LeftToRight) (may_write c past s LeftToRight) b.0 in
-    let r = or_parts (may_read c past s RightToLeft) (may_write c past s RightToLeft) b.1 in
-    record { no_read = each (λ w. may_read c past s w ≡ false) l.0 r.0; no_write = each (λ w. may_write c past s w ≡ false) l.1 r.1; no_accept = a.1 }
+    let l = or_parts (owes_read c past s LeftToRight) (owes_write c past s LeftToRight) b.0 in
+    let r = or_parts (owes_read c past s RightToLeft) (owes_write c past s RightToLeft) b.1 in
+    record { no_read = each (λ w. owes_read c past s w ≡ false) l.0 r.0; no_write = each (λ w. owes_write c past s w ≡ false) l.1 r.1; no_accept = a.1 }
   where
     each : (P : Way → Type 0) → P LeftToRight → P RightToLeft → (w : Way) → P w
     each P x y LeftToRight = x

@@ -1,15 +1,22 @@
 // Steps of a beginning, each with the status where it couldn't be made, and the end.
+use journal_file::DiskJournal;
 use mio_poller::{MioPoller, MioWake};
-use port_trait::{Making, Sink};
-use relay_model::NoMemory;
+use port_desk::{Desk, Standard};
+use port_trait::{Making, Port, Sink};
+use real_maker::RealMaker;
+use relay_model::{NoMemory, Text};
+use socat_top::run_written;
 use std::alloc::Global;
 use std::fs::{Files, OpenOptions};
 use std::io::Eprint;
 use std::net::Net;
 use std::os::fd::AsRawFd;
 use std::process::ExitCode;
+use std::rt::HostRuntime;
+use std::thread::Threads;
 use std::time::Clock;
 use told_sink::{Failures, ToldSink};
+use world_trait::Recorder;
 
 /// The status where the system refuses the poller or what is registered with it, and where output failed after the run.
 const FAILED: u8 = 1;
@@ -17,9 +24,15 @@ const FAILED: u8 = 1;
 /// The status where there is no memory to begin with.
 pub const NO_MEMORY: u8 = 2;
 
-/// A wake for the thread of each of two rings.
-pub fn wakes<R: Net + Clock + Drop>(poller: &MioPoller<R>) -> Result<(MioWake, MioWake), u8> {
-    Ok((made(poller.wake())?, made(poller.wake())?))
+/// A wake for the thread of each standard stream.
+pub fn wakes<R: Net + Clock + Drop>(
+    poller: &MioPoller<R>,
+) -> Result<(MioWake, MioWake, MioWake), u8> {
+    Ok((
+        made(poller.wake())?,
+        made(poller.wake())?,
+        made(poller.wake())?,
+    ))
 }
 
 /// What stands on the descriptor of a standard stream that was closed when the program began, so that nothing else
@@ -58,6 +71,30 @@ pub fn told<K: Sink + Drop>(alloc: Global, sink: K) -> Result<(ToldSink<K>, Fail
     let failures = Failures::none(alloc)?;
     let told = ToldSink::new(sink, failures.share()?);
     Ok((told, failures))
+}
+
+/// Carries out the words over a desk of these streams and of the ports that a maker opens, and gives the status. Files and
+/// programs are the system's. In `main` the types would be known, and the prover compares more of them than its steps allow.
+pub fn carried_out<R, I: Port, O: Port, E: Port>(
+    rt: R,
+    system: HostRuntime,
+    alloc: Global,
+    poller: MioPoller<R>,
+    standard: Standard<I, O, E>,
+    words: &[Text],
+) -> u8
+where
+    R: Files + Net + Clock + Threads + Copy + Drop,
+{
+    let maker = match made(RealMaker::on(rt, system, alloc, &poller)) {
+        Ok(maker) => maker,
+        Err(status) => return status,
+    };
+    let Ok(desk) = Desk::new(alloc, standard, maker, poller, Recorder::Skip) else {
+        return NO_MEMORY;
+    };
+    let mut journal = DiskJournal::new(rt);
+    run_written(alloc, desk, words, u64::MAX, &mut journal).status
 }
 
 /// The status of the run, or that of a failure where output failed after its last act, which is told.

@@ -1,5 +1,5 @@
 -- Runs that end for want of memory.
-use Rattle.std.proofs.Common.{◌≡◌, ℕ, true, if◌then◌else◌, List, [], ◌∷◌, ◌++◌, Option, Some, refl, ap, subst, sym, ◌∙◌, inl, inr, ◌⊎◌}
+use Rattle.std.proofs.Common.{◌≡◌, ℕ, List, [], ◌∷◌, ◌++◌, Option, Some, refl, ap, subst, sym, ◌∙◌, inl, inr, ◌⊎◌}
 use Rattle.relay_model.specs.declared.commands.Config.{Config}
 use Rattle.relay_model.specs.Journals.{History}
 use Rattle.exit_status.specs.declared.outcomes.Outcome.{Outcome}
@@ -11,9 +11,7 @@ use Rattle.event_loop.specs.Headline.{is_relayed}
 use Rattle.exit_status.specs.Outcomes.{IsOutcome}
 use Rattle.relay_model.specs.declared.acts.Act.{Act}
 use Rattle.socat_top.specs.Notes.{Said, Tail}
-use Rattle.cmd_words.specs.declared.commands.Command.TheVariants as commands
-use Rattle.socat_top.specs.Built.{is_built}
-use Rattle.socat_top.specs.Tasks.{Task, Relaying, Telling, Refusing, Unread, not_built, command_task}
+use Rattle.socat_top.specs.Tasks.{Task, Relaying, Telling, Loading, Refusing, Unread}
 use Rattle.socat_top.specs.Headline.{Headline, Leaves, Answers, CompletesTask}
 
 pub either : {A : Type 0} → A ⊎ A → A
@@ -49,12 +47,14 @@ lacking (Relaying c) n before told told' answer e from tail =
       own = tt;
     }
 lacking (Telling text) n before told told' answer e from tail = let P : Option History → Type 0 = λ t. Tail answer t told' in inr (e, subst P from tail)
+lacking (Loading number) n before told told' answer e from tail = let P : Option History → Type 0 = λ t. Tail answer t told' in inr (e, subst P from tail)
 lacking (Refusing refused) n before told told' answer e from tail = let P : Option History → Type 0 = λ t. Tail answer t told' in subst P from tail
 lacking Unread n before told told' answer e from tail = let P : Option History → Type 0 = λ t. Tail answer t told' in subst P from tail
 
 pub lacking_answers : (task : Task) (answer : Outcome) → answer ≡ outcomes.Memory → Answers task answer
 lacking_answers (Relaying c) answer e = ap is_relayed e
 lacking_answers (Telling text) answer e = inr e
+lacking_answers (Loading number) answer e = inr e
 lacking_answers (Refusing refused) answer e = inr e
 lacking_answers Unread answer e = e
 
@@ -80,9 +80,6 @@ concluded c n before told told' answer given_answer h tail same =
 pub lacking_completes : (task : Task) (n f f' w w' s s' : ℕ) (answer : Outcome) → answer ≡ outcomes.Memory → CompletesTask task n f f' w w' s s' answer
 lacking_completes (Relaying c) n f f' w w' s s' answer e = λ calm left quiet. ap relayed.is_undisturbed e
 lacking_completes (Telling text) n f f' w w' s s' answer e = tt
+lacking_completes (Loading number) n f f' w w' s s' answer e = tt
 lacking_completes (Refusing refused) n f f' w w' s s' answer e = tt
 lacking_completes Unread n f f' w w' s s' answer e = tt
-
--- a relay that is offered is the task of its command
-pub offered_completes : (c : Config) (n f f' w w' s s' : ℕ) (answer : Outcome) → is_built c ≡ true → relayed.Completes n f f' w w' s s' answer → CompletesTask (command_task (commands.Relay c)) n f f' w w' s s' answer
-offered_completes c n f f' w w' s s' answer built h = subst (λ b. CompletesTask (if b then Relaying c else Refusing not_built) n f f' w w' s s' answer) (sym built) h

@@ -1,3 +1,4 @@
+pub mod Passing
 pub mod Endings
 pub mod Offered
 pub mod Unheld

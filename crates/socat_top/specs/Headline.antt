@@ -14,7 +14,10 @@ use Rattle.session_driver.specs.Steps.{extend}
 use Rattle.event_loop.specs.Headline as relayed
 use Rattle.event_loop.specs.Headline.{is_relayed}
 use Rattle.socat_top.specs.Notes.{Said, Tail}
-use Rattle.socat_top.specs.Tasks.{Task, Relaying, Telling, Refusing, Unread}
+use Rattle.generated_run.specs.declared.summaries.Summary.{Summary}
+use Rattle.generated_run.specs.Runs.{GeneratedRun}
+use Rattle.generated_run.specs.Summaries.{summary_line}
+use Rattle.socat_top.specs.Tasks.{Task, Relaying, Telling, Loading, Refusing, Unread}
 
 -- the world told `before`, and tells `told` now: the acts of the relay between are legal, nothing is held after them,
 -- the answer is theirs, each place that was asked for is the command's own, and after them comes the answer's line
@@ -27,14 +30,21 @@ pub record Headline (c : Config) (n : ℕ) (before : History) (told : Option His
   pub answer_is : IsOutcome c n acts answer ⊎ (answer ≡ outcomes.Memory)
   pub own : OnlyOwn c asked
 
--- a text was printed, or there was no memory for it
-abbrev pub Printed : List ℕ → Option History → Option History → Outcome → Type 0
-Printed text before told answer = ((answer ≡ outcomes.Told) × Said text before told) ⊎ ((answer ≡ outcomes.Memory) × Tail answer before told)
+-- a text was printed, and the answer is the one for that; or there was no memory for it
+abbrev pub Printed : Outcome → List ℕ → Option History → Option History → Outcome → Type 0
+Printed done text before told answer = ((answer ≡ done) × Said text before told) ⊎ ((answer ≡ outcomes.Memory) × Tail answer before told)
+
+-- the summary of the generated run of a number was printed, or there was no memory for the run or for that
+abbrev pub Loads : ℕ → Option History → Option History → Outcome → Type 0
+Loads number before told answer =
+    ((summary : Summary) × GeneratedRun number summary × Printed outcomes.Loaded (summary_line summary) before told answer)
+    ⊎ ((answer ≡ outcomes.Memory) × Tail answer before told)
 
 -- what a world that told `before` tells after the task
 abbrev pub Leaves : Task → ℕ → History → Option History → Outcome → Type 0
 Leaves (Relaying c) n before told answer = Headline c n before told answer
-Leaves (Telling text) n before told answer = Printed text (Some before) told answer
+Leaves (Telling text) n before told answer = Printed outcomes.Told text (Some before) told answer
+Leaves (Loading number) n before told answer = Loads number (Some before) told answer
 Leaves (Refusing refused) n before told answer = Tail answer (Some before) told
 Leaves Unread n before told answer = Tail answer (Some before) told
 
@@ -42,6 +52,7 @@ Leaves Unread n before told answer = Tail answer (Some before) told
 abbrev pub Answers : Task → Outcome → Type 0
 Answers (Relaying c) answer = is_relayed answer ≡ true
 Answers (Telling text) answer = (answer ≡ outcomes.Told) ⊎ (answer ≡ outcomes.Memory)
+Answers (Loading number) answer = (answer ≡ outcomes.Loaded) ⊎ (answer ≡ outcomes.Memory)
 Answers (Refusing refused) answer = (answer ≡ outcomes.Refused refused) ⊎ (answer ≡ outcomes.Memory)
 Answers Unread answer = answer ≡ outcomes.Memory
 

@@ -1,4 +1,3 @@
-pub mod Built
 pub mod Headline
 pub mod Kept
 pub mod Notes

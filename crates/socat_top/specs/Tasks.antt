@@ -1,33 +1,28 @@
 -- What a list of words asks.
-use Rattle.std.specs.Prelude.{ℕ, List, Result, Ok, Err, if◌then◌else◌}
+use Rattle.std.specs.Prelude.{ℕ, List, Result, Ok, Err}
 use Rattle.relay_model.specs.declared.commands.Config.{Config}
 use Rattle.relay_model.specs.declared.refusals.Refused.{Refused}
-use Rattle.relay_model.specs.declared.refusals.Refusal.TheVariants.{NotBuilt}
 use Rattle.exit_status.specs.Lines.{usage, version}
 use Rattle.cmd_words.specs.declared.commands.Command.{Command}
 use Rattle.cmd_words.specs.declared.commands.Command.TheVariants as commands
 use Rattle.cmd_words.specs.declared.faults.CommandFault.{CommandFault}
 use Rattle.cmd_words.specs.declared.faults.CommandFault.TheVariants as faults
 use Rattle.cmd_words.specs.Commands.{command}
-use Rattle.socat_top.specs.Built.{is_built}
 
--- a relay, a text to be printed, or a refusal; with `Unread` there was no memory to read them
+-- a relay, a text to be printed, a generated run, or a refusal; with `Unread` there was no memory to read them
 pub data Task : Type 0 where
   Relaying : Config → Task
   Telling : List ℕ → Task
+  Loading : ℕ → Task
   Refusing : Refused → Task
   Unread : Task
 
--- the refusal of a command that can't be run yet: no word of it is wrong
-abbrev pub not_built : Refused
-not_built = record { word = 0; half = 0; why = NotBuilt }
-
--- what is done about a command: relay, print or refuse
+-- what is done about a command: relay, print, make the generated run or refuse
 abbrev pub command_task : Command → Task
-command_task (commands.Relay c) = if is_built c then Relaying c else Refusing not_built
+command_task (commands.Relay c) = Relaying c
 command_task commands.Usage = Telling usage
 command_task commands.Version = Telling version
-command_task (commands.Load number) = Refusing not_built
+command_task (commands.Load number) = Loading number
 
 -- what is done about words that make a command, or are refused
 abbrev pub task_of : Result Command CommandFault → Task

@@ -1,5 +1,6 @@
 // What a list of words asks for, done over any world.
-ghost use Rattle.std.specs.Prelude.{◌≡◌, ◌≤◌, true, false, is_some, Some, Ok};
+ghost use Rattle.std.specs.Prelude.{◌≡◌, ◌≤◌, ◌⊎◌, true, false, is_some, Some, Ok};
+ghost use Rattle.exit_status.specs.declared.outcomes.Outcome.TheVariants as outcomes;
 ghost use Rattle.relay_model.specs.declared.places.Place.{Place as Spot};
 ghost use Rattle.relay_model.specs.Holding.{Free};
 ghost use Rattle.relay_model.specs.Journals.{History};
@@ -7,25 +8,17 @@ ghost use Rattle.cmd_words.specs.Commands.{IsFit};
 ghost use Rattle.event_loop.specs.Courses.{Risen};
 ghost use Rattle.relay_model.specs.Configs.{Fit};
 ghost use Rattle.event_loop.specs.Headline.{Completes, StopCause, is_failure, is_relayed};
-ghost use Rattle.socat_top.specs.Built.{is_built};
-ghost use Rattle.socat_top.specs.Headline.{Answers, CompletesTask, Headline, Leaves};
+ghost use Rattle.socat_top.specs.Headline.{Answers, CompletesTask, Headline, Leaves, Loads};
 ghost use Rattle.socat_top.specs.Tasks.{task, command_task, task_of};
 
-use crate::built::can_run;
 use crate::notes::{conclude, print};
 use crate::relays::relay;
 use cmd_words::{Command, CommandFault, command_of};
 use exit_status::{Outcome, usage_text, version_text};
-use relay_model::{Config, Refusal, Refused, Text};
+use generated_run::generated_run;
+use relay_model::{Config, NoMemory, Text};
 use std::alloc::Global;
 use world_trait::World;
-
-/// The refusal of a command that can't be run yet: no word of it is wrong.
-const NOT_BUILT: Refused = Refused {
-    word: 0,
-    half: 0,
-    why: Refusal::NotBuilt,
-};
 
 /// Does what the words ask, over any world, with at most `turns` waits. The words don't include the program's name.
 /// Words that are refused open nothing. The line of the outcome is noted at the end, where it has one.
@@ -59,19 +52,32 @@ fn obey<W: World>(alloc: Global, world: &mut W, command: &Command, turns: u64) -
     ensures complete { CompletesTask (command_task command.now) turns (W.faults world.old) (W.faults world.new) (W.waits world.old) (W.waits world.new) (W.stops world.old) (W.stops world.new) result }
 {
     match command {
-        Command::Relay(config) if can_run(config) => run_relay(alloc, world, config, turns),
-        Command::Relay(_) | Command::Load(_) => {
-            conclude(alloc, world, Outcome::Refused(NOT_BUILT))
-        }
-        Command::Usage => print(alloc, world, usage_text(alloc)),
-        Command::Version => print(alloc, world, version_text(alloc)),
+        Command::Relay(config) => run_relay(alloc, world, config, turns),
+        Command::Load(number) => load(alloc, world, *number),
+        Command::Usage => print(alloc, world, usage_text(alloc), Outcome::Told),
+        Command::Version => print(alloc, world, version_text(alloc), Outcome::Told),
+    }
+}
+
+/// Makes the generated run of this number, which does nothing outside, and notes its summary.
+fn load<W: World>(alloc: Global, world: &mut W, number: u64) -> Outcome
+    ensures headline { (before : History) → W.told world.old ≡ Some before → Loads number (Some before) (W.told world.new) result }
+    ensures answers { (result ≡ outcomes.Loaded) ⊎ (result ≡ outcomes.Memory) }
+    ensures held { (p : Spot) → W.held world.new p ≡ W.held world.old p }
+    ensures faults { W.faults world.old ≤ W.faults world.new }
+    ensures waits { W.waits world.new ≡ W.waits world.old }
+    ensures stops { W.stops world.old ≤ W.stops world.new }
+    ensures tells { is_some (W.told world.new) ≡ is_some (W.told world.old) }
+{
+    match generated_run(alloc, number) {
+        Ok(summary) => print(alloc, world, summary.line(alloc), Outcome::Loaded),
+        Err(NoMemory) => conclude(alloc, world, Outcome::Memory),
     }
 }
 
 /// Relays, and notes the line of the outcome.
 fn run_relay<W: World>(alloc: Global, world: &mut W, config: &Config, turns: u64) -> Outcome
     requires fit { Fit config.now }
-    requires built { is_built config.now ≡ true }
     requires free { (p : Spot) → W.held world.old p ≡ Free }
     ensures free { (p : Spot) → W.held world.new p ≡ Free }
     ensures headline { (before : History) → W.told world.old ≡ Some before → Headline config.now turns before (W.told world.new) result }

@@ -1,7 +1,6 @@
 // The top call: it reads the words, relays, and answers how the run ended.
 #![tactic(auto)]
 
-mod built;
 mod calls;
 mod notes;
 mod relays;

@@ -47,10 +47,15 @@ pub fn conclude<W: World>(alloc: Global, world: &mut W, outcome: Outcome) -> Out
     }
 }
 
-/// Notes a text that was asked for, where there was memory for it.
-pub fn print<W: World>(alloc: Global, world: &mut W, text: Result<Bytes, NoMemory>) -> Outcome
-    ensures printed { (wanted : List ℕ) → IfOk text (λ bytes. bytes ≡ wanted) → Printed wanted (W.told world.old) (W.told world.new) result }
-    ensures answer { (result ≡ outcomes.Told) ⊎ (result ≡ outcomes.Memory) }
+/// Notes a text that was asked for, where there was memory for it, and then gives this answer.
+pub fn print<W: World>(
+    alloc: Global,
+    world: &mut W,
+    text: Result<Bytes, NoMemory>,
+    done: Outcome,
+) -> Outcome
+    ensures printed { (wanted : List ℕ) → IfOk text (λ bytes. bytes ≡ wanted) → Printed done wanted (W.told world.old) (W.told world.new) result }
+    ensures answer { (result ≡ done) ⊎ (result ≡ outcomes.Memory) }
     ensures held { (p : Spot) → W.held world.new p ≡ W.held world.old p }
     ensures faults { W.faults world.old ≤ W.faults world.new }
     ensures waits { W.waits world.new ≡ W.waits world.old }
@@ -58,7 +63,7 @@ pub fn print<W: World>(alloc: Global, world: &mut W, text: Result<Bytes, NoMemor
     ensures tells { is_some (W.told world.new) ≡ is_some (W.told world.old) }
 {
     match text {
-        Ok(text) => say(world, text.as_slice(), Outcome::Told),
+        Ok(text) => say(world, text.as_slice(), done),
         Err(NoMemory) => conclude(alloc, world, Outcome::Memory),
     }
 }

@@ -1,16 +1,20 @@
 // The run of a list of words over a desk.
-ghost use Rattle.std.specs.Prelude.{◌≡◌, true, Some};
+ghost use Rattle.std.specs.Prelude.{◌≡◌, [], true, false, Some, IfSome};
 ghost use Rattle.relay_model.specs.declared.places.Place.{Place as Spot};
 ghost use Rattle.relay_model.specs.Holding.{Free};
 ghost use Rattle.relay_model.specs.Journals.{History};
 ghost use Rattle.event_loop.specs.Courses.{Risen};
 ghost use Rattle.event_loop.specs.Headline.{StopCause, is_failure};
 ghost use Rattle.exit_status.specs.Statuses.{exit_code};
+ghost use Rattle.port_trait.specs.Meanings.{Behind};
+ghost use Rattle.desk_ports.specs.Endings.{OnJoinedBack, handed};
+ghost use Rattle.desk_history.specs.Following.{Passed};
 ghost use Rattle.socat_top.specs.Kept.{history_of};
 ghost use Rattle.socat_top.specs.Headline.{Answers, CompletesTask, Leaves};
 ghost use Rattle.socat_top.specs.Tasks.{task};
 
 use crate::calls::socat;
+use desk_history::Followed;
 use exit_status::{Outcome, status};
 use port_desk::{Backs, Counts, Desk, Ended};
 use port_trait::{Maker, Poller, Port};
@@ -28,28 +32,36 @@ pub struct Shipped<I: Port, O: Port, E: Port> {
     pub counts: Counts,
 }
 
-/// Does what the words ask over a desk, with at most `turns` waits, and ends the desk.
+/// Does what the words ask over a desk, with at most `turns` waits, and ends the desk. The desk has done nothing yet, and
+/// its standard input and output have passed no bytes.
 pub fn run<M: Maker + Drop, P: Poller + Drop, I: Port, O: Port, E: Port>(
     alloc: Global,
-    mut desk: Desk<M, P, I, O, E>,
+    desk: Desk<M, P, I, O, E>,
     words: &[Text],
     turns: u64,
 ) -> Shipped<I, O, E>
     requires free { (p : Spot) → ⟦<Desk<M, P, I, O, E> as World>⟧.held desk p ≡ Free }
+    requires untouched { desk.log.acted ≡ false }
+    requires given { IfSome desk.ports.harbor.input.port.gave (λ all. all ≡ []) }
+    requires taken { IfSome desk.ports.harbor.output.port.took (λ all. all ≡ []) }
     ensures status { result.status ≡ exit_code result.outcome }
     ensures headline { (before : History) → ⟦<Desk<M, P, I, O, E> as World>⟧.told desk ≡ Some before → Leaves (task words.now) turns before (Some (history_of result.kept)) result.outcome }
+    ensures passed { (before : History) → ⟦<Desk<M, P, I, O, E> as World>⟧.told desk ≡ Some before → Passed (history_of result.kept) (I.gave (handed result.standard.stdin)) (O.took (handed result.standard.stdout)) }
+    ensures stdin_behind { OnJoinedBack (λ port. Behind (I.gave port) (I.took port) (I.behind_gave port) (I.behind_took port) (I.behind_left port) (I.behind_faults port) (I.ended port)) result.standard.stdin }
+    ensures stdout_behind { OnJoinedBack (λ port. Behind (O.gave port) (O.took port) (O.behind_gave port) (O.behind_took port) (O.behind_left port) (O.behind_faults port) (O.ended port)) result.standard.stdout }
     ensures answers { Answers (task words.now) result.outcome }
     ensures complete { let w = ⟦<Desk<M, P, I, O, E> as World>⟧ in CompletesTask (task words.now) turns (w.faults desk) result.counts.faults (w.waits desk) result.counts.waits (w.stops desk) result.counts.stops result.outcome }
     ensures failed { is_failure result.outcome ≡ true → Risen (⟦<Desk<M, P, I, O, E> as World>⟧.faults desk) result.counts.faults }
     ensures stopped { let w = ⟦<Desk<M, P, I, O, E> as World>⟧ in StopCause turns (w.waits desk) result.counts.waits (w.stops desk) result.counts.stops result.outcome }
 {
-    let outcome = socat(alloc, &mut desk, words, turns);
+    let mut followed = Followed::new(desk);
+    let outcome = socat(alloc, &mut followed, words, turns);
     let status = status(&outcome);
     let Ended {
         standard,
         kept,
         counts,
-    } = desk.end();
+    } = followed.into_desk().end();
     Shipped {
         outcome,
         status,

@@ -1,5 +1,5 @@
 // A run whose history may be written to a file.
-ghost use Rattle.std.specs.Prelude.{◌≡◌, ◌≤◌, ◌-◌, ◌++◌, [], true, false, length, drop, Some, option_map, MatchOption};
+ghost use Rattle.std.specs.Prelude.{◌≡◌, ◌≤◌, ◌-◌, ◌++◌, [], true, false, length, drop, Some, option_map, IfSome, MatchOption};
 ghost use Rattle.std.specs.Bool.{OnTrue, OnFalse};
 ghost use Rattle.relay_model.specs.declared.places.Place.{Place as Spot};
 ghost use Rattle.relay_model.specs.Holding.{Free};
@@ -8,6 +8,9 @@ ghost use Rattle.event_loop.specs.Courses.{Risen};
 ghost use Rattle.event_loop.specs.Headline.{StopCause, is_failure};
 ghost use Rattle.exit_status.specs.Statuses.{exit_code};
 ghost use Rattle.socat_top.specs.declared.written.Saving.TheVariants as savings;
+ghost use Rattle.port_trait.specs.Meanings.{Behind};
+ghost use Rattle.desk_ports.specs.Endings.{OnJoinedBack, handed};
+ghost use Rattle.desk_history.specs.Following.{Passed};
 ghost use Rattle.socat_top.specs.Kept.{history_of};
 ghost use Rattle.socat_top.specs.Headline.{Answers, CompletesTask, Leaves};
 ghost use Rattle.socat_top.specs.Tasks.{task};
@@ -58,6 +61,8 @@ where
     P: Poller + Drop,
     requires free { (p : Spot) → ⟦<Desk<M, P, I, O, E> as World>⟧.held desk p ≡ Free }
     requires untouched { desk.log.acted ≡ false }
+    requires given { IfSome desk.ports.harbor.input.port.gave (λ all. all ≡ []) }
+    requires taken { IfSome desk.ports.harbor.output.port.took (λ all. all ≡ []) }
     ensures asked { is_asked result.saving ≡ asks_for_journal words.now }
     ensures unasked { asks_for_journal words.now ≡ false → file.new ≡ file.old }
     ensures saved { result.saving ≡ savings.Saved → TookText (F.took file.old) (F.took file.new) (without_last_note result.shipped.kept.journal.acts) }
@@ -66,6 +71,9 @@ where
     ensures status { result.status ≡ status_with result.shipped.status result.saving }
     ensures run_status { result.shipped.status ≡ exit_code result.shipped.outcome }
     ensures headline { (before : History) → told_before (asks_for_journal words.now) (⟦<Desk<M, P, I, O, E> as World>⟧.told desk) ≡ Some before → Leaves (task (words_of_run words.now)) turns before (Some (history_of result.shipped.kept)) result.shipped.outcome }
+    ensures passed { (before : History) → told_before (asks_for_journal words.now) (⟦<Desk<M, P, I, O, E> as World>⟧.told desk) ≡ Some before → Passed (history_of result.shipped.kept) (I.gave (handed result.shipped.standard.stdin)) (O.took (handed result.shipped.standard.stdout)) }
+    ensures stdin_behind { OnJoinedBack (λ port. Behind (I.gave port) (I.took port) (I.behind_gave port) (I.behind_took port) (I.behind_left port) (I.behind_faults port) (I.ended port)) result.shipped.standard.stdin }
+    ensures stdout_behind { OnJoinedBack (λ port. Behind (O.gave port) (O.took port) (O.behind_gave port) (O.behind_took port) (O.behind_left port) (O.behind_faults port) (O.ended port)) result.shipped.standard.stdout }
     ensures answers { Answers (task (words_of_run words.now)) result.shipped.outcome }
     ensures complete { let w = ⟦<Desk<M, P, I, O, E> as World>⟧ in CompletesTask (task (words_of_run words.now)) turns (w.faults desk) result.shipped.counts.faults (w.waits desk) result.shipped.counts.waits (w.stops desk) result.shipped.counts.stops result.shipped.outcome }
     ensures failed { is_failure result.shipped.outcome ≡ true → Risen (⟦<Desk<M, P, I, O, E> as World>⟧.faults desk) result.shipped.counts.faults }

@@ -62,7 +62,9 @@ fn accept_at(
     let nodelay = door.nodelay;
     match door.accept_stream() {
         Arrival::Came(stream, peer) => stand(registry, stream, peer, nodelay, key),
-        Arrival::Aborted | Arrival::Starved | Arrival::Nobody => MadePeer::NoPeer,
+        Arrival::Aborted | Arrival::Starved | Arrival::LeftOff | Arrival::Nobody(_) => {
+            MadePeer::NoPeer
+        }
         Arrival::Failed => MadePeer::Failed,
     }
 }

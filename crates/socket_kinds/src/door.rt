@@ -1,10 +1,11 @@
 // Doors: sockets that listen for peers.
-ghost use Rattle.std.specs.Prelude.{◌≡◌, true, false, Some, IsTrue};
+ghost use Rattle.std.specs.Prelude.{◌≡◌, true, false, Some};
+ghost use Rattle.socket_kinds.specs.declared.door.Arrival.TheVariants as arrivals;
 ghost use Rattle.port_trait.specs.declared.answers.Settled.TheVariants as settles;
 ghost use Rattle.port_trait.specs.declared.answers.Got.TheVariants as reads;
 ghost use Rattle.port_trait.specs.declared.answers.Took.TheVariants as writes;
 ghost use Rattle.port_trait.specs.declared.answers.Shutting.TheVariants as shuts;
-ghost use Rattle.socket_kinds.specs.Doors.{door_hint, IsDeclined, IsNobody, IsOne};
+ghost use Rattle.socket_kinds.specs.Doors.{door_hint, has_left, IsDeclined, IsOne, OnlyBlocked};
 
 use crate::enrolled::EnrolledUdp;
 use crate::peers::peer_of;
@@ -37,21 +38,26 @@ pub(crate) enum Arrival {
     Aborted,
     /// It has to wait until a descriptor is free.
     Starved,
-    Nobody,
+    /// The accepting came to its end before the connections that may wait.
+    LeftOff,
+    /// Nobody waits, as the system said by this error.
+    Nobody(Error),
     Failed,
 }
 
 impl Listener {
     /// Accepts once. A socket of datagrams has no connections.
-    fn accept_one(&self) -> Arrival {
+    fn accept_one(&self) -> Arrival
+        ensures { OnlyBlocked result }
+    {
         match self {
             Listener::Tcp(listener) => match listener.accept() {
                 Ok((stream, addr)) => Arrival::Came(Stream::Tcp(stream), peer_of(addr)),
-                Err(error) => declined(&error),
+                Err(error) => declined(error),
             },
             Listener::Unix(listener) => match listener.accept() {
                 Ok((stream, _)) => Arrival::Came(Stream::Unix(stream), Peer::Local),
-                Err(error) => declined(&error),
+                Err(error) => declined(error),
             },
             Listener::Udp(_) | Listener::Packets(_) => Arrival::Failed,
         }
@@ -64,16 +70,17 @@ pub(crate) fn is_starved(error: &Error) -> bool {
 }
 
 /// Why the system gave no connection (accept(2), `EAGAIN` and `ECONNABORTED`).
-fn declined(error: &Error) -> Arrival
-    ensures { IsDeclined error.now result }
+fn declined(error: Error) -> Arrival
+    ensures kind { IsDeclined error result }
+    ensures blocked { OnlyBlocked result }
 {
     if error.kind() == ErrorKind::WouldBlock {
-        return Arrival::Nobody;
+        return Arrival::Nobody(error);
     }
     if error.kind() == ErrorKind::ConnectionAborted {
         return Arrival::Aborted;
     }
-    if is_starved(error) {
+    if is_starved(&error) {
         return Arrival::Starved;
     }
     Arrival::Failed
@@ -114,7 +121,8 @@ impl Door {
     /// that there may be more; so it does where no descriptor is free.
     pub(crate) fn accept_stream(&mut self) -> Arrival
         ensures one { IsOne result }
-        ensures left_off { IsTrue self.new → IsNobody result }
+        ensures left_off { self.new ≡ has_left result }
+        ensures blocked { OnlyBlocked result }
     {
         self.cut_short = false;
         for _ in 0..MOST_ABORTED {
@@ -123,15 +131,23 @@ impl Door {
                 Arrival::Aborted => {}
                 Arrival::Starved => {
                     self.starved = true;
-                    self.cut_short = true;
-                    return Arrival::Nobody;
+                    return self.leave_off();
                 }
-                Arrival::Nobody => return Arrival::Nobody,
+                Arrival::LeftOff => return self.leave_off(),
+                Arrival::Nobody(error) => return Arrival::Nobody(error),
                 Arrival::Failed => return Arrival::Failed,
             }
         }
+        self.leave_off()
+    }
+
+    /// Hints from now on that there may be more.
+    fn leave_off(&mut self) -> Arrival
+        ensures hints { self.new ≡ true }
+        ensures left { result ≡ arrivals.LeftOff }
+    {
         self.cut_short = true;
-        Arrival::Nobody
+        Arrival::LeftOff
     }
 }
 

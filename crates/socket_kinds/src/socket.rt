@@ -1,9 +1,9 @@
 // A socket, as the port over it calls it.
 ghost use Rattle.std.specs.Prelude.{◌≡◌, ◌<◌, List, ℕ, length, Option, None, is_some};
-ghost use Rattle.port_trait.specs.Meanings.{Gives, Accepts, AcceptsWhole};
+ghost use Rattle.port_trait.specs.Meanings.{Gives, Accepts, AcceptsWhole, noted};
 ghost use Rattle.port_trait.specs.declared.answers.Hint.{Hint};
 ghost use Rattle.relay_model.specs.declared.acts.Shut.{Shut};
-ghost use Rattle.socket_kinds.specs.Sockets.{noted, hint_told};
+ghost use Rattle.socket_kinds.specs.Sockets.{hint_told};
 
 use port_trait::{Got, Hint, Settled, Shutting, Took};
 use relay_model::Shut;

@@ -5,6 +5,6 @@ mod lookup;
 mod maker;
 mod making;
 
-pub use lookup::look_up;
+pub use lookup::{door_address, look_up};
 pub use maker::SocketMaker;
-pub use making::{connect_host, listen_socket, make_socket};
+pub use making::{bind_udp, connect_host, listen_socket, make_socket};

@@ -84,7 +84,7 @@ fn any_address(family: Family, port: u16) -> SocketAddr
 }
 
 /// Where a door listens: at this port of the `bind` address (socat(1), `bind`), or of every address.
-pub(crate) fn door_address(bind: Option<Bind>, family: Family, port: u16) -> Option<SocketAddr>
+pub fn door_address(bind: Option<Bind>, family: Family, port: u16) -> Option<SocketAddr>
     ensures { IfSome result (λ addr. socket_port addr ≡ port) }
 {
     let Some(bind) = bind else {

@@ -84,7 +84,8 @@ pub fn connect_host<R: Net>(
 }
 
 /// Listens at an address: TCP, UDP or a Unix socket. The registry reports the door under `key`. It answers `Failed`
-/// as `make_socket` does, and at `UDP-LISTEN` with `fork`, whose peers would take each other's datagrams; never `Later`.
+/// as `make_socket` does, and at `UDP-LISTEN` with `fork`, whose door and peers share a socket and are no ports of this
+/// crate's; never `Later`.
 pub fn listen_socket<R>(
     rt: R,
     alloc: Global,
@@ -233,8 +234,8 @@ fn datagrams(making: Making<DatagramSocket>) -> Making<AnySocket>
     }
 }
 
-/// A socket of datagrams whose calls don't wait.
-fn bind_udp<R: Net>(rt: &R, local: SocketAddr) -> Option<UdpSocket> {
+/// A socket of datagrams whose calls don't wait. None where the system refuses.
+pub fn bind_udp<R: Net>(rt: &R, local: SocketAddr) -> Option<UdpSocket> {
     let Ok(socket) = rt.bind_udp(local) else {
         return None;
     };

@@ -2,11 +2,11 @@
 ghost use Rattle.std.specs.Prelude.{◌≡◌, ◌<◌, ◌≤◌, ◌++◌, true, false, length, take, is_some, option_map};
 ghost use Rattle.port_trait.specs.Counting.{Tallied};
 ghost use Rattle.port_trait.specs.Hinting.{StaysHinting};
-ghost use Rattle.port_trait.specs.Meanings.{Gives, Accepts, AcceptsWhole, AcceptsAll, is_end, settle_event, read_event, write_event, shut_event};
+ghost use Rattle.port_trait.specs.Meanings.{Gives, Accepts, AcceptsWhole, AcceptsAll, is_end, settle_event, read_event, write_event, shut_event, noted};
 ghost use Rattle.port_trait.specs.declared.answers.Begun.TheVariants as begins;
 ghost use Rattle.port_trait.specs.declared.answers.PortReap.TheVariants as reaps;
 ghost use Rattle.port_trait.specs.declared.answers.Joining.TheVariants as joining;
-ghost use Rattle.socket_kinds.specs.Sockets.{noted, hint_told};
+ghost use Rattle.socket_kinds.specs.Sockets.{hint_told};
 ghost use Rattle.socket_ports.specs.Sockets.{fresh_port, counted};
 
 use port_trait::{Begun, Counts, Got, Hint, Joining, Port, PortReap, Settled, Shutting, Took};
@@ -58,6 +58,8 @@ impl<S: Socket, G: Drop> Port for SocketPort<S, G> {
     ghost gave = { λ port. S.gave port.socket };
 
     ghost took = { λ port. S.took port.socket };
+
+    ghost shuts = { λ port. S.shuts port.socket };
 
     ghost hints = { λ port. S.hints port.socket };
 

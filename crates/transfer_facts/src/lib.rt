@@ -8,4 +8,4 @@ mod owings;
 mod transfers;
 
 pub use ledger::Ledger;
-pub use transfers::{backlog, due_after, is_spent, over, room};
+pub use transfers::{backlog, due_after, greatest_read, is_spent, over};

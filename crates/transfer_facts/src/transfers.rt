@@ -3,7 +3,7 @@ ghost use Rattle.std.specs.Prelude.{◌≡◌, ℕ, List, length};
 ghost use Rattle.relay_model.specs.Conversions.{is_used_up, is_over, at_most_left, read_size, packet_cap, packet_size};
 ghost use Rattle.relay_model.specs.Configs.{input, options_of};
 ghost use Rattle.relay_model.specs.History.{got};
-ghost use Rattle.relay_model.specs.Transfers.{due, over, backlog, room, is_spent};
+ghost use Rattle.relay_model.specs.Transfers.{due, over, backlog, greatest_read, is_spent};
 
 use crate::ledger::Ledger;
 use crate::owings::due_number;
@@ -89,8 +89,8 @@ fn packet_size(block: u32, cap: u64, readbytes: Option<u64>, count: usize, backl
 }
 
 /// How many bytes the next read asks for at most.
-pub fn room(past: &Ledger, session: u32, way: Way) -> u64
-    ensures { result ≡ room past.now.config past.now.acts session way }
+pub fn greatest_read(past: &Ledger, session: u32, way: Way) -> u64
+    ensures { result ≡ greatest_read past.now.config past.now.acts session way }
 {
     let facts = past.facts();
     let config = facts.config();

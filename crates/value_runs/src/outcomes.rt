@@ -115,7 +115,6 @@ fn plain_refusal(word: &str) -> Result<Refusal, RowFault> {
         "left-out-kind" => Ok(Refusal::LeftOutKind),
         "unknown-kind" => Ok(Refusal::UnknownKind),
         "no-direction" => Ok(Refusal::NoDirection),
-        "not-built" => Ok(Refusal::NotBuilt),
         _ => Err(RowFault::NoRow),
     }
 }

@@ -15,6 +15,7 @@ returns-then-admitted-before g c = (
     heard = λ n past f. c.heard.ensures c.args.config.now n past f.stands f.wished f.legal f.at_is;
     apart = λ n past f s below. next_apart c.args.config.now past s c.args.place (acts.Accepted c.args.place c.in-Accepted.peer) f.wished.0 below (λ p. refl);
     untimed = refl;
+    unread = refl;
     no_turn = record { turns_same = λ past. refl; stops_same = λ past. refl };
     rose = c.in-Accepted.ensures.cause;
     blameless = λ e past. refl;
@@ -39,6 +40,7 @@ returns-else-admitted-before g c = (
     heard = λ n past f. c.heard.ensures c.args.config.now n past f.stands f.wished f.legal f.at_is;
     apart = λ n past f s below. next_apart c.args.config.now past s c.args.place (acts.Accepted c.args.place c.in-Accepted.peer) f.wished.0 below (λ p. refl);
     untimed = refl;
+    unread = refl;
     no_turn = record { turns_same = λ past. refl; stops_same = λ past. refl };
     rose = c.in-Accepted.ensures.cause;
     blameless = λ e past. refl;
@@ -64,6 +66,7 @@ returns-in-NoPeer g c = (
     heard = λ n past f. c.heard-in-NoPeer.ensures c.args.config.now n past f.stands f.wished f.legal f.at_is;
     apart = λ n past f s below. door_apart c.args.config.now s (acts.NoPeer program_door) f.stands.fork (λ p. refl);
     untimed = refl;
+    unread = refl;
     no_turn = record { turns_same = λ past. refl; stops_same = λ past. refl };
     rose = c.in-NoPeer.ensures.cause;
     blameless = λ e past. refl;

@@ -16,6 +16,7 @@ returns g c = (
     heard = λ n past f. heard_as c.args.config.now n past c.args.wish answers.Closed _ _ _ c.requires.act (c.heard.ensures c.args.config.now n past f.stands f.wished f.legal f.at_is);
     apart = λ n past f. (closing c.args.config.now past c.args.wish _ f.stands.fork f.wished c.requires.act).apart;
     untimed = refl;
+    unread = refl;
     no_turn = record { turns_same = λ past. refl; stops_same = λ past. refl };
     rose = record { later = c.close.ensures.faults; rose = λ e. absurd (false≢true e) };
     blameless = λ e past. refl;

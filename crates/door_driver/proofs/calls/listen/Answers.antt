@@ -16,6 +16,7 @@ returns-in-Listening g c = (
     heard = λ n past f. c.heard.ensures c.args.config.now n past f.stands f.wished f.legal f.at_is;
     apart = λ n past f s below. door_apart c.args.config.now s (acts.Listening program_door) f.stands.fork (λ p. refl);
     untimed = refl;
+    unread = refl;
     no_turn = record { turns_same = λ past. refl; stops_same = λ past. refl };
     rose = c.in-Listening.ensures.cause;
     blameless = λ e past. refl;
@@ -35,6 +36,7 @@ returns-in-Failed g c = (
     heard = λ n past f. c.heard-in-Failed.ensures c.args.config.now n past f.stands f.wished f.legal f.at_is;
     apart = λ n past f s below. door_apart c.args.config.now s (acts.ListenFailed program_door) f.stands.fork (λ p. refl);
     untimed = refl;
+    unread = refl;
     no_turn = record { turns_same = λ past. refl; stops_same = λ past. refl };
     rose = c.in-Failed.ensures.cause;
     blameless = λ e past. absurd (true≢false e);

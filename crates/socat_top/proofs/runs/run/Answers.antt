@@ -2,10 +2,18 @@ use Rattle.std.proofs.Common.{◌≡◌, true, is_some, Option, subst, refl, ◌
 use Rattle.relay_model.specs.Journals.{History}
 use Rattle.socat_top.specs.Headline.{Leaves}
 use Rattle.socat_top.specs.Tasks.{task}
+use Rattle.socat_top.proofs.Passing.{ends_still, passed_at}
 use Rattle.socat_top.proofs.runs.run.Goals as goal
 
 pub returns-clause-headline : goal.returns-clause-headline
 returns-clause-headline g c = λ before told.
-    let told_on : is_some c.socat-outcome.new.world.log.recording.told ≡ true = c.socat-outcome.ensures.tells ∙ rw told refl in
+    let told_on : is_some c.into_desk.result.log.recording.told ≡ true = rw c.into_desk.ensures.desk (c.socat-outcome.ensures.tells ∙ rw (c.new-followed.ensures, told) refl) in
     let P : Option History → Type 0 = λ t. Leaves (task c.args.words.now) c.args.turns before t c.socat-outcome.result in
-    subst P (c.end-standard.ensures.kept told_on) (c.socat-outcome.ensures.headline before told)
+    subst P (c.end-standard.ensures.kept told_on) (rw c.into_desk.ensures.desk (c.socat-outcome.ensures.headline before (rw c.new-followed.ensures told)))
+
+pub returns-clause-passed : goal.returns-clause-passed
+returns-clause-passed g c = λ before told.
+    let told_on : is_some c.into_desk.result.log.recording.told ≡ true = rw c.into_desk.ensures.desk (c.socat-outcome.ensures.tells ∙ rw (c.new-followed.ensures, told) refl) in
+    let input = ends_still _ c.into_desk.result.ports.harbor.input.port _ _ c.end-standard.ensures.stdin in
+    let output = ends_still _ c.into_desk.result.ports.harbor.output.port _ _ c.end-standard.ensures.stdout in
+    passed_at c.into_desk.result.log.recording.told _ _ _ _ _ (c.end-standard.ensures.kept told_on) c.into_desk.ensures.passed input.0 output.1

@@ -1,4 +1,4 @@
-use Rattle.std.proofs.Common.{◌≡◌, Some, subst, sym, ◌∙◌}
+use Rattle.std.proofs.Common.{◌≡◌, [], Some, IfSome, subst, sym, ◌∙◌}
 use Rattle.relay_model.specs.declared.places.Place.{Place}
 use Rattle.relay_model.specs.Holding.{Free}
 use Rattle.desk_places.specs.Stations.{StationTable, hold_at}
@@ -11,9 +11,22 @@ keep-requires-clause-free g c = no_station c.args.desk.log.stations.entries c.re
 pub run-shipped-requires : goal.run-shipped-requires
 run-shipped-requires g c =
     let P : StationTable → Type 0 = λ stations. (p : Place) → hold_at stations.entries p ≡ Free in
-    record { free = subst P (sym c.keep.ensures.stations) c.requires.free }
+    record {
+      free = subst P (sym c.keep.ensures.stations) c.requires.free;
+      untouched = c.keep.ensures.untouched;
+      given = rw c.keep.ensures.ports c.requires.given;
+      taken = rw c.keep.ensures.ports c.requires.taken;
+    }
 
 pub returns-clause-headline : goal.returns-clause-headline
 returns-clause-headline g c = λ before told.
     let begun : c.keep.new.self.log.recording.told ≡ Some before = c.keep.ensures.told ∙ (rw c.in-Some.ensures.0 at told) in
     rw (c.with_saving-2.ensures, c.in-Some.ensures.1) (c.run-shipped.ensures.headline before begun)
+
+pub returns-clause-passed : goal.returns-clause-passed
+returns-clause-passed g c = λ before told.
+    let begun : c.keep.new.self.log.recording.told ≡ Some before = c.keep.ensures.told ∙ (rw c.in-Some.ensures.0 at told) in
+    rw c.with_saving-2.ensures (c.run-shipped.ensures.passed before begun)
+
+pub returns-in_default-clause-passed : goal.returns-in_default-clause-passed
+returns-in_default-clause-passed g c = λ before told. rw c.with_saving.ensures (c.run.ensures.passed before (rw c.in_default.ensures.0 at told))

@@ -1,3 +1,4 @@
+use Rattle.desk_places.proofs.BaseLemmas.{same_bases}
 use Rattle.std.proofs.Common.{Some, ap, refl, ◌∙◌}
 use Rattle.relay_model.specs.Holding.{is_free}
 use Rattle.desk_places.proofs.PortLemmas.{welcomed}
@@ -29,3 +30,9 @@ returns-in-Failed-clause-sound g c = λ sound.
 pub returns-in-Memory-clause-sound : goal.returns-in-Memory-clause-sound
 returns-in-Memory-clause-sound g c = λ sound.
     sound_on c.args.stations.now.entries c.args.stations.now.entries c.args.self.now.harbor.made c.accept_at.new.harbor.made (λ p. refl) (call_stays c.args.self.now.harbor.made c.accept_at.new.harbor.made c.in-Some.door_key _ (λ o n call. call.hinting) c.accept_at.ensures.door) sound
+
+pub returns-in-NoPeer-clause-bases : goal.returns-in-NoPeer-clause-bases
+returns-in-NoPeer-clause-bases g c = same_bases c.args.stations.now.entries c.mark.new.self.entries c.mark.ensures.footing
+
+pub returns-in-Failed-clause-bases : goal.returns-in-Failed-clause-bases
+returns-in-Failed-clause-bases g c = same_bases c.args.stations.now.entries c.mark-in-Failed.new.self.entries c.mark-in-Failed.ensures.footing

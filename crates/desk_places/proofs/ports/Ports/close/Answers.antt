@@ -7,3 +7,6 @@ leave-requires-clause-based g c = found_base c.args.stations.now.entries c.args.
 
 pub returns-clause-held : goal.returns-clause-held
 returns-clause-held g c = c.leave.ensures.held
+
+pub returns-clause-bases : goal.returns-clause-bases
+returns-clause-bases g c = c.leave.ensures.bases

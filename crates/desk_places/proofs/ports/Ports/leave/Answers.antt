@@ -1,3 +1,4 @@
+use Rattle.desk_places.proofs.BaseLemmas.{leaves_here}
 use Rattle.std.proofs.Common.{◌≡◌, ◌∙◌, None, Some, ap, sym}
 use Rattle.desk_places.proofs.PortLemmas.{based_some, key_made, let_go_gone, let_go_others, none_made, not_made}
 use Rattle.desk_places.proofs.SoundLemmas.{sound_fewer, sound_let_go}
@@ -32,3 +33,9 @@ returns-in-Some-clause-fewer g c = c.remove.ensures.fewer (based_some c.args.sta
 
 pub returns-in-Some-clause-standard : goal.returns-in-Some-clause-standard
 returns-in-Some-clause-standard g c = λ none. absurd (let e : Some c.in-Some.key ≡ None = sym (sym c.made_key.ensures ∙ c.in-Some.is) ∙ none in cc)
+
+pub returns-in-None-clause-bases : goal.returns-in-None-clause-bases
+returns-in-None-clause-bases g c = leaves_here c.args.stations.now.entries c.remove.new.self.entries c.args.place c.remove.ensures.set
+
+pub returns-in-Some-clause-bases : goal.returns-in-Some-clause-bases
+returns-in-Some-clause-bases g c = leaves_here c.args.stations.now.entries c.remove.new.self.entries c.args.place c.remove.ensures.set

@@ -1,3 +1,6 @@
+use Rattle.std.proofs.Common.{Some}
+use Rattle.desk_places.specs.Bases.{is_made}
+use Rattle.desk_places.proofs.BaseLemmas.{comes_made}
 use Rattle.std.proofs.Common.{◌∙◌, sym}
 use Rattle.std.proofs.Common.{ap}
 use Rattle.desk_places.specs.declared.stations.Station.{Station}
@@ -32,3 +35,13 @@ returns-clause-sound g c = λ sound.
     (ap (λ (s : Station). s.asked) c.open.ensures ∙ c.may_hint-asked.ensures)
     c.begin.ensures.hinting.told
     c.add-2.ensures.set c.moor.ensures.vacant c.moor.ensures.made sound
+
+pub returns-then-settling-clause-bases : goal.returns-then-settling-clause-bases
+returns-then-settling-clause-bases g c =
+    let comes = comes_made c.args.stations.now.entries c.add.new.self.entries c.settling.result (ap (λ (s : Station). is_made (Some s.base)) c.settling.ensures) c.add.ensures.set in
+    rw c.settling.ensures at comes
+
+pub returns-clause-bases : goal.returns-clause-bases
+returns-clause-bases g c =
+    let comes = comes_made c.args.stations.now.entries c.add-2.new.self.entries c.open.result (ap (λ (s : Station). is_made (Some s.base)) c.open.ensures) c.add-2.ensures.set in
+    rw c.open.ensures at comes

@@ -1,3 +1,4 @@
+use Rattle.desk_places.proofs.BaseLemmas.{comes_standard}
 use Rattle.std.proofs.Common.{ap, refl}
 use Rattle.desk_places.specs.declared.stations.Station.{Station}
 use Rattle.desk_ports.specs.Bases.{IsStandard}
@@ -18,3 +19,8 @@ returns-in-Begun-clause-held g c = rw c.open.ensures at c.add.ensures.held
 
 pub returns-in-Failed-clause-cause : goal.returns-in-Failed-clause-cause
 returns-in-Failed-clause-cause g c = c.begin.ensures.failed c.in-Failed.is
+
+pub returns-in-Begun-clause-bases : goal.returns-in-Begun-clause-bases
+returns-in-Begun-clause-bases g c =
+    let comes = comes_standard c.args.stations.now.entries c.add.new.self.entries c.open.result c.add.ensures.set in
+    rw c.open.ensures at comes

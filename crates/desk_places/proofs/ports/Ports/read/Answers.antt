@@ -1,3 +1,4 @@
+use Rattle.desk_places.proofs.BaseLemmas.{same_bases}
 use Rattle.std.proofs.Common.{Bool, option_map, subst}
 use Rattle.relay_model.specs.declared.places.Half.TheVariants.{ToRead}
 use Rattle.desk_ports.specs.Harbors.{giving_pier}
@@ -33,3 +34,6 @@ returns-clause-sound g c = λ sound.
     sound_on c.args.stations.now.entries c.mark.new.self.entries c.args.self.now.harbor.made c.read-got.new.self.made c.mark.ensures.footing
     (pier_stays (giving_pier c.held-station.result.base) c.args.self.now.harbor.made c.read-got.new.self.made _ (λ o n call. call.hinting) c.read-got.ensures.made)
     sound
+
+pub returns-clause-bases : goal.returns-clause-bases
+returns-clause-bases g c = same_bases c.args.stations.now.entries c.mark.new.self.entries c.mark.ensures.footing

@@ -1,3 +1,4 @@
+use Rattle.desk_places.proofs.BaseLemmas.{same_bases}
 use Rattle.desk_places.proofs.PortLemmas.{at_base, on_another, settle_left}
 use Rattle.std.proofs.Common.{Some, ◌∙◌}
 use Rattle.std.proofs.Common.{ap, arith, refl}
@@ -52,3 +53,12 @@ returns-in-Failed-clause-made g c =
     (settle_left c.held-station.result.base c.args.self.now.harbor.made c.settle.new.self.made c.leave.new.self.harbor.made c.in-Failed.ensures.made c.leave.ensures.standard
     (λ key is. c.leave.ensures.gone key (based ∙ ap Some is))
     (λ key is other away. c.leave.ensures.others other (on_another c.args.stations.now.entries c.args.place c.held-station.result.base key other based is away)))
+
+pub returns-in-Ready-clause-bases : goal.returns-in-Ready-clause-bases
+returns-in-Ready-clause-bases g c = same_bases c.args.stations.now.entries c.replace.new.self.entries c.replace.ensures.footing
+
+pub returns-in-NotYet-clause-bases : goal.returns-in-NotYet-clause-bases
+returns-in-NotYet-clause-bases g c = same_bases c.args.stations.now.entries c.replace-in-NotYet.new.self.entries c.replace-in-NotYet.ensures.footing
+
+pub returns-in-Failed-clause-bases : goal.returns-in-Failed-clause-bases
+returns-in-Failed-clause-bases g c = c.leave.ensures.bases

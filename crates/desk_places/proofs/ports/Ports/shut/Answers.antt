@@ -1,3 +1,4 @@
+use Rattle.desk_places.proofs.BaseLemmas.{same_bases}
 use Rattle.desk_places.proofs.PortLemmas.{set_as}
 use Rattle.desk_places.specs.Stations.{shut_down}
 use Rattle.port_trait.specs.Streams.{finishes}
@@ -43,3 +44,6 @@ pub returns-clause-station : goal.returns-clause-station
 returns-clause-station g c =
     let sets = rw c.is_final.ensures at c.replace.ensures.set in
     set_as c.args.stations.now.entries c.replace.new.self.entries c.args.place c.held-station.result _ (shut_down (finishes c.args.how)) c.held-station.ensures (ap (λ (q : Place). record (shut_down (finishes c.args.how) c.held-station.result) { place = q }) (sym (found_place c.args.stations.now.entries c.args.place c.held-station.result c.held-station.ensures))) refl sets
+
+pub returns-clause-bases : goal.returns-clause-bases
+returns-clause-bases g c = same_bases c.args.stations.now.entries c.replace.new.self.entries c.replace.ensures.footing

@@ -1,3 +1,4 @@
+use Rattle.desk_places.proofs.BaseLemmas.{same_bases}
 use Rattle.std.proofs.Common.{Bool, option_map, subst, ap}
 use Rattle.relay_model.specs.declared.places.Half.TheVariants.{ToWrite}
 use Rattle.relay_model.specs.Holding.{is_free}
@@ -33,3 +34,6 @@ returns-clause-sound g c = λ sound.
     sound_on c.args.stations.now.entries c.mark.new.self.entries c.args.self.now.harbor.made c.write-took.new.self.made c.mark.ensures.footing
     (pier_stays (taking_pier c.held-station.result.base) c.args.self.now.harbor.made c.write-took.new.self.made _ (λ o n call. call.hinting) c.write-took.ensures.made)
     sound
+
+pub returns-clause-bases : goal.returns-clause-bases
+returns-clause-bases g c = same_bases c.args.stations.now.entries c.mark.new.self.entries c.mark.ensures.footing

@@ -1,12 +1,17 @@
-use Rattle.std.proofs.Common.{refl, sym}
+use Rattle.std.proofs.Common.{refl, sym, subst}
+use Rattle.fork_loop.specs.Rows.{SleepsIfLate}
 use Rattle.fork_loop.proofs.Spreading.{row_cut}
 use Rattle.fork_loop.proofs.crews.Crew.cut_row.Goals as goal
 
+pub rouse-requires : goal.rouse-requires
+rouse-requires g c = subst (SleepsIfLate c.args.self.now.made) (sym c.in-Some.ensures.value) c.requires
+
 pub returns-in-Some : goal.returns-in-Some
 returns-in-Some g c =
-    let ch = c.in-Some.ensures.changes c.cut.new.self in
+    let ch = c.in-Some.ensures.changes _ in
     record {
-      row = row_cut c.args.why c.args.number _ _ c.in-Some.session.now c.cut.new.self (sym c.in-Some.ensures.value) ch.row c.cut.ensures.early c.cut.ensures.ending;
+      row = row_cut c.args.self.now.made c.args.self.now.clock c.args.why c.args.number _ _ c.in-Some.row.now c.rouse.new.row _ (sym c.in-Some.ensures.value) ch.row c.rouse.ensures refl c.cut.ensures.early c.cut.ensures.ending refl;
       others = ch.others;
       same = record { door_same = refl; unborn_same = refl; clock_same = refl; made_same = refl; admitted_same = ch.admitted; bounds_same = ch.bounds };
+      lists = record { work_same = refl; timers_same = refl };
     }

@@ -1,17 +1,26 @@
+use Rattle.std.proofs.Common.{sym, subst, ℕ, arith}
+use Rattle.fork_loop.specs.Rows.{SleepsIfLate}
 use Rattle.fork_loop.specs.Endings.{CutRow}
-use Rattle.fork_loop.proofs.RowRuns.{rest_itself, rest_then}
+use Rattle.fork_table.specs.Tables.{row_of}
+use Rattle.fork_loop.proofs.RowRuns.{rest_itself, rest_then, lists_itself, lists_then}
 use Rattle.fork_loop.proofs.Loops.{rows_first, rows_next}
 use Rattle.fork_loop.proofs.Spreading.{cut_none}
 use Rattle.fork_loop.proofs.crews.Crew.cut_rows.Goals as goal
 
 pub loop-next-init : goal.loop-next-init
-loop-next-init g c = record { rows = rows_first (CutRow c.args.why) (cut_none c.args.why) c.args.self.now _ c.first_from-next.ensures; same = rest_itself c.args.self.now }
+loop-next-init g c = record { rows = rows_first (CutRow c.args.self.now.made c.args.self.now.clock c.args.why) (cut_none c.args.self.now.made c.args.self.now.clock c.args.why) c.args.self.now _ c.first_from-next.ensures; same = rest_itself c.args.self.now; lists = lists_itself c.args.self.now }
+
+pub cut_row-requires : goal.cut_row-requires
+cut_row-requires g c =
+    let r = rw c.in-Some.is at c.loop-next.invariant.rows in
+    subst (λ (m : ℕ). SleepsIfLate m (row_of c.loop-next.self.table c.in-Some.number)) (sym c.loop-next.invariant.same.made_same) (subst (SleepsIfLate c.args.self.now.made) (sym (r.1 c.in-Some.number (omega arith))) (c.requires c.in-Some.number))
 
 pub loop-next-preserved : goal.loop-next-preserved
 loop-next-preserved g c = record {
-  rows = rows_next (CutRow c.args.why) (cut_none c.args.why) c.in-Some.number c.args.self.now c.loop-next.self _ _ (rw c.in-Some.is at c.loop-next.invariant.rows) c.cut_row.ensures.row c.cut_row.ensures.others c.next_after-next.ensures;
+  rows = rows_next (CutRow c.args.self.now.made c.args.self.now.clock c.args.why) (cut_none c.args.self.now.made c.args.self.now.clock c.args.why) c.in-Some.number c.args.self.now c.loop-next.self _ _ (rw c.in-Some.is at c.loop-next.invariant.rows) (rw (c.loop-next.invariant.same.made_same, c.loop-next.invariant.same.clock_same) at c.cut_row.ensures.row) c.cut_row.ensures.others c.next_after-next.ensures;
   same = rest_then c.args.self.now c.loop-next.self _ c.loop-next.invariant.same c.cut_row.ensures.same;
+  lists = lists_then c.args.self.now c.loop-next.self _ c.loop-next.invariant.lists c.cut_row.ensures.lists;
 }
 
 pub returns : goal.returns
-returns g c = record { rows = rw c.in_default.is at c.loop-next.invariant.rows; same = c.loop-next.invariant.same }
+returns g c = record { rows = rw c.in_default.is at c.loop-next.invariant.rows; same = c.loop-next.invariant.same; lists = c.loop-next.invariant.lists }

@@ -8,10 +8,10 @@ pub turn-requires-clause-course : goal.turn-requires-clause-course
 turn-requires-clause-course g c = within_on c.args.config.now c.args.turns _ _ c.args.self.now _ c.requires.course c.loop-end.invariant
 
 pub returns-in-Some : goal.returns-in-Some
-returns-in-Some g c = λ start past on. let o = c.loop-end.invariant start past on in c.in-Some.ensures.0 start o.past o.course
+returns-in-Some g c = λ start past on. let o = c.loop-end.invariant start past on in c.in-Some.ensures.turns.0 start o.past o.course
 
 pub loop-end-preserved : goal.loop-end-preserved
-loop-end-preserved g c = λ start past on. let o = c.loop-end.invariant start past on in c.in_default.ensures.0 start o.past o.course
+loop-end-preserved g c = λ start past on. let o = c.loop-end.invariant start past on in c.in_default.ensures.turns.0 start o.past o.course
 
 pub loop-end-smaller : goal.loop-end-smaller
-loop-end-smaller g c = fewer_left c.args.turns c.loop-end.self.made _ c.in_default.ensures.1
+loop-end-smaller g c = fewer_left c.args.turns c.loop-end.self.made _ c.in_default.ensures.turns.1

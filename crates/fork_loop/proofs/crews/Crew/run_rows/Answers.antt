@@ -1,19 +1,44 @@
-use Rattle.fork_loop.proofs.Loops.{keeps_all, kept_on, keeps_then, from_first, up_to_next}
-use Rattle.fork_loop.proofs.RowRuns.{rest_then, rest_itself}
+use Rattle.std.proofs.Common.{arith}
+use Rattle.fork_loop.proofs.Loops.{keeps_all, kept_on}
+use Rattle.fork_loop.proofs.RowRuns.{rest_then, rest_itself, some_taken, taken_at, keeps_run, keeps_none, fewer_works, one_fewer, one_run}
 use Rattle.fork_loop.proofs.crews.Crew.run_rows.Goals as goal
 
-pub loop-next-init : goal.loop-next-init
-loop-next-init g c = record { keeps = keeps_all c.args.config.now _ c.args.self.now; asleep = from_first c.args.self.now _ c.first_from-next.ensures; same = rest_itself c.args.self.now }
+pub loop-number-init : goal.loop-number-init
+loop-number-init g c = record { keeps = keeps_all c.args.config.now _ c.args.self.now; same = rest_itself c.args.self.now; looks = omega arith }
 
-pub run_row-requires-clause-course : goal.run_row-requires-clause-course
-run_row-requires-clause-course g c = kept_on c.args.config.now _ _ c.args.self.now _ c.requires c.loop-next.invariant.keeps
+pub run_row-requires : goal.run_row-requires
+run_row-requires g c = record { course = some_taken c.args.config.now _ c.in-Some.number c.loop-number.self c.take_work.new.self (kept_on c.args.config.now _ _ c.args.self.now c.loop-number.self c.requires c.loop-number.invariant.keeps) c.in-Some.ensures }
 
-pub returns-in-Some-run_row : goal.returns-in-Some-run_row
-returns-in-Some-run_row g c = λ n start past on. let a = c.loop-next.invariant.keeps n start past on in record { t = c.in-Some.number; spreads = c.in-Some-run_row.ensures.0 n start a.past a.course }
+pub returns-in-Some-run_row-clause-runs : goal.returns-in-Some-run_row-clause-runs
+returns-in-Some-run_row-clause-runs g c = λ n start past on.
+    let a = c.loop-number.invariant.keeps n start past on in
+    c.in-Some-run_row.ensures.runs n start a.past (taken_at c.args.config.now n start _ a.past c.in-Some.number c.loop-number.self c.take_work.new.self a.course c.in-Some.ensures)
 
-pub loop-next-preserved : goal.loop-next-preserved
-loop-next-preserved g c = record {
-  keeps = keeps_then c.args.config.now _ _ _ c.args.self.now c.loop-next.self _ c.loop-next.invariant.keeps c.in_default-run_row.ensures.0;
-  asleep = up_to_next c.in-Some.number c.loop-next.self _ _ (rw c.in-Some.is at c.loop-next.invariant.asleep).1 c.in_default-run_row.ensures.1 c.in_default-run_row.ensures.2 c.next_after-next.ensures;
-  same = rest_then c.args.self.now c.loop-next.self _ c.loop-next.invariant.same c.in_default-run_row.ensures.3;
+pub loop-number-preserved : goal.loop-number-preserved
+loop-number-preserved g c = record {
+  keeps = keeps_run c.args.config.now _ _ _ c.in-Some.number c.args.self.now c.loop-number.self c.take_work.new.self c.run_row.new.self c.loop-number.invariant.keeps c.in-Some.ensures c.in_default-run_row.ensures.runs;
+  same = rest_then c.args.self.now c.take_work.new.self c.run_row.new.self (rest_then c.args.self.now c.loop-number.self c.take_work.new.self c.loop-number.invariant.same c.in-Some.ensures.same) c.run_row.ensures.rest;
+  looks = one_run c.in-Some.number c.loop-number.self c.take_work.new.self c.run_row.new.self _ _ _ _ c.in-Some.ensures c.in_default-run_row.ensures.runs.1 c.run_row.ensures.looks c.loop-number.invariant.looks;
 }
+
+pub loop-number-smaller : goal.loop-number-smaller
+loop-number-smaller g c = fewer_works c.in-Some.number c.loop-number.self c.take_work.new.self c.run_row.new.self c.in-Some.ensures c.in_default-run_row.ensures.runs.1
+
+pub returns-clause-runs : goal.returns-clause-runs
+returns-clause-runs g c = (
+  keeps_none c.args.config.now _ _ c.args.self.now c.loop-number.self c.take_work.new.self c.loop-number.invariant.keeps c.in_default.ensures,
+  c.in_default.ensures.idle,
+  rest_then c.args.self.now c.loop-number.self c.take_work.new.self c.loop-number.invariant.same c.in_default.ensures.same,
+)
+
+pub returns-clause-rest : goal.returns-clause-rest
+returns-clause-rest g c = rest_then c.args.self.now c.loop-number.self c.take_work.new.self c.loop-number.invariant.same c.in_default.ensures.same
+
+pub returns-in-Some-run_row-clause-rest : goal.returns-in-Some-run_row-clause-rest
+returns-in-Some-run_row-clause-rest g c = rest_then c.args.self.now c.take_work.new.self c.run_row.new.self (rest_then c.args.self.now c.loop-number.self c.take_work.new.self c.loop-number.invariant.same c.in-Some.ensures.same) c.run_row.ensures.rest
+
+pub returns-clause-looks : goal.returns-clause-looks
+returns-clause-looks g c = (let l = c.loop-number.invariant.looks in omega (arith, l))
+
+pub returns-in-Some-run_row-clause-looks : goal.returns-in-Some-run_row-clause-looks
+returns-in-Some-run_row-clause-looks g c = (let l = c.loop-number.invariant.looks in let m = one_fewer c.in-Some.number c.loop-number.self c.take_work.new.self c.in-Some.ensures in let n = c.run_row.ensures.looks in omega (arith, l, m, n))

@@ -1,45 +1,72 @@
+use Rattle.fork_loop.proofs.Looking.{looks_run, looks_after, looks_then, looks_more}
 use Rattle.std.proofs.Common.{inl, inr, arith, ◌∙◌}
 use Rattle.fork_loop.proofs.Loops.{kept_on}
-use Rattle.fork_loop.proofs.DoorSteps.{spread_ends}
-use Rattle.fork_loop.proofs.InOrder.{further_then}
+use Rattle.fork_loop.proofs.InOrder.{further_then, door_waits, door_over}
 use Rattle.fork_loop.proofs.crews.Crew.turn.Goals as goal
 
-pub returns-in-Some : goal.returns-in-Some
-returns-in-Some g c = (λ start past on. let s = c.in-Some.ensures c.args.turns start past on in spread_ends c.args.config.now c.args.turns start _ s.t c.in-Some.why _ s.spreads, tt)
+pub returns-in-Some-clause-turns : goal.returns-in-Some-clause-turns
+returns-in-Some-clause-turns g c = (λ start past on. c.in-Some.ensures.runs c.args.turns start past on, tt)
 
 pub ask_door-requires-clause-course : goal.ask_door-requires-clause-course
-ask_door-requires-clause-course g c = kept_on c.args.config.now _ _ c.args.self.now _ c.requires.course c.in_default.ensures.0
+ask_door-requires-clause-course g c = kept_on c.args.config.now _ _ c.args.self.now _ c.requires.course c.in_default.ensures.runs.0
 
-pub returns-in-Waits : goal.returns-in-Waits
-returns-in-Waits g c = (
+pub wait_for-requires-clause-course : goal.wait_for-requires-clause-course
+wait_for-requires-clause-course g c = door_waits c.args.config.now _ _ _ c.args.self.now c.run_rows.new.self _ c.in-Waits.first c.requires.course c.in_default.ensures.runs.0 c.in-Waits.ensures.asks.0
+
+pub wait_for-requires-clause-idle : goal.wait_for-requires-clause-idle
+wait_for-requires-clause-idle g c = c.in-Waits.ensures.asks.1
+
+pub wait_for-requires-in-Some-first_from-clause-course : goal.wait_for-requires-in-Some-first_from-clause-course
+wait_for-requires-in-Some-first_from-clause-course g c = door_over c.args.config.now _ _ _ c.args.self.now c.run_rows.new.self _ c.requires.course c.in_default.ensures.runs.0 c.in-Over.ensures.asks.0
+
+pub wait_for-requires-in-Some-first_from-clause-idle : goal.wait_for-requires-in-Some-first_from-clause-idle
+wait_for-requires-in-Some-first_from-clause-idle g c = c.in-Over.ensures.asks.1
+
+pub returns-in-Waits-clause-turns : goal.returns-in-Waits-clause-turns
+returns-in-Waits-clause-turns g c = (
   λ start past on.
-      let o = c.in_default.ensures.0 c.args.turns start past on in
-      let w = c.in-Waits.ensures.0 c.args.turns start o.past o.course in
-      c.wait_for.ensures.0 start w.past w.course (record { door = w.wished.0; remains = inl w.wished.1 }),
-  further_then c.args.turns c.args.self.now c.ask_door.new.self c.wait_for.new.self _ (c.in-Waits.ensures.2 ∙ c.in_default.ensures.2.made_same) c.wait_for.ensures.1,
+      let o = c.in_default.ensures.runs.0 c.args.turns start past on in
+      let w = c.in-Waits.ensures.asks.0 c.args.turns start o.past o.course in
+      c.wait_for.ensures.waits.0 start w.past w.course (record { door = w.wished.0; remains = inl w.wished.1 }),
+  further_then c.args.turns c.args.self.now c.ask_door.new.self c.wait_for.new.self _ (c.in-Waits.ensures.asks.2 ∙ c.in_default.ensures.runs.2.made_same) c.wait_for.ensures.waits.1,
 )
 
-pub returns-in-Some-first_from : goal.returns-in-Some-first_from
-returns-in-Some-first_from g c = (
+pub returns-in-Some-first_from-clause-turns : goal.returns-in-Some-first_from-clause-turns
+returns-in-Some-first_from-clause-turns g c = (
   λ start past on.
-      let o = c.in_default.ensures.0 c.args.turns start past on in
-      let w = c.in-Over.ensures.0 c.args.turns start o.past o.course in
-      c.wait_for-in-Some-first_from.ensures.0 start w.past w.course (record { door = w.wished.sleeps; remains = inr (_, c.in-Some-first_from.ensures.1) }),
-  further_then c.args.turns c.args.self.now c.ask_door.new.self c.wait_for-in-Some-first_from.new.self _ (c.in-Over.ensures.2 ∙ c.in_default.ensures.2.made_same) c.wait_for-in-Some-first_from.ensures.1,
+      let o = c.in_default.ensures.runs.0 c.args.turns start past on in
+      let w = c.in-Over.ensures.asks.0 c.args.turns start o.past o.course in
+      c.wait_for-in-Some-first_from.ensures.waits.0 start w.past w.course (record { door = w.wished.sleeps; remains = inr (_, c.in-Some-first_from.ensures.1) }),
+  further_then c.args.turns c.args.self.now c.ask_door.new.self c.wait_for-in-Some-first_from.new.self _ (c.in-Over.ensures.asks.2 ∙ c.in_default.ensures.runs.2.made_same) c.wait_for-in-Some-first_from.ensures.waits.1,
 )
 
-pub returns-in-None : goal.returns-in-None
-returns-in-None g c = (
+pub returns-in-None-clause-turns : goal.returns-in-None-clause-turns
+returns-in-None-clause-turns g c = (
   λ start past on.
-      let o = c.in_default.ensures.0 c.args.turns start past on in
-      (c.in-Over.ensures.0 c.args.turns start o.past o.course, λ s. c.in-None.ensures s (omega arith)),
+      let o = c.in_default.ensures.runs.0 c.args.turns start past on in
+      (c.in-Over.ensures.asks.0 c.args.turns start o.past o.course, λ s. c.in-None.ensures s (omega arith)),
   tt,
 )
 
-pub returns-in-Ends : goal.returns-in-Ends
-returns-in-Ends g c = (
+pub returns-in-Ends-clause-turns : goal.returns-in-Ends-clause-turns
+returns-in-Ends-clause-turns g c = (
   λ start past on.
-      let o = c.in_default.ensures.0 c.args.turns start past on in
-      c.in-Ends.ensures c.args.turns start o.past o.course,
+      let o = c.in_default.ensures.runs.0 c.args.turns start past on in
+      c.in-Ends.ensures.asks c.args.turns start o.past o.course,
   tt,
 )
+
+pub returns-in-Some-clause-looks : goal.returns-in-Some-clause-looks
+returns-in-Some-clause-looks g c = looks_run _ _ _ _ c.args.self.now c.run_rows.new.self c.run_rows.ensures.rest c.run_rows.ensures.looks
+
+pub returns-in-Waits-clause-looks : goal.returns-in-Waits-clause-looks
+returns-in-Waits-clause-looks g c = looks_after _ _ _ _ _ c.args.self.now c.run_rows.new.self c.wait_for.new.self c.run_rows.ensures.rest c.run_rows.ensures.looks (looks_then _ _ _ _ c.run_rows.new.self c.ask_door.new.self c.wait_for.new.self c.ask_door.ensures.looks c.wait_for.ensures.looks)
+
+pub returns-in-Some-first_from-clause-looks : goal.returns-in-Some-first_from-clause-looks
+returns-in-Some-first_from-clause-looks g c = looks_after _ _ _ _ _ c.args.self.now c.run_rows.new.self c.wait_for-in-Some-first_from.new.self c.run_rows.ensures.rest c.run_rows.ensures.looks (looks_then _ _ _ _ c.run_rows.new.self c.ask_door.new.self c.wait_for-in-Some-first_from.new.self c.ask_door.ensures.looks c.wait_for-in-Some-first_from.ensures.looks)
+
+pub returns-in-None-clause-looks : goal.returns-in-None-clause-looks
+returns-in-None-clause-looks g c = looks_after _ _ _ _ _ c.args.self.now c.run_rows.new.self c.ask_door.new.self c.run_rows.ensures.rest c.run_rows.ensures.looks (looks_more _ _ _ c.run_rows.new.self c.ask_door.new.self c.ask_door.ensures.looks)
+
+pub returns-in-Ends-clause-looks : goal.returns-in-Ends-clause-looks
+returns-in-Ends-clause-looks g c = looks_after _ _ _ _ _ c.args.self.now c.run_rows.new.self c.ask_door.new.self c.run_rows.ensures.rest c.run_rows.ensures.looks (looks_more _ _ _ c.run_rows.new.self c.ask_door.new.self c.ask_door.ensures.looks)

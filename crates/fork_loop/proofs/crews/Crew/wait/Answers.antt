@@ -1,9 +1,113 @@
-use Rattle.std.proofs.Common.{refl, ◌∙◌, add-one}
-use Rattle.fork_loop.proofs.Turning.{when_going, when_stopped}
+use Rattle.fork_table.specs.Tables.{Table}
+use Rattle.fork_loop.specs.declared.crews.Row.{Row}
+use Rattle.fork_loop.proofs.Looking.{looks_waited, works_waited, works_alone, as_many}
+use Rattle.fork_loop.proofs.RowRuns.{rest_itself}
+use Rattle.std.proofs.Common.{ap, refl, inl, inr, ◌∙◌, add-one, arith}
+use Rattle.std.proofs.lemmas.Bool.{false≢true}
+use Rattle.session_runs.proofs.Going.{idle_run}
+use Rattle.fork_loop.proofs.Turning.{has_waited, turned_there, all_unheard, when_going, when_short, when_stopped}
+use Rattle.fork_loop.proofs.DoorSteps.{memory_rows}
 use Rattle.fork_loop.proofs.crews.Crew.wait.Goals as goal
 
-pub returns-then-stop : goal.returns-then-stop
-returns-then-stop g c = λ start past on order. when_stopped c.args.config.now c.args.turns start _ _ past c.args.until c.in-Turned.at c.in-Turned.stop c.args.self.now _ _ c.if-stop.true on c.requires.few order c.requires.asleep (record { did = c.in-Turned.ensures.act; named = c.in-Turned.ensures.named; later = c.in-Turned.ensures.faults; counts = c.in-Turned.ensures.counts }) (record { door_same = refl; table_same = refl; unborn_same = refl; clock_is = refl; made_is = refl }) c.hear_all.ensures
+pub hear_turn-requires : goal.hear_turn-requires
+hear_turn-requires g c =
+    let h = has_waited c.in-Turned.at c.in-Turned.stop _ c.take_turn.new.self c.take_turn.ensures in
+    all_unheard c.args.config.now _ c.in-Turned.at c.in-Turned.stop c.args.self.now c.take_turn.new.self c.requires.course c.requires.idle (record { door = h.door; table_same = h.table_same; lists = record { work_same = h.lists.work_same; timers_same = h.lists.timers_same }; unborn_same = h.unborn_same; clock_is = h.clock_is; made_is = h.made_is })
 
-pub returns-else-stop : goal.returns-else-stop
-returns-else-stop g c = (λ start past on order. when_going c.args.config.now c.args.turns start _ _ past c.args.until c.in-Turned.at c.in-Turned.stop c.args.self.now _ _ c.if-stop.false on c.requires.few order c.requires.asleep (record { did = c.in-Turned.ensures.act; named = c.in-Turned.ensures.named; later = c.in-Turned.ensures.faults; counts = c.in-Turned.ensures.counts }) (record { door_same = refl; table_same = refl; unborn_same = refl; clock_is = refl; made_is = refl }) c.hear_all.ensures, c.hear_all.ensures.same.made_same ∙ add-one _)
+pub returns-then-stop-clause-waits : goal.returns-then-stop-clause-waits
+returns-then-stop-clause-waits g c = λ start past on order.
+    let h = has_waited c.in-Turned.at c.in-Turned.stop _ c.take_turn.new.self c.take_turn.ensures in
+    when_stopped c.args.config.now c.args.turns start _ _ past c.args.until c.in-Turned.at c.in-Turned.stop c.args.self.now c.take_turn.new.self c.if-stop.true (record {
+      course = on;
+      few = c.requires.few;
+      idle = c.requires.idle;
+      order = order;
+      turns = turned_there _ _ c.args.until c.in-Turned.at _ c.take_turn.new.self.ready c.in-Turned.stop c.take_turn.ensures.ready_same (record { did = c.in-Turned.ensures.act; named = c.in-Turned.ensures.named; later = c.in-Turned.ensures.faults; counts = c.in-Turned.ensures.counts });
+      has = record { door = h.door; table_same = h.table_same; lists = record { work_same = h.lists.work_same; timers_same = h.lists.timers_same }; unborn_same = h.unborn_same; clock_is = h.clock_is; made_is = h.made_is };
+      on_clock = c.take_turn.ensures.on_clock;
+    })
+
+pub returns-in-Ok-clause-waits : goal.returns-in-Ok-clause-waits
+returns-in-Ok-clause-waits g c = (
+  λ start past on order.
+      let h = has_waited c.in-Turned.at c.in-Turned.stop _ c.take_turn.new.self c.take_turn.ensures in
+      when_going c.args.config.now c.args.turns start _ _ past c.args.until c.in-Turned.at c.in-Turned.stop c.args.self.now c.take_turn.new.self c.hear_turn.new.self c.if-stop.false (record {
+        course = on;
+        few = c.requires.few;
+        idle = c.requires.idle;
+        order = order;
+        turns = turned_there _ _ c.args.until c.in-Turned.at _ c.take_turn.new.self.ready c.in-Turned.stop c.take_turn.ensures.ready_same (record { did = c.in-Turned.ensures.act; named = c.in-Turned.ensures.named; later = c.in-Turned.ensures.faults; counts = c.in-Turned.ensures.counts });
+        has = record { door = h.door; table_same = h.table_same; lists = record { work_same = h.lists.work_same; timers_same = h.lists.timers_same }; unborn_same = h.unborn_same; clock_is = h.clock_is; made_is = h.made_is };
+        on_clock = c.take_turn.ensures.on_clock;
+      }) c.hear_turn.ensures.heard c.in-Ok.ensures.queued,
+  c.hear_turn.ensures.heard.same.made_same ∙ (c.take_turn.ensures.made_is ∙ add-one _),
+)
+
+pub returns-in-Err-clause-waits : goal.returns-in-Err-clause-waits
+returns-in-Err-clause-waits g c = λ start past on order.
+    let h = has_waited c.in-Turned.at c.in-Turned.stop _ c.take_turn.new.self c.take_turn.ensures in
+    when_short c.args.config.now c.args.turns start _ _ past c.args.until c.in-Turned.at c.in-Turned.stop c.args.self.now c.take_turn.new.self c.hear_turn.new.self c.if-stop.false (record {
+      course = on;
+      few = c.requires.few;
+      idle = c.requires.idle;
+      order = order;
+      turns = turned_there _ _ c.args.until c.in-Turned.at _ c.take_turn.new.self.ready c.in-Turned.stop c.take_turn.ensures.ready_same (record { did = c.in-Turned.ensures.act; named = c.in-Turned.ensures.named; later = c.in-Turned.ensures.faults; counts = c.in-Turned.ensures.counts });
+      has = record { door = h.door; table_same = h.table_same; lists = record { work_same = h.lists.work_same; timers_same = h.lists.timers_same }; unborn_same = h.unborn_same; clock_is = h.clock_is; made_is = h.made_is };
+      on_clock = c.take_turn.ensures.on_clock;
+    }) c.hear_turn.ensures.heard
+
+pub returns-in-Memory-clause-waits : goal.returns-in-Memory-clause-waits
+returns-in-Memory-clause-waits g c = λ start past on order.
+    let f = on.frame in
+    let n = c.in-Memory.ensures.counts in
+    record {
+      past = past;
+      frame = record {
+        fork = f.fork;
+        run = idle_run c.args.config.now c.args.turns start _ _ past f.run c.in-Memory.ensures.act (record { later = c.in-Memory.ensures.faults; rose = λ e. absurd (false≢true e) }) (record { waits = n.waits_is; stops = n.stops_is; clock = n.clock_is });
+        door = f.door;
+        counts = f.counts;
+        next = f.next;
+        clock_is = f.clock_is;
+        made_is = f.made_is;
+        unsaid = f.unsaid;
+      };
+      all = refl;
+      ends = inl refl;
+      owes = inr refl;
+      rows = memory_rows c.args.config.now c.args.turns start _ past c.args.self.now on;
+    }
+
+pub returns-in-Ok-clause-looks : goal.returns-in-Ok-clause-looks
+returns-in-Ok-clause-looks g c =
+    let e = as_many _ _ c.hear_turn.ensures.ready in
+    let l = c.hear_turn.ensures.looks in
+    looks_waited c.args.config.now _ c.in-Turned.at c.wait.new.ready c.in-Turned.stop _ _ _ c.args.self.now c.take_turn.new.self c.hear_turn.new.self c.requires.course c.take_turn.ensures.door (ap (λ (t : Table Row). t.admitted) c.take_turn.ensures.table_same) c.hear_turn.ensures.heard.same (omega (arith, e, l))
+
+pub returns-in-Ok-clause-few : goal.returns-in-Ok-clause-few
+returns-in-Ok-clause-few g c =
+    let e = as_many _ _ c.hear_turn.ensures.ready in
+    works_waited _ _ c.args.self.now c.take_turn.new.self c.hear_turn.new.self c.take_turn.ensures.lists.work_same c.take_turn.ensures.lists.timers_same c.hear_turn.ensures.few (omega (arith, e))
+
+pub returns-in-Err-clause-looks : goal.returns-in-Err-clause-looks
+returns-in-Err-clause-looks g c =
+    let e = as_many _ _ c.hear_turn.ensures.ready in
+    let l = c.hear_turn.ensures.looks in
+    looks_waited c.args.config.now _ c.in-Turned.at c.wait.new.ready c.in-Turned.stop _ _ _ c.args.self.now c.take_turn.new.self c.hear_turn.new.self c.requires.course c.take_turn.ensures.door (ap (λ (t : Table Row). t.admitted) c.take_turn.ensures.table_same) c.hear_turn.ensures.heard.same (omega (arith, e, l))
+
+pub returns-in-Err-clause-few : goal.returns-in-Err-clause-few
+returns-in-Err-clause-few g c =
+    let e = as_many _ _ c.hear_turn.ensures.ready in
+    works_waited _ _ c.args.self.now c.take_turn.new.self c.hear_turn.new.self c.take_turn.ensures.lists.work_same c.take_turn.ensures.lists.timers_same c.hear_turn.ensures.few (omega (arith, e))
+
+pub returns-then-stop-clause-looks : goal.returns-then-stop-clause-looks
+returns-then-stop-clause-looks g c = looks_waited c.args.config.now _ c.in-Turned.at c.wait.new.ready c.in-Turned.stop _ _ _ c.args.self.now c.take_turn.new.self c.take_turn.new.self c.requires.course c.take_turn.ensures.door (ap (λ (t : Table Row). t.admitted) c.take_turn.ensures.table_same) (rest_itself c.take_turn.new.self) (omega arith)
+
+pub returns-then-stop-clause-few : goal.returns-then-stop-clause-few
+returns-then-stop-clause-few g c = works_waited 0 _ c.args.self.now c.take_turn.new.self c.take_turn.new.self c.take_turn.ensures.lists.work_same c.take_turn.ensures.lists.timers_same (works_alone 0 c.take_turn.new.self c.take_turn.new.self (omega arith) refl) (omega arith)
+
+pub returns-in-Memory-clause-looks : goal.returns-in-Memory-clause-looks
+returns-in-Memory-clause-looks g c = λ k. (k, omega arith)
+
+pub returns-in-Memory-clause-few : goal.returns-in-Memory-clause-few
+returns-in-Memory-clause-few g c = omega arith

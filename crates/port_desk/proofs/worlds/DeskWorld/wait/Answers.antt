@@ -8,3 +8,9 @@ returns-then-stop-clause-named g c = names_on (hold_at c.poll-polled.new.self.lo
 
 pub returns-else-stop-clause-named : goal.returns-else-stop-clause-named
 returns-else-stop-clause-named g c = names_on (hold_at c.poll-polled.new.self.log.stations.entries) (hold_at c.arm_named.new.stations.entries) c.poll-polled.new.ready.entries (rw c.put_turn.ensures.stations at c.arm_named.ensures.held) c.poll-polled.ensures.named
+
+pub returns-then-stop-clause-until : goal.returns-then-stop-clause-until
+returns-then-stop-clause-until g c = rw c.turn.ensures.same.1 (rw c.reserve.ensures.stations at c.poll-polled.ensures.until)
+
+pub returns-else-stop-clause-until : goal.returns-else-stop-clause-until
+returns-else-stop-clause-until g c = rw c.turn.ensures.same.1 (rw c.reserve.ensures.stations at c.poll-polled.ensures.until)

@@ -1,0 +1,79 @@
+-- What passes standard input and output, by the acts of a history and by the address that each place has.
+use Rattle.std.specs.Prelude.{◌≡◌, ℕ, Bool, true, false, List, [], ◌∷◌, Option, None, Some, IfSome, ⊤}
+use Rattle.relay_model.specs.declared.acts.Act.{Act}
+use Rattle.relay_model.specs.declared.acts.Act.TheVariants.{Listening, Accepted, Read, Wrote}
+use Rattle.relay_model.specs.declared.places.Place.{Place}
+use Rattle.relay_model.specs.declared.commands.Single.{Single}
+use Rattle.relay_model.specs.Choices.{joined}
+use Rattle.relay_model.specs.Journals.{Asking, History}
+use Rattle.desk_ports.specs.Bases.{standard_of}
+use Rattle.desk_places.specs.Bases.{StandsFor}
+use Rattle.desk_ports.specs.declared.bases.Base.{Base}
+use Rattle.desk_ports.specs.declared.bases.Base.TheVariants as bases
+
+-- the standard streams that a place stands on by its own address; none where that is of a made port
+abbrev pub stream_of : (Place → Single) → Place → Option Base
+stream_of own p = standard_of p (own p).target
+
+-- a read of them is one of standard input
+abbrev pub reads_input : Option Base → Bool
+reads_input None = false
+reads_input (Some bases.Input) = true
+reads_input (Some bases.Output) = false
+reads_input (Some bases.Both) = true
+reads_input (Some bases.Errors) = false
+reads_input (Some (bases.Made key)) = false
+
+-- a write on them is one on standard output
+abbrev pub writes_output : Option Base → Bool
+writes_output None = false
+writes_output (Some bases.Input) = false
+writes_output (Some bases.Output) = true
+writes_output (Some bases.Both) = true
+writes_output (Some bases.Errors) = false
+writes_output (Some (bases.Made key)) = false
+
+-- the bytes that were read at the places on standard input, in the order of the acts
+abbrev pub input_read : (Place → Single) → List Act → List ℕ
+input_read own [] = []
+input_read own (Read p bytes ∷ past) = joined (reads_input (stream_of own p)) (input_read own past) bytes
+input_read own (act ∷ past) = input_read own past
+
+-- the bytes that were written at the places on standard output, in the order of the acts
+abbrev pub output_written : (Place → Single) → List Act → List ℕ
+output_written own [] = []
+output_written own (Wrote p bytes ∷ past) = joined (writes_output (stream_of own p)) (output_written own past) bytes
+output_written own (act ∷ past) = output_written own past
+
+-- each place was asked for with its own address
+abbrev pub AllOwn : (Place → Single) → List Asking → Type 0
+AllOwn own [] = ⊤
+AllOwn own (asking ∷ more) = (asking.1 ≡ own asking.0) × AllOwn own more
+
+-- what is listened at and what a peer came to has no standard stream for its address
+abbrev pub IsElsewhere : (Place → Single) → Act → Type 0
+IsElsewhere own (Listening p) = stream_of own p ≡ None
+IsElsewhere own (Accepted p peer) = stream_of own p ≡ None
+IsElsewhere own act = ⊤
+
+-- the same of all doors and peers
+abbrev pub AreElsewhere : (Place → Single) → List Act → Type 0
+AreElsewhere own [] = ⊤
+AreElsewhere own (act ∷ past) = IsElsewhere own act × AreElsewhere own past
+
+-- each place stands on the streams of its address; standard input gave what was read there, and standard output took
+-- what was written there
+pub record Follows (own : Place → Single) (acts : List Act) (base : Place → Option Base) (gave took : Option (List ℕ)) : Type 0 where
+  pub stands : (p : Place) → IfSome (base p) (λ b. StandsFor (stream_of own p) (Some b))
+  pub given : IfSome gave (λ all. all ≡ input_read own acts)
+  pub taken : IfSome took (λ all. all ≡ output_written own acts)
+
+-- the same of a history, whatever address each place has for its own
+abbrev pub FollowsTold : Option History → (Place → Option Base) → Option (List ℕ) → Option (List ℕ) → Type 0
+FollowsTold None base gave took = ⊤
+FollowsTold (Some history) base gave took = (own : Place → Single) → AllOwn own history.asked → AreElsewhere own history.acts → Follows own history.acts base gave took
+
+-- standard input gave what a history says that was read there, and standard output took what was written there,
+-- whatever address each place has for its own
+abbrev pub Passed : History → Option (List ℕ) → Option (List ℕ) → Type 0
+Passed history gave took = (own : Place → Single) → AllOwn own history.asked → AreElsewhere own history.acts → (IfSome gave (λ all. all ≡ input_read own history.acts)) × (IfSome took (λ all. all ≡ output_written own history.acts))

@@ -1,0 +1,107 @@
+// The calls of a desk, each of which keeps what its standard input gave and its standard output took in step with what
+// its history tells.
+ghost use Rattle.std.specs.Prelude.{◌≡◌, [], IfSome, false};
+ghost use Rattle.relay_model.specs.Holding.{Free};
+ghost use Rattle.relay_model.specs.declared.places.Place.{Place as Spot};
+ghost use Rattle.desk_places.specs.Stations.{base_at, hold_at};
+ghost use Rattle.desk_history.specs.Following.{FollowsTold, Passed};
+
+use port_desk::Desk;
+use port_trait::{Maker, Poller, Port};
+use relay_model::{Peer, Place, ReadyList, Shut, Single, Why};
+use world_trait::{
+    AcceptAnswer, ListenAnswer, NoteAnswer, OpenAnswer, ReadAnswer, ReapAnswer, SendAnswer,
+    ShutAnswer, Turned, World, WriteAnswer,
+};
+
+/// A desk that is followed from its first act on.
+#[derive(Drop)]
+pub struct Followed<M: Maker + Drop, P: Poller + Drop, I: Port, O: Port, E: Port> {
+    desk: Desk<M, P, I, O, E>,
+    ghost follows: { ∥ FollowsTold desk.log.recording.told (base_at desk.log.stations.entries) desk.ports.harbor.input.port.gave desk.ports.harbor.output.port.took ∥₁ },
+}
+
+impl<M: Maker + Drop, P: Poller + Drop, I: Port, O: Port, E: Port> Followed<M, P, I, O, E> {
+    /// Follows the desk, which has done nothing yet, and whose standard input and output have passed no bytes.
+    pub fn new(desk: Desk<M, P, I, O, E>) -> Followed<M, P, I, O, E>
+        requires free { (p : Spot) → ⟦<Desk<M, P, I, O, E> as World>⟧.held desk p ≡ Free }
+        requires untouched { desk.log.acted ≡ false }
+        requires given { IfSome desk.ports.harbor.input.port.gave (λ all. all ≡ []) }
+        requires taken { IfSome desk.ports.harbor.output.port.took (λ all. all ≡ []) }
+        ensures { result.desk ≡ desk }
+    {
+        Followed { desk }
+    }
+
+    /// The desk again.
+    pub fn into_desk(self) -> Desk<M, P, I, O, E>
+        ensures desk { result ≡ self.desk }
+        ensures passed { IfSome result.log.recording.told (λ history. Passed history result.ports.harbor.input.port.gave result.ports.harbor.output.port.took) }
+    {
+        let Followed { desk } = self;
+        desk
+    }
+}
+
+impl<M: Maker + Drop, P: Poller + Drop, I: Port, O: Port, E: Port> World
+    for Followed<M, P, I, O, E> {
+    ghost told = { λ f. f.desk.log.recording.told };
+
+    ghost held = { λ f. hold_at f.desk.log.stations.entries };
+
+    ghost faults = { λ f. f.desk.log.faults };
+
+    ghost waits = { λ f. f.desk.waits };
+
+    ghost stops = { λ f. f.desk.stops };
+
+    ghost clock = { λ f. f.desk.clock.last };
+
+    fn wait(&mut self, until: Option<u64>, ready: &mut ReadyList) -> Turned {
+        self.desk.wait(until, ready)
+    }
+
+    fn open_place(&mut self, place: Place, single: &Single, behind: Option<Peer>) -> OpenAnswer {
+        self.desk.open_place(place, single, behind)
+    }
+
+    fn settle(&mut self, place: Place) -> OpenAnswer {
+        self.desk.settle(place)
+    }
+
+    fn listen(&mut self, door: Place, single: &Single) -> ListenAnswer {
+        self.desk.listen(door, single)
+    }
+
+    fn accept(&mut self, door: Place, place: Place) -> AcceptAnswer {
+        self.desk.accept(door, place)
+    }
+
+    fn read(&mut self, place: Place, into: &mut [u8]) -> ReadAnswer {
+        self.desk.read(place, into)
+    }
+
+    fn write(&mut self, place: Place, bytes: &[u8]) -> WriteAnswer {
+        self.desk.write(place, bytes)
+    }
+
+    fn send(&mut self, place: Place, bytes: &[u8]) -> SendAnswer {
+        self.desk.send(place, bytes)
+    }
+
+    fn shut(&mut self, place: Place, how: Shut) -> ShutAnswer {
+        self.desk.shut(place, how)
+    }
+
+    fn close(&mut self, place: Place, why: Why) {
+        self.desk.close(place, why);
+    }
+
+    fn note(&mut self, text: &[u8]) -> NoteAnswer {
+        self.desk.note(text)
+    }
+
+    fn reap(&mut self, place: Place) -> ReapAnswer {
+        self.desk.reap(place)
+    }
+}

@@ -1,0 +1,109 @@
+-- How many looks at sessions the loop makes, and that ended calls of the door stay ended.
+use Rattle.std.proofs.Common.{◌≡◌, refl, sym, ap, ◌∙◌, ℕ, ◌+◌, ◌≤◌, Bool, true, false, ◌||◌, List, [], ◌∷◌, length, None, arith}
+use Rattle.std.proofs.lemmas.Bool.{or_parts, true≢false}
+use Rattle.std.specs.FinMap.{len}
+use Rattle.relay_model.specs.declared.commands.Config.{Config}
+use Rattle.relay_model.specs.declared.acts.Why.TheVariants as whys
+use Rattle.relay_model.specs.declared.acts.Act.{Act}
+use Rattle.relay_model.specs.declared.acts.Act.TheVariants as acts
+use Rattle.relay_model.specs.Choices.{only_if, first_some}
+use Rattle.relay_model.specs.Places.{same_place}
+use Rattle.relay_model.specs.Configs.{program_door}
+use Rattle.relay_model.specs.History.{memory_said, stop_said, accept_failed, same_why}
+use Rattle.program_door.specs.Causes.{door_cause}
+use Rattle.program_door.specs.declared.doors.Door.{Door}
+use Rattle.fork_table.specs.Tables.{live_in}
+use Rattle.session_driver.specs.Seen.{Seen}
+use Rattle.door_driver.specs.Steps.{DoorFor, DoorActs}
+use Rattle.fork_loop.specs.declared.crews.Crew.{Crew}
+use Rattle.fork_loop.specs.Courses.{Somewhere, SameRest}
+use Rattle.relay_model.specs.Readiness.{Listed, copied_list}
+use Rattle.fork_loop.specs.Turns.{DoorHearsTurn}
+use Rattle.fork_loop.specs.Looks.{LooksFew, WorksFew}
+use Rattle.fork_loop.proofs.DoorSteps.{door_for}
+
+-- ---- what has ended the calls of the door
+
+none_of : (m t a : Bool) → first_some (only_if m whys.Memory ∷ only_if t whys.Stopped ∷ only_if a whys.AcceptFailed ∷ []) ≡ None → (m ≡ false) × (t ≡ false) × (a ≡ false)
+none_of true t a e = let x : ⊥ = cc in absurd x
+none_of false true a e = let x : ⊥ = cc in absurd x
+none_of false false true e = let x : ⊥ = cc in absurd x
+none_of false false false e = (refl, refl, refl)
+
+all_none : (m t a : Bool) → m ≡ false → t ≡ false → a ≡ false → first_some (only_if m whys.Memory ∷ only_if t whys.Stopped ∷ only_if a whys.AcceptFailed ∷ []) ≡ None
+all_none m t a e f g = rw (e, f, g) refl
+
+stays_uncut : (act : Act) (past : List Act) → door_cause (act ∷ past) ≡ None → door_cause past ≡ None
+stays_uncut (acts.Turn until at ready stop) past e =
+    let n = none_of (memory_said past) (stop || stop_said past) (accept_failed past program_door) e in
+    all_none (memory_said past) (stop_said past) (accept_failed past program_door) n.0 (or_parts stop (stop_said past) n.1).1 n.2
+stays_uncut (acts.Closed q why) past e =
+    let n = none_of (same_why why whys.Memory || memory_said past) (same_why why whys.Stopped || stop_said past) (accept_failed past program_door) e in
+    all_none (memory_said past) (stop_said past) (accept_failed past program_door) (or_parts (same_why why whys.Memory) (memory_said past) n.0).1 (or_parts (same_why why whys.Stopped) (stop_said past) n.1).1 n.2
+stays_uncut (acts.AcceptFailed q) past e =
+    let n = none_of (memory_said past) (stop_said past) (same_place q program_door || accept_failed past program_door) e in
+    all_none (memory_said past) (stop_said past) (accept_failed past program_door) n.0 n.1 (or_parts (same_place q program_door) (accept_failed past program_door) n.2).1
+stays_uncut act past e = e
+
+-- an act of the door
+pub acted_uncut : (c : Config) (old new : Seen) (live : ℕ) (before : Crew) (after : Door) (act : Act) → live ≡ live_in before.table → Somewhere c old before → DoorActs c (λ m p. DoorFor c m p before.clock live before.door) old new before.door after act → after.cut ≡ None → before.door.cut ≡ None
+acted_uncut c old new live before after act e at a k =
+    let s = (a.heard at.n at.past (door_for c at.n at.start old at.past before live e at.course)).stands in
+    at.course.frame.door.cut_is ∙ stays_uncut act at.past (sym s.cut_is ∙ k)
+
+-- a failed accepting ends them
+pub failed_cut : {P : Type 0} (c : Config) (old new : Seen) (live : ℕ) (before : Crew) (after : Door) → live ≡ live_in before.table → Somewhere c old before → DoorActs c (λ m p. DoorFor c m p before.clock live before.door) old new before.door after (acts.AcceptFailed program_door) → after.cut ≡ None → P
+failed_cut c old new live before after e at a k =
+    let s = (a.heard at.n at.past (door_for c at.n at.start old at.past before live e at.course)).stands in
+    let n = none_of (memory_said at.past) (stop_said at.past) true (sym s.cut_is ∙ k) in
+    absurd (true≢false n.2)
+
+-- a turn leaves them ended
+pub turned_uncut : (c : Config) (now : Seen) (crew : Crew) (at : ℕ) (ready : Listed) (stop : Bool) (after : Door) → Somewhere c now crew → DoorHearsTurn ready stop crew.door after → after.cut ≡ None → crew.door.cut ≡ None
+turned_uncut c now crew at ready stop after there hears k =
+    let d = there.course.frame.door in
+    let s = hears c there.past None at d in
+    d.cut_is ∙ stays_uncut (acts.Turn None at (copied_list ready) stop) there.past (sym s.cut_is ∙ k)
+
+pub same_cut : (before after : Door) → after ≡ before → after.cut ≡ None → before.cut ≡ None
+same_cut before after e k = ap (λ (d : Door). d.cut) (sym e) ∙ k
+
+-- ---- looks
+
+pub looks_none : (ticks : ℕ) (before after : Crew) → after.door ≡ before.door → after.table.admitted ≡ before.table.admitted → LooksFew 0 ticks ticks before after
+looks_none ticks before after d a = λ k. (same_cut before.door after.door d k, omega (arith, a))
+
+pub looks_then : (more : ℕ) (old mid new : ℕ) (one two three : Crew) → LooksFew 0 old mid one two → LooksFew more mid new two three → LooksFew more old new one three
+looks_then more old mid new one two three f g = λ k. let b = g k in let a = f b.0 in (a.0, (let x = a.1 in let y = b.1 in omega (arith, x, y)))
+
+-- the list of work was run before
+pub looks_after : (work more : ℕ) (old mid new : ℕ) (one two three : Crew) → SameRest one two → mid ≤ old + work → LooksFew more mid new two three → LooksFew (work + more) old new one three
+looks_after work more old mid new one two three same few g = λ k.
+    let b = g k in
+    let a = same.admitted_same in
+    (same_cut one.door two.door same.door_same b.0, (let x = b.1 in omega (arith, x, few, a)))
+
+pub looks_run : (work more : ℕ) (old new : ℕ) (one two : Crew) → SameRest one two → new ≤ old + work → LooksFew (work + more) old new one two
+looks_run work more old new one two same few = λ k. let a = same.admitted_same in (same_cut one.door two.door same.door_same k, omega (arith, few, a))
+
+pub looks_more : (more : ℕ) (old new : ℕ) (one two : Crew) → LooksFew 0 old new one two → LooksFew more old new one two
+looks_more more old new one two f = λ k. let a = f k in (a.0, (let x = a.1 in omega (arith, x)))
+
+-- ---- a wait
+
+pub looks_waited : (c : Config) (seen : Seen) (at : ℕ) (ready : Listed) (stop : Bool) (more old new : ℕ) (before mid after : Crew) → Somewhere c seen before → DoorHearsTurn ready stop before.door mid.door → mid.table.admitted ≡ before.table.admitted → SameRest mid after → new ≤ old + more → LooksFew more old new before after
+looks_waited c seen at ready stop more old new before mid after there hears admitted same few = λ k.
+    let a = same.admitted_same in
+    (turned_uncut c seen before at ready stop mid.door there hears (same_cut mid.door after.door same.door_same k), omega (arith, a, admitted, few))
+
+pub works_waited : (named more : ℕ) (before mid after : Crew) → mid.work.items ≡ before.work.items → mid.timers.moments ≡ before.timers.moments → WorksFew named mid after → named ≤ more → WorksFew more before after
+works_waited named more before mid after w t few l = let x = ap length w in let y = ap len t in omega (arith, x, y, few, l)
+
+pub works_named : (more : ℕ) (one two three : Crew) → length two.work.items ≤ length one.work.items + more → two.timers.moments ≡ one.timers.moments → WorksFew 0 two three → WorksFew more one three
+works_named more one two three few t due = let y = ap len t in omega (arith, few, y, due)
+
+pub works_alone : (more : ℕ) (one two : Crew) → length two.work.items ≤ length one.work.items + more → two.timers.moments ≡ one.timers.moments → WorksFew more one two
+works_alone more one two few t = let y = ap len t in omega (arith, few, y)
+
+pub as_many : (one two : Listed) → two ≡ one → length two.entries ≡ length one.entries
+as_many one two e = ap (λ (l : Listed). length l.entries) e

@@ -1,0 +1,10 @@
+pub mod Finishing
+pub mod LeftLemmas
+pub mod NumberedLemmas
+pub mod OldestLemmas
+pub mod ScriptLemmas
+pub mod SessionStreams
+pub mod StartLemmas
+pub mod StreamLemmas
+pub mod Totals
+pub mod Whole

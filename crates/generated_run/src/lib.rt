@@ -1,0 +1,16 @@
+// The generated run: a relay of many sessions over a scripted world whose bytes a number generates, and its summary.
+#![tactic(auto)]
+
+mod commands;
+mod load_worlds;
+mod numbered_worlds;
+mod runs;
+mod streams;
+mod summaries;
+
+pub use commands::load_command;
+pub use load_worlds::load_world;
+pub use numbered_worlds::NumberedWorld;
+pub use runs::generated_run;
+pub use streams::Generator;
+pub use summaries::Summary;

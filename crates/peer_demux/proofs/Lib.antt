@@ -1,0 +1,3 @@
+pub mod Absorbed
+pub mod Given
+pub mod Places

@@ -1,0 +1,4 @@
+pub mod Hubs
+pub mod Links
+pub mod Rows
+pub mod Tables

@@ -1,0 +1,96 @@
+-- The calls of a table of senders one after another, and what they say of one row.
+use Rattle.std.specs.Prelude.{◌≡◌, ℕ, ◌==◌, ◌<◌, List, [], ◌∷◌, ◌++◌, length, take, Option, if◌then◌else◌}
+use Rattle.std.specs.List.{concat}
+use Rattle.relay_model.specs.declared.acts.Peer.{Peer}
+use Rattle.peer_demux.specs.declared.answers.Mode.{Mode}
+use Rattle.peer_demux.specs.declared.answers.Mode.TheVariants as modes
+use Rattle.peer_demux.specs.declared.answers.Put.{Put}
+use Rattle.peer_demux.specs.declared.answers.Put.TheVariants as puts
+use Rattle.peer_demux.specs.declared.answers.Taken.{Taken}
+use Rattle.peer_demux.specs.declared.answers.Taken.TheVariants as takes
+use Rattle.peer_demux.specs.Rows.{RowState, first_packet}
+use Rattle.peer_demux.specs.Tables.{TableState, IsDropped, IsNext, IsPut, IsTaken, IsTrimmed, Stands, fresh_table, row_at}
+
+-- a call with its answer; a taking has the buffer that it left
+pub data Step : Type 0 where
+  Came : Peer → List ℕ → Put → Step
+  HandedOut : Option (ℕ × Peer) → Step
+  Gave : ℕ → List ℕ → Taken → Step
+  LetGo : ℕ → Step
+  TurnedAway : Step
+
+-- the call makes this of the table
+abbrev pub IsStep : TableState → TableState → Step → Type 0
+IsStep before now (Came from bytes put) = IsPut before now from bytes put
+IsStep before now (HandedOut found) = IsNext before now found
+IsStep before now (Gave number into taken) = IsTaken before now number into taken
+IsStep before now (LetGo number) = IsDropped before now number
+IsStep before now TurnedAway = IsTrimmed before now
+
+-- these calls, the newest first, make this of a fresh table
+abbrev pub Leads : Mode → List Step → TableState → Type 0
+Leads mode [] now = now ≡ fresh_table mode
+Leads mode (step ∷ steps) now = (before : TableState) × Leads mode steps before × IsStep before now step
+
+-- the packet that a call put into the row of this number
+abbrev pub came_by : ℕ → Step → List (List ℕ)
+came_by number (Came from bytes (puts.New row)) = if row == number then bytes ∷ [] else []
+came_by number (Came from bytes (puts.Queued row)) = if row == number then bytes ∷ [] else []
+came_by number (Came from bytes (puts.Dropped why)) = []
+came_by number (HandedOut found) = []
+came_by number (Gave row into taken) = []
+came_by number (LetGo row) = []
+came_by number TurnedAway = []
+
+-- the bytes that a call took of the row of this number
+abbrev pub taken_by : ℕ → Step → List ℕ
+taken_by number (Came from bytes put) = []
+taken_by number (HandedOut found) = []
+taken_by number (Gave row into (takes.Bytes count)) = if row == number then take count into else []
+taken_by number (Gave row into takes.Empty) = []
+taken_by number (Gave row into takes.NotYet) = []
+taken_by number (Gave row into takes.End) = []
+taken_by number (LetGo row) = []
+taken_by number TurnedAway = []
+
+-- the packets that arrived at the row of this number, the oldest first
+abbrev pub arrived : ℕ → List Step → List (List ℕ)
+arrived number [] = []
+arrived number (step ∷ steps) = arrived number steps ++ came_by number step
+
+-- the bytes that were taken of it
+abbrev pub taken : ℕ → List Step → List ℕ
+taken number [] = []
+taken number (step ∷ steps) = taken number steps ++ taken_by number step
+
+-- some packets were taken whole and the others are held, and the bytes that were taken are those of the first and of the
+-- part of the next
+abbrev pub IsKept : ℕ → List Step → RowState → Type 0
+IsKept number steps row = (whole : List (List ℕ)) × (arrived number steps ≡ whole ++ row.packets) × (taken number steps ≡ concat whole ++ take row.given (first_packet row.packets))
+
+-- it is so of each live row after any calls
+abbrev pub NothingIsLost : Type 0
+NothingIsLost = (mode : Mode) (steps : List Step) (table : TableState) → Leads mode steps table → (number place : ℕ) → Stands table.rows number place → IsKept number steps (row_at table.rows place)
+
+-- what the call put into the row of this number came from this peer
+abbrev pub IsFrom : ℕ → Peer → Step → Type 0
+IsFrom number peer (Came from bytes (puts.New row)) = row ≡ number → from ≡ peer
+IsFrom number peer (Came from bytes (puts.Queued row)) = row ≡ number → from ≡ peer
+IsFrom number peer (Came from bytes (puts.Dropped why)) = Unit {0}
+IsFrom number peer (HandedOut found) = Unit {0}
+IsFrom number peer (Gave row into taken) = Unit {0}
+IsFrom number peer (LetGo row) = Unit {0}
+IsFrom number peer TurnedAway = Unit {0}
+
+-- all that was put into it did
+abbrev pub AllFrom : ℕ → Peer → List Step → Type 0
+AllFrom number peer [] = Unit {0}
+AllFrom number peer (step ∷ steps) = IsFrom number peer step × AllFrom number peer steps
+
+-- what arrived at a live row came from its sender
+abbrev pub PacketsAreTheSenders : Type 0
+PacketsAreTheSenders = (mode : Mode) (steps : List Step) (table : TableState) → Leads mode steps table → (number place : ℕ) → Stands table.rows number place → AllFrom number (row_at table.rows place).peer steps
+
+-- in a table by senders no two live rows have the same one
+abbrev pub OneRowASender : Type 0
+OneRowASender = (steps : List Step) (table : TableState) → Leads modes.ByPeer steps table → (p q : ℕ) → p < length table.rows → q < length table.rows → (row_at table.rows p).peer ≡ (row_at table.rows q).peer → p ≡ q

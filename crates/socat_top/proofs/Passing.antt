@@ -1,0 +1,22 @@
+-- What standard input gave and standard output took, at the end of a desk.
+use Rattle.std.proofs.Common.{◌≡◌, ℕ, Bool, true, false, List, Option, Some, IfSome, sym, ap, subst, ◌∙◌}
+use Rattle.relay_model.specs.Journals.{History}
+use Rattle.desk_ports.specs.Endings.{EndsSo, PassedEnd}
+use Rattle.desk_ports.specs.Ports.{PortSeen}
+use Rattle.desk_history.specs.Following.{Passed}
+
+end_still : (passes : Bool) (before now : PortSeen) → PassedEnd passes before now → (now.gave ≡ before.gave) × (now.took ≡ before.took)
+end_still true before now passed = (passed.1.gave, passed.1.took)
+end_still false before now same = (ap (λ (p : PortSeen). p.gave) same, ap (λ (p : PortSeen). p.took) same)
+
+-- the end of a port passes no bytes
+pub ends_still : (passes : Bool) (before : PortSeen) (left : Bool) (after : PortSeen) → EndsSo passes before left after → (after.gave ≡ before.gave) × (after.took ≡ before.took)
+ends_still passes before left after ends =
+    let still = end_still passes before ends.at_end ends.passed in
+    (ends.stands.still.gave ∙ still.0, ends.stands.still.took ∙ still.1)
+
+-- what was passed by the history that was told
+pub passed_at : (told : Option History) (history : History) (gave gave' took took' : Option (List ℕ)) → told ≡ Some history → IfSome told (λ h. Passed h gave took) → gave' ≡ gave → took' ≡ took → Passed history gave' took'
+passed_at told history gave gave' took took' is passed e f =
+    let here : Passed history gave took = subst (λ slot. IfSome slot (λ h. Passed h gave took)) is passed in
+    subst (λ given. Passed history given took') (sym e) (subst (λ taken. Passed history gave taken) (sym f) here)

@@ -1,0 +1,138 @@
+// The port of standard input.
+ghost use Rattle.standard_ports.specs.Ports.{of_input};
+
+use crate::direct::DirectPort;
+use port_trait::{Begun, Got, Hint, Joining, Port, PortReap, Settled, Shutting, StdSource, Took};
+use relay_model::Shut;
+use std::io::Stdin;
+use std::sync::Wait;
+use std::thread::Threads;
+use thread_rings::RingReader;
+
+/// Standard input behind a ring.
+pub type InputRing<R> = RingReader<StdSource<Stdin>, R>;
+
+/// Standard input, in the loop or behind a ring. Each call is that call on the port that it is.
+#[derive(Drop)]
+pub enum InputPort<R> {
+    Direct(DirectPort),
+    Ring(InputRing<R>),
+}
+
+impl<R: Threads + Wait + Copy + Drop> Port for InputPort<R> {
+    ghost gave = { of_input ⟦<DirectPort as Port>⟧.gave ⟦<InputRing<R> as Port>⟧.gave };
+
+    ghost took = { of_input ⟦<DirectPort as Port>⟧.took ⟦<InputRing<R> as Port>⟧.took };
+
+    ghost behind_gave = { of_input ⟦<DirectPort as Port>⟧.behind_gave ⟦<InputRing<R> as Port>⟧.behind_gave };
+
+    ghost behind_took = { of_input ⟦<DirectPort as Port>⟧.behind_took ⟦<InputRing<R> as Port>⟧.behind_took };
+
+    ghost behind_faults = { of_input ⟦<DirectPort as Port>⟧.behind_faults ⟦<InputRing<R> as Port>⟧.behind_faults };
+
+    ghost behind_ends = { of_input ⟦<DirectPort as Port>⟧.behind_ends ⟦<InputRing<R> as Port>⟧.behind_ends };
+
+    ghost behind_left = { of_input ⟦<DirectPort as Port>⟧.behind_left ⟦<InputRing<R> as Port>⟧.behind_left };
+
+    ghost served = { of_input ⟦<DirectPort as Port>⟧.served ⟦<InputRing<R> as Port>⟧.served };
+
+    ghost hints = { of_input ⟦<DirectPort as Port>⟧.hints ⟦<InputRing<R> as Port>⟧.hints };
+
+    ghost hinting = { of_input ⟦<DirectPort as Port>⟧.hinting ⟦<InputRing<R> as Port>⟧.hinting };
+
+    ghost behind_finished = { of_input ⟦<DirectPort as Port>⟧.behind_finished ⟦<InputRing<R> as Port>⟧.behind_finished };
+
+    ghost counts = { of_input ⟦<DirectPort as Port>⟧.counts ⟦<InputRing<R> as Port>⟧.counts };
+
+    ghost begun = { of_input ⟦<DirectPort as Port>⟧.begun ⟦<InputRing<R> as Port>⟧.begun };
+
+    ghost ended = { of_input ⟦<DirectPort as Port>⟧.ended ⟦<InputRing<R> as Port>⟧.ended };
+
+    ghost joins = { of_input ⟦<DirectPort as Port>⟧.joins ⟦<InputRing<R> as Port>⟧.joins };
+
+    ghost child = { of_input ⟦<DirectPort as Port>⟧.child ⟦<InputRing<R> as Port>⟧.child };
+
+    fn begin(&mut self) -> Begun {
+        match self {
+            InputPort::Direct(port) => port.begin(),
+            InputPort::Ring(port) => port.begin(),
+        }
+    }
+
+    fn settle(&mut self) -> Settled {
+        match self {
+            InputPort::Direct(port) => port.settle(),
+            InputPort::Ring(port) => port.settle(),
+        }
+    }
+
+    fn read(&mut self, into: &mut [u8]) -> Got {
+        match self {
+            InputPort::Direct(port) => port.read(into),
+            InputPort::Ring(port) => port.read(into),
+        }
+    }
+
+    fn write(&mut self, bytes: &[u8]) -> Took {
+        match self {
+            InputPort::Direct(port) => port.write(bytes),
+            InputPort::Ring(port) => port.write(bytes),
+        }
+    }
+
+    fn send(&mut self, bytes: &[u8]) -> Took {
+        match self {
+            InputPort::Direct(port) => port.send(bytes),
+            InputPort::Ring(port) => port.send(bytes),
+        }
+    }
+
+    fn put_all(&mut self, bytes: &[u8]) -> Took {
+        match self {
+            InputPort::Direct(port) => port.put_all(bytes),
+            InputPort::Ring(port) => port.put_all(bytes),
+        }
+    }
+
+    fn shut(&mut self, how: Shut) -> Shutting {
+        match self {
+            InputPort::Direct(port) => port.shut(how),
+            InputPort::Ring(port) => port.shut(how),
+        }
+    }
+
+    fn hint(&mut self) -> Hint {
+        match self {
+            InputPort::Direct(port) => port.hint(),
+            InputPort::Ring(port) => port.hint(),
+        }
+    }
+
+    fn may_hint(&self) -> bool {
+        match self {
+            InputPort::Direct(port) => port.may_hint(),
+            InputPort::Ring(port) => port.may_hint(),
+        }
+    }
+
+    fn has_child(&self) -> bool {
+        match self {
+            InputPort::Direct(port) => port.has_child(),
+            InputPort::Ring(port) => port.has_child(),
+        }
+    }
+
+    fn reap(&mut self) -> PortReap {
+        match self {
+            InputPort::Direct(port) => port.reap(),
+            InputPort::Ring(port) => port.reap(),
+        }
+    }
+
+    fn join(&mut self) -> Joining {
+        match self {
+            InputPort::Direct(port) => port.join(),
+            InputPort::Ring(port) => port.join(),
+        }
+    }
+}

@@ -1,0 +1,15 @@
+// The ports of standard input and standard output: in the loop where the system lets a call on them answer at once, and
+// behind rings elsewhere.
+#![tactic(auto)]
+
+mod direct;
+mod input;
+mod opening;
+mod output;
+mod piped;
+
+pub use direct::{DirectPort, SharedPort};
+pub use input::{InputPort, InputRing};
+pub use opening::{direct_input, direct_output};
+pub use output::{OutputPort, OutputRing};
+pub use piped::PipePort;

@@ -1,0 +1,139 @@
+// The port of standard output.
+ghost use Rattle.standard_ports.specs.Ports.{of_output};
+
+use crate::direct::DirectPort;
+use port_trait::{Begun, Got, Hint, Joining, Port, PortReap, Settled, Shutting, StdSink, Took};
+use relay_model::Shut;
+use std::io::Stdout;
+use std::sync::Wait;
+use std::thread::Threads;
+use thread_rings::RingWriter;
+use told_sink::ToldSink;
+
+/// Standard output behind a ring, whose late failures are told.
+pub type OutputRing<R> = RingWriter<ToldSink<StdSink<Stdout>>, R>;
+
+/// Standard output, in the loop or behind a ring. Each call is that call on the port that it is.
+#[derive(Drop)]
+pub enum OutputPort<R> {
+    Direct(DirectPort),
+    Ring(OutputRing<R>),
+}
+
+impl<R: Threads + Wait + Copy + Drop> Port for OutputPort<R> {
+    ghost gave = { of_output ⟦<DirectPort as Port>⟧.gave ⟦<OutputRing<R> as Port>⟧.gave };
+
+    ghost took = { of_output ⟦<DirectPort as Port>⟧.took ⟦<OutputRing<R> as Port>⟧.took };
+
+    ghost behind_gave = { of_output ⟦<DirectPort as Port>⟧.behind_gave ⟦<OutputRing<R> as Port>⟧.behind_gave };
+
+    ghost behind_took = { of_output ⟦<DirectPort as Port>⟧.behind_took ⟦<OutputRing<R> as Port>⟧.behind_took };
+
+    ghost behind_faults = { of_output ⟦<DirectPort as Port>⟧.behind_faults ⟦<OutputRing<R> as Port>⟧.behind_faults };
+
+    ghost behind_ends = { of_output ⟦<DirectPort as Port>⟧.behind_ends ⟦<OutputRing<R> as Port>⟧.behind_ends };
+
+    ghost behind_left = { of_output ⟦<DirectPort as Port>⟧.behind_left ⟦<OutputRing<R> as Port>⟧.behind_left };
+
+    ghost served = { of_output ⟦<DirectPort as Port>⟧.served ⟦<OutputRing<R> as Port>⟧.served };
+
+    ghost hints = { of_output ⟦<DirectPort as Port>⟧.hints ⟦<OutputRing<R> as Port>⟧.hints };
+
+    ghost hinting = { of_output ⟦<DirectPort as Port>⟧.hinting ⟦<OutputRing<R> as Port>⟧.hinting };
+
+    ghost behind_finished = { of_output ⟦<DirectPort as Port>⟧.behind_finished ⟦<OutputRing<R> as Port>⟧.behind_finished };
+
+    ghost counts = { of_output ⟦<DirectPort as Port>⟧.counts ⟦<OutputRing<R> as Port>⟧.counts };
+
+    ghost begun = { of_output ⟦<DirectPort as Port>⟧.begun ⟦<OutputRing<R> as Port>⟧.begun };
+
+    ghost ended = { of_output ⟦<DirectPort as Port>⟧.ended ⟦<OutputRing<R> as Port>⟧.ended };
+
+    ghost joins = { of_output ⟦<DirectPort as Port>⟧.joins ⟦<OutputRing<R> as Port>⟧.joins };
+
+    ghost child = { of_output ⟦<DirectPort as Port>⟧.child ⟦<OutputRing<R> as Port>⟧.child };
+
+    fn begin(&mut self) -> Begun {
+        match self {
+            OutputPort::Direct(port) => port.begin(),
+            OutputPort::Ring(port) => port.begin(),
+        }
+    }
+
+    fn settle(&mut self) -> Settled {
+        match self {
+            OutputPort::Direct(port) => port.settle(),
+            OutputPort::Ring(port) => port.settle(),
+        }
+    }
+
+    fn read(&mut self, into: &mut [u8]) -> Got {
+        match self {
+            OutputPort::Direct(port) => port.read(into),
+            OutputPort::Ring(port) => port.read(into),
+        }
+    }
+
+    fn write(&mut self, bytes: &[u8]) -> Took {
+        match self {
+            OutputPort::Direct(port) => port.write(bytes),
+            OutputPort::Ring(port) => port.write(bytes),
+        }
+    }
+
+    fn send(&mut self, bytes: &[u8]) -> Took {
+        match self {
+            OutputPort::Direct(port) => port.send(bytes),
+            OutputPort::Ring(port) => port.send(bytes),
+        }
+    }
+
+    fn put_all(&mut self, bytes: &[u8]) -> Took {
+        match self {
+            OutputPort::Direct(port) => port.put_all(bytes),
+            OutputPort::Ring(port) => port.put_all(bytes),
+        }
+    }
+
+    fn shut(&mut self, how: Shut) -> Shutting {
+        match self {
+            OutputPort::Direct(port) => port.shut(how),
+            OutputPort::Ring(port) => port.shut(how),
+        }
+    }
+
+    fn hint(&mut self) -> Hint {
+        match self {
+            OutputPort::Direct(port) => port.hint(),
+            OutputPort::Ring(port) => port.hint(),
+        }
+    }
+
+    fn may_hint(&self) -> bool {
+        match self {
+            OutputPort::Direct(port) => port.may_hint(),
+            OutputPort::Ring(port) => port.may_hint(),
+        }
+    }
+
+    fn has_child(&self) -> bool {
+        match self {
+            OutputPort::Direct(port) => port.has_child(),
+            OutputPort::Ring(port) => port.has_child(),
+        }
+    }
+
+    fn reap(&mut self) -> PortReap {
+        match self {
+            OutputPort::Direct(port) => port.reap(),
+            OutputPort::Ring(port) => port.reap(),
+        }
+    }
+
+    fn join(&mut self) -> Joining {
+        match self {
+            OutputPort::Direct(port) => port.join(),
+            OutputPort::Ring(port) => port.join(),
+        }
+    }
+}
