@@ -1,12 +1,13 @@
 #!/usr/bin/env python3
-"""Measures what idle sessions cost an active one: a byte there and back through `TCP4-LISTEN,fork PIPE`, beside 10 and
-beside 10,000 idle sessions, and the private memory for each. Where descriptors or a minute don't allow so many there
-are fewer.
+"""Measures what idle sessions cost an active one: a byte there and back through `TCP4-LISTEN,fork TCP4`, and with `PIPE`
+behind, beside 10 and beside 10,000 idle sessions, and the private memory for each. Where descriptors or half a minute
+don't allow so many there are fewer.
 
 many.py PROGRAM
 """
 import os
 import resource
+import selectors
 import socket
 import subprocess
 import sys
@@ -14,18 +15,50 @@ import time
 
 MANY = int(os.environ.get("SESSIONS", 10000))
 TRIPS = int(os.environ.get("TRIPS", 2000))
-SECONDS = 60
+SECONDS = 30
+HERE = "127.0.0.1"
 
 
 def free_port():
     with socket.socket() as sock:
-        sock.bind(("127.0.0.1", 0))
+        sock.bind((HERE, 0))
         return sock.getsockname()[1]
+
+
+def echo(server):
+    """Gives back what comes, over any number of connections."""
+    ready = selectors.DefaultSelector()
+    ready.register(server, selectors.EVENT_READ)
+    while True:
+        for key, _ in ready.select():
+            if key.fileobj is server:
+                sock, _ = server.accept()
+                sock.setsockopt(socket.IPPROTO_TCP, socket.TCP_NODELAY, 1)
+                ready.register(sock, selectors.EVENT_READ)
+                continue
+            data = key.fileobj.recv(4096)
+            if data:
+                key.fileobj.sendall(data)
+            else:
+                ready.unregister(key.fileobj)
+                key.fileobj.close()
+
+
+def served():
+    """A server in a process of its own, and its port."""
+    server = socket.create_server((HERE, 0), backlog=1024)
+    child = os.fork()
+    if child == 0:
+        echo(server)
+        os._exit(0)
+    port = server.getsockname()[1]
+    server.close()
+    return child, port
 
 
 def called(port):
     """A session that has begun: a byte went there and back."""
-    sock = socket.create_connection(("127.0.0.1", port), 20)
+    sock = socket.create_connection((HERE, port), 20)
     sock.setsockopt(socket.IPPROTO_TCP, socket.TCP_NODELAY, 1)
     trip(sock)
     return sock
@@ -45,15 +78,15 @@ def private(pid):
 def median_trip(sock, until):
     """The median in microseconds, of as many trips as the time allows."""
     times = []
-    while len(times) < TRIPS and time.monotonic() < until:
+    while not times or len(times) < TRIPS and time.monotonic() < until:
         before = time.perf_counter_ns()
         trip(sock)
         times.append(time.perf_counter_ns() - before)
     return sorted(times)[len(times) // 2] / 1000
 
 
-def started(program, port):
-    relay = subprocess.Popen([program, "-t10", f"TCP4-LISTEN:{port},fork", "PIPE"])
+def started(program, port, behind):
+    relay = subprocess.Popen([program, "-t10", f"TCP4-LISTEN:{port},fork", behind])
     end = time.monotonic() + 10
     while time.monotonic() < end:
         try:
@@ -63,19 +96,16 @@ def started(program, port):
     sys.exit("the relay doesn't listen")
 
 
-def main(program):
-    most = resource.getrlimit(resource.RLIMIT_NOFILE)[1]
-    resource.setrlimit(resource.RLIMIT_NOFILE, (most, most))
-    many = min(MANY, most - 100)
-    port = free_port()
+def measure(program, behind, many):
     until = time.monotonic() + SECONDS
-    relay, active = started(program, port)
+    port = free_port()
+    relay, active = started(program, port, behind)
     try:
         idle = [called(port) for _ in range(10)]
         few = median_trip(active, until)
         before = private(relay.pid)
         begun = time.monotonic()
-        while len(idle) < many and time.monotonic() < until - 10:
+        while len(idle) < many and time.monotonic() < until - 5:
             idle.append(called(port))
         seconds = time.monotonic() - begun
         each = (private(relay.pid) - before) / (len(idle) - 10)
@@ -83,9 +113,24 @@ def main(program):
     finally:
         relay.kill()
         relay.wait()
-    print(f"a byte there and back beside 10 idle sessions: {few:.1f} us")
-    print(f"beside {len(idle)} idle sessions: {slow:.1f} us, {slow / few:.2f} of that")
-    print(f"private memory of each: {each:.1f} KiB; {(len(idle) - 10) / seconds:.0f} of them begun a second")
+    kind = behind.partition(":")[0]
+    print(f"{kind} behind: a byte there and back beside 10 idle sessions: {few:.1f} us")
+    print(f"{kind} behind: beside {len(idle)} idle sessions: {slow:.1f} us, {slow / few:.2f} of that")
+    rate = (len(idle) - 10) / seconds
+    print(f"{kind} behind: private memory of each: {each:.1f} KiB; {rate:.0f} of them begun a second", flush=True)
 
 
-main(os.path.realpath(sys.argv[1]))
+def main(program):
+    most = resource.getrlimit(resource.RLIMIT_NOFILE)[1]
+    resource.setrlimit(resource.RLIMIT_NOFILE, (most, most))
+    child, port = served()
+    try:
+        measure(program, f"TCP4:{HERE}:{port}", min(MANY, (most - 100) // 2))
+        measure(program, "PIPE", min(MANY, most - 100))
+    finally:
+        os.kill(child, 9)
+        os.waitpid(child, 0)
+
+
+if __name__ == "__main__":
+    main(os.path.realpath(sys.argv[1]))

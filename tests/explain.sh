@@ -13,6 +13,11 @@ case "$relay" in
     /*) ;;
     *) relay="$PWD/$relay" ;;
 esac
+if [ ! -x "$relay" ]; then
+    echo "no program at $relay: run make first"
+    echo "0 passed, 1 failed"
+    exit 1
+fi
 mkdir "$scratch/empty"
 cd "$scratch/empty" || exit 1
 

@@ -26,8 +26,9 @@ class Relay:
         return [len(os.listdir(f"/proc/{self.process.pid}/{what}")) for what in ("fd", "task")]
 
     def memory(self):
+        """The most that it has had, in KiB; 0 where it has just ended."""
         with open(f"/proc/{self.process.pid}/status") as rows:
-            return next(int(row.split()[1]) for row in rows if row.startswith("VmHWM:"))
+            return next((int(row.split()[1]) for row in rows if row.startswith("VmHWM:")), 0)
 
     def called(self):
         last = time.monotonic() + 10

@@ -224,13 +224,15 @@ class Endurance:
         lasting = Lasting(self.options.program, self.folder, self.ports)
         held = len(os.listdir("/proc/self/fd"))
         number = self.options.first
-        with concurrent.futures.ThreadPoolExecutor(self.options.jobs) as pool:
-            while time.monotonic() < until:
-                last = number + 20 * self.options.jobs
-                list(pool.map(self.one, range(number, last)))
-                number = last
-                lasting.round()
-        wrong = lasting.finish()
+        try:
+            with concurrent.futures.ThreadPoolExecutor(self.options.jobs) as pool:
+                while time.monotonic() < until:
+                    last = number + 20 * self.options.jobs
+                    list(pool.map(self.one, range(number, last)))
+                    number = last
+                    lasting.round()
+        finally:
+            wrong = lasting.finish()
         now = len(os.listdir("/proc/self/fd"))
         if now > held:
             print(f"note: this script held {held} descriptors, and now {now}")
@@ -261,6 +263,7 @@ def main():
     if options.seed is None:
         options.seed = random.SystemRandom().randrange(10**9)
     print(f"seed {options.seed}", flush=True)
+    signal.signal(signal.SIGTERM, lambda *_: sys.exit("ended by a signal"))
     folder = tempfile.mkdtemp(prefix="endurance-")
     try:
         it = Endurance(options, folder)

@@ -74,4 +74,4 @@ report_ends (commands.Relay c) text h =
     subst EndsLine (sym h.told) (ends_behind (h.settings ++ newline ++ h.left ++ newline) h.right right)
 report_ends commands.Usage text h = record { front = said "prints the usage on standard error, and opens nothing"; ends = h }
 report_ends commands.Version text h = record { front = said "prints the version on standard error, and opens nothing"; ends = h }
-report_ends (commands.Load number) text h = record { front = said "makes the generated run number " ++ decimal number; ends = h }
+report_ends (commands.Load number) text h = record { front = said "relays fifty sessions in memory, with bytes that the number " ++ decimal number ++ said " generates; opens nothing"; ends = h }

@@ -101,4 +101,5 @@ abbrev pub Tells : Command → List ℕ → Type 0
 Tells (commands.Relay c) text = RelayTold c text
 Tells commands.Usage text = text ≡ said "prints the usage on standard error, and opens nothing" ++ newline
 Tells commands.Version text = text ≡ said "prints the version on standard error, and opens nothing" ++ newline
-Tells (commands.Load number) text = text ≡ said "makes the generated run number " ++ decimal number ++ newline
+Tells (commands.Load number) text =
+    text ≡ said "relays fifty sessions in memory, with bytes that the number " ++ decimal number ++ said " generates; opens nothing" ++ newline

@@ -35,8 +35,9 @@ fn load_told(alloc: Global, number: u64) -> Result<Page, NoMemory>
     ensures { IfOk result (Tells (Command.Load number)) }
 {
     let mut page = Page::new(alloc);
-    page.say("makes the generated run number ")?;
+    page.say("relays fifty sessions in memory, with bytes that the number ")?;
     page.number(number)?;
+    page.say(" generates; opens nothing")?;
     page.end_line()?;
     Ok(page)
 }

@@ -4,7 +4,7 @@ ghost use Rattle.command_report.specs.Reports.{block_line, SettingsTold};
 
 use crate::pages::{Page, line};
 use crate::values::say_time;
-use command_places::{formed, keeps_borders};
+use command_places::{formed, has_fork, keeps_borders};
 use relay_model::{Config, Dump, NoMemory, Way};
 use std::alloc::Global;
 
@@ -62,22 +62,36 @@ fn say_closing(page: &mut Page, config: &Config) -> Result<(), NoMemory> {
     }
 }
 
-fn say_idle(page: &mut Page, idle: u64) -> Result<(), NoMemory> {
-    if idle == 0 {
+/// With `fork` each session has its own.
+fn say_idle(page: &mut Page, config: &Config) -> Result<(), NoMemory> {
+    if config.idle == 0 {
         return line(page, "inactivity: no limit (-T)");
     }
-    page.say("inactivity: ends where nothing has passed for ")?;
-    say_time(page, idle)?;
+    page.say(if has_fork(config) {
+        "inactivity: ends a session in which nothing has passed for "
+    } else {
+        "inactivity: ends where nothing has passed for "
+    })?;
+    say_time(page, config.idle)?;
     line(page, " (-T)")
 }
 
-fn say_failures(page: &mut Page, sloppy: bool) -> Result<(), NoMemory> {
+fn say_failures(page: &mut Page, config: &Config) -> Result<(), NoMemory> {
     line(
         page,
-        if sloppy {
-            "failures: a failed read or write breaks its own way alone; the run then ends with status 1 (-s)"
-        } else {
-            "failures: a failed read or write ends the run with status 1 (no -s)"
+        match (has_fork(config), config.sloppy) {
+            (false, false) => {
+                "failures: a failed read or write ends the run with status 1 (no -s)"
+            }
+            (false, true) => {
+                "failures: a failed read or write breaks its own way alone; the run then ends with status 1 (-s)"
+            }
+            (true, false) => {
+                "failures: a failed read or write ends its session alone; the run goes on (no -s)"
+            }
+            (true, true) => {
+                "failures: a failed read or write breaks its own way of its session alone; the run goes on (-s)"
+            }
         },
     )
 }
@@ -100,8 +114,8 @@ fn other_settings(alloc: Global, config: &Config) -> Result<Page, NoMemory> {
     say_ways(&mut page, config)?;
     say_borders(&mut page, config)?;
     say_closing(&mut page, config)?;
-    say_idle(&mut page, config.idle)?;
-    say_failures(&mut page, config.sloppy)?;
+    say_idle(&mut page, config)?;
+    say_failures(&mut page, config)?;
     say_dumps(&mut page, config.dump)?;
     Ok(page)
 }

@@ -9,7 +9,7 @@ use parts::{NO_MEMORY, carried_out, closed_streams, concluded, made, told, wakes
 use port_desk::Standard;
 use port_trait::{StdSink, StdSource, StdSpawner};
 use program_words::program_words;
-use standard_ports::{InputPort, OutputPort, direct_input, direct_output};
+use standard_ports::{FreshInput, FreshOutput, direct_input, direct_output};
 use std::process::ExitCode;
 use thread_rings::{RingReader, RingWriter};
 
@@ -32,22 +32,26 @@ fn main(rt: HostRuntime) -> ExitCode {
     };
     let mut spawner = StdSpawner::new(rt);
     let stdin = match direct_input(rt, alloc, &poller) {
-        Some(port) => Ok(InputPort::Direct(port)),
-        None => RingReader::new(alloc, StdSource::new(rt.stdin()), &mut spawner, reading).map(
-            InputPort::Ring,
-        ),
+        Some(port) => Ok(FreshInput::direct(port)),
+        None => match RingReader::new(alloc, StdSource::new(rt.stdin()), &mut spawner, reading) {
+            Ok(ring) => Ok(FreshInput::ring(ring)),
+            Err(error) => Err(error),
+        },
     };
     let stdout = match direct_output(rt, alloc, &poller) {
-        Some(port) => Ok(OutputPort::Direct(port)),
-        None => RingWriter::new(alloc, sink, &mut spawner, writing).map(OutputPort::Ring),
+        Some(port) => Ok(FreshOutput::direct(port)),
+        None => match RingWriter::new(alloc, sink, &mut spawner, writing) {
+            Ok(ring) => Ok(FreshOutput::ring(ring)),
+            Err(error) => Err(error),
+        },
     };
     let stderr = RingWriter::new(alloc, StdSink::new(rt.stderr()), &mut spawner, noting);
     let (Ok(stdin), Ok(stdout), Ok(stderr)) = (stdin, stdout, stderr) else {
         return ExitCode::from(NO_MEMORY);
     };
     let standard = Standard {
-        stdin,
-        stdout,
+        stdin: stdin.into_port(),
+        stdout: stdout.into_port(),
         stderr,
     };
     let status = carried_out(rt, rt, alloc, poller, standard, words.as_slice());

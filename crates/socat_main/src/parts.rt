@@ -1,4 +1,6 @@
 // Steps of a beginning, each with the status where it couldn't be made, and the end.
+ghost use Rattle.std.specs.Prelude.{◌≡◌, [], IfSome};
+
 use journal_file::DiskJournal;
 use mio_poller::{MioPoller, MioWake};
 use port_desk::{Desk, Standard};
@@ -73,7 +75,7 @@ pub fn told<K: Sink + Drop>(alloc: Global, sink: K) -> Result<(ToldSink<K>, Fail
     Ok((told, failures))
 }
 
-/// Carries out the words over a desk of these streams and of the ports that a maker opens, and gives the status. Files and
+/// Carries out the words over a desk of these streams, which have passed no bytes, and of the ports that a maker opens, and gives the status. Files and
 /// programs are the system's. In `main` the types would be known, and the prover compares more of them than its steps allow.
 pub fn carried_out<R, I: Port, O: Port, E: Port>(
     rt: R,
@@ -85,6 +87,8 @@ pub fn carried_out<R, I: Port, O: Port, E: Port>(
 ) -> u8
 where
     R: Files + Net + Clock + Threads + Copy + Drop,
+    requires given { IfSome (I.gave standard.stdin) (λ all. all ≡ []) }
+    requires taken { IfSome (O.took standard.stdout) (λ all. all ≡ []) }
 {
     let maker = match made(RealMaker::on(rt, system, alloc, &poller)) {
         Ok(maker) => maker,

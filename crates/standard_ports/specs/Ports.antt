@@ -1,4 +1,5 @@
 -- What contracts see of a standard port: what they see of the port that it is.
+use Rattle.std.specs.Prelude.{ℕ, Bool, true, false, List, [], ◌∷◌}
 use Rattle.standard_ports.specs.declared.direct.DirectPort.{DirectPort}
 use Rattle.standard_ports.specs.declared.direct.DirectPort.TheVariants as directs
 use Rattle.standard_ports.specs.declared.input.InputPort.{InputPort}
@@ -6,8 +7,8 @@ use Rattle.standard_ports.specs.declared.input.InputPort.TheVariants as inputs
 use Rattle.standard_ports.specs.declared.output.OutputPort.{OutputPort}
 use Rattle.standard_ports.specs.declared.output.OutputPort.TheVariants as outputs
 use Rattle.file_ports.specs.Halves.{HalvesState}
-use Rattle.ring_reader.specs.Readers.{ReaderState}
-use Rattle.ring_writer.specs.Writers.{WriterState}
+use Rattle.ring_reader.specs.Readers.{ReaderState, given_of}
+use Rattle.ring_writer.specs.Writers.{WriterState, took_of}
 use Rattle.socket_ports.specs.Sockets.{PortState}
 
 -- what a port in the loop tells
@@ -24,3 +25,18 @@ of_input direct ring (inputs.Ring port) = ring port
 abbrev pub of_output : {R : Type 0} → {T : Type 0} → (DirectPort → T) → (WriterState → T) → OutputPort R → T
 of_output direct ring (outputs.Direct port) = direct port
 of_output direct ring (outputs.Ring port) = ring port
+
+-- there are no bytes
+abbrev pub is_none : List ℕ → Bool
+is_none [] = true
+is_none (b ∷ bytes) = false
+
+-- standard input has given no bytes that it tells of
+abbrev pub is_unread : {R : Type 0} → InputPort R → Bool
+is_unread (inputs.Direct port) = true
+is_unread (inputs.Ring ring) = is_none (given_of ring)
+
+-- standard output has taken no bytes that it tells of
+abbrev pub is_unwritten : {R : Type 0} → OutputPort R → Bool
+is_unwritten (outputs.Direct port) = true
+is_unwritten (outputs.Ring ring) = is_none (took_of ring)

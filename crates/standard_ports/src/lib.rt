@@ -3,12 +3,14 @@
 #![tactic(auto)]
 
 mod direct;
+mod fresh;
 mod input;
 mod opening;
 mod output;
 mod piped;
 
 pub use direct::{DirectPort, SharedPort};
+pub use fresh::{FreshInput, FreshOutput};
 pub use input::{InputPort, InputRing};
 pub use opening::{direct_input, direct_output};
 pub use output::{OutputPort, OutputRing};
