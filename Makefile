@@ -103,6 +103,7 @@ bench: bin/socat
 	bench/programs.sh bin/socat
 	PYTHONDONTWRITEBYTECODE=1 bench/sessions.py bin/socat $$(command -v socat)
 	bench/many.py bin/socat
+	bench/senders.py bin/socat
 	bench/dumps.sh bin/socat
 	bench/words.sh bin/socat
 	bench/parts.sh

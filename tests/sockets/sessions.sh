@@ -96,6 +96,13 @@ crowd '50 had their own' udp4 "@${pids[relay]}" 50 echo=1000
 ended relay 0 '' ''
 finish
 
+begin "UDP-RECVFROM with fork: a program for each datagram"
+given_nothing
+UNAUDITED=yes start relay -t10 UDP4-RECVFROM:0,fork,stop-after=20 EXEC:cat
+crowd '20 had their own' udp4 "@${pids[relay]}" 20 echo=1000
+ended relay 0 '' ''
+finish
+
 # both_in_turn FLAG TEXT: two clients at once talk in turn to a relay with this flag, which says just this text.
 both_in_turn() {
     given_nothing
