@@ -82,6 +82,7 @@ finish
 
 begin "an empty datagram ends its sender's session alone, and the next one begins another"
 given_nothing
+rm -f first second third
 UNAUDITED=yes start relay -u UDP4-LISTEN:0,fork,stop-after=3,null-eof STDOUT
 listens relay udp4
 at="$port"
@@ -91,7 +92,6 @@ peer connect udp4 "/$at" send=b make=second wait=third send=d send=
 told 1 ''
 told 2 ''
 ended relay 0 abcd ''
-rm -f first second third
 finish
 
 begin "without null-eof an empty datagram is ignored in a session"
