@@ -27,7 +27,7 @@ use Rattle.relay_model.specs.declared.commands.Target.TheVariants as targets
 use Rattle.relay_model.specs.declared.commands.Address.TheVariants as addresses
 use Rattle.relay_model.specs.declared.commands.Single.{Single}
 use Rattle.relay_model.specs.declared.commands.Options.{Options}
-use Rattle.relay_model.specs.declared.commands.FileFlags.{FileFlags}
+use Rattle.relay_model.specs.PlainRelay.{default_options as plain}
 use Rattle.relay_model.specs.Outcome.{outcome}
 use Rattle.relay_model.specs.Outcome as outcomes
 use Rattle.relay_model.specs.Rest.{until_of}
@@ -45,14 +45,6 @@ named p half = record { place = p; half = half }
 -- a turn's list of these entries
 abbrev pub listed : List ReadyAt → Listed
 listed entries = record { entries = entries; room = 0 }
-
--- a file without an option
-abbrev pub no_flags : FileFlags
-no_flags = record { creat = false; excl = false; append = false; trunc = false; rdonly = false; wronly = false }
-
--- every option at its default
-abbrev pub plain : Options
-plain = record { conv = convs.Plain; ignoreeof = false; readbytes = None; escape = None; null_eof = false; shut = None; retry = 0; forever = false; interval = 1000; fork = false; max_children = 4294967295; stop_after = 4294967295; range = None; sourceport = None; lowport = false; unlink_early = false; unlink_close = false; nodelay = false; bind = None; file = no_flags; socksport = 1080; socksuser = []; proxyport = 8080 }
 
 -- a single address
 abbrev pub one : Target → Options → Single
