@@ -58,6 +58,22 @@ try() {
     report "$name" "$problem"
 }
 
+# next_case: reads the next case's words into `words`: a line 'case N', and N lines with one word each. It fails where no
+# case is left.
+next_case() {
+    local line count
+    words=()
+    while IFS= read -r line; do
+        [[ "$line" == 'case '* ]] || continue
+        count="${line#case }"
+        while [ "${#words[@]}" -lt "$count" ] && IFS= read -r line; do
+            words+=("$line")
+        done
+        return 0
+    done
+    return 1
+}
+
 # holds FILE TEXT: '' where the file holds just this text (for printf '%b'), else what is wrong.
 holds() {
     printf '%b' "$2" >"$scratch/held"

@@ -71,17 +71,8 @@ wants() {
 # --- the texts that were written by hand
 
 texts() {
-    local line count wanted words tried=0
-    while IFS= read -r line; do
-        case "$line" in
-            'case '*) ;;
-            *) continue ;;
-        esac
-        count="${line#case }"
-        words=()
-        while [ "${#words[@]}" -lt "$count" ] && IFS= read -r line; do
-            words+=("$line")
-        done
+    local line wanted words tried=0
+    while next_case; do
         IFS= read -r line
         wanted="${line#status }"
         : >"$scratch/text"
@@ -217,17 +208,8 @@ refused() {
 }
 
 refusals() {
-    local line count words
-    while IFS= read -r line; do
-        case "$line" in
-            'case '*) ;;
-            *) continue ;;
-        esac
-        count="${line#case }"
-        words=()
-        while [ "${#words[@]}" -lt "$count" ] && IFS= read -r line; do
-            words+=("$line")
-        done
+    local line words
+    while next_case; do
         IFS= read -r line
         IFS= read -r line
         case "$line" in

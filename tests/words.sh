@@ -61,17 +61,8 @@ refused() {
 # --- the table of an independent model
 
 cases() {
-    local line count status text words
-    while IFS= read -r line; do
-        case "$line" in
-            'case '*) ;;
-            *) continue ;;
-        esac
-        count="${line#case }"
-        words=()
-        while [ "${#words[@]}" -lt "$count" ] && IFS= read -r line; do
-            words+=("$line")
-        done
+    local line status text words
+    while next_case; do
         IFS= read -r line
         status="${line#status }"
         IFS= read -r text
