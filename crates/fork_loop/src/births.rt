@@ -22,7 +22,7 @@ impl Crew {
         let ready = ReadyList::new(alloc)?;
         let scratch = vec![in alloc; 0; config.block as usize]?;
         let door = Door::new(config);
-        let table = ForkTable::new(alloc, options.max_children, options.stop_after);
+        let table = ForkTable::new(alloc, options.sessions.max_children, options.sessions.stop_after);
         let timers = TimerSet::new(alloc);
         Ok(Crew {
             door,

@@ -67,7 +67,7 @@ impl Opening {
             tried: false,
             closed: false,
             asked_child: false,
-            plan: Plan::new(options.retry, options.forever, options.interval),
+            plan: Plan::new(options.tries.retry, options.tries.forever, options.tries.interval),
             filter: Filter::new(options),
         }
     }
