@@ -63,7 +63,9 @@ fn set_number(options: &mut Options, id: OptionId, number: u64)
         OptionId::MaxChildren => {
             options.sessions.max_children = u32::try_from(number).unwrap_or(u32::MAX);
         }
-        OptionId::StopAfter => options.sessions.stop_after = u32::try_from(number).unwrap_or(u32::MAX),
+        OptionId::StopAfter => {
+            options.sessions.stop_after = u32::try_from(number).unwrap_or(u32::MAX);
+        }
         _ => {}
     }
 }

@@ -271,7 +271,9 @@ fn is_filtered(target: &Target) -> bool {
 }
 
 fn has_filter(options: &Options) -> bool {
-    options.admission.range.is_some() || options.admission.sourceport.is_some() || options.admission.lowport
+    options.admission.range.is_some()
+        || options.admission.sourceport.is_some()
+        || options.admission.lowport
 }
 
 fn say_admitted(page: &mut Page, options: &Options) -> Result<(), NoMemory> {

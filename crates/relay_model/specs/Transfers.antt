@@ -15,7 +15,7 @@ use Rattle.relay_model.specs.History.{got, put, met_end, met_empty}
 abbrev pub due : Config → Way → List ℕ → List ℕ
 due c w xs =
     due_of (options_of c (input c 0 w)).conv (options_of c (output c 0 w)).conv
-      (options_of c (input c 0 w)).input.readbytes (options_of c (input c 0 w)).input.escape xs
+    (options_of c (input c 0 w)).input.readbytes (options_of c (input c 0 w)).input.escape xs
 
 -- what a further piece adds to it
 abbrev pub due_part : Config → Way → List ℕ → List ℕ → List ℕ
@@ -50,8 +50,7 @@ backlog c past s w = length (due c w (got past (input c s w))) - length (put pas
 abbrev pub greatest_read : Config → List Act → ℕ → Way → ℕ
 greatest_read c past s w =
     if keeps_borders c w
-    then packet_size c.block (packet_cap (options_of c (output c 0 w)).conv)
-      (options_of c (input c 0 w)).input.readbytes (length (got past (input c s w))) (backlog c past s w)
+    then packet_size c.block (packet_cap (options_of c (output c 0 w)).conv) (options_of c (input c 0 w)).input.readbytes (length (got past (input c s w))) (backlog c past s w)
     else read_size c.block (options_of c (input c 0 w)).input.readbytes (length (got past (input c s w))) (backlog c past s w)
 
 -- the direction has been read to its end and all was written

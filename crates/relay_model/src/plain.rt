@@ -3,8 +3,8 @@ ghost use Rattle.std.specs.Prelude.{◌≡◌, [], IfOk};
 ghost use Rattle.relay_model.specs.PlainRelay.{plain_relay, standard, default_options};
 
 use crate::commands::{
-    Address, Admission, Config, Conv, Dump, EntryOptions, FileFlags, InputOptions, Options, ProxyOptions,
-    SessionOptions, Single, SocketOptions, Target, TryOptions, Ways,
+    Address, Admission, Config, Conv, Dump, EntryOptions, FileFlags, InputOptions, Options,
+    ProxyOptions, SessionOptions, Single, SocketOptions, Target, TryOptions, Ways,
 };
 use crate::contents::{NoMemory, Text};
 use std::alloc::Global;

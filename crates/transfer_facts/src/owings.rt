@@ -121,8 +121,8 @@ fn read_due(
 fn meets(config: &Config, place: Place, met: bool, count: usize, bytes: &[u8]) -> bool
     ensures { result ≡ (met || is_met (left_of (options_of config.now place).input.readbytes count) (options_of config.now place).input.escape bytes.now) }
 {
-    let options = options_of(config, place);
-    met || is_met(left_of(options.input.readbytes, count), options.input.escape, bytes)
+    let reading = options_of(config, place).input;
+    met || is_met(left_of(reading.readbytes, count), reading.escape, bytes)
 }
 
 fn read_met(

@@ -68,7 +68,11 @@ fn say_opening(options: &Options, answers: &mut Answers) -> Answered {
 fn say_sessions(options: &Options, answers: &mut Answers) -> Answered {
     let most = u64::from(u32::MAX);
     answers.word_if("fork", options.sessions.fork)?;
-    answers.unusual("max-children", u64::from(options.sessions.max_children), most)?;
+    answers.unusual(
+        "max-children",
+        u64::from(options.sessions.max_children),
+        most,
+    )?;
     answers.unusual("stop-after", u64::from(options.sessions.stop_after), most)?;
     if let Some(range) = options.admission.range {
         say_range(range, answers)?;
