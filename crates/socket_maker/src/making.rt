@@ -4,7 +4,8 @@ ghost use Rattle.port_trait.specs.declared.makers.Making.TheVariants as makings;
 ghost use Rattle.port_trait.specs.Made.{IsAtOnce};
 ghost use Rattle.socket_kinds.specs.Accepting.{OnPort};
 ghost use Rattle.socket_ports.specs.Accepting.{IsFresh};
-ghost use Rattle.socket_maker.specs.Makings.{opened_sort, listens, socket_sort, port_sort};
+ghost use Rattle.socket_maker.specs.Makings.{opened_sort, socket_sort, port_sort};
+ghost use Rattle.relay_model.specs.Configs.{listens};
 ghost use Rattle.socket_kinds.specs.Kinds.{Connected, Packets, Listening};
 
 use crate::lookup::{door_address, local_address, look_up};
