@@ -124,7 +124,7 @@ fn say_entry(page: &mut Page, single: &Single) -> Result<(), NoMemory> {
     let options = &single.options;
     line(
         page,
-        match (options.unlink_early, options.unlink_close) {
+        match (options.entry.unlink_early, options.entry.unlink_close) {
             (false, false) => "  entry: stays (no unlink-early, no unlink-close)",
             (true, false) => "  entry: removed before the opening (unlink-early)",
             (false, true) => "  entry: removed at the close (unlink-close)",
@@ -147,7 +147,7 @@ fn say_delay(page: &mut Page, single: &Single) -> Result<(), NoMemory> {
     }
     line(
         page,
-        if single.options.nodelay {
+        if single.options.socket.nodelay {
             "  small pieces: sent at once (nodelay)"
         } else {
             "  small pieces: may wait for more (no nodelay)"
@@ -181,7 +181,7 @@ fn say_bound(page: &mut Page, bind: Bind) -> Result<(), NoMemory> {
 }
 
 fn say_local(page: &mut Page, single: &Single) -> Result<(), NoMemory> {
-    match (single.options.bind, unbound(&single.target)) {
+    match (single.options.socket.bind, unbound(&single.target)) {
         (_, None) => Ok(()),
         (Some(bind), Some(_)) => say_bound(page, bind),
         (None, Some(words)) => {
@@ -225,15 +225,15 @@ fn say_interval(page: &mut Page, interval: u64) -> Result<(), NoMemory> {
 
 fn say_tries(page: &mut Page, single: &Single) -> Result<(), NoMemory> {
     let options = &single.options;
-    if options.forever {
+    if options.tries.forever {
         page.say("  tries: without end (forever)")?;
-        return say_interval(page, options.interval);
+        return say_interval(page, options.tries.interval);
     }
-    if options.retry > 0 {
+    if options.tries.retry > 0 {
         page.say("  tries: one, and where it fails ")?;
-        page.number(options.retry)?;
+        page.number(options.tries.retry)?;
         page.say(" more (retry)")?;
-        return say_interval(page, options.interval);
+        return say_interval(page, options.tries.interval);
     }
     if is_tried_again(&single.target) {
         line(page, "  tries: one (no retry, no forever)")?;
@@ -242,7 +242,7 @@ fn say_tries(page: &mut Page, single: &Single) -> Result<(), NoMemory> {
 }
 
 fn say_sessions(page: &mut Page, options: &Options) -> Result<(), NoMemory> {
-    if !options.fork {
+    if !options.sessions.fork {
         return line(page, "  peers: one; then the door is closed (no fork)");
     }
     line(
@@ -252,13 +252,13 @@ fn say_sessions(page: &mut Page, options: &Options) -> Result<(), NoMemory> {
     numbered_line(
         page,
         "  sessions: at most ",
-        u64::from(options.max_children),
+        u64::from(options.sessions.max_children),
         " at once (max-children)",
     )?;
     numbered_line(
         page,
         "  door: closed once ",
-        u64::from(options.stop_after),
+        u64::from(options.sessions.stop_after),
         " peers came (stop-after)",
     )
 }
@@ -271,7 +271,9 @@ fn is_filtered(target: &Target) -> bool {
 }
 
 fn has_filter(options: &Options) -> bool {
-    options.range.is_some() || options.sourceport.is_some() || options.lowport
+    options.admission.range.is_some()
+        || options.admission.sourceport.is_some()
+        || options.admission.lowport
 }
 
 fn say_admitted(page: &mut Page, options: &Options) -> Result<(), NoMemory> {
@@ -281,12 +283,12 @@ fn say_admitted(page: &mut Page, options: &Options) -> Result<(), NoMemory> {
             "  let in: every peer (no range, no sourceport, no lowport)",
         );
     }
-    if let Some(range) = options.range {
+    if let Some(range) = options.admission.range {
         page.say("  let in: only from the network ")?;
         say_range(page, range)?;
         line(page, " (range)")?;
     }
-    if let Some(port) = options.sourceport {
+    if let Some(port) = options.admission.sourceport {
         numbered_line(
             page,
             "  let in: only from port ",
@@ -294,7 +296,7 @@ fn say_admitted(page: &mut Page, options: &Options) -> Result<(), NoMemory> {
             " (sourceport)",
         )?;
     }
-    if options.lowport {
+    if options.admission.lowport {
         line(page, "  let in: only from a port below 1024 (lowport)")?;
     }
     Ok(())
@@ -316,17 +318,17 @@ fn say_servers(page: &mut Page, single: &Single) -> Result<(), NoMemory> {
     let options = &single.options;
     match &single.target {
         Target::Socks { .. } => {
-            let port = u64::from(options.socksport);
+            let port = u64::from(options.proxy.socksport);
             numbered_line(page, "  server's port: ", port, " (socksport)")?;
             named_line(
                 page,
                 "  user: ",
-                options.socksuser.as_slice(),
+                options.proxy.socksuser.as_slice(),
                 " (socksuser)",
             )
         }
         Target::Proxy { .. } => {
-            let port = u64::from(options.proxyport);
+            let port = u64::from(options.proxy.proxyport);
             numbered_line(page, "  proxy's port: ", port, " (proxyport)")
         }
         _ => Ok(()),

@@ -27,7 +27,7 @@ fn say_read_conversion(page: &mut Page, conversion: Conv) -> Result<(), NoMemory
 fn say_last_end(page: &mut Page, options: &Options) -> Result<(), NoMemory> {
     line(
         page,
-        if options.ignoreeof {
+        if options.input.ignoreeof {
             "  its end: isn't the last; it is asked again a second later (ignoreeof)"
         } else {
             "  its end: ends the input (no ignoreeof)"
@@ -41,7 +41,7 @@ fn say_empty_datagrams(page: &mut Page, single: &Single) -> Result<(), NoMemory>
     }
     line(
         page,
-        if single.options.null_eof {
+        if single.options.input.null_eof {
             "  an empty datagram: ends the input (null-eof)"
         } else {
             "  an empty datagram: doesn't end the input (no null-eof)"
@@ -79,8 +79,8 @@ pub(crate) fn say_reading(page: &mut Page, single: &Single) -> Result<(), NoMemo
     say_read_conversion(page, options.conv)?;
     say_last_end(page, options)?;
     say_empty_datagrams(page, single)?;
-    say_limit(page, options.readbytes)?;
-    say_escape(page, options.escape)
+    say_limit(page, options.input.readbytes)?;
+    say_escape(page, options.input.escape)
 }
 
 /// The line on how it is written.
