@@ -34,6 +34,7 @@ class Journal:
         self.lines = text.decode("latin-1").splitlines()
         self.read, self.wrote, self.notes = {}, {}, b""
         self.ends, self.shuts, self.faults = set(), set(), []
+        self.ends_behind_faults = set()
         self.openings, self.tries = {}, {}
         for line in self.lines:
             act, *fields = line.split(" ")
@@ -44,6 +45,8 @@ class Journal:
                 self.notes += bytes.fromhex(fields[0][1:])
             elif act == "end":
                 self.ends.add(fields[0])
+                if ("writefault", fields[0]) in self.faults:
+                    self.ends_behind_faults.add(fields[0])
             elif act == "shut":
                 self.shuts.add(fields[0])
             elif act in FAULTS:
@@ -224,7 +227,14 @@ class Checks:
         if not sent.startswith(read):
             self.say(f"{place} read {short(read)} of {short(sent)}")
         if place in self.journal.ends and read != sent and not partner.answers and not partner.model.get("most"):
-            self.say(f"{place} told the end after {short(read)} of {short(sent)}")
+            if not self.was_reset(place):
+                self.say(f"{place} told the end after {short(read)} of {short(sent)}")
+
+    def was_reset(self, place):
+        """Whether the end may be that of a connection that the peer has reset. The system tells a reset once: where a
+        write meets it first, the reads behind it are told an end, though what the peer had sent is lost. Reading goes on
+        behind a write that failed with -s alone."""
+        return self.plan.has("-s") and place in self.journal.ends_behind_faults
 
     def taken(self, partner, place, wrote):
         """What came to the partner is what was written."""
