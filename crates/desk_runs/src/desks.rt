@@ -1,83 +1,145 @@
-// A run as the program makes one: over a desk whose standard streams and whose file of the journal are in memory.
-ghost use Rattle.std.specs.Prelude.{◌≡◌, [], IfOk};
-ghost use Rattle.port_objects.specs.Scripts.{given_of};
+// A run as the program makes one: over a desk of these ports, with a file of the journal in memory.
+ghost use Rattle.std.specs.Prelude.{◌≡◌, [], IfSome};
 
+use desk_ports::Back;
+use mio_poller::MioPoller;
 use port_desk::{Desk, Standard};
-use port_objects::{MemMaker, MemPoller, MemPort, MemSink, PortItem};
-use relay_model::{Act, NoMemory, Side, Text};
+use port_objects::{MemPoller, MemPort, MemSink, Tap};
+use port_trait::{Maker, Making, Poller, Port};
+use real_maker::RealMaker;
+use relay_model::Text;
 use socat_top::{Written, run_written};
-use std::alloc::Global;
-use worked_rows::{Line, Ran, Row, RowFault, act_of, part, unquoted};
+use std::alloc::{AllocError, Global};
+use std::fs::Files;
+use std::net::Net;
+use std::rt::HostRuntime;
+use std::thread::Threads;
+use std::time::Clock;
+use worked_rows::{Ran, RowFault, part, push_digits};
 use world_trait::Recorder;
 
-/// For how many bytes each standard stream has room.
-const ROOM: usize = 65_536;
+/// For how many bytes each port in memory has room.
+pub(crate) const ROOM: usize = 65_536;
 
-/// Adds what the act makes standard input answer, if it is a read at the left.
-fn add_item(stdin: &mut MemPort, act: &Act) -> Result<bool, NoMemory>
-    ensures { given_of stdin.new.script ≡ given_of stdin.old.script }
-{
-    match act {
-        Act::Read(place, bytes) if place.side == Side::Left && bytes.len() > 0 => {
-            stdin.add(PortItem::Bytes(bytes.copy()?))?;
-        }
-        Act::ReadEnd(place) if place.side == Side::Left => stdin.add(PortItem::End)?,
-        Act::ReadNotYet(place) if place.side == Side::Left => stdin.add(PortItem::NotYet)?,
-        Act::ReadFault(place) if place.side == Side::Left => stdin.add(PortItem::Fault)?,
-        _ => return Ok(false),
-    }
-    Ok(true)
+/// What is run, and by which desk.
+#[derive(Clone, Copy)]
+pub(crate) struct Run<'a> {
+    pub(crate) alloc: Global,
+    pub(crate) words: &'a [Text],
+    pub(crate) turns: u64,
+    /// For how many bytes the file of the journal has room.
+    pub(crate) room: usize,
+    pub(crate) recorder: Recorder,
 }
 
-/// Adds what a line of a script says to standard input. There is no moment but 0.
-fn add_line(alloc: Global, stdin: &mut MemPort, line: Line<'_>) -> Result<(), RowFault>
-    ensures { given_of stdin.new.script ≡ given_of stdin.old.script }
-{
-    let (moment, item) = line.parts();
-    let item = unquoted(alloc, item)?.ok_or(line.fault())?;
-    let added = match act_of(alloc, item.as_str())? {
-        Some(act) => moment == "0" && add_item(stdin, &act)?,
-        None => false,
-    };
-    if added { Ok(()) } else { Err(line.fault()) }
+/// Standard input and output.
+#[derive(Drop)]
+pub(crate) struct Streams<I, O> {
+    pub(crate) stdin: I,
+    pub(crate) stdout: O,
 }
 
-/// The standard input of a script, which has given nothing yet.
-fn stdin_of(alloc: Global, script: &[Line<'_>]) -> Result<MemPort, RowFault>
-    ensures { IfOk result (λ port. given_of port.script ≡ []) }
-{
-    let mut stdin = MemPort::new(alloc, 0)?;
-    for line in script {
-        add_line(alloc, &mut stdin, *line)?;
-    }
-    Ok(stdin)
+/// How rows name a port in memory, and a look at what that takes.
+#[derive(Drop)]
+pub(crate) struct Look {
+    pub(crate) name: &'static str,
+    pub(crate) tap: Tap,
 }
 
-/// Runs the words of the row over a desk, which keeps its history only where they ask for that.
-pub(crate) fn run(alloc: Global, row: &Row<'_>, words: &[Text]) -> Result<Ran, RowFault> {
-    let stderr = MemPort::new(alloc, ROOM)?;
-    let mut file = MemSink::new(alloc, row.room)?;
+/// Carries out the words over a desk of these ports, which have passed no bytes yet.
+pub(crate) fn carried_out<M, P, I: Port, O: Port>(
+    run: Run<'_>,
+    streams: Streams<I, O>,
+    maker: M,
+    poller: P,
+    looks: &[Look],
+) -> Result<Ran, RowFault>
+where
+    M: Maker + Drop,
+    P: Poller + Drop,
+    requires given { IfSome (I.gave streams.stdin) (λ all. all ≡ []) }
+    requires taken { IfSome (O.took streams.stdout) (λ all. all ≡ []) }
+{
+    let Streams { stdin, stdout } = streams;
+    let stderr = MemPort::new(run.alloc, ROOM)?;
+    let mut file = MemSink::new(run.alloc, run.room)?;
     let (said, saved) = (stderr.tap(), file.tap());
     let standard = Standard {
-        stdin: stdin_of(alloc, row.script.as_slice())?,
-        stdout: MemPort::new(alloc, ROOM)?,
+        stdin,
+        stdout,
         stderr,
     };
-    let (maker, poller) = (MemMaker::new(alloc), MemPoller::new());
-    let Ok(desk) = Desk::new(alloc, standard, maker, poller, Recorder::Skip) else {
+    let Ok(desk) = Desk::new(run.alloc, standard, maker, poller, run.recorder) else {
         return Err(RowFault::Memory);
     };
     let Written {
         shipped,
         saving,
         status,
-    } = run_written(alloc, desk, words, row.turns, &mut file);
+    } = run_written(run.alloc, desk, run.words, run.turns, &mut file);
+    let mut ports = looked_at(run.alloc, looks)?;
+    ports.push(back_line(run.alloc, "stdin", &shipped.standard.stdin)?)?;
+    ports.push(back_line(run.alloc, "stdout", &shipped.standard.stdout)?)?;
     Ok(Ran {
         outcome: shipped.outcome,
         status,
         said: said.bytes()?,
-        journal: part(alloc, shipped.kept.journal())?.journal,
+        journal: part(run.alloc, shipped.kept.journal())?.journal,
         saving,
         saved: saved.bytes()?,
+        ports,
     })
+}
+
+/// Carries out the words over a desk of these ports and of those that the program's maker opens. Files and programs are
+/// the system's. The desk has the program's poller too, or looks by one in memory.
+pub(crate) fn over_system<R, I: Port, O: Port>(
+    rt: R,
+    system: HostRuntime,
+    run: Run<'_>,
+    streams: Streams<I, O>,
+    polled: bool,
+    looks: &[Look],
+) -> Result<Ran, RowFault>
+where
+    R: Files + Net + Clock + Threads + Copy + Drop,
+    requires given { IfSome (I.gave streams.stdin) (λ all. all ≡ []) }
+    requires taken { IfSome (O.took streams.stdout) (λ all. all ≡ []) }
+{
+    let Making::Made(poller) = MioPoller::new(rt, run.alloc) else {
+        return Err(RowFault::Memory);
+    };
+    let Making::Made(maker) = RealMaker::on(rt, system, run.alloc, &poller) else {
+        return Err(RowFault::Memory);
+    };
+    if polled {
+        return carried_out(run, streams, maker, poller, looks);
+    }
+    carried_out(run, streams, maker, MemPoller::new(), looks)
+}
+
+/// What is seen there.
+fn looked_at(alloc: Global, looks: &[Look]) -> Result<Vec<String>, RowFault> {
+    let mut lines = Vec::new(alloc);
+    for look in looks {
+        let taken = look.tap.bytes()?;
+        lines.push(taken_line(alloc, look.name, taken.as_slice())?)?;
+    }
+    Ok(lines)
+}
+
+/// What was taken under this name.
+pub(crate) fn taken_line(alloc: Global, name: &str, taken: &[u8]) -> Result<String, AllocError> {
+    let mut line = format!(in alloc; "{name} took x")?;
+    push_digits(&mut line, taken)?;
+    Ok(line)
+}
+
+/// How the desk gave this port back.
+fn back_line<T>(alloc: Global, name: &str, back: &Back<T>) -> Result<String, AllocError> {
+    let word = match back {
+        Back::Joined(_) => "joined",
+        Back::Left(_) => "left",
+    };
+    format!(in alloc; "{name} back {word}")
 }

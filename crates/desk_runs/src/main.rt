@@ -1,15 +1,23 @@
-// Rows of worked runs over a desk of ports, as the program has one, with streams and a file in memory. The arguments are
-// the files of rows. A line is printed for each row, and the status is 1 where one of them doesn't fit or isn't
-// understood.
+// Rows of worked runs over a desk of ports, as the program has one, with a file of the journal in memory. Each is run
+// over a desk that skips its history, and over one that keeps it. The arguments are the files of rows. A line is printed
+// for each row, and the status is 1 where one of them doesn't fit or isn't understood.
 #![tactic(auto)]
 
 mod desks;
+mod files;
+mod gates;
+mod runs;
+mod scripts;
+mod settings;
 
-use desks::run;
+use relay_model::Text;
+use runs::run_row;
+use std::alloc::Global;
 use std::io;
 use std::process::ExitCode;
-use worked_rows::check_files;
+use worked_rows::{Row, check_files};
 
 fn main(rt: HostRuntime) -> io::Result<ExitCode> {
+    let run = |alloc: Global, row: &Row<'_>, words: &[Text]| run_row(rt, rt, alloc, row, words);
     check_files(&rt, &run)
 }

@@ -77,7 +77,7 @@ pub(crate) fn check_file<F>(
     text: &str,
 ) -> Result<(), AllocError>
 where
-    F: Fn(Global, &Row<'_>, &[Text]) -> Result<Ran, RowFault>,
+    F: Fn(Global, &Row<'_>, &[Text]) -> Result<Vec<Ran>, RowFault>,
     requires { F.IsAlwaysCallable run.now }
 {
     match check_rows(alloc, report, run, text) {
@@ -92,7 +92,7 @@ where
 
 fn check_rows<F>(alloc: Global, report: &mut Report, run: &F, text: &str) -> Result<(), RowFault>
 where
-    F: Fn(Global, &Row<'_>, &[Text]) -> Result<Ran, RowFault>,
+    F: Fn(Global, &Row<'_>, &[Text]) -> Result<Vec<Ran>, RowFault>,
     requires { F.IsAlwaysCallable run.now }
 {
     let rows = read_rows(alloc, text)?;
@@ -104,7 +104,7 @@ where
 
 fn check_row<F>(alloc: Global, report: &mut Report, run: &F, row: &Row<'_>) -> Result<(), RowFault>
 where
-    F: Fn(Global, &Row<'_>, &[Text]) -> Result<Ran, RowFault>,
+    F: Fn(Global, &Row<'_>, &[Text]) -> Result<Vec<Ran>, RowFault>,
     requires { F.IsAlwaysCallable run.now }
 {
     let words = row.words(alloc)?;
@@ -117,7 +117,7 @@ where
     Ok(())
 }
 
-/// Whether the run of the words is as the row says.
+/// Whether each run of the words is as the row says.
 fn check_run<F>(
     alloc: Global,
     report: &mut Report,
@@ -126,19 +126,23 @@ fn check_run<F>(
     words: &[Text],
 ) -> Result<bool, RowFault>
 where
-    F: Fn(Global, &Row<'_>, &[Text]) -> Result<Ran, RowFault>,
+    F: Fn(Global, &Row<'_>, &[Text]) -> Result<Vec<Ran>, RowFault>,
     requires { F.IsAlwaysCallable run.now }
 {
     if !has_end(row) {
         return Err(row.head.fault());
     }
-    let ran = run(alloc, row, words)?;
-    let relayed = match ran.saving {
-        Saving::NotAsked => words,
-        Saving::Saved | Saving::Failed | Saving::Memory => behind_first(words),
-    };
-    let verdict = audit(alloc, ran.journal.as_slice(), relayed, row.turns)?;
-    compare(alloc, report, row, &ran, verdict)
+    let runs = run(alloc, row, words)?;
+    let mut fits = true;
+    for ran in runs.as_slice() {
+        let relayed = match ran.saving {
+            Saving::NotAsked => words,
+            Saving::Saved | Saving::Failed | Saving::Memory => behind_first(words),
+        };
+        let verdict = audit(alloc, ran.journal.as_slice(), relayed, row.turns)?;
+        fits = compare(alloc, report, row, ran, verdict)? && fits;
+    }
+    Ok(fits)
 }
 
 fn behind_first(words: &[Text]) -> &[Text] {
@@ -176,6 +180,7 @@ fn compare(
         journal: ran.journal.as_slice(),
         verdict,
         lines: journal.lines().collect(alloc)?,
+        ports: ran.ports.as_slice(),
     };
     let mut fits = is_legal(&seen);
     if !fits {
@@ -198,7 +203,7 @@ fn is_legal(seen: &Seen<'_>) -> bool {
     }
 }
 
-/// Whether one line of the row fits.
+/// Whether one line of the row fits, or one of the answers that it leaves open, with ` | ` between.
 fn fits_line(
     alloc: Global,
     report: &mut Report,
@@ -208,10 +213,13 @@ fn fits_line(
 ) -> Result<bool, RowFault> {
     let (key, asked) = line.parts();
     let asked = unquoted(alloc, asked)?.ok_or(line.fault())?;
-    let have = answer(alloc, seen, key, asked.as_str(), from)?.ok_or(line.fault())?;
-    let fits = have.as_str() == asked.as_str();
-    if !fits {
-        report.differ(line, have.as_str())?;
+    let mut have = String::new(alloc);
+    for asked in asked.split(" | ") {
+        have = answer(alloc, seen, key, asked, from)?.ok_or(line.fault())?;
+        if have.as_str() == asked {
+            return Ok(true);
+        }
     }
-    Ok(fits)
+    report.differ(line, have.as_str())?;
+    Ok(false)
 }

@@ -11,11 +11,11 @@ use std::rt::Files;
 use std::{env, fs, io};
 
 /// Checks the rows of each file that the arguments name, and prints what was found. The program ends with 1 where a row
-/// doesn't fit or isn't understood. `run` runs the words of a row.
+/// doesn't fit or isn't understood. `run` runs the words of a row, once or more often.
 pub fn check_files<R, F>(rt: &R, run: &F) -> io::Result<ExitCode>
 where
     R: Env + Files + Print + AllocGlobal,
-    F: Fn(Global, &Row<'_>, &[Text]) -> Result<Ran, RowFault>,
+    F: Fn(Global, &Row<'_>, &[Text]) -> Result<Vec<Ran>, RowFault>,
     requires { F.IsAlwaysCallable run.now }
 {
     let alloc = rt.alloc();

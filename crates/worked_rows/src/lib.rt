@@ -16,4 +16,4 @@ pub use faults::RowFault;
 pub use files::check_files;
 pub use rows::{Line, Row};
 pub use runs::{Parted, Ran, part};
-pub use spelling::{act_of, place_of, unquoted};
+pub use spelling::{act_of, place_of, push_digits, unquoted};

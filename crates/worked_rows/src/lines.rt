@@ -196,3 +196,20 @@ pub(crate) fn search(
     }
     String::from_str(alloc, "no such line behind the one before")
 }
+
+/// What is seen of the port that is asked about: the line with the same two first words.
+pub(crate) fn port_line(
+    alloc: Global,
+    ports: &[String],
+    asked: &str,
+) -> Result<String, AllocError> {
+    let (port, rest) = first_word(asked);
+    let (verb, _what) = first_word(rest);
+    for line in ports {
+        let (name, rest) = first_word(line.as_str());
+        if name == port && begins(rest, verb) {
+            return String::from_str(alloc, line.as_str());
+        }
+    }
+    String::from_str(alloc, "nothing of this port")
+}

@@ -19,6 +19,8 @@ pub struct Row<'a> {
     pub long: Option<(u8, u32)>,
     pub turns: u64,
     pub script: Vec<Line<'a>>,
+    /// What the desk of the row has beside streams in memory.
+    pub over: Vec<Line<'a>>,
     /// The journal, where it is told and nothing is run.
     pub past: Vec<Line<'a>>,
     /// Whether the reading of it ends well.
@@ -51,6 +53,7 @@ impl<'a> Row<'a> {
             long: None,
             turns: u64::MAX,
             script: Vec::new(alloc),
+            over: Vec::new(alloc),
             past: Vec::new(alloc),
             unbroken: true,
             room: 4096,
@@ -77,6 +80,7 @@ impl<'a> Row<'a> {
         match key {
             "broken" => self.unbroken = false,
             "at" => self.script.push(Line { number, text: rest })?,
+            "over" => self.over.push(Line { number, text: rest })?,
             "past" => self.past.push(Line { number, text: rest })?,
             _ => self.wants.push(line)?,
         }

@@ -17,6 +17,8 @@ pub struct Ran {
     pub saving: Saving,
     /// What the file of the journal took.
     pub saved: Bytes,
+    /// What is seen of ports and files after the run, a line each: `stdout took x6162`, `stdin back joined`.
+    pub ports: Vec<String>,
 }
 
 /// A journal without a last note, as it is written, and the text of that note.

@@ -22,7 +22,8 @@ pub fn place_of(alloc: Global, text: &str) -> Result<Option<Place>, NoMemory> {
     }
 }
 
-fn push_digits(line: &mut String, bytes: &[u8]) -> Result<(), AllocError> {
+/// Pushes two digits for each byte.
+pub fn push_digits(line: &mut String, bytes: &[u8]) -> Result<(), AllocError> {
     for byte in bytes {
         write!(line, "{byte:02x}")?;
     }

@@ -1,5 +1,7 @@
 // What rows ask of a run, beside what is seen of it.
-use crate::lines::{back, begins, count, joined, line_at, moment, parted, search, within};
+use crate::lines::{
+    back, begins, count, joined, line_at, moment, parted, port_line, search, within,
+};
 use crate::outcomes::outcome_text;
 use exit_status::Outcome;
 use relay_audit::Verdict;
@@ -19,6 +21,8 @@ pub(crate) struct Seen<'a> {
     pub(crate) journal: &'a [u8],
     /// The lines of the journal.
     pub(crate) lines: Vec<&'a str>,
+    /// What is seen of ports and files.
+    pub(crate) ports: &'a [String],
 }
 
 /// The answer to a row that asks for this: it fits exactly where it is the same text. None where rows can't ask so.
@@ -41,6 +45,7 @@ pub(crate) fn answer(
         "saving" => String::from_str(alloc, saving_word(seen.saving))?,
         "file" => String::from_str(alloc, part_word(seen.saved, seen.journal))?,
         "then" => search(alloc, seen.lines.as_slice(), asked, from)?,
+        "port" => port_line(alloc, seen.ports, asked)?,
         _ => return answer_of_acts(alloc, seen.lines.as_slice(), key, asked),
     };
     Ok(Some(text))

@@ -15,18 +15,20 @@ use std::process::ExitCode;
 use worked_rows::{Ran, Row, RowFault, check_files, part};
 
 /// Runs the words of the row over its scripted world.
-fn run(alloc: Global, row: &Row<'_>, words: &[Text]) -> Result<Ran, RowFault> {
+fn run(alloc: Global, row: &Row<'_>, words: &[Text]) -> Result<Vec<Ran>, RowFault> {
     let mut world = world_of(alloc, row.script.as_slice())?;
     let outcome = socat(alloc, &mut world, words, row.turns);
     let parted = part(alloc, &world.journal().copy()?)?;
-    Ok(Ran {
+    let ran = Ran {
         outcome,
         status: status(&outcome),
         said: parted.note,
         journal: parted.journal,
         saving: Saving::NotAsked,
         saved: Bytes::of(alloc, b"")?,
-    })
+        ports: Vec::new(alloc),
+    };
+    Ok(Vec::from_array(alloc, [ran])?)
 }
 
 fn main(rt: HostRuntime) -> io::Result<ExitCode> {

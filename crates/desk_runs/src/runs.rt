@@ -1,0 +1,147 @@
+// The runs of a row, over the ports that it asks for.
+use crate::desks::{Look, ROOM, Run, Streams, carried_out, over_system};
+use crate::files::{add_left, remove};
+use crate::gates::{Gate, GatedSource, NoWake, OpeningSink};
+use crate::scripts::{maker_of, port_of, refused_of, source_of};
+use crate::settings::{Input, Opener, Output, Setting};
+use port_objects::{ListSpawner, MemPoller, MemPort, MemSink};
+use relay_model::{Side, Text};
+use std::alloc::Global;
+use std::fs::Files;
+use std::net::Net;
+use std::rt::HostRuntime;
+use std::sync::Wait;
+use std::thread::Threads;
+use std::time::Clock;
+use thread_rings::{RingReader, RingWriter};
+use worked_rows::{Line, Ran, Row, RowFault};
+use world_trait::Recorder;
+
+/// Runs the words of the row over a desk that skips its history, and over one that keeps it. Files are the system's.
+pub(crate) fn run_row<R>(
+    rt: R,
+    system: HostRuntime,
+    alloc: Global,
+    row: &Row<'_>,
+    words: &[Text],
+) -> Result<Vec<Ran>, RowFault>
+where
+    R: Files + Net + Clock + Threads + Wait + Copy + Send + Drop + 'static,
+{
+    let setting = Setting::of(row)?;
+    let mut runs = Vec::new(alloc);
+    for recorder in [Recorder::Skip, Recorder::Keep] {
+        let run = Run {
+            alloc,
+            words,
+            turns: row.turns,
+            room: row.room,
+            recorder,
+        };
+        remove(&system, setting.file);
+        let mut ran = run_once(rt, system, run, row, setting)?;
+        add_left(&system, setting.file, &mut ran)?;
+        runs.push(ran)?;
+    }
+    Ok(runs)
+}
+
+/// Runs the words over the ports that the row asks for.
+fn run_once<R>(
+    rt: R,
+    system: HostRuntime,
+    run: Run<'_>,
+    row: &Row<'_>,
+    setting: Setting<'_>,
+) -> Result<Ran, RowFault>
+where
+    R: Files + Net + Clock + Threads + Wait + Copy + Send + Drop + 'static,
+{
+    let script = row.script.as_slice();
+    match (setting.input, setting.output, setting.opener) {
+        (Input::Memory, Output::Memory, opener) => in_memory(rt, system, run, script, opener),
+        (input, Output::Memory, Opener::Memory) => behind_ring(rt, run, script, input),
+        (input, Output::Ring(room), Opener::Memory) => behind_rings(rt, run, script, input, room),
+        _ => Err(row.head.fault()),
+    }
+}
+
+/// Over streams in memory.
+fn in_memory<R>(
+    rt: R,
+    system: HostRuntime,
+    run: Run<'_>,
+    script: &[Line<'_>],
+    opener: Opener,
+) -> Result<Ran, RowFault>
+where
+    R: Files + Net + Clock + Threads + Copy + Drop,
+{
+    let stdin = port_of(run.alloc, script, Side::Left, 0)?;
+    let stdout = MemPort::new(run.alloc, ROOM)?;
+    let mut looks = Vec::new(run.alloc);
+    looks.push(Look {
+        name: "stdout",
+        tap: stdout.tap(),
+    })?;
+    let streams = Streams { stdin, stdout };
+    match opener {
+        Opener::Memory => {
+            let maker = maker_of(run.alloc, script, &mut looks)?;
+            carried_out(run, streams, maker, MemPoller::new(), looks.as_slice())
+        }
+        Opener::System => over_system(rt, system, run, streams, false, looks.as_slice()),
+        Opener::PolledSystem => over_system(rt, system, run, streams, true, looks.as_slice()),
+    }
+}
+
+/// Over standard input behind a ring.
+fn behind_ring<R>(rt: R, run: Run<'_>, script: &[Line<'_>], input: Input) -> Result<Ran, RowFault>
+where
+    R: Threads + Wait + Copy + Send + Drop + 'static,
+{
+    let source = GatedSource::new(None, source_of(run.alloc, script)?);
+    let mut spawner = ListSpawner::new(rt, refused_of(run.alloc, input)?);
+    let stdin = RingReader::new(run.alloc, source, &mut spawner, NoWake)?;
+    let stdout = MemPort::new(run.alloc, ROOM)?;
+    let mut looks = Vec::new(run.alloc);
+    looks.push(Look {
+        name: "stdout",
+        tap: stdout.tap(),
+    })?;
+    let maker = maker_of(run.alloc, script, &mut looks)?;
+    let streams = Streams { stdin, stdout };
+    carried_out(run, streams, maker, MemPoller::new(), looks.as_slice())
+}
+
+/// Over both streams behind rings.
+fn behind_rings<R>(
+    rt: R,
+    run: Run<'_>,
+    script: &[Line<'_>],
+    input: Input,
+    room: usize,
+) -> Result<Ran, RowFault>
+where
+    R: Threads + Wait + Copy + Send + Drop + 'static,
+{
+    let (waited, opened) = Gate::pair(run.alloc)?;
+    let gate = match input {
+        Input::Gated => Some(waited),
+        Input::Memory | Input::Ring | Input::Unstarted => None,
+    };
+    let source = GatedSource::new(gate, source_of(run.alloc, script)?);
+    let sink = MemSink::new(run.alloc, room)?;
+    let mut looks = Vec::new(run.alloc);
+    looks.push(Look {
+        name: "stdout",
+        tap: sink.tap(),
+    })?;
+    let sink = OpeningSink::new(opened, sink);
+    let maker = maker_of(run.alloc, script, &mut looks)?;
+    let mut spawner = ListSpawner::new(rt, refused_of(run.alloc, input)?);
+    let stdin = RingReader::new(run.alloc, source, &mut spawner, NoWake)?;
+    let stdout = RingWriter::new(run.alloc, sink, &mut spawner, NoWake)?;
+    let streams = Streams { stdin, stdout };
+    carried_out(run, streams, maker, MemPoller::new(), looks.as_slice())
+}

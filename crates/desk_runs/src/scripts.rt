@@ -1,0 +1,115 @@
+// What a script makes ports and sources answer to their reads.
+ghost use Rattle.std.specs.Prelude.{◌≡◌, [], IfOk, IfSome};
+ghost use Rattle.port_objects.specs.Scripts.{IsFilled, given_of};
+
+use crate::desks::{Look, ROOM};
+use crate::settings::Input;
+use port_objects::{MakeItem, MemMaker, MemPort, MemSource, PortItem};
+use relay_model::{Act, Bytes, NoMemory, Place, Side};
+use std::alloc::Global;
+use worked_rows::{Line, RowFault, act_of, unquoted};
+
+/// A place, and what a read there answers.
+#[derive(Drop)]
+struct Item {
+    place: Place,
+    answer: PortItem,
+    ghost filled: { IsFilled answer },
+}
+
+/// What the line of a script says. There is no moment but 0.
+fn item_of(alloc: Global, line: Line<'_>) -> Result<Item, RowFault> {
+    let (moment, act) = line.parts();
+    let act = unquoted(alloc, act)?.ok_or(line.fault())?;
+    if moment != "0" {
+        return Err(line.fault());
+    }
+    let act = act_of(alloc, act.as_str())?.ok_or(line.fault())?;
+    answer_of(&act)?.ok_or(line.fault())
+}
+
+/// What a read answers in this act, if it is one.
+fn answer_of(act: &Act) -> Result<Option<Item>, NoMemory> {
+    let item = match act {
+        Act::Read(place, bytes) if bytes.len() > 0 => Item {
+            place: *place,
+            answer: PortItem::Bytes(bytes.copy()?),
+        },
+        Act::ReadEnd(place) => Item {
+            place: *place,
+            answer: PortItem::End,
+        },
+        Act::ReadNotYet(place) => Item {
+            place: *place,
+            answer: PortItem::NotYet,
+        },
+        Act::ReadFault(place) => Item {
+            place: *place,
+            answer: PortItem::Fault,
+        },
+        _ => return Ok(None),
+    };
+    Ok(Some(item))
+}
+
+/// The port at this side of a script, which has given nothing yet, with room for so many bytes.
+pub(crate) fn port_of(
+    alloc: Global,
+    script: &[Line<'_>],
+    side: Side,
+    room: usize,
+) -> Result<MemPort, RowFault>
+    ensures { IfOk result (λ port. given_of port.script ≡ []) }
+{
+    let mut port = MemPort::new(alloc, room)?;
+    for line in script {
+        let Item { place, answer } = item_of(alloc, *line)?;
+        if place.side == side {
+            port.add(answer)?;
+        }
+    }
+    Ok(port)
+}
+
+/// The source at the left of a script. Behind its bytes it ends or fails, as the last line says.
+pub(crate) fn source_of(alloc: Global, script: &[Line<'_>]) -> Result<MemSource, RowFault> {
+    let mut bytes = Vec::new(alloc);
+    let mut ends = true;
+    for line in script {
+        let Item { place, answer } = item_of(alloc, *line)?;
+        if place.side == Side::Right {
+            continue;
+        }
+        match answer {
+            PortItem::Bytes(more) => bytes.extend_from_slice(more.as_slice())?,
+            PortItem::End => ends = true,
+            PortItem::Fault => ends = false,
+            PortItem::Empty | PortItem::NotYet => return Err(line.fault()),
+        }
+    }
+    Ok(MemSource::new(Bytes::of(alloc, bytes.as_slice())?, ends))
+}
+
+/// A maker of one port, which gives what the script says at the right, and a look at what that takes.
+pub(crate) fn maker_of(
+    alloc: Global,
+    script: &[Line<'_>],
+    looks: &mut Vec<Look>,
+) -> Result<MemMaker, RowFault> {
+    let port = port_of(alloc, script, Side::Right, ROOM)?;
+    looks.push(Look {
+        name: "made",
+        tap: port.tap(),
+    })?;
+    let mut maker = MemMaker::new(alloc);
+    maker.add(MakeItem::Port(port))?;
+    Ok(maker)
+}
+
+/// The numbers of the threads that aren't started; that of standard input is the first.
+pub(crate) fn refused_of(alloc: Global, input: Input) -> Result<Bytes, NoMemory> {
+    match input {
+        Input::Unstarted => Bytes::of(alloc, &[0]),
+        Input::Memory | Input::Ring | Input::Gated => Bytes::of(alloc, &[]),
+    }
+}
