@@ -37,7 +37,7 @@ use Rattle.world_trait.specs.declared.answers.NoteAnswer.TheVariants as notes
 use Rattle.world_trait.specs.declared.answers.ReapAnswer.{ReapAnswer}
 use Rattle.world_trait.specs.declared.answers.ReapAnswer.TheVariants as reaps
 use Rattle.desk_ports.specs.Bases.{standard_of}
-use Rattle.desk_ports.specs.Harbors.{AtInput, AtOutput, giving_pier, taking_pier}
+use Rattle.desk_ports.specs.Harbors.{AtErrors, AtInput, AtOutput, giving_pier, taking_pier}
 use Rattle.desk_ports.specs.Ports.{MovesNothing, PortSeen, StreamSeen}
 use Rattle.desk_ports.specs.declared.bases.Base.{Base}
 use Rattle.desk_ports.specs.declared.bases.Base.TheVariants as bases
@@ -47,9 +47,9 @@ use Rattle.desk_places.specs.Changes.{SettlesSo}
 use Rattle.desk_places.specs.Stations.{base_at, hold_at, hold_by, station_at}
 use Rattle.desk_places.proofs.PlaceLemmas.{same_place-eq}
 use Rattle.desk_places.proofs.StationLemmas.{found_none, free_station}
-use Rattle.port_desk.specs.Records.{are_none, has_no_acts}
+use Rattle.port_desk.specs.Records.{NotedSo, are_none, has_no_acts}
 use Rattle.port_desk.specs.Calls.{ReadsSo, SendsSo, ShutsSo, WritesSo}
-use Rattle.desk_history.specs.Following.{AllOwn, AreElsewhere, Follows, FollowsTold, IsElsewhere, Passed, input_read, output_written, reads_input, stream_of, writes_output}
+use Rattle.desk_history.specs.Following.{AllOwn, AreElsewhere, Follows, FollowsTold, IsElsewhere, Passed, are_noted, errors_written, input_read, output_written, reads_input, stream_of, writes_errors, writes_output}
 
 -- ---- what a place stands on
 
@@ -102,6 +102,14 @@ own_writes None bases.Output h = absurd cc
 own_writes None bases.Both h = absurd cc
 own_writes None bases.Errors h = absurd cc
 
+own_said : (asked : Option Base) (b : Base) → StandsFor asked (Some b) → writes_errors asked ≡ writes_errors (Some b)
+own_said (Some s) b h = ap writes_errors (sym h)
+own_said None (bases.Made key) h = refl
+own_said None bases.Input h = absurd cc
+own_said None bases.Output h = absurd cc
+own_said None bases.Both h = absurd cc
+own_said None bases.Errors h = absurd cc
+
 -- a place that is held stands on something
 based_by : (slot : Option Station) → is_free (hold_by slot) ≡ false → is_some (option_map (λ s. s.base) slot) ≡ true
 based_by None e = absurd cc
@@ -130,18 +138,18 @@ own_last own (a ∷ more) last all = own_last own more last all.1
 -- ---- one act
 
 -- what an act makes of what follows
-abbrev pub Goes : (Place → Single) → Act → (Place → Option Base) → (Place → Option Base) → Option (List ℕ) → Option (List ℕ) → Option (List ℕ) → Option (List ℕ) → Type 0
-Goes own act base base' gave gave' took took' = (past : List Act) → Follows own past base gave took → Follows own (act ∷ past) base' gave' took'
+abbrev pub Goes : (Place → Single) → Act → (Place → Option Base) → (Place → Option Base) → Option (List ℕ) → Option (List ℕ) → Option (List ℕ) → Option (List ℕ) → Option (List ℕ) → Option (List ℕ) → Type 0
+Goes own act base base' gave gave' took took' said said' = (past : List Act) → Follows own past base gave took said → Follows own (act ∷ past) base' gave' took' said'
 
-acted : (told told' : Option History) (act : Act) (base base' : Place → Option Base) (gave gave' took took' : Option (List ℕ)) → told' ≡ option_map (with_act act) told → ((own : Place → Single) → IsElsewhere own act → Goes own act base base' gave gave' took took') → FollowsTold told base gave took → FollowsTold told' base' gave' took'
-acted None told' act base base' gave gave' took took' e goes follows = subst (λ t. FollowsTold t base' gave' took') (sym e) tt
-acted (Some h) told' act base base' gave gave' took took' e goes follows =
-    subst (λ t. FollowsTold t base' gave' took') (sym e) (λ own all elsewhere. goes own elsewhere.0 h.acts (follows own all elsewhere.1))
+acted : (told told' : Option History) (act : Act) (base base' : Place → Option Base) (gave gave' took took' said said' : Option (List ℕ)) → told' ≡ option_map (with_act act) told → ((own : Place → Single) → IsElsewhere own act → Goes own act base base' gave gave' took took' said said') → FollowsTold told base gave took said → FollowsTold told' base' gave' took' said'
+acted None told' act base base' gave gave' took took' said said' e goes follows = subst (λ t. FollowsTold t base' gave' took' said') (sym e) tt
+acted (Some h) told' act base base' gave gave' took took' said said' e goes follows =
+    subst (λ t. FollowsTold t base' gave' took' said') (sym e) (λ own all elsewhere. goes own elsewhere.0 h.acts (follows own all elsewhere.1))
 
-asked : (told told' : Option History) (act : Act) (asking : Asking) (base base' : Place → Option Base) (gave gave' took took' : Option (List ℕ)) → told' ≡ option_map (with_asking act asking) told → ((own : Place → Single) → IsElsewhere own act → asking.1 ≡ own asking.0 → Goes own act base base' gave gave' took took') → FollowsTold told base gave took → FollowsTold told' base' gave' took'
-asked None told' act asking base base' gave gave' took took' e goes follows = subst (λ t. FollowsTold t base' gave' took') (sym e) tt
-asked (Some h) told' act asking base base' gave gave' took took' e goes follows =
-    subst (λ t. FollowsTold t base' gave' took') (sym e)
+asked : (told told' : Option History) (act : Act) (asking : Asking) (base base' : Place → Option Base) (gave gave' took took' said said' : Option (List ℕ)) → told' ≡ option_map (with_asking act asking) told → ((own : Place → Single) → IsElsewhere own act → asking.1 ≡ own asking.0 → Goes own act base base' gave gave' took took' said said') → FollowsTold told base gave took said → FollowsTold told' base' gave' took' said'
+asked None told' act asking base base' gave gave' took took' said said' e goes follows = subst (λ t. FollowsTold t base' gave' took' said') (sym e) tt
+asked (Some h) told' act asking base base' gave gave' took took' said said' e goes follows =
+    subst (λ t. FollowsTold t base' gave' took' said') (sym e)
     (λ own all elsewhere. goes own elsewhere.0 (own_last own h.asked asking all) h.acts (follows own (own_front own h.asked asking all) elsewhere.1))
 
 kept_sum : (slot slot' : Option (List ℕ)) (x y : List ℕ) → slot' ≡ slot → y ≡ x → IfSome slot (λ all. all ≡ x) → IfSome slot' (λ all. all ≡ y)
@@ -151,22 +159,34 @@ grown_sum : (slot slot' : Option (List ℕ)) (f : List ℕ → List ℕ) (x : Li
 grown_sum None slot' f x e h = subst (λ s. IfSome s (λ all. all ≡ f x)) (sym e) tt
 grown_sum (Some a) slot' f x e h = subst (λ s. IfSome s (λ all. all ≡ f x)) (sym e) (ap f h)
 
+-- an act that reads, writes and notes nothing
+abbrev IsStillAt : (Place → Single) → Act → List Act → Type 0
+IsStillAt own act past = (input_read own (act ∷ past) ≡ input_read own past) × ((output_written own (act ∷ past) ≡ output_written own past) × ((errors_written own (act ∷ past) ≡ errors_written own past) × (are_noted (act ∷ past) ≡ are_noted past)))
+
+-- what is told where no note failed
+abbrev Told : Bool → Option (List ℕ) → List ℕ → Type 0
+Told whole slot x = whole ≡ true → IfSome slot (λ all. all ≡ x)
+
+kept_told : (slot slot' : Option (List ℕ)) (x y : List ℕ) (whole whole' : Bool) → slot' ≡ slot → y ≡ x → whole' ≡ whole → Told whole slot x → Told whole' slot' y
+kept_told slot slot' x y whole whole' e f g h now = kept_sum slot slot' x y e f (h (sym g ∙ now))
+
 -- an act that passes no bytes
-quiet : (own : Place → Single) (act : Act) (base base' : Place → Option Base) (gave gave' took took' : Option (List ℕ)) → (Stands own base → Stands own base') → gave' ≡ gave → took' ≡ took → ((past : List Act) → input_read own (act ∷ past) ≡ input_read own past) → ((past : List Act) → output_written own (act ∷ past) ≡ output_written own past) → Goes own act base base' gave gave' took took'
-quiet own act base base' gave gave' took took' stands e f no_read no_written past follows = record {
+quiet : (own : Place → Single) (act : Act) (base base' : Place → Option Base) (gave gave' took took' said said' : Option (List ℕ)) → (Stands own base → Stands own base') → gave' ≡ gave → took' ≡ took → said' ≡ said → ((past : List Act) → IsStillAt own act past) → Goes own act base base' gave gave' took took' said said'
+quiet own act base base' gave gave' took took' said said' stands e f g still past follows = record {
   stands = stands follows.stands;
-  given = kept_sum gave gave' _ _ e (no_read past) follows.given;
-  taken = kept_sum took took' _ _ f (no_written past) follows.taken;
+  given = kept_sum gave gave' _ _ e (still past).0 follows.given;
+  taken = kept_sum took took' _ _ f (still past).1.0 follows.taken;
+  told = kept_told said said' _ _ _ _ g (still past).1.1.0 (still past).1.1.1 follows.told;
 }
 
 -- no act was made
-nothing : (told told' : Option History) (base base' : Place → Option Base) (gave gave' took took' : Option (List ℕ)) → told' ≡ told → SameBases base base' → gave' ≡ gave → took' ≡ took → FollowsTold told base gave took → FollowsTold told' base' gave' took'
-nothing None told' base base' gave gave' took took' e same f h follows = subst (λ t. FollowsTold t base' gave' took') (sym e) tt
-nothing (Some history) told' base base' gave gave' took took' e same f h follows =
-    subst (λ t. FollowsTold t base' gave' took') (sym e)
+nothing : (told told' : Option History) (base base' : Place → Option Base) (gave gave' took took' said said' : Option (List ℕ)) → told' ≡ told → SameBases base base' → gave' ≡ gave → took' ≡ took → said' ≡ said → FollowsTold told base gave took said → FollowsTold told' base' gave' took' said'
+nothing None told' base base' gave gave' took took' said said' e same f h k follows = subst (λ t. FollowsTold t base' gave' took' said') (sym e) tt
+nothing (Some history) told' base base' gave gave' took took' said said' e same f h k follows =
+    subst (λ t. FollowsTold t base' gave' took' said') (sym e)
     (λ own all elsewhere.
     let here = follows own all elsewhere in
-    record { stands = stands_same own base base' same here.stands; given = kept_sum gave gave' _ _ f refl here.given; taken = kept_sum took took' _ _ h refl here.taken })
+    record { stands = stands_same own base base' same here.stands; given = kept_sum gave gave' _ _ f refl here.given; taken = kept_sum took took' _ _ h refl here.taken; told = kept_told said said' _ _ _ _ k refl refl here.told })
 
 unmapped : (slot : Option (List ℕ)) → slot ≡ option_map (λ all. all) slot
 unmapped None = refl
@@ -180,16 +200,16 @@ took_of stream stream' same = ap (λ (s : StreamSeen). s.port.took) same
 
 -- ---- an answer that passes no bytes and moves no place
 
--- an act that reads and writes nothing
+-- an act that reads, writes and notes nothing, whatever came before it
 abbrev pub IsStill : Act → Type 0
-IsStill act = (own : Place → Single) (past : List Act) → (input_read own (act ∷ past) ≡ input_read own past) × (output_written own (act ∷ past) ≡ output_written own past)
+IsStill act = (own : Place → Single) (past : List Act) → IsStillAt own act past
 
-pub still_follows : (made : Option Act) (told told' : Option History) (held held' : Place → Hold) (base base' : Place → Option Base) (gave gave' took took' : Option (List ℕ)) → IfSome made IsStill → Answered told told' held held' made → SameBases base base' → gave' ≡ gave → took' ≡ took → FollowsTold told base gave took → FollowsTold told' base' gave' took'
-still_follows None told told' held held' base base' gave gave' took took' is_still did same e f =
-    nothing told told' base base' gave gave' took took' did.told same e f
-still_follows (Some act) told told' held held' base base' gave gave' took took' is_still did same e f =
-    acted told told' act base base' gave gave' took took' did.told
-    (λ own elsewhere. quiet own act base base' gave gave' took took' (stands_same own base base' same) e f (λ past. (is_still own past).0) (λ past. (is_still own past).1))
+pub still_follows : (made : Option Act) (told told' : Option History) (held held' : Place → Hold) (base base' : Place → Option Base) (gave gave' took took' said said' : Option (List ℕ)) → IfSome made IsStill → Answered told told' held held' made → SameBases base base' → gave' ≡ gave → took' ≡ took → said' ≡ said → FollowsTold told base gave took said → FollowsTold told' base' gave' took' said'
+still_follows None told told' held held' base base' gave gave' took took' said said' is_still did same e f g =
+    nothing told told' base base' gave gave' took took' said said' did.told same e f g
+still_follows (Some act) told told' held held' base base' gave gave' took took' said said' is_still did same e f g =
+    acted told told' act base base' gave gave' took took' said said' did.told
+    (λ own elsewhere. quiet own act base base' gave gave' took took' said said' (stands_same own base base' same) e f g (is_still own))
 
 -- ---- a read
 
@@ -238,8 +258,15 @@ read_untaken bases.Both result into output output' same = took_of output output'
 read_untaken bases.Errors result into output output' same = took_of output output' same
 read_untaken (bases.Made key) result into output output' same = took_of output output' same
 
-read_bytes : (own : Place → Single) (place : Place) (b : Base) (n : ℕ) (into : List ℕ) (base base' : Place → Option Base) (input input' output output' : StreamSeen) → base place ≡ Some b → AtInput (giving_pier b) (ReadsSo into (reads.Bytes n) input.port input'.port) (input' ≡ input) → output'.port.took ≡ output.port.took → SameBases base base' → Goes own (acts.Read place (take n into)) base base' input.port.gave input'.port.gave output.port.took output'.port.took
-read_bytes own place b n into base base' input input' output output' at call still same past follows =
+read_unsaid : (b : Base) (result : ReadAnswer) (into : List ℕ) (errors errors' : StreamSeen) → AtErrors (giving_pier b) (ReadsSo into result errors.port errors'.port) (errors' ≡ errors) → errors'.port.took ≡ errors.port.took
+read_unsaid bases.Errors result into errors errors' call = reads_took result into errors.port errors'.port call
+read_unsaid bases.Input result into errors errors' same = took_of errors errors' same
+read_unsaid bases.Both result into errors errors' same = took_of errors errors' same
+read_unsaid bases.Output result into errors errors' same = took_of errors errors' same
+read_unsaid (bases.Made key) result into errors errors' same = took_of errors errors' same
+
+read_bytes : (own : Place → Single) (place : Place) (b : Base) (n : ℕ) (into : List ℕ) (base base' : Place → Option Base) (input input' output output' errors errors' : StreamSeen) → base place ≡ Some b → AtInput (giving_pier b) (ReadsSo into (reads.Bytes n) input.port input'.port) (input' ≡ input) → output'.port.took ≡ output.port.took → errors'.port.took ≡ errors.port.took → SameBases base base' → Goes own (acts.Read place (take n into)) base base' input.port.gave input'.port.gave output.port.took output'.port.took errors.port.took errors'.port.took
+read_bytes own place b n into base base' input input' output output' errors errors' at call still unsaid same past follows =
     let on = on_slot (base place) b (λ d. StandsFor (stream_of own place) (Some d)) at (follows.stands place) in
     record {
       stands = stands_same own base base' same follows.stands;
@@ -247,40 +274,47 @@ read_bytes own place b n into base base' input input' output output' at call sti
           (subst (λ r. input'.port.gave ≡ option_map (λ all. joined r all (take n into)) input.port.gave) (sym (own_reads (stream_of own place) b on)) (read_given b n into input input' call))
           follows.given;
       taken = kept_sum output.port.took output'.port.took _ _ still refl follows.taken;
+      told = kept_told errors.port.took errors'.port.took _ _ _ _ unsaid refl refl follows.told;
     }
 
-pub read_follows : (result : ReadAnswer) (place : Place) (into : List ℕ) (told told' : Option History) (held held' : Place → Hold) (base base' : Place → Option Base) (input input' output output' : StreamSeen) → is_some (base place) ≡ true → Answered told told' held held' (read_act place into result) → IfSome (base place) (λ b. AtInput (giving_pier b) (ReadsSo into result input.port input'.port) (input' ≡ input)) → IfSome (base place) (λ b. AtOutput (giving_pier b) (ReadsSo into result output.port output'.port) (output' ≡ output)) → SameBases base base' → FollowsTold told base input.port.gave output.port.took → FollowsTold told' base' input'.port.gave output'.port.took
-read_follows (reads.Bytes n) place into told told' held held' base base' input input' output output' some did at_in at_out same =
+pub read_follows : (result : ReadAnswer) (place : Place) (into : List ℕ) (told told' : Option History) (held held' : Place → Hold) (base base' : Place → Option Base) (input input' output output' errors errors' : StreamSeen) → is_some (base place) ≡ true → Answered told told' held held' (read_act place into result) → IfSome (base place) (λ b. AtInput (giving_pier b) (ReadsSo into result input.port input'.port) (input' ≡ input)) → IfSome (base place) (λ b. AtOutput (giving_pier b) (ReadsSo into result output.port output'.port) (output' ≡ output)) → IfSome (base place) (λ b. AtErrors (giving_pier b) (ReadsSo into result errors.port errors'.port) (errors' ≡ errors)) → SameBases base base' → FollowsTold told base input.port.gave output.port.took errors.port.took → FollowsTold told' base' input'.port.gave output'.port.took errors'.port.took
+read_follows (reads.Bytes n) place into told told' held held' base base' input input' output output' errors errors' some did at_in at_out at_err same =
     let on = found (base place) some in
     let still = read_untaken on.0 (reads.Bytes n) into output output' (on_slot (base place) on.0 (λ b. AtOutput (giving_pier b) (ReadsSo into (reads.Bytes n) output.port output'.port) (output' ≡ output)) on.1 at_out) in
+    let unsaid = read_unsaid on.0 (reads.Bytes n) into errors errors' (on_slot (base place) on.0 (λ b. AtErrors (giving_pier b) (ReadsSo into (reads.Bytes n) errors.port errors'.port) (errors' ≡ errors)) on.1 at_err) in
     let call = on_slot (base place) on.0 (λ b. AtInput (giving_pier b) (ReadsSo into (reads.Bytes n) input.port input'.port) (input' ≡ input)) on.1 at_in in
-    acted told told' (acts.Read place (take n into)) base base' input.port.gave input'.port.gave output.port.took output'.port.took did.told
-    (λ own elsewhere. read_bytes own place on.0 n into base base' input input' output output' on.1 call still same)
-read_follows reads.Empty place into told told' held held' base base' input input' output output' some did at_in at_out same =
+    acted told told' (acts.Read place (take n into)) base base' input.port.gave input'.port.gave output.port.took output'.port.took errors.port.took errors'.port.took did.told
+    (λ own elsewhere. read_bytes own place on.0 n into base base' input input' output output' errors errors' on.1 call still unsaid same)
+read_follows reads.Empty place into told told' held held' base base' input input' output output' errors errors' some did at_in at_out at_err same =
     let on = found (base place) some in
     let given = read_ungiven on.0 reads.Empty into input input' refl (on_slot (base place) on.0 (λ b. AtInput (giving_pier b) (ReadsSo into reads.Empty input.port input'.port) (input' ≡ input)) on.1 at_in) in
     let taken = read_untaken on.0 reads.Empty into output output' (on_slot (base place) on.0 (λ b. AtOutput (giving_pier b) (ReadsSo into reads.Empty output.port output'.port) (output' ≡ output)) on.1 at_out) in
-    still_follows (read_act place into reads.Empty) told told' held held' base base' input.port.gave input'.port.gave output.port.took output'.port.took (λ own past. (refl, refl)) did same given taken
-read_follows reads.End place into told told' held held' base base' input input' output output' some did at_in at_out same =
+    let unsaid = read_unsaid on.0 reads.Empty into errors errors' (on_slot (base place) on.0 (λ b. AtErrors (giving_pier b) (ReadsSo into reads.Empty errors.port errors'.port) (errors' ≡ errors)) on.1 at_err) in
+    still_follows (read_act place into reads.Empty) told told' held held' base base' input.port.gave input'.port.gave output.port.took output'.port.took errors.port.took errors'.port.took (λ own past. (refl, (refl, (refl, refl)))) did same given taken unsaid
+read_follows reads.End place into told told' held held' base base' input input' output output' errors errors' some did at_in at_out at_err same =
     let on = found (base place) some in
     let given = read_ungiven on.0 reads.End into input input' refl (on_slot (base place) on.0 (λ b. AtInput (giving_pier b) (ReadsSo into reads.End input.port input'.port) (input' ≡ input)) on.1 at_in) in
     let taken = read_untaken on.0 reads.End into output output' (on_slot (base place) on.0 (λ b. AtOutput (giving_pier b) (ReadsSo into reads.End output.port output'.port) (output' ≡ output)) on.1 at_out) in
-    still_follows (read_act place into reads.End) told told' held held' base base' input.port.gave input'.port.gave output.port.took output'.port.took (λ own past. (refl, refl)) did same given taken
-read_follows reads.NotYet place into told told' held held' base base' input input' output output' some did at_in at_out same =
+    let unsaid = read_unsaid on.0 reads.End into errors errors' (on_slot (base place) on.0 (λ b. AtErrors (giving_pier b) (ReadsSo into reads.End errors.port errors'.port) (errors' ≡ errors)) on.1 at_err) in
+    still_follows (read_act place into reads.End) told told' held held' base base' input.port.gave input'.port.gave output.port.took output'.port.took errors.port.took errors'.port.took (λ own past. (refl, (refl, (refl, refl)))) did same given taken unsaid
+read_follows reads.NotYet place into told told' held held' base base' input input' output output' errors errors' some did at_in at_out at_err same =
     let on = found (base place) some in
     let given = read_ungiven on.0 reads.NotYet into input input' refl (on_slot (base place) on.0 (λ b. AtInput (giving_pier b) (ReadsSo into reads.NotYet input.port input'.port) (input' ≡ input)) on.1 at_in) in
     let taken = read_untaken on.0 reads.NotYet into output output' (on_slot (base place) on.0 (λ b. AtOutput (giving_pier b) (ReadsSo into reads.NotYet output.port output'.port) (output' ≡ output)) on.1 at_out) in
-    still_follows (read_act place into reads.NotYet) told told' held held' base base' input.port.gave input'.port.gave output.port.took output'.port.took (λ own past. (refl, refl)) did same given taken
-read_follows reads.Failed place into told told' held held' base base' input input' output output' some did at_in at_out same =
+    let unsaid = read_unsaid on.0 reads.NotYet into errors errors' (on_slot (base place) on.0 (λ b. AtErrors (giving_pier b) (ReadsSo into reads.NotYet errors.port errors'.port) (errors' ≡ errors)) on.1 at_err) in
+    still_follows (read_act place into reads.NotYet) told told' held held' base base' input.port.gave input'.port.gave output.port.took output'.port.took errors.port.took errors'.port.took (λ own past. (refl, (refl, (refl, refl)))) did same given taken unsaid
+read_follows reads.Failed place into told told' held held' base base' input input' output output' errors errors' some did at_in at_out at_err same =
     let on = found (base place) some in
     let given = read_ungiven on.0 reads.Failed into input input' refl (on_slot (base place) on.0 (λ b. AtInput (giving_pier b) (ReadsSo into reads.Failed input.port input'.port) (input' ≡ input)) on.1 at_in) in
     let taken = read_untaken on.0 reads.Failed into output output' (on_slot (base place) on.0 (λ b. AtOutput (giving_pier b) (ReadsSo into reads.Failed output.port output'.port) (output' ≡ output)) on.1 at_out) in
-    still_follows (read_act place into reads.Failed) told told' held held' base base' input.port.gave input'.port.gave output.port.took output'.port.took (λ own past. (refl, refl)) did same given taken
-read_follows reads.Memory place into told told' held held' base base' input input' output output' some did at_in at_out same =
+    let unsaid = read_unsaid on.0 reads.Failed into errors errors' (on_slot (base place) on.0 (λ b. AtErrors (giving_pier b) (ReadsSo into reads.Failed errors.port errors'.port) (errors' ≡ errors)) on.1 at_err) in
+    still_follows (read_act place into reads.Failed) told told' held held' base base' input.port.gave input'.port.gave output.port.took output'.port.took errors.port.took errors'.port.took (λ own past. (refl, (refl, (refl, refl)))) did same given taken unsaid
+read_follows reads.Memory place into told told' held held' base base' input input' output output' errors errors' some did at_in at_out at_err same =
     let on = found (base place) some in
     let given = read_ungiven on.0 reads.Memory into input input' refl (on_slot (base place) on.0 (λ b. AtInput (giving_pier b) (ReadsSo into reads.Memory input.port input'.port) (input' ≡ input)) on.1 at_in) in
     let taken = read_untaken on.0 reads.Memory into output output' (on_slot (base place) on.0 (λ b. AtOutput (giving_pier b) (ReadsSo into reads.Memory output.port output'.port) (output' ≡ output)) on.1 at_out) in
-    still_follows (read_act place into reads.Memory) told told' held held' base base' input.port.gave input'.port.gave output.port.took output'.port.took tt did same given taken
+    let unsaid = read_unsaid on.0 reads.Memory into errors errors' (on_slot (base place) on.0 (λ b. AtErrors (giving_pier b) (ReadsSo into reads.Memory errors.port errors'.port) (errors' ≡ errors)) on.1 at_err) in
+    still_follows (read_act place into reads.Memory) told told' held held' base base' input.port.gave input'.port.gave output.port.took output'.port.took errors.port.took errors'.port.took tt did same given taken unsaid
 
 -- ---- a write
 
@@ -290,6 +324,13 @@ write_taken bases.Both n bytes output output' call = call.accepts.2
 write_taken bases.Input n bytes output output' same = took_of output output' same ∙ unmapped output.port.took
 write_taken bases.Errors n bytes output output' same = took_of output output' same ∙ unmapped output.port.took
 write_taken (bases.Made key) n bytes output output' same = took_of output output' same ∙ unmapped output.port.took
+
+write_said : (b : Base) (n : ℕ) (bytes : List ℕ) (errors errors' : StreamSeen) → AtErrors (taking_pier b) (WritesSo bytes (writes.Took n) errors.port errors'.port) (errors' ≡ errors) → errors'.port.took ≡ option_map (λ all. joined (writes_errors (Some b)) all (take n bytes)) errors.port.took
+write_said bases.Errors n bytes errors errors' call = call.accepts.2
+write_said bases.Input n bytes errors errors' same = took_of errors errors' same ∙ unmapped errors.port.took
+write_said bases.Output n bytes errors errors' same = took_of errors errors' same ∙ unmapped errors.port.took
+write_said bases.Both n bytes errors errors' same = took_of errors errors' same ∙ unmapped errors.port.took
+write_said (bases.Made key) n bytes errors errors' same = took_of errors errors' same ∙ unmapped errors.port.took
 
 abbrev is_taken : WriteAnswer → Bool
 is_taken (writes.Took n) = true
@@ -323,9 +364,16 @@ write_untaken bases.Input result bytes output output' silent same = took_of outp
 write_untaken bases.Errors result bytes output output' silent same = took_of output output' same
 write_untaken (bases.Made key) result bytes output output' silent same = took_of output output' same
 
+write_unsaid : (b : Base) (result : WriteAnswer) (bytes : List ℕ) (errors errors' : StreamSeen) → is_taken result ≡ false → AtErrors (taking_pier b) (WritesSo bytes result errors.port errors'.port) (errors' ≡ errors) → errors'.port.took ≡ errors.port.took
+write_unsaid bases.Errors result bytes errors errors' silent call = writes_none result bytes errors.port errors'.port silent call
+write_unsaid bases.Input result bytes errors errors' silent same = took_of errors errors' same
+write_unsaid bases.Output result bytes errors errors' silent same = took_of errors errors' same
+write_unsaid bases.Both result bytes errors errors' silent same = took_of errors errors' same
+write_unsaid (bases.Made key) result bytes errors errors' silent same = took_of errors errors' same
+
 -- bytes that were taken of what was written at the place
-wrote_bytes : (own : Place → Single) (place : Place) (b : Base) (bytes : List ℕ) (base base' : Place → Option Base) (gave gave' took took' : Option (List ℕ)) → base place ≡ Some b → took' ≡ option_map (λ all. joined (writes_output (Some b)) all bytes) took → gave' ≡ gave → SameBases base base' → Goes own (acts.Wrote place bytes) base base' gave gave' took took'
-wrote_bytes own place b bytes base base' gave gave' took took' at taken given same past follows =
+wrote_bytes : (own : Place → Single) (place : Place) (b : Base) (bytes : List ℕ) (base base' : Place → Option Base) (gave gave' took took' said said' : Option (List ℕ)) → base place ≡ Some b → took' ≡ option_map (λ all. joined (writes_output (Some b)) all bytes) took → said' ≡ option_map (λ all. joined (writes_errors (Some b)) all bytes) said → gave' ≡ gave → SameBases base base' → Goes own (acts.Wrote place bytes) base base' gave gave' took took' said said'
+wrote_bytes own place b bytes base base' gave gave' took took' said said' at taken spoken given same past follows =
     let on = on_slot (base place) b (λ d. StandsFor (stream_of own place) (Some d)) at (follows.stands place) in
     record {
       stands = stands_same own base base' same follows.stands;
@@ -333,30 +381,37 @@ wrote_bytes own place b bytes base base' gave gave' took took' at taken given sa
       taken = grown_sum took took' (λ all. joined (writes_output (stream_of own place)) all bytes) (output_written own past)
           (subst (λ r. took' ≡ option_map (λ all. joined r all bytes) took) (sym (own_writes (stream_of own place) b on)) taken)
           follows.taken;
+      told = λ whole. grown_sum said said' (λ all. joined (writes_errors (stream_of own place)) all bytes) (errors_written own past)
+          (subst (λ r. said' ≡ option_map (λ all. joined r all bytes) said) (sym (own_said (stream_of own place) b on)) spoken)
+          (follows.told whole);
     }
 
-pub write_follows : (result : WriteAnswer) (place : Place) (bytes : List ℕ) (told told' : Option History) (held held' : Place → Hold) (base base' : Place → Option Base) (input input' output output' : StreamSeen) → is_some (base place) ≡ true → Answered told told' held held' (write_act place bytes result) → IfSome (base place) (λ b. AtInput (taking_pier b) (WritesSo bytes result input.port input'.port) (input' ≡ input)) → IfSome (base place) (λ b. AtOutput (taking_pier b) (WritesSo bytes result output.port output'.port) (output' ≡ output)) → SameBases base base' → FollowsTold told base input.port.gave output.port.took → FollowsTold told' base' input'.port.gave output'.port.took
-write_follows (writes.Took n) place bytes told told' held held' base base' input input' output output' some did at_in at_out same =
+pub write_follows : (result : WriteAnswer) (place : Place) (bytes : List ℕ) (told told' : Option History) (held held' : Place → Hold) (base base' : Place → Option Base) (input input' output output' errors errors' : StreamSeen) → is_some (base place) ≡ true → Answered told told' held held' (write_act place bytes result) → IfSome (base place) (λ b. AtInput (taking_pier b) (WritesSo bytes result input.port input'.port) (input' ≡ input)) → IfSome (base place) (λ b. AtOutput (taking_pier b) (WritesSo bytes result output.port output'.port) (output' ≡ output)) → IfSome (base place) (λ b. AtErrors (taking_pier b) (WritesSo bytes result errors.port errors'.port) (errors' ≡ errors)) → SameBases base base' → FollowsTold told base input.port.gave output.port.took errors.port.took → FollowsTold told' base' input'.port.gave output'.port.took errors'.port.took
+write_follows (writes.Took n) place bytes told told' held held' base base' input input' output output' errors errors' some did at_in at_out at_err same =
     let on = found (base place) some in
     let given = write_ungiven on.0 (writes.Took n) bytes input input' (on_slot (base place) on.0 (λ b. AtInput (taking_pier b) (WritesSo bytes (writes.Took n) input.port input'.port) (input' ≡ input)) on.1 at_in) in
     let taken = write_taken on.0 n bytes output output' (on_slot (base place) on.0 (λ b. AtOutput (taking_pier b) (WritesSo bytes (writes.Took n) output.port output'.port) (output' ≡ output)) on.1 at_out) in
-    acted told told' (acts.Wrote place (take n bytes)) base base' input.port.gave input'.port.gave output.port.took output'.port.took did.told
-    (λ own elsewhere. wrote_bytes own place on.0 (take n bytes) base base' input.port.gave input'.port.gave output.port.took output'.port.took on.1 taken given same)
-write_follows writes.NotYet place bytes told told' held held' base base' input input' output output' some did at_in at_out same =
+    let said = write_said on.0 n bytes errors errors' (on_slot (base place) on.0 (λ b. AtErrors (taking_pier b) (WritesSo bytes (writes.Took n) errors.port errors'.port) (errors' ≡ errors)) on.1 at_err) in
+    acted told told' (acts.Wrote place (take n bytes)) base base' input.port.gave input'.port.gave output.port.took output'.port.took errors.port.took errors'.port.took did.told
+    (λ own elsewhere. wrote_bytes own place on.0 (take n bytes) base base' input.port.gave input'.port.gave output.port.took output'.port.took errors.port.took errors'.port.took on.1 taken said given same)
+write_follows writes.NotYet place bytes told told' held held' base base' input input' output output' errors errors' some did at_in at_out at_err same =
     let on = found (base place) some in
     let given = write_ungiven on.0 writes.NotYet bytes input input' (on_slot (base place) on.0 (λ b. AtInput (taking_pier b) (WritesSo bytes writes.NotYet input.port input'.port) (input' ≡ input)) on.1 at_in) in
     let taken = write_untaken on.0 writes.NotYet bytes output output' refl (on_slot (base place) on.0 (λ b. AtOutput (taking_pier b) (WritesSo bytes writes.NotYet output.port output'.port) (output' ≡ output)) on.1 at_out) in
-    still_follows (write_act place bytes writes.NotYet) told told' held held' base base' input.port.gave input'.port.gave output.port.took output'.port.took (λ own past. (refl, refl)) did same given taken
-write_follows writes.Failed place bytes told told' held held' base base' input input' output output' some did at_in at_out same =
+    let unsaid = write_unsaid on.0 writes.NotYet bytes errors errors' refl (on_slot (base place) on.0 (λ b. AtErrors (taking_pier b) (WritesSo bytes writes.NotYet errors.port errors'.port) (errors' ≡ errors)) on.1 at_err) in
+    still_follows (write_act place bytes writes.NotYet) told told' held held' base base' input.port.gave input'.port.gave output.port.took output'.port.took errors.port.took errors'.port.took (λ own past. (refl, (refl, (refl, refl)))) did same given taken unsaid
+write_follows writes.Failed place bytes told told' held held' base base' input input' output output' errors errors' some did at_in at_out at_err same =
     let on = found (base place) some in
     let given = write_ungiven on.0 writes.Failed bytes input input' (on_slot (base place) on.0 (λ b. AtInput (taking_pier b) (WritesSo bytes writes.Failed input.port input'.port) (input' ≡ input)) on.1 at_in) in
     let taken = write_untaken on.0 writes.Failed bytes output output' refl (on_slot (base place) on.0 (λ b. AtOutput (taking_pier b) (WritesSo bytes writes.Failed output.port output'.port) (output' ≡ output)) on.1 at_out) in
-    still_follows (write_act place bytes writes.Failed) told told' held held' base base' input.port.gave input'.port.gave output.port.took output'.port.took (λ own past. (refl, refl)) did same given taken
-write_follows writes.Memory place bytes told told' held held' base base' input input' output output' some did at_in at_out same =
+    let unsaid = write_unsaid on.0 writes.Failed bytes errors errors' refl (on_slot (base place) on.0 (λ b. AtErrors (taking_pier b) (WritesSo bytes writes.Failed errors.port errors'.port) (errors' ≡ errors)) on.1 at_err) in
+    still_follows (write_act place bytes writes.Failed) told told' held held' base base' input.port.gave input'.port.gave output.port.took output'.port.took errors.port.took errors'.port.took (λ own past. (refl, (refl, (refl, refl)))) did same given taken unsaid
+write_follows writes.Memory place bytes told told' held held' base base' input input' output output' errors errors' some did at_in at_out at_err same =
     let on = found (base place) some in
     let given = write_ungiven on.0 writes.Memory bytes input input' (on_slot (base place) on.0 (λ b. AtInput (taking_pier b) (WritesSo bytes writes.Memory input.port input'.port) (input' ≡ input)) on.1 at_in) in
     let taken = write_untaken on.0 writes.Memory bytes output output' refl (on_slot (base place) on.0 (λ b. AtOutput (taking_pier b) (WritesSo bytes writes.Memory output.port output'.port) (output' ≡ output)) on.1 at_out) in
-    still_follows (write_act place bytes writes.Memory) told told' held held' base base' input.port.gave input'.port.gave output.port.took output'.port.took tt did same given taken
+    let unsaid = write_unsaid on.0 writes.Memory bytes errors errors' refl (on_slot (base place) on.0 (λ b. AtErrors (taking_pier b) (WritesSo bytes writes.Memory errors.port errors'.port) (errors' ≡ errors)) on.1 at_err) in
+    still_follows (write_act place bytes writes.Memory) told told' held held' base base' input.port.gave input'.port.gave output.port.took output'.port.took errors.port.took errors'.port.took tt did same given taken unsaid
 
 -- ---- a packet
 
@@ -366,6 +421,13 @@ send_taken bases.Both bytes output output' call = call.1.accepts.1
 send_taken bases.Input bytes output output' same = took_of output output' same ∙ unmapped output.port.took
 send_taken bases.Errors bytes output output' same = took_of output output' same ∙ unmapped output.port.took
 send_taken (bases.Made key) bytes output output' same = took_of output output' same ∙ unmapped output.port.took
+
+send_said : (b : Base) (bytes : List ℕ) (errors errors' : StreamSeen) → AtErrors (taking_pier b) (SendsSo bytes sends.Sent errors.port errors'.port) (errors' ≡ errors) → errors'.port.took ≡ option_map (λ all. joined (writes_errors (Some b)) all bytes) errors.port.took
+send_said bases.Errors bytes errors errors' call = call.1.accepts.1
+send_said bases.Input bytes errors errors' same = took_of errors errors' same ∙ unmapped errors.port.took
+send_said bases.Output bytes errors errors' same = took_of errors errors' same ∙ unmapped errors.port.took
+send_said bases.Both bytes errors errors' same = took_of errors errors' same ∙ unmapped errors.port.took
+send_said (bases.Made key) bytes errors errors' same = took_of errors errors' same ∙ unmapped errors.port.took
 
 abbrev is_sent : SendAnswer → Bool
 is_sent sends.Sent = true
@@ -399,28 +461,39 @@ send_untaken bases.Input result bytes output output' silent same = took_of outpu
 send_untaken bases.Errors result bytes output output' silent same = took_of output output' same
 send_untaken (bases.Made key) result bytes output output' silent same = took_of output output' same
 
-pub send_follows : (result : SendAnswer) (place : Place) (bytes : List ℕ) (told told' : Option History) (held held' : Place → Hold) (base base' : Place → Option Base) (input input' output output' : StreamSeen) → is_some (base place) ≡ true → Answered told told' held held' (send_act place bytes result) → IfSome (base place) (λ b. AtInput (taking_pier b) (SendsSo bytes result input.port input'.port) (input' ≡ input)) → IfSome (base place) (λ b. AtOutput (taking_pier b) (SendsSo bytes result output.port output'.port) (output' ≡ output)) → SameBases base base' → FollowsTold told base input.port.gave output.port.took → FollowsTold told' base' input'.port.gave output'.port.took
-send_follows sends.Sent place bytes told told' held held' base base' input input' output output' some did at_in at_out same =
+send_unsaid : (b : Base) (result : SendAnswer) (bytes : List ℕ) (errors errors' : StreamSeen) → is_sent result ≡ false → AtErrors (taking_pier b) (SendsSo bytes result errors.port errors'.port) (errors' ≡ errors) → errors'.port.took ≡ errors.port.took
+send_unsaid bases.Errors result bytes errors errors' silent call = sends_none result bytes errors.port errors'.port silent call
+send_unsaid bases.Input result bytes errors errors' silent same = took_of errors errors' same
+send_unsaid bases.Output result bytes errors errors' silent same = took_of errors errors' same
+send_unsaid bases.Both result bytes errors errors' silent same = took_of errors errors' same
+send_unsaid (bases.Made key) result bytes errors errors' silent same = took_of errors errors' same
+
+pub send_follows : (result : SendAnswer) (place : Place) (bytes : List ℕ) (told told' : Option History) (held held' : Place → Hold) (base base' : Place → Option Base) (input input' output output' errors errors' : StreamSeen) → is_some (base place) ≡ true → Answered told told' held held' (send_act place bytes result) → IfSome (base place) (λ b. AtInput (taking_pier b) (SendsSo bytes result input.port input'.port) (input' ≡ input)) → IfSome (base place) (λ b. AtOutput (taking_pier b) (SendsSo bytes result output.port output'.port) (output' ≡ output)) → IfSome (base place) (λ b. AtErrors (taking_pier b) (SendsSo bytes result errors.port errors'.port) (errors' ≡ errors)) → SameBases base base' → FollowsTold told base input.port.gave output.port.took errors.port.took → FollowsTold told' base' input'.port.gave output'.port.took errors'.port.took
+send_follows sends.Sent place bytes told told' held held' base base' input input' output output' errors errors' some did at_in at_out at_err same =
     let on = found (base place) some in
     let given = send_ungiven on.0 sends.Sent bytes input input' (on_slot (base place) on.0 (λ b. AtInput (taking_pier b) (SendsSo bytes sends.Sent input.port input'.port) (input' ≡ input)) on.1 at_in) in
     let taken = send_taken on.0 bytes output output' (on_slot (base place) on.0 (λ b. AtOutput (taking_pier b) (SendsSo bytes sends.Sent output.port output'.port) (output' ≡ output)) on.1 at_out) in
-    acted told told' (acts.Wrote place bytes) base base' input.port.gave input'.port.gave output.port.took output'.port.took did.told
-    (λ own elsewhere. wrote_bytes own place on.0 bytes base base' input.port.gave input'.port.gave output.port.took output'.port.took on.1 taken given same)
-send_follows sends.NotYet place bytes told told' held held' base base' input input' output output' some did at_in at_out same =
+    let said = send_said on.0 bytes errors errors' (on_slot (base place) on.0 (λ b. AtErrors (taking_pier b) (SendsSo bytes sends.Sent errors.port errors'.port) (errors' ≡ errors)) on.1 at_err) in
+    acted told told' (acts.Wrote place bytes) base base' input.port.gave input'.port.gave output.port.took output'.port.took errors.port.took errors'.port.took did.told
+    (λ own elsewhere. wrote_bytes own place on.0 bytes base base' input.port.gave input'.port.gave output.port.took output'.port.took errors.port.took errors'.port.took on.1 taken said given same)
+send_follows sends.NotYet place bytes told told' held held' base base' input input' output output' errors errors' some did at_in at_out at_err same =
     let on = found (base place) some in
     let given = send_ungiven on.0 sends.NotYet bytes input input' (on_slot (base place) on.0 (λ b. AtInput (taking_pier b) (SendsSo bytes sends.NotYet input.port input'.port) (input' ≡ input)) on.1 at_in) in
     let taken = send_untaken on.0 sends.NotYet bytes output output' refl (on_slot (base place) on.0 (λ b. AtOutput (taking_pier b) (SendsSo bytes sends.NotYet output.port output'.port) (output' ≡ output)) on.1 at_out) in
-    still_follows (send_act place bytes sends.NotYet) told told' held held' base base' input.port.gave input'.port.gave output.port.took output'.port.took (λ own past. (refl, refl)) did same given taken
-send_follows sends.Failed place bytes told told' held held' base base' input input' output output' some did at_in at_out same =
+    let unsaid = send_unsaid on.0 sends.NotYet bytes errors errors' refl (on_slot (base place) on.0 (λ b. AtErrors (taking_pier b) (SendsSo bytes sends.NotYet errors.port errors'.port) (errors' ≡ errors)) on.1 at_err) in
+    still_follows (send_act place bytes sends.NotYet) told told' held held' base base' input.port.gave input'.port.gave output.port.took output'.port.took errors.port.took errors'.port.took (λ own past. (refl, (refl, (refl, refl)))) did same given taken unsaid
+send_follows sends.Failed place bytes told told' held held' base base' input input' output output' errors errors' some did at_in at_out at_err same =
     let on = found (base place) some in
     let given = send_ungiven on.0 sends.Failed bytes input input' (on_slot (base place) on.0 (λ b. AtInput (taking_pier b) (SendsSo bytes sends.Failed input.port input'.port) (input' ≡ input)) on.1 at_in) in
     let taken = send_untaken on.0 sends.Failed bytes output output' refl (on_slot (base place) on.0 (λ b. AtOutput (taking_pier b) (SendsSo bytes sends.Failed output.port output'.port) (output' ≡ output)) on.1 at_out) in
-    still_follows (send_act place bytes sends.Failed) told told' held held' base base' input.port.gave input'.port.gave output.port.took output'.port.took (λ own past. (refl, refl)) did same given taken
-send_follows sends.Memory place bytes told told' held held' base base' input input' output output' some did at_in at_out same =
+    let unsaid = send_unsaid on.0 sends.Failed bytes errors errors' refl (on_slot (base place) on.0 (λ b. AtErrors (taking_pier b) (SendsSo bytes sends.Failed errors.port errors'.port) (errors' ≡ errors)) on.1 at_err) in
+    still_follows (send_act place bytes sends.Failed) told told' held held' base base' input.port.gave input'.port.gave output.port.took output'.port.took errors.port.took errors'.port.took (λ own past. (refl, (refl, (refl, refl)))) did same given taken unsaid
+send_follows sends.Memory place bytes told told' held held' base base' input input' output output' errors errors' some did at_in at_out at_err same =
     let on = found (base place) some in
     let given = send_ungiven on.0 sends.Memory bytes input input' (on_slot (base place) on.0 (λ b. AtInput (taking_pier b) (SendsSo bytes sends.Memory input.port input'.port) (input' ≡ input)) on.1 at_in) in
     let taken = send_untaken on.0 sends.Memory bytes output output' refl (on_slot (base place) on.0 (λ b. AtOutput (taking_pier b) (SendsSo bytes sends.Memory output.port output'.port) (output' ≡ output)) on.1 at_out) in
-    still_follows (send_act place bytes sends.Memory) told told' held held' base base' input.port.gave input'.port.gave output.port.took output'.port.took tt did same given taken
+    let unsaid = send_unsaid on.0 sends.Memory bytes errors errors' refl (on_slot (base place) on.0 (λ b. AtErrors (taking_pier b) (SendsSo bytes sends.Memory errors.port errors'.port) (errors' ≡ errors)) on.1 at_err) in
+    still_follows (send_act place bytes sends.Memory) told told' held held' base base' input.port.gave input'.port.gave output.port.took output'.port.took errors.port.took errors'.port.took tt did same given taken unsaid
 
 -- ---- a shut
 
@@ -443,60 +516,86 @@ shut_untaken bases.Input how result output output' same = took_of output output'
 shut_untaken bases.Errors how result output output' same = took_of output output' same
 shut_untaken (bases.Made key) how result output output' same = took_of output output' same
 
+shut_unsaid : (b : Base) (how : Shut) (result : ShutAnswer) (errors errors' : StreamSeen) → AtErrors (taking_pier b) (ShutsSo how result errors.port errors'.port) (errors' ≡ errors) → errors'.port.took ≡ errors.port.took
+shut_unsaid bases.Errors how result errors errors' call = (shuts_still how result errors.port errors'.port call).1
+shut_unsaid bases.Input how result errors errors' same = took_of errors errors' same
+shut_unsaid bases.Output how result errors errors' same = took_of errors errors' same
+shut_unsaid bases.Both how result errors errors' same = took_of errors errors' same
+shut_unsaid (bases.Made key) how result errors errors' same = took_of errors errors' same
+
 shut_is_still : (place : Place) (how : Shut) (result : ShutAnswer) → IfSome (shut_act place how result) IsStill
-shut_is_still place how shuts.Done = λ own past. (refl, refl)
-shut_is_still place how shuts.Failed = λ own past. (refl, refl)
+shut_is_still place how shuts.Done = λ own past. (refl, (refl, (refl, refl)))
+shut_is_still place how shuts.Failed = λ own past. (refl, (refl, (refl, refl)))
 shut_is_still place how shuts.Memory = tt
 
-pub shut_follows : (result : ShutAnswer) (place : Place) (how : Shut) (told told' : Option History) (held held' : Place → Hold) (base base' : Place → Option Base) (input input' output output' : StreamSeen) → is_some (base place) ≡ true → Answered told told' held held' (shut_act place how result) → IfSome (base place) (λ b. AtInput (taking_pier b) (ShutsSo how result input.port input'.port) (input' ≡ input)) → IfSome (base place) (λ b. AtOutput (taking_pier b) (ShutsSo how result output.port output'.port) (output' ≡ output)) → SameBases base base' → FollowsTold told base input.port.gave output.port.took → FollowsTold told' base' input'.port.gave output'.port.took
-shut_follows result place how told told' held held' base base' input input' output output' some did at_in at_out same =
+pub shut_follows : (result : ShutAnswer) (place : Place) (how : Shut) (told told' : Option History) (held held' : Place → Hold) (base base' : Place → Option Base) (input input' output output' errors errors' : StreamSeen) → is_some (base place) ≡ true → Answered told told' held held' (shut_act place how result) → IfSome (base place) (λ b. AtInput (taking_pier b) (ShutsSo how result input.port input'.port) (input' ≡ input)) → IfSome (base place) (λ b. AtOutput (taking_pier b) (ShutsSo how result output.port output'.port) (output' ≡ output)) → IfSome (base place) (λ b. AtErrors (taking_pier b) (ShutsSo how result errors.port errors'.port) (errors' ≡ errors)) → SameBases base base' → FollowsTold told base input.port.gave output.port.took errors.port.took → FollowsTold told' base' input'.port.gave output'.port.took errors'.port.took
+shut_follows result place how told told' held held' base base' input input' output output' errors errors' some did at_in at_out at_err same =
     let on = found (base place) some in
     let given = shut_ungiven on.0 how result input input' (on_slot (base place) on.0 (λ b. AtInput (taking_pier b) (ShutsSo how result input.port input'.port) (input' ≡ input)) on.1 at_in) in
     let taken = shut_untaken on.0 how result output output' (on_slot (base place) on.0 (λ b. AtOutput (taking_pier b) (ShutsSo how result output.port output'.port) (output' ≡ output)) on.1 at_out) in
-    still_follows (shut_act place how result) told told' held held' base base' input.port.gave input'.port.gave output.port.took output'.port.took (shut_is_still place how result) did same given taken
+    let unsaid = shut_unsaid on.0 how result errors errors' (on_slot (base place) on.0 (λ b. AtErrors (taking_pier b) (ShutsSo how result errors.port errors'.port) (errors' ≡ errors)) on.1 at_err) in
+    still_follows (shut_act place how result) told told' held held' base base' input.port.gave input'.port.gave output.port.took output'.port.took errors.port.took errors'.port.took (shut_is_still place how result) did same given taken unsaid
 
 -- ---- a wait, a note and a reaping
 
 wait_is_still : (until : Option ℕ) (ready : Listed) (result : Turned) → IfSome (wait_act until ready result) IsStill
-wait_is_still until ready (turns.Turned at stop) = λ own past. (refl, refl)
+wait_is_still until ready (turns.Turned at stop) = λ own past. (refl, (refl, (refl, refl)))
 wait_is_still until ready turns.Memory = tt
 
-pub wait_follows : (result : Turned) (until : Option ℕ) (ready : Listed) (told told' : Option History) (held held' : Place → Hold) (base base' : Place → Option Base) (input input' output output' : StreamSeen) → Answered told told' held held' (wait_act until ready result) → input'.port ≡ input.port → output'.port ≡ output.port → SameBases base base' → FollowsTold told base input.port.gave output.port.took → FollowsTold told' base' input'.port.gave output'.port.took
-wait_follows result until ready told told' held held' base base' input input' output output' did in_same out_same same =
-    still_follows (wait_act until ready result) told told' held held' base base' input.port.gave input'.port.gave output.port.took output'.port.took (wait_is_still until ready result) did same (ap (λ (p : PortSeen). p.gave) in_same) (ap (λ (p : PortSeen). p.took) out_same)
+pub wait_follows : (result : Turned) (until : Option ℕ) (ready : Listed) (told told' : Option History) (held held' : Place → Hold) (base base' : Place → Option Base) (input input' output output' errors errors' : StreamSeen) → Answered told told' held held' (wait_act until ready result) → input'.port ≡ input.port → output'.port ≡ output.port → errors'.port ≡ errors.port → SameBases base base' → FollowsTold told base input.port.gave output.port.took errors.port.took → FollowsTold told' base' input'.port.gave output'.port.took errors'.port.took
+wait_follows result until ready told told' held held' base base' input input' output output' errors errors' did in_same out_same err_same same =
+    still_follows (wait_act until ready result) told told' held held' base base' input.port.gave input'.port.gave output.port.took output'.port.took errors.port.took errors'.port.took (wait_is_still until ready result) did same (ap (λ (p : PortSeen). p.gave) in_same) (ap (λ (p : PortSeen). p.took) out_same) (ap (λ (p : PortSeen). p.took) err_same)
 
-note_is_still : (text : List ℕ) (result : NoteAnswer) → IfSome (note_act text result) IsStill
-note_is_still text notes.Noted = λ own past. (refl, refl)
-note_is_still text notes.Failed = λ own past. (refl, refl)
-note_is_still text notes.Memory = tt
+noted_bytes : (own : Place → Single) (text : List ℕ) (base base' : Place → Option Base) (gave gave' took took' said said' : Option (List ℕ)) → gave' ≡ gave → took' ≡ took → said' ≡ option_map (λ all. all ++ text) said → SameBases base base' → Goes own (acts.Note text) base base' gave gave' took took' said said'
+noted_bytes own text base base' gave gave' took took' said said' e f g same past follows = record {
+  stands = stands_same own base base' same follows.stands;
+  given = kept_sum gave gave' _ _ e refl follows.given;
+  taken = kept_sum took took' _ _ f refl follows.taken;
+  told = λ whole. grown_sum said said' (λ all. all ++ text) (errors_written own past) g (follows.told whole);
+}
 
-pub note_follows : (result : NoteAnswer) (text : List ℕ) (told told' : Option History) (held held' : Place → Hold) (base base' : Place → Option Base) (input input' output output' : StreamSeen) → Answered told told' held held' (note_act text result) → input' ≡ input → output' ≡ output → SameBases base base' → FollowsTold told base input.port.gave output.port.took → FollowsTold told' base' input'.port.gave output'.port.took
-note_follows result text told told' held held' base base' input input' output output' did in_same out_same same =
-    still_follows (note_act text result) told told' held held' base base' input.port.gave input'.port.gave output.port.took output'.port.took (note_is_still text result) did same (gave_of input input' in_same) (took_of output output' out_same)
+-- after a note that failed nothing is told of standard error
+note_failed : (own : Place → Single) (text : List ℕ) (base base' : Place → Option Base) (gave gave' took took' said said' : Option (List ℕ)) → gave' ≡ gave → took' ≡ took → SameBases base base' → Goes own (acts.NoteFault text) base base' gave gave' took took' said said'
+note_failed own text base base' gave gave' took took' said said' e f same past follows = record {
+  stands = stands_same own base base' same follows.stands;
+  given = kept_sum gave gave' _ _ e refl follows.given;
+  taken = kept_sum took took' _ _ f refl follows.taken;
+  told = λ whole. absurd cc;
+}
+
+pub note_follows : (result : NoteAnswer) (text : List ℕ) (told told' : Option History) (held held' : Place → Hold) (base base' : Place → Option Base) (input input' output output' errors errors' : StreamSeen) → Answered told told' held held' (note_act text result) → input' ≡ input → output' ≡ output → NotedSo result errors.port.took errors'.port.took text → SameBases base base' → FollowsTold told base input.port.gave output.port.took errors.port.took → FollowsTold told' base' input'.port.gave output'.port.took errors'.port.took
+note_follows notes.Noted text told told' held held' base base' input input' output output' errors errors' did in_same out_same says same =
+    acted told told' (acts.Note text) base base' input.port.gave input'.port.gave output.port.took output'.port.took errors.port.took errors'.port.took did.told
+    (λ own elsewhere. noted_bytes own text base base' input.port.gave input'.port.gave output.port.took output'.port.took errors.port.took errors'.port.took (gave_of input input' in_same) (took_of output output' out_same) says same)
+note_follows notes.Failed text told told' held held' base base' input input' output output' errors errors' did in_same out_same says same =
+    acted told told' (acts.NoteFault text) base base' input.port.gave input'.port.gave output.port.took output'.port.took errors.port.took errors'.port.took did.told
+    (λ own elsewhere. note_failed own text base base' input.port.gave input'.port.gave output.port.took output'.port.took errors.port.took errors'.port.took (gave_of input input' in_same) (took_of output output' out_same) same)
+note_follows notes.Memory text told told' held held' base base' input input' output output' errors errors' did in_same out_same says same =
+    nothing told told' base base' input.port.gave input'.port.gave output.port.took output'.port.took errors.port.took errors'.port.took did.told same (gave_of input input' in_same) (took_of output output' out_same) says
 
 reap_is_still : (place : Place) (result : ReapAnswer) → IfSome (reap_act place result) IsStill
-reap_is_still place (reaps.Reaped end) = λ own past. (refl, refl)
+reap_is_still place (reaps.Reaped end) = λ own past. (refl, (refl, (refl, refl)))
 reap_is_still place reaps.NoChild = tt
 reap_is_still place reaps.Memory = tt
 
-pub reap_follows : (result : ReapAnswer) (place : Place) (told told' : Option History) (held held' : Place → Hold) (base base' : Place → Option Base) (input input' output output' : StreamSeen) → Answered told told' held held' (reap_act place result) → input' ≡ input → output' ≡ output → SameBases base base' → FollowsTold told base input.port.gave output.port.took → FollowsTold told' base' input'.port.gave output'.port.took
-reap_follows result place told told' held held' base base' input input' output output' did in_same out_same same =
-    still_follows (reap_act place result) told told' held held' base base' input.port.gave input'.port.gave output.port.took output'.port.took (reap_is_still place result) did same (gave_of input input' in_same) (took_of output output' out_same)
+pub reap_follows : (result : ReapAnswer) (place : Place) (told told' : Option History) (held held' : Place → Hold) (base base' : Place → Option Base) (input input' output output' errors errors' : StreamSeen) → Answered told told' held held' (reap_act place result) → input' ≡ input → output' ≡ output → errors' ≡ errors → SameBases base base' → FollowsTold told base input.port.gave output.port.took errors.port.took → FollowsTold told' base' input'.port.gave output'.port.took errors'.port.took
+reap_follows result place told told' held held' base base' input input' output output' errors errors' did in_same out_same err_same same =
+    still_follows (reap_act place result) told told' held held' base base' input.port.gave input'.port.gave output.port.took output'.port.took errors.port.took errors'.port.took (reap_is_still place result) did same (gave_of input input' in_same) (took_of output output' out_same) (took_of errors errors' err_same)
 
 -- ---- what opens and closes places
 
-pub open_follows : (result : OpenAnswer) (place : Place) (single : Single) (told told' : Option History) (held held' : Place → Hold) (base base' : Place → Option Base) (input input' output output' : StreamSeen) → AnsweredAsking (place, single) told told' held held' (open_act place result) → MovesNothing input.port input'.port → MovesNothing output.port output'.port → OpensOn (standard_of place single.target) place base base' result → FollowsTold told base input.port.gave output.port.took → FollowsTold told' base' input'.port.gave output'.port.took
-open_follows opens.Opened place single told told' held held' base base' input input' output output' did in_still out_still on =
-    asked told told' (acts.Opened place) (place, single) base base' input.port.gave input'.port.gave output.port.took output'.port.took did.told
-    (λ own elsewhere is. quiet own (acts.Opened place) base base' input.port.gave input'.port.gave output.port.took output'.port.took (stands_comes own place (standard_of place single.target) base base' (ap (λ (s : Single). standard_of place s.target) (sym is)) on) in_still.gave out_still.took (λ past. refl) (λ past. refl))
-open_follows opens.Later place single told told' held held' base base' input input' output output' did in_still out_still on =
-    asked told told' (acts.OpenLater place) (place, single) base base' input.port.gave input'.port.gave output.port.took output'.port.took did.told
-    (λ own elsewhere is. quiet own (acts.OpenLater place) base base' input.port.gave input'.port.gave output.port.took output'.port.took (stands_comes own place (standard_of place single.target) base base' (ap (λ (s : Single). standard_of place s.target) (sym is)) on) in_still.gave out_still.took (λ past. refl) (λ past. refl))
-open_follows opens.Failed place single told told' held held' base base' input input' output output' did in_still out_still on =
-    asked told told' (acts.OpenFailed place) (place, single) base base' input.port.gave input'.port.gave output.port.took output'.port.took did.told
-    (λ own elsewhere is. quiet own (acts.OpenFailed place) base base' input.port.gave input'.port.gave output.port.took output'.port.took (stands_same own base base' on) in_still.gave out_still.took (λ past. refl) (λ past. refl))
-open_follows opens.Memory place single told told' held held' base base' input input' output output' did in_still out_still on =
-    nothing told told' base base' input.port.gave input'.port.gave output.port.took output'.port.took did.told on in_still.gave out_still.took
+pub open_follows : (result : OpenAnswer) (place : Place) (single : Single) (told told' : Option History) (held held' : Place → Hold) (base base' : Place → Option Base) (input input' output output' errors errors' : StreamSeen) → AnsweredAsking (place, single) told told' held held' (open_act place result) → MovesNothing input.port input'.port → MovesNothing output.port output'.port → MovesNothing errors.port errors'.port → OpensOn (standard_of place single.target) place base base' result → FollowsTold told base input.port.gave output.port.took errors.port.took → FollowsTold told' base' input'.port.gave output'.port.took errors'.port.took
+open_follows opens.Opened place single told told' held held' base base' input input' output output' errors errors' did in_still out_still err_still on =
+    asked told told' (acts.Opened place) (place, single) base base' input.port.gave input'.port.gave output.port.took output'.port.took errors.port.took errors'.port.took did.told
+    (λ own elsewhere is. quiet own (acts.Opened place) base base' input.port.gave input'.port.gave output.port.took output'.port.took errors.port.took errors'.port.took (stands_comes own place (standard_of place single.target) base base' (ap (λ (s : Single). standard_of place s.target) (sym is)) on) in_still.gave out_still.took err_still.took (λ past. (refl, (refl, (refl, refl)))))
+open_follows opens.Later place single told told' held held' base base' input input' output output' errors errors' did in_still out_still err_still on =
+    asked told told' (acts.OpenLater place) (place, single) base base' input.port.gave input'.port.gave output.port.took output'.port.took errors.port.took errors'.port.took did.told
+    (λ own elsewhere is. quiet own (acts.OpenLater place) base base' input.port.gave input'.port.gave output.port.took output'.port.took errors.port.took errors'.port.took (stands_comes own place (standard_of place single.target) base base' (ap (λ (s : Single). standard_of place s.target) (sym is)) on) in_still.gave out_still.took err_still.took (λ past. (refl, (refl, (refl, refl)))))
+open_follows opens.Failed place single told told' held held' base base' input input' output output' errors errors' did in_still out_still err_still on =
+    asked told told' (acts.OpenFailed place) (place, single) base base' input.port.gave input'.port.gave output.port.took output'.port.took errors.port.took errors'.port.took did.told
+    (λ own elsewhere is. quiet own (acts.OpenFailed place) base base' input.port.gave input'.port.gave output.port.took output'.port.took errors.port.took errors'.port.took (stands_same own base base' on) in_still.gave out_still.took err_still.took (λ past. (refl, (refl, (refl, refl)))))
+open_follows opens.Memory place single told told' held held' base base' input input' output output' errors errors' did in_still out_still err_still on =
+    nothing told told' base base' input.port.gave input'.port.gave output.port.took output'.port.took errors.port.took errors'.port.took did.told on in_still.gave out_still.took err_still.took
 
 settles_still : (result : OpenAnswer) (before now : PortSeen) → SettlesSo before now result → (now.gave ≡ before.gave) × (now.took ≡ before.took)
 settles_still opens.Opened before now call = (call.still.gave, call.still.took)
@@ -518,68 +617,76 @@ settle_untaken bases.Both result output output' same = took_of output output' sa
 settle_untaken bases.Errors result output output' same = took_of output output' same
 settle_untaken (bases.Made key) result output output' same = took_of output output' same
 
-settled : (result : OpenAnswer) (place : Place) (told told' : Option History) (held held' : Place → Hold) (base base' : Place → Option Base) (gave gave' took took' : Option (List ℕ)) → Answered told told' held held' (open_act place result) → gave' ≡ gave → took' ≡ took → SettlesOn place base base' result → FollowsTold told base gave took → FollowsTold told' base' gave' took'
-settled opens.Opened place told told' held held' base base' gave gave' took took' did e f on =
-    still_follows (Some (acts.Opened place)) told told' held held' base base' gave gave' took took' (λ own past. (refl, refl)) did on e f
-settled opens.Later place told told' held held' base base' gave gave' took took' did e f on =
-    still_follows (Some (acts.OpenLater place)) told told' held held' base base' gave gave' took took' (λ own past. (refl, refl)) did on e f
-settled opens.Failed place told told' held held' base base' gave gave' took took' did e f on =
-    acted told told' (acts.OpenFailed place) base base' gave gave' took took' did.told
-    (λ own elsewhere. quiet own (acts.OpenFailed place) base base' gave gave' took took' (stands_leaves own place base base' on) e f (λ past. refl) (λ past. refl))
-settled opens.Memory place told told' held held' base base' gave gave' took took' did e f on =
-    nothing told told' base base' gave gave' took took' did.told on e f
+settle_unsaid : (b : Base) (result : OpenAnswer) (errors errors' : StreamSeen) → AtErrors (giving_pier b) (SettlesSo errors.port errors'.port result) (errors' ≡ errors) → errors'.port.took ≡ errors.port.took
+settle_unsaid bases.Errors result errors errors' call = (settles_still result errors.port errors'.port call).1
+settle_unsaid bases.Input result errors errors' same = took_of errors errors' same
+settle_unsaid bases.Output result errors errors' same = took_of errors errors' same
+settle_unsaid bases.Both result errors errors' same = took_of errors errors' same
+settle_unsaid (bases.Made key) result errors errors' same = took_of errors errors' same
 
-pub settle_follows : (result : OpenAnswer) (place : Place) (told told' : Option History) (held held' : Place → Hold) (base base' : Place → Option Base) (input input' output output' : StreamSeen) → is_some (base place) ≡ true → Answered told told' held held' (open_act place result) → IfSome (base place) (λ b. AtInput (giving_pier b) (SettlesSo input.port input'.port result) (input' ≡ input)) → IfSome (base place) (λ b. AtOutput (giving_pier b) (SettlesSo output.port output'.port result) (output' ≡ output)) → SettlesOn place base base' result → FollowsTold told base input.port.gave output.port.took → FollowsTold told' base' input'.port.gave output'.port.took
-settle_follows result place told told' held held' base base' input input' output output' some did at_in at_out on_after =
+settled : (result : OpenAnswer) (place : Place) (told told' : Option History) (held held' : Place → Hold) (base base' : Place → Option Base) (gave gave' took took' said said' : Option (List ℕ)) → Answered told told' held held' (open_act place result) → gave' ≡ gave → took' ≡ took → said' ≡ said → SettlesOn place base base' result → FollowsTold told base gave took said → FollowsTold told' base' gave' took' said'
+settled opens.Opened place told told' held held' base base' gave gave' took took' said said' did e f g on =
+    still_follows (Some (acts.Opened place)) told told' held held' base base' gave gave' took took' said said' (λ own past. (refl, (refl, (refl, refl)))) did on e f g
+settled opens.Later place told told' held held' base base' gave gave' took took' said said' did e f g on =
+    still_follows (Some (acts.OpenLater place)) told told' held held' base base' gave gave' took took' said said' (λ own past. (refl, (refl, (refl, refl)))) did on e f g
+settled opens.Failed place told told' held held' base base' gave gave' took took' said said' did e f g on =
+    acted told told' (acts.OpenFailed place) base base' gave gave' took took' said said' did.told
+    (λ own elsewhere. quiet own (acts.OpenFailed place) base base' gave gave' took took' said said' (stands_leaves own place base base' on) e f g (λ past. (refl, (refl, (refl, refl)))))
+settled opens.Memory place told told' held held' base base' gave gave' took took' said said' did e f g on =
+    nothing told told' base base' gave gave' took took' said said' did.told on e f g
+
+pub settle_follows : (result : OpenAnswer) (place : Place) (told told' : Option History) (held held' : Place → Hold) (base base' : Place → Option Base) (input input' output output' errors errors' : StreamSeen) → is_some (base place) ≡ true → Answered told told' held held' (open_act place result) → IfSome (base place) (λ b. AtInput (giving_pier b) (SettlesSo input.port input'.port result) (input' ≡ input)) → IfSome (base place) (λ b. AtOutput (giving_pier b) (SettlesSo output.port output'.port result) (output' ≡ output)) → IfSome (base place) (λ b. AtErrors (giving_pier b) (SettlesSo errors.port errors'.port result) (errors' ≡ errors)) → SettlesOn place base base' result → FollowsTold told base input.port.gave output.port.took errors.port.took → FollowsTold told' base' input'.port.gave output'.port.took errors'.port.took
+settle_follows result place told told' held held' base base' input input' output output' errors errors' some did at_in at_out at_err on_after =
     let on = found (base place) some in
     let given = settle_ungiven on.0 result input input' (on_slot (base place) on.0 (λ b. AtInput (giving_pier b) (SettlesSo input.port input'.port result) (input' ≡ input)) on.1 at_in) in
     let taken = settle_untaken on.0 result output output' (on_slot (base place) on.0 (λ b. AtOutput (giving_pier b) (SettlesSo output.port output'.port result) (output' ≡ output)) on.1 at_out) in
-    settled result place told told' held held' base base' input.port.gave input'.port.gave output.port.took output'.port.took did given taken on_after
+    let unsaid = settle_unsaid on.0 result errors errors' (on_slot (base place) on.0 (λ b. AtErrors (giving_pier b) (SettlesSo errors.port errors'.port result) (errors' ≡ errors)) on.1 at_err) in
+    settled result place told told' held held' base base' input.port.gave input'.port.gave output.port.took output'.port.took errors.port.took errors'.port.took did given taken unsaid on_after
 
-pub listen_follows : (result : ListenAnswer) (door : Place) (single : Single) (told told' : Option History) (held held' : Place → Hold) (base base' : Place → Option Base) (input input' output output' : StreamSeen) → AnsweredAsking (door, single) told told' held held' (listen_act door result) → input' ≡ input → output' ≡ output → ListensOn door base base' result → FollowsTold told base input.port.gave output.port.took → FollowsTold told' base' input'.port.gave output'.port.took
-listen_follows listens.Listening door single told told' held held' base base' input input' output output' did in_same out_same on =
-    asked told told' (acts.Listening door) (door, single) base base' input.port.gave input'.port.gave output.port.took output'.port.took did.told
-    (λ own elsewhere is. quiet own (acts.Listening door) base base' input.port.gave input'.port.gave output.port.took output'.port.took (stands_comes own door None base base' elsewhere on) (gave_of input input' in_same) (took_of output output' out_same) (λ past. refl) (λ past. refl))
-listen_follows listens.Failed door single told told' held held' base base' input input' output output' did in_same out_same on =
-    asked told told' (acts.ListenFailed door) (door, single) base base' input.port.gave input'.port.gave output.port.took output'.port.took did.told
-    (λ own elsewhere is. quiet own (acts.ListenFailed door) base base' input.port.gave input'.port.gave output.port.took output'.port.took (stands_same own base base' on) (gave_of input input' in_same) (took_of output output' out_same) (λ past. refl) (λ past. refl))
-listen_follows listens.Memory door single told told' held held' base base' input input' output output' did in_same out_same on =
-    nothing told told' base base' input.port.gave input'.port.gave output.port.took output'.port.took did.told on (gave_of input input' in_same) (took_of output output' out_same)
+pub listen_follows : (result : ListenAnswer) (door : Place) (single : Single) (told told' : Option History) (held held' : Place → Hold) (base base' : Place → Option Base) (input input' output output' errors errors' : StreamSeen) → AnsweredAsking (door, single) told told' held held' (listen_act door result) → input' ≡ input → output' ≡ output → errors' ≡ errors → ListensOn door base base' result → FollowsTold told base input.port.gave output.port.took errors.port.took → FollowsTold told' base' input'.port.gave output'.port.took errors'.port.took
+listen_follows listens.Listening door single told told' held held' base base' input input' output output' errors errors' did in_same out_same err_same on =
+    asked told told' (acts.Listening door) (door, single) base base' input.port.gave input'.port.gave output.port.took output'.port.took errors.port.took errors'.port.took did.told
+    (λ own elsewhere is. quiet own (acts.Listening door) base base' input.port.gave input'.port.gave output.port.took output'.port.took errors.port.took errors'.port.took (stands_comes own door None base base' elsewhere on) (gave_of input input' in_same) (took_of output output' out_same) (took_of errors errors' err_same) (λ past. (refl, (refl, (refl, refl)))))
+listen_follows listens.Failed door single told told' held held' base base' input input' output output' errors errors' did in_same out_same err_same on =
+    asked told told' (acts.ListenFailed door) (door, single) base base' input.port.gave input'.port.gave output.port.took output'.port.took errors.port.took errors'.port.took did.told
+    (λ own elsewhere is. quiet own (acts.ListenFailed door) base base' input.port.gave input'.port.gave output.port.took output'.port.took errors.port.took errors'.port.took (stands_same own base base' on) (gave_of input input' in_same) (took_of output output' out_same) (took_of errors errors' err_same) (λ past. (refl, (refl, (refl, refl)))))
+listen_follows listens.Memory door single told told' held held' base base' input input' output output' errors errors' did in_same out_same err_same on =
+    nothing told told' base base' input.port.gave input'.port.gave output.port.took output'.port.took errors.port.took errors'.port.took did.told on (gave_of input input' in_same) (took_of output output' out_same) (took_of errors errors' err_same)
 
-pub accept_follows : (result : AcceptAnswer) (door place : Place) (told told' : Option History) (held held' : Place → Hold) (base base' : Place → Option Base) (input input' output output' : StreamSeen) → Answered told told' held held' (accept_act door place result) → input' ≡ input → output' ≡ output → AcceptsOn place base base' result → FollowsTold told base input.port.gave output.port.took → FollowsTold told' base' input'.port.gave output'.port.took
-accept_follows (accepts.Accepted peer) door place told told' held held' base base' input input' output output' did in_same out_same on =
-    acted told told' (acts.Accepted place peer) base base' input.port.gave input'.port.gave output.port.took output'.port.took did.told
-    (λ own elsewhere. quiet own (acts.Accepted place peer) base base' input.port.gave input'.port.gave output.port.took output'.port.took (stands_comes own place None base base' elsewhere on) (gave_of input input' in_same) (took_of output output' out_same) (λ past. refl) (λ past. refl))
-accept_follows accepts.NoPeer door place told told' held held' base base' input input' output output' did in_same out_same on =
-    still_follows (Some (acts.NoPeer door)) told told' held held' base base' input.port.gave input'.port.gave output.port.took output'.port.took (λ own past. (refl, refl)) did on (gave_of input input' in_same) (took_of output output' out_same)
-accept_follows accepts.Failed door place told told' held held' base base' input input' output output' did in_same out_same on =
-    still_follows (Some (acts.AcceptFailed door)) told told' held held' base base' input.port.gave input'.port.gave output.port.took output'.port.took (λ own past. (refl, refl)) did on (gave_of input input' in_same) (took_of output output' out_same)
-accept_follows accepts.Memory door place told told' held held' base base' input input' output output' did in_same out_same on =
-    nothing told told' base base' input.port.gave input'.port.gave output.port.took output'.port.took did.told on (gave_of input input' in_same) (took_of output output' out_same)
+pub accept_follows : (result : AcceptAnswer) (door place : Place) (told told' : Option History) (held held' : Place → Hold) (base base' : Place → Option Base) (input input' output output' errors errors' : StreamSeen) → Answered told told' held held' (accept_act door place result) → input' ≡ input → output' ≡ output → errors' ≡ errors → AcceptsOn place base base' result → FollowsTold told base input.port.gave output.port.took errors.port.took → FollowsTold told' base' input'.port.gave output'.port.took errors'.port.took
+accept_follows (accepts.Accepted peer) door place told told' held held' base base' input input' output output' errors errors' did in_same out_same err_same on =
+    acted told told' (acts.Accepted place peer) base base' input.port.gave input'.port.gave output.port.took output'.port.took errors.port.took errors'.port.took did.told
+    (λ own elsewhere. quiet own (acts.Accepted place peer) base base' input.port.gave input'.port.gave output.port.took output'.port.took errors.port.took errors'.port.took (stands_comes own place None base base' elsewhere on) (gave_of input input' in_same) (took_of output output' out_same) (took_of errors errors' err_same) (λ past. (refl, (refl, (refl, refl)))))
+accept_follows accepts.NoPeer door place told told' held held' base base' input input' output output' errors errors' did in_same out_same err_same on =
+    still_follows (Some (acts.NoPeer door)) told told' held held' base base' input.port.gave input'.port.gave output.port.took output'.port.took errors.port.took errors'.port.took (λ own past. (refl, (refl, (refl, refl)))) did on (gave_of input input' in_same) (took_of output output' out_same) (took_of errors errors' err_same)
+accept_follows accepts.Failed door place told told' held held' base base' input input' output output' errors errors' did in_same out_same err_same on =
+    still_follows (Some (acts.AcceptFailed door)) told told' held held' base base' input.port.gave input'.port.gave output.port.took output'.port.took errors.port.took errors'.port.took (λ own past. (refl, (refl, (refl, refl)))) did on (gave_of input input' in_same) (took_of output output' out_same) (took_of errors errors' err_same)
+accept_follows accepts.Memory door place told told' held held' base base' input input' output output' errors errors' did in_same out_same err_same on =
+    nothing told told' base base' input.port.gave input'.port.gave output.port.took output'.port.took errors.port.took errors'.port.took did.told on (gave_of input input' in_same) (took_of output output' out_same) (took_of errors errors' err_same)
 
-pub close_follows : (place : Place) (why : Why) (told told' : Option History) (held held' : Place → Hold) (base base' : Place → Option Base) (input input' output output' : StreamSeen) → Answered told told' held held' (close_act place why) → input' ≡ input → output' ≡ output → Leaves place base base' → FollowsTold told base input.port.gave output.port.took → FollowsTold told' base' input'.port.gave output'.port.took
-close_follows place why told told' held held' base base' input input' output output' did in_same out_same on =
-    acted told told' (acts.Closed place why) base base' input.port.gave input'.port.gave output.port.took output'.port.took did.told
-    (λ own elsewhere. quiet own (acts.Closed place why) base base' input.port.gave input'.port.gave output.port.took output'.port.took (stands_leaves own place base base' on) (gave_of input input' in_same) (took_of output output' out_same) (λ past. refl) (λ past. refl))
+pub close_follows : (place : Place) (why : Why) (told told' : Option History) (held held' : Place → Hold) (base base' : Place → Option Base) (input input' output output' errors errors' : StreamSeen) → Answered told told' held held' (close_act place why) → input' ≡ input → output' ≡ output → errors' ≡ errors → Leaves place base base' → FollowsTold told base input.port.gave output.port.took errors.port.took → FollowsTold told' base' input'.port.gave output'.port.took errors'.port.took
+close_follows place why told told' held held' base base' input input' output output' errors errors' did in_same out_same err_same on =
+    acted told told' (acts.Closed place why) base base' input.port.gave input'.port.gave output.port.took output'.port.took errors.port.took errors'.port.took did.told
+    (λ own elsewhere. quiet own (acts.Closed place why) base base' input.port.gave input'.port.gave output.port.took output'.port.took errors.port.took errors'.port.took (stands_leaves own place base base' on) (gave_of input input' in_same) (took_of output output' out_same) (took_of errors errors' err_same) (λ past. (refl, (refl, (refl, refl)))))
 
 -- ---- the start
 
 nowhere : (own : Place → Single) (base : Place → Option Base) → ((p : Place) → base p ≡ None) → Stands own base
 nowhere own base none p = subst (λ slot. IfSome slot (λ b. StandsFor (stream_of own p) (Some b))) (sym (none p)) tt
 
-start_at : (own : Place → Single) (past : List Act) (base : Place → Option Base) (gave took : Option (List ℕ)) → past ≡ [] → ((p : Place) → base p ≡ None) → IfSome gave (λ all. all ≡ []) → IfSome took (λ all. all ≡ []) → Follows own past base gave took
-start_at own past base gave took none free given taken =
-    subst (λ xs. Follows own xs base gave took) (sym none) (record { stands = nowhere own base free; given = given; taken = taken })
+start_at : (own : Place → Single) (past : List Act) (base : Place → Option Base) (gave took said : Option (List ℕ)) → past ≡ [] → ((p : Place) → base p ≡ None) → IfSome gave (λ all. all ≡ []) → IfSome took (λ all. all ≡ []) → IfSome said (λ all. all ≡ []) → Follows own past base gave took said
+start_at own past base gave took said none free given taken silent =
+    subst (λ xs. Follows own xs base gave took said) (sym none) (record { stands = nowhere own base free; given = given; taken = taken; told = λ whole. silent })
 
 empty : (past : List Act) → are_none past ≡ true → past ≡ []
 empty [] e = refl
 empty (act ∷ past) e = absurd cc
 
 -- a history without acts, where nothing is held and no bytes were passed
-pub starts : (acted : Bool) (told : Option History) (base : Place → Option Base) (gave took : Option (List ℕ)) → (acted || has_no_acts told) ≡ true → acted ≡ false → ((p : Place) → base p ≡ None) → IfSome gave (λ all. all ≡ []) → IfSome took (λ all. all ≡ []) → FollowsTold told base gave took
-starts true told base gave took unacted untouched free given taken = absurd cc
-starts false None base gave took unacted untouched free given taken = tt
-starts false (Some h) base gave took unacted untouched free given taken = λ own all elsewhere. start_at own h.acts base gave took (empty h.acts unacted) free given taken
+pub starts : (acted : Bool) (told : Option History) (base : Place → Option Base) (gave took said : Option (List ℕ)) → (acted || has_no_acts told) ≡ true → acted ≡ false → ((p : Place) → base p ≡ None) → IfSome gave (λ all. all ≡ []) → IfSome took (λ all. all ≡ []) → IfSome said (λ all. all ≡ []) → FollowsTold told base gave took said
+starts true told base gave took said unacted untouched free given taken silent = absurd cc
+starts false None base gave took said unacted untouched free given taken silent = tt
+starts false (Some h) base gave took said unacted untouched free given taken silent = λ own all elsewhere. start_at own h.acts base gave took said (empty h.acts unacted) free given taken silent
 
 -- what isn't held stands on nothing
 pub unbased : (xs : List Station) → ((p : Place) → hold_at xs p ≡ Free) → (p : Place) → base_at xs p ≡ None
@@ -592,9 +699,10 @@ sum_prop None x = Unit-prop
 sum_prop (Some a) x = Coded-set (coded_list coded_ℕ) a x
 
 -- what follows a history to its end
-pub passed : (told : Option History) (base : Place → Option Base) (gave took : Option (List ℕ)) → ∥ FollowsTold told base gave took ∥₁ → IfSome told (λ h. Passed h gave took)
-passed None base gave took follows = tt
-passed (Some h) base gave took follows = λ own all elsewhere. (
-  ∥∥₁_elim follows (sum_prop gave (input_read own h.acts)) (λ f. (f own all elsewhere).given),
-  ∥∥₁_elim follows (sum_prop took (output_written own h.acts)) (λ f. (f own all elsewhere).taken),
-)
+pub passed : (told : Option History) (base : Place → Option Base) (gave took said : Option (List ℕ)) → ∥ FollowsTold told base gave took said ∥₁ → IfSome told (λ h. Passed h gave took said)
+passed None base gave took said follows = tt
+passed (Some h) base gave took said follows = λ own all elsewhere. record {
+  given = ∥∥₁_elim follows (sum_prop gave (input_read own h.acts)) (λ f. (f own all elsewhere).given);
+  taken = ∥∥₁_elim follows (sum_prop took (output_written own h.acts)) (λ f. (f own all elsewhere).taken);
+  told = λ whole. ∥∥₁_elim follows (sum_prop said (errors_written own h.acts)) (λ f. (f own all elsewhere).told whole);
+}
