@@ -1,4 +1,4 @@
--- What standard input gave and standard output took, at the end of a desk.
+-- What the standard streams passed, at the end of a desk.
 use Rattle.std.proofs.Common.{◌≡◌, ℕ, Bool, true, false, List, Option, Some, IfSome, sym, ap, subst, ◌∙◌}
 use Rattle.relay_model.specs.Journals.{History}
 use Rattle.desk_ports.specs.Endings.{EndsSo, PassedEnd}
@@ -16,7 +16,7 @@ ends_still passes before left after ends =
     (ends.stands.still.gave ∙ still.0, ends.stands.still.took ∙ still.1)
 
 -- what was passed by the history that was told
-pub passed_at : (told : Option History) (history : History) (gave gave' took took' : Option (List ℕ)) → told ≡ Some history → IfSome told (λ h. Passed h gave took) → gave' ≡ gave → took' ≡ took → Passed history gave' took'
-passed_at told history gave gave' took took' is passed e f =
-    let here : Passed history gave took = subst (λ slot. IfSome slot (λ h. Passed h gave took)) is passed in
-    subst (λ given. Passed history given took') (sym e) (subst (λ taken. Passed history gave taken) (sym f) here)
+pub passed_at : (told : Option History) (history : History) (gave gave' took took' said said' : Option (List ℕ)) → told ≡ Some history → IfSome told (λ h. Passed h gave took said) → gave' ≡ gave → took' ≡ took → said' ≡ said → Passed history gave' took' said'
+passed_at told history gave gave' took took' said said' is passed e f g =
+    let here : Passed history gave took said = subst (λ slot. IfSome slot (λ h. Passed h gave took said)) is passed in
+    subst (λ given. Passed history given took' said') (sym e) (subst (λ taken. Passed history gave taken said') (sym f) (subst (λ spoken. Passed history gave took spoken) (sym g) here))

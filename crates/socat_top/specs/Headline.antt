@@ -11,6 +11,7 @@ use Rattle.relay_model.specs.May.{Legal}
 use Rattle.exit_status.specs.Outcomes.{IsOutcome}
 use Rattle.event_loop.specs.Courses.{OnlyOwn}
 use Rattle.session_driver.specs.Steps.{extend}
+use Rattle.stream_ends.specs.Ends.{Ends}
 use Rattle.event_loop.specs.Headline as relayed
 use Rattle.event_loop.specs.Headline.{is_relayed}
 use Rattle.socat_top.specs.Notes.{Said, Tail}
@@ -47,6 +48,11 @@ Leaves (Telling text) n before told answer = Printed outcomes.Told text (Some be
 Leaves (Loading number) n before told answer = Loads number (Some before) told answer
 Leaves (Refusing refused) n before told answer = Tail answer (Some before) told
 Leaves Unread n before told answer = Tail answer (Some before) told
+
+-- what standard input gave and standard output took at the ends of each direction of a relay, by its acts
+abbrev pub TaskEnds : Task → List Act → Option (List ℕ) → Option (List ℕ) → Type 0
+TaskEnds (Relaying c) acts gave took = Ends c acts gave took
+TaskEnds other acts gave took = Unit {0}
 
 -- the answers that a task can get from any world; each may also be want of memory
 abbrev pub Answers : Task → Outcome → Type 0

@@ -7,7 +7,7 @@ use Rattle.standard_ports.specs.declared.input.InputPort.TheVariants as inputs
 use Rattle.standard_ports.specs.declared.output.OutputPort.{OutputPort}
 use Rattle.standard_ports.specs.declared.output.OutputPort.TheVariants as outputs
 use Rattle.ring_reader.specs.Readers.{given_of}
-use Rattle.ring_writer.specs.Writers.{took_of}
+use Rattle.ring_writer.specs.Writers.{WriterState, took_of}
 use Rattle.standard_ports.specs.Told.{told_or}
 use Rattle.standard_ports.specs.Ports.{is_none, is_unread, is_unwritten, of_direct, of_input, of_output}
 
@@ -30,3 +30,7 @@ unwritten (outputs.Ring ring) e = ap Some (no_bytes (took_of ring) e)
 -- a list that is told to be empty is empty where it is told
 pub none_told : (slot : Option (List ℕ)) → slot ≡ Some [] → IfSome slot (λ all. all ≡ [])
 none_told slot e = subst (λ (told : Option (List ℕ)). IfSome told (λ all. all ≡ [])) (sym e) refl
+
+-- what standard error tells that it took
+pub unsaid : (ring : WriterState) → is_none (took_of ring) ≡ true → Some (took_of ring) ≡ Some []
+unsaid ring e = ap Some (no_bytes (took_of ring) e)

@@ -1,4 +1,4 @@
-// Standard input and standard output before their first byte.
+// The standard streams before their first byte.
 ghost use Rattle.std.specs.Prelude.{◌≡◌, [], true, IfSome, Some};
 ghost use Rattle.ring_reader.specs.Readers.{given_of};
 ghost use Rattle.ring_writer.specs.Writers.{took_of};
@@ -14,12 +14,16 @@ use crate::piped::PipePort;
 use crate::told::ToldSocket;
 use file_ports::Halves;
 use mio_poller::Watch;
-use port_trait::Port;
+use port_trait::{Port, StdSink};
 use socket_ports::SocketPort;
 use std::fs::File;
-use std::io::{Stdin, Stdout};
+use std::io::{Stderr, Stdin, Stdout};
 use std::sync::Wait;
 use std::thread::Threads;
+use thread_rings::RingWriter;
+
+/// Standard error behind a ring.
+pub type ErrorRing<R> = RingWriter<StdSink<Stderr>, R>;
 
 /// A standard stream in the loop that has passed no bytes yet.
 #[derive(Drop)]
@@ -117,5 +121,30 @@ impl<R: Threads + Wait + Copy + Drop> FreshOutput<R> {
     {
         let FreshOutput { port } = self;
         port
+    }
+}
+
+/// Standard error that has taken nothing yet.
+#[derive(Drop)]
+pub struct FreshErrors<R> {
+    ring: ErrorRing<R>,
+    ghost unwritten: { is_none (took_of ring) ≡ true },
+}
+
+impl<R: Threads + Wait + Copy + Drop> FreshErrors<R> {
+    /// Standard error behind this ring.
+    pub fn ring(ring: ErrorRing<R>) -> FreshErrors<R>
+        requires { took_of ring ≡ [] }
+    {
+        FreshErrors { ring }
+    }
+
+    /// The port. It tells that it took nothing.
+    pub fn into_port(self) -> ErrorRing<R>
+        ensures told { ⟦<ErrorRing<R> as Port>⟧.took result ≡ Some [] }
+        ensures none { IfSome (⟦<ErrorRing<R> as Port>⟧.took result) (λ all. all ≡ []) }
+    {
+        let FreshErrors { ring } = self;
+        ring
     }
 }

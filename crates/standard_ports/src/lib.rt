@@ -11,7 +11,7 @@ mod piped;
 mod told;
 
 pub use direct::{DirectPort, SharedPort};
-pub use fresh::{FreshDirect, FreshInput, FreshOutput};
+pub use fresh::{ErrorRing, FreshDirect, FreshErrors, FreshInput, FreshOutput};
 pub use input::{InputPort, InputRing};
 pub use opening::{direct_input, direct_output};
 pub use output::{OutputPort, OutputRing};

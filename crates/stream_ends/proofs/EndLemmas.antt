@@ -1,13 +1,12 @@
 -- What standard streams passed is what was read and written at the ends that are alone on them.
 use Rattle.std.proofs.Common.{◌≡◌, refl, sym, ap, subst, ◌∙◌, ℕ, Bool, true, false, not, cond, ◌&&◌, ◌||◌, ◌==◌, is_none, List, [], ◌∷◌, Option, None, Some, IfSome}
 use Rattle.std.specs.List.{list_all}
-use Rattle.std.proofs.lemmas.Bool.{and_parts, false≢true}
-use Rattle.std.proofs.lemmas.Nat.{eqb-eq}
+use Rattle.std.proofs.lemmas.Bool.{and_parts, eqb-true, false≢true}
 use Rattle.relay_model.specs.declared.places.Way.{Way}
 use Rattle.relay_model.specs.declared.places.Place.{Place}
 use Rattle.relay_model.specs.declared.commands.Config.{Config}
 use Rattle.relay_model.specs.declared.acts.Act.{Act}
-use Rattle.relay_model.specs.declared.acts.Act.TheVariants.{Read, Wrote}
+use Rattle.relay_model.specs.declared.acts.Act.TheVariants.{Note, NoteFault, Read, Wrote}
 use Rattle.relay_model.specs.declared.acts.Why.TheVariants as whys
 use Rattle.relay_model.specs.Places.{same_place}
 use Rattle.relay_model.specs.Choices.{joined}
@@ -21,6 +20,8 @@ use Rattle.relay_model.specs.Openings.{ready}
 use Rattle.relay_model.specs.May.{BeginsWith, Legal}
 use Rattle.legal_steps.proofs.PlaceLemmas.{same_place_equal, same_place_self}
 use Rattle.legal_steps.proofs.Holdings.{input_passes, output_passes, moves_formed, moves_running}
+use Rattle.relay_model.specs.Frames.{IsForeign}
+use Rattle.relay_laws.proofs.Apart.{base_step, ending_same}
 use Rattle.relay_laws.proofs.Written.{written_due}
 use Rattle.relay_laws.proofs.Finishes.{finished_whole}
 use Rattle.desk_history.specs.Following.{PassedBy, input_read, output_written}
@@ -32,7 +33,7 @@ use Rattle.stream_ends.specs.Ends.{Ends, IsDue, PassedEnds, came_in, is_alone, i
 only_session : (c : Config) (past : List Act) (s : ℕ) (w : Way) → has_fork c ≡ false → is_going c past s w ≡ true → s ≡ 0
 only_session c past s w alone moves =
     let lives : live c past s ≡ true = (and_parts (live c past s) (ready c past s) (and_parts (live c past s && ready c past s) (is_none (cause c past s)) (moves_running c past s w moves)).0).0 in
-    eqb-eq s 0 (subst (λ (fork : Bool). cond fork _ (s == 0) ≡ true) alone lives)
+    eqb-true s 0 (subst (λ (fork : Bool). cond fork _ (s == 0) ≡ true) alone lives)
 
 same_tests : (a b : Bool) → (a ≡ true → b ≡ true) → (b ≡ true → a ≡ true) → a ≡ b
 same_tests true b to from = sym (to refl)
@@ -132,3 +133,30 @@ ends c n acts gave took said legal passes w is =
     let due_here : IsDue c acts w i o = record { begins = written_due c n acts 0 w legal; whole = λ over. finished_whole c n acts 0 w legal over is } in
     on_told (λ came. IfSome (went_out c acts w took) (λ went. IsDue c acts w came went)) (came_in c acts w gave) i (came_told c n acts w gave took said legal passes)
     (on_told (λ went. IsDue c acts w i went) (went_out c acts w took) o (went_told c n acts w gave took said legal passes) due_here)
+
+-- ---- a note behind the acts
+
+note_foreign : (c : Config) (text : List ℕ) → IsForeign c 0 (Note text)
+note_foreign c text p own apart = refl
+
+fault_foreign : (c : Config) (text : List ℕ) → IsForeign c 0 (NoteFault text)
+fault_foreign c text p own apart = refl
+
+-- what is due of each end is so under another cause that is the same
+due_as : (c : Config) (acts more : List Act) (w : Way) (came went : List ℕ) → cause c more 0 ≡ cause c acts 0 → IsDue c acts w came went → IsDue c more w came went
+due_as c acts more w came went same h = record { begins = h.begins; whole = λ over. h.whole (sym same ∙ over) }
+
+-- a fact of what is told, made one by one
+each : (P Q : List ℕ → Type 0) (slot : Option (List ℕ)) → ((all : List ℕ) → P all → Q all) → IfSome slot P → IfSome slot Q
+each P Q None go h = tt
+each P Q (Some all) go h = go all h
+
+pub note_ends : (c : Config) (text : List ℕ) (acts : List Act) (gave took : Option (List ℕ)) → Ends c acts gave took → Ends c (Note text ∷ acts) gave took
+note_ends c text acts gave took before w is =
+    let same : cause c (Note text ∷ acts) 0 ≡ cause c acts 0 = ending_same c 0 (Note text ∷ acts) acts (base_step c (Note text) acts 0 (note_foreign c text) refl) in
+    each _ _ (came_in c acts w gave) (λ came. each _ _ (went_out c acts w took) (λ went. due_as c acts (Note text ∷ acts) w came went same)) (before w is)
+
+pub fault_ends : (c : Config) (text : List ℕ) (acts : List Act) (gave took : Option (List ℕ)) → Ends c acts gave took → Ends c (NoteFault text ∷ acts) gave took
+fault_ends c text acts gave took before w is =
+    let same : cause c (NoteFault text ∷ acts) 0 ≡ cause c acts 0 = ending_same c 0 (NoteFault text ∷ acts) acts (base_step c (NoteFault text) acts 0 (fault_foreign c text) refl) in
+    each _ _ (came_in c acts w gave) (λ came. each _ _ (went_out c acts w took) (λ went. due_as c acts (NoteFault text ∷ acts) w came went same)) (before w is)
