@@ -17,7 +17,7 @@ use world_trait::{
 #[derive(Drop)]
 pub struct Followed<M: Maker + Drop, P: Poller + Drop, I: Port, O: Port, E: Port> {
     desk: Desk<M, P, I, O, E>,
-    ghost follows: { ∥ FollowsTold desk.log.recording.told (base_at desk.log.stations.entries) desk.ports.harbor.input.port.gave desk.ports.harbor.output.port.took desk.ports.harbor.errors.port.took ∥₁ },
+    ghost follows: { ∥ FollowsTold desk.log.recording.told (base_at desk.log.stations.entries) desk.ports.harbor.input.port.gave desk.ports.harbor.output.port.took desk.ports.harbor.errors.port.took desk.ports.harbor.input.port.ended ∥₁ },
 }
 
 impl<M: Maker + Drop, P: Poller + Drop, I: Port, O: Port, E: Port> Followed<M, P, I, O, E> {
@@ -36,7 +36,7 @@ impl<M: Maker + Drop, P: Poller + Drop, I: Port, O: Port, E: Port> Followed<M, P
     /// The desk again.
     pub fn into_desk(self) -> Desk<M, P, I, O, E>
         ensures desk { result ≡ self.desk }
-        ensures passed { IfSome result.log.recording.told (λ history. Passed history result.ports.harbor.input.port.gave result.ports.harbor.output.port.took result.ports.harbor.errors.port.took) }
+        ensures passed { IfSome result.log.recording.told (λ history. Passed history result.ports.harbor.input.port.gave result.ports.harbor.output.port.took result.ports.harbor.errors.port.took result.ports.harbor.input.port.ended) }
     {
         let Followed { desk } = self;
         desk

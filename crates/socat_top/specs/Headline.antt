@@ -1,5 +1,5 @@
 -- What a run leaves: a legal history, nothing held, the outcome that the history gives, and its line.
-use Rattle.std.specs.Prelude.{◌≡◌, ℕ, true, false, ◌⊎◌, List, Option, Some}
+use Rattle.std.specs.Prelude.{◌≡◌, ℕ, Bool, true, false, ◌⊎◌, List, Option, Some}
 use Rattle.relay_model.specs.declared.acts.Act.{Act}
 use Rattle.relay_model.specs.declared.places.Place.{Place}
 use Rattle.relay_model.specs.declared.commands.Config.{Config}
@@ -50,9 +50,9 @@ Leaves (Refusing refused) n before told answer = Tail answer (Some before) told
 Leaves Unread n before told answer = Tail answer (Some before) told
 
 -- what standard input gave and standard output took at the ends of each direction of a relay, by its acts
-abbrev pub TaskEnds : Task → List Act → Option (List ℕ) → Option (List ℕ) → Type 0
-TaskEnds (Relaying c) acts gave took = Ends c acts gave took
-TaskEnds other acts gave took = Unit {0}
+abbrev pub TaskEnds : Task → List Act → Option (List ℕ) → Option (List ℕ) → Bool → Type 0
+TaskEnds (Relaying c) acts gave took ended = Ends c acts gave took ended
+TaskEnds other acts gave took ended = Unit {0}
 
 -- the answers that a task can get from any world; each may also be want of memory
 abbrev pub Answers : Task → Outcome → Type 0

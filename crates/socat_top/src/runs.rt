@@ -47,8 +47,8 @@ pub fn run<M: Maker + Drop, P: Poller + Drop, I: Port, O: Port, E: Port>(
     requires silent { IfSome desk.ports.harbor.errors.port.took (λ all. all ≡ []) }
     ensures status { result.status ≡ exit_code result.outcome }
     ensures headline { (before : History) → ⟦<Desk<M, P, I, O, E> as World>⟧.told desk ≡ Some before → Leaves (task words.now) turns before (Some (history_of result.kept)) result.outcome }
-    ensures passed { (before : History) → ⟦<Desk<M, P, I, O, E> as World>⟧.told desk ≡ Some before → Passed (history_of result.kept) (I.gave (handed result.standard.stdin)) (O.took (handed result.standard.stdout)) (E.took (handed result.standard.stderr)) }
-    ensures ends { ⟦<Desk<M, P, I, O, E> as World>⟧.told desk ≡ Some (record { acts = []; asked = [] }) → TaskEnds (task words.now) result.kept.journal.acts (I.gave (handed result.standard.stdin)) (O.took (handed result.standard.stdout)) }
+    ensures passed { (before : History) → ⟦<Desk<M, P, I, O, E> as World>⟧.told desk ≡ Some before → Passed (history_of result.kept) (I.gave (handed result.standard.stdin)) (O.took (handed result.standard.stdout)) (E.took (handed result.standard.stderr)) (I.ended (handed result.standard.stdin)) }
+    ensures ends { ⟦<Desk<M, P, I, O, E> as World>⟧.told desk ≡ Some (record { acts = []; asked = [] }) → TaskEnds (task words.now) result.kept.journal.acts (I.gave (handed result.standard.stdin)) (O.took (handed result.standard.stdout)) (I.ended (handed result.standard.stdin)) }
     ensures stdin_behind { OnJoinedBack (λ port. Behind (I.gave port) (I.took port) (I.behind_gave port) (I.behind_took port) (I.behind_left port) (I.behind_faults port) (I.ended port)) result.standard.stdin }
     ensures stdout_behind { OnJoinedBack (λ port. Behind (O.gave port) (O.took port) (O.behind_gave port) (O.behind_took port) (O.behind_left port) (O.behind_faults port) (O.ended port)) result.standard.stdout }
     ensures answers { Answers (task words.now) result.outcome }

@@ -38,11 +38,15 @@ each P Q None go h = tt
 each P Q (Some all) go h = go all h
 
 pub behind : BehindIsDue
-behind c acts gave took input_took output_gave behind_gave behind_took input_left output_left input_behind output_behind input_faults output_faults input_ended output_ended given taken is_given is_taken ends source sink w is =
+behind c acts gave took input_took output_gave behind_gave behind_took input_left output_left input_behind output_behind input_faults output_faults input_ended output_ended given taken is_given is_taken ends source sink =
     let from : IfSome behind_gave (λ all. all ≡ given) = subst (λ (slot : Option (List ℕ)). IfSome slot (λ all. IfSome behind_gave (λ behind. behind ≡ all))) is_given source.given in
     let front : IfSome behind_took (λ all. BeginsWith all taken) = subst (λ (slot : Option (List ℕ)). IfSome slot (λ all. IfSome behind_took (λ behind. BeginsWith behind all))) is_taken sink.taken in
     let whole : output_faults ≡ Some 0 → IfSome behind_took (λ all. all ≡ taken) = λ sound. subst (λ (slot : Option (List ℕ)). IfSome slot (λ all. IfSome behind_took (λ behind. behind ≡ all))) is_taken (sink.whole sound) in
-    let here : Ends c acts (Some given) (Some taken) = subst (λ (slot : Option (List ℕ)). Ends c acts (Some given) slot) is_taken (subst (λ (slot : Option (List ℕ)). Ends c acts slot took) is_given ends) in
-    each (λ came. IfSome (went_out c acts w (Some taken)) (λ went. IsDue c acts w came went)) (λ came. IfSome (went_out c acts w behind_took) (λ went. IsDueBehind c acts w output_faults came went)) (came_in c acts w behind_gave)
-    (λ came. went_behind (is_alone c (is_on_output c) (output c 0 w)) c acts w output_faults came taken (put acts (output c 0 w)) behind_took front whole)
-    (came_behind (is_alone c (is_on_input c) (input c 0 w)) (λ came. IfSome (went_out c acts w (Some taken)) (λ went. IsDue c acts w came went)) given (got acts (input c 0 w)) behind_gave from (here w is))
+    let here : Ends c acts (Some given) (Some taken) input_ended = subst (λ (slot : Option (List ℕ)). Ends c acts (Some given) slot input_ended) is_taken (subst (λ (slot : Option (List ℕ)). Ends c acts slot took input_ended) is_given ends) in
+    record {
+      is_due = λ w is.
+          each (λ came. IfSome (went_out c acts w (Some taken)) (λ went. IsDue c acts w came went)) (λ came. IfSome (went_out c acts w behind_took) (λ went. IsDueBehind c acts w output_faults came went)) (came_in c acts w behind_gave)
+          (λ came. went_behind (is_alone c (is_on_output c) (output c 0 w)) c acts w output_faults came taken (put acts (output c 0 w)) behind_took front whole)
+          (came_behind (is_alone c (is_on_input c) (input c 0 w)) (λ came. IfSome (went_out c acts w (Some taken)) (λ went. IsDue c acts w came went)) given (got acts (input c 0 w)) behind_gave from (here.is_due w is));
+      is_spent = λ w is has. source.spent (here.is_ended w is has);
+    }

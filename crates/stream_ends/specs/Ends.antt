@@ -1,10 +1,11 @@
 -- What the standard streams at the ends of a direction passed. Lists of acts stand newest first.
-use Rattle.std.specs.Prelude.{◌≡◌, ℕ, Bool, true, false, not, ◌&&◌, ◌||◌, List, Option, Some, IfSome, if◌then◌else◌}
+use Rattle.std.specs.Prelude.{◌≡◌, ℕ, Bool, true, false, not, ◌&&◌, ◌||◌, List, [], ◌∷◌, Option, Some, IfSome, if◌then◌else◌}
 use Rattle.std.specs.List.{list_all}
 use Rattle.relay_model.specs.declared.places.Way.{Way}
 use Rattle.relay_model.specs.declared.places.Place.{Place}
 use Rattle.relay_model.specs.declared.commands.Config.{Config}
 use Rattle.relay_model.specs.declared.acts.Act.{Act}
+use Rattle.relay_model.specs.declared.acts.Act.TheVariants.{Read, ReadEmpty, ReadEnd, ReadNotYet, ReadFault}
 use Rattle.relay_model.specs.declared.acts.Why.TheVariants as whys
 use Rattle.relay_model.specs.Places.{same_place}
 use Rattle.relay_model.specs.Configs.{input, output, formed, has_fork, places, single}
@@ -37,19 +38,34 @@ came_in c acts w gave = if is_alone c (is_on_input c) (input c 0 w) then gave el
 abbrev pub went_out : Config → List Act → Way → Option (List ℕ) → Option (List ℕ)
 went_out c acts w took = if is_alone c (is_on_output c) (output c 0 w) then took else Some (put acts (output c 0 w))
 
+-- the last read at the place met the end
+abbrev pub last_met_end : List Act → Place → Bool
+last_met_end [] p = false
+last_met_end (Read q bytes ∷ past) p = not (same_place q p) && last_met_end past p
+last_met_end (ReadEmpty q ∷ past) p = not (same_place q p) && last_met_end past p
+last_met_end (ReadNotYet q ∷ past) p = not (same_place q p) && last_met_end past p
+last_met_end (ReadFault q ∷ past) p = not (same_place q p) && last_met_end past p
+last_met_end (ReadEnd q ∷ past) p = same_place q p || last_met_end past p
+last_met_end (act ∷ past) p = last_met_end past p
+
 -- what went out begins what is due of what came in, and is all of it where the session has finished
 pub record IsDue (c : Config) (acts : List Act) (w : Way) (came went : List ℕ) : Type 0 where
   pub begins : BeginsWith went (due c w came)
   pub whole : cause c acts 0 ≡ Some whys.Finished → went ≡ due c w came
 
+-- a source that is alone on standard input, where the last read met the end
+abbrev pub HasEnded : Config → List Act → Way → Type 0
+HasEnded c acts w = (is_alone c (is_on_input c) (input c 0 w) ≡ true) × (last_met_end acts (input c 0 w) ≡ true)
+
 -- the same of each direction, by the acts of a command and by what standard input gave and standard output took, where
--- they tell it
-abbrev pub Ends : Config → List Act → Option (List ℕ) → Option (List ℕ) → Type 0
-Ends c acts gave took = (w : Way) → formed c w ≡ true → IfSome (came_in c acts w gave) (λ came. IfSome (went_out c acts w took) (λ went. IsDue c acts w came went))
+-- they tell it; and where the source of one has ended, the last read of the port of standard input met the end
+pub record Ends (c : Config) (acts : List Act) (gave took : Option (List ℕ)) (ended : Bool) : Type 0 where
+  pub is_due : (w : Way) → formed c w ≡ true → IfSome (came_in c acts w gave) (λ came. IfSome (went_out c acts w took) (λ went. IsDue c acts w came went))
+  pub is_ended : (w : Way) → formed c w ≡ true → HasEnded c acts w → ended ≡ true
 
 -- so it is after legal acts, where the streams passed what these tell by the command's own addresses
 abbrev pub PassedEnds : Type 0
-PassedEnds = (c : Config) (n : ℕ) (acts : List Act) (gave took said : Option (List ℕ)) → Legal c n acts → (has_fork c ≡ false → PassedBy (single c) acts gave took said) → Ends c acts gave took
+PassedEnds = (c : Config) (n : ℕ) (acts : List Act) (gave took said : Option (List ℕ)) (ended : Bool) → Legal c n acts → (has_fork c ≡ false → PassedBy (single c) acts gave took said ended) → Ends c acts gave took ended
 
 -- what went out of a sink behind a joined port begins what is due of what came in, and is all of it where the session has
 -- finished and no fault is behind that port
@@ -57,15 +73,17 @@ pub record IsDueBehind (c : Config) (acts : List Act) (w : Way) (faults : Option
   pub begins : BeginsWith went (due c w came)
   pub whole : cause c acts 0 ≡ Some whys.Finished → faults ≡ Some 0 → went ≡ due c w came
 
--- the same of each direction, by what is behind the joined ports of standard input and of standard output
-abbrev pub EndsBehind : Config → List Act → Option (List ℕ) → Option (List ℕ) → Option ℕ → Type 0
-EndsBehind c acts behind_gave behind_took faults = (w : Way) → formed c w ≡ true → IfSome (came_in c acts w behind_gave) (λ came. IfSome (went_out c acts w behind_took) (λ went. IsDueBehind c acts w faults came went))
+-- the same of each direction, by what is behind the joined ports of standard input and of standard output; and where the
+-- source of one has ended, nothing is left behind it
+pub record EndsBehind (c : Config) (acts : List Act) (behind_gave behind_took behind_left : Option (List ℕ)) (faults : Option ℕ) : Type 0 where
+  pub is_due : (w : Way) → formed c w ≡ true → IfSome (came_in c acts w behind_gave) (λ came. IfSome (went_out c acts w behind_took) (λ went. IsDueBehind c acts w faults came went))
+  pub is_spent : (w : Way) → formed c w ≡ true → HasEnded c acts w → IfSome behind_left (λ rest. rest ≡ [])
 
 -- so it is behind joined ports that tell what they gave and took, where it is so of these
 abbrev pub BehindIsDue : Type 0
 BehindIsDue =
     (c : Config) (acts : List Act) (gave took input_took output_gave behind_gave behind_took input_left output_left input_behind output_behind : Option (List ℕ)) (input_faults output_faults : Option ℕ) (input_ended output_ended : Bool) →
-    (given taken : List ℕ) → gave ≡ Some given → took ≡ Some taken → Ends c acts gave took →
+    (given taken : List ℕ) → gave ≡ Some given → took ≡ Some taken → Ends c acts gave took input_ended →
     Behind gave input_took behind_gave input_behind input_left input_faults input_ended →
     Behind output_gave took output_behind behind_took output_left output_faults output_ended →
-    EndsBehind c acts behind_gave behind_took output_faults
+    EndsBehind c acts behind_gave behind_took input_left output_faults

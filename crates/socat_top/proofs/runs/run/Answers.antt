@@ -18,7 +18,7 @@ returns-clause-passed g c = λ before told.
     let input = ends_still _ c.into_desk.result.ports.harbor.input.port _ _ c.end-standard.ensures.stdin in
     let output = ends_still _ c.into_desk.result.ports.harbor.output.port _ _ c.end-standard.ensures.stdout in
     let errors = ends_still _ c.into_desk.result.ports.harbor.errors.port _ _ c.end-standard.ensures.stderr in
-    passed_at c.into_desk.result.log.recording.told _ _ _ _ _ _ _ (c.end-standard.ensures.kept told_on) c.into_desk.ensures.passed input.0 output.1 errors.1
+    passed_at c.into_desk.result.log.recording.told _ _ _ _ _ _ _ _ _ (c.end-standard.ensures.kept told_on) c.into_desk.ensures.passed input.0 output.1 errors.1 input.2
 
 pub returns-clause-ends : goal.returns-clause-ends
-returns-clause-ends g c = λ told. task_ends (task c.args.words.now) c.args.turns _ _ _ _ _ (returns-clause-headline g c nothing told) (returns-clause-passed g c nothing told)
+returns-clause-ends g c = λ told. task_ends (task c.args.words.now) c.args.turns _ _ _ _ _ _ (returns-clause-headline g c nothing told) (returns-clause-passed g c nothing told)

@@ -1,7 +1,8 @@
 use Rattle.std.proofs.Math.Logic.{∥∥₁_map}
 use Rattle.desk_places.specs.Stations.{base_at, hold_at}
 use Rattle.desk_places.proofs.PortLemmas.{open_held}
-use Rattle.desk_history.proofs.FollowLemmas.{based, read_follows}
+use Rattle.desk_history.proofs.FollowLemmas.{read_follows}
+use Rattle.desk_history.proofs.FollowSteps.{based}
 use Rattle.desk_history.proofs.followed.FollowedWorld.read.Goals as goal
 
 pub invariant_of-self : goal.invariant_of-self

@@ -2,7 +2,8 @@ use Rattle.std.proofs.Math.Logic.{∥∥₁_map}
 use Rattle.std.proofs.Common.{ap}
 use Rattle.relay_model.specs.Holding.{is_free}
 use Rattle.desk_places.specs.Stations.{base_at, hold_at}
-use Rattle.desk_history.proofs.FollowLemmas.{based, shut_follows}
+use Rattle.desk_history.proofs.FollowLemmas.{shut_follows}
+use Rattle.desk_history.proofs.FollowSteps.{based}
 use Rattle.desk_history.proofs.followed.FollowedWorld.shut.Goals as goal
 
 pub invariant_of-self : goal.invariant_of-self
