@@ -1,7 +1,6 @@
 #!/usr/bin/env bash
 # Runs every example of README.md, docs/ and the manual pages as it is written: what stands behind '$ ' is typed
-# into one shell, and all that it prints has to be the rest of the block. An example that needs what the program doesn't
-# run yet is marked so in front of it; it is skipped, and the reason is printed. EVERY=1 tries these too.
+# into one shell, and all that it prints has to be the rest of the block.
 # The examples count on half a second for an answer, as a user does. A busy machine may need more, so an example that
 # fails is tried again, up to three times in all.
 # 'N passed, M failed' at the end; the status is 1 where one failed.
@@ -16,8 +15,8 @@ ln -s "$program" "$scratch/bin/socat"
 ln -s "$auditor" "$scratch/bin/socat-audit"
 ln -s "$(realpath "${3:-$here/bin/socat-explain}")" "$scratch/bin/socat-explain"
 
-# blocks FILE: takes the examples of a document apart, into NAME.title, .needs, .run and .want. In a manual page a block
-# stands between .EX and .EE, and its text is unescaped.
+# blocks FILE: takes the examples of a document apart, into NAME.title, .run and .want. In a manual page a block stands
+# between .EX and .EE, and its text is unescaped.
 blocks() {
     awk -v out="$scratch/blocks/" -v document="${1#"$here"/}" '
         function plain(text) {
@@ -34,21 +33,17 @@ blocks() {
             same = title
             name = sprintf("%s%s.%03d", out, base, count)
             printf "%s: %s%s\n", document, title, (nth > 1 ? ", block " nth : "") >(name ".title")
-            printf "%s", needs >(name ".needs")
             printf "" >(name ".run")
             printf "" >(name ".want")
             inside = 1
-            needs = ""
         }
         function end() {
-            close(name ".title"); close(name ".needs"); close(name ".run"); close(name ".want")
+            close(name ".title"); close(name ".run"); close(name ".want")
             inside = 0
         }
         BEGIN { base = document; gsub(/\//, "_", base); manual = document ~ /\.1$/ }
         !inside && /^##+ / { title = $0; sub(/^#+ /, "", title) }
         !inside && /^\.(SH|SS) / { title = plain($0); sub(/^\.S[HS] /, "", title) }
-        !inside && /^<!-- needs: .* -->$/ { needs = $3; next }
-        !inside && /^\.\\" needs: / { needs = $3; next }
         !inside && (/^```console$/ || /^\.EX$/) { begin(); next }
         inside && (/^```$/ || /^\.EE$/) { end(); next }
         inside {
@@ -76,14 +71,10 @@ run_once() {
     fi
 }
 
-# example NAME: tries one block, unless it is marked.
+# example NAME: tries one block.
 example() {
     local name="$1" title problem='' try
     title="$(cat "$name.title")"
-    if [ -s "$name.needs" ] && [ -z "${EVERY:-}" ]; then
-        echo "skipped $title: it needs $(cat "$name.needs")"
-        return
-    fi
     for try in 1 2 3; do
         problem="$(run_once "$name")"
         [ -n "$problem" ] || break

@@ -292,42 +292,24 @@ def check_comparison():
     compare("COMING_FROM_SOCAT, options", named["Options"], [name for name, _, _, _ in code_options()])
 
 
-# --- what is accepted and doesn't run yet
-
-NEEDS = {"fork": "fork", "files": "OPEN", "programs": "EXEC", "dumps": "-v"}
+# --- the addresses that the README shows
 
 
-def names_in(cell):
-    return [word.split(":")[0] for word in re.findall(r"`([^`]+)`", cell)]
-
-
-def check_not_yet():
-    """The README, the manual page, the comparison and the examples name the same things as not yet there."""
-    rows = [cells(line) for line in (TOP / "README.md").read_text().split("\n")]
-    waits = {name for row in rows if len(row) == 2 and row[1].startswith("not yet") for name in names_in(row[0])}
-    runs = {name for row in rows if len(row) == 2 and row[1].startswith("run") for name in names_in(row[0])}
-    bold = [word for line in sections("socat.1").get("NOT YET", []) for word in bold_of(line)]
-    named = {word for word in bold if word and not word.startswith((",", "."))}
-    compare("socat.1, NOT YET, beside README.md", named, waits)
+def check_readme():
+    """The table names each kind, by any of its keywords, and nothing else."""
+    part = (TOP / "README.md").read_text().split("\n## What it takes\n")[1].split("\n## ")[0]
+    rows = [cells(line) for line in part.split("\n")]
+    told = {word for row in rows if len(row) == 2 for word in re.findall(r"`([^`]+)`", row[1])}
     family = re.compile(r"^(TCP|UDP)[46]")
-    for keywords, _, _ in code_kinds():
-        there = {family.sub(r"\1", word) for word in keywords} & (waits | runs)
-        report.note("" if there else f"README.md, what runs today: nothing is said of {keywords[0]}")
-    later = set()
-    for line in (TOP / "docs/COMING_FROM_SOCAT.md").read_text().split("\n"):
-        row = cells(line)
-        if len(row) == 2 and re.search(r"\blater\b", row[1], re.I):
-            later.update(name.rstrip("=") for name in names_in(row[0]))
-    known = {word for keywords, _, _ in code_kinds() for word in keywords} | set(code_flags()) | {"fork"}
-    have = {family.sub(r"\1", name) for name in later & known}
-    compare("COMING_FROM_SOCAT, what comes later, beside README.md", have, waits)
-    for need in re.findall(r"^<!-- needs: (\w+) -->$", (TOP / "docs/EXAMPLES.md").read_text(), re.M):
-        still = NEEDS.get(need) in waits
-        report.note("" if still else f"docs/EXAMPLES.md: a task needs {need}, which README.md says is there")
+    kinds = [{family.sub(r"\1", word) for word in keywords} for keywords, _, _ in code_kinds()]
+    for keywords in kinds:
+        report.note("" if told & keywords else f"README.md, addresses: missing {sorted(keywords)[0]}")
+    further = told - set().union(*kinds)
+    report.note(f"README.md, addresses: nothing is named {', '.join(sorted(further))}" if further else "")
 
 
 check_manual()
 check_completion()
 check_comparison()
-check_not_yet()
+check_readme()
 sys.exit(report.end())

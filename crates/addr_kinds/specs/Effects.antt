@@ -20,47 +20,47 @@ leaves_entry other = false
 
 -- the options of an address before any is read
 abbrev pub first_options : Target → Options
-first_options target = record default_options { unlink_close = leaves_entry target }
+first_options target = record default_options { entry = record default_options.entry { unlink_close = leaves_entry target } }
 
 -- an option that is on or off. Of `cr` and `crnl`, and of the shut options, the last that is on holds; neither
 -- `reuseaddr` nor `pipes` changes anything
 unfoldable pub switched : OptionId → Bool → Options → Options
 switched id.Cr true options = record options { conv = conv.Cr }
 switched id.Crnl true options = record options { conv = conv.Crnl }
-switched id.Ignoreeof on options = record options { ignoreeof = on }
-switched id.NullEof on options = record options { null_eof = on }
+switched id.Ignoreeof on options = record options { input = record options.input { ignoreeof = on } }
+switched id.NullEof on options = record options { input = record options.input { null_eof = on } }
 switched id.ShutNone true options = record options { shut = Some Nothing }
 switched id.ShutDown true options = record options { shut = Some Down }
 switched id.ShutClose true options = record options { shut = Some Close }
 switched id.ShutNull true options = record options { shut = Some Null }
-switched id.Creat on options = let flags = options.file in record options { file = record flags { creat = on } }
-switched id.Excl on options = let flags = options.file in record options { file = record flags { excl = on } }
-switched id.Append on options = let flags = options.file in record options { file = record flags { append = on } }
-switched id.Trunc on options = let flags = options.file in record options { file = record flags { trunc = on } }
-switched id.Rdonly on options = let flags = options.file in record options { file = record flags { rdonly = on } }
-switched id.Wronly on options = let flags = options.file in record options { file = record flags { wronly = on } }
-switched id.UnlinkEarly on options = record options { unlink_early = on }
-switched id.UnlinkClose on options = record options { unlink_close = on }
-switched id.Nodelay on options = record options { nodelay = on }
-switched id.Forever on options = record options { forever = on }
-switched id.Fork on options = record options { fork = on }
-switched id.Lowport on options = record options { lowport = on }
+switched id.Creat on options = record options { file = record options.file { creat = on } }
+switched id.Excl on options = record options { file = record options.file { excl = on } }
+switched id.Append on options = record options { file = record options.file { append = on } }
+switched id.Trunc on options = record options { file = record options.file { trunc = on } }
+switched id.Rdonly on options = record options { file = record options.file { rdonly = on } }
+switched id.Wronly on options = record options { file = record options.file { wronly = on } }
+switched id.UnlinkEarly on options = record options { entry = record options.entry { unlink_early = on } }
+switched id.UnlinkClose on options = record options { entry = record options.entry { unlink_close = on } }
+switched id.Nodelay on options = record options { socket = record options.socket { nodelay = on } }
+switched id.Forever on options = record options { tries = record options.tries { forever = on } }
+switched id.Fork on options = record options { sessions = record options.sessions { fork = on } }
+switched id.Lowport on options = record options { admission = record options.admission { lowport = on } }
 switched id on options = options
 
 -- an option that is a number; the table of options keeps each in the range of its field
 unfoldable pub numbered : OptionId → ℕ → Options → Options
-numbered id.Readbytes n options = record options { readbytes = Some n }
-numbered id.Escape n options = record options { escape = Some (min n 255) }
-numbered id.Retry n options = record options { retry = n }
-numbered id.MaxChildren n options = record options { max_children = counted n }
-numbered id.StopAfter n options = record options { stop_after = counted n }
+numbered id.Readbytes n options = record options { input = record options.input { readbytes = Some n } }
+numbered id.Escape n options = record options { input = record options.input { escape = Some (min n 255) } }
+numbered id.Retry n options = record options { tries = record options.tries { retry = n } }
+numbered id.MaxChildren n options = record options { sessions = record options.sessions { max_children = counted n } }
+numbered id.StopAfter n options = record options { sessions = record options.sessions { stop_after = counted n } }
 numbered id n options = options
 
 -- an option that is a port
 unfoldable pub ported : OptionId → ℕ → Options → Options
-ported id.Sourceport port options = record options { sourceport = Some port }
-ported id.Socksport port options = record options { socksport = port }
-ported id.Proxyport port options = record options { proxyport = port }
+ported id.Sourceport port options = record options { admission = record options.admission { sourceport = Some port } }
+ported id.Socksport port options = record options { proxy = record options.proxy { socksport = port } }
+ported id.Proxyport port options = record options { proxy = record options.proxy { proxyport = port } }
 ported id port options = options
 
 -- what an option does with its value and the value's own text. `interval` is the one option that is a time,
@@ -69,7 +69,7 @@ unfoldable pub effect : OptionId → Value → List ℕ → Options → Options
 effect id (value.Bool on) text options = switched id on options
 effect id (value.Number n) text options = numbered id n options
 effect id (value.Port port) text options = ported id port options
-effect id (value.Time interval) text options = record options { interval = interval }
-effect id (value.Range range) text options = record options { range = Some range }
-effect id (value.Address bind) text options = record options { bind = Some bind }
-effect id value.Text text options = record options { socksuser = text }
+effect id (value.Time interval) text options = record options { tries = record options.tries { interval = interval } }
+effect id (value.Range range) text options = record options { admission = record options.admission { range = Some range } }
+effect id (value.Address bind) text options = record options { socket = record options.socket { bind = Some bind } }
+effect id value.Text text options = record options { proxy = record options.proxy { socksuser = text } }

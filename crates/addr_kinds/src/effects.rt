@@ -17,7 +17,7 @@ pub(crate) fn first_options(alloc: Global, target: &Target) -> Result<Options, N
     ensures { IfOk result (λ options. options ≡ first_options target.now) }
 {
     let mut options = Options::defaults(alloc)?;
-    options.unlink_close = leaves_entry(target);
+    options.entry.unlink_close = leaves_entry(target);
     Ok(options)
 }
 
@@ -29,8 +29,8 @@ fn switch(options: &mut Options, id: OptionId, on: bool)
     match id {
         OptionId::Cr if on => options.conv = Conv::Cr,
         OptionId::Crnl if on => options.conv = Conv::Crnl,
-        OptionId::Ignoreeof => options.ignoreeof = on,
-        OptionId::NullEof => options.null_eof = on,
+        OptionId::Ignoreeof => options.input.ignoreeof = on,
+        OptionId::NullEof => options.input.null_eof = on,
         OptionId::ShutNone if on => options.shut = Some(Shut::Nothing),
         OptionId::ShutDown if on => options.shut = Some(Shut::Down),
         OptionId::ShutClose if on => options.shut = Some(Shut::Close),
@@ -41,12 +41,12 @@ fn switch(options: &mut Options, id: OptionId, on: bool)
         OptionId::Trunc => options.file.trunc = on,
         OptionId::Rdonly => options.file.rdonly = on,
         OptionId::Wronly => options.file.wronly = on,
-        OptionId::UnlinkEarly => options.unlink_early = on,
-        OptionId::UnlinkClose => options.unlink_close = on,
-        OptionId::Nodelay => options.nodelay = on,
-        OptionId::Forever => options.forever = on,
-        OptionId::Fork => options.fork = on,
-        OptionId::Lowport => options.lowport = on,
+        OptionId::UnlinkEarly => options.entry.unlink_early = on,
+        OptionId::UnlinkClose => options.entry.unlink_close = on,
+        OptionId::Nodelay => options.socket.nodelay = on,
+        OptionId::Forever => options.tries.forever = on,
+        OptionId::Fork => options.sessions.fork = on,
+        OptionId::Lowport => options.admission.lowport = on,
         _ => {}
     }
 }
@@ -57,13 +57,15 @@ fn set_number(options: &mut Options, id: OptionId, number: u64)
     ensures { options.new ≡ numbered id number options.old }
 {
     match id {
-        OptionId::Readbytes => options.readbytes = Some(number),
-        OptionId::Escape => options.escape = Some(u8::try_from(number).unwrap_or(u8::MAX)),
-        OptionId::Retry => options.retry = number,
+        OptionId::Readbytes => options.input.readbytes = Some(number),
+        OptionId::Escape => options.input.escape = Some(u8::try_from(number).unwrap_or(u8::MAX)),
+        OptionId::Retry => options.tries.retry = number,
         OptionId::MaxChildren => {
-            options.max_children = u32::try_from(number).unwrap_or(u32::MAX);
+            options.sessions.max_children = u32::try_from(number).unwrap_or(u32::MAX);
         }
-        OptionId::StopAfter => options.stop_after = u32::try_from(number).unwrap_or(u32::MAX),
+        OptionId::StopAfter => {
+            options.sessions.stop_after = u32::try_from(number).unwrap_or(u32::MAX);
+        }
         _ => {}
     }
 }
@@ -74,9 +76,9 @@ fn set_port(options: &mut Options, id: OptionId, port: u16)
     ensures { options.new ≡ ported id port options.old }
 {
     match id {
-        OptionId::Sourceport => options.sourceport = Some(port),
-        OptionId::Socksport => options.socksport = port,
-        OptionId::Proxyport => options.proxyport = port,
+        OptionId::Sourceport => options.admission.sourceport = Some(port),
+        OptionId::Socksport => options.proxy.socksport = port,
+        OptionId::Proxyport => options.proxy.proxyport = port,
         _ => {}
     }
 }
@@ -97,10 +99,10 @@ pub(crate) fn set_option(
         Value::Bool(on) => switch(options, id, on),
         Value::Number(number) => set_number(options, id, number),
         Value::Port(port) => set_port(options, id, port),
-        Value::Time(interval) => options.interval = interval,
-        Value::Range(range) => options.range = Some(range),
-        Value::Address(bind) => options.bind = Some(bind),
-        Value::Text => options.socksuser = Text::of(alloc, text)?,
+        Value::Time(interval) => options.tries.interval = interval,
+        Value::Range(range) => options.admission.range = Some(range),
+        Value::Address(bind) => options.socket.bind = Some(bind),
+        Value::Text => options.proxy.socksuser = Text::of(alloc, text)?,
     }
     Ok(())
 }

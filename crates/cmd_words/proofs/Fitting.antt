@@ -32,10 +32,10 @@ two_halves false true e = cc
 two_halves false false e = refl
 
 placed_forks : (left right : Address) → misplaced_fork Left left ≡ None → misplaced_fork Right right ≡ None → fork_is_placed left right ≡ true
-placed_forks (One l) (One r) e f = both _ _ (left_one l.options.fork (listens l.target) e) (right_one r.options.fork f)
-placed_forks (One l) (Two q w) e f = both _ _ (left_one l.options.fork (listens l.target) e) (two_halves q.options.fork w.options.fork f)
-placed_forks (Two p v) (One r) e f = both _ _ (two_halves p.options.fork v.options.fork e) (right_one r.options.fork f)
-placed_forks (Two p v) (Two q w) e f = both _ _ (two_halves p.options.fork v.options.fork e) (two_halves q.options.fork w.options.fork f)
+placed_forks (One l) (One r) e f = both _ _ (left_one l.options.sessions.fork (listens l.target) e) (right_one r.options.sessions.fork f)
+placed_forks (One l) (Two q w) e f = both _ _ (left_one l.options.sessions.fork (listens l.target) e) (two_halves q.options.sessions.fork w.options.sessions.fork f)
+placed_forks (Two p v) (One r) e f = both _ _ (two_halves p.options.sessions.fork v.options.sessions.fork e) (right_one r.options.sessions.fork f)
+placed_forks (Two p v) (Two q w) e f = both _ _ (two_halves p.options.sessions.fork v.options.sessions.fork e) (two_halves q.options.sessions.fork w.options.sessions.fork f)
 
 pub fit_of : (settings : Settings) (left right : Address) → IsBounded settings → misplaced_fork Left left ≡ None → misplaced_fork Right right ≡ None → (formed (config_of settings left right) LeftToRight || formed (config_of settings left right) RightToLeft) ≡ true → Fit (config_of settings left right)
 fit_of settings left right bounded e f some = record {

@@ -102,10 +102,10 @@ resolved settings at side (written.Two first second) =
 
 -- the half whose `fork` has no place: only a single first address that listens may have it
 abbrev pub misplaced_fork : Side → Address → Option ℕ
-misplaced_fork Left (addresses.One single) = only_if (single.options.fork && not (listens single.target)) 1
-misplaced_fork Right (addresses.One single) = only_if single.options.fork 1
+misplaced_fork Left (addresses.One single) = only_if (single.options.sessions.fork && not (listens single.target)) 1
+misplaced_fork Right (addresses.One single) = only_if single.options.sessions.fork 1
 misplaced_fork side (addresses.Two reading writing) =
-    if reading.options.fork then Some 1 else only_if writing.options.fork 2
+    if reading.options.sessions.fork then Some 1 else only_if writing.options.sessions.fork 2
 
 -- the address, unless `fork` stands where it may not
 abbrev pub placed : ℕ → Address → Option ℕ → Result Address CommandFault

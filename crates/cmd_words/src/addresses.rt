@@ -81,11 +81,11 @@ fn misplaced_fork(side: Side, address: &Address) -> Option<u8>
     ensures { result ≡ misplaced_fork side address.now }
 {
     match (side, address) {
-        (_, Address::Two { reading, .. }) if reading.options.fork => Some(1),
-        (_, Address::Two { writing, .. }) if writing.options.fork => Some(2),
+        (_, Address::Two { reading, .. }) if reading.options.sessions.fork => Some(1),
+        (_, Address::Two { writing, .. }) if writing.options.sessions.fork => Some(2),
         (_, Address::Two { .. }) => None,
         (Side::Left, Address::One(single)) if single.target.listens() => None,
-        (_, Address::One(single)) if single.options.fork => Some(1),
+        (_, Address::One(single)) if single.options.sessions.fork => Some(1),
         (_, Address::One(_)) => None,
     }
 }

@@ -245,7 +245,7 @@ fn forks(address: &Address) -> bool
     ensures { result ≡ forks address.now }
 {
     match address {
-        Address::One(single) => single.options.fork,
+        Address::One(single) => single.options.sessions.fork,
         Address::Two { .. } => false,
     }
 }

@@ -12,8 +12,9 @@ use Rattle.relay_model.specs.Configs.{address, formed, way_from, way_to}
 use Rattle.relay_model.specs.Dumps.{newline}
 use Rattle.cmd_words.specs.declared.commands.Command.{Command}
 use Rattle.cmd_words.specs.declared.commands.Command.TheVariants as commands
-use Rattle.command_report.specs.Shown.{said, EndsLine}
-use Rattle.command_report.specs.Reports.{IsTold, AreTold, AddressTold, RelayTold, Tells, ending, ending_words, ending_line, use_line}
+use Rattle.place_report.specs.Shown.{said, EndsLine}
+use Rattle.place_report.specs.Places.{IsTold, use_line}
+use Rattle.command_report.specs.Reports.{AreTold, AddressTold, RelayTold, Tells, ending, ending_words, ending_line}
 
 -- a last line is put behind the others
 pub with_last : (title used last text : List ℕ) (target : Target) → IsTold title target used [] text → IsTold title target used last (text ++ last)

@@ -6,8 +6,8 @@ use Rattle.relay_model.specs.declared.refusals.Refusal.{Refusal}
 use Rattle.relay_model.specs.declared.refusals.Refusal.TheVariants as refusal
 use Rattle.exit_status.specs.declared.outcomes.Outcome.TheVariants as outcome
 use Rattle.exit_status.specs.Lines.{refusal_code, refusal_text, numbered, refused_line, line, newline}
-use Rattle.command_report.specs.Shown.{IsPrintable}
-use Rattle.command_report.proofs.Printing.{append_printable, decimal_printable, either_printable}
+use Rattle.place_report.specs.Shown.{IsPrintable}
+use Rattle.place_report.proofs.Printing.{append_printable, decimal_printable, either_printable}
 
 code_printable : (why : Refusal) → IsPrintable (refusal_code why)
 code_printable (refusal.Unclosed at) = refl

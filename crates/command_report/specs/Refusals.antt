@@ -7,7 +7,7 @@ use Rattle.relay_model.specs.declared.refusals.Refusal.TheVariants as refusal
 use Rattle.relay_model.specs.Dumps.{newline}
 use Rattle.exit_status.specs.declared.outcomes.Outcome.TheVariants as outcome
 use Rattle.exit_status.specs.Lines.{line}
-use Rattle.command_report.specs.Shown.{shown, said, marked}
+use Rattle.place_report.specs.Shown.{shown, said, marked}
 
 -- where in its word a refusal points to; those that name no byte point to the whole word
 abbrev pub offset_of : Refusal → ℕ

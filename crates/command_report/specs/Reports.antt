@@ -12,8 +12,8 @@ use Rattle.relay_model.specs.Configs.{address, formed, output, how, way_from, wa
 use Rattle.relay_model.specs.Dumps.{newline}
 use Rattle.cmd_words.specs.declared.commands.Command.{Command}
 use Rattle.cmd_words.specs.declared.commands.Command.TheVariants as commands
-use Rattle.command_report.specs.Shown.{said}
-use Rattle.command_report.specs.Naming.{Names, parameters}
+use Rattle.place_report.specs.Shown.{said}
+use Rattle.place_report.specs.Places.{title_of, use_line, IsTold}
 
 -- the line on blocks: how long one is, and that no more than two wait
 abbrev pub block_line : ℕ → List ℕ
@@ -42,24 +42,6 @@ ending c side = if formed c (way_to side) then Some (how c (output c 0 (way_to s
 abbrev pub ending_line : Config → Side → List ℕ
 ending_line c side = said "  the other's end: " ++ (ending_words (ending c side) ++ newline)
 
--- whether bytes are read there, and whether they are written, in words
-abbrev pub use_words : Bool → Bool → List ℕ
-use_words true true = said "read and written"
-use_words true false = said "read alone"
-use_words false true = said "written alone"
-use_words false false = said "none; no bytes pass here"
-
--- the line on that
-abbrev pub use_line : Bool → Bool → List ℕ
-use_line read written = said "  use: " ++ (use_words read written ++ newline)
-
--- one address or half: its title, its kind with each parameter, its use, lines on its options, and this last line
-pub record IsTold (title : List ℕ) (target : Target) (used : List ℕ) (last : List ℕ) (text : List ℕ) : Type 0 where
-  pub kind : List ℕ
-  pub options : List ℕ
-  pub told : text ≡ title ++ kind ++ newline ++ used ++ options ++ last
-  pub named : Names (parameters target) kind
-
 -- the two halves of a dual address, the reading one first
 pub record AreTold (title : List ℕ) (reading writing : Target) (read written : Bool) (last : List ℕ) (text : List ℕ) : Type 0 where
   pub first : List ℕ
@@ -67,11 +49,6 @@ pub record AreTold (title : List ℕ) (reading writing : Target) (read written :
   pub told : text ≡ first ++ second
   pub reading_told : IsTold (title ++ said ", to read from: ") reading (use_line read false) [] first
   pub writing_told : IsTold (title ++ said ", to write to: ") writing (use_line false written) last second
-
--- how the lines on a side begin
-abbrev pub title_of : Side → List ℕ
-title_of Left = said "first address"
-title_of Right = said "second address"
 
 -- the lines on an address that is read, or isn't, and written, or isn't
 abbrev pub AddressTold : List ℕ → Address → Bool → Bool → List ℕ → List ℕ → Type 0

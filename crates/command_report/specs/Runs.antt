@@ -5,7 +5,7 @@ use Rattle.cmd_words.specs.declared.commands.Command.{Command}
 use Rattle.cmd_words.specs.declared.faults.CommandFault.{CommandFault}
 use Rattle.cmd_words.specs.declared.faults.CommandFault.TheVariants as faults
 use Rattle.cmd_words.specs.Commands.{command}
-use Rattle.command_report.specs.Shown.{IsPrintable, EndsLine}
+use Rattle.place_report.specs.Shown.{IsPrintable, EndsLine}
 use Rattle.command_report.specs.Reports.{Tells}
 use Rattle.command_report.specs.Refusals.{RefusalTold}
 

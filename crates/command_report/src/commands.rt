@@ -1,13 +1,13 @@
 // The report on a command.
 ghost use Rattle.std.specs.Prelude.{◌≡◌, ◌++◌, decimal, IfOk};
 ghost use Rattle.relay_model.specs.Dumps.{newline};
-ghost use Rattle.command_report.specs.Shown.{IsPrintable, EndsLine, shown};
+ghost use Rattle.place_report.specs.Shown.{IsPrintable, EndsLine, shown};
 ghost use Rattle.command_report.specs.Reports.{RelayTold, Tells};
 
-use crate::pages::Page;
 use crate::sections::address_told;
 use crate::settings::settings;
 use cmd_words::Command;
+use place_report::Page;
 use relay_model::{Bytes, Config, NoMemory, Side};
 use std::alloc::Global;
 

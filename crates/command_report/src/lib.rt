@@ -2,19 +2,12 @@
 #![tactic(auto)]
 
 mod commands;
-mod laws;
-mod naming;
-mod opening;
-mod pages;
-mod passing;
 mod reasons;
 mod refusals;
 mod runs;
 mod sections;
 mod settings;
-mod values;
 
 pub use commands::explanation;
-pub use laws::shown_tells;
 pub use refusals::refusal_report;
 pub use runs::explain_run;

@@ -1,6 +1,6 @@
 // Why words are refused, in one sentence each.
-use crate::pages::Page;
 use addr_grammar::{GrammarFault, RawAddress, RawSingle, parse_address};
+use place_report::Page;
 use relay_model::{NoMemory, Refusal, Refused};
 use std::alloc::Global;
 

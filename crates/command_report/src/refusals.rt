@@ -2,12 +2,12 @@
 ghost use Rattle.std.specs.Prelude.{◌≡◌, ◌≤◌, ◌++◌, length, option_copied, min, take, drop, IfOk, OnOk};
 ghost use Rattle.exit_status.specs.declared.outcomes.Outcome.TheVariants as outcome;
 ghost use Rattle.exit_status.specs.Lines.{line};
-ghost use Rattle.command_report.specs.Shown.{IsPrintable, EndsLine};
+ghost use Rattle.place_report.specs.Shown.{IsPrintable, EndsLine};
 ghost use Rattle.command_report.specs.Refusals.{offset_of, carets, underlined, blamed, word_told, RefusalTold};
 
-use crate::pages::Page;
 use crate::reasons::reason;
 use exit_status::{Outcome, line_of};
+use place_report::Page;
 use relay_model::{Bytes, NoMemory, Refusal, Refused, Text};
 use std::alloc::Global;
 

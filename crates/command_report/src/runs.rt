@@ -1,14 +1,14 @@
 // The program's work: what its words make is written to a sink.
-ghost use Rattle.std.specs.Prelude.{◌≡◌, ◌<◌, ◌++◌, true, option_map, IfOk};
-ghost use Rattle.std.specs.Bool.{OnTrue, OnFalse};
+ghost use Rattle.std.specs.Prelude.{◌≡◌, ◌<◌, true, IfOk};
 ghost use Rattle.port_trait.specs.Counting.{Rose};
 ghost use Rattle.command_report.specs.Runs.{words_of_run, IsReport, Explained};
 
 use crate::commands::explanation;
 use crate::refusals::refusal_report;
 use cmd_words::{CommandFault, command_of};
-use port_trait::{Sink, SinkTook};
+use port_trait::Sink;
 use relay_model::{Bytes, NoMemory, Text};
+use sink_texts::write_whole;
 use std::alloc::Global;
 
 /// The flag that asks for a written journal, with the name of its file behind it.
@@ -49,22 +49,6 @@ fn report(alloc: Global, words: &[Text]) -> Result<(Bytes, u8), NoMemory>
     }
 }
 
-/// Writes all bytes, and says so where the sink took each and was finished.
-fn put_text<K: Sink>(sink: &mut K, text: &[u8]) -> bool
-    ensures took { OnTrue result (K.took sink.new ≡ option_map (λ all. all ++ text.now) (K.took sink.old)) }
-    ensures finished { OnTrue result (K.finished sink.new ≡ true) }
-    ensures failed { OnFalse result (Rose (K.faults sink.old) (K.faults sink.new)) }
-{
-    let mut rest = text;
-    while rest.len() > 0 {
-        match sink.write(rest) {
-            SinkTook::Took(count) => rest = &rest[count..],
-            SinkTook::Failed => return false,
-        }
-    }
-    sink.finish()
-}
-
 /// Writes what the words of a command line make: the command in plain words, or why they are refused. The status is 0
 /// for a command, 1 for a refusal, 2 where memory is wanting, and 3 where the sink fails. A first word that asks for a
 /// journal is passed over, as `socat` does. Nothing is opened.
@@ -77,7 +61,7 @@ pub fn explain_run<K: Sink>(alloc: Global, sink: &mut K, words: &[Text]) -> u8
     let Ok((text, status)) = report(alloc, words_of_run(words)) else {
         return NO_MEMORY;
     };
-    if put_text(sink, text.as_slice()) {
+    if write_whole(sink, text.as_slice()) {
         status
     } else {
         FAILED

@@ -1,25 +1,14 @@
 // The lines on the addresses of a relay.
-ghost use Rattle.std.specs.Prelude.{◌≡◌, ◌++◌, [], IfOk, OnOk};
+ghost use Rattle.std.specs.Prelude.{◌≡◌, ◌++◌, IfOk, OnOk};
 ghost use Rattle.relay_model.specs.Configs.{address, formed, way_from, way_to};
-ghost use Rattle.relay_model.specs.Dumps.{newline};
-ghost use Rattle.command_report.specs.Reports.{ending_words, ending, ending_line, title_of, use_words, use_line, IsTold, AreTold, AddressTold, SideTold};
-ghost use Rattle.command_report.specs.Shown.{shown, said};
+ghost use Rattle.place_report.specs.Places.{title_of, use_line, IsTold};
+ghost use Rattle.place_report.specs.Shown.{shown, said};
+ghost use Rattle.command_report.specs.Reports.{ending_words, ending, ending_line, AreTold, SideTold};
 
-use crate::naming::say_kind;
-use crate::opening::say_opening;
-use crate::pages::Page;
-use crate::passing::{say_reading, say_writing};
 use command_places::{formed, how, output, parts, way_from, way_to};
+use place_report::{Page, Use, place_told};
 use relay_model::{Address, Config, NoMemory, Part, Shut, Side, Single};
 use std::alloc::Global;
-
-/// How an address or a half of one is opened, and what it is used for.
-#[derive(Clone, Copy)]
-struct Use {
-    part: Part,
-    read: bool,
-    written: bool,
-}
 
 /// How an end is passed on where nothing stands in its way, in words.
 fn ending_words(ending: Option<Shut>) -> &'static str
@@ -55,71 +44,6 @@ fn say_ending(page: &mut Page, config: &Config, side: Side) -> Result<(), NoMemo
     Ok(())
 }
 
-/// Whether bytes are read there, and whether they are written, in words.
-fn use_words(read: bool, written: bool) -> &'static str
-    ensures { shown result.now ≡ use_words read written }
-{
-    match (read, written) {
-        (true, true) => "read and written",
-        (true, false) => "read alone",
-        (false, true) => "written alone",
-        (false, false) => "none; no bytes pass here",
-    }
-}
-
-fn say_use(page: &mut Page, used: Use) -> Result<(), NoMemory>
-    ensures { OnOk result (page.new ≡ page.old ++ use_line used.read used.written) }
-{
-    page.say("  use: ")?;
-    page.say(use_words(used.read, used.written))?;
-    page.end_line()?;
-    Ok(())
-}
-
-/// The lines on the options of an address or a half: those that mean something for its kind and its use.
-fn options_told(alloc: Global, single: &Single, used: Use) -> Result<Page, NoMemory> {
-    let mut page = Page::new(alloc);
-    if used.read || used.written {
-        say_opening(&mut page, single, used.part)?;
-    }
-    if used.read {
-        say_reading(&mut page, single)?;
-    }
-    if used.written {
-        say_writing(&mut page, single.options.conv)?;
-    }
-    Ok(page)
-}
-
-/// An address or a half, without its last line.
-fn told(
-    alloc: Global,
-    side: Side,
-    title: &str,
-    single: &Single,
-    used: Use,
-) -> Result<Page, NoMemory>
-    ensures { IfOk result (IsTold (title_of side ++ shown title.now) single.now.target (use_line used.read used.written) []) }
-{
-    let mut page = Page::new(alloc);
-    page.say(title_of(side))?;
-    page.say(title)?;
-    say_kind(&mut page, &single.target)?;
-    page.end_line()?;
-    say_use(&mut page, used)?;
-    page.append(&options_told(alloc, single, used)?)?;
-    Ok(page)
-}
-
-fn title_of(side: Side) -> &'static str
-    ensures { shown result.now ≡ title_of side }
-{
-    match side {
-        Side::Left => "first address",
-        Side::Right => "second address",
-    }
-}
-
 /// An address that isn't dual.
 fn single_told(
     alloc: Global,
@@ -138,7 +62,7 @@ fn single_told(
         read: formed(config, way_from(side)),
         written: formed(config, way_to(side)),
     };
-    let mut page = told(alloc, side, ": ", single, used)?;
+    let mut page = place_told(alloc, side, ": ", single, used)?;
     say_ending(&mut page, config, side)?;
     Ok(page)
 }
@@ -163,8 +87,8 @@ fn dual_told(
         read: false,
         written: formed(config, way_to(side)),
     };
-    let mut page = told(alloc, side, ", to read from: ", reading, read)?;
-    page.append(&told(alloc, side, ", to write to: ", writing, written)?)?;
+    let mut page = place_told(alloc, side, ", to read from: ", reading, read)?;
+    page.append(&place_told(alloc, side, ", to write to: ", writing, written)?)?;
     say_ending(&mut page, config, side)?;
     Ok(page)
 }

@@ -2,9 +2,8 @@
 ghost use Rattle.std.specs.Prelude.{◌≡◌, ◌++◌, IfOk, OnOk};
 ghost use Rattle.command_report.specs.Reports.{block_line, SettingsTold};
 
-use crate::pages::{Page, line};
-use crate::values::say_time;
 use command_places::{formed, has_fork, keeps_borders};
+use place_report::{Page, line, say_time};
 use relay_model::{Config, Dump, NoMemory, Way};
 use std::alloc::Global;
 

@@ -50,4 +50,4 @@ AreOpened parts.Writing access (ends.Waiting asked name) = asked ≡ access
 pub record IsOpened {G : Type 0} (single : Single) (part : Part) (ends : FileEnds) (removal : Option G) : Type 0 where
   pub named : (file : FileKind × List ℕ) × (file_named single.target ≡ Some file) × IsUtf8 file.1
   pub opened : AreOpened part (access_of named.0.0 single.options.file part) ends
-  pub removed : is_some removal ≡ single.options.unlink_close
+  pub removed : is_some removal ≡ single.options.entry.unlink_close

@@ -52,12 +52,12 @@ pub fn open_file<R: Files<File = File>>(
     let Ok(name) = str::from_utf8(name.as_slice()) else {
         return Making::Failed;
     };
-    if single.options.unlink_early {
+    if single.options.entry.unlink_early {
         let _ = files.remove_file(name);
     }
     let access = Access::of(kind, single.options.file, part);
     match open_ends(files, alloc, kind, access, name, part) {
-        Making::Made(ends) => keep_entry(alloc, ends, name, single.options.unlink_close),
+        Making::Made(ends) => keep_entry(alloc, ends, name, single.options.entry.unlink_close),
         Making::Later(_) | Making::Failed => Making::Failed,
         Making::Memory => Making::Memory,
     }

@@ -31,7 +31,7 @@ told_nothing (Some h) = ap (λ xs. Some (record { acts = h.acts; asked = xs })) 
 no_row_yet : (c : Config) (n : ℕ) (s : ℕ) (work : List ℕ) (timer : Option ℕ) (row : Option Row) → row ≡ None → timer ≡ None → RowIs c n [] s work timer row
 no_row_yet c n s work timer row e t = subst (RowIs c n [] s work timer) (sym e) (λ b. absurd (omega (arith, b)), t)
 
-pub begun : (c : Config) (n : ℕ) (start : Seen) (crew : Crew) → Forks c → DoorStands c [] crew.door → crew.unborn ≡ None → crew.clock ≡ 0 → crew.made ≡ 0 → crew.table.admitted ≡ 0 → crew.table.max_children ≡ (door_options c).max_children → crew.table.stop_after ≡ (door_options c).stop_after → ((s : ℕ) → row_of crew.table s ≡ None) → crew.timers.moments ≡ empty → ((p : Place) → start.held p ≡ Free) → Course c n start start [] crew
+pub begun : (c : Config) (n : ℕ) (start : Seen) (crew : Crew) → Forks c → DoorStands c [] crew.door → crew.unborn ≡ None → crew.clock ≡ 0 → crew.made ≡ 0 → crew.table.admitted ≡ 0 → crew.table.max_children ≡ (door_options c).sessions.max_children → crew.table.stop_after ≡ (door_options c).sessions.stop_after → ((s : ℕ) → row_of crew.table s ≡ None) → crew.timers.moments ≡ empty → ((p : Place) → start.held p ≡ Free) → Course c n start start [] crew
 begun c n start crew forks door eu ec em ea eb es rows et free = record {
   frame = record {
     fork = forks.fork;

@@ -249,8 +249,8 @@ may_accept c n start now past crew on called =
     let t = subst (DoorTells c past) called (door_says c past) in
     let e = on.frame.counts.admitted_is in
     let l = live_is c n start now past crew on in
-    let x = leb-false (door_options c).stop_after (admitted c past) t.2 in
-    let y = leb-false (door_options c).max_children (live_count c past) t.3 in
+    let x = leb-false (door_options c).sessions.stop_after (admitted c past) t.2 in
+    let y = leb-false (door_options c).sessions.max_children (live_count c past) t.3 in
     let m = on.frame.counts.children_is in
     let o = on.frame.counts.stop_is in
     and_from (nat_lt (live_in crew.table) crew.table.max_children) (nat_lt crew.table.admitted crew.table.stop_after) (lt-ltb (live_in crew.table) crew.table.max_children (omega (arith, y, l, m))) (lt-ltb crew.table.admitted crew.table.stop_after (omega (arith, x, e, o)))

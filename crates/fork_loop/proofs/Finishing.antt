@@ -111,14 +111,14 @@ exactly attempts l retry e f h = omega (arith, e, f, h)
 more_than : (l retry : ℕ) → l ≡ suc retry → 0 < l
 more_than l retry e = omega (arith, e)
 
-for_listening : (c : Config) (n : ℕ) (past : List Act) (attempts : ℕ) → Legal c n past → AreSpent (door_options c).retry (door_options c).forever (failures past program_door) attempts → ((answer : whole.Outcome) → told_by_door c past None answer → outcome c past ≡ Some answer) → Answers c n past (outcomes.ListenFailed attempts)
+for_listening : (c : Config) (n : ℕ) (past : List Act) (attempts : ℕ) → Legal c n past → AreSpent (door_options c).tries.retry (door_options c).tries.forever (failures past program_door) attempts → ((answer : whole.Outcome) → told_by_door c past None answer → outcome c past ≡ Some answer) → Answers c n past (outcomes.ListenFailed attempts)
 for_listening c n past attempts legal spent told =
     let l = counted c n past program_door legal spent.out in
-    let exact = exactly attempts (length (failures past program_door)) (door_options c).retry spent.attempts_is l spent.can_count in
+    let exact = exactly attempts (length (failures past program_door)) (door_options c).tries.retry spent.attempts_is l spent.can_count in
     record {
       outcome_is = inl (inl (whole.ListenFailed (length (failures past program_door)), told (whole.ListenFailed (length (failures past program_door))) (inl (spent.out, refl)), ap (λ k. Some (whole.ListenFailed k)) exact));
       relayed = refl;
-      failed = λ e. tries_blamed past program_door (more_than (length (failures past program_door)) (door_options c).retry l);
+      failed = λ e. tries_blamed past program_door (more_than (length (failures past program_door)) (door_options c).tries.retry l);
       stopped = λ t e. cc;
     }
 
@@ -144,7 +144,7 @@ for_accept c n past failed told = record {
   stopped = λ t e. cc;
 }
 
-answer_by : (c : Config) (n : ℕ) (past : List Act) (cause : Option Why) (listening : Option ℕ) → Legal c n past → cause ≡ door_cause past → Spends (door_options c).retry (door_options c).forever (failures past program_door) listening → ((answer : whole.Outcome) → told_by_door c past (door_cause past) answer → outcome c past ≡ Some answer) → Answers c n past (ended_by cause listening)
+answer_by : (c : Config) (n : ℕ) (past : List Act) (cause : Option Why) (listening : Option ℕ) → Legal c n past → cause ≡ door_cause past → Spends (door_options c).tries.retry (door_options c).tries.forever (failures past program_door) listening → ((answer : whole.Outcome) → told_by_door c past (door_cause past) answer → outcome c past ≡ Some answer) → Answers c n past (ended_by cause listening)
 answer_by c n past None None legal e spends told = for_served c n past spends (λ answer h. told answer (subst (λ (k : Option Why). told_by_door c past k answer) e h))
 answer_by c n past None (Some attempts) legal e spends told = for_listening c n past attempts legal spends (λ answer h. told answer (subst (λ (k : Option Why). told_by_door c past k answer) e h))
 answer_by c n past (Some whys.AcceptFailed) listening legal e spends told = for_accept c n past (accept_said (memory_said past) (stop_said past) (accept_failed past program_door) (sym e)) (told whole.AcceptFailed (subst (λ (k : Option Why). told_by_door c past k whole.AcceptFailed) e refl))
@@ -153,7 +153,7 @@ answer_by c n past (Some why) listening legal e spends told = for_memory c n pas
 none_of_rows : (c : Config) (n : ℕ) (past : List Act) (s : ℕ) (crew : Crew) → NoneLives crew → RowOf c n past crew s → s < admitted c past → holds c past s ≡ false
 none_of_rows c n past s crew none r = (subst (RowIs c n past s crew.work.items (timer_of crew s)) (none s) r).0
 
-pub ended_over : (c : Config) (n : ℕ) (start now : Seen) (crew : Crew) (cause : Option Why) (listening : Option ℕ) → (over : DoorIsOver c n start now crew) → NoneLives crew → cause ≡ door_cause over.past → Spends (door_options c).retry (door_options c).forever (failures over.past program_door) listening → Ended c n start now (ended_by cause listening)
+pub ended_over : (c : Config) (n : ℕ) (start now : Seen) (crew : Crew) (cause : Option Why) (listening : Option ℕ) → (over : DoorIsOver c n start now crew) → NoneLives crew → cause ≡ door_cause over.past → Spends (door_options c).tries.retry (door_options c).tries.forever (failures over.past program_door) listening → Ended c n start now (ended_by cause listening)
 ended_over c n start now crew cause listening over none e spends =
     let f = over.course.frame in
     let done : IsDone c over.past = over.wished in

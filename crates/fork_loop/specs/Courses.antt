@@ -33,8 +33,8 @@ RowOf c n past crew s = RowIs c n past s crew.work.items (timer_of crew s) (row_
 -- the table counts as the history does
 pub record Counts (c : Config) (past : List Act) (table : Table Row) : Type 0 where
   pub admitted_is : table.admitted ≡ admitted c past
-  pub children_is : table.max_children ≡ (door_options c).max_children
-  pub stop_is : table.stop_after ≡ (door_options c).stop_after
+  pub children_is : table.max_children ≡ (door_options c).sessions.max_children
+  pub stop_is : table.stop_after ≡ (door_options c).sessions.stop_after
 
 -- the session that is made before its peer is asked for is the next one
 abbrev pub NextIs : Config → List Act → Option Unborn → Type 0

@@ -22,7 +22,8 @@ impl Crew {
         let ready = ReadyList::new(alloc)?;
         let scratch = vec![in alloc; 0; config.block as usize]?;
         let door = Door::new(config);
-        let table = ForkTable::new(alloc, options.max_children, options.stop_after);
+        let sessions = options.sessions;
+        let table = ForkTable::new(alloc, sessions.max_children, sessions.stop_after);
         let timers = TimerSet::new(alloc);
         Ok(Crew {
             door,

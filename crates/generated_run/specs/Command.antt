@@ -17,7 +17,7 @@ load_command = record {
   ways = ways.Two;
   dump = Off;
   sloppy = false;
-  left = One (record { target = TcpListen Any 1; options = record default_options { fork = true; max_children = 8; stop_after = 50 } });
+  left = One (record { target = TcpListen Any 1; options = record default_options { sessions = record { fork = true; max_children = 8; stop_after = 50 } } });
   right = One (record { target = Tcp Any (codes "localhost") 2; options = default_options });
 }
 

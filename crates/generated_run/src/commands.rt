@@ -2,7 +2,9 @@
 ghost use Rattle.std.specs.Prelude.{◌≡◌, IfOk};
 ghost use Rattle.generated_run.specs.Command.{load_command};
 
-use relay_model::{Address, Config, Dump, Family, NoMemory, Options, Single, Target, Text, Ways};
+use relay_model::{
+    Address, Config, Dump, Family, NoMemory, Options, SessionOptions, Single, Target, Text, Ways,
+};
 use std::alloc::Global;
 
 /// The command `TCP-LISTEN:1,fork,stop-after=50,max-children=8 TCP:localhost:2`, as its words would be read.
@@ -24,9 +26,11 @@ pub fn load_command(alloc: Global) -> Result<Config, NoMemory>
                 port: 1,
             },
             options: Options {
-                fork: true,
-                max_children: 8,
-                stop_after: 50,
+                sessions: SessionOptions {
+                    fork: true,
+                    max_children: 8,
+                    stop_after: 50,
+                },
                 ..listening
             },
         }),

@@ -93,7 +93,8 @@ fn what_is_legal(limit: u64, past: &Ledger)
     admitted_is_bounded();
     packets_are_due();
     written_is_due();
-    let _most = options_of(past.facts().config(), program_door()).stop_after;
+    let options = options_of(past.facts().config(), program_door());
+    let _most = options.sessions.stop_after;
     let _last = past.facts().acts().len();
 }
 

@@ -34,7 +34,7 @@ listen_due c past None = tt
 listen_due c past (Some m) = choice c past (nat_le m (now past)) (Listen program_door) (TryAt m) (λ _. refl) (λ _. tt)
 
 listen_again : (c : Config) (past : List Act) → DoorTells c past (try_again c past program_door (Listen program_door))
-listen_again c past = choice c past (out_of_tries c past program_door) Nothing (when_due (now past) (next_due (options_of c program_door).interval (failures past program_door)) (Listen program_door)) (λ _. tt) (λ _. listen_due c past (next_due (options_of c program_door).interval (failures past program_door)))
+listen_again c past = choice c past (out_of_tries c past program_door) Nothing (when_due (now past) (next_due (options_of c program_door).tries.interval (failures past program_door)) (Listen program_door)) (λ _. tt) (λ _. listen_due c past (next_due (options_of c program_door).tries.interval (failures past program_door)))
 
 stage_tells : (c : Config) (past : List Act) (st : Stage) → DoorTells c past (program_door_call c past st)
 stage_tells c past Untried = refl
@@ -65,12 +65,12 @@ admission_tells c past p peer (d, e) a =
     let t = subst (DoorTells c past) (door_called c past p (Accept d p) left e) (door_says c past) in
     (t.1, t.2, t.3)
 
-pub admitted_bound : (c : Config) (n : ℕ) (past : List Act) → Legal c n past → admitted c past ≤ (door_options c).stop_after
-admitted_bound c n [] legal = let r : 0 ≤ (door_options c).stop_after = omega arith in r
+pub admitted_bound : (c : Config) (n : ℕ) (past : List Act) → Legal c n past → admitted c past ≤ (door_options c).sessions.stop_after
+admitted_bound c n [] legal = let r : 0 ≤ (door_options c).sessions.stop_after = omega arith in r
 admitted_bound c n (Accepted p peer ∷ past) legal = go (is_admission c p peer) refl (admitted_bound c n past legal.1)
   where
-    go : (b : Bool) → is_admission c p peer ≡ b → admitted c past ≤ (door_options c).stop_after → one_more b (admitted c past) ≤ (door_options c).stop_after
-    go true e ih = let t = leb-false (door_options c).stop_after (admitted c past) (admission_tells c past p peer legal.0.1 e).1 in omega (arith, t)
+    go : (b : Bool) → is_admission c p peer ≡ b → admitted c past ≤ (door_options c).sessions.stop_after → one_more b (admitted c past) ≤ (door_options c).sessions.stop_after
+    go true e ih = let t = leb-false (door_options c).sessions.stop_after (admitted c past) (admission_tells c past p peer legal.0.1 e).1 in omega (arith, t)
     go false e ih = ih
 admitted_bound c n (act ∷ past) legal = admitted_bound c n past legal.1
 
@@ -191,18 +191,18 @@ lived c n act past s legal fork begun l = go (has_fork c) fork l
 fewer_live : (c : Config) (n : ℕ) (act : Act) (past : List Act) → Legal c n (act ∷ past) → has_fork c ≡ true → count (live c (act ∷ past)) (admitted c past) ≤ live_count c past
 fewer_live c n act past legal fork = count_least (live c (act ∷ past)) (live c past) (admitted c past) (λ s b l. lived c n act past s legal fork b l)
 
-pub live_bound : (c : Config) (n : ℕ) (past : List Act) → Legal c n past → has_fork c ≡ true → live_count c past ≤ (door_options c).max_children
-live_bound c n [] legal fork = let r : 0 ≤ (door_options c).max_children = omega arith in r
+pub live_bound : (c : Config) (n : ℕ) (past : List Act) → Legal c n past → has_fork c ≡ true → live_count c past ≤ (door_options c).sessions.max_children
+live_bound c n [] legal fork = let r : 0 ≤ (door_options c).sessions.max_children = omega arith in r
 live_bound c n (Accepted p peer ∷ past) legal fork = go (is_admission c p peer) refl (live_bound c n past legal.1 fork)
   where
     fewer : count (live c (Accepted p peer ∷ past)) (admitted c past) ≤ live_count c past
     fewer = fewer_live c n (Accepted p peer) past legal fork
 
-    go : (b : Bool) → is_admission c p peer ≡ b → live_count c past ≤ (door_options c).max_children → count (live c (Accepted p peer ∷ past)) (one_more b (admitted c past)) ≤ (door_options c).max_children
+    go : (b : Bool) → is_admission c p peer ≡ b → live_count c past ≤ (door_options c).sessions.max_children → count (live c (Accepted p peer ∷ past)) (one_more b (admitted c past)) ≤ (door_options c).sessions.max_children
     go true e ih =
-        let t = leb-false (door_options c).max_children (live_count c past) (admission_tells c past p peer legal.0.1 e).2 in
+        let t = leb-false (door_options c).sessions.max_children (live_count c past) (admission_tells c past p peer legal.0.1 e).2 in
         let m = one_more_bound (live c (Accepted p peer ∷ past) (admitted c past)) (count (live c (Accepted p peer ∷ past)) (admitted c past)) (live_count c past) fewer in
-        let r : one_more (live c (Accepted p peer ∷ past) (admitted c past)) (count (live c (Accepted p peer ∷ past)) (admitted c past)) ≤ (door_options c).max_children = omega (arith, t, m) in
+        let r : one_more (live c (Accepted p peer ∷ past) (admitted c past)) (count (live c (Accepted p peer ∷ past)) (admitted c past)) ≤ (door_options c).sessions.max_children = omega (arith, t, m) in
         r
     go false e ih = le_trans fewer ih
 live_bound c n (Turn until at ready stop ∷ past) legal fork = le_trans (fewer_live c n (Turn until at ready stop) past legal fork) (live_bound c n past legal.1 fork)

@@ -44,7 +44,7 @@ due_below k at None wanted t = tt
 due_below k at (Some m) wanted t = choice k (nat_le m at) wanted (TryAt m) (λ _. t) (λ _. tt)
 
 again_below : (c : Config) (past : List Act) (p : Place) (k : ℕ) (wanted : Call) → Below k wanted → Below k (try_again c past p wanted)
-again_below c past p k wanted t = choice k (out_of_tries c past p) Nothing (when_due (now past) (next_due (options_of c p).interval (failures past p)) wanted) (λ _. tt) (λ _. due_below k (now past) (next_due (options_of c p).interval (failures past p)) wanted t)
+again_below c past p k wanted t = choice k (out_of_tries c past p) Nothing (when_due (now past) (next_due (options_of c p).tries.interval (failures past p)) wanted) (λ _. tt) (λ _. due_below k (now past) (next_due (options_of c p).tries.interval (failures past p)) wanted t)
 
 opening_below : (c : Config) (past : List Act) (k : ℕ) (p : Place) (st : Stage) → p.session < k → Below k (opening_call c past p st)
 opening_below c past k p Untried h = h

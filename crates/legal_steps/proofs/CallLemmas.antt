@@ -25,7 +25,7 @@ due_tells past None wanted t = tt
 due_tells past (Some m) wanted t = choice past (nat_le m (now past)) wanted (TryAt m) (λ _. t) (λ e. leb-false m (now past) e)
 
 again_tells : (c : Config) (past : List Act) (p : Place) (wanted : Call) → Tells past wanted → Tells past (try_again c past p wanted)
-again_tells c past p wanted t = choice past (out_of_tries c past p) Nothing (when_due (now past) (next_due (options_of c p).interval (failures past p)) wanted) (λ _. tt) (λ _. due_tells past (next_due (options_of c p).interval (failures past p)) wanted t)
+again_tells c past p wanted t = choice past (out_of_tries c past p) Nothing (when_due (now past) (next_due (options_of c p).tries.interval (failures past p)) wanted) (λ _. tt) (λ _. due_tells past (next_due (options_of c p).tries.interval (failures past p)) wanted t)
 
 opening_tells : (c : Config) (past : List Act) (p : Place) (st : Stage) → stage past p ≡ st → Tells past (opening_call c past p st)
 opening_tells c past p Untried e = ap holds_at e

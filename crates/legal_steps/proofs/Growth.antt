@@ -97,7 +97,7 @@ due_of_grows rv wv readbytes escape xs ys =
     (grown (before_escape escape) (escape_grows escape) (first_bytes readbytes xs) (first_bytes readbytes (xs ++ ys)) (length ys) (first_grows readbytes xs ys)))
 
 pub due_grows : (c : Config) (w : Way) (xs ys : List ℕ) → Grows (due c w xs) (due c w (xs ++ ys)) (2 * length ys)
-due_grows c w xs ys = due_of_grows (options_of c (input c 0 w)).conv (options_of c (output c 0 w)).conv (options_of c (input c 0 w)).readbytes (options_of c (input c 0 w)).escape xs ys
+due_grows c w xs ys = due_of_grows (options_of c (input c 0 w)).conv (options_of c (output c 0 w)).conv (options_of c (input c 0 w)).input.readbytes (options_of c (input c 0 w)).input.escape xs ys
 
 -- ---- nothing is due of nothing
 
@@ -128,4 +128,4 @@ due_of_nil rv wv readbytes escape =
     ∙ write_nil wv
 
 pub due_nil : (c : Config) (w : Way) → due c w [] ≡ []
-due_nil c w = due_of_nil (options_of c (input c 0 w)).conv (options_of c (output c 0 w)).conv (options_of c (input c 0 w)).readbytes (options_of c (input c 0 w)).escape
+due_nil c w = due_of_nil (options_of c (input c 0 w)).conv (options_of c (output c 0 w)).conv (options_of c (input c 0 w)).input.readbytes (options_of c (input c 0 w)).input.escape

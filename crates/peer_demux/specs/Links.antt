@@ -1,5 +1,6 @@
 -- What the calls of a socket do to what it gave and sent. A list that isn't told is None before and after.
 use Rattle.std.specs.Prelude.{◌≡◌, ℕ, ◌≤◌, Bool, true, false, List, [], ◌∷◌, ◌++◌, length, take, Option, option_map}
+use Rattle.relay_model.specs.Conversions.{longest_packet}
 use Rattle.relay_model.specs.declared.acts.Peer.{Peer}
 use Rattle.port_trait.specs.declared.answers.Took.{Took as WriteAnswer}
 use Rattle.port_trait.specs.declared.answers.Took.TheVariants as writes
@@ -18,7 +19,7 @@ Adds before now more = now ≡ option_map (λ all. all ++ more) before
 
 -- a receiving adds its packet, which has at most 65,507 bytes
 abbrev pub Receives : Option (List Packet) → Option (List Packet) → List ℕ → Received → Type 0
-Receives before now into (gots.Packet from len) = (len ≤ 65507) × Adds before now ((from, take len into) ∷ [])
+Receives before now into (gots.Packet from len) = (len ≤ longest_packet) × Adds before now ((from, take len into) ∷ [])
 Receives before now into gots.NotYet = now ≡ before
 Receives before now into gots.Failed = now ≡ before
 
@@ -72,7 +73,7 @@ fresh_link = record { items = []; next = 0; faults = 0; stalls = 0; packets = 0 
 
 -- a packet has at most 65,507 bytes
 abbrev pub IsFit : LinkItem → Type 0
-IsFit (items.Packet from bytes) = length bytes ≤ 65507
+IsFit (items.Packet from bytes) = length bytes ≤ longest_packet
 IsFit items.NotYet = Unit {0}
 IsFit items.Fault = Unit {0}
 

@@ -1,5 +1,6 @@
 // One socket for the sessions of many peers.
 ghost use Rattle.std.specs.Prelude.{◌≡◌, ◌<◌, ◌≤◌, ◌↔◌, List, ℕ, length, true, false, IfOk, IsTrue, not};
+ghost use Rattle.relay_model.specs.Conversions.{longest_packet};
 ghost use Rattle.peer_demux.specs.Hubs.{AcceptsRow, Drains, ReadsRow, Takes, TakesOne, accept_failed, fresh_hub, got_of, read_failed};
 ghost use Rattle.peer_demux.specs.Links.{Packet, Sends, has_failed, has_packet, has_stalled, send_failed, send_stalled};
 ghost use Rattle.peer_demux.specs.Tables.{HasNew, IsDropped, IsLive, IsTrimmed, Stands, TableState, risen_if, row_at};
@@ -8,15 +9,12 @@ use crate::answers::{Mode, Taken};
 use crate::links::{Link, Received};
 use crate::tables::Demux;
 use port_trait::{Got, Took};
-use relay_model::{NoMemory, Peer};
+use relay_model::{LONGEST_PACKET, NoMemory, Peer};
 use std::alloc::Global;
 use std::marker::Model;
 
 /// How many packets one receiving takes at most.
 const MOST_TAKEN: usize = 64;
-
-/// The most bytes of a packet over IPv4 (RFC 768).
-const LONGEST: usize = 65_507;
 
 /// What an accepting came to: a new row with its sender, none, or a fault of the socket.
 #[derive(Clone, Copy, Debug, PartialEq)]
@@ -38,13 +36,14 @@ pub struct Hub<L> {
 
 impl<L> Model for Hub<L> {
     ghost use Rattle.std.specs.Prelude.{◌≡◌, vec_len};
+    ghost use Rattle.relay_model.specs.Conversions.{longest_packet};
     ghost use Rattle.peer_demux.specs.Hubs.{HubState};
 
     ghost Value = { HubState L };
 
     ghost view = { λ hub. record { link = hub.link; table = hub.table; left_off = hub.left_off } };
 
-    ghost invariant = { λ hub. vec_len hub.buffer ≡ 65507 };
+    ghost invariant = { λ hub. vec_len hub.buffer ≡ longest_packet };
 }
 
 impl<L: Link> Hub<L> {
@@ -55,7 +54,7 @@ impl<L: Link> Hub<L> {
         Ok(Hub {
             link,
             table: Demux::new(alloc, mode),
-            buffer: vec![in alloc; 0u8; LONGEST]?,
+            buffer: vec![in alloc; 0u8; usize::from(LONGEST_PACKET)]?,
             left_off: false,
         })
     }
@@ -95,7 +94,7 @@ impl<L: Link> Hub<L> {
     /// Sends the bytes as one packet to the sender of the live row.
     pub fn send_row(&mut self, row: u32, bytes: &[u8]) -> Took
         requires live { IsLive self.old.table.rows row }
-        requires few { length bytes.now ≤ 65507 }
+        requires few { length bytes.now ≤ longest_packet }
         ensures sent { (place : ℕ) × Stands self.old.table.rows row place × Sends (L.sent self.old.link) (L.sent self.new.link) (row_at self.old.table.rows place).peer bytes.now result }
         ensures table { self.new.table ≡ self.old.table }
         ensures left_off { self.new.left_off ≡ self.old.left_off }
@@ -204,7 +203,7 @@ impl<L: Link> Hub<L> {
 
 /// Takes one packet into the table, by way of the buffer.
 fn receive_into<L: Link>(link: &mut L, table: &mut Demux, buffer: &mut [u8]) -> Received
-    requires { 65507 ≤ length buffer.old }
+    requires { longest_packet ≤ length buffer.old }
     ensures taken { TakesOne table.old table.new (L.gave link.old) (L.gave link.new) result }
     ensures lives { (row : ℕ) → IsLive table.old.rows row → IsLive table.new.rows row }
     ensures faults { L.faults link.new ≡ risen_if (has_failed result) (L.faults link.old) }

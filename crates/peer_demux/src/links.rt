@@ -1,5 +1,6 @@
 // The socket whose packets are sorted.
 ghost use Rattle.std.specs.Prelude.{◌≡◌, ◌≤◌, ℕ, List, length, Option, None};
+ghost use Rattle.relay_model.specs.Conversions.{longest_packet};
 ghost use Rattle.relay_model.specs.declared.acts.Peer.{Peer};
 ghost use Rattle.peer_demux.specs.Links.{Receives, Sends, has_failed, has_stalled, has_packet, send_failed, send_stalled};
 ghost use Rattle.peer_demux.specs.Tables.{risen_if};
@@ -30,7 +31,7 @@ pub trait Link: Drop {
 
     /// Takes the next packet.
     fn receive(&mut self, into: &mut [u8]) -> Received
-        requires { 65507 ≤ length into.old }
+        requires { longest_packet ≤ length into.old }
         ensures gives { Receives (gave self.old) (gave self.new) into.new result }
         ensures kept { sent self.new ≡ sent self.old }
         ensures faults { faults self.new ≡ risen_if (has_failed result) (faults self.old) }
@@ -39,7 +40,7 @@ pub trait Link: Drop {
 
     /// Sends the bytes as one packet, or none of them.
     fn send_to(&mut self, to: Peer, bytes: &[u8]) -> Took
-        requires { length bytes.now ≤ 65507 }
+        requires { length bytes.now ≤ longest_packet }
         ensures sends { Sends (sent self.old) (sent self.new) to bytes.now result }
         ensures kept { (gave self.new ≡ gave self.old) × (packets self.new ≡ packets self.old) }
         ensures faults { faults self.new ≡ risen_if (send_failed result) (faults self.old) }

@@ -1,5 +1,6 @@
 // A socket in memory.
 ghost use Rattle.std.specs.Prelude.{◌≡◌, ◌≤◌, ◌++◌, ◌∷◌, [], length, OnOk, OnErr, None, Some, option_copied, slice_get};
+ghost use Rattle.relay_model.specs.Conversions.{longest_packet};
 ghost use Rattle.peer_demux.specs.Links.{AllFit, IsFit, Receives, Sends, fresh_link, given_by, has_failed, has_stalled, has_packet, IsGiven};
 ghost use Rattle.peer_demux.specs.Tables.{risen_if};
 ghost use Rattle.port_trait.specs.declared.answers.Took.TheVariants as writes;
@@ -102,7 +103,7 @@ impl Link for MemLink {
 /// What the item answers.
 fn given(item: &LinkItem, into: &mut [u8]) -> Received
     requires fit { IsFit item.now }
-    requires room { 65507 ≤ length into.old }
+    requires room { longest_packet ≤ length into.old }
     ensures { IsGiven item.now into.new result }
 {
     match item {

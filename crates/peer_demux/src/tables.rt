@@ -1,5 +1,6 @@
 // The rows of all senders.
 ghost use Rattle.std.specs.Prelude.{◌≡◌, ◌≢◌, ℕ, ◌<◌, ◌≤◌, ◌↔◌, ◌+◌, length, true, false, IfSome, IfNone, IsTrue};
+ghost use Rattle.relay_model.specs.Conversions.{longest_packet};
 ghost use Rattle.relay_model.specs.declared.acts.Peer.{Peer};
 ghost use Rattle.peer_demux.specs.declared.answers.Mode.TheVariants as modes;
 ghost use Rattle.peer_demux.specs.declared.answers.Put.TheVariants as puts;
@@ -54,7 +55,7 @@ impl Demux {
     /// Holds the packet in the row of its sender, or in a new one. A row holds at most 64 packets and 65,536 bytes, and
     /// at most 4,096 rows are live. A packet that can't be held is dropped and counted, and nothing else changes.
     pub fn packet(&mut self, from: Peer, bytes: &[u8]) -> Put
-        requires { length bytes.now ≤ 65507 }
+        requires { length bytes.now ≤ longest_packet }
         ensures put { IsPut self.old self.new from bytes.now result }
         ensures lives { (row : ℕ) → IsLive self.old.rows row → IsLive self.new.rows row }
     {

@@ -2,9 +2,9 @@
 #![tactic(auto)]
 
 ghost use Rattle.std.specs.Prelude.{◌≡◌, length};
-ghost use Rattle.relay_model.specs.Permits.{admission_of, is_permitted, is_port_permitted, is_same_under};
+ghost use Rattle.relay_model.specs.Permits.{is_permitted, is_port_permitted, is_same_under};
 
-use relay_model::{Options, Peer, Range};
+use relay_model::{Admission, Options, Peer, Range};
 use std::marker::Model;
 
 /// The highest port that `lowport` lets through: those below 1024 are privileged.
@@ -13,30 +13,26 @@ const HIGHEST_LOW_PORT: u16 = 1023;
 /// What the options of one address ask of its peers.
 #[derive(Clone, Copy, Debug)]
 pub struct Filter {
-    range: Option<Range>,
-    sourceport: Option<u16>,
-    lowport: bool,
+    admission: Admission,
 }
 
 impl Model for Filter {
-    ghost use Rattle.relay_model.specs.Permits.{Admission};
+    ghost use Rattle.relay_model.specs.declared.commands.Admission.{Admission};
 
     ghost Value = { Admission };
 
-    ghost view = { λ filter. record { range = filter.range; sourceport = filter.sourceport; lowport = filter.lowport } };
+    ghost view = { λ filter. filter.admission };
 
-    ghost inverse = { λ admission. record { range = admission.range; sourceport = admission.sourceport; lowport = admission.lowport } };
+    ghost inverse = { λ admission. record { admission = admission } };
 }
 
 impl Filter {
     /// The filter that these options ask for.
     pub fn new(options: &Options) -> Filter
-        ensures { result ≡ admission_of options.now }
+        ensures { result ≡ options.now.admission }
     {
         Filter {
-            range: options.range,
-            sourceport: options.sourceport,
-            lowport: options.lowport,
+            admission: options.admission,
         }
     }
 
@@ -48,7 +44,7 @@ impl Filter {
         match peer {
             Peer::Local => true,
             Peer::V4 { addr, port } => {
-                let near = match self.range {
+                let near = match self.admission.range {
                     None => true,
                     Some(Range::V4 { net, mask }) => agree_v4(mask, addr, net),
                     Some(Range::V6 { .. }) => false,
@@ -56,7 +52,7 @@ impl Filter {
                 near && self.permits_port(port)
             }
             Peer::V6 { addr, port } => {
-                let near = match self.range {
+                let near = match self.admission.range {
                     None => true,
                     Some(Range::V6 { net, mask }) => agree_v6(mask, addr, net),
                     Some(Range::V4 { .. }) => false,
@@ -69,11 +65,11 @@ impl Filter {
     fn permits_port(&self, port: u16) -> bool
         ensures { result ≡ is_port_permitted self.now port }
     {
-        let is_source_port = match self.sourceport {
+        let is_source_port = match self.admission.sourceport {
             None => true,
             Some(wanted) => port == wanted,
         };
-        is_source_port && (!self.lowport || port <= HIGHEST_LOW_PORT)
+        is_source_port && (!self.admission.lowport || port <= HIGHEST_LOW_PORT)
     }
 }
 

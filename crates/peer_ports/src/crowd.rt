@@ -1,5 +1,6 @@
 // The socket and the rows of all its peers, as their ports share them.
 ghost use Rattle.std.specs.Prelude.{◌≡◌, ◌<◌, ◌≤◌, length, None};
+ghost use Rattle.relay_model.specs.Conversions.{longest_packet};
 ghost use Rattle.port_trait.specs.Meanings.{Gives, AcceptsWhole};
 
 use crate::socket::UdpLink;
@@ -81,7 +82,7 @@ impl Crowd {
 
     /// Sends the bytes to the peer as one packet.
     pub(crate) fn send(&mut self, row: u32, bytes: &[u8]) -> Took
-        requires { length bytes.now ≤ 65507 }
+        requires { length bytes.now ≤ longest_packet }
         ensures { AcceptsWhole None None bytes.now result }
     {
         self.stirred = true;

@@ -11,6 +11,7 @@ ghost use Rattle.socket_kinds.specs.Accepting.{OnPort, OnPeer};
 ghost use Rattle.peer_ports.specs.Ports.{fresh_port};
 
 use crate::seat::Seat;
+use answer_counts::{count_reading, count_writing};
 use mio::Registry;
 use port_trait::{
     Begun, Counts, Got, Hint, Joining, MadePeer, Making, Port, PortReap, Settled, Shutting, Took,
@@ -91,15 +92,11 @@ impl PeerPort {
         ensures tallied { Tallied (write_event took) self.old.counts self.new.counts }
         ensures kept { (self.new.begun ≡ self.old.begun) × (self.new.ended ≡ self.old.ended) }
     {
-        self.blocked = None;
-        match took {
-            Took::Took(_) => {}
-            Took::NotYet => {
-                self.blocked = Some(0);
-                self.counts.count_stall();
-            }
-            Took::Failed => self.counts.count_fault(),
-        }
+        self.blocked = match took {
+            Took::NotYet => Some(0),
+            Took::Took(_) | Took::Failed => None,
+        };
+        count_writing(&mut self.counts, took);
     }
 
     /// Whether there may be room again, after one look more.
@@ -268,16 +265,4 @@ fn send_all(seat: &Seat, bytes: &[u8]) -> Took
         }
     }
     Took::Took(count)
-}
-
-fn count_reading(counts: &mut Counts, got: Got)
-    ensures { Tallied (read_event got) counts.old counts.new }
-{
-    match got {
-        Got::Bytes(_) => {}
-        Got::Empty => counts.count_empty(),
-        Got::End => counts.count_end(),
-        Got::NotYet => counts.count_stall(),
-        Got::Failed => counts.count_fault(),
-    }
 }

@@ -1,5 +1,6 @@
 // A port's part in what a door and its peers share.
 ghost use Rattle.std.specs.Prelude.{◌≡◌, ◌<◌, ◌≤◌, length, None};
+ghost use Rattle.relay_model.specs.Conversions.{longest_packet};
 ghost use Rattle.port_trait.specs.Meanings.{Gives, AcceptsWhole};
 ghost use Rattle.port_trait.specs.Made.{IsAtOnce};
 
@@ -89,7 +90,7 @@ impl Seat {
 
     /// Sends the bytes to the peer as one packet. A door has nobody to send to.
     pub(crate) fn send(&self, bytes: &[u8]) -> Took
-        requires { length bytes.now ≤ 65507 }
+        requires { length bytes.now ≤ longest_packet }
         ensures { AcceptsWhole None None bytes.now result }
     {
         match (self.role, self.crowd.try_lock()) {

@@ -284,7 +284,7 @@ pub doors_are_out : (c : Config) (past : List Act) (s : ℕ) → list_any (gave_
 doors_are_out c past s = doors_gave_up c past (places c s)
 
 pub no_failures : (c : Config) (past : List Act) (p : Place) → failures past p ≡ [] → out_of_tries c past p ≡ false
-no_failures c past p e = rw e (some_left (options_of c p).retry (options_of c p).forever)
+no_failures c past p e = rw e (some_left (options_of c p).tries.retry (options_of c p).tries.forever)
 
 pub place_gave_up : (b : Bool) (c : Config) (past : List Act) (p : Place) → (b ≡ true → out_of_tries c past p ≡ false) → (same_bool b false && out_of_tries c past (tried_at b p)) ≡ out_of_tries c past p
 place_gave_up true c past p none = sym (none refl)
@@ -301,7 +301,7 @@ places_gave_up c past (p ∷ ps) (o ∷ os) each =
 pub places_are_out : (c : Config) (past : List Act) (s : ℕ) (os : List OpeningState) → AreOpenings c past s os → list_any (gave_up c past false) (places c s) ≡ opening_failed c past s
 places_are_out c past s os are = places_gave_up c past (places c s) os are.each
 
-pub out_by : (b : Bool) (c : Config) (past : List Act) (p : Place) → is_out_of_tries (options_of c p).retry (options_of c p).forever (failures past (tried_at b p)) ≡ out_of_tries c past (tried_at b p)
+pub out_by : (b : Bool) (c : Config) (past : List Act) (p : Place) → is_out_of_tries (options_of c p).tries.retry (options_of c p).tries.forever (failures past (tried_at b p)) ≡ out_of_tries c past (tried_at b p)
 out_by true c past p = refl
 out_by false c past p = refl
 

@@ -67,7 +67,7 @@ due_means P interval at (f ∷ fs) tried wanted n t last w = some_moment (nat_lt
 
 again_means : (P : Call → Type 0) (c : Config) (past : List Act) (q : Place) (tried : Bool) (wanted : Call) → P Nothing → ((m : ℕ) → P (TryAt m)) → (tried ≡ true → last_of (failures past q) ≡ Some (now past)) → (tried ≡ false → P wanted) → P (try_again c past q wanted)
 again_means P c past q tried wanted n t last w =
-    either_way P (out_of_tries c past q) Nothing (when_due (now past) (next_due (options_of c q).interval (failures past q)) wanted) (λ _. n) (λ _. due_means P (options_of c q).interval (now past) (failures past q) tried wanted n t last w)
+    either_way P (out_of_tries c past q) Nothing (when_due (now past) (next_due (options_of c q).tries.interval (failures past q)) wanted) (λ _. n) (λ _. due_means P (options_of c q).tries.interval (now past) (failures past q) tried wanted n t last w)
 
 tried_place : (c : Config) (past : List Act) (p : Place) (o : OpeningState) (b : Bool) → IsOpening c past p o → o.has_door ≡ b → o.tried ≡ true → last_of (failures past (tried_at b p)) ≡ Some (now past)
 tried_place c past p o b i e t = subst (λ x. last_of (failures past (tried_at x p)) ≡ Some (now past)) e (i.tried_is t)

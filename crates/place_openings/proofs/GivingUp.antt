@@ -104,7 +104,7 @@ and_false_first : (a x : Bool) → a ≡ false → (a && x) ≡ false
 and_false_first true x e = absurd (false≢true (sym e))
 and_false_first false x e = refl
 
-gives_by : (c : Config) (past : List Act) (p : Place) (d has_door : Bool) (side : Side) (attempts : Option ℕ) → d ≡ has_own_door c p → side ≡ p.side → Spends (options_of c p).retry (options_of c p).forever (failures past (tried_at d p)) attempts → GivesUp c past has_door p (given_up_by side (same_bool d has_door) attempts)
+gives_by : (c : Config) (past : List Act) (p : Place) (d has_door : Bool) (side : Side) (attempts : Option ℕ) → d ≡ has_own_door c p → side ≡ p.side → Spends (options_of c p).tries.retry (options_of c p).tries.forever (failures past (tried_at d p)) attempts → GivesUp c past has_door p (given_up_by side (same_bool d has_door) attempts)
 gives_by c past p d has_door side None own here spent =
     and_of_false (same_bool (has_own_door c p) has_door) (out_of_tries c past (tried_at (has_own_door c p) p)) (subst (λ b. out_of_tries c past (tried_at b p) ≡ false) own (sym (out_by d c past p) ∙ spent))
 gives_by c past p d has_door side (Some a) own here spent = go (same_bool d has_door) refl
@@ -120,7 +120,7 @@ gives_by c past p d has_door side (Some a) own here spent = go (same_bool d has_
     go false e =
         and_false_first (same_bool (has_own_door c p) has_door) (out_of_tries c past (tried_at (has_own_door c p) p)) (ap (λ b. same_bool b has_door) (sym own) ∙ e)
 
-pub gives : (c : Config) (past : List Act) (p : Place) (o : OpeningState) (has_door : Bool) (attempts : Option ℕ) → IsOpening c past p o → Spends (options_of c p).retry (options_of c p).forever (failures past (tried_at o.has_door p)) attempts → GivesUp c past has_door p (given_up_by o.place.side (same_bool o.has_door has_door) attempts)
+pub gives : (c : Config) (past : List Act) (p : Place) (o : OpeningState) (has_door : Bool) (attempts : Option ℕ) → IsOpening c past p o → Spends (options_of c p).tries.retry (options_of c p).tries.forever (failures past (tried_at o.has_door p)) attempts → GivesUp c past has_door p (given_up_by o.place.side (same_bool o.has_door has_door) attempts)
 gives c past p o has_door attempts i spent =
     gives_by c past p o.has_door has_door o.place.side attempts i.has_door_is (ap (λ (x : Place). x.side) i.place_is) spent
 

@@ -30,7 +30,7 @@ first_unlistened c past (d ∷ ds) = or_else (only_if (out_of_tries c past d) (a
 
 -- the failures that may be followed by a try, and one more, can be counted
 abbrev pub CanCount : Config → Place → Type 0
-CanCount c p = (options_of c p).retry < 2 ^ 64 - 1
+CanCount c p = (options_of c p).tries.retry < 2 ^ 64 - 1
 
 -- that holds at the first of these places or doors at which no try is left
 abbrev pub FirstCanCount : Config → List Act → List Place → Type 0

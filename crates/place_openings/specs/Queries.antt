@@ -8,7 +8,8 @@ use Rattle.relay_model.specs.declared.acts.Act.{Act}
 use Rattle.relay_model.specs.Places.{same_bool, door_of}
 use Rattle.relay_model.specs.Configs.{options_of, has_own_door}
 use Rattle.relay_model.specs.History.{Stage, Usable, Met, holds_at, is_gone_with, stage, held}
-use Rattle.relay_model.specs.Permits.{Admission, admission_of, is_permitted}
+use Rattle.relay_model.specs.declared.commands.Admission.{Admission}
+use Rattle.relay_model.specs.Permits.{is_permitted}
 use Rattle.relay_model.specs.Choices.{only_if, or_else}
 use Rattle.relay_model.specs.Openings.{out_of_tries}
 use Rattle.place_openings.specs.OpeningState.{OpeningState}
@@ -57,7 +58,7 @@ peer_by admission other = None
 
 -- the permitted peer by which a place is held
 abbrev pub peer_at : Config → List Act → Place → Option Peer
-peer_at c past p = peer_by (admission_of (options_of c p)) (stage past p)
+peer_at c past p = peer_by (options_of c p).admission (stage past p)
 
 -- that of the first of these places
 abbrev pub peer_of_first : Config → List Act → List Place → Option Peer

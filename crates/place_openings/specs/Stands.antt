@@ -7,7 +7,6 @@ use Rattle.relay_model.specs.declared.acts.Act.{Act}
 use Rattle.relay_model.specs.Readiness.{Listed}
 use Rattle.relay_model.specs.Places.{door_of}
 use Rattle.relay_model.specs.Configs.{places, options_of, medium_of, is_program, listens_at, has_own_door}
-use Rattle.relay_model.specs.Permits.{admission_of}
 use Rattle.relay_model.specs.History.{now, stage, woken, failures, was_closed, was_reaped}
 use Rattle.relay_model.specs.Arming.{armed_to_accept, asked_to_accept}
 use Rattle.retry_plan.specs.Plans.{PlanIs, last_of}
@@ -19,20 +18,25 @@ tried_at has_door p = if has_door then door_of p else p
 
 -- an opening says of its place what the acts say
 pub record IsOpening (c : Config) (past : List Act) (p : Place) (o : OpeningState) : Type 0 where
+  -- what the command says of the place
   pub no_door : p.door ≡ false
   pub place_is : o.place ≡ p
   pub listens_is : o.listens ≡ listens_at c p
   pub has_door_is : o.has_door ≡ has_own_door c p
   pub is_child_is : o.is_child ≡ is_program (medium_of c p)
-  pub filter_is : o.filter ≡ admission_of (options_of c p)
+  pub filter_is : o.filter ≡ (options_of c p).admission
+  -- how far the place has come
   pub stage_is : o.stage ≡ stage past p
   pub woken_is : o.woken ≡ woken past p
+  -- how far its own door has come, and what was asked there
   pub door_is : o.has_door ≡ true → o.door ≡ stage past (door_of p)
   pub armed_is : o.has_door ≡ true → o.armed ≡ armed_to_accept past (door_of p)
   pub asked_is : o.has_door ≡ true → o.asked ≡ asked_to_accept c past (door_of p)
-  pub tries_are : PlanIs (options_of c p).retry (options_of c p).forever (options_of c p).interval (failures past (tried_at o.has_door p)) o.plan
+  -- the tries
+  pub tries_are : PlanIs (options_of c p).tries.retry (options_of c p).tries.forever (options_of c p).tries.interval (failures past (tried_at o.has_door p)) o.plan
   pub tried_is : o.tried ≡ true → last_of (failures past (tried_at o.has_door p)) ≡ Some (now past)
   pub untried : o.listens ≡ true → failures past p ≡ []
+  -- the child
   pub closed_is : o.is_child ≡ true → o.closed ≡ was_closed past p
   pub asked_child_is : was_reaped past p ≡ true → o.asked_child ≡ true
 

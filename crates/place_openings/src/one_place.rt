@@ -54,6 +54,7 @@ impl Opening {
         ensures unasked { result.asked_child ≡ false }
     {
         let options = options_of(config, place);
+        let tries = options.tries;
         Opening {
             place,
             listens: listens_at(config, place),
@@ -67,7 +68,7 @@ impl Opening {
             tried: false,
             closed: false,
             asked_child: false,
-            plan: Plan::new(options.retry, options.forever, options.interval),
+            plan: Plan::new(tries.retry, tries.forever, tries.interval),
             filter: Filter::new(options),
         }
     }

@@ -1,11 +1,12 @@
 // Packets of one socket by their senders, and a socket in memory with its rows.
 ghost use Rattle.std.specs.Prelude.{◌≤◌, IfOk, length};
+ghost use Rattle.relay_model.specs.Conversions.{longest_packet};
 ghost use Rattle.peer_demux.specs.Links.{IsFit};
 
 use case_rows::{Answered, Answers, Inputs, RowFault, bytes_of, step_parts};
 use peer_demux::{Demux, Hub, LinkItem, Lost, MemLink, Mode, Put, RowPeer, Taken};
 use port_trait::{Got, Took};
-use relay_model::{Bytes, Peer};
+use relay_model::{Bytes, LONGEST_PACKET, Peer};
 use std::alloc::Global;
 
 /// The most bytes that a row takes at once.
@@ -73,12 +74,12 @@ fn item_of(alloc: Global, word: &str) -> Result<LinkItem, RowFault>
 
 /// A peer and the bytes of a packet: PEER:BYTES.
 fn packet_of(alloc: Global, value: &str) -> Result<(Peer, Vec<u8>), RowFault>
-    ensures { IfOk result (λ packet. length packet.1.items ≤ 65507) }
+    ensures { IfOk result (λ packet. length packet.1.items ≤ longest_packet) }
 {
     let (peer, bytes) = step_parts(value);
     let peer = peer_of(peer)?;
     let bytes = bytes_of(alloc, bytes)?;
-    if bytes.len() > 65_507 {
+    if bytes.len() > usize::from(LONGEST_PACKET) {
         return Err(RowFault::NoRow);
     }
     Ok((peer, bytes))
@@ -127,7 +128,7 @@ fn call_table(alloc: Global, table: &mut Demux, step: &str, answers: &mut Answer
 
 /// Puts the packet so often, and answers how often it was queued.
 fn queue_all(table: &mut Demux, peer: Peer, bytes: &[u8], count: u64) -> Result<u64, RowFault>
-    requires { length bytes.now ≤ 65507 }
+    requires { length bytes.now ≤ longest_packet }
 {
     let mut queued: u64 = 0;
     for _ in 0..count {
@@ -174,7 +175,7 @@ fn call_hub(alloc: Global, hub: &mut Hub<MemLink>, step: &str, answers: &mut Ans
             let (row, bytes) = step_parts(value);
             let row = row.parse::<u32>()?;
             let bytes = bytes_of(alloc, bytes)?;
-            if bytes.len() > 65_507 || !hub.is_live(row) {
+            if bytes.len() > usize::from(LONGEST_PACKET) || !hub.is_live(row) {
                 return answers.word("gone");
             }
             say_took(hub.send_row(row, bytes.as_slice()), answers)

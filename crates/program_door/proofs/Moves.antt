@@ -13,7 +13,7 @@ use Rattle.relay_model.specs.declared.acts.Act.TheVariants.{Turn, Accepted, Acce
 use Rattle.relay_model.specs.Places.{same_place}
 use Rattle.relay_model.specs.Choices.{only_if, first_some, one_more}
 use Rattle.relay_model.specs.Configs.{has_fork, program_door, place_at, things, is_of, parts, options_of}
-use Rattle.relay_model.specs.Permits.{is_permitted, admission_of}
+use Rattle.relay_model.specs.Permits.{is_permitted}
 use Rattle.relay_model.specs.History.{now, failures, Stage, stage, Waiting, Met, holds_at, held, memory_said, stop_said, accept_failed}
 use Rattle.relay_model.specs.History as stages
 use Rattle.relay_model.specs.Arming.{armed_to_accept, asked_to_accept}
@@ -75,8 +75,8 @@ held_of_refusal c past p e = subst (Tells past) e (door_tells c past)
 pub held_of_service : (c : Config) (past : List Act) (d : Place) → door_call c past ≡ Serve d → held past d ≡ true
 held_of_service c past d e = subst (Tells past) e (door_tells c past)
 
-pub more_wanted : (c : Config) (past : List Act) (d p : Place) → door_call c past ≡ Accept d p → admitted c past < (door_options c).stop_after
-more_wanted c past d p e = let t = subst (DoorTells c past) e (door_says c past) in leb-false (door_options c).stop_after (admitted c past) t.2
+pub more_wanted : (c : Config) (past : List Act) (d p : Place) → door_call c past ≡ Accept d p → admitted c past < (door_options c).sessions.stop_after
+more_wanted c past d p e = let t = subst (DoorTells c past) e (door_says c past) in leb-false (door_options c).sessions.stop_after (admitted c past) t.2
 
 -- ---- cuts
 
@@ -169,7 +169,7 @@ admits true b e = refl
 admits false b e = cc
 
 -- a peer of the next place is admitted where the filter permits it
-pub admission_is : (c : Config) (past : List Act) (peer : Peer) → has_fork c ≡ true → is_admission c (next_place c past) peer ≡ is_permitted (admission_of (options_of c (next_place c past))) peer
+pub admission_is : (c : Config) (past : List Act) (peer : Peer) → has_fork c ≡ true → is_admission c (next_place c past) peer ≡ is_permitted (options_of c (next_place c past)).admission peer
 admission_is c past peer fork = admits (has_fork c) (permits c (next_place c past) peer) fork
 
 pub admitted_more : (c : Config) (past : List Act) (peer : Peer) → is_admission c (next_place c past) peer ≡ true → admitted c (Accepted (next_place c past) peer ∷ past) ≡ suc (admitted c past)

@@ -200,8 +200,8 @@ where
         ensures same { self.new ≡ self.old }
     {
         match &single.target {
-            Target::UdpListen { family, port } if single.options.fork => {
-                self.gather(door_address(single.options.bind, *family, *port))
+            Target::UdpListen { family, port } if single.options.sessions.fork => {
+                self.gather(door_address(single.options.socket.bind, *family, *port))
             }
             _ => of_socket(self.sockets.listen(key, single)),
         }

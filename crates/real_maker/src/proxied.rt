@@ -22,7 +22,7 @@ pub(crate) fn through_socks<R: Net>(
     (server, host, port): (&Text, &Text, u16),
     options: &Options,
 ) -> Making<RealPort> {
-    let Some(request) = request_of(rt, named, host, port, options.socksuser.as_slice()) else {
+    let Some(request) = request_of(rt, named, host, port, options.proxy.socksuser.as_slice()) else {
         return Making::Failed;
     };
     match connect_host(
@@ -30,8 +30,8 @@ pub(crate) fn through_socks<R: Net>(
         registry,
         key,
         server,
-        options.socksport,
-        options.nodelay,
+        options.proxy.socksport,
+        options.socket.nodelay,
     ) {
         Making::Made(port) => Making::Later(RealPort::Socks(SocksPort::new(port, request))),
         Making::Later(port) => Making::Later(RealPort::Socks(SocksPort::new(port, request))),
@@ -69,8 +69,8 @@ pub(crate) fn through_proxy<R: Net>(
         registry,
         key,
         server,
-        options.proxyport,
-        options.nodelay,
+        options.proxy.proxyport,
+        options.socket.nodelay,
     ) {
         Making::Made(socket) => socket,
         Making::Later(socket) => socket,

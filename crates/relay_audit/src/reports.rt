@@ -1,13 +1,13 @@
 // The program's work: what a source gives is audited, and one line says what was found.
-ghost use Rattle.std.specs.Prelude.{◌≡◌, ◌<◌, ◌++◌, ◌⊎◌, true, option_map, IfOk, IfErr, string_bytes};
-ghost use Rattle.std.specs.Bool.{OnTrue, OnFalse};
+ghost use Rattle.std.specs.Prelude.{◌≡◌, ◌<◌, ◌⊎◌, true, IfOk, IfErr, string_bytes};
 ghost use Rattle.port_trait.specs.Counting.{Rose};
 ghost use Rattle.relay_audit.specs.declared.reports.Unread.TheVariants as unread;
 ghost use Rattle.relay_audit.specs.Reports.{IsReportOf, yes_line, line_of_verdict, line_of, status_of_verdict, status_of, Reported, HasRead, WhyUnread};
 
 use crate::verdicts::{Verdict, audit};
-use port_trait::{Sink, SinkTook, Source, SourceGot};
+use port_trait::{Sink, Source, SourceGot};
 use relay_model::{NoMemory, Text};
+use sink_texts::write_whole;
 use std::alloc::{AllocError, Global};
 
 /// What the auditor reports of what a source gives.
@@ -113,22 +113,6 @@ fn status_of(report: Report) -> u8
     }
 }
 
-/// Writes all bytes, and says so where the sink took each and was finished.
-fn put_line<K: Sink>(sink: &mut K, line: &[u8]) -> bool
-    ensures took { OnTrue result (K.took sink.new ≡ option_map (λ all. all ++ line.now) (K.took sink.old)) }
-    ensures finished { OnTrue result (K.finished sink.new ≡ true) }
-    ensures failed { OnFalse result (Rose (K.faults sink.old) (K.faults sink.new)) }
-{
-    let mut rest = line;
-    while rest.len() > 0 {
-        match sink.write(rest) {
-            SinkTook::Took(count) => rest = &rest[count..],
-            SinkTook::Failed => return false,
-        }
-    }
-    sink.finish()
-}
-
 /// Audits what the source gives until its end, and writes one line of what was found. The status is 0 where the text
 /// is the journal of a legal run, 1 where it isn't or is too long, 2 where memory is wanting, and 3 where the source
 /// or the sink fails.
@@ -155,7 +139,7 @@ pub fn audit_run<S: Source, K: Sink>(
     let Ok(line) = line_of(alloc, report) else {
         return NO_MEMORY;
     };
-    if put_line(sink, line.as_bytes()) {
+    if write_whole(sink, line.as_bytes()) {
         status_of(report)
     } else {
         FAILED

@@ -53,9 +53,9 @@ due_has c past (Some m) wanted t = choice c past (nat_le m (now past)) wanted (T
 
 again_has : (c : Config) (past : List Act) (p : Place) (wanted : Call) → (out_of_tries c past p ≡ false → HasTries c past wanted) → HasTries c past (try_again c past p wanted)
 again_has c past p wanted t =
-    choice c past (out_of_tries c past p) Nothing (when_due (now past) (next_due (options_of c p).interval (failures past p)) wanted)
+    choice c past (out_of_tries c past p) Nothing (when_due (now past) (next_due (options_of c p).tries.interval (failures past p)) wanted)
     (λ _. tt)
-    (λ e. due_has c past (next_due (options_of c p).interval (failures past p)) wanted (t e))
+    (λ e. due_has c past (next_due (options_of c p).tries.interval (failures past p)) wanted (t e))
 
 opening_has : (c : Config) (past : List Act) → TriesAreLeft c past → (p : Place) (st : Stage) → stage past p ≡ st → HasTries c past (opening_call c past p st)
 opening_has c past l p Untried e = l.left p (ap awaits e)
@@ -120,7 +120,7 @@ record AreCounted (retry : ℕ) (forever : Bool) (st : Stage) (moments : List �
   counted : is_out_of_tries retry forever moments ≡ true → length moments ≡ suc retry
 
 abbrev Counted : Config → List Act → Place → Type 0
-Counted c past p = AreCounted (options_of c p).retry (options_of c p).forever (stage past p) (failures past p)
+Counted c past p = AreCounted (options_of c p).tries.retry (options_of c p).tries.forever (stage past p) (failures past p)
 
 one_more : (ends : Bool) (retry k : ℕ) → (ends && nat_lt retry k) ≡ false → (ends && nat_lt retry (suc k)) ≡ true → suc k ≡ suc retry
 one_more false retry k e f = absurd (false≢true f)
@@ -147,29 +147,29 @@ all_left c past k = record { left = λ p. (k p).left }
 
 counted_at : (c : Config) (n : ℕ) (past : List Act) → Legal c n past → (p : Place) → Counted c past p
 counted_at c n [] legal p =
-    let none = some_left (options_of c p).retry (options_of c p).forever in
+    let none = some_left (options_of c p).tries.retry (options_of c p).tries.forever in
     record { left = λ _. none; counted = λ h. absurd (false≢true (sym none ∙ h)) }
 counted_at c n (Opened q ∷ past) legal p =
-    moved_on (options_of c p).retry (options_of c p).forever (same_place q p) Usable (stage past p) (failures past p) refl (counted_at c n past legal.1 p)
+    moved_on (options_of c p).tries.retry (options_of c p).tries.forever (same_place q p) Usable (stage past p) (failures past p) refl (counted_at c n past legal.1 p)
 counted_at c n (Listening q ∷ past) legal p =
-    moved_on (options_of c p).retry (options_of c p).forever (same_place q p) Waiting (stage past p) (failures past p) refl (counted_at c n past legal.1 p)
+    moved_on (options_of c p).tries.retry (options_of c p).tries.forever (same_place q p) Waiting (stage past p) (failures past p) refl (counted_at c n past legal.1 p)
 counted_at c n (Accepted q peer ∷ past) legal p =
-    moved_on (options_of c p).retry (options_of c p).forever (same_place q p) (Met peer) (stage past p) (failures past p) refl (counted_at c n past legal.1 p)
+    moved_on (options_of c p).tries.retry (options_of c p).tries.forever (same_place q p) (Met peer) (stage past p) (failures past p) refl (counted_at c n past legal.1 p)
 counted_at c n (Closed q why ∷ past) legal p =
-    moved_on (options_of c p).retry (options_of c p).forever (same_place q p) (Gone why) (stage past p) (failures past p) refl (counted_at c n past legal.1 p)
+    moved_on (options_of c p).tries.retry (options_of c p).tries.forever (same_place q p) (Gone why) (stage past p) (failures past p) refl (counted_at c n past legal.1 p)
 counted_at c n (OpenLater q ∷ past) legal p =
     let k = counted_at c n past legal.1 in
-    later_on (options_of c p).retry (options_of c p).forever (same_place q p) (stage past p) (failures past p) (here c past q p (open_has c past (all_left c past k) q legal.0.1)) (k p)
+    later_on (options_of c p).tries.retry (options_of c p).tries.forever (same_place q p) (stage past p) (failures past p) (here c past q p (open_has c past (all_left c past k) q legal.0.1)) (k p)
 counted_at c n (OpenFailed q ∷ past) legal p =
     let k = counted_at c n past legal.1 in
-    failed_on (options_of c p).retry (options_of c p).forever (same_place q p) (stage past p) (now past) (failures past p) (here c past q p (open_has c past (all_left c past k) q legal.0.1)) (k p)
+    failed_on (options_of c p).tries.retry (options_of c p).tries.forever (same_place q p) (stage past p) (now past) (failures past p) (here c past q p (open_has c past (all_left c past k) q legal.0.1)) (k p)
 counted_at c n (ListenFailed q ∷ past) legal p =
     let k = counted_at c n past legal.1 in
-    failed_on (options_of c p).retry (options_of c p).forever (same_place q p) (stage past p) (now past) (failures past p) (here c past q p (listen_has c past (all_left c past k) q legal.0.1)) (k p)
+    failed_on (options_of c p).tries.retry (options_of c p).tries.forever (same_place q p) (stage past p) (now past) (failures past p) (here c past q p (listen_has c past (all_left c past k) q legal.0.1)) (k p)
 counted_at c n (act ∷ past) legal p = counted_at c n past legal.1 p
 
 -- where no try is left, one more failed than may be followed by a try
-pub counted : (c : Config) (n : ℕ) (past : List Act) (p : Place) → Legal c n past → out_of_tries c past p ≡ true → length (failures past p) ≡ suc (options_of c p).retry
+pub counted : (c : Config) (n : ℕ) (past : List Act) (p : Place) → Legal c n past → out_of_tries c past p ≡ true → length (failures past p) ≡ suc (options_of c p).tries.retry
 counted c n past p legal out = (counted_at c n past legal p).counted out
 
 -- ---- what is told
@@ -178,7 +178,7 @@ below : (top k retry : ℕ) → k ≡ suc retry → retry < top → min k top �
 below top k retry e lt = omega (arith, e, lt)
 
 exact : (c : Config) (n : ℕ) (past : List Act) (p : Place) → Legal c n past → CanCount c p → out_of_tries c past p ≡ true → attempts_of (failures past p) ≡ length (failures past p)
-exact c n past p legal can out = below (2 ^ 64 - 1) (length (failures past p)) (options_of c p).retry (counted c n past p legal out) can
+exact c n past p legal can out = below (2 ^ 64 - 1) (length (failures past p)) (options_of c p).tries.retry (counted c n past p legal out) can
 
 -- an opening that is given up is told of as the history says
 pub opening_exact : (c : Config) (n : ℕ) (past : List Act) (ps : List Place) → Legal c n past → FirstCanCount c past ps → told_opening (first_unopened c past ps) ≡ failed_opening c past ps

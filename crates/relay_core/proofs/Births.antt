@@ -49,7 +49,6 @@ use Rattle.session_direction.specs.States.{DirectionState}
 use Rattle.session_direction.specs.Directions.{IsDirection, terms_of, met_last, as_pieces}
 use Rattle.place_openings.specs.OpeningState.{OpeningState}
 use Rattle.place_openings.specs.Queries.{peer_by, peer_at, peer_of_first}
-use Rattle.relay_model.specs.Permits.{admission_of}
 use Rattle.place_openings.specs.Stands.{IsOpening, Each, AreOpenings, tried_at}
 use Rattle.relay_core.specs.declared.states.State.{State}
 use Rattle.relay_core.specs.declared.lanes.Lane.{Lane}
@@ -209,7 +208,7 @@ untired : (retry : ℕ) (forever : Bool) (xs : List ℕ) → xs ≡ [] → is_ou
 untired retry forever xs e = ap (is_out_of_tries retry forever) e ∙ rw (le-ltb retry 0 (omega arith), and_none) refl
 
 tries_left : (c : Config) (n : ℕ) (past : List Act) (s : ℕ) → Early c n past s → (p : Place) → is_of c s p ≡ true → out_of_tries c past p ≡ false
-tries_left c n past s h p o = untired (options_of c p).retry (options_of c p).forever (failures past p) (clean_there c n past s p h o).failures_is
+tries_left c n past s h p o = untired (options_of c p).tries.retry (options_of c p).tries.forever (failures past p) (clean_there c n past s p h o).failures_is
 
 faultless_at : (past : List Act) (p : Place) → Clean past p → fault_at past p ≡ false
 faultless_at past p k = let x = k.read_fault_at_is in let y = k.write_fault_at_is in λ i. is_some (x i) || is_some (y i)
@@ -422,7 +421,7 @@ opening_born c n past s peer p o h m g =
       door_is = λ b. g.door_is b ∙ sym (there b).stage_same;
       armed_is = λ b. g.armed_is b ∙ sym (there b).armed_to_accept_same;
       asked_is = λ b. g.asked_is b ∙ ap (λ x. same_place (accepting_door c (home c s)) (door_of p) || x) (sym (unasked_there c n past s p h m g.no_door (sym g.has_door_is ∙ b)));
-      tries_are = subst (λ (x : List ℕ). PlanIs (options_of c p).retry (options_of c p).forever (options_of c p).interval x o.plan) (sym f) g.tries_are;
+      tries_are = subst (λ (x : List ℕ). PlanIs (options_of c p).tries.retry (options_of c p).tries.forever (options_of c p).tries.interval x o.plan) (sym f) g.tries_are;
       tried_is = λ b. let x : None ≡ Some 0 = g.tried_is b in absurd cc;
       untried = λ b. a.failures_same ∙ g.untried b;
       closed_is = λ b. g.closed_is b ∙ sym (unclosed_child c n past s p h k (sym g.is_child_is ∙ b));
@@ -454,8 +453,8 @@ direction_born c n past s peer w x h g =
     let u = o.write_fault_at_same in
     let pieces : due_pieces c one s w ≡ due_pieces c other s w = unread c past s w (idle_there c n past s (input c s w) h from) in
     let written : asked_to_write one (input c s w) (output c s w) ≡ asked_to_write other (input c s w) (output c s w) = unwritten past (input c s w) (output c s w) (idle_there c n past s (output c s w) h to) in
-    let met : met_last c one s w ≡ met_last c other s w = λ j. y j && not (options_of c (input c s w)).ignoreeof || z j && (options_of c (input c s w)).null_eof in
-    let v : over c one (input c s w) ≡ over c other (input c s w) = λ j. y j && not (options_of c (input c s w)).ignoreeof || z j && (options_of c (input c s w)).null_eof || is_over (options_of c (input c s w)).readbytes (options_of c (input c s w)).escape (got_same j) in
+    let met : met_last c one s w ≡ met_last c other s w = λ j. y j && not (options_of c (input c s w)).input.ignoreeof || z j && (options_of c (input c s w)).input.null_eof in
+    let v : over c one (input c s w) ≡ over c other (input c s w) = λ j. y j && not (options_of c (input c s w)).input.ignoreeof || z j && (options_of c (input c s w)).input.null_eof || is_over (options_of c (input c s w)).input.readbytes (options_of c (input c s w)).input.escape (got_same j) in
     let broken : broken_at c one s w ≡ broken_at c other s w = λ j. cond c.sloppy (or_else (r j) (u j)) None in
     record {
       is_formed = g.is_formed;
@@ -552,7 +551,7 @@ begun_at c n past s p peer session e h = subst (λ (x : Place). Hears c n (Accep
 -- its peer is met there
 pub birth_meets : (c : Config) (n : ℕ) (past : List Act) (s : ℕ) (peer : Peer) → Begins c n past s peer → peer_at c (Accepted (home c s) peer ∷ past) (home c s) ≡ Some peer
 birth_meets c n past s peer b =
-    ap (λ x. peer_by (admission_of (options_of c (home c s))) (cond x (Met peer) (stage past (home c s)))) (same_place_self (home c s)) ∙ ap (λ x. only_if x peer) b.permitted
+    ap (λ x. peer_by (options_of c (home c s)).admission (cond x (Met peer) (stage past (home c s)))) (same_place_self (home c s)) ∙ ap (λ x. only_if x peer) b.permitted
 
 -- the first place of a session is its home
 first_home : (c : Config) (past : List Act) (s : ℕ) (w : Ways) (a : Address) (r : List Place) → peer_of_first c past (map (place_at s Left) (parts_of w a Left) ++ r) ≡ peer_at c past (place_at s Left (first_part (parts_of w a Left)))

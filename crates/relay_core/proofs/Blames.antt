@@ -90,7 +90,7 @@ failed_some retry forever [] e = let h = ltb-true retry 0 (and_parts (not foreve
 failed_some retry forever (m ∷ moments) e = refl
 
 tried : (c : Config) (past : List Act) (p : Place) → out_of_tries c past p ≡ true → is_some_moment (failures past p) ≡ true
-tried c past p e = failed_some (options_of c p).retry (options_of c p).forever (failures past p) e
+tried c past p e = failed_some (options_of c p).tries.retry (options_of c p).tries.forever (failures past p) e
 
 -- a failure of another thing
 elsewhere : (q p : Place) (b : Bool) (at : ℕ) (moments : List ℕ) → same_place q p ≡ b → (q.door ≡ p.door → ⊥) → is_some_moment (noted b at moments) ≡ true → is_some_moment moments ≡ true

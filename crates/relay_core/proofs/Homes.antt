@@ -86,7 +86,7 @@ due c at None wanted t = tt
 due c at (Some m) wanted t = choice c (nat_le m at) wanted (TryAt m) (λ _. t) (λ _. tt)
 
 again : (c : Config) (past : List Act) (p : Place) (wanted : Call) → Off c wanted → Off c (try_again c past p wanted)
-again c past p wanted t = choice c (out_of_tries c past p) Nothing (when_due (now past) (next_due (options_of c p).interval (failures past p)) wanted) (λ _. tt) (λ _. due c (now past) (next_due (options_of c p).interval (failures past p)) wanted t)
+again c past p wanted t = choice c (out_of_tries c past p) Nothing (when_due (now past) (next_due (options_of c p).tries.interval (failures past p)) wanted) (λ _. tt) (λ _. due c (now past) (next_due (options_of c p).tries.interval (failures past p)) wanted t)
 
 opening : (c : Config) (past : List Act) (p : Place) (st : Stage) → is_called_out c p ≡ false → Off c (opening_call c past p st)
 opening c past p Untried h = h
@@ -113,7 +113,7 @@ forked false l e g = absurd (false≢true g)
 
 -- `fork` stands on a left address that listens
 fork_listens : (left right : Address) (part : Part) → fork_is_placed left right ≡ true → forks left ≡ true → listens (single_for left part).target ≡ true
-fork_listens (addresses.One single) right part e f = forked single.options.fork (listens single.target) (and_parts (not single.options.fork || listens single.target) _ e).0 f
+fork_listens (addresses.One single) right part e f = forked single.options.sessions.fork (listens single.target) (and_parts (not single.options.sessions.fork || listens single.target) _ e).0 f
 fork_listens (addresses.Two reading writing) right part e f = absurd (false≢true f)
 
 pub left_listens : (c : Config) (side : Side) (part : Part) (s : ℕ) (d : Bool) → Fit c → same_side side Left ≡ true → has_fork c ≡ true → listens_at c (record { session = s; side = side; part = part; door = d }) ≡ true

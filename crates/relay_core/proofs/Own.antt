@@ -54,7 +54,7 @@ due c s at None wanted t = tt
 due c s at (Some m) wanted t = choice c s (nat_le m at) wanted (TryAt m) (λ _. t) (λ _. tt)
 
 again : (c : Config) (past : List Act) (s : ℕ) (p : Place) (wanted : Call) → NamesOwn c s wanted → NamesOwn c s (try_again c past p wanted)
-again c past s p wanted t = choice c s (out_of_tries c past p) Nothing (when_due (now past) (next_due (options_of c p).interval (failures past p)) wanted) (λ _. tt) (λ _. due c s (now past) (next_due (options_of c p).interval (failures past p)) wanted t)
+again c past s p wanted t = choice c s (out_of_tries c past p) Nothing (when_due (now past) (next_due (options_of c p).tries.interval (failures past p)) wanted) (λ _. tt) (λ _. due c s (now past) (next_due (options_of c p).tries.interval (failures past p)) wanted t)
 
 opening : (c : Config) (past : List Act) (s : ℕ) (p : Place) (st : Stage) → OwnPlace c s p × (listens_at c p ≡ false) → NamesOwn c s (opening_call c past p st)
 opening c past s p Untried h = h

@@ -112,11 +112,11 @@ backlog_fits c n (Read p bytes ∷ past) s w keeps legal = go (same_place p (inp
     go true e h =
         let m = subst (λ q. MayRead c past q (length bytes)) (same_place_equal p (input c s w) e) legal.0.1 in
         let cap = packet_cap (options_of c (output c 0 w)).conv in
-        let readbytes = (options_of c (input c 0 w)).readbytes in
+        let readbytes = (options_of c (input c 0 w)).input.readbytes in
         let count = length (got past (input c s w)) in
         let in_room = packet_room (keeps_borders c w) (length bytes) (packet_size c.block cap readbytes count (backlog c past s w)) (read_size c.block readbytes count (backlog c past s w)) keeps (reads_at c past s w (length bytes) m).in_room in
         let alone = read_alone c.block cap readbytes count (backlog c past s w) (length bytes) m.some_bytes in_room in
-        let g = due_fits (options_of c (input c 0 w)).conv (options_of c (output c 0 w)).conv readbytes (options_of c (input c 0 w)).escape (got past (input c s w)) bytes alone.1 in
+        let g = due_fits (options_of c (input c 0 w)).conv (options_of c (output c 0 w)).conv readbytes (options_of c (input c 0 w)).input.escape (got past (input c s w)) bytes alone.1 in
         fits_after (length (due c w (got past (input c s w)))) (length (put past (output c s w))) (length (due c w (got past (input c s w) ++ bytes))) (length g.more)
         (ap length g.is ∙ length-append (due c w (got past (input c s w))) g.more) g.few alone.0
     go false e h = h

@@ -132,8 +132,8 @@ due c past at (Some m) wanted t = choose c past (nat_le m at) wanted (TryAt m) (
 
 again : (c : Config) (past : List Act) (p : Place) (wanted : Call) → Peered c past wanted → Peered c past (try_again c past p wanted)
 again c past p wanted t =
-    choose c past (out_of_tries c past p) Nothing (when_due (now past) (next_due (options_of c p).interval (failures past p)) wanted) (λ _. tt)
-    (λ _. due c past (now past) (next_due (options_of c p).interval (failures past p)) wanted t)
+    choose c past (out_of_tries c past p) Nothing (when_due (now past) (next_due (options_of c p).tries.interval (failures past p)) wanted) (λ _. tt)
+    (λ _. due c past (now past) (next_due (options_of c p).tries.interval (failures past p)) wanted t)
 
 opening : (c : Config) (past : List Act) (p : Place) (st : Stage) → Peered c past (opening_call c past p st)
 opening c past p Untried = tt

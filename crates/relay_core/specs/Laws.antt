@@ -62,4 +62,4 @@ StopIsTold =
 abbrev pub TriesAreCounted : Type 0
 TriesAreCounted =
     (c : Config) (n : ℕ) (past : List Act) (p : Place) → Legal c n past → out_of_tries c past p ≡ true →
-    length (failures past p) ≡ suc (options_of c p).retry
+    length (failures past p) ≡ suc (options_of c p).tries.retry

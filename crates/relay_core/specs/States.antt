@@ -35,14 +35,18 @@ home c s = place_at s Left (first_part (parts c Left))
 
 -- all fields but `ending` are what the history says; what began a session is held while nothing of it was closed
 pub record Ground (c : Config) (past : List Act) (s : ℕ) (st : State) : Type 0 where
+  -- what the command and its beginning say
   pub fit : Fit c
   pub begun : s < numbers c past
   pub home_held : has_fork c ≡ true → closed_why c past s ≡ None → held past (home c s) ≡ true
+  -- its places and directions
   pub openings_are : AreOpenings c past s st.openings
   pub lanes_are : AreLanes c past s st.lanes
+  -- its clock, its last move and its first fault
   pub clock_is : st.clock ≡ now past
   pub moved_is : st.moved ≡ moved_at c past s
   pub faulted_is : st.faulted ≡ fault_stands c past s
+  -- what the command says of its times and faults
   pub closing_is : st.closing ≡ c.closing
   pub idle_is : st.idle ≡ c.idle
   pub sloppy_is : st.sloppy ≡ c.sloppy

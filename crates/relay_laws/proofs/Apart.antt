@@ -75,7 +75,7 @@ readiness_same : (c : Config) (s : ℕ) (a b : List Act) → Base c s a b → re
 readiness_same c s a b base = all_same c s (is_ready c a) (is_ready c b) (ready_same_at c s a b base) (places c s) (each_place c s)
 
 tries_same : (c : Config) (s : ℕ) (a b : List Act) → Base c s a b → (p : Place) → p.session ≡ s → is_program_door c p ≡ false → out_of_tries c a p ≡ out_of_tries c b p
-tries_same c s a b base p e d = ap (is_out_of_tries (options_of c p).retry (options_of c p).forever) (base.own p e d).failures_same
+tries_same c s a b base p e d = ap (is_out_of_tries (options_of c p).tries.retry (options_of c p).tries.forever) (base.own p e d).failures_same
 
 fault_same : (c : Config) (s : ℕ) (a b : List Act) → Base c s a b → (p : Place) → p.session ≡ s → is_program_door c p ≡ false → fault_at a p ≡ fault_at b p
 fault_same c s a b base p e d = let x = (base.own p e d).read_fault_at_same in let y = (base.own p e d).write_fault_at_same in λ i. is_some (x i) || is_some (y i)
@@ -165,7 +165,7 @@ again_same : (c : Config) (s : ℕ) (a b : List Act) → Base c s a b → (p : P
 again_same c s a b base p wanted e d =
     let f = (base.own p e d).failures_same in
     let at = base.now_same in
-    λ i. cond (is_out_of_tries (options_of c p).retry (options_of c p).forever (f i)) Nothing (when_due (at i) (next_due (options_of c p).interval (f i)) wanted)
+    λ i. cond (is_out_of_tries (options_of c p).tries.retry (options_of c p).tries.forever (f i)) Nothing (when_due (at i) (next_due (options_of c p).tries.interval (f i)) wanted)
 
 opening_same : (c : Config) (s : ℕ) (a b : List Act) → Base c s a b → (p : Place) → p.session ≡ s → is_program_door c p ≡ false → (st : Stage) → opening_call c a p st ≡ opening_call c b p st
 opening_same c s a b base p e d Unsettled = let w = (base.own p e d).woken_same in λ i. cond (w i) (Settle p) Nothing
@@ -206,7 +206,7 @@ over_same c s a b base p e d =
     let x = (base.own p e d).met_end_same in
     let y = (base.own p e d).met_empty_same in
     let g = (base.own p e d).got_same in
-    λ i. x i && not (options_of c p).ignoreeof || y i && (options_of c p).null_eof || is_over (options_of c p).readbytes (options_of c p).escape (g i)
+    λ i. x i && not (options_of c p).input.ignoreeof || y i && (options_of c p).input.null_eof || is_over (options_of c p).input.readbytes (options_of c p).input.escape (g i)
 
 pub backlog_same : (c : Config) (s : ℕ) (a b : List Act) → Base c s a b → (w : Way) → backlog c a s w ≡ backlog c b s w
 backlog_same c s a b base w =

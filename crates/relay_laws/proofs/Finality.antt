@@ -231,7 +231,7 @@ tries_left : (retry : ℕ) (forever : Bool) → is_out_of_tries retry forever []
 tries_left retry forever = and_right (not forever && not (retry == 2 ^ 64 - 1)) (nat_lt retry 0) (false_from_ne_true (nat_lt retry 0) (λ e. let l = ltb-true retry 0 e in omega (arith, l)))
 
 untried : (c : Config) (past : List Act) (s : ℕ) → Fresh c past s → (p : Place) → p.session ≡ s → is_program_door c p ≡ false → out_of_tries c past p ≡ false
-untried c past s f p e o = ap (is_out_of_tries (options_of c p).retry (options_of c p).forever) (f.opening p e o) ∙ tries_left (options_of c p).retry (options_of c p).forever
+untried c past s f p e o = ap (is_out_of_tries (options_of c p).tries.retry (options_of c p).tries.forever) (f.opening p e o) ∙ tries_left (options_of c p).tries.retry (options_of c p).tries.forever
 
 unready : (c : Config) (past : List Act) (p : Place) (st : Stage) → is_fit c p st ≡ false → stands_ready c past p st ≡ false
 unready c past p Usable e = absurd (true≢false e)
@@ -416,7 +416,7 @@ due_among ps at None wanted t = tt
 due_among ps at (Some m) wanted t = choice ps (nat_le m at) wanted (TryAt m) t tt
 
 again_among : (c : Config) (past : List Act) (p : Place) (ps : List Place) (wanted : Call) → Among ps wanted → Among ps (try_again c past p wanted)
-again_among c past p ps wanted t = choice ps (out_of_tries c past p) Nothing (when_due (now past) (next_due (options_of c p).interval (failures past p)) wanted) tt (due_among ps (now past) (next_due (options_of c p).interval (failures past p)) wanted t)
+again_among c past p ps wanted t = choice ps (out_of_tries c past p) Nothing (when_due (now past) (next_due (options_of c p).tries.interval (failures past p)) wanted) tt (due_among ps (now past) (next_due (options_of c p).tries.interval (failures past p)) wanted t)
 
 opening_among : (c : Config) (past : List Act) (ps : List Place) (p : Place) (st : Stage) → Among ps (opening_call c past p st)
 opening_among c past ps p Untried = tt

@@ -36,7 +36,7 @@ room_free true block cap o count b n keeps some in_room = go (b == 0) refl in_ro
     go false e h = omega (arith, h, some)
 
 reads_when_free : (c : Config) (past : List Act) (s : ℕ) (w : Way) (n : ℕ) → keeps_borders c w ≡ true → 1 ≤ n → n ≤ greatest_read c past s w → backlog c past s w ≡ 0
-reads_when_free c past s w n keeps some in_room = room_free (keeps_borders c w) c.block (packet_cap (options_of c (output c 0 w)).conv) (options_of c (input c 0 w)).readbytes (length (got past (input c s w))) (backlog c past s w) n keeps some in_room
+reads_when_free c past s w n keeps some in_room = room_free (keeps_borders c w) c.block (packet_cap (options_of c (output c 0 w)).conv) (options_of c (input c 0 w)).input.readbytes (length (got past (input c s w))) (backlog c past s w) n keeps some in_room
 
 -- where nothing waits, as many bytes were written as are due
 all_written : (written due : List ℕ) → BeginsWith written due → length due - length written ≡ 0 → length written ≡ length due

@@ -47,7 +47,7 @@ due_unserved past None wanted t = tt
 due_unserved past (Some m) wanted t = choice past (nat_le m (now past)) wanted (TryAt m) (λ _. t) (λ _. tt)
 
 again_unserved : (c : Config) (past : List Act) (p : Place) (wanted : Call) → Unserved past wanted → Unserved past (try_again c past p wanted)
-again_unserved c past p wanted t = choice past (out_of_tries c past p) Nothing (when_due (now past) (next_due (options_of c p).interval (failures past p)) wanted) (λ _. tt) (λ _. due_unserved past (next_due (options_of c p).interval (failures past p)) wanted t)
+again_unserved c past p wanted t = choice past (out_of_tries c past p) Nothing (when_due (now past) (next_due (options_of c p).tries.interval (failures past p)) wanted) (λ _. tt) (λ _. due_unserved past (next_due (options_of c p).tries.interval (failures past p)) wanted t)
 
 opening_unserved : (c : Config) (past : List Act) (p : Place) (st : Stage) → stage past p ≡ st → Unserved past (opening_call c past p st)
 opening_unserved c past p Untried e = ap is_gone e

@@ -192,8 +192,8 @@ room_same c s one other base w =
     let g = (base.own (input c s w) refl (input_own c s w)).got_same in
     let k = backlog_same c s one other base w in
     λ i. cond (keeps_borders c w)
-    (packet_size c.block (packet_cap (options_of c (output c 0 w)).conv) (options_of c (input c 0 w)).readbytes (length (g i)) (k i))
-    (read_size c.block (options_of c (input c 0 w)).readbytes (length (g i)) (k i))
+    (packet_size c.block (packet_cap (options_of c (output c 0 w)).conv) (options_of c (input c 0 w)).input.readbytes (length (g i)) (k i))
+    (read_size c.block (options_of c (input c 0 w)).input.readbytes (length (g i)) (k i))
 
 ask_after : (c : Config) (one other : List Act) (p : Place) → Here c p one other → MayAsk c one p → MayAsk c other p
 ask_after c one other p h m =

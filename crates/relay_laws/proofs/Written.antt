@@ -63,7 +63,7 @@ backlog_bound c n (Read p bytes ∷ past) s w legal = go (same_place p (input c 
         let g = due_grows c w (got past (input c s w)) bytes in
         backlog_grows (length (due c w (got past (input c s w)))) (length (put past (output c s w))) _ (length g.more) (length bytes) c.block
         (ap length g.is ∙ length-append (due c w (got past (input c s w))) g.more) g.few
-        (room_bound (keeps_borders c w) c.block (packet_cap (options_of c (output c 0 w)).conv) (options_of c (input c 0 w)).readbytes (length (got past (input c s w))) (backlog c past s w) (length bytes) h m.some_bytes (reads_in_room c past s w (length bytes) m))
+        (room_bound (keeps_borders c w) c.block (packet_cap (options_of c (output c 0 w)).conv) (options_of c (input c 0 w)).input.readbytes (length (got past (input c s w))) (backlog c past s w) (length bytes) h m.some_bytes (reads_in_room c past s w (length bytes) m))
     go false e h = h
 backlog_bound c n (Wrote p bytes ∷ past) s w legal = go (same_place p (output c s w)) (backlog_bound c n past s w legal.1)
   where

@@ -27,7 +27,7 @@ use Rattle.relay_model.specs.declared.commands.Target.TheVariants as targets
 use Rattle.relay_model.specs.declared.commands.Address.TheVariants as addresses
 use Rattle.relay_model.specs.declared.commands.Single.{Single}
 use Rattle.relay_model.specs.declared.commands.Options.{Options}
-use Rattle.relay_model.specs.declared.commands.FileFlags.{FileFlags}
+use Rattle.relay_model.specs.PlainRelay.{default_options as plain}
 use Rattle.relay_model.specs.Outcome.{outcome}
 use Rattle.relay_model.specs.Outcome as outcomes
 use Rattle.relay_model.specs.Rest.{until_of}
@@ -46,14 +46,6 @@ named p half = record { place = p; half = half }
 abbrev pub listed : List ReadyAt → Listed
 listed entries = record { entries = entries; room = 0 }
 
--- a file without an option
-abbrev pub no_flags : FileFlags
-no_flags = record { creat = false; excl = false; append = false; trunc = false; rdonly = false; wronly = false }
-
--- every option at its default
-abbrev pub plain : Options
-plain = record { conv = convs.Plain; ignoreeof = false; readbytes = None; escape = None; null_eof = false; shut = None; retry = 0; forever = false; interval = 1000; fork = false; max_children = 4294967295; stop_after = 4294967295; range = None; sourceport = None; lowport = false; unlink_early = false; unlink_close = false; nodelay = false; bind = None; file = no_flags; socksport = 1080; socksuser = []; proxyport = 8080 }
-
 -- a single address
 abbrev pub one : Target → Options → Single
 one target options = record { target = target; options = options }
@@ -62,7 +54,7 @@ one target options = record { target = target; options = options }
 
 -- -u STDIN STDOUT
 abbrev pub plain_run_command : Config
-plain_run_command = record { block = 8192; closing = 500; idle = 0; ways = ways.OnlyRight; dump = dumps.Off; sloppy = false; left = addresses.One (one targets.Stdin (plain)); right = addresses.One (one targets.Stdout (plain)) }
+plain_run_command = record { block = 8192; closing = 500; idle = 0; ways = ways.OnlyRight; dump = dumps.Off; sloppy = false; left = addresses.One (one targets.Stdin plain); right = addresses.One (one targets.Stdout plain) }
 
 -- three bytes and an end
 abbrev pub plain_run : List Act
@@ -94,7 +86,7 @@ plain_run_wrong =
 
 -- -u TCP-LISTEN:9000,range=10.0.0.0/8 STDOUT
 abbrev pub refusal_command : Config
-refusal_command = record { block = 8192; closing = 500; idle = 0; ways = ways.OnlyRight; dump = dumps.Off; sloppy = false; left = addresses.One (one (targets.TcpListen families.Any 9000) (record plain { range = Some (ranges.V4 (10 ∷ 0 ∷ 0 ∷ 0 ∷ []) (255 ∷ 0 ∷ 0 ∷ 0 ∷ [])) })); right = addresses.One (one targets.Stdout (plain)) }
+refusal_command = record { block = 8192; closing = 500; idle = 0; ways = ways.OnlyRight; dump = dumps.Off; sloppy = false; left = addresses.One (one (targets.TcpListen families.Any 9000) (record plain { admission = record plain.admission { range = Some (ranges.V4 (10 ∷ 0 ∷ 0 ∷ 0 ∷ []) (255 ∷ 0 ∷ 0 ∷ 0 ∷ [])) } })); right = addresses.One (one targets.Stdout plain) }
 
 -- a peer that is refused, and one that is served
 abbrev pub refusal : List Act
@@ -139,7 +131,7 @@ refusal_wrong =
 
 -- -g -b3 -t0.500 -T0.030 -u -s UDP-LISTEN:9,ignoreeof,fork,lowport,escape=13,retry=3,interval=0.007,max-children=2,stop-after=1 UDP-RECVFROM:9,crnl,ignoreeof,retry=1,interval=0.001
 abbrev pub forked_command : Config
-forked_command = record { block = 3; closing = 500; idle = 30; ways = ways.OnlyRight; dump = dumps.Off; sloppy = true; left = addresses.One (one (targets.UdpListen families.Any 9) (record plain { ignoreeof = true; fork = true; lowport = true; escape = Some 13; retry = 3; interval = 7; max_children = 2; stop_after = 1 })); right = addresses.One (one (targets.UdpRecvfrom families.Any 9) (record plain { conv = convs.Crnl; ignoreeof = true; retry = 1; interval = 1 })) }
+forked_command = record { block = 3; closing = 500; idle = 30; ways = ways.OnlyRight; dump = dumps.Off; sloppy = true; left = addresses.One (one (targets.UdpListen families.Any 9) (record plain { input = record plain.input { ignoreeof = true; escape = Some 13 }; sessions = record plain.sessions { fork = true; max_children = 2; stop_after = 1 }; admission = record plain.admission { lowport = true }; tries = record plain.tries { retry = 3; interval = 7 } })); right = addresses.One (one (targets.UdpRecvfrom families.Any 9) (record plain { conv = convs.Crnl; input = record plain.input { ignoreeof = true }; tries = record plain.tries { retry = 1; interval = 1 } })) }
 
 -- a session of `fork` and its end
 abbrev pub forked : List Act
@@ -180,7 +172,7 @@ forked_wrong =
 
 -- -g -b2 -t0.001 -T0.000 SOCKS4A:s:h:80,escape=10,retry=2 TCP-LISTEN:80,shut-none,interval=0.002,range=10.0.0.0/8!!CREATE:f,cr,ignoreeof,null-eof,escape=13,shut-none
 abbrev pub closing_command : Config
-closing_command = record { block = 2; closing = 1; idle = 0; ways = ways.Two; dump = dumps.Off; sloppy = false; left = addresses.One (one (targets.Socks true [] [] 80) (record plain { escape = Some 10; retry = 2 })); right = addresses.Two (one (targets.TcpListen families.Any 80) (record plain { shut = Some shuts.Nothing; interval = 2; range = Some (ranges.V4 (10 ∷ 0 ∷ 0 ∷ 0 ∷ []) (255 ∷ 0 ∷ 0 ∷ 0 ∷ [])) })) (one (targets.Create []) (record plain { conv = convs.Cr; ignoreeof = true; null_eof = true; escape = Some 13; shut = Some shuts.Nothing })) }
+closing_command = record { block = 2; closing = 1; idle = 0; ways = ways.Two; dump = dumps.Off; sloppy = false; left = addresses.One (one (targets.Socks true [] [] 80) (record plain { input = record plain.input { escape = Some 10 }; tries = record plain.tries { retry = 2 } })); right = addresses.Two (one (targets.TcpListen families.Any 80) (record plain { shut = Some shuts.Nothing; tries = record plain.tries { interval = 2 }; admission = record plain.admission { range = Some (ranges.V4 (10 ∷ 0 ∷ 0 ∷ 0 ∷ []) (255 ∷ 0 ∷ 0 ∷ 0 ∷ [])) } })) (one (targets.Create []) (record plain { conv = convs.Cr; input = record plain.input { ignoreeof = true; null_eof = true; escape = Some 13 }; shut = Some shuts.Nothing })) }
 
 -- a cut by the closing time
 abbrev pub closing : List Act
@@ -229,7 +221,7 @@ closing_wrong =
 
 -- -g -b8192 -t0.000 -T0.003 -u OPEN:f,retry=1,interval=0.007 TCP-LISTEN:80,ignoreeof,retry=1,interval=0.002
 abbrev pub idle_command : Config
-idle_command = record { block = 8192; closing = 0; idle = 3; ways = ways.OnlyRight; dump = dumps.Off; sloppy = false; left = addresses.One (one (targets.FileAt []) (record plain { retry = 1; interval = 7 })); right = addresses.One (one (targets.TcpListen families.Any 80) (record plain { ignoreeof = true; retry = 1; interval = 2 })) }
+idle_command = record { block = 8192; closing = 0; idle = 3; ways = ways.OnlyRight; dump = dumps.Off; sloppy = false; left = addresses.One (one (targets.FileAt []) (record plain { tries = record plain.tries { retry = 1; interval = 7 } })); right = addresses.One (one (targets.TcpListen families.Any 80) (record plain { input = record plain.input { ignoreeof = true }; tries = record plain.tries { retry = 1; interval = 2 } })) }
 
 -- a cut for inactivity
 abbrev pub idle : List Act
@@ -261,7 +253,7 @@ idle_wrong =
 
 -- -g -b1 -t0.500 -T0.000 -s UDP-LISTEN:9,cr,interval=0.007,range=10.0.0.0/8 UDP:127.0.0.1:9,crnl,escape=10,shut-down,retry=3,interval=0.000
 abbrev pub broken_command : Config
-broken_command = record { block = 1; closing = 500; idle = 0; ways = ways.Two; dump = dumps.Off; sloppy = true; left = addresses.One (one (targets.UdpListen families.Any 9) (record plain { conv = convs.Cr; interval = 7; range = Some (ranges.V4 (10 ∷ 0 ∷ 0 ∷ 0 ∷ []) (255 ∷ 0 ∷ 0 ∷ 0 ∷ [])) })); right = addresses.One (one (targets.Udp families.Any [] 9) (record plain { conv = convs.Crnl; escape = Some 10; shut = Some shuts.Down; retry = 3; interval = 0 })) }
+broken_command = record { block = 1; closing = 500; idle = 0; ways = ways.Two; dump = dumps.Off; sloppy = true; left = addresses.One (one (targets.UdpListen families.Any 9) (record plain { conv = convs.Cr; tries = record plain.tries { interval = 7 }; admission = record plain.admission { range = Some (ranges.V4 (10 ∷ 0 ∷ 0 ∷ 0 ∷ []) (255 ∷ 0 ∷ 0 ∷ 0 ∷ [])) } })); right = addresses.One (one (targets.Udp families.Any [] 9) (record plain { conv = convs.Crnl; input = record plain.input { escape = Some 10 }; shut = Some shuts.Down; tries = record plain.tries { retry = 3; interval = 0 } })) }
 
 -- a fault with `-s`
 abbrev pub broken : List Act
@@ -289,13 +281,13 @@ broken =
 
 -- -g -b1 -t0.500 -T0.000 UDP-LISTEN:9,cr,interval=0.007,range=10.0.0.0/8 UDP:127.0.0.1:9,crnl,escape=10,shut-down,retry=3,interval=0.000
 abbrev pub broken_other : Config
-broken_other = record { block = 1; closing = 500; idle = 0; ways = ways.Two; dump = dumps.Off; sloppy = false; left = addresses.One (one (targets.UdpListen families.Any 9) (record plain { conv = convs.Cr; interval = 7; range = Some (ranges.V4 (10 ∷ 0 ∷ 0 ∷ 0 ∷ []) (255 ∷ 0 ∷ 0 ∷ 0 ∷ [])) })); right = addresses.One (one (targets.Udp families.Any [] 9) (record plain { conv = convs.Crnl; escape = Some 10; shut = Some shuts.Down; retry = 3; interval = 0 })) }
+broken_other = record { block = 1; closing = 500; idle = 0; ways = ways.Two; dump = dumps.Off; sloppy = false; left = addresses.One (one (targets.UdpListen families.Any 9) (record plain { conv = convs.Cr; tries = record plain.tries { interval = 7 }; admission = record plain.admission { range = Some (ranges.V4 (10 ∷ 0 ∷ 0 ∷ 0 ∷ []) (255 ∷ 0 ∷ 0 ∷ 0 ∷ [])) } })); right = addresses.One (one (targets.Udp families.Any [] 9) (record plain { conv = convs.Crnl; input = record plain.input { escape = Some 10 }; shut = Some shuts.Down; tries = record plain.tries { retry = 3; interval = 0 } })) }
 
 -- ---- two datagrams whose borders are kept
 
 -- -g -b3 -t0.500 -T0.000 -U UDP:127.0.0.1:9,null-eof,interval=0.000 UDP:127.0.0.1:9,ignoreeof,interval=0.000
 abbrev pub packets_command : Config
-packets_command = record { block = 3; closing = 500; idle = 0; ways = ways.OnlyLeft; dump = dumps.Off; sloppy = false; left = addresses.One (one (targets.Udp families.Any [] 9) (record plain { null_eof = true; interval = 0 })); right = addresses.One (one (targets.Udp families.Any [] 9) (record plain { ignoreeof = true; interval = 0 })) }
+packets_command = record { block = 3; closing = 500; idle = 0; ways = ways.OnlyLeft; dump = dumps.Off; sloppy = false; left = addresses.One (one (targets.Udp families.Any [] 9) (record plain { input = record plain.input { null_eof = true }; tries = record plain.tries { interval = 0 } })); right = addresses.One (one (targets.Udp families.Any [] 9) (record plain { input = record plain.input { ignoreeof = true }; tries = record plain.tries { interval = 0 } })) }
 
 -- two datagrams
 abbrev pub packets : List Act
@@ -341,7 +333,7 @@ packets_wrong =
 
 -- -u TCP4-LISTEN:9,fork STDOUT
 abbrev pub pair_command : Config
-pair_command = record { block = 8192; closing = 500; idle = 0; ways = ways.OnlyRight; dump = dumps.Off; sloppy = false; left = addresses.One (one (targets.TcpListen families.V4 9) (record plain { fork = true })); right = addresses.One (one targets.Stdout (plain)) }
+pair_command = record { block = 8192; closing = 500; idle = 0; ways = ways.OnlyRight; dump = dumps.Off; sloppy = false; left = addresses.One (one (targets.TcpListen families.V4 9) (record plain { sessions = record plain.sessions { fork = true } })); right = addresses.One (one targets.Stdout plain) }
 
 -- two sessions of `fork` that live at once
 abbrev pub pair_begun : List Act

@@ -19,15 +19,18 @@ door_cut past = memory_said past || stop_said past || accept_failed past program
 
 -- as many peers were permitted as are to be served
 abbrev pub enough : Config → List Act → Bool
-enough c past = nat_le (door_options c).stop_after (admitted c past)
+enough c past = nat_le (door_options c).sessions.stop_after (admitted c past)
 
 -- as many sessions live as may
 abbrev pub full : Config → List Act → Bool
-full c past = nat_le (door_options c).max_children (live_count c past)
+full c past = nat_le (door_options c).sessions.max_children (live_count c past)
 
 -- a door that is held has served, or accepts the next peer while there is room for its session
 abbrev pub program_door_call : Config → List Act → Stage → Call
-program_door_call c past Waiting = if enough c past then Serve program_door else (if full c past then Nothing else listening_call c past program_door (next_place c past) Waiting)
+program_door_call c past Waiting =
+    if enough c past then Serve program_door
+    else if full c past then Nothing
+    else listening_call c past program_door (next_place c past) Waiting
 program_door_call c past other = listening_call c past program_door (next_place c past) other
 
 -- what the program door of `fork` calls for; a peer that isn't permitted stands at the place of the next session

@@ -109,7 +109,10 @@ address c Right = c.right
 
 -- a file is only read with `rdonly`, and else only written with `wronly`
 abbrev pub narrowed : FileFlags → Part
-narrowed flags = if flags.rdonly then Reading else if flags.wronly then Writing else Both
+narrowed flags =
+    if flags.rdonly then Reading
+    else if flags.wronly then Writing
+    else Both
 
 -- the part of a single address in a two-way call
 abbrev pub offered : Target → FileFlags → Part
@@ -168,7 +171,7 @@ listens_at c p = listens (single c p).target
 
 -- a single address with `fork`
 abbrev pub forks : Address → Bool
-forks (addresses.One single) = single.options.fork
+forks (addresses.One single) = single.options.sessions.fork
 forks (addresses.Two reading writing) = false
 
 -- whether each permitted peer of the left address is a session of its own
@@ -305,12 +308,12 @@ abbrev pub fork_is_placed : Address → Address → Bool
 fork_is_placed left right = left_is_placed left && not (names_fork right)
   where
     names_fork : Address → Bool
-    names_fork (addresses.One single) = single.options.fork
-    names_fork (addresses.Two reading writing) = reading.options.fork || writing.options.fork
+    names_fork (addresses.One single) = single.options.sessions.fork
+    names_fork (addresses.Two reading writing) = reading.options.sessions.fork || writing.options.sessions.fork
 
     left_is_placed : Address → Bool
-    left_is_placed (addresses.One single) = not single.options.fork || listens single.target
-    left_is_placed (addresses.Two reading writing) = not (reading.options.fork || writing.options.fork)
+    left_is_placed (addresses.One single) = not single.options.sessions.fork || listens single.target
+    left_is_placed (addresses.Two reading writing) = not (reading.options.sessions.fork || writing.options.sessions.fork)
 
 -- a command in order: a block of 1 to 1,048,576 bytes, some direction, and `fork` where it may stand
 pub record Fit (c : Config) : Type 0 where

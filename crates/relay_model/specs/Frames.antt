@@ -55,6 +55,7 @@ is_turn act = false
 
 -- two lists of acts say the same of a place or door
 pub record SameAt (p : Place) (one other : List Act) : Type 0 where
+  -- the opening, the holding and the closing
   pub stage_same : stage one p ≡ stage other p
   pub failures_same : failures one p ≡ failures other p
   pub woken_same : woken one p ≡ woken other p
@@ -62,6 +63,7 @@ pub record SameAt (p : Place) (one other : List Act) : Type 0 where
   pub was_closed_same : was_closed one p ≡ was_closed other p
   pub was_reaped_same : was_reaped one p ≡ was_reaped other p
   pub reaped_since_same : reaped_since one p ≡ reaped_since other p
+  -- what was read and written, and how these ended
   pub got_same : got one p ≡ got other p
   pub put_same : put one p ≡ put other p
   pub sent_same : sent one p ≡ sent other p
@@ -70,6 +72,7 @@ pub record SameAt (p : Place) (one other : List Act) : Type 0 where
   pub shut_at_same : shut_at one p ≡ shut_at other p
   pub read_fault_at_same : read_fault_at one p ≡ read_fault_at other p
   pub write_fault_at_same : write_fault_at one p ≡ write_fault_at other p
+  -- what may be asked, and what was
   pub read_arming_same : read_arming one p ≡ read_arming other p
   pub armed_to_write_same : armed_to_write one p ≡ armed_to_write other p
   pub armed_to_accept_same : armed_to_accept one p ≡ armed_to_accept other p
@@ -257,10 +260,12 @@ is_among act ps = list_any (λ p. is_at act p) ps
 
 -- what an act leaves: all but what an act of its kind changes, and that everywhere else
 pub record Leaves (act : Act) (past : List Act) : Type 0 where
+  -- the clock, and what was said to all
   pub now_same : is_turn act ≡ false → now (act ∷ past) ≡ now past
   pub turns_same : is_turn act ≡ false → turns (act ∷ past) ≡ turns past
   pub stop_said_same : turns_or_closes act ≡ false → stop_said (act ∷ past) ≡ stop_said past
   pub memory_said_same : is_closing act ≡ false → memory_said (act ∷ past) ≡ memory_said past
+  -- a place's or door's opening, holding and closing
   pub stage_same : (p : Place) → (opens_or_closes act && is_at act p) ≡ false → stage (act ∷ past) p ≡ stage past p
   pub standing_same : (p : Place) → (opens_shuts_or_closes act && is_at act p) ≡ false → standing (act ∷ past) p ≡ standing past p
   pub failures_same : (p : Place) → (fails_to_open act && is_at act p) ≡ false → failures (act ∷ past) p ≡ failures past p
@@ -269,6 +274,7 @@ pub record Leaves (act : Act) (past : List Act) : Type 0 where
   pub was_closed_same : (p : Place) → (is_closing act && is_at act p) ≡ false → was_closed (act ∷ past) p ≡ was_closed past p
   pub was_reaped_same : (p : Place) → (reaps act && is_at act p) ≡ false → was_reaped (act ∷ past) p ≡ was_reaped past p
   pub reaped_since_same : (p : Place) → (closes_or_reaps act && is_at act p) ≡ false → reaped_since (act ∷ past) p ≡ reaped_since past p
+  -- what was read and written at a place, and how these ended
   pub got_same : (p : Place) → (reads_bytes act && is_at act p) ≡ false → got (act ∷ past) p ≡ got past p
   pub put_same : (p : Place) → (writes_bytes act && is_at act p) ≡ false → put (act ∷ past) p ≡ put past p
   pub sent_same : (p : Place) → (writes_bytes act && is_at act p) ≡ false → sent (act ∷ past) p ≡ sent past p
@@ -277,6 +283,7 @@ pub record Leaves (act : Act) (past : List Act) : Type 0 where
   pub shut_at_same : (p : Place) → (passes_end act && is_at act p) ≡ false → shut_at (act ∷ past) p ≡ shut_at past p
   pub read_fault_at_same : (p : Place) → (fails_to_read act && is_at act p) ≡ false → read_fault_at (act ∷ past) p ≡ read_fault_at past p
   pub write_fault_at_same : (p : Place) → (fails_to_write act && is_at act p) ≡ false → write_fault_at (act ∷ past) p ≡ write_fault_at past p
+  -- what may be asked of a place or door, and what was
   pub read_arming_same : (p : Place) → (arms_to_read act && names_or_is_at act p) ≡ false → read_arming (act ∷ past) p ≡ read_arming past p
   pub armed_to_write_same : (p : Place) → (arms_to_write act && names_or_is_at act p) ≡ false → armed_to_write (act ∷ past) p ≡ armed_to_write past p
   pub armed_to_accept_same : (d : Place) → (arms_to_accept act && names_or_is_at act d) ≡ false → armed_to_accept (act ∷ past) d ≡ armed_to_accept past d
@@ -284,11 +291,12 @@ pub record Leaves (act : Act) (past : List Act) : Type 0 where
   pub asked_to_write_same : (i o : Place) → (asks_to_write act && (is_turn act || is_at act i || is_at act o)) ≡ false → asked_to_write (act ∷ past) i o ≡ asked_to_write past i o
   -- an accepting is at the place of its peer, and not at the door that it asks
   pub asked_to_accept_same : (c : Config) (d : Place) → asks_to_accept act ≡ false → asked_to_accept c (act ∷ past) d ≡ asked_to_accept c past d
+  -- a session's pieces, its last move, and how it ended
   pub due_pieces_same : (c : Config) (s : ℕ) (w : Way) → (reads_bytes act && is_at act (input c s w)) ≡ false → due_pieces c (act ∷ past) s w ≡ due_pieces c past s w
   pub moved_same : (c : Config) (s : ℕ) → (moves_session act && is_among act (places c s)) ≡ false → moved_at c (act ∷ past) s ≡ moved_at c past s
   pub closed_why_same : (c : Config) (s : ℕ) → (is_closing act && is_among act (things c s)) ≡ false → closed_why c (act ∷ past) s ≡ closed_why c past s
   pub first_fault_same : (c : Config) (s : ℕ) → (fails_to_transfer act && is_among act (places c s)) ≡ false → first_fault c (act ∷ past) s ≡ first_fault c past s
-  -- with `fork` a peer at any left place is counted
+  -- the peers that were permitted; with `fork` one at any left place is counted
   pub admitted_same : (c : Config) → meets_peer act ≡ false → admitted c (act ∷ past) ≡ admitted c past
 
 -- the step laws: what each kind of act leaves, and where
@@ -311,18 +319,22 @@ is_common c act = false
 
 -- two lists of acts say the same of a session
 pub record SameSession (c : Config) (s : ℕ) (one other : List Act) : Type 0 where
+  -- its places and doors
   pub places_same : (p : Place) → p.session ≡ s → is_program_door c p ≡ false → SameAt p one other
   pub holds_same : holds c one s ≡ holds c other s
+  -- whether it lives, how it stands, and what is done next
   pub live_same : live c one s ≡ live c other s
   pub ready_same : ready c one s ≡ ready c other s
   pub cause_same : cause c one s ≡ cause c other s
   pub call_same : call c one s ≡ call c other s
   pub running_same : running c one s ≡ running c other s
+  -- its moments, and its work
   pub moved_same : moved_at c one s ≡ moved_at c other s
   pub closing_moment_same : closing_moment c one s ≡ closing_moment c other s
   pub idle_moment_same : idle_moment c one s ≡ idle_moment c other s
   pub session_work_same : session_work c one s ≡ session_work c other s
   pub session_moment_same : session_moment c one s ≡ session_moment c other s
+  -- what was asked, and the pieces that are due
   pub asked_to_write_same : (w : Way) → asked_to_write one (input c s w) (output c s w) ≡ asked_to_write other (input c s w) (output c s w)
   pub asked_to_accept_same : (d : Place) → d.session ≡ s → is_program_door c d ≡ false → asked_to_accept c one d ≡ asked_to_accept c other d
   pub pieces_same : (w : Way) → due_pieces c one s w ≡ due_pieces c other s w

@@ -153,7 +153,7 @@ ProgramDoorTells = (c : Config) (past : List Act) → DoorTells c past (door_cal
 
 -- no more peers are permitted than are to be served
 abbrev pub AdmittedIsBounded : Type 0
-AdmittedIsBounded = (c : Config) (n : ℕ) (past : List Act) → Legal c n past → admitted c past ≤ (door_options c).stop_after
+AdmittedIsBounded = (c : Config) (n : ℕ) (past : List Act) → Legal c n past → admitted c past ≤ (door_options c).sessions.stop_after
 
 -- a session that holds nothing any more never holds anything again
 abbrev pub EndedStaysEnded : Type 0
@@ -181,7 +181,7 @@ ServedDoorStaysServed = (c : Config) (n : ℕ) (act : Act) (past : List Act) (d 
 
 -- no more sessions live than may
 abbrev pub LiveIsBounded : Type 0
-LiveIsBounded = (c : Config) (n : ℕ) (past : List Act) → Legal c n past → has_fork c ≡ true → live_count c past ≤ (door_options c).max_children
+LiveIsBounded = (c : Config) (n : ℕ) (past : List Act) → Legal c n past → has_fork c ≡ true → live_count c past ≤ (door_options c).sessions.max_children
 
 -- ---- the whole
 

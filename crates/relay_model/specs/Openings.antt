@@ -26,7 +26,7 @@ pub data Call : Type 0 where
 
 -- no try is left at the place or door
 abbrev pub out_of_tries : Config → List Act → Place → Bool
-out_of_tries c past p = is_out_of_tries (options_of c p).retry (options_of c p).forever (failures past p)
+out_of_tries c past p = is_out_of_tries (options_of c p).tries.retry (options_of c p).tries.forever (failures past p)
 
 -- the call, from the moment on at which it is due
 abbrev pub when_due : ℕ → Option ℕ → Call → Call
@@ -35,7 +35,9 @@ when_due at (Some m) wanted = if nat_le m at then wanted else TryAt m
 
 -- a further try, while tries are left
 abbrev pub try_again : Config → List Act → Place → Call → Call
-try_again c past p wanted = if out_of_tries c past p then Nothing else when_due (now past) (next_due (options_of c p).interval (failures past p)) wanted
+try_again c past p wanted =
+    if out_of_tries c past p then Nothing
+    else when_due (now past) (next_due (options_of c p).tries.interval (failures past p)) wanted
 
 -- ---- ready places
 
@@ -72,12 +74,18 @@ listening_call c past d p other = Nothing
 
 -- a peer that isn't permitted is refused; after a permitted one the own door has served
 abbrev pub peer_call : Config → List Act → Place → Stage → Call
-peer_call c past p (Met peer) = if permits c p peer then (if held past (door_of p) then Serve (door_of p) else Nothing) else Refuse p
+peer_call c past p (Met peer) =
+    if permits c p peer
+    then (if held past (door_of p) then Serve (door_of p) else Nothing)
+    else Refuse p
 peer_call c past p other = listening_call c past (door_of p) p (stage past (door_of p))
 
 -- what a place calls for by itself; with `fork` a left place calls for nothing, since its peer comes by the program door
 abbrev pub place_call : Config → List Act → Place → Call
-place_call c past p = if has_own_door c p then peer_call c past p (stage past p) else if listens_at c p then Nothing else opening_call c past p (stage past p)
+place_call c past p =
+    if has_own_door c p then peer_call c past p (stage past p)
+    else if listens_at c p then Nothing
+    else opening_call c past p (stage past p)
 
 -- what the first of these places that isn't ready calls for
 abbrev pub first_call : Config → List Act → List Place → Call

@@ -2,19 +2,9 @@
 use Rattle.std.specs.Prelude.{ℕ, Bool, true, false, not, ◌&&◌, ◌||◌, ◌==◌, nat_le, bit_and, List, [], ◌∷◌, Option, Some, None}
 use Rattle.relay_model.specs.declared.acts.Peer.{Peer}
 use Rattle.relay_model.specs.declared.acts.Peer.TheVariants as peers
-use Rattle.relay_model.specs.declared.commands.Options.{Options}
+use Rattle.relay_model.specs.declared.commands.Admission.{Admission}
 use Rattle.relay_model.specs.declared.commands.Range.{Range}
 use Rattle.relay_model.specs.declared.commands.Range.TheVariants as ranges
-
--- what an address asks of its peers
-pub record Admission : Type 0 where
-  pub range : Option Range
-  pub sourceport : Option ℕ
-  pub lowport : Bool
-
--- what these options ask
-abbrev pub admission_of : Options → Admission
-admission_of options = record { range = options.range; sourceport = options.sourceport; lowport = options.lowport }
 
 -- whether two addresses are the same under a mask, byte by byte
 abbrev pub is_same_under : List ℕ → List ℕ → List ℕ → Bool

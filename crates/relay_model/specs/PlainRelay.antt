@@ -19,28 +19,15 @@ no_flags = record { creat = false; excl = false; append = false; trunc = false; 
 abbrev pub default_options : Options
 default_options = record {
   conv = Plain;
-  ignoreeof = false;
-  readbytes = None;
-  escape = None;
-  null_eof = false;
   shut = None;
-  retry = 0;
-  forever = false;
-  interval = 1000;
-  fork = false;
-  max_children = 4294967295;
-  stop_after = 4294967295;
-  range = None;
-  sourceport = None;
-  lowport = false;
-  unlink_early = false;
-  unlink_close = false;
-  nodelay = false;
-  bind = None;
+  input = record { ignoreeof = false; readbytes = None; escape = None; null_eof = false };
+  tries = record { retry = 0; forever = false; interval = 1000 };
+  sessions = record { fork = false; max_children = 4294967295; stop_after = 4294967295 };
+  admission = record { range = None; sourceport = None; lowport = false };
+  socket = record { bind = None; nodelay = false };
+  entry = record { unlink_early = false; unlink_close = false };
   file = no_flags;
-  socksport = 1080;
-  socksuser = [];
-  proxyport = 8080;
+  proxy = record { socksport = 1080; socksuser = []; proxyport = 8080 };
 }
 
 -- a standard stream with every option at its default

@@ -119,11 +119,17 @@ try_moment other = None
 
 -- the moment at which an input that met an end is tried again
 abbrev pub input_moment : Config → List Act → ℕ → Way → Option ℕ
-input_moment c past s w = if is_going c past s w && not (over c past (input c s w)) then arming_moment (read_arming past (input c s w)) else None
+input_moment c past s w =
+    if is_going c past s w && not (over c past (input c s w))
+    then arming_moment (read_arming past (input c s w))
+    else None
 
 -- the nearest later moment of the closing time or inactivity, of a session that runs
 abbrev pub timer_moment : Config → List Act → ℕ → Option ℕ
-timer_moment c past s = if running c past s then earlier (later (now past) (closing_moment c past s)) (later (now past) (idle_moment c past s)) else None
+timer_moment c past s =
+    if running c past s
+    then earlier (later (now past) (closing_moment c past s)) (later (now past) (idle_moment c past s))
+    else None
 
 -- the least moment, later than now, at which something of the session falls due
 abbrev pub session_moment : Config → List Act → ℕ → Option ℕ

@@ -13,12 +13,12 @@ use Rattle.relay_model.specs.declared.acts.Act.{Act}
 use Rattle.relay_model.specs.declared.acts.Act.TheVariants.{Accepted}
 use Rattle.relay_model.specs.Choices.{count, one_more}
 use Rattle.relay_model.specs.Configs.{things, parts, place_at, options_of, has_fork, is_left, program_door}
-use Rattle.relay_model.specs.Permits.{is_permitted, admission_of}
+use Rattle.relay_model.specs.Permits.{is_permitted}
 use Rattle.relay_model.specs.History.{held}
 
 -- whether a place takes this peer
 abbrev pub permits : Config → Place → Peer → Bool
-permits c p peer = is_permitted (admission_of (options_of c p)) peer
+permits c p peer = is_permitted (options_of c p).admission peer
 
 -- a permitted peer of the program door of `fork`
 abbrev pub is_admission : Config → Place → Peer → Bool

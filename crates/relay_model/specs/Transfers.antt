@@ -13,7 +13,9 @@ use Rattle.relay_model.specs.History.{got, put, met_end, met_empty}
 
 -- what is to be written of the bytes that a direction reads
 abbrev pub due : Config → Way → List ℕ → List ℕ
-due c w xs = due_of (options_of c (input c 0 w)).conv (options_of c (output c 0 w)).conv (options_of c (input c 0 w)).readbytes (options_of c (input c 0 w)).escape xs
+due c w xs =
+    due_of (options_of c (input c 0 w)).conv (options_of c (output c 0 w)).conv
+    (options_of c (input c 0 w)).input.readbytes (options_of c (input c 0 w)).input.escape xs
 
 -- what a further piece adds to it
 abbrev pub due_part : Config → Way → List ℕ → List ℕ → List ℕ
@@ -36,9 +38,9 @@ due_pieces c (act ∷ past) s w = due_pieces c past s w
 -- the input of a place is over
 abbrev pub over : Config → List Act → Place → Bool
 over c past p =
-    met_end past p && not (options_of c p).ignoreeof
-    || met_empty past p && (options_of c p).null_eof
-    || is_over (options_of c p).readbytes (options_of c p).escape (got past p)
+    met_end past p && not (options_of c p).input.ignoreeof
+    || met_empty past p && (options_of c p).input.null_eof
+    || is_over (options_of c p).input.readbytes (options_of c p).input.escape (got past p)
 
 -- how many bytes are due and not yet written
 abbrev pub backlog : Config → List Act → ℕ → Way → ℕ
@@ -48,8 +50,8 @@ backlog c past s w = length (due c w (got past (input c s w))) - length (put pas
 abbrev pub greatest_read : Config → List Act → ℕ → Way → ℕ
 greatest_read c past s w =
     if keeps_borders c w
-    then packet_size c.block (packet_cap (options_of c (output c 0 w)).conv) (options_of c (input c 0 w)).readbytes (length (got past (input c s w))) (backlog c past s w)
-    else read_size c.block (options_of c (input c 0 w)).readbytes (length (got past (input c s w))) (backlog c past s w)
+    then packet_size c.block (packet_cap (options_of c (output c 0 w)).conv) (options_of c (input c 0 w)).input.readbytes (length (got past (input c s w))) (backlog c past s w)
+    else read_size c.block (options_of c (input c 0 w)).input.readbytes (length (got past (input c s w))) (backlog c past s w)
 
 -- the direction has been read to its end and all was written
 abbrev pub is_spent : Config → List Act → ℕ → Way → Bool

@@ -15,4 +15,6 @@ moment_of_try interval failed_at = failed_at + max interval 1
 abbrev pub next_due : ℕ → List ℕ → Option ℕ
 next_due interval [] = Some 0
 next_due interval (failed_at ∷ failures) =
-    if nat_lt (moment_of_try interval failed_at) (2 ^ 64) then Some (moment_of_try interval failed_at) else None
+    if nat_lt (moment_of_try interval failed_at) (2 ^ 64)
+    then Some (moment_of_try interval failed_at)
+    else None

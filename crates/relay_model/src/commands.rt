@@ -227,32 +227,96 @@ pub struct Bind {
     pub addr: Peer,
 }
 
-/// The options of one single address. `interval` is in milliseconds.
-#[derive(Debug, Drop)]
-pub struct Options {
-    pub conv: Conv,
+/// What an address does with what is read from it. An end is waited out with `ignoreeof`, and an empty datagram is
+/// an end with `null-eof`; `readbytes` is the most bytes that are read, and `escape` a byte that ends them.
+#[derive(Clone, Copy, Debug, PartialEq, Eq)]
+pub struct InputOptions {
     pub ignoreeof: bool,
     pub readbytes: Option<u64>,
     pub escape: Option<u8>,
     pub null_eof: bool,
-    pub shut: Option<Shut>,
+}
+
+/// How often an address is tried anew when it can't be opened, and after how many milliseconds (socat(1), `retry`,
+/// `forever` and `interval`).
+#[derive(Clone, Copy, Debug, PartialEq, Eq)]
+pub struct TryOptions {
     pub retry: u64,
     pub forever: bool,
     pub interval: u64,
+}
+
+/// Whether each peer of a door is a session of its own (socat(1), `fork`), how many of these live at a time
+/// (`max-children`), and how many there are in all (`stop-after`).
+#[derive(Clone, Copy, Debug, PartialEq, Eq)]
+pub struct SessionOptions {
     pub fork: bool,
     pub max_children: u32,
     pub stop_after: u32,
+}
+
+/// Which peers a door lets in: from this network, from this port, only from a privileged port (socat(1), `range`,
+/// `sourceport` and `lowport`).
+#[derive(Clone, Copy, Debug, PartialEq, Eq)]
+pub struct Admission {
     pub range: Option<Range>,
     pub sourceport: Option<u16>,
     pub lowport: bool,
+}
+
+/// How a socket is set up: its local address, and whether small writes go out at once (socat(1), `bind` and
+/// `nodelay`).
+#[derive(Clone, Copy, Debug, PartialEq, Eq)]
+pub struct SocketOptions {
+    pub bind: Option<Bind>,
+    pub nodelay: bool,
+}
+
+/// Whether the name of a file, a pipe or a socket is removed before it is opened, and after it is closed (socat(1),
+/// `unlink-early` and `unlink-close`).
+#[derive(Clone, Copy, Debug, PartialEq, Eq)]
+pub struct EntryOptions {
     pub unlink_early: bool,
     pub unlink_close: bool,
-    pub nodelay: bool,
-    pub bind: Option<Bind>,
-    pub file: FileFlags,
+}
+
+/// How a proxy is reached: the port of a SOCKS server and the user that it is told, and the port of an HTTP proxy
+/// (socat(1), `socksport`, `socksuser` and `proxyport`).
+#[derive(Debug, Drop)]
+pub struct ProxyOptions {
     pub socksport: u16,
     pub socksuser: Text,
     pub proxyport: u16,
+}
+
+impl ProxyOptions {
+    /// A copy.
+    pub fn copy(&self) -> Result<ProxyOptions, NoMemory>
+        ensures { IfOk result (λ options. options ≡ self.now) }
+    {
+        let socksuser = self.socksuser.copy()?;
+        Ok(ProxyOptions {
+            socksport: self.socksport,
+            socksuser,
+            proxyport: self.proxyport,
+        })
+    }
+}
+
+/// The options of one single address, grouped by what they are of. `conv` is of what is read and written, and
+/// `shut` of how an end is passed on (socat(1), `shut-none` to `shut-null`).
+#[derive(Debug, Drop)]
+pub struct Options {
+    pub conv: Conv,
+    pub shut: Option<Shut>,
+    pub input: InputOptions,
+    pub tries: TryOptions,
+    pub sessions: SessionOptions,
+    pub admission: Admission,
+    pub socket: SocketOptions,
+    pub entry: EntryOptions,
+    pub file: FileFlags,
+    pub proxy: ProxyOptions,
 }
 
 impl Options {
@@ -260,31 +324,18 @@ impl Options {
     pub fn copy(&self) -> Result<Options, NoMemory>
         ensures { IfOk result (λ options. options ≡ self.now) }
     {
-        let socksuser = self.socksuser.copy()?;
+        let proxy = self.proxy.copy()?;
         Ok(Options {
             conv: self.conv,
-            ignoreeof: self.ignoreeof,
-            readbytes: self.readbytes,
-            escape: self.escape,
-            null_eof: self.null_eof,
             shut: self.shut,
-            retry: self.retry,
-            forever: self.forever,
-            interval: self.interval,
-            fork: self.fork,
-            max_children: self.max_children,
-            stop_after: self.stop_after,
-            range: self.range,
-            sourceport: self.sourceport,
-            lowport: self.lowport,
-            unlink_early: self.unlink_early,
-            unlink_close: self.unlink_close,
-            nodelay: self.nodelay,
-            bind: self.bind,
+            input: self.input,
+            tries: self.tries,
+            sessions: self.sessions,
+            admission: self.admission,
+            socket: self.socket,
+            entry: self.entry,
             file: self.file,
-            socksport: self.socksport,
-            socksuser,
-            proxyport: self.proxyport,
+            proxy,
         })
     }
 }

@@ -13,8 +13,9 @@ mod refusals;
 
 pub use acts::{Act, ChildEnd, Peer, Shut, Why};
 pub use commands::{
-    Address, Bind, Config, Conv, Dump, Family, FileFlags, LONGEST_PACKET, Options, Range, Single,
-    Target, Ways,
+    Address, Admission, Bind, Config, Conv, Dump, EntryOptions, Family, FileFlags, InputOptions,
+    LONGEST_PACKET, Options, ProxyOptions, Range, SessionOptions, Single, SocketOptions, Target,
+    TryOptions, Ways,
 };
 pub use contents::{Bytes, NoMemory, Text, Texts};
 pub use journals::{Askings, Journal, Kept};

@@ -2,7 +2,10 @@
 ghost use Rattle.std.specs.Prelude.{◌≡◌, [], IfOk};
 ghost use Rattle.relay_model.specs.PlainRelay.{plain_relay, standard, default_options};
 
-use crate::commands::{Address, Config, Conv, Dump, FileFlags, Options, Single, Target, Ways};
+use crate::commands::{
+    Address, Admission, Config, Conv, Dump, EntryOptions, FileFlags, InputOptions, Options,
+    ProxyOptions, SessionOptions, Single, SocketOptions, Target, TryOptions, Ways,
+};
 use crate::contents::{NoMemory, Text};
 use std::alloc::Global;
 
@@ -23,28 +26,42 @@ impl Options {
         let socksuser = Text::of(alloc, &[])?;
         Ok(Options {
             conv: Conv::Plain,
-            ignoreeof: false,
-            readbytes: None,
-            escape: None,
-            null_eof: false,
             shut: None,
-            retry: 0,
-            forever: false,
-            interval: 1000,
-            fork: false,
-            max_children: u32::MAX,
-            stop_after: u32::MAX,
-            range: None,
-            sourceport: None,
-            lowport: false,
-            unlink_early: false,
-            unlink_close: false,
-            nodelay: false,
-            bind: None,
+            input: InputOptions {
+                ignoreeof: false,
+                readbytes: None,
+                escape: None,
+                null_eof: false,
+            },
+            tries: TryOptions {
+                retry: 0,
+                forever: false,
+                interval: 1000,
+            },
+            sessions: SessionOptions {
+                fork: false,
+                max_children: u32::MAX,
+                stop_after: u32::MAX,
+            },
+            admission: Admission {
+                range: None,
+                sourceport: None,
+                lowport: false,
+            },
+            socket: SocketOptions {
+                bind: None,
+                nodelay: false,
+            },
+            entry: EntryOptions {
+                unlink_early: false,
+                unlink_close: false,
+            },
             file: NO_FLAGS,
-            socksport: 1080,
-            socksuser,
-            proxyport: 8080,
+            proxy: ProxyOptions {
+                socksport: 1080,
+                socksuser,
+                proxyport: 8080,
+            },
         })
     }
 }

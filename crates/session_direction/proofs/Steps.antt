@@ -71,18 +71,18 @@ over_more false ended is_over h = h
 still_over : (c : Config) (past later : List Act) (s : ℕ) (w : Way) (d : DirectionState) (n : Bool) → d.ended ≡ met_last c past s w → (n || d.ended) ≡ met_last c later s w → got later (input c s w) ≡ got past (input c s w) → over c past (input c s w) ≡ true → over c later (input c s w) ≡ true
 still_over c past later s w d n before after same h =
     let o = options_of c (input c s w) in
-    ap (λ e. e || is_over o.readbytes o.escape (got later (input c s w))) (sym after)
-    ∙ ap (λ x. (n || d.ended) || is_over o.readbytes o.escape x) same
-    ∙ over_more n d.ended (is_over o.readbytes o.escape (got past (input c s w))) (ap (λ e. e || is_over o.readbytes o.escape (got past (input c s w))) before ∙ h)
+    ap (λ e. e || is_over o.input.readbytes o.input.escape (got later (input c s w))) (sym after)
+    ∙ ap (λ x. (n || d.ended) || is_over o.input.readbytes o.input.escape x) same
+    ∙ over_more n d.ended (is_over o.input.readbytes o.input.escape (got past (input c s w))) (ap (λ e. e || is_over o.input.readbytes o.input.escape (got past (input c s w))) before ∙ h)
 
 -- an empty packet that was read
 pub read_empty : (c : Config) (past : List Act) (s : ℕ) (w : Way) (d : DirectionState) → IsDirection c past s w d → IsDirection c (ReadEmpty (input c s w) ∷ past) s w (record d { asked_in = true; ended = d.ends_at_empty || d.ended })
 read_empty c past s w d f =
     let self = same_place_self (input c s w) in
     let ended : (d.ends_at_empty || d.ended) ≡ met_last c (ReadEmpty (input c s w) ∷ past) s w =
-    ap (λ n. n || d.ended) f.ends_at_empty_is ∙ ap (λ e. (options_of c (input c s w)).null_eof || e) f.ended_is
-    ∙ ended_empty (met_end past (input c s w) && not (options_of c (input c s w)).ignoreeof) (met_empty past (input c s w)) (options_of c (input c s w)).null_eof
-    ∙ ap (λ b. met_end past (input c s w) && not (options_of c (input c s w)).ignoreeof || (b || met_empty past (input c s w)) && (options_of c (input c s w)).null_eof) (sym self) in
+    ap (λ n. n || d.ended) f.ends_at_empty_is ∙ ap (λ e. (options_of c (input c s w)).input.null_eof || e) f.ended_is
+    ∙ ended_empty (met_end past (input c s w) && not (options_of c (input c s w)).input.ignoreeof) (met_empty past (input c s w)) (options_of c (input c s w)).input.null_eof
+    ∙ ap (λ b. met_end past (input c s w) && not (options_of c (input c s w)).input.ignoreeof || (b || met_empty past (input c s w)) && (options_of c (input c s w)).input.null_eof) (sym self) in
     record { is_formed = f.is_formed; source_is = f.source_is; sink_is = f.sink_is; ignores_end_is = f.ignores_end_is; ends_at_empty_is = f.ends_at_empty_is; sloppy_is = f.sloppy_is; how_is = f.how_is; gathers_is = f.gathers_is; grant_is = f.grant_is; extra_within = f.extra_within; flow_is = f.flow_is; arming_is = f.arming_is; armed_out_is = f.armed_out_is; asked_in_is = ap (λ b. b || asked_to_read past (input c s w)) (sym self); asked_out_is = f.asked_out_is; ended_is = ended; passed_is = f.passed_is; broken_is = f.broken_is; pieces_are = f.pieces_are; passed_is_spent = λ e. let k = f.passed_is_spent e in record { emptied = k.emptied; is_over = still_over c past (ReadEmpty (input c s w) ∷ past) s w d d.ends_at_empty f.ended_is ended refl k.is_over } }
 
 -- an end that was met
@@ -90,9 +90,9 @@ pub read_end : (c : Config) (past : List Act) (s : ℕ) (w : Way) (d : Direction
 read_end c past s w d at clock f =
     let self = same_place_self (input c s w) in
     let ended : (not d.ignores_end || d.ended) ≡ met_last c (ReadEnd (input c s w) ∷ past) s w =
-    ap (λ n. not n || d.ended) f.ignores_end_is ∙ ap (λ e. not (options_of c (input c s w)).ignoreeof || e) f.ended_is
-    ∙ ended_end (met_end past (input c s w)) (met_empty past (input c s w) && (options_of c (input c s w)).null_eof) (options_of c (input c s w)).ignoreeof
-    ∙ ap (λ b. (b || met_end past (input c s w)) && not (options_of c (input c s w)).ignoreeof || met_empty past (input c s w) && (options_of c (input c s w)).null_eof) (sym self) in
+    ap (λ n. not n || d.ended) f.ignores_end_is ∙ ap (λ e. not (options_of c (input c s w)).input.ignoreeof || e) f.ended_is
+    ∙ ended_end (met_end past (input c s w)) (met_empty past (input c s w) && (options_of c (input c s w)).input.null_eof) (options_of c (input c s w)).input.ignoreeof
+    ∙ ap (λ b. (b || met_end past (input c s w)) && not (options_of c (input c s w)).input.ignoreeof || met_empty past (input c s w) && (options_of c (input c s w)).input.null_eof) (sym self) in
     record { is_formed = f.is_formed; source_is = f.source_is; sink_is = f.sink_is; ignores_end_is = f.ignores_end_is; ends_at_empty_is = f.ends_at_empty_is; sloppy_is = f.sloppy_is; how_is = f.how_is; gathers_is = f.gathers_is; grant_is = f.grant_is; extra_within = f.extra_within; flow_is = f.flow_is; arming_is = ap AtEnd clock ∙ ap (λ b. cond b (AtEnd (now past)) (read_arming past (input c s w))) (sym self); armed_out_is = f.armed_out_is; asked_in_is = ap (λ b. b || asked_to_read past (input c s w)) (sym self); asked_out_is = f.asked_out_is; ended_is = ended; passed_is = f.passed_is; broken_is = f.broken_is; pieces_are = f.pieces_are; passed_is_spent = λ e. let k = f.passed_is_spent e in record { emptied = k.emptied; is_over = still_over c past (ReadEnd (input c s w) ∷ past) s w d (not d.ignores_end) f.ended_is ended refl k.is_over } }
 
 broken_by_read : (sloppy b : Bool) (at was : ℕ) (read write : Option ℕ) → b ≡ true → at ≡ was → cond sloppy (Some at) None ≡ cond sloppy (or_else (cond b (Some was) read) write) None

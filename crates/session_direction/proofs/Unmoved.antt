@@ -55,14 +55,14 @@ same_for c past s w act e = record { got_same = refl; put_same = refl; arming_sa
 last_same : (c : Config) (s : ℕ) (w : Way) (one other : List Act) → SameFor c s w one other → met_last c one s w ≡ met_last c other s w
 last_same c s w one other k =
     let o = options_of c (input c s w) in
-    ap (λ e. e && not o.ignoreeof || met_empty one (input c s w) && o.null_eof) k.met_end_same
-    ∙ ap (λ e. met_end other (input c s w) && not o.ignoreeof || e && o.null_eof) k.met_empty_same
+    ap (λ e. e && not o.input.ignoreeof || met_empty one (input c s w) && o.input.null_eof) k.met_end_same
+    ∙ ap (λ e. met_end other (input c s w) && not o.input.ignoreeof || e && o.input.null_eof) k.met_empty_same
 
 over_same : (c : Config) (s : ℕ) (w : Way) (one other : List Act) → SameFor c s w one other → over c one (input c s w) ≡ over c other (input c s w)
 over_same c s w one other k =
     let o = options_of c (input c s w) in
-    ap (λ e. e || is_over o.readbytes o.escape (got one (input c s w))) (last_same c s w one other k)
-    ∙ ap (λ x. met_last c other s w || is_over o.readbytes o.escape x) k.got_same
+    ap (λ e. e || is_over o.input.readbytes o.input.escape (got one (input c s w))) (last_same c s w one other k)
+    ∙ ap (λ x. met_last c other s w || is_over o.input.readbytes o.input.escape x) k.got_same
 
 pub unmoved_by : (c : Config) (past : List Act) (s : ℕ) (w : Way) (d : DirectionState) (act : Act) → touches c s w act ≡ false → IsDirection c past s w d → IsDirection c (act ∷ past) s w d
 unmoved_by c past s w d act e f =

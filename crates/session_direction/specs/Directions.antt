@@ -27,8 +27,8 @@ terms_of c w =
     record {
       block = c.block;
       how = record { read = (options_of c (input c 0 w)).conv; write = (options_of c (output c 0 w)).conv };
-      readbytes = (options_of c (input c 0 w)).readbytes;
-      escape = (options_of c (input c 0 w)).escape;
+      readbytes = (options_of c (input c 0 w)).input.readbytes;
+      escape = (options_of c (input c 0 w)).input.escape;
       packets = only_if (keeps_borders c w) (packet_cap (options_of c (output c 0 w)).conv);
     }
 
@@ -43,8 +43,8 @@ is_gathered Datagrams = false
 -- an end that counts was met: one of the input, or an empty packet
 abbrev pub met_last : Config → List Act → ℕ → Way → Bool
 met_last c past s w =
-    met_end past (input c s w) && not (options_of c (input c s w)).ignoreeof
-    || met_empty past (input c s w) && (options_of c (input c s w)).null_eof
+    met_end past (input c s w) && not (options_of c (input c s w)).input.ignoreeof
+    || met_empty past (input c s w) && (options_of c (input c s w)).input.null_eof
 
 -- how much a turn grants a direction for further asks: less where the session has two
 abbrev pub granted : Config → ℕ
@@ -62,24 +62,29 @@ pub record IsSpent (c : Config) (past : List Act) (s : ℕ) (w : Way) (d : Direc
 
 -- each field but `extra` is what the list of acts says
 pub record IsDirection (c : Config) (past : List Act) (s : ℕ) (w : Way) (d : DirectionState) : Type 0 where
+  -- what the command says of it
   pub is_formed : formed c w ≡ true
   pub source_is : d.source ≡ input c s w
   pub sink_is : d.sink ≡ output c s w
-  pub ignores_end_is : d.ignores_end ≡ (options_of c (input c s w)).ignoreeof
-  pub ends_at_empty_is : d.ends_at_empty ≡ (options_of c (input c s w)).null_eof
+  pub ignores_end_is : d.ignores_end ≡ (options_of c (input c s w)).input.ignoreeof
+  pub ends_at_empty_is : d.ends_at_empty ≡ (options_of c (input c s w)).input.null_eof
   pub sloppy_is : d.sloppy ≡ c.sloppy
   pub how_is : d.how ≡ how c (output c s w)
   pub gathers_is : d.gathers ≡ is_gathered (medium_of c (input c s w))
+  -- its bytes
   pub flow_is : IsFlow (terms_of c w) (got past (input c s w)) (put past (output c s w)) d.flow
+  -- what may be asked, what was asked, and how much a turn grants
   pub arming_is : d.arming ≡ read_arming past (input c s w)
   pub armed_out_is : d.armed_out ≡ armed_to_write past (output c s w)
   pub asked_in_is : d.asked_in ≡ asked_to_read past (input c s w)
   pub asked_out_is : d.asked_out ≡ asked_to_write past (input c s w) (output c s w)
   pub grant_is : d.grant ≡ granted c
   pub extra_within : d.extra ≤ d.grant
+  -- whether its end was met and passed on, and whether it is broken
   pub ended_is : d.ended ≡ met_last c past s w
   pub passed_is : d.passed_at ≡ passed_at c past s w
   pub broken_is : d.broken_at ≡ broken_at c past s w
+  -- the pieces that wait, and what a passed end leaves
   pub pieces_are : keeps_borders c w ≡ true → due_pieces c past s w ≡ sent past (output c s w) ++ as_pieces d.flow.backlog
   pub passed_is_spent : is_some d.passed_at ≡ true → IsSpent c past s w d
 

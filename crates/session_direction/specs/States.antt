@@ -5,9 +5,9 @@ use Rattle.relay_model.specs.declared.acts.Shut.{Shut}
 use Rattle.relay_model.specs.Arming.{Arming}
 use Rattle.relay_buffer.specs.Flows.{Flowing}
 
--- its places and terms, its bytes, what is armed and was asked, how much a turn grants for further asks and how much of it
--- is left, and when it passed its end or was broken
+-- what is kept of one direction
 pub record DirectionState : Type 0 where
+  -- what the command says of it
   pub source : Place
   pub sink : Place
   pub ignores_end : Bool
@@ -15,13 +15,16 @@ pub record DirectionState : Type 0 where
   pub sloppy : Bool
   pub how : Shut
   pub gathers : Bool
+  -- its bytes
   pub flow : Flowing
+  -- what is armed and was asked; how much a turn grants for further asks, and how much of it is left
   pub arming : Arming
   pub armed_out : Bool
   pub asked_in : Bool
   pub asked_out : Bool
   pub grant : ℕ
   pub extra : ℕ
+  -- whether its end was met, and when it passed it or was broken
   pub ended : Bool
   pub passed_at : Option ℕ
   pub broken_at : Option ℕ

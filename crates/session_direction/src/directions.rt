@@ -110,8 +110,8 @@ impl Direction {
         Ok(Direction {
             source,
             sink,
-            ignores_end: options.ignoreeof,
-            ends_at_empty: options.null_eof,
+            ignores_end: options.input.ignoreeof,
+            ends_at_empty: options.input.null_eof,
             sloppy: config.sloppy,
             how: how(config, sink),
             gathers: is_gathered(medium_of(config, source)),
@@ -506,8 +506,8 @@ fn terms_of(config: &Config, way: Way) -> Lane
             read: read.conv,
             write: written.conv,
         },
-        readbytes: read.readbytes,
-        escape: read.escape,
+        readbytes: read.input.readbytes,
+        escape: read.input.escape,
         packets,
     }
 }

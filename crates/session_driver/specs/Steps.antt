@@ -77,18 +77,22 @@ ReadsAsWished wish act = reads_bytes act ≡ false
 
 -- the world did this act, and whatever the session stands for it has heard it
 pub record Acts (c : Config) (old new : Seen) (before after : Session) (act : Act) : Type 0 where
+  -- what the world did, and that the session heard it
   pub asked : Option Asking
   pub failed : Bool
   pub did : DidFor asked old new act
   pub heard : (n : ℕ) (past : List Act) (s : ℕ) → Stands c n past s before → Heard c n past s act before after
+  -- it is the session's own, and what it wished
   pub own : (n : ℕ) (past : List Act) (s : ℕ) → Stands c n past s before → OwnAsking c s asked
   pub here : (n : ℕ) (past : List Act) (s : ℕ) → Stands c n past s before → IsActOf c s act
   pub closes : ClosesAsWished (wish_of before) act
   pub reads : ReadsAsWished (wish_of before) act
+  -- it is no turn, and counts as a fault where it failed
   pub no_turn : NoTurn act
   pub rose : Rose old.faults new.faults failed
   pub blameless : failed ≡ false → (past : List Act) → is_blamed (act ∷ past) ≡ is_blamed past
   pub waitless : Waitless old new
+  -- an ended session stays as it ended
   pub over : (n : ℕ) (past : List Act) (s : ℕ) → Stands c n past s before → has_ended before ≡ true → has_ended after ≡ true
   pub ending : (n : ℕ) (past : List Act) (s : ℕ) → Stands c n past s before → has_ended before ≡ true → ending_of after ≡ ending_of before
 

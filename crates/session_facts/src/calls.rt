@@ -50,7 +50,7 @@ fn enough(past: &Past) -> bool
     ensures { result ≡ enough past.now.config past.now.acts }
 {
     let config = past.config();
-    options_of(config, program_door()).stop_after <= admitted(past)
+    options_of(config, program_door()).sessions.stop_after <= admitted(past)
 }
 
 /// As many sessions live as may.
@@ -59,7 +59,7 @@ fn full(past: &Past) -> bool
     ensures { result ≡ full past.now.config past.now.acts }
 {
     let config = past.config();
-    options_of(config, program_door()).max_children <= live_count(past)
+    options_of(config, program_door()).sessions.max_children <= live_count(past)
 }
 
 /// A door that is held has served, or accepts the next peer while there is room for its session.

@@ -41,9 +41,9 @@ pub fn out_of_tries(past: &Past, place: Place) -> bool
 {
     let config = past.config();
     let options = options_of(config, place);
-    !options.forever
-        && options.retry != u64::MAX
-        && failure_count(past, place) as u64 > options.retry
+    !options.tries.forever
+        && options.tries.retry != u64::MAX
+        && failure_count(past, place) as u64 > options.tries.retry
 }
 
 /// The call, from the moment on at which it is due.
@@ -64,7 +64,7 @@ fn try_again(past: &Past, place: Place, wanted: Call) -> Call
     if out_of_tries(past, place) {
         Call::Nothing
     } else {
-        let due = next_due(past, place, options_of(config, place).interval);
+        let due = next_due(past, place, options_of(config, place).tries.interval);
         when_due(now(past), due, wanted)
     }
 }

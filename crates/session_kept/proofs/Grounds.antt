@@ -66,7 +66,7 @@ opening_alike c s one other p o h e d g =
       door_is = λ b. g.door_is b ∙ sym (h.own (door_of p) e (own b)).stage_same;
       armed_is = λ b. g.armed_is b ∙ sym (h.own (door_of p) e (own b)).armed_to_accept_same;
       asked_is = λ b. g.asked_is b ∙ sym (h.accepted (door_of p) e (own b));
-      tries_are = subst (λ (x : List ℕ). PlanIs (options_of c p).retry (options_of c p).forever (options_of c p).interval x o.plan) (sym f) g.tries_are;
+      tries_are = subst (λ (x : List ℕ). PlanIs (options_of c p).tries.retry (options_of c p).tries.forever (options_of c p).tries.interval x o.plan) (sym f) g.tries_are;
       tried_is = λ b. ap last_of f ∙ g.tried_is b ∙ ap Some (sym h.now_same);
       untried = λ b. a.failures_same ∙ g.untried b;
       closed_is = λ k. g.closed_is k ∙ sym a.was_closed_same;
@@ -86,7 +86,7 @@ direction_alike c s w one other d h g =
     let k = way_same c s one other h.own h.pieces w in
     let x = i.met_end_same in
     let y = i.met_empty_same in
-    let met : met_last c one s w ≡ met_last c other s w = λ j. x j && not (options_of c (input c s w)).ignoreeof || y j && (options_of c (input c s w)).null_eof in
+    let met : met_last c one s w ≡ met_last c other s w = λ j. x j && not (options_of c (input c s w)).input.ignoreeof || y j && (options_of c (input c s w)).input.null_eof in
     let v : over c one (input c s w) ≡ over c other (input c s w) = (idle_at c s one other (input c s w) i).over_same c in
     record {
       is_formed = g.is_formed;

@@ -304,7 +304,7 @@ forked true l e g = e
 forked false l e g = absurd (false≢true g)
 
 door_no_child : (left right : Address) → fork_is_placed left right ≡ true → forks left ≡ true → is_program (medium (single_for left Both).target) ≡ false
-door_no_child (addresses.One single) right e f = no_program single.target (forked single.options.fork (listens single.target) (and_parts (not single.options.fork || listens single.target) _ e).0 f)
+door_no_child (addresses.One single) right e f = no_program single.target (forked single.options.sessions.fork (listens single.target) (and_parts (not single.options.sessions.fork || listens single.target) _ e).0 f)
 door_no_child (addresses.Two reading writing) right e f = absurd (false≢true f)
 
 pub child_own : (c : Config) (p : Place) → Fit c → is_program (medium_of c p) ≡ true → is_program_door c p ≡ false

@@ -37,14 +37,18 @@ HasRisen before now = min (before + 1) (2 ^ 64 - 1) ≤ now
 
 -- the run began where the world looked like `start`; it looks like `now`, and the acts since then are `past`
 pub record Run (c : Config) (n : ℕ) (start now : Seen) (past : List Act) : Type 0 where
+  -- the acts
   pub legal : Legal c n past
   pub named : OnlyHeldWereNamed past
+  -- what the world was asked, and what it holds and tells
   pub pairs : List Asking
   pub asked : OnlyCommands c pairs
   pub told : now.told ≡ option_map (extend past pairs) start.told
   pub holds : (p : Place) → now.held p ≡ standing past p
+  -- the faults
   pub later : start.faults ≤ now.faults
   pub blamed : is_blamed past ≡ true → HasRisen start.faults now.faults
+  -- the waits, the stops and the clock
   pub waited : min (start.waits + turns past) (2 ^ 64 - 1) ≤ now.waits
   pub later_stops : start.stops ≤ now.stops
   pub stopped : stop_turned past ≡ true → HasRisen start.stops now.stops

@@ -183,7 +183,7 @@ idle_at c s one other p h =
       sent_same = h.sent_same;
       met_end_same = h.met_end_same;
       met_empty_same = h.met_empty_same;
-      over_same = λ k i. x i && not (options_of k p).ignoreeof || y i && (options_of k p).null_eof || is_over (options_of k p).readbytes (options_of k p).escape (g i);
+      over_same = λ k i. x i && not (options_of k p).input.ignoreeof || y i && (options_of k p).input.null_eof || is_over (options_of k p).input.readbytes (options_of k p).input.escape (g i);
       shut_at_same = h.shut_at_same;
       read_fault_at_same = h.read_fault_at_same;
       write_fault_at_same = h.write_fault_at_same;
@@ -209,8 +209,8 @@ way_same c s one other own pieces w =
       backlog_same = k;
       room_same =
           λ j. cond (keeps_borders c w)
-          (packet_size c.block (packet_cap (options_of c (output c 0 w)).conv) (options_of c (input c 0 w)).readbytes (length (g j)) (k j))
-          (read_size c.block (options_of c (input c 0 w)).readbytes (length (g j)) (k j));
+          (packet_size c.block (packet_cap (options_of c (output c 0 w)).conv) (options_of c (input c 0 w)).input.readbytes (length (g j)) (k j))
+          (read_size c.block (options_of c (input c 0 w)).input.readbytes (length (g j)) (k j));
       spent_same = λ j. v j && k j == 0;
       passed_at_same = x;
       broken_at_same = λ j. cond c.sloppy (or_else (r j) (u j)) None;

@@ -1,5 +1,5 @@
 // A run whose history may be written to a file.
-ghost use Rattle.std.specs.Prelude.{◌≡◌, ◌≤◌, ◌-◌, ◌++◌, [], true, false, length, drop, Some, option_map, IfSome, MatchOption};
+ghost use Rattle.std.specs.Prelude.{◌≡◌, ◌≤◌, ◌-◌, [], true, false, length, drop, Some, IfSome, MatchOption};
 ghost use Rattle.std.specs.Bool.{OnTrue, OnFalse};
 ghost use Rattle.relay_model.specs.declared.places.Place.{Place as Spot};
 ghost use Rattle.relay_model.specs.Holding.{Free};
@@ -20,8 +20,9 @@ use crate::runs::{Shipped, run};
 use journal_file::JournalFile;
 use journal_text::write_front;
 use port_desk::Desk;
-use port_trait::{Maker, Poller, Port, Sink, SinkTook};
+use port_trait::{Maker, Poller, Port};
 use relay_model::{Act, Journal, Text};
+use sink_texts::write_whole;
 use std::alloc::Global;
 use world_trait::World;
 
@@ -118,7 +119,7 @@ fn save<F: JournalFile>(alloc: Global, journal: &Journal, file: &mut F, made: bo
     let Ok(text) = write_front(alloc, journal, count_without_last_note(journal)) else {
         return Saving::Memory;
     };
-    if write_all(file, text.as_slice()) {
+    if write_whole(file, text.as_slice()) {
         Saving::Saved
     } else {
         Saving::Failed
@@ -141,22 +142,6 @@ fn is_note(act: &Act) -> bool
     ensures { result ≡ is_note act.now }
 {
     matches!(act, Act::Note(_) | Act::NoteFault(_))
-}
-
-/// Writes all bytes, and says so where the sink took each and was finished.
-fn write_all<K: Sink>(sink: &mut K, bytes: &[u8]) -> bool
-    ensures took { OnTrue result (K.took sink.new ≡ option_map (λ all. all ++ bytes.now) (K.took sink.old)) }
-    ensures finished { OnTrue result (K.finished sink.new ≡ true) }
-    ensures failed { OnFalse result (Risen (K.faults sink.old) (K.faults sink.new)) }
-{
-    let mut rest = bytes;
-    while rest.len() > 0 {
-        match sink.write(rest) {
-            SinkTook::Took(count) => rest = &rest[count..],
-            SinkTook::Failed => return false,
-        }
-    }
-    sink.finish()
 }
 
 /// The end of a run with what became of its journal.

@@ -1,5 +1,5 @@
 -- Which sockets are made of which addresses.
-use Rattle.std.specs.Prelude.{Bool, true, false, Option, None, Some}
+use Rattle.std.specs.Prelude.{Option, None, Some}
 use Rattle.relay_model.specs.declared.commands.Target.{Target}
 use Rattle.relay_model.specs.declared.commands.Target.TheVariants as targets
 use Rattle.port_trait.specs.declared.makers.Making.{Making}
@@ -17,14 +17,6 @@ opened_sort (targets.UdpRecv family port) = Some Packets
 opened_sort (targets.UnixConnect name) = Some Connected
 opened_sort (targets.GenericOpen name) = Some Connected
 opened_sort _ = None
-
--- the kinds of sockets that are listened at
-abbrev pub listens : Target → Bool
-listens (targets.TcpListen family port) = true
-listens (targets.UdpListen family port) = true
-listens (targets.UdpRecvfrom family port) = true
-listens (targets.UnixListen name) = true
-listens _ = false
 
 -- the sort of the socket that was made
 abbrev pub socket_sort : Making AnySocket → Option Sort

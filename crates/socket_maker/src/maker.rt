@@ -4,13 +4,14 @@ ghost use Rattle.port_trait.specs.Counting.{Counted};
 ghost use Rattle.port_trait.specs.Made.{making_failed, making_stalled, IsAtOnce, peer_failed, peer_stalled, came_after};
 ghost use Rattle.port_trait.specs.declared.makers.Making.TheVariants as makings;
 ghost use Rattle.socket_maker.specs.Makers.{risen_if};
-ghost use Rattle.socket_ports.specs.Sockets.{risen};
+ghost use Rattle.answer_counts.specs.Counted.{risen};
 ghost use Rattle.port_trait.specs.Hinting.{StaysHinting};
 ghost use Rattle.port_trait.specs.declared.makers.MadePeer.TheVariants as peers;
 ghost use Rattle.socket_kinds.specs.Kinds.{Listening, hint_of, is_door, has_left_off};
 ghost use Rattle.socket_kinds.specs.Accepting.{OnPort, OnPeer};
 ghost use Rattle.socket_ports.specs.Accepting.{IsFresh};
-ghost use Rattle.socket_maker.specs.Makings.{opened_sort, listens, port_sort};
+ghost use Rattle.socket_maker.specs.Makings.{opened_sort, port_sort};
+ghost use Rattle.relay_model.specs.Configs.{listens};
 
 use crate::making::{listen_socket, make_socket};
 use mio::Registry;

@@ -4,7 +4,8 @@ ghost use Rattle.port_trait.specs.declared.makers.Making.TheVariants as makings;
 ghost use Rattle.port_trait.specs.Made.{IsAtOnce};
 ghost use Rattle.socket_kinds.specs.Accepting.{OnPort};
 ghost use Rattle.socket_ports.specs.Accepting.{IsFresh};
-ghost use Rattle.socket_maker.specs.Makings.{opened_sort, listens, socket_sort, port_sort};
+ghost use Rattle.socket_maker.specs.Makings.{opened_sort, socket_sort, port_sort};
+ghost use Rattle.relay_model.specs.Configs.{listens};
 ghost use Rattle.socket_kinds.specs.Kinds.{Connected, Packets, Listening};
 
 use crate::lookup::{door_address, local_address, look_up};
@@ -40,20 +41,21 @@ where
     ensures other { opened_sort single.now.target ≡ None → result ≡ makings.Failed }
 {
     let options = &single.options;
+    let socket = options.socket;
     match &single.target {
         Target::Tcp { family, host, port } => match look_up(&rt, *family, host, *port) {
-            Some(addr) => nameless(connect_tcp(&rt, registry, key, addr, options.nodelay)),
+            Some(addr) => nameless(connect_tcp(&rt, registry, key, addr, socket.nodelay)),
             None => Making::Failed,
         },
         Target::Udp { family, host, port } => match look_up(&rt, *family, host, *port) {
-            Some(addr) => nameless(connect_udp(&rt, alloc, registry, key, addr, options.bind)),
+            Some(addr) => nameless(connect_udp(&rt, alloc, registry, key, addr, socket.bind)),
             None => Making::Failed,
         },
         Target::UdpSendto { family, host, port } => match look_up(&rt, *family, host, *port) {
-            Some(addr) => nameless(send_udp(&rt, alloc, registry, key, addr, options.bind)),
+            Some(addr) => nameless(send_udp(&rt, alloc, registry, key, addr, socket.bind)),
             None => Making::Failed,
         },
-        Target::UdpRecv { family, port } => match door_address(options.bind, *family, *port) {
+        Target::UdpRecv { family, port } => match door_address(socket.bind, *family, *port) {
             Some(addr) => nameless(receive_udp(&rt, alloc, registry, key, addr)),
             None => Making::Failed,
         },
@@ -101,17 +103,18 @@ where
     ensures other { listens single.now.target ≡ false → result ≡ makings.Failed }
 {
     let options = &single.options;
+    let socket = options.socket;
     match &single.target {
-        Target::TcpListen { family, port } => match door_address(options.bind, *family, *port) {
-            Some(addr) => nameless(listen_tcp(&rt, registry, key, addr, options.nodelay)),
+        Target::TcpListen { family, port } => match door_address(socket.bind, *family, *port) {
+            Some(addr) => nameless(listen_tcp(&rt, registry, key, addr, socket.nodelay)),
             None => Making::Failed,
         },
-        Target::UdpListen { .. } if options.fork => Making::Failed,
-        Target::UdpListen { family, port } => match door_address(options.bind, *family, *port) {
+        Target::UdpListen { .. } if options.sessions.fork => Making::Failed,
+        Target::UdpListen { family, port } => match door_address(socket.bind, *family, *port) {
             Some(addr) => nameless(listen_udp(&rt, registry, key, addr, false)),
             None => Making::Failed,
         },
-        Target::UdpRecvfrom { family, port } => match door_address(options.bind, *family, *port) {
+        Target::UdpRecvfrom { family, port } => match door_address(socket.bind, *family, *port) {
             Some(addr) => nameless(listen_udp(&rt, registry, key, addr, true)),
             None => Making::Failed,
         },
@@ -267,13 +270,13 @@ where
     let Ok(entry) = String::from_str(alloc, path) else {
         return Making::Memory;
     };
-    if options.unlink_early {
+    if options.entry.unlink_early {
         let _ = rt.remove_file(path);
     }
     let Ok(stream) = UnixStream::connect(&rt, path) else {
         return Making::Failed;
     };
-    let removal = Removal::only_if(options.unlink_close, entry);
+    let removal = Removal::only_if(options.entry.unlink_close, entry);
     let mut stream = Stream::Unix(stream);
     if !stream.enroll(registry, key) {
         return Making::Failed;
@@ -353,13 +356,13 @@ where
     let Ok(entry) = String::from_str(alloc, path) else {
         return Making::Memory;
     };
-    if options.unlink_early {
+    if options.entry.unlink_early {
         let _ = rt.remove_file(path);
     }
     let Ok(mut listener) = UnixListener::bind(&rt, path) else {
         return Making::Failed;
     };
-    let removal = Removal::only_if(options.unlink_close, entry);
+    let removal = Removal::only_if(options.entry.unlink_close, entry);
     if registry
         .register(&mut listener, Token(key), Interest::READABLE)
         .is_err()

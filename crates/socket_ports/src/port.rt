@@ -7,8 +7,10 @@ ghost use Rattle.port_trait.specs.declared.answers.Begun.TheVariants as begins;
 ghost use Rattle.port_trait.specs.declared.answers.PortReap.TheVariants as reaps;
 ghost use Rattle.port_trait.specs.declared.answers.Joining.TheVariants as joining;
 ghost use Rattle.socket_kinds.specs.Sockets.{hint_told};
-ghost use Rattle.socket_ports.specs.Sockets.{fresh_port, counted};
+ghost use Rattle.answer_counts.specs.Counted.{counted};
+ghost use Rattle.socket_ports.specs.Sockets.{fresh_port};
 
+use answer_counts::{count_reading, count_settling, count_shutting, count_writing, is_end};
 use port_trait::{Begun, Counts, Got, Hint, Joining, Port, PortReap, Settled, Shutting, Took};
 use relay_model::Shut;
 use socket_kinds::Socket;
@@ -234,58 +236,4 @@ fn transmit_front<S: Socket>(socket: &mut S, bytes: &[u8]) -> (usize, bool)
         }
     }
     (count, false)
-}
-
-fn is_end(got: Got) -> bool
-    ensures { result ≡ is_end got }
-{
-    match got {
-        Got::End => true,
-        Got::Bytes(_) | Got::Empty | Got::NotYet | Got::Failed => false,
-    }
-}
-
-fn count_settling(counts: &mut Counts, settled: Settled)
-    ensures counted { counts.new ≡ counted (settle_event settled) counts.old }
-    ensures tallied { Tallied (settle_event settled) counts.old counts.new }
-{
-    match settled {
-        Settled::Ready => {}
-        Settled::NotYet => counts.count_stall(),
-        Settled::Failed => counts.count_fault(),
-    }
-}
-
-fn count_reading(counts: &mut Counts, got: Got)
-    ensures counted { counts.new ≡ counted (read_event got) counts.old }
-    ensures tallied { Tallied (read_event got) counts.old counts.new }
-{
-    match got {
-        Got::Bytes(_) => {}
-        Got::Empty => counts.count_empty(),
-        Got::End => counts.count_end(),
-        Got::NotYet => counts.count_stall(),
-        Got::Failed => counts.count_fault(),
-    }
-}
-
-fn count_writing(counts: &mut Counts, took: Took)
-    ensures counted { counts.new ≡ counted (write_event took) counts.old }
-    ensures tallied { Tallied (write_event took) counts.old counts.new }
-{
-    match took {
-        Took::Took(_) => {}
-        Took::NotYet => counts.count_stall(),
-        Took::Failed => counts.count_fault(),
-    }
-}
-
-fn count_shutting(counts: &mut Counts, shutting: Shutting)
-    ensures counted { counts.new ≡ counted (shut_event shutting) counts.old }
-    ensures tallied { Tallied (shut_event shutting) counts.old counts.new }
-{
-    match shutting {
-        Shutting::Done => {}
-        Shutting::Failed => counts.count_fault(),
-    }
 }

@@ -2,10 +2,11 @@
 ghost use Rattle.std.specs.Prelude.{◌≡◌, ◌<◌, true, false, [], length};
 ghost use Rattle.port_trait.specs.Counting.{Tallied};
 ghost use Rattle.port_trait.specs.Hinting.{StaysHinting};
+ghost use Rattle.answer_counts.specs.Counted.{counted};
 ghost use Rattle.port_trait.specs.Meanings.{Gives, Accepts, AcceptsAll, is_end, settle_event, read_event, write_event};
 ghost use Rattle.port_trait.specs.declared.answers.Took.TheVariants as writes;
 ghost use Rattle.tunnel_port.specs.Talks.{is_passed, is_over, settled_at, read_at, write_at, IsOnly, Follows, behind_talk, InTalk, HasCause};
-ghost use Rattle.tunnel_port.specs.Tunnels.{fresh_tunnel, counted, hints_told};
+ghost use Rattle.tunnel_port.specs.Tunnels.{fresh_tunnel, hints_told};
 ghost use Rattle.socks_port.specs.Replies.{Stands, refusal_of};
 
 use crate::refusal::SocksEnd;

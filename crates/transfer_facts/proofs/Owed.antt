@@ -131,7 +131,7 @@ elsewhere c q i v s w ev ei h = no_input c q s w (sym (ap (same_place q) (ei ∙
 -- ---- one more read
 
 abbrev pub piece_of : Config → Way → ℕ → List ℕ → List ℕ
-piece_of c w count bytes = due_of (options_of c (input c 0 w)).conv (options_of c (output c 0 w)).conv (left_of (options_of c (input c 0 w)).readbytes count) (options_of c (input c 0 w)).escape bytes
+piece_of c w count bytes = due_of (options_of c (input c 0 w)).conv (options_of c (output c 0 w)).conv (left_of (options_of c (input c 0 w)).input.readbytes count) (options_of c (input c 0 w)).input.escape bytes
 
 -- where the escape byte was met nothing more is due
 pub due_after_met : (c : Config) (past : List Act) (q : Place) (bytes : List ℕ) (s : ℕ) (w : Way) → true ≡ met_at c past q → due c w (got past (input c s w)) ≡ due c w (joined (same_place q (input c s w)) (got past (input c s w)) bytes)
@@ -163,16 +163,16 @@ due_after_piece c past q bytes count s v w ev ec met = go (same_place q (input c
     go false e = refl
 
 -- whether the escape byte was met, after one more read
-pub met_after : (c : Config) (past : List Act) (q p : Place) (bytes : List ℕ) (before after : Bool) (count : ℕ) → before ≡ met_at c past q → count ≡ length (got past q) → after ≡ (before || is_met (left_of (options_of c q).readbytes count) (options_of c q).escape bytes) → cond (same_place q p) after (met_at c past p) ≡ is_met (options_of c p).readbytes (options_of c p).escape (joined (same_place q p) (got past p) bytes)
+pub met_after : (c : Config) (past : List Act) (q p : Place) (bytes : List ℕ) (before after : Bool) (count : ℕ) → before ≡ met_at c past q → count ≡ length (got past q) → after ≡ (before || is_met (left_of (options_of c q).input.readbytes count) (options_of c q).input.escape bytes) → cond (same_place q p) after (met_at c past p) ≡ is_met (options_of c p).input.readbytes (options_of c p).input.escape (joined (same_place q p) (got past p) bytes)
 met_after c past q p bytes before after count eb ec ea = go (same_place q p) refl
   where
-    go : (b : Bool) → same_place q p ≡ b → cond b after (met_at c past p) ≡ is_met (options_of c p).readbytes (options_of c p).escape (joined b (got past p) bytes)
+    go : (b : Bool) → same_place q p ≡ b → cond b after (met_at c past p) ≡ is_met (options_of c p).input.readbytes (options_of c p).input.escape (joined b (got past p) bytes)
     go true e =
-        let whole : after ≡ is_met (options_of c q).readbytes (options_of c q).escape (got past q ++ bytes) =
-        ea ∙ ap (λ b. b || is_met (left_of (options_of c q).readbytes count) (options_of c q).escape bytes) eb
-        ∙ ap (λ n. met_at c past q || is_met (left_of (options_of c q).readbytes n) (options_of c q).escape bytes) ec
-        ∙ sym (met_split (options_of c q).readbytes (options_of c q).escape (got past q) bytes) in
-        subst (λ x. after ≡ is_met (options_of c x).readbytes (options_of c x).escape (got past x ++ bytes)) (same_place_equal q p e) whole
+        let whole : after ≡ is_met (options_of c q).input.readbytes (options_of c q).input.escape (got past q ++ bytes) =
+        ea ∙ ap (λ b. b || is_met (left_of (options_of c q).input.readbytes count) (options_of c q).input.escape bytes) eb
+        ∙ ap (λ n. met_at c past q || is_met (left_of (options_of c q).input.readbytes n) (options_of c q).input.escape bytes) ec
+        ∙ sym (met_split (options_of c q).input.readbytes (options_of c q).input.escape (got past q) bytes) in
+        subst (λ x. after ≡ is_met (options_of c x).input.readbytes (options_of c x).input.escape (got past x ++ bytes)) (same_place_equal q p e) whole
     go false e = refl
 
 pub due_appended : (c : Config) (past : List Act) (q : Place) (bytes : List ℕ) (count : ℕ) (s : ℕ) (v w : Way) (old new more : List ℕ) (b : Bool) → v ≡ way_from q.side → count ≡ length (got past q) → false ≡ met_at c past q → new ≡ cond b (old ++ more) old → b ≡ same_place q (input c s w) → more ≡ piece_of c v count bytes → old ≡ due c w (got past (input c s w)) → new ≡ due c w (joined (same_place q (input c s w)) (got past (input c s w)) bytes)

@@ -33,7 +33,7 @@ left_of (Some most) count = Some (most - count)
 
 -- whether the escape byte stands among the bytes of a place that count
 abbrev pub met_at : Config → List Act → Place → Bool
-met_at c past p = is_met (options_of c p).readbytes (options_of c p).escape (got past p)
+met_at c past p = is_met (options_of c p).input.readbytes (options_of c p).input.escape (got past p)
 
 -- the table has whether the input of each place is met
 abbrev pub MetTold : Config → Placed Bool → List Act → Type 0

@@ -77,17 +77,17 @@ fn due_more(
     count: usize,
     bytes: &[u8],
 ) -> Result<Vec<u8>, NoMemory>
-    ensures { IfOk result (λ more. more.items ≡ due_of (options_of config.now (input config.now 0 way)).conv (options_of config.now (output config.now 0 way)).conv (left_of (options_of config.now (input config.now 0 way)).readbytes count) (options_of config.now (input config.now 0 way)).escape bytes.now) }
+    ensures { IfOk result (λ more. more.items ≡ due_of (options_of config.now (input config.now 0 way)).conv (options_of config.now (output config.now 0 way)).conv (left_of (options_of config.now (input config.now 0 way)).input.readbytes count) (options_of config.now (input config.now 0 way)).input.escape bytes.now) }
 {
     let reading = options_of(config, input(config, 0, way));
     let writing = options_of(config, output(config, 0, way));
-    let left = left_of(reading.readbytes, count);
+    let left = left_of(reading.input.readbytes, count);
     converted(
         alloc,
         reading.conv,
         writing.conv,
         left,
-        reading.escape,
+        reading.input.escape,
         bytes,
     )
 }
@@ -119,10 +119,10 @@ fn read_due(
 }
 
 fn meets(config: &Config, place: Place, met: bool, count: usize, bytes: &[u8]) -> bool
-    ensures { result ≡ (met || is_met (left_of (options_of config.now place).readbytes count) (options_of config.now place).escape bytes.now) }
+    ensures { result ≡ (met || is_met (left_of (options_of config.now place).input.readbytes count) (options_of config.now place).input.escape bytes.now) }
 {
-    let options = options_of(config, place);
-    met || is_met(left_of(options.readbytes, count), options.escape, bytes)
+    let reading = options_of(config, place).input;
+    met || is_met(left_of(reading.readbytes, count), reading.escape, bytes)
 }
 
 fn read_met(

@@ -31,10 +31,10 @@ fn is_used_up(readbytes: Option<u64>, count: usize) -> bool
 
 /// Whether the bytes that were read at a place end its input by themselves.
 fn ends_by_itself(past: &Ledger, place: Place) -> bool
-    ensures { result ≡ is_over (options_of past.now.config place).readbytes (options_of past.now.config place).escape (got past.now.acts place) }
+    ensures { result ≡ is_over (options_of past.now.config place).input.readbytes (options_of past.now.config place).input.escape (got past.now.acts place) }
 {
     let facts = past.facts();
-    let readbytes = options_of(facts.config(), place).readbytes;
+    let readbytes = options_of(facts.config(), place).input.readbytes;
     is_used_up(readbytes, got_length(facts, place)) || past.owings.met.at(place)
 }
 
@@ -44,8 +44,8 @@ pub fn over(past: &Ledger, place: Place) -> bool
 {
     let facts = past.facts();
     let options = options_of(facts.config(), place);
-    met_end(facts, place) && !options.ignoreeof
-        || met_empty(facts, place) && options.null_eof
+    met_end(facts, place) && !options.input.ignoreeof
+        || met_empty(facts, place) && options.input.null_eof
         || ends_by_itself(past, place)
 }
 
@@ -94,7 +94,7 @@ pub fn greatest_read(past: &Ledger, session: u32, way: Way) -> u64
 {
     let facts = past.facts();
     let config = facts.config();
-    let readbytes = options_of(config, input(config, 0, way)).readbytes;
+    let readbytes = options_of(config, input(config, 0, way)).input.readbytes;
     let count = got_length(facts, input(config, session, way));
     let waiting = backlog(past, session, way);
     if keeps_borders(config, way) {

@@ -2,7 +2,6 @@
 // read, byte by byte, with nothing behind it. Then it is the port beneath.
 #![tactic(auto)]
 
-mod counting;
 mod port;
 mod progress;
 mod stage;

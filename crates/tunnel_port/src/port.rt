@@ -2,18 +2,19 @@
 ghost use Rattle.std.specs.Prelude.{◌≡◌, ◌<◌, true, false, [], length, IfSome};
 ghost use Rattle.port_trait.specs.Counting.{Tallied};
 ghost use Rattle.port_trait.specs.Hinting.{StaysHinting, no_hint};
+ghost use Rattle.answer_counts.specs.Counted.{counted};
 ghost use Rattle.port_trait.specs.Meanings.{Gives, Accepts, AcceptsAll, ReapsChild, begun_after, is_end, begin_event, settle_event, read_event, write_event, shut_event, join_answer};
 ghost use Rattle.port_trait.specs.declared.answers.Begun.TheVariants as begins;
 ghost use Rattle.port_trait.specs.declared.answers.Took.TheVariants as writes;
 ghost use Rattle.tunnel_port.specs.Talks.{is_passed, is_over, settled_at, read_at, write_at, IsOnly, behind_talk, InTalk, IsJudged, HasCause};
-ghost use Rattle.tunnel_port.specs.Tunnels.{fresh_tunnel, counted, hints_told};
+ghost use Rattle.tunnel_port.specs.Tunnels.{fresh_tunnel, hints_told};
 
-use crate::counting::{
-    count_beginning, count_reading, count_settling, count_shutting, count_writing, is_end,
-};
 use crate::progress::go_on;
 use crate::stage::Stage;
 use crate::talk::Talk;
+use answer_counts::{
+    count_beginning, count_reading, count_settling, count_shutting, count_writing, is_end,
+};
 use port_trait::{Begun, Counts, Got, Hint, Joining, Port, PortReap, Settled, Shutting, Took};
 use relay_model::Shut;
 use std::marker::Model;

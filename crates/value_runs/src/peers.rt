@@ -18,11 +18,11 @@ pub(crate) fn ask(alloc: Global, inputs: &mut Inputs<'_>, answers: &mut Answers)
 
 fn make_step(options: &mut Options, word: &str, answers: &mut Answers) -> Answered {
     if word == "lowport" {
-        options.lowport = true;
+        options.admission.lowport = true;
     } else if let Some(text) = word.strip_prefix("range=") {
-        options.range = Some(read_range(text.as_bytes()).ok_or(RowFault::NoRow)?);
+        options.admission.range = Some(read_range(text.as_bytes()).ok_or(RowFault::NoRow)?);
     } else if let Some(text) = word.strip_prefix("sourceport=") {
-        options.sourceport = Some(text.parse::<u16>()?);
+        options.admission.sourceport = Some(text.parse::<u16>()?);
     } else {
         answers.truth(Filter::new(options).permits(peer_of(word)?))?;
     }

@@ -28,12 +28,12 @@ pub(crate) fn say_single(single: &Single, answers: &mut Answers) -> Answered {
 fn say_relaying(options: &Options, answers: &mut Answers) -> Answered {
     answers.word_if("cr", options.conv == Conv::Cr)?;
     answers.word_if("crnl", options.conv == Conv::Crnl)?;
-    answers.word_if("ignoreeof", options.ignoreeof)?;
-    answers.word_if("null-eof", options.null_eof)?;
-    if let Some(limit) = options.readbytes {
+    answers.word_if("ignoreeof", options.input.ignoreeof)?;
+    answers.word_if("null-eof", options.input.null_eof)?;
+    if let Some(limit) = options.input.readbytes {
         answers.counted("readbytes", limit)?;
     }
-    if let Some(byte) = options.escape {
+    if let Some(byte) = options.input.escape {
         answers.counted("escape", u64::from(byte))?;
     }
     match options.shut {
@@ -53,40 +53,44 @@ fn say_opening(options: &Options, answers: &mut Answers) -> Answered {
     answers.word_if("trunc", options.file.trunc)?;
     answers.word_if("rdonly", options.file.rdonly)?;
     answers.word_if("wronly", options.file.wronly)?;
-    answers.word_if("unlink-early", options.unlink_early)?;
-    answers.word_if("unlink-close", options.unlink_close)?;
-    answers.word_if("nodelay", options.nodelay)?;
-    if let Some(bind) = options.bind {
+    answers.word_if("unlink-early", options.entry.unlink_early)?;
+    answers.word_if("unlink-close", options.entry.unlink_close)?;
+    answers.word_if("nodelay", options.socket.nodelay)?;
+    if let Some(bind) = options.socket.bind {
         say_bind(bind, answers)?;
     }
-    answers.unusual("retry", options.retry, 0)?;
-    answers.unusual("interval", options.interval, 1000)?;
-    answers.word_if("forever", options.forever)
+    answers.unusual("retry", options.tries.retry, 0)?;
+    answers.unusual("interval", options.tries.interval, 1000)?;
+    answers.word_if("forever", options.tries.forever)
 }
 
 /// Which peers are let in, and how many.
 fn say_sessions(options: &Options, answers: &mut Answers) -> Answered {
     let most = u64::from(u32::MAX);
-    answers.word_if("fork", options.fork)?;
-    answers.unusual("max-children", u64::from(options.max_children), most)?;
-    answers.unusual("stop-after", u64::from(options.stop_after), most)?;
-    if let Some(range) = options.range {
+    answers.word_if("fork", options.sessions.fork)?;
+    answers.unusual(
+        "max-children",
+        u64::from(options.sessions.max_children),
+        most,
+    )?;
+    answers.unusual("stop-after", u64::from(options.sessions.stop_after), most)?;
+    if let Some(range) = options.admission.range {
         say_range(range, answers)?;
     }
-    if let Some(port) = options.sourceport {
+    if let Some(port) = options.admission.sourceport {
         answers.counted("sourceport", u64::from(port))?;
     }
-    answers.word_if("lowport", options.lowport)
+    answers.word_if("lowport", options.admission.lowport)
 }
 
 /// How servers are asked.
 fn say_servers(options: &Options, answers: &mut Answers) -> Answered {
-    answers.unusual("socksport", u64::from(options.socksport), 1080)?;
-    if options.socksuser.len() > 0 {
+    answers.unusual("socksport", u64::from(options.proxy.socksport), 1080)?;
+    if options.proxy.socksuser.len() > 0 {
         answers.word("socksuser")?;
-        answers.part(options.socksuser.as_slice())?;
+        answers.part(options.proxy.socksuser.as_slice())?;
     }
-    answers.unusual("proxyport", u64::from(options.proxyport), 8080)
+    answers.unusual("proxyport", u64::from(options.proxy.proxyport), 8080)
 }
 
 /// The version, the address and the port.

@@ -1,6 +1,6 @@
 use Rattle.std.proofs.Common.{◌≡◌, ◌++◌}
 use Rattle.command_report.specs.Reports.{ending, ending_words}
-use Rattle.command_report.proofs.Growing.{grown_by_three}
+use Rattle.place_report.proofs.Growing.{grown_by_three}
 use Rattle.command_report.proofs.sections.say_ending.Goals as goal
 
 pub returns : goal.returns

@@ -1,7 +1,7 @@
 use Rattle.std.proofs.Common.{◌≡◌, ◌++◌, ap, ◌∙◌}
 use Rattle.relay_model.specs.Configs.{formed}
-use Rattle.command_report.specs.Shown.{said}
-use Rattle.command_report.specs.Reports.{title_of}
+use Rattle.place_report.specs.Shown.{said}
+use Rattle.place_report.specs.Places.{title_of}
 use Rattle.command_report.proofs.Endings.{one_told}
 use Rattle.command_report.proofs.sections.single_told.Goals as goal
 

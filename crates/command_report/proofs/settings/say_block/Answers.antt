@@ -1,6 +1,6 @@
 use Rattle.std.proofs.Common.{◌≡◌, ◌*◌, ◌++◌}
 use Rattle.std.specs.Prelude.{decimal}
-use Rattle.command_report.proofs.Growing.{grown_by_six}
+use Rattle.place_report.proofs.Growing.{grown_by_six}
 use Rattle.command_report.proofs.settings.say_block.Goals as goal
 
 pub returns : goal.returns

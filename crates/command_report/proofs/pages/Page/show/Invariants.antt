@@ -1,6 +1,0 @@
-use Rattle.std.proofs.Common.{◌≡◌, ◌++◌, drop}
-use Rattle.command_report.specs.Shown.{shown}
-use Rattle.command_report.proofs.pages.Page.show.Given as goal
-
-abbrev pub invariant-loop-byte : goal.invariant-loop-byte
-invariant-loop-byte l = l.self ++ shown (drop l.byte-index l.bytes) ≡ l.initial.self ++ shown l.bytes

@@ -1,0 +1,12 @@
+use Rattle.std.proofs.Common.{◌≡◌, ◌≤◌, ◌++◌, length}
+use Rattle.std.specs.Prelude.{option_map}
+use Rattle.sink_texts.proofs.write_whole.Given as goal
+
+abbrev pub invariant-loop-rest : goal.invariant-loop-rest
+invariant-loop-rest g l = record {
+  taken : option_map (λ held. held ++ l.rest) (g.K.Sink.took l.sink) ≡ option_map (λ held. held ++ l.text) (g.K.Sink.took l.fn.sink);
+  grew : g.K.Sink.faults l.fn.sink ≤ g.K.Sink.faults l.sink;
+}
+
+abbrev pub decreases-loop-rest : goal.decreases-loop-rest
+decreases-loop-rest g l = length l.rest
