@@ -107,7 +107,7 @@ read_unsaid bases.Output result into errors errors' same = took_of errors errors
 read_unsaid (bases.Made key) result into errors errors' same = took_of errors errors' same
 
 -- a read of standard input met the end or didn't, and another leaves that
-answer_ends : ReadAnswer → Bool
+abbrev answer_ends : ReadAnswer → Bool
 answer_ends reads.End = true
 answer_ends (reads.Bytes n) = false
 answer_ends reads.Empty = false
@@ -115,7 +115,8 @@ answer_ends reads.NotYet = false
 answer_ends reads.Failed = false
 answer_ends reads.Memory = false
 
-wants_none : ReadAnswer → Bool
+-- it is an answer other than want of memory
+abbrev wants_none : ReadAnswer → Bool
 wants_none reads.Memory = false
 wants_none (reads.Bytes n) = true
 wants_none reads.Empty = true
@@ -685,7 +686,7 @@ sum_prop None x = Unit-prop
 sum_prop (Some a) x = Coded-set (coded_list coded_ℕ) a x
 
 -- what follows a history to its end
-pub passed : (told : Option History) (base : Place → Option Base) (gave took said : Option (List ℕ)) (over : Bool) → ∥ FollowsTold told base gave took said over ∥₁ → IfSome told (λ h. Passed h gave took said)
+pub passed : (told : Option History) (base : Place → Option Base) (gave took said : Option (List ℕ)) (over : Bool) → ∥ FollowsTold told base gave took said over ∥₁ → IfSome told (λ h. Passed h gave took said over)
 passed None base gave took said over follows = tt
 passed (Some h) base gave took said over follows = λ own all elsewhere. record {
   given = ∥∥₁_elim follows (sum_prop gave (input_read own h.acts)) (λ f. (f own all elsewhere).given);
