@@ -1,5 +1,4 @@
-// The calls of a desk, each of which keeps what its standard input gave and its standard output took in step with what
-// its history tells.
+// The calls of a desk, each of which keeps what its standard streams passed in step with what its history tells.
 ghost use Rattle.std.specs.Prelude.{◌≡◌, [], IfSome, false};
 ghost use Rattle.relay_model.specs.Holding.{Free};
 ghost use Rattle.relay_model.specs.declared.places.Place.{Place as Spot};
@@ -18,16 +17,17 @@ use world_trait::{
 #[derive(Drop)]
 pub struct Followed<M: Maker + Drop, P: Poller + Drop, I: Port, O: Port, E: Port> {
     desk: Desk<M, P, I, O, E>,
-    ghost follows: { ∥ FollowsTold desk.log.recording.told (base_at desk.log.stations.entries) desk.ports.harbor.input.port.gave desk.ports.harbor.output.port.took ∥₁ },
+    ghost follows: { ∥ FollowsTold desk.log.recording.told (base_at desk.log.stations.entries) desk.ports.harbor.input.port.gave desk.ports.harbor.output.port.took desk.ports.harbor.errors.port.took desk.ports.harbor.input.port.ended ∥₁ },
 }
 
 impl<M: Maker + Drop, P: Poller + Drop, I: Port, O: Port, E: Port> Followed<M, P, I, O, E> {
-    /// Follows the desk, which has done nothing yet, and whose standard input and output have passed no bytes.
+    /// Follows the desk, which has done nothing yet, and whose standard streams have passed no bytes.
     pub fn new(desk: Desk<M, P, I, O, E>) -> Followed<M, P, I, O, E>
         requires free { (p : Spot) → ⟦<Desk<M, P, I, O, E> as World>⟧.held desk p ≡ Free }
         requires untouched { desk.log.acted ≡ false }
         requires given { IfSome desk.ports.harbor.input.port.gave (λ all. all ≡ []) }
         requires taken { IfSome desk.ports.harbor.output.port.took (λ all. all ≡ []) }
+        requires silent { IfSome desk.ports.harbor.errors.port.took (λ all. all ≡ []) }
         ensures { result.desk ≡ desk }
     {
         Followed { desk }
@@ -36,7 +36,7 @@ impl<M: Maker + Drop, P: Poller + Drop, I: Port, O: Port, E: Port> Followed<M, P
     /// The desk again.
     pub fn into_desk(self) -> Desk<M, P, I, O, E>
         ensures desk { result ≡ self.desk }
-        ensures passed { IfSome result.log.recording.told (λ history. Passed history result.ports.harbor.input.port.gave result.ports.harbor.output.port.took) }
+        ensures passed { IfSome result.log.recording.told (λ history. Passed history result.ports.harbor.input.port.gave result.ports.harbor.output.port.took result.ports.harbor.errors.port.took result.ports.harbor.input.port.ended) }
     {
         let Followed { desk } = self;
         desk

@@ -139,6 +139,7 @@ impl<M: Maker + Drop, I: Port, O: Port, E: Port> Ports<M, I, O, E> {
         ensures input { MovesNothing self.old.harbor.input.port self.new.harbor.input.port }
         ensures output { MovesNothing self.old.harbor.output.port self.new.harbor.output.port }
         ensures errors { MovesNothing self.old.harbor.errors.port self.new.harbor.errors.port }
+        ensures ended { (self.new.harbor.input.port.ended ≡ self.old.harbor.input.port.ended) × (self.new.harbor.output.port.ended ≡ self.old.harbor.output.port.ended) × (self.new.harbor.errors.port.ended ≡ self.old.harbor.errors.port.ended) }
         ensures bases { OpensOn (standard_of place single.now.target) place (base_at stations.old.entries) (base_at stations.new.entries) result }
         ensures sound { IsSound stations.old.entries self.old.harbor.made → IsSound stations.new.entries self.new.harbor.made }
         ensures held { HeldAfter (open_act place result) (hold_at stations.old.entries) (hold_at stations.new.entries) }
@@ -162,6 +163,7 @@ impl<M: Maker + Drop, I: Port, O: Port, E: Port> Ports<M, I, O, E> {
         ensures input { MovesNothing self.old.harbor.input.port self.new.harbor.input.port }
         ensures output { MovesNothing self.old.harbor.output.port self.new.harbor.output.port }
         ensures errors { MovesNothing self.old.harbor.errors.port self.new.harbor.errors.port }
+        ensures ended { (self.new.harbor.input.port.ended ≡ self.old.harbor.input.port.ended) × (self.new.harbor.output.port.ended ≡ self.old.harbor.output.port.ended) × (self.new.harbor.errors.port.ended ≡ self.old.harbor.errors.port.ended) }
         ensures bases { OpensOn (Some base) place (base_at stations.old.entries) (base_at stations.new.entries) result }
         ensures sound { IsSound stations.old.entries self.old.harbor.made → IsSound stations.new.entries self.new.harbor.made }
         ensures held { HeldAfter (open_act place result) (hold_at stations.old.entries) (hold_at stations.new.entries) }

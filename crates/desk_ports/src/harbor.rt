@@ -114,6 +114,7 @@ impl<T: Port, I: Port, O: Port, E: Port> Harbor<T, I, O, E> {
         ensures input { MovesNothing self.old.input.port self.new.input.port }
         ensures output { MovesNothing self.old.output.port self.new.output.port }
         ensures errors { MovesNothing self.old.errors.port self.new.errors.port }
+        ensures ended { (self.new.input.port.ended ≡ self.old.input.port.ended) × (self.new.output.port.ended ≡ self.old.output.port.ended) × (self.new.errors.port.ended ≡ self.old.errors.port.ended) }
         ensures failed { result ≡ begins.Failed → (Rose self.old.input.port.counts.faults self.new.input.port.counts.faults
             ⊎ (Rose self.old.output.port.counts.faults self.new.output.port.counts.faults
             ⊎ Rose self.old.errors.port.counts.faults self.new.errors.port.counts.faults)) }

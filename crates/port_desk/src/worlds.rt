@@ -109,6 +109,7 @@ impl<M: Maker + Drop, P: Poller + Drop, I: Port, O: Port, E: Port> World for Des
         ensures input { MovesNothing self.old.ports.harbor.input.port self.new.ports.harbor.input.port }
         ensures output { MovesNothing self.old.ports.harbor.output.port self.new.ports.harbor.output.port }
         ensures errors { MovesNothing self.old.ports.harbor.errors.port self.new.ports.harbor.errors.port }
+        ensures ended { (self.new.ports.harbor.input.port.ended ≡ self.old.ports.harbor.input.port.ended) × (self.new.ports.harbor.output.port.ended ≡ self.old.ports.harbor.output.port.ended) × (self.new.ports.harbor.errors.port.ended ≡ self.old.ports.harbor.errors.port.ended) }
         ensures standard { IfSome (standard_of place single.now.target) (λ base. StandardCause (Rises self.old.ports.harbor.input.port.counts.faults self.new.ports.harbor.input.port.counts.faults
             ⊎ (Rises self.old.ports.harbor.output.port.counts.faults self.new.ports.harbor.output.port.counts.faults
             ⊎ Rises self.old.ports.harbor.errors.port.counts.faults self.new.ports.harbor.errors.port.counts.faults)) result) }

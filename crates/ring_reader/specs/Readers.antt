@@ -1,5 +1,6 @@
 -- What contracts see of a reader.
 use Rattle.std.specs.Prelude.{◌≡◌, ℕ, ◌+◌, ◌-◌, ◌^◌, ◌≤◌, min, Bool, true, false, ◌||◌, not, List, [], ◌∷◌, ◌++◌, length, take, drop, Option, None, Some, IfSome}
+use Rattle.relay_model.specs.declared.acts.Shut.{Shut}
 use Rattle.port_trait.specs.declared.answers.Got.{Got}
 use Rattle.port_trait.specs.declared.answers.Got.TheVariants as reads
 use Rattle.port_trait.specs.declared.answers.Begun.{Begun as BeginAnswer}
@@ -34,8 +35,8 @@ pub record SourceBehind : Type 0 where
   pub faults : ℕ
   pub ends : ℕ
 
--- a reader: what its source had left when it was made, the items that it took, and the rest of the last chunk, which is
--- still to be given
+-- a reader: what its source had left when it was made, the items that it took, the rest of the last chunk, which is
+-- still to be given, and each shut
 pub record ReaderState : Type 0 where
   pub had : Option (List ℕ)
   pub taken : List RingItem
@@ -47,6 +48,7 @@ pub record ReaderState : Type 0 where
   pub refused : Bool
   pub tally : Tally
   pub behind : Option SourceBehind
+  pub shuts : List Shut
 
 -- the bytes that were given
 abbrev pub given : List RingItem → List ℕ → List ℕ
@@ -152,6 +154,7 @@ fresh_reader had refused = record {
   refused = refused;
   tally = no_tally;
   behind = None;
+  shuts = [];
 }
 
 -- how far the port has come with its thread

@@ -9,6 +9,7 @@ use crate::reader_start::launch;
 use crate::reader_steps::Pace;
 use crate::reader_thread::{Block, Feeder};
 use ordered_queue::OrderedPass;
+use port_account::Account;
 use port_trait::{Source, Spawner, Wake};
 use relay_model::NoMemory;
 use ring_items::{Hold, Lines, RingItem, Tally, Word, make_lines};
@@ -39,6 +40,7 @@ where
     pub(crate) stage: Stage<S>,
     pub(crate) tally: Tally,
     pub(crate) pace: Pace,
+    pub(crate) account: Account,
 }
 
 impl<S, R> Model for RingReader<S, R>
@@ -52,7 +54,7 @@ where
 
     ghost use Rattle.ring_reader.specs.Readers.{IsReading, is_begun, is_refused, behind_of};
 
-    ghost view = { λ r. record { had = S.left r.start.value; taken = (known r.items).taken; held = r.held; marked = r.marked; ended = r.ended; begun = is_begun r.stage; refused = is_refused r.stage; tally = r.tally; behind = behind_of S.left S.faults S.ends r.start.value (known r.items).taken r.stage } };
+    ghost view = { λ r. record { had = S.left r.start.value; taken = (known r.items).taken; held = r.held; marked = r.marked; ended = r.ended; begun = is_begun r.stage; refused = is_refused r.stage; tally = r.tally; behind = behind_of S.left S.faults S.ends r.start.value (known r.items).taken r.stage; shuts = r.account.passed.shuts } };
 
     ghost invariant = { λ r. IsPassOf r.lines.value.items r.items × IsPassOf r.lines.value.back r.words × IsReading S.left S.faults S.ends r.lines.value r.start.value (known r.items) (known r.words) r.held r.marked r.ended r.tally.misuses r.tally.counts r.stage };
 }
@@ -97,6 +99,7 @@ where
             stage,
             tally: Tally::new(),
             pace: Pace::new(),
+            account: Account::new(),
         })
     }
 }

@@ -1,5 +1,5 @@
 // A reader as a port.
-ghost use Rattle.std.specs.Prelude.{◌≡◌, ◌<◌, ◌≤◌, ◌+◌, ◌-◌, ◌^◌, min, [], true, false, length, Some, None};
+ghost use Rattle.std.specs.Prelude.{◌≡◌, ◌<◌, ◌≤◌, ◌+◌, ◌-◌, ◌^◌, ◌++◌, ◌∷◌, min, [], true, false, length, Some, None};
 ghost use Rattle.port_trait.specs.Counting.{Tallied};
 ghost use Rattle.port_trait.specs.Meanings.{Gives, Accepts, AcceptsWhole, AcceptsAll, Behind, OnJoined, begun_after, is_end, begin_event, settle_event, read_event, write_event, shut_event, join_answer};
 ghost use Rattle.port_trait.specs.Serving.{IsCalled, Explained, is_begin_served};
@@ -14,6 +14,7 @@ ghost use Rattle.ring_reader.specs.Readers.{given_of, joins_of, gave_behind, lef
 use crate::reader::RingReader;
 use crate::reader_stage::Stage;
 use crate::reader_steps::{ask_again, find_empty, finish, has_some, next};
+use port_account::{Account, Call};
 use port_trait::{
     Begun, Counts, Got, Hint, Joining, Port, PortReap, Settled, Shutting, Source, Took,
 };
@@ -38,6 +39,8 @@ where
     R: Threads + Wait + Copy,
 {
     ghost gave = { λ ring. Some (given_of ring) };
+
+    ghost shuts = { λ ring. Some ring.shuts };
 
     ghost behind_gave = { λ ring. gave_behind ring.behind };
 
@@ -67,6 +70,7 @@ where
         ensures served { IsCalled (is_begin_served result) (served_of self.old) (served_of self.new) }
         ensures misused { self.new.tally.misuses ≤ self.new.tally.counts.faults }
         ensures kept { (Some (given_of self.new) ≡ Some (given_of self.old)) × (self.new.ended ≡ self.old.ended) }
+        ensures unshut { Some self.new.shuts ≡ Some self.old.shuts }
         ensures counts { Tallied (begin_event result) self.old.tally.counts self.new.tally.counts }
         ensures empties { self.new.tally.counts.empties ≡ self.old.tally.counts.empties }
     {
@@ -101,6 +105,7 @@ where
         ensures marked { self.new.marked ≡ is_of_mark result }
         ensures begun { self.new.begun ≡ self.old.begun }
         ensures kept { KeptByRead self.old self.new }
+        ensures unshut { Some self.new.shuts ≡ Some self.old.shuts }
         ensures counts { Tallied (read_event result) self.old.tally.counts self.new.tally.counts }
     {
         self.ended = false;
@@ -171,12 +176,13 @@ where
         Took::Failed
     }
 
-    fn shut(&mut self, _how: Shut) -> Shutting
+    fn shut(&mut self, how: Shut) -> Shutting
         ensures done { result ≡ shuts.Done }
-        ensures same { self.new ≡ self.old }
+        ensures same { self.new ≡ record self.old { shuts = self.old.shuts ++ how ∷ [] } }
         ensures kept { (Some (given_of self.new) ≡ Some (given_of self.old)) × (self.new.begun ≡ self.old.begun) × (self.new.ended ≡ self.old.ended) }
         ensures counts { Tallied (shut_event result) self.old.tally.counts self.new.tally.counts }
     {
+        self.account = self.account.with(&Call::Shut(how));
         Shutting::Done
     }
 

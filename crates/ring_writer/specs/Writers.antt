@@ -1,5 +1,6 @@
 -- What contracts see of a writer, and what the calls of its port do.
 use Rattle.std.specs.Prelude.{◌≡◌, ℕ, ◌+◌, ◌-◌, ◌^◌, ◌≤◌, min, Bool, true, false, not, ◌&&◌, List, [], ◌∷◌, ◌++◌, length, take, Option, None, Some, if◌then◌else◌}
+use Rattle.relay_model.specs.declared.acts.Shut.{Shut}
 use Rattle.port_trait.specs.Serving.{Serving}
 use Rattle.port_trait.specs.declared.answers.Begun.{Begun as BeginAnswer}
 use Rattle.port_trait.specs.declared.answers.Begun.TheVariants as begins
@@ -11,16 +12,18 @@ use Rattle.ring_items.specs.Items.{bytes_of, told, AddsChunks}
 use Rattle.ring_items.specs.Tallies.{no_tally, with_misuse}
 use Rattle.ring_writer.specs.WriterRing.{WriterLine, WriterBehind, WritesChunk, fresh_line, is_open, is_shut}
 
--- how its line stands, and what was counted
+-- how its line stands, what was counted, and each shut
 pub record WriterState : Type 0 where
   pub line : WriterLine
   pub tally : Tally
+  pub shuts : List Shut
 
 -- a writer that was just made over a sink that had taken so much, whose thread waits or couldn't be started
 abbrev pub fresh_writer : Option (List ℕ) → Bool → WriterState
 fresh_writer had refused = record {
   line = fresh_line had refused;
   tally = no_tally;
+  shuts = [];
 }
 
 -- the bytes that the writer took

@@ -1,5 +1,5 @@
 // The port of a sink that a thread writes to.
-ghost use Rattle.std.specs.Prelude.{◌≡◌, ◌≢◌, ◌<◌, ◌≤◌, ◌+◌, ◌-◌, ◌^◌, min, Bool, true, false, length, None, Some, IfOk, IfSome, IsSome};
+ghost use Rattle.std.specs.Prelude.{◌≡◌, ◌≢◌, ◌<◌, ◌≤◌, ◌+◌, ◌-◌, ◌^◌, ◌++◌, ◌∷◌, [], min, Bool, true, false, length, None, Some, IfOk, IfSome, IsSome};
 ghost use Rattle.port_trait.specs.Counting.{Rose, Tallied};
 ghost use Rattle.port_trait.specs.Streams.{finishes};
 ghost use Rattle.port_trait.specs.Serving.{IsCalled, Explained, is_begin_served};
@@ -18,6 +18,7 @@ use crate::writer_outlet::Outlet;
 use crate::writer_puts::Putter;
 use crate::writer_stages::{Stage, start_thread};
 use crate::writer_thread::{GATHERED, WriterWork};
+use port_account::{Account, Call};
 use port_trait::{
     Begun, Got, Hint, Joining, Port, PortReap, Settled, Shutting, Sink, Spawner, Took, Wake,
 };
@@ -43,6 +44,7 @@ where
     _hold: Hold<SinkFault>,
     stage: Stage<K>,
     tally: Tally,
+    account: Account,
 }
 
 impl<K, R> Model for RingWriter<K, R>
@@ -56,7 +58,7 @@ where
     ghost use Rattle.ring_writer.specs.WriterRing.{Stands, line_of};
     ghost use Rattle.ring_items.specs.Tallies.{IsTallied};
 
-    ghost view = { λ w. record { line = line_of K.took K.faults K.finished w.stage; tally = w.tally } };
+    ghost view = { λ w. record { line = line_of K.took K.faults K.finished w.stage; tally = w.tally; shuts = w.account.passed.shuts } };
 
     ghost invariant = { λ w. Stands K.took K.faults K.finished w.stage × IsTallied w.tally.misuses (line_of K.took K.faults K.finished w.stage).marks 0 w.tally.counts };
 }
@@ -103,6 +105,7 @@ where
             _hold: ends.hold,
             stage: Stage::of(putter, begun, task),
             tally: Tally::new(),
+            account: Account::new(),
         })
     }
 }
@@ -113,6 +116,8 @@ where
     R: Threads + Wait + Copy,
 {
     ghost took = { λ w. Some (took_of w) };
+
+    ghost shuts = { λ w. Some w.shuts };
 
     ghost behind_took = { λ w. took_behind w.line.behind };
 
@@ -142,6 +147,7 @@ where
         ensures served { IsCalled (is_begin_served result) (served_of self.old) (served_of self.new) }
         ensures misused { self.new.tally.misuses ≤ self.new.tally.counts.faults }
         ensures kept { Some (took_of self.new) ≡ Some (took_of self.old) }
+        ensures unshut { Some self.new.shuts ≡ Some self.old.shuts }
         ensures counts { Tallied (begin_event result) self.old.tally.counts self.new.tally.counts }
         ensures empties { self.new.tally.counts.empties ≡ self.old.tally.counts.empties }
     {
@@ -185,6 +191,7 @@ where
         ensures served { IsCalled (is_open self.old.line) (served_of self.old) (served_of self.new) }
         ensures accepts { Accepts (Some (took_of self.old)) (Some (took_of self.new)) bytes.now result }
         ensures kept { (self.new.line.begun ≡ self.old.line.begun) × (self.new.line.refused ≡ self.old.line.refused) }
+        ensures unshut { Some self.new.shuts ≡ Some self.old.shuts }
         ensures counts { Tallied (write_event result) self.old.tally.counts self.new.tally.counts }
         ensures empties { self.new.tally.counts.empties ≡ self.old.tally.counts.empties }
     {
@@ -226,6 +233,7 @@ where
         ensures served { IsCalled (is_open self.old.line) (served_of self.old) (served_of self.new) }
         ensures accepts { AcceptsAll (Some (took_of self.old)) (Some (took_of self.new)) bytes.now result }
         ensures kept { (self.new.line.begun ≡ self.old.line.begun) × (self.new.line.refused ≡ self.old.line.refused) }
+        ensures unshut { Some self.new.shuts ≡ Some self.old.shuts }
         ensures counts { Tallied (write_event result) self.old.tally.counts self.new.tally.counts }
         ensures empties { self.new.tally.counts.empties ≡ self.old.tally.counts.empties }
     {
@@ -246,10 +254,11 @@ where
     fn shut(&mut self, how: Shut) -> Shutting
         ensures done { result ≡ shuts.Done }
         ensures line { self.new.line ≡ line_after_shut (finishes how) self.old.line }
-        ensures same { self.new ≡ record self.old { line = self.new.line } }
+        ensures same { self.new ≡ record self.old { line = self.new.line; shuts = self.old.shuts ++ how ∷ [] } }
         ensures kept { (Some (took_of self.new) ≡ Some (took_of self.old)) × (self.new.line.begun ≡ self.old.line.begun) }
         ensures counts { Tallied (shut_event result) self.old.tally.counts self.new.tally.counts }
     {
+        self.account = self.account.with(&Call::Shut(how));
         match how {
             Shut::Nothing | Shut::Null => Shutting::Done,
             Shut::Down | Shut::Close => {

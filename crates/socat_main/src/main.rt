@@ -9,7 +9,7 @@ use parts::{NO_MEMORY, carried_out, closed_streams, concluded, made, told, wakes
 use port_desk::Standard;
 use port_trait::{StdSink, StdSource, StdSpawner};
 use program_words::program_words;
-use standard_ports::{FreshInput, FreshOutput, direct_input, direct_output};
+use standard_ports::{FreshErrors, FreshInput, FreshOutput, direct_input, direct_output};
 use std::process::ExitCode;
 use thread_rings::{RingReader, RingWriter};
 
@@ -45,14 +45,17 @@ fn main(rt: HostRuntime) -> ExitCode {
             Err(error) => Err(error),
         },
     };
-    let stderr = RingWriter::new(alloc, StdSink::new(rt.stderr()), &mut spawner, noting);
+    let stderr = match RingWriter::new(alloc, StdSink::new(rt.stderr()), &mut spawner, noting) {
+        Ok(ring) => Ok(FreshErrors::ring(ring)),
+        Err(error) => Err(error),
+    };
     let (Ok(stdin), Ok(stdout), Ok(stderr)) = (stdin, stdout, stderr) else {
         return ExitCode::from(NO_MEMORY);
     };
     let standard = Standard {
         stdin: stdin.into_port(),
         stdout: stdout.into_port(),
-        stderr,
+        stderr: stderr.into_port(),
     };
     let status = carried_out(rt, rt, alloc, poller, standard, words.as_slice());
     concluded(&rt, status, &failures)

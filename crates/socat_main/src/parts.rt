@@ -89,6 +89,7 @@ where
     R: Files + Net + Clock + Threads + Copy + Drop,
     requires given { IfSome (I.gave standard.stdin) (λ all. all ≡ []) }
     requires taken { IfSome (O.took standard.stdout) (λ all. all ≡ []) }
+    requires silent { IfSome (E.took standard.stderr) (λ all. all ≡ []) }
 {
     let maker = match made(RealMaker::on(rt, system, alloc, &poller)) {
         Ok(maker) => maker,

@@ -1,4 +1,5 @@
 pub mod Passing
+pub mod PassedEnds
 pub mod Endings
 pub mod Offered
 pub mod Unheld

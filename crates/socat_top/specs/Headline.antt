@@ -1,5 +1,5 @@
 -- What a run leaves: a legal history, nothing held, the outcome that the history gives, and its line.
-use Rattle.std.specs.Prelude.{◌≡◌, ℕ, true, false, ◌⊎◌, List, Option, Some}
+use Rattle.std.specs.Prelude.{◌≡◌, ℕ, Bool, true, false, ◌⊎◌, List, Option, Some}
 use Rattle.relay_model.specs.declared.acts.Act.{Act}
 use Rattle.relay_model.specs.declared.places.Place.{Place}
 use Rattle.relay_model.specs.declared.commands.Config.{Config}
@@ -11,6 +11,7 @@ use Rattle.relay_model.specs.May.{Legal}
 use Rattle.exit_status.specs.Outcomes.{IsOutcome}
 use Rattle.event_loop.specs.Courses.{OnlyOwn}
 use Rattle.session_driver.specs.Steps.{extend}
+use Rattle.stream_ends.specs.Ends.{Ends}
 use Rattle.event_loop.specs.Headline as relayed
 use Rattle.event_loop.specs.Headline.{is_relayed}
 use Rattle.socat_top.specs.Notes.{Said, Tail}
@@ -47,6 +48,11 @@ Leaves (Telling text) n before told answer = Printed outcomes.Told text (Some be
 Leaves (Loading number) n before told answer = Loads number (Some before) told answer
 Leaves (Refusing refused) n before told answer = Tail answer (Some before) told
 Leaves Unread n before told answer = Tail answer (Some before) told
+
+-- what standard input gave and standard output took at the ends of each direction of a relay, by its acts
+abbrev pub TaskEnds : Task → List Act → Option (List ℕ) → Option (List ℕ) → Bool → Type 0
+TaskEnds (Relaying c) acts gave took ended = Ends c acts gave took ended
+TaskEnds other acts gave took ended = Unit {0}
 
 -- the answers that a task can get from any world; each may also be want of memory
 abbrev pub Answers : Task → Outcome → Type 0

@@ -10,7 +10,7 @@ ghost use Rattle.port_trait.specs.Meanings.{Behind};
 ghost use Rattle.desk_ports.specs.Endings.{OnJoinedBack, handed};
 ghost use Rattle.desk_history.specs.Following.{Passed};
 ghost use Rattle.socat_top.specs.Kept.{history_of};
-ghost use Rattle.socat_top.specs.Headline.{Answers, CompletesTask, Leaves};
+ghost use Rattle.socat_top.specs.Headline.{Answers, CompletesTask, Leaves, TaskEnds};
 ghost use Rattle.socat_top.specs.Tasks.{task};
 
 use crate::calls::socat;
@@ -33,7 +33,7 @@ pub struct Shipped<I: Port, O: Port, E: Port> {
 }
 
 /// Does what the words ask over a desk, with at most `turns` waits, and ends the desk. The desk has done nothing yet, and
-/// its standard input and output have passed no bytes.
+/// its standard streams have passed no bytes.
 pub fn run<M: Maker + Drop, P: Poller + Drop, I: Port, O: Port, E: Port>(
     alloc: Global,
     desk: Desk<M, P, I, O, E>,
@@ -44,9 +44,11 @@ pub fn run<M: Maker + Drop, P: Poller + Drop, I: Port, O: Port, E: Port>(
     requires untouched { desk.log.acted ≡ false }
     requires given { IfSome desk.ports.harbor.input.port.gave (λ all. all ≡ []) }
     requires taken { IfSome desk.ports.harbor.output.port.took (λ all. all ≡ []) }
+    requires silent { IfSome desk.ports.harbor.errors.port.took (λ all. all ≡ []) }
     ensures status { result.status ≡ exit_code result.outcome }
     ensures headline { (before : History) → ⟦<Desk<M, P, I, O, E> as World>⟧.told desk ≡ Some before → Leaves (task words.now) turns before (Some (history_of result.kept)) result.outcome }
-    ensures passed { (before : History) → ⟦<Desk<M, P, I, O, E> as World>⟧.told desk ≡ Some before → Passed (history_of result.kept) (I.gave (handed result.standard.stdin)) (O.took (handed result.standard.stdout)) }
+    ensures passed { (before : History) → ⟦<Desk<M, P, I, O, E> as World>⟧.told desk ≡ Some before → Passed (history_of result.kept) (I.gave (handed result.standard.stdin)) (O.took (handed result.standard.stdout)) (E.took (handed result.standard.stderr)) (I.ended (handed result.standard.stdin)) }
+    ensures ends { ⟦<Desk<M, P, I, O, E> as World>⟧.told desk ≡ Some (record { acts = []; asked = [] }) → TaskEnds (task words.now) result.kept.journal.acts (I.gave (handed result.standard.stdin)) (O.took (handed result.standard.stdout)) (I.ended (handed result.standard.stdin)) }
     ensures stdin_behind { OnJoinedBack (λ port. Behind (I.gave port) (I.took port) (I.behind_gave port) (I.behind_took port) (I.behind_left port) (I.behind_faults port) (I.ended port)) result.standard.stdin }
     ensures stdout_behind { OnJoinedBack (λ port. Behind (O.gave port) (O.took port) (O.behind_gave port) (O.behind_took port) (O.behind_left port) (O.behind_faults port) (O.ended port)) result.standard.stdout }
     ensures answers { Answers (task words.now) result.outcome }

@@ -12,7 +12,7 @@ ghost use Rattle.port_trait.specs.Meanings.{Behind};
 ghost use Rattle.desk_ports.specs.Endings.{OnJoinedBack, handed};
 ghost use Rattle.desk_history.specs.Following.{Passed};
 ghost use Rattle.socat_top.specs.Kept.{history_of};
-ghost use Rattle.socat_top.specs.Headline.{Answers, CompletesTask, Leaves};
+ghost use Rattle.socat_top.specs.Headline.{Answers, CompletesTask, Leaves, TaskEnds};
 ghost use Rattle.socat_top.specs.Tasks.{task};
 ghost use Rattle.socat_top.specs.Written.{TookText, asks_for_journal, is_asked, is_note, status_with, told_before, without_last_note, words_of_run};
 
@@ -64,6 +64,7 @@ where
     requires untouched { desk.log.acted ≡ false }
     requires given { IfSome desk.ports.harbor.input.port.gave (λ all. all ≡ []) }
     requires taken { IfSome desk.ports.harbor.output.port.took (λ all. all ≡ []) }
+    requires silent { IfSome desk.ports.harbor.errors.port.took (λ all. all ≡ []) }
     ensures asked { is_asked result.saving ≡ asks_for_journal words.now }
     ensures unasked { asks_for_journal words.now ≡ false → file.new ≡ file.old }
     ensures saved { result.saving ≡ savings.Saved → TookText (F.took file.old) (F.took file.new) (without_last_note result.shipped.kept.journal.acts) }
@@ -72,7 +73,8 @@ where
     ensures status { result.status ≡ status_with result.shipped.status result.saving }
     ensures run_status { result.shipped.status ≡ exit_code result.shipped.outcome }
     ensures headline { (before : History) → told_before (asks_for_journal words.now) (⟦<Desk<M, P, I, O, E> as World>⟧.told desk) ≡ Some before → Leaves (task (words_of_run words.now)) turns before (Some (history_of result.shipped.kept)) result.shipped.outcome }
-    ensures passed { (before : History) → told_before (asks_for_journal words.now) (⟦<Desk<M, P, I, O, E> as World>⟧.told desk) ≡ Some before → Passed (history_of result.shipped.kept) (I.gave (handed result.shipped.standard.stdin)) (O.took (handed result.shipped.standard.stdout)) }
+    ensures passed { (before : History) → told_before (asks_for_journal words.now) (⟦<Desk<M, P, I, O, E> as World>⟧.told desk) ≡ Some before → Passed (history_of result.shipped.kept) (I.gave (handed result.shipped.standard.stdin)) (O.took (handed result.shipped.standard.stdout)) (E.took (handed result.shipped.standard.stderr)) (I.ended (handed result.shipped.standard.stdin)) }
+    ensures ends { told_before (asks_for_journal words.now) (⟦<Desk<M, P, I, O, E> as World>⟧.told desk) ≡ Some (record { acts = []; asked = [] }) → TaskEnds (task (words_of_run words.now)) result.shipped.kept.journal.acts (I.gave (handed result.shipped.standard.stdin)) (O.took (handed result.shipped.standard.stdout)) (I.ended (handed result.shipped.standard.stdin)) }
     ensures stdin_behind { OnJoinedBack (λ port. Behind (I.gave port) (I.took port) (I.behind_gave port) (I.behind_took port) (I.behind_left port) (I.behind_faults port) (I.ended port)) result.shipped.standard.stdin }
     ensures stdout_behind { OnJoinedBack (λ port. Behind (O.gave port) (O.took port) (O.behind_gave port) (O.behind_took port) (O.behind_left port) (O.behind_faults port) (O.ended port)) result.shipped.standard.stdout }
     ensures answers { Answers (task (words_of_run words.now)) result.shipped.outcome }

@@ -1,2 +1,3 @@
 pub mod Openings
 pub mod Ports
+pub mod Told

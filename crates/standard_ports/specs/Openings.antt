@@ -4,19 +4,20 @@ use Rattle.file_ports.specs.Halves.{HalvesState}
 use Rattle.file_ports.specs.declared.halves.Readiness.TheVariants as readiness
 use Rattle.socket_ports.specs.Sockets.{PortState}
 use Rattle.socket_ports.specs.Accepting.{IsFresh}
+use Rattle.standard_ports.specs.Told.{ToldState}
 use Rattle.standard_ports.specs.declared.direct.DirectPort.{DirectPort}
 use Rattle.standard_ports.specs.declared.direct.DirectPort.TheVariants as directs
 
 -- a fresh port of which so much is there
-pub record Serves (reading writing : Bool) (port : PortState HalvesState) : Type 0 where
+pub record Serves (reading writing : Bool) (port : PortState (ToldState HalvesState)) : Type 0 where
   pub fresh : IsFresh port
-  pub reads : port.socket.reads ≡ reading
-  pub writes : port.socket.writes ≡ writing
+  pub reads : port.socket.socket.reads ≡ reading
+  pub writes : port.socket.socket.writes ≡ writing
 
 -- the same; the descriptor itself is always ready
 abbrev pub IsDirect : Bool → Bool → DirectPort → Type 0
 IsDirect reading writing (directs.Pipe port) = Serves reading writing port
-IsDirect reading writing (directs.Shared port) = Serves reading writing port × (port.socket.readiness ≡ readiness.Always)
+IsDirect reading writing (directs.Shared port) = Serves reading writing port × (port.socket.socket.readiness ≡ readiness.Always)
 
 -- it is read and not written
 abbrev pub IsInput : DirectPort → Type 0

@@ -10,9 +10,11 @@ use Rattle.file_ports.specs.Halves.{HalvesState}
 use Rattle.ring_reader.specs.Readers.{ReaderState, given_of}
 use Rattle.ring_writer.specs.Writers.{WriterState, took_of}
 use Rattle.socket_ports.specs.Sockets.{PortState}
+use Rattle.port_account.specs.Passages.{Passage}
+use Rattle.standard_ports.specs.Told.{ToldState}
 
 -- what a port in the loop tells
-abbrev pub of_direct : {T : Type 0} → (PortState HalvesState → T) → (PortState HalvesState → T) → DirectPort → T
+abbrev pub of_direct : {T : Type 0} → (PortState (ToldState HalvesState) → T) → (PortState (ToldState HalvesState) → T) → DirectPort → T
 of_direct pipe shared (directs.Pipe port) = pipe port
 of_direct pipe shared (directs.Shared port) = shared port
 
@@ -31,12 +33,17 @@ abbrev pub is_none : List ℕ → Bool
 is_none [] = true
 is_none (b ∷ bytes) = false
 
--- standard input has given no bytes that it tells of
+-- what passed a port in the loop
+abbrev pub direct_passed : DirectPort → Passage
+direct_passed (directs.Pipe port) = port.socket.passed
+direct_passed (directs.Shared port) = port.socket.passed
+
+-- standard input has given no bytes
 abbrev pub is_unread : {R : Type 0} → InputPort R → Bool
-is_unread (inputs.Direct port) = true
+is_unread (inputs.Direct port) = is_none (direct_passed port).gave
 is_unread (inputs.Ring ring) = is_none (given_of ring)
 
--- standard output has taken no bytes that it tells of
+-- standard output has taken no bytes
 abbrev pub is_unwritten : {R : Type 0} → OutputPort R → Bool
-is_unwritten (outputs.Direct port) = true
+is_unwritten (outputs.Direct port) = is_none (direct_passed port).took
 is_unwritten (outputs.Ring ring) = is_none (took_of ring)

@@ -2,6 +2,7 @@
 ghost use Rattle.standard_ports.specs.Ports.{of_direct};
 
 use crate::piped::PipePort;
+use crate::told::ToldSocket;
 use file_ports::Halves;
 use port_trait::{Begun, Got, Hint, Joining, Port, PortReap, Settled, Shutting, Took};
 use relay_model::Shut;
@@ -9,7 +10,7 @@ use socket_ports::SocketPort;
 use std::io::{Stdin, Stdout};
 
 /// Standard input or standard output by the descriptor itself, which is always ready.
-pub type SharedPort = SocketPort<Halves<Stdin, Stdout>, ()>;
+pub type SharedPort = SocketPort<ToldSocket<Halves<Stdin, Stdout>>, ()>;
 
 /// A pipe that was opened anew, or a descriptor that is always ready. Each call is that call on the port that it is. It
 /// has no type parameters: a type without any is compared by its name.
@@ -23,6 +24,8 @@ impl Port for DirectPort {
     ghost gave = { of_direct ⟦<PipePort as Port>⟧.gave ⟦<SharedPort as Port>⟧.gave };
 
     ghost took = { of_direct ⟦<PipePort as Port>⟧.took ⟦<SharedPort as Port>⟧.took };
+
+    ghost shuts = { of_direct ⟦<PipePort as Port>⟧.shuts ⟦<SharedPort as Port>⟧.shuts };
 
     ghost behind_gave = { of_direct ⟦<PipePort as Port>⟧.behind_gave ⟦<SharedPort as Port>⟧.behind_gave };
 

@@ -1,15 +1,58 @@
-// Standard input and standard output before their first byte.
-ghost use Rattle.std.specs.Prelude.{◌≡◌, [], true, IfSome};
+// The standard streams before their first byte.
+ghost use Rattle.std.specs.Prelude.{◌≡◌, [], true, IfSome, Some};
 ghost use Rattle.ring_reader.specs.Readers.{given_of};
 ghost use Rattle.ring_writer.specs.Writers.{took_of};
-ghost use Rattle.standard_ports.specs.Ports.{is_unread, is_unwritten};
+ghost use Rattle.socket_ports.specs.Sockets.{fresh_port};
+ghost use Rattle.standard_ports.specs.Told.{fresh_told};
+ghost use Rattle.standard_ports.specs.Ports.{direct_passed, is_none, is_unread, is_unwritten};
+ghost use Rattle.standard_ports.specs.declared.direct.DirectPort.TheVariants as directs;
 
 use crate::direct::DirectPort;
 use crate::input::{InputPort, InputRing};
 use crate::output::{OutputPort, OutputRing};
-use port_trait::Port;
+use crate::piped::PipePort;
+use crate::told::ToldSocket;
+use file_ports::Halves;
+use mio_poller::Watch;
+use port_trait::{Port, StdSink};
+use socket_ports::SocketPort;
+use std::fs::File;
+use std::io::{Stderr, Stdin, Stdout};
 use std::sync::Wait;
 use std::thread::Threads;
+use thread_rings::RingWriter;
+
+/// Standard error behind a ring.
+pub type ErrorRing<R> = RingWriter<StdSink<Stderr>, R>;
+
+/// A standard stream in the loop that has passed no bytes yet.
+#[derive(Drop)]
+pub struct FreshDirect {
+    pub port: DirectPort,
+    ghost unread: { is_none (direct_passed port).gave ≡ true },
+    ghost unwritten: { is_none (direct_passed port).took ≡ true },
+}
+
+impl FreshDirect {
+    /// A pipe, which is registered under the key of the watch.
+    pub fn pipe(halves: Halves<File, File>, watch: Watch) -> FreshDirect
+        ensures { result.port ≡ directs.Pipe (fresh_port (fresh_told halves)) }
+    {
+        let pipe = SocketPort::new(ToldSocket::new(halves), ());
+        FreshDirect {
+            port: DirectPort::Pipe(PipePort::new(pipe, watch)),
+        }
+    }
+
+    /// The descriptor itself.
+    pub fn shared(halves: Halves<Stdin, Stdout>) -> FreshDirect
+        ensures { result.port ≡ directs.Shared (fresh_port (fresh_told halves)) }
+    {
+        FreshDirect {
+            port: DirectPort::Shared(SocketPort::new(ToldSocket::new(halves), ())),
+        }
+    }
+}
 
 /// Standard input that has given nothing yet.
 #[derive(Drop)]
@@ -20,7 +63,8 @@ pub struct FreshInput<R> {
 
 impl<R: Threads + Wait + Copy + Drop> FreshInput<R> {
     /// Standard input in the loop.
-    pub fn direct(port: DirectPort) -> FreshInput<R> {
+    pub fn direct(direct: FreshDirect) -> FreshInput<R> {
+        let FreshDirect { port } = direct;
         FreshInput {
             port: InputPort::Direct(port),
         }
@@ -35,9 +79,10 @@ impl<R: Threads + Wait + Copy + Drop> FreshInput<R> {
         }
     }
 
-    /// The port.
+    /// The port. It tells that it gave nothing.
     pub fn into_port(self) -> InputPort<R>
-        ensures { IfSome (⟦<InputPort<R> as Port>⟧.gave result) (λ all. all ≡ []) }
+        ensures told { ⟦<InputPort<R> as Port>⟧.gave result ≡ Some [] }
+        ensures none { IfSome (⟦<InputPort<R> as Port>⟧.gave result) (λ all. all ≡ []) }
     {
         let FreshInput { port } = self;
         port
@@ -53,7 +98,8 @@ pub struct FreshOutput<R> {
 
 impl<R: Threads + Wait + Copy + Drop> FreshOutput<R> {
     /// Standard output in the loop.
-    pub fn direct(port: DirectPort) -> FreshOutput<R> {
+    pub fn direct(direct: FreshDirect) -> FreshOutput<R> {
+        let FreshDirect { port } = direct;
         FreshOutput {
             port: OutputPort::Direct(port),
         }
@@ -68,11 +114,37 @@ impl<R: Threads + Wait + Copy + Drop> FreshOutput<R> {
         }
     }
 
-    /// The port.
+    /// The port. It tells that it took nothing.
     pub fn into_port(self) -> OutputPort<R>
-        ensures { IfSome (⟦<OutputPort<R> as Port>⟧.took result) (λ all. all ≡ []) }
+        ensures told { ⟦<OutputPort<R> as Port>⟧.took result ≡ Some [] }
+        ensures none { IfSome (⟦<OutputPort<R> as Port>⟧.took result) (λ all. all ≡ []) }
     {
         let FreshOutput { port } = self;
         port
+    }
+}
+
+/// Standard error that has taken nothing yet.
+#[derive(Drop)]
+pub struct FreshErrors<R> {
+    ring: ErrorRing<R>,
+    ghost unwritten: { is_none (took_of ring) ≡ true },
+}
+
+impl<R: Threads + Wait + Copy + Drop> FreshErrors<R> {
+    /// Standard error behind this ring.
+    pub fn ring(ring: ErrorRing<R>) -> FreshErrors<R>
+        requires { took_of ring ≡ [] }
+    {
+        FreshErrors { ring }
+    }
+
+    /// The port. It tells that it took nothing.
+    pub fn into_port(self) -> ErrorRing<R>
+        ensures told { ⟦<ErrorRing<R> as Port>⟧.took result ≡ Some [] }
+        ensures none { IfSome (⟦<ErrorRing<R> as Port>⟧.took result) (λ all. all ≡ []) }
+    {
+        let FreshErrors { ring } = self;
+        ring
     }
 }

@@ -24,6 +24,8 @@ impl<R: Threads + Wait + Copy + Drop> Port for InputPort<R> {
 
     ghost took = { of_input ⟦<DirectPort as Port>⟧.took ⟦<InputRing<R> as Port>⟧.took };
 
+    ghost shuts = { of_input ⟦<DirectPort as Port>⟧.shuts ⟦<InputRing<R> as Port>⟧.shuts };
+
     ghost behind_gave = { of_input ⟦<DirectPort as Port>⟧.behind_gave ⟦<InputRing<R> as Port>⟧.behind_gave };
 
     ghost behind_took = { of_input ⟦<DirectPort as Port>⟧.behind_took ⟦<InputRing<R> as Port>⟧.behind_took };

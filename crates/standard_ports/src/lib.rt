@@ -8,10 +8,12 @@ mod input;
 mod opening;
 mod output;
 mod piped;
+mod told;
 
 pub use direct::{DirectPort, SharedPort};
-pub use fresh::{FreshInput, FreshOutput};
+pub use fresh::{ErrorRing, FreshDirect, FreshErrors, FreshInput, FreshOutput};
 pub use input::{InputPort, InputRing};
 pub use opening::{direct_input, direct_output};
 pub use output::{OutputPort, OutputRing};
 pub use piped::PipePort;
+pub use told::ToldSocket;

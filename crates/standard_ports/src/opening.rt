@@ -2,14 +2,12 @@
 ghost use Rattle.std.specs.Prelude.{IfSome};
 ghost use Rattle.standard_ports.specs.Openings.{IsInput, IsOutput};
 
-use crate::direct::DirectPort;
-use crate::piped::PipePort;
+use crate::fresh::FreshDirect;
 use file_ports::Halves;
 use mio::unix::SourceFd;
 use mio::{Interest, Registry, Token};
 use mio_poller::MioPoller;
 use relay_model::Half;
-use socket_ports::SocketPort;
 use std::alloc::Global;
 use std::fs::{Files, OpenOptions};
 use std::io::{ErrorKind, Read, Write};
@@ -36,10 +34,10 @@ pub fn direct_input<R>(
     system: HostRuntime,
     alloc: Global,
     poller: &MioPoller<R>,
-) -> Option<DirectPort>
+) -> Option<FreshDirect>
 where
     R: Net + Clock + Drop,
-    ensures { IfSome result IsInput }
+    ensures { IfSome result (λ fresh. IsInput fresh.port) }
 {
     let mut stdin = system.stdin();
     if is_pipe(&system, alloc, INPUT) {
@@ -50,11 +48,11 @@ where
         options.read(true);
         let pipe = system.open_file(&options, INPUT).ok()?;
         let halves = Halves::enrolled(poller.registry(), watch.key(), Some(pipe), None)?;
-        return Some(DirectPort::Pipe(PipePort::new(SocketPort::new(halves, ()), watch)));
+        return Some(FreshDirect::pipe(halves, watch));
     }
     if is_always_ready(poller.registry(), stdin.as_raw_fd()) {
         let halves = Halves::always(Some(stdin), None);
-        return Some(DirectPort::Shared(SocketPort::new(halves, ())));
+        return Some(FreshDirect::shared(halves));
     }
     None
 }
@@ -64,10 +62,10 @@ pub fn direct_output<R>(
     system: HostRuntime,
     alloc: Global,
     poller: &MioPoller<R>,
-) -> Option<DirectPort>
+) -> Option<FreshDirect>
 where
     R: Net + Clock + Drop,
-    ensures { IfSome result IsOutput }
+    ensures { IfSome result (λ fresh. IsOutput fresh.port) }
 {
     let mut stdout = system.stdout();
     if is_pipe(&system, alloc, OUTPUT) {
@@ -77,11 +75,11 @@ where
         options.write(true);
         let pipe = system.open_file(&options, OUTPUT).ok()?;
         let halves = Halves::enrolled(poller.registry(), watch.key(), None, Some(pipe))?;
-        return Some(DirectPort::Pipe(PipePort::new(SocketPort::new(halves, ()), watch)));
+        return Some(FreshDirect::pipe(halves, watch));
     }
     if is_always_ready(poller.registry(), stdout.as_raw_fd()) {
         let halves = Halves::always(None, Some(stdout));
-        return Some(DirectPort::Shared(SocketPort::new(halves, ())));
+        return Some(FreshDirect::shared(halves));
     }
     None
 }

@@ -25,6 +25,8 @@ impl<R: Threads + Wait + Copy + Drop> Port for OutputPort<R> {
 
     ghost took = { of_output ⟦<DirectPort as Port>⟧.took ⟦<OutputRing<R> as Port>⟧.took };
 
+    ghost shuts = { of_output ⟦<DirectPort as Port>⟧.shuts ⟦<OutputRing<R> as Port>⟧.shuts };
+
     ghost behind_gave = { of_output ⟦<DirectPort as Port>⟧.behind_gave ⟦<OutputRing<R> as Port>⟧.behind_gave };
 
     ghost behind_took = { of_output ⟦<DirectPort as Port>⟧.behind_took ⟦<OutputRing<R> as Port>⟧.behind_took };

@@ -1,6 +1,7 @@
 // The port of a pipe that a watch of the poller tells of.
 ghost use Rattle.std.specs.Prelude.{◌≡◌, true};
 
+use crate::told::ToldSocket;
 use file_ports::Halves;
 use mio_poller::Watch;
 use port_trait::{Begun, Got, Hint, Joining, Port, PortReap, Settled, Shutting, Took};
@@ -10,7 +11,7 @@ use std::fs::File;
 use std::marker::Model;
 
 /// The port of a pipe's open descriptor.
-pub type PipeEnd = SocketPort<Halves<File, File>, ()>;
+pub type PipeEnd = SocketPort<ToldSocket<Halves<File, File>>, ()>;
 
 /// A pipe that stands under no key, and so hints by its watch. Each other call is that call on the pipe's port; one that
 /// would have waited has the watch forget what it was told.
@@ -23,8 +24,9 @@ pub struct PipePort {
 impl Model for PipePort {
     ghost use Rattle.socket_ports.specs.Sockets.{PortState};
     ghost use Rattle.file_ports.specs.Halves.{HalvesState};
+    ghost use Rattle.standard_ports.specs.Told.{ToldState};
 
-    ghost Value = { PortState HalvesState };
+    ghost Value = { PortState (ToldState HalvesState) };
 
     ghost view = { λ port. port.pipe };
 }
@@ -42,6 +44,8 @@ impl Port for PipePort {
     ghost gave = { ⟦<PipeEnd as Port>⟧.gave };
 
     ghost took = { ⟦<PipeEnd as Port>⟧.took };
+
+    ghost shuts = { ⟦<PipeEnd as Port>⟧.shuts };
 
     ghost behind_gave = { ⟦<PipeEnd as Port>⟧.behind_gave };
 
@@ -105,14 +109,14 @@ impl Port for PipePort {
 
     /// A half that is there is ready where a poll has told of the pipe.
     fn hint(&mut self) -> Hint
-        ensures readable { result.readable ≡ true → self.old.socket.reads ≡ true }
-        ensures writable { result.writable ≡ true → self.old.socket.writes ≡ true }
+        ensures readable { result.readable ≡ true → self.old.socket.socket.reads ≡ true }
+        ensures writable { result.writable ≡ true → self.old.socket.socket.writes ≡ true }
         ensures kept { self.new ≡ self.old }
     {
         let told = self.watch.is_told();
         Hint {
-            readable: told && self.pipe.socket().reads(),
-            writable: told && self.pipe.socket().writes(),
+            readable: told && self.pipe.socket().socket().reads(),
+            writable: told && self.pipe.socket().socket().writes(),
         }
     }
 

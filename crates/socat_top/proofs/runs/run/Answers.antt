@@ -3,6 +3,7 @@ use Rattle.relay_model.specs.Journals.{History}
 use Rattle.socat_top.specs.Headline.{Leaves}
 use Rattle.socat_top.specs.Tasks.{task}
 use Rattle.socat_top.proofs.Passing.{ends_still, passed_at}
+use Rattle.socat_top.proofs.PassedEnds.{nothing, task_ends}
 use Rattle.socat_top.proofs.runs.run.Goals as goal
 
 pub returns-clause-headline : goal.returns-clause-headline
@@ -16,4 +17,8 @@ returns-clause-passed g c = λ before told.
     let told_on : is_some c.into_desk.result.log.recording.told ≡ true = rw c.into_desk.ensures.desk (c.socat-outcome.ensures.tells ∙ rw (c.new-followed.ensures, told) refl) in
     let input = ends_still _ c.into_desk.result.ports.harbor.input.port _ _ c.end-standard.ensures.stdin in
     let output = ends_still _ c.into_desk.result.ports.harbor.output.port _ _ c.end-standard.ensures.stdout in
-    passed_at c.into_desk.result.log.recording.told _ _ _ _ _ (c.end-standard.ensures.kept told_on) c.into_desk.ensures.passed input.0 output.1
+    let errors = ends_still _ c.into_desk.result.ports.harbor.errors.port _ _ c.end-standard.ensures.stderr in
+    passed_at c.into_desk.result.log.recording.told _ _ _ _ _ _ _ _ _ (c.end-standard.ensures.kept told_on) c.into_desk.ensures.passed input.0 output.1 errors.1 input.2
+
+pub returns-clause-ends : goal.returns-clause-ends
+returns-clause-ends g c = λ told. task_ends (task c.args.words.now) c.args.turns _ _ _ _ _ _ (returns-clause-headline g c nothing told) (returns-clause-passed g c nothing told)

@@ -3,6 +3,7 @@ use Rattle.relay_model.specs.declared.places.Place.{Place}
 use Rattle.relay_model.specs.Holding.{Free}
 use Rattle.desk_places.specs.Stations.{StationTable, hold_at}
 use Rattle.socat_top.proofs.Unheld.{no_station}
+use Rattle.socat_top.proofs.PassedEnds.{nothing}
 use Rattle.socat_top.proofs.written.run_written.Goals as goal
 
 pub keep-requires-clause-free : goal.keep-requires-clause-free
@@ -16,6 +17,7 @@ run-shipped-requires g c =
       untouched = c.keep.ensures.untouched;
       given = rw c.keep.ensures.ports c.requires.given;
       taken = rw c.keep.ensures.ports c.requires.taken;
+      silent = rw c.keep.ensures.ports c.requires.silent;
     }
 
 pub returns-clause-headline : goal.returns-clause-headline
@@ -30,3 +32,11 @@ returns-clause-passed g c = λ before told.
 
 pub returns-in_default-clause-passed : goal.returns-in_default-clause-passed
 returns-in_default-clause-passed g c = λ before told. rw c.with_saving.ensures (c.run.ensures.passed before (rw c.in_default.ensures.0 at told))
+
+pub returns-clause-ends : goal.returns-clause-ends
+returns-clause-ends g c = λ told.
+    let begun : c.keep.new.self.log.recording.told ≡ Some nothing = c.keep.ensures.told ∙ (rw c.in-Some.ensures.0 at told) in
+    rw (c.with_saving-2.ensures, c.in-Some.ensures.1) (c.run-shipped.ensures.ends begun)
+
+pub returns-in_default-clause-ends : goal.returns-in_default-clause-ends
+returns-in_default-clause-ends g c = λ told. rw (c.with_saving.ensures, c.in_default.ensures.1) (c.run.ensures.ends (rw c.in_default.ensures.0 at told))

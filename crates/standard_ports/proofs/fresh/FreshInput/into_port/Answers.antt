@@ -1,5 +1,8 @@
-use Rattle.standard_ports.proofs.FirstBytes.{unread}
+use Rattle.standard_ports.proofs.FirstBytes.{none_told, unread}
 use Rattle.standard_ports.proofs.fresh.FreshInput.into_port.Goals as goal
 
-pub returns : goal.returns
-returns g c = unread c.args.self.port c.args.self.unread
+pub returns-clause-told : goal.returns-clause-told
+returns-clause-told g c = unread c.args.self.port c.args.self.unread
+
+pub returns-clause-none : goal.returns-clause-none
+returns-clause-none g c = none_told _ (unread c.args.self.port c.args.self.unread)

@@ -1,5 +1,8 @@
-use Rattle.standard_ports.proofs.FirstBytes.{unwritten}
+use Rattle.standard_ports.proofs.FirstBytes.{none_told, unwritten}
 use Rattle.standard_ports.proofs.fresh.FreshOutput.into_port.Goals as goal
 
-pub returns : goal.returns
-returns g c = unwritten c.args.self.port c.args.self.unwritten
+pub returns-clause-told : goal.returns-clause-told
+returns-clause-told g c = unwritten c.args.self.port c.args.self.unwritten
+
+pub returns-clause-none : goal.returns-clause-none
+returns-clause-none g c = none_told _ (unwritten c.args.self.port c.args.self.unwritten)
