@@ -1,5 +1,5 @@
 -- A page that grew by several pieces, and what these name.
-use Rattle.std.proofs.Common.{◌≡◌, ℕ, List, [], ◌∷◌, ◌++◌, map, refl, sym, ap, ◌∙◌, subst, append_assoc}
+use Rattle.std.proofs.Common.{◌≡◌, ℕ, List, [], ◌∷◌, ◌++◌, map, refl, sym, ap, ◌∙◌, append_assoc}
 use Rattle.std.specs.List.{flat_map}
 use Rattle.place_report.specs.Shown.{quoted}
 use Rattle.place_report.specs.Naming.{Names, Adds}

@@ -1,9 +1,8 @@
 -- What is shown tells the bytes.
-use Rattle.std.proofs.Common.{◌≡◌, ℕ, ◌+◌, ◌*◌, ◌/◌, ◌%◌, ◌<◌, ◌≤◌, ◌⊎◌, inl, inr, Bool, true, false, List, [], ◌∷◌, ◌++◌, refl, sym, ap, ◌∙◌, subst, arith}
-use Rattle.std.specs.Prelude.{nat_lt}
+use Rattle.std.proofs.Common.{◌≡◌, ℕ, ◌/◌, ◌%◌, ◌<◌, Bool, true, false, List, [], ◌∷◌, ◌++◌, refl, sym, ap, ◌∙◌, subst, arith}
 use Rattle.std.proofs.lemmas.Bool.Decides.{nat_tests}
 use Rattle.relay_model.specs.Dumps.{hex_digit}
-use Rattle.place_report.specs.Shown.{is_plain, escaped, shown_byte, shown, AreBytes, ShownTells}
+use Rattle.place_report.specs.Shown.{is_plain, escaped, shown_byte, shown, ShownTells}
 
 -- the digits of numbers below 16 differ
 digits_differ : (a b : ℕ) → a < 16 → b < 16 → hex_digit a ≡ hex_digit b → a ≡ b
