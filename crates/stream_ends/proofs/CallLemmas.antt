@@ -36,7 +36,7 @@ due_apart c past None wanted t = tt
 due_apart c past (Some m) wanted t = choice c (nat_le m (now past)) wanted (TryAt m) (λ _. t) tt
 
 again_apart : (c : Config) (past : List Act) (p : Place) (wanted : Call) → IsApart c wanted → IsApart c (try_again c past p wanted)
-again_apart c past p wanted t = choice c (out_of_tries c past p) Nothing (when_due (now past) (next_due (options_of c p).interval (failures past p)) wanted) (λ _. tt) (due_apart c past (next_due (options_of c p).interval (failures past p)) wanted t)
+again_apart c past p wanted t = choice c (out_of_tries c past p) Nothing (when_due (now past) (next_due (options_of c p).tries.interval (failures past p)) wanted) (λ _. tt) (due_apart c past (next_due (options_of c p).tries.interval (failures past p)) wanted t)
 
 opening_apart : (c : Config) (past : List Act) (p : Place) (st : Stage) → IsApart c (opening_call c past p st)
 opening_apart c past p Untried = tt

@@ -1,5 +1,5 @@
 -- What standard streams passed is what was read and written at the ends that are alone on them.
-use Rattle.std.proofs.Common.{◌≡◌, refl, sym, ap, subst, ◌∙◌, ℕ, Bool, true, false, not, cond, ◌&&◌, ◌||◌, ◌==◌, is_none, List, [], ◌∷◌, Option, None, Some, IfSome}
+use Rattle.std.proofs.Common.{◌≡◌, refl, sym, ap, subst, ◌∙◌, ℕ, Bool, true, false, not, cond, ◌&&◌, ◌||◌, ◌==◌, nat_lt, is_none, List, [], ◌∷◌, Option, None, Some, IfSome}
 use Rattle.std.specs.List.{list_all}
 use Rattle.std.proofs.lemmas.Bool.{and_parts, eqb-true, false≢true}
 use Rattle.relay_model.specs.declared.places.Way.{Way}
@@ -12,7 +12,7 @@ use Rattle.relay_model.specs.Places.{same_place}
 use Rattle.relay_model.specs.Choices.{joined}
 use Rattle.relay_model.specs.Configs.{input, output, formed, has_fork, places, single, way_from, way_to}
 use Rattle.relay_model.specs.History.{got, put}
-use Rattle.relay_model.specs.Sessions.{live}
+use Rattle.relay_model.specs.Sessions.{admitted, holds, live}
 use Rattle.relay_model.specs.Cause.{cause, running}
 use Rattle.relay_model.specs.Transfers.{due}
 use Rattle.relay_model.specs.Rest.{is_going}
@@ -33,7 +33,7 @@ use Rattle.stream_ends.specs.Ends.{Ends, HasEnded, IsDue, PassedEnds, came_in, i
 only_session : (c : Config) (past : List Act) (s : ℕ) (w : Way) → has_fork c ≡ false → is_going c past s w ≡ true → s ≡ 0
 only_session c past s w alone moves =
     let lives : live c past s ≡ true = (and_parts (live c past s) (ready c past s) (and_parts (live c past s && ready c past s) (is_none (cause c past s)) (moves_running c past s w moves)).0).0 in
-    eqb-true s 0 (subst (λ (fork : Bool). cond fork _ (s == 0) ≡ true) alone lives)
+    eqb-true s 0 (subst (λ (fork : Bool). cond fork (nat_lt s (admitted c past) && holds c past s) (s == 0) ≡ true) alone lives)
 
 same_tests : (a b : Bool) → (a ≡ true → b ≡ true) → (b ≡ true → a ≡ true) → a ≡ b
 same_tests true b to from = sym (to refl)

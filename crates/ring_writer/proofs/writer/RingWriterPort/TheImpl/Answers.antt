@@ -13,26 +13,26 @@ stays : {hints : Option Hint} → StaysHinting true true hints
 stays = record { same = refl; told = tt }
 
 pub begin-tells : goal.begin-tells
-begin-tells g x c = record { unshut = refl; again = c.ensures.again; begun = c.ensures.begun; kept = (refl, c.ensures.kept, refl); served = (_, refl, c.ensures.served); misused = λ _. c.ensures.misused; counts = c.ensures.counts; hinting = stays }
+begin-tells g x c = record { unshut = c.ensures.unshut; again = c.ensures.again; begun = c.ensures.begun; kept = (refl, c.ensures.kept, refl); served = (_, refl, c.ensures.served); misused = λ _. c.ensures.misused; counts = c.ensures.counts; hinting = stays }
 
 pub settle-tells : goal.settle-tells
-settle-tells g x c = record { unshut = refl; kept = (refl, c.ensures.kept.0, c.ensures.kept.1, refl, refl); served = ap (λ (w : WriterState). Some (served_of w)) c.ensures.same; counts = c.ensures.counts; hinting = stays }
+settle-tells g x c = record { unshut = ap (λ (w : WriterState). Some w.shuts) c.ensures.same; kept = (refl, c.ensures.kept.0, c.ensures.kept.1, refl, refl); served = ap (λ (w : WriterState). Some (served_of w)) c.ensures.same; counts = c.ensures.counts; hinting = stays }
 
 pub read-tells : goal.read-tells
-read-tells g x c = record { unshut = refl; gives = c.ensures.gives; ended = c.ensures.ended; kept = (c.ensures.kept.0, c.ensures.kept.1, refl); served = (_, refl, called_misused _ _ c.ensures.misused); counts = c.ensures.counts; hinting = stays }
+read-tells g x c = record { unshut = ap (λ (w : WriterState). Some w.shuts) c.ensures.misused; gives = c.ensures.gives; ended = c.ensures.ended; kept = (c.ensures.kept.0, c.ensures.kept.1, refl); served = (_, refl, called_misused _ _ c.ensures.misused); counts = c.ensures.counts; hinting = stays }
 
 pub write-tells : goal.write-tells
-write-tells g x c = record { unshut = refl; accepts = c.ensures.accepts; kept = (refl, c.ensures.kept.0, refl, refl); served = (_, refl, c.ensures.served); counts = c.ensures.counts; hinting = stays }
+write-tells g x c = record { unshut = c.ensures.unshut; accepts = c.ensures.accepts; kept = (refl, c.ensures.kept.0, refl, refl); served = (_, refl, c.ensures.served); counts = c.ensures.counts; hinting = stays }
 
 pub send-tells : goal.send-tells
-send-tells g x c = record { unshut = refl; accepts = c.ensures.accepts; kept = (refl, c.ensures.kept.0, refl, refl); served = (_, refl, called_misused _ _ c.ensures.misused); counts = c.ensures.counts; hinting = stays }
+send-tells g x c = record { unshut = ap (λ (w : WriterState). Some w.shuts) c.ensures.misused; accepts = c.ensures.accepts; kept = (refl, c.ensures.kept.0, refl, refl); served = (_, refl, called_misused _ _ c.ensures.misused); counts = c.ensures.counts; hinting = stays }
 
 pub put_all-tells : goal.put_all-tells
-put_all-tells g x c = record { unshut = refl; accepts = c.ensures.accepts; kept = (refl, c.ensures.kept.0, refl, refl); served = (_, refl, c.ensures.served); counts = c.ensures.counts; hinting = stays }
+put_all-tells g x c = record { unshut = c.ensures.unshut; accepts = c.ensures.accepts; kept = (refl, c.ensures.kept.0, refl, refl); served = (_, refl, c.ensures.served); counts = c.ensures.counts; hinting = stays }
 
 pub shut-tells : goal.shut-tells
 shut-tells g x c = record {
-  told = refl;
+  told = ap (λ (w : WriterState). Some w.shuts) c.ensures.same;
   kept = (refl, c.ensures.kept.0, c.ensures.kept.1, refl, refl);
   served = (
     not (is_shut c.new.self.now.line),
@@ -45,7 +45,7 @@ shut-tells g x c = record {
 
 pub hint-tells : goal.hint-tells
 hint-tells g x c = record {
-  unshut = refl;
+  unshut = ap (λ (w : WriterState). Some w.shuts) c.ensures.same;
   hinted = tt;
   kept = (refl, c.ensures.kept.0, refl, c.ensures.kept.1, c.ensures.kept.2, refl, c.ensures.kept.3, refl);
   behind = (refl, c.ensures.behind.0, c.ensures.behind.1, ap (λ (w : WriterState). ends_behind w.line.behind) c.ensures.same, refl, ap (λ (w : WriterState). finished_behind w.line.behind) c.ensures.same);
@@ -55,11 +55,11 @@ hint-tells g x c = record {
 }
 
 pub reap-tells : goal.reap-tells
-reap-tells g x c = record { unshut = refl; reaped = rw c.ensures.reaped refl; kept = (refl, c.ensures.kept.0, c.ensures.kept.1, refl, refl); served = ap (λ (w : WriterState). Some (served_of w)) c.ensures.same; counts = c.ensures.counts; hinting = stays }
+reap-tells g x c = record { unshut = ap (λ (w : WriterState). Some w.shuts) c.ensures.same; reaped = rw c.ensures.reaped refl; kept = (refl, c.ensures.kept.0, c.ensures.kept.1, refl, refl); served = ap (λ (w : WriterState). Some (served_of w)) c.ensures.same; counts = c.ensures.counts; hinting = stays }
 
 pub join-tells : goal.join-tells
 join-tells g x c = record {
-  unshut = refl;
+  unshut = ap (λ (w : WriterState). Some w.shuts) c.ensures.same;
   joined = c.ensures.joined;
   kept = (refl, c.ensures.kept.0, c.ensures.kept.1, c.ensures.kept.2, refl, c.ensures.kept.3, refl);
   served = ap (λ (w : WriterState). Some (served_of w)) c.ensures.same;
