@@ -34,19 +34,19 @@ returns-in-Ok-clause-waits g c = (
   λ start past on order longest.
       let h = has_waited c.in-Turned.at c.in-Turned.stop _ c.take_turn.new.self c.take_turn.ensures in
       record {
-      at = c.in-Turned.at;
-      ready = copied_list c.take_turn.new.self.ready;
-      course = when_going c.args.config.now c.args.turns start _ _ past c.args.until c.in-Turned.at c.in-Turned.stop c.args.self.now c.take_turn.new.self c.hear_turn.new.self c.if-stop.false (record {
-        course = on;
-        few = c.requires.few;
-        idle = c.requires.idle;
-        order = order;
-        turns = turned_there _ _ c.args.until c.in-Turned.at _ c.take_turn.new.self.ready c.in-Turned.stop c.take_turn.ensures.ready_same (record { did = c.in-Turned.ensures.act; named = c.in-Turned.ensures.named; later = c.in-Turned.ensures.faults; counts = c.in-Turned.ensures.counts });
-        has = record { door = h.door; table_same = h.table_same; lists = record { work_same = h.lists.work_same; timers_same = h.lists.timers_same }; unborn_same = h.unborn_same; clock_is = h.clock_is; made_is = h.made_is };
-        on_clock = c.take_turn.ensures.on_clock;
-      }) c.hear_turn.ensures.heard c.in-Ok.ensures.queued;
-      came = came_for c.args.config.now c.args.turns start _ past c.in-Turned.at c.args.self.now c.take_turn.new.self c.hear_turn.new.self on c.requires.idle c.take_turn.ensures.clock_is (record { work_same = h.lists.work_same; timers_same = h.lists.timers_same }) c.hear_turn.ensures.came;
-      few = λ early. turned_few c.in-Turned.at c.args.until c.args.self.now c.take_turn.new.self c.hear_turn.new.self c.take_turn.ensures.clock_is (record { work_same = h.lists.work_same; timers_same = h.lists.timers_same }) c.requires.idle c.hear_turn.ensures.alone longest early;
+        at = c.in-Turned.at;
+        ready = copied_list c.take_turn.new.self.ready;
+        course = when_going c.args.config.now c.args.turns start _ _ past c.args.until c.in-Turned.at c.in-Turned.stop c.args.self.now c.take_turn.new.self c.hear_turn.new.self c.if-stop.false (record {
+          course = on;
+          few = c.requires.few;
+          idle = c.requires.idle;
+          order = order;
+          turns = turned_there _ _ c.args.until c.in-Turned.at _ c.take_turn.new.self.ready c.in-Turned.stop c.take_turn.ensures.ready_same (record { did = c.in-Turned.ensures.act; named = c.in-Turned.ensures.named; later = c.in-Turned.ensures.faults; counts = c.in-Turned.ensures.counts });
+          has = record { door = h.door; table_same = h.table_same; lists = record { work_same = h.lists.work_same; timers_same = h.lists.timers_same }; unborn_same = h.unborn_same; clock_is = h.clock_is; made_is = h.made_is };
+          on_clock = c.take_turn.ensures.on_clock;
+        }) c.hear_turn.ensures.heard c.in-Ok.ensures.queued;
+        came = came_for c.args.config.now c.args.turns start _ past c.in-Turned.at c.args.self.now c.take_turn.new.self c.hear_turn.new.self on c.requires.idle c.take_turn.ensures.clock_is (record { work_same = h.lists.work_same; timers_same = h.lists.timers_same }) c.hear_turn.ensures.came;
+        few = λ early. turned_few c.in-Turned.at c.args.until c.args.self.now c.take_turn.new.self c.hear_turn.new.self c.take_turn.ensures.clock_is (record { work_same = h.lists.work_same; timers_same = h.lists.timers_same }) c.requires.idle c.hear_turn.ensures.alone longest early;
       },
   c.hear_turn.ensures.heard.same.made_same ∙ (c.take_turn.ensures.made_is ∙ add-one _),
 )
