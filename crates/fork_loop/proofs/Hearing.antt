@@ -1,5 +1,5 @@
 -- A turn that sessions hear, and those that it puts into the list of work.
-use Rattle.std.proofs.Common.{◌≡◌, ◌≢◌, refl, sym, ap, subst, ◌∙◌, ℕ, ◌+◌, ◌-◌, ◌<◌, ◌≤◌, ◌⊎◌, inl, inr, Bool, true, false, cond, ◌||◌, List, [], ◌∷◌, ◌++◌, take, slice_get, length, Option, Some, None, is_some, Result, Ok, Err, OnOk, arith}
+use Rattle.std.proofs.Common.{◌≡◌, ◌≢◌, refl, sym, ap, subst, ◌∙◌, ℕ, zero, suc, ◌+◌, ◌-◌, ◌<◌, ◌≤◌, ◌⊎◌, inl, inr, Bool, true, false, cond, ◌||◌, List, [], ◌∷◌, ◌++◌, take, slice_get, length, Option, Some, None, is_some, Result, Ok, Err, OnOk, arith}
 use Rattle.std.specs.Ordering.{nat_cmp}
 use Rattle.std.specs.Cmp.{nat_cmp_total}
 use Rattle.std.specs.FinMap.{FinMap, get, remove, len, contains_key, len-remove, empty_of_len, get-empty}
@@ -20,6 +20,7 @@ use Rattle.fork_loop.specs.declared.crews.Crew.{Crew}
 use Rattle.fork_loop.specs.declared.crews.Row.{Row}
 use Rattle.fork_loop.specs.Rows.{Has, SleepsIfLate}
 use Rattle.fork_loop.specs.Courses.{SameButWork, SameButLists, timer_of}
+use Rattle.fork_loop.specs.Looks.{CameByName, CameForCause, CameInTime, HasCome, NoneDue}
 use Rattle.fork_loop.specs.Turns.{HearsTurn, HearsRow, SameBesides, RowHeard, UnheardRow, AllUnheard, names_own, NamedRow, NamedHeard, HearsOnce, RowHearsOnce, Queues, Moves, QueuesDue, Queued}
 use Rattle.fork_loop.proofs.Lists.{has_left, has_last}
 use Rattle.fork_loop.proofs.Loops.{RowsTo, rows_next}
@@ -67,6 +68,19 @@ names_more c s entries i e g =
 
 not_own : (c : Config) (s : ℕ) (q : Place) → (s ≡ q.session → is_program_door c q ≡ false → ⊥) → is_own_place c s q ≡ false
 not_own c s q h = false_from_ne_true (is_own_place c s q) (λ o. let k = own_is c s q o in h (sym k.0) k.1)
+
+still_named : (c : Config) (s : ℕ) (entries : List ReadyAt) (i : ℕ) (e : ReadyAt) → slice_get entries i ≡ Some e → names_own c s (take i entries) ≡ true → names_own c s (take (i + 1) entries) ≡ true
+still_named c s entries i e g n = names_more c s entries i e g ∙ ap (λ b. b || is_own_place c s e.place) n
+
+-- what some of the entries name all of them do
+taken : (c : Config) (s i : ℕ) (entries : List ReadyAt) → names_own c s (take i entries) ≡ true → names_own c s entries ≡ true
+taken c s zero entries n = absurd (false≢true n)
+taken c s (suc i) [] n = absurd (false≢true n)
+taken c s (suc i) (x ∷ xs) n = go (is_own_place c s x.place) (λ m. taken c s i xs m) n
+  where
+    go : (b : Bool) → (names_own c s (take i xs) ≡ true → names_own c s xs ≡ true) → (b || names_own c s (take i xs)) ≡ true → (b || names_own c s xs) ≡ true
+    go true later m = refl
+    go false later m = later m
 
 names_same : (c : Config) (s : ℕ) (entries : List ReadyAt) (i : ℕ) (e : ReadyAt) → slice_get entries i ≡ Some e → is_own_place c s e.place ≡ false → names_own c s (take (i + 1) entries) ≡ names_own c s (take i entries)
 names_same c s entries i e g k = names_more c s entries i e g ∙ (ap (λ b. names_own c s (take i entries) || b) k ∙ or_false (names_own c s (take i entries)))
@@ -212,6 +226,73 @@ fewer_timers m k at e = go (cases_eq (len m) 0)
 pub fewer_by : (m n : FinMap nat_cmp ℕ) (k at : ℕ) → n ≡ remove m k → get m k ≡ Some at → len n < len m
 fewer_by m n k at e g = rw e (fewer_timers m k at g)
 
+-- a timer that is due was due before, when no other had been taken out
+pub was_due : {P : Type 0} (k at : ℕ) (before mid : Crew) → at ≤ mid.clock → timer_of mid k ≡ Some at → Moves before mid → NoneDue before → P
+was_due {P = P} k at before mid due set moves none = go (moves.moved k)
+  where
+    go : (timer_of mid k ≡ timer_of before k) ⊎ (Has k mid.work.items × (timer_of mid k ≡ None)) → P
+    go (inl e) = (let l = none k at (sym e ∙ set) in let c = moves.same.same.clock_same in let x : ⊥ = omega (arith, due, l, c) in absurd x)
+    go (inr h) = (let y : None ≡ Some at = sym h.1 ∙ set in let x : ⊥ = cc in absurd x)
+
+has_more : (s k : ℕ) (work more : List ℕ) → more ≡ work ++ k ∷ [] → Has s more → Has s work ⊎ (s ≡ k)
+has_more s k work more e h = go work (subst (Has s) e h)
+  where
+    go : (xs : List ℕ) → Has s (xs ++ k ∷ []) → Has s xs ⊎ (s ≡ k)
+    go [] (inl f) = inr f
+    go [] (inr g) = absurd g
+    go (x ∷ xs) (inl f) = inl (inl f)
+    go (x ∷ xs) (inr g) = later (go xs g)
+      where
+        later : Has s xs ⊎ (s ≡ k) → Has s (x ∷ xs) ⊎ (s ≡ k)
+        later (inl f) = inl (inr f)
+        later (inr f) = inr f
+
+-- the one that is put there has waited for a moment that has come
+pub one_came : (k at : ℕ) (before mid : Crew) (more : List ℕ) → at ≤ mid.clock → timer_of mid k ≡ Some at → Moves before mid → more ≡ mid.work.items ++ k ∷ [] → CameInTime before mid → (s : ℕ) → Has s more → Has s before.work.items ⊎ HasCome before before.clock s
+one_came k at before mid more due set moves w came s h = go (has_more s k mid.work.items more w h)
+  where
+    here : (timer_of mid k ≡ timer_of before k) ⊎ (Has k mid.work.items × (timer_of mid k ≡ None)) → HasCome before before.clock k
+    here (inl e) = (at, sym e ∙ set, (let c = moves.same.same.clock_same in omega (arith, due, c)))
+    here (inr g) = (let y : None ≡ Some at = sym g.1 ∙ set in let x : ⊥ = cc in absurd x)
+
+    go : Has s mid.work.items ⊎ (s ≡ k) → Has s before.work.items ⊎ HasCome before before.clock s
+    go (inl g) = came s g
+    go (inr e) = inr (subst (HasCome before before.clock) (sym e) (here (moves.moved k)))
+
+any_at : (c : Config) (s : ℕ) (entries : List ReadyAt) (i : ℕ) (e : ReadyAt) → slice_get entries i ≡ Some e → is_own_place c s e.place ≡ true → names_own c s (take (i + 1) entries) ≡ true
+any_at c s entries i e g k = names_more c s entries i e g ∙ (ap (λ b. names_own c s (take i entries) || b) k ∙ or_true (names_own c s (take i entries)))
+  where
+    or_true : (b : Bool) → (b || true) ≡ true
+    or_true true = refl
+    or_true false = refl
+
+-- the one that is put there is named
+pub name_came : (c : Config) (before mid : Crew) (more : List ℕ) (i : ℕ) (e : ReadyAt) → slice_get before.ready.entries i ≡ Some e → is_program_door c e.place ≡ false → more ≡ mid.work.items ++ e.place.session ∷ [] → CameByName c (take i before.ready.entries) before mid → (s : ℕ) → Has s more → Has s before.work.items ⊎ (names_own c s (take (i + 1) before.ready.entries) ≡ true)
+name_came c before mid more i e g d w came s h = go (has_more s e.place.session mid.work.items more w h)
+  where
+    older : Has s before.work.items ⊎ (names_own c s (take i before.ready.entries) ≡ true) → Has s before.work.items ⊎ (names_own c s (take (i + 1) before.ready.entries) ≡ true)
+    older (inl f) = inl f
+    older (inr n) = inr (still_named c s before.ready.entries i e g n)
+
+    go : Has s mid.work.items ⊎ (s ≡ e.place.session) → Has s before.work.items ⊎ (names_own c s (take (i + 1) before.ready.entries) ≡ true)
+    go (inl f) = older (came s f)
+    go (inr f) = inr (any_at c s before.ready.entries i e g (own_from c s e.place (sym f) d))
+
+pub none_came : (c : Config) (before mid : Crew) (i : ℕ) (e : ReadyAt) → slice_get before.ready.entries i ≡ Some e → CameByName c (take i before.ready.entries) before mid → CameByName c (take (i + 1) before.ready.entries) before mid
+none_came c before mid i e g came s h = go (came s h)
+  where
+    go : Has s before.work.items ⊎ (names_own c s (take i before.ready.entries) ≡ true) → Has s before.work.items ⊎ (names_own c s (take (i + 1) before.ready.entries) ≡ true)
+    go (inl f) = inl f
+    go (inr n) = inr (still_named c s before.ready.entries i e g n)
+
+-- all of the entries
+pub names_all : (c : Config) (before mid : Crew) (i : ℕ) → CameByName c (take i before.ready.entries) before mid → CameByName c before.ready.entries before mid
+names_all c before mid i came s h = go (came s h)
+  where
+    go : Has s before.work.items ⊎ (names_own c s (take i before.ready.entries) ≡ true) → Has s before.work.items ⊎ (names_own c s before.ready.entries ≡ true)
+    go (inl f) = inl f
+    go (inr n) = inr (taken c s i before.ready.entries n)
+
 -- ---- all sessions in the list of work
 
 abbrev pub QueuedTo : Option ℕ → Table Row → List ℕ → Type 0
@@ -263,6 +344,22 @@ all_queued c before heard named after h q d = record {
     go : (s : ℕ) → (timer_of after s ≡ timer_of named s) ⊎ (Has s after.work.items × (timer_of after s ≡ None)) → (timer_of after s ≡ timer_of before s) ⊎ (Has s after.work.items × (timer_of after s ≡ None))
     go s (inl e) = inl (e ∙ same s)
     go s (inr e) = inr e
+
+-- ---- why each is in the list of work
+
+pub named_came : (c : Config) (before heard named : Crew) → SameBesides before heard → CameByName c heard.ready.entries heard named → CameForCause c before.ready.entries before named
+named_came c before heard named h came s has = go (came s has)
+  where
+    go : Has s heard.work.items ⊎ (names_own c s heard.ready.entries ≡ true) → Has s before.work.items ⊎ ((names_own c s before.ready.entries ≡ true) ⊎ HasCome before before.clock s)
+    go (inl f) = inl (subst (Has s) h.lists.work_same f)
+    go (inr n) = inr (inl (sym (ap (λ (l : Listed). names_own c s l.entries) h.ready_same) ∙ n))
+
+pub all_came : (c : Config) (before heard named after : Crew) → SameBesides before heard → CameByName c heard.ready.entries heard named → SameButWork heard named → CameInTime named after → CameForCause c before.ready.entries before after
+all_came c before heard named after h came q due s has = go (due s has)
+  where
+    go : Has s named.work.items ⊎ HasCome named named.clock s → Has s before.work.items ⊎ ((names_own c s before.ready.entries ≡ true) ⊎ HasCome before before.clock s)
+    go (inl f) = named_came c before heard named h came s f
+    go (inr d) = inr (inr (d.0, sym (same_timer s heard named q.timers_same ∙ same_timer s before heard h.lists.timers_same) ∙ d.1, (let b = d.2 in let l = q.same.clock_same in let m = h.same.clock_same in omega (arith, b, l, m))))
 
 -- ---- what a turn that names nothing of a session leaves
 

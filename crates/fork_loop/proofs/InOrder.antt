@@ -13,7 +13,7 @@ use Rattle.relay_model.specs.Rest.{SessionRests}
 use Rattle.relay_core.specs.Timers.{session_until}
 use Rattle.program_door.specs.Wishes.{GoesOn}
 use Rattle.fork_loop.specs.declared.turned.RunEnd.{RunEnd}
-use Rattle.fork_loop.specs.Turned.{Rested, Further, Within, KeepsTo}
+use Rattle.fork_loop.specs.Turned.{Rested, Further, GoesRound, Within, KeepsTo}
 use Rattle.program_door.proofs.Moves.{numbers_are}
 use Rattle.session_sleep.specs.Sleeps.{RestsUntil}
 use Rattle.session_sleep.proofs.Resting.{gone}
@@ -25,14 +25,16 @@ use Rattle.fork_table.specs.Tables.{row_of}
 use Rattle.session_driver.specs.Seen.{Seen}
 use Rattle.fork_loop.specs.declared.crews.Crew.{Crew}
 use Rattle.fork_loop.specs.declared.crews.Row.{Row}
-use Rattle.fork_loop.specs.Rows.{UpRow, RowIs}
-use Rattle.fork_loop.specs.Courses.{Course, Somewhere, Keeps, NoWork, timer_of}
+use Rattle.fork_loop.specs.Rows.{Has, UpRow, RowIs}
+use Rattle.fork_loop.specs.Turns.{names_own}
+use Rattle.fork_loop.specs.Looks.{CameForCause, HasCome}
+use Rattle.fork_loop.specs.Courses.{Course, Onward, SameLists, Somewhere, Keeps, NoWork, timer_of}
 use Rattle.fork_loop.specs.Asking.{DoorWaits, DoorIsOver}
 use Rattle.fork_loop.specs.Endings.{MayEnd}
 use Rattle.fork_loop.specs.Waited.{InOrder}
 use Rattle.fork_loop.specs.Waits.{WaitsFor, IsLeast}
 use Rattle.fork_loop.proofs.Lists.{has_none}
-use Rattle.fork_loop.proofs.RowLaws.{row_up}
+use Rattle.fork_loop.proofs.RowLaws.{row_up, same_timer}
 use Rattle.fork_loop.proofs.DoorSteps.{course_may_end}
 
 -- what one session waits for, if it has begun
@@ -94,6 +96,24 @@ in_order c n start now past crew first until on rested idle least = record {
     go None l = λ m w. l m (to m w)
     go (Some m) l = (from m l.0, λ k w. l.1 k (to k w))
 
+-- ---- after a wait
+
+-- what its sessions waited for is what their timers were set to
+pub came_for : (c : Config) (n : ℕ) (start now : Seen) (past : List Act) (at : ℕ) (before mid after : Crew) → Course c n start now past before → NoWork before → mid.clock ≡ at → SameLists before mid → CameForCause c mid.ready.entries mid after → (s : ℕ) → Has s after.work.items → (names_own c s mid.ready.entries ≡ true) ⊎ ((m : ℕ) × (session_until c past s ≡ Some m) × (m ≤ at))
+came_for c n start now past at before mid after on idle clock same came s has = go (came s has)
+  where
+    waited : (m : ℕ) → timer_of before s ≡ Some m → session_until c past s ≡ Some m
+    waited m e =
+        let up = row_up c n past s before.work.items (timer_of before s) (row_of before.table s) (on.rows s) in
+        let b = set_begun c n past s m (timer_of before s) (row_of before.table s) e up in
+        let k = numbers_are c past on.frame.fork in
+        (row_rests c n past s before.work.items (timer_of before s) (row_of before.table s) on.frame.fork (omega (arith, b, k)) idle (on.rows s)).until_is ∙ e
+
+    go : Has s mid.work.items ⊎ ((names_own c s mid.ready.entries ≡ true) ⊎ HasCome mid mid.clock s) → (names_own c s mid.ready.entries ≡ true) ⊎ ((m : ℕ) × (session_until c past s ≡ Some m) × (m ≤ at))
+    go (inl f) = has_none s mid.work.items (same.work_same ∙ idle) f
+    go (inr (inl f)) = inl f
+    go (inr (inr d)) = inr (d.0, waited d.0 (sym (same_timer s before mid same.timers_same) ∙ d.1), (let b = d.2 in omega (arith, b, clock)))
+
 -- ---- the turns are used up
 
 turns_within : (c : Config) (n : ℕ) (past : List Act) → Legal c n past → turns past ≤ n
@@ -129,6 +149,9 @@ door_over c old mid new one two three at k w = let o = k at.n at.start at.past a
 
 pub within_on : (c : Config) (n : ℕ) (old new : Seen) (before after : Crew) → Within c n old before → KeepsTo c n old new before after → Somewhere c new after
 within_on c n old new before after w k = let o = k w.start w.past w.course in record { n = n; start = w.start; past = o.past; course = o.course }
+
+pub round_on : (c : Config) (n : ℕ) (start now : Seen) (crew : Crew) → GoesRound c n start now crew → Onward c n start now crew
+round_on c n start now crew r = record { past = acts.Turn r.until r.turned.at r.turned.ready false ∷ r.past; course = r.turned.course }
 
 pub fewer_left : (n a b : ℕ) → (a < n) × (b ≡ suc a) → n - b < n - a
 fewer_left n a b r = let few = r.0 in let e = r.1 in omega (arith, few, e)

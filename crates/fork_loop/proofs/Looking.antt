@@ -1,7 +1,8 @@
 -- How many looks at sessions the loop makes, and that ended calls of the door stay ended.
-use Rattle.std.proofs.Common.{◌≡◌, refl, sym, ap, ◌∙◌, ℕ, ◌+◌, ◌≤◌, Bool, true, false, ◌||◌, List, [], ◌∷◌, length, None, arith}
+use Rattle.std.proofs.Common.{◌≡◌, refl, sym, ap, ◌∙◌, ℕ, ◌+◌, ◌≤◌, ◌<◌, inr, Bool, true, false, ◌||◌, List, [], ◌∷◌, length, Option, Some, None, arith}
 use Rattle.std.proofs.lemmas.Bool.{or_parts, true≢false}
-use Rattle.std.specs.FinMap.{len}
+use Rattle.std.specs.FinMap.{FinMap, get, len}
+use Rattle.std.specs.Ordering.{nat_cmp}
 use Rattle.relay_model.specs.declared.commands.Config.{Config}
 use Rattle.relay_model.specs.declared.acts.Why.TheVariants as whys
 use Rattle.relay_model.specs.declared.acts.Act.{Act}
@@ -16,10 +17,12 @@ use Rattle.fork_table.specs.Tables.{live_in}
 use Rattle.session_driver.specs.Seen.{Seen}
 use Rattle.door_driver.specs.Steps.{DoorFor, DoorActs}
 use Rattle.fork_loop.specs.declared.crews.Crew.{Crew}
-use Rattle.fork_loop.specs.Courses.{Somewhere, SameRest}
+use Rattle.fork_loop.specs.Courses.{NoWork, Somewhere, SameLists, SameRest}
 use Rattle.relay_model.specs.Readiness.{Listed, copied_list}
 use Rattle.fork_loop.specs.Turns.{DoorHearsTurn}
-use Rattle.fork_loop.specs.Looks.{LooksFew, WorksFew}
+use Rattle.fork_loop.specs.Looks.{LooksFew, NoneDue, OnlyNamedCame, WaitsNoLonger, WorksFew}
+use Rattle.fork_loop.specs.Waits.{IsLeast, WaitsFor}
+use Rattle.session_sleep.specs.Sleeps.{IsBefore}
 use Rattle.fork_loop.proofs.DoorSteps.{door_for}
 
 -- ---- what has ended the calls of the door
@@ -107,3 +110,30 @@ works_alone more one two few t = let y = ap len t in omega (arith, few, y)
 
 pub as_many : (one two : Listed) → two ≡ one → length two.entries ≡ length one.entries
 as_many one two e = ap (λ (l : Listed). length l.entries) e
+
+-- ---- what comes into the list of work where no timer is due
+
+pub named_alone : (named more : ℕ) (one two three : Crew) → length two.work.items ≤ length one.work.items + named → two.clock ≡ one.clock → two.timers.moments ≡ one.timers.moments → named ≤ more → OnlyNamedCame 0 two three → OnlyNamedCame more one three
+named_alone named more one two three few clock t l due = λ none. let d = due (λ s m e. let k = none s m (ap (λ (x : FinMap nat_cmp ℕ). get x s) (sym t) ∙ e) in omega (arith, k, clock)) in omega (arith, few, d, l)
+
+pub came_then : (more : ℕ) (one two three : Crew) → two.work.items ≡ one.work.items → two.clock ≡ one.clock → two.timers.moments ≡ one.timers.moments → OnlyNamedCame more two three → OnlyNamedCame more one three
+came_then more one two three w clock t came = λ none. let k = came (λ s m e. let l = none s m (ap (λ (x : FinMap nat_cmp ℕ). get x s) (sym t) ∙ e) in omega (arith, l, clock)) in let x = ap length w in omega (arith, k, x)
+
+pub none_then : (at : ℕ) (until : Option ℕ) (before mid : Crew) → mid.clock ≡ at → mid.timers.moments ≡ before.timers.moments → WaitsNoLonger until before → IsBefore at until → NoneDue mid
+none_then at until before mid clock t longest early s m e = go until early (longest s m (ap (λ (x : FinMap nat_cmp ℕ). get x s) (sym t) ∙ e))
+  where
+    go : (o : Option ℕ) → IsBefore at o → (u : ℕ) × (o ≡ Some u) × (u ≤ m) → mid.clock < m
+    go None b (u, f, l) = let x : ⊥ = cc in absurd x
+    go (Some k) b (u, f, l) = let same : k ≡ u = cc in omega (arith, b, same, l, clock)
+
+-- the least moment of all is no later than that of any session
+pub no_longer : (first until : Option ℕ) (crew : Crew) → IsLeast (WaitsFor first crew) until → WaitsNoLonger until crew
+no_longer first None crew l s m e = absurd (l m (inr (s, e)))
+no_longer first (Some u) crew l s m e = (u, refl, l.1 m (inr (s, e)))
+
+-- a wait that ends early leaves no more in the list of work than the turn names
+pub turned_few : (at : ℕ) (until : Option ℕ) (before mid after : Crew) → mid.clock ≡ at → SameLists before mid → NoWork before → OnlyNamedCame (length mid.ready.entries) mid after → WaitsNoLonger until before → IsBefore at until → length after.work.items ≤ length mid.ready.entries
+turned_few at until before mid after clock same idle came longest early =
+    let k = came (none_then at until before mid clock same.timers_same longest early) in
+    let w = ap length (same.work_same ∙ idle) in
+    omega (arith, k, w)

@@ -36,7 +36,7 @@ use Rattle.fork_table.specs.Tables.{row_of, Table}
 use Rattle.fork_loop.specs.declared.crews.Crew.{Crew}
 use Rattle.fork_loop.specs.declared.crews.Row.{Row}
 use Rattle.fork_loop.specs.Rows.{Has, Rouses, UpRow, RowIs}
-use Rattle.fork_loop.specs.Courses.{RowOf, NextIs, Counts, Frame, Course, Somewhere, Onward, NoWork, SameLists, timer_of}
+use Rattle.fork_loop.specs.Courses.{RowOf, NextIs, Counts, Frame, Course, Somewhere, NoWork, SameLists, timer_of}
 use Rattle.fork_loop.specs.Endings.{LeavesRow, MayEnd}
 use Rattle.fork_loop.specs.Turns.{HearsTurn, HearsRow, DoorHearsTurn, AllHeard, AsleepRow, AllAsleep, UnheardRow, AllUnheard, NamedRow, HearsNamed, Queued, TakesTurn, names_own}
 use Rattle.fork_loop.specs.Waited.{Exit, Leaving, InOrder, SleepsRow, Stopping}
@@ -225,17 +225,14 @@ no_work c n start old new past until at stop before mid w = w.has.lists.work_sam
 named_at : (at : ℕ) (mid after : Crew) (b : Bool) (s : ℕ) → mid.clock ≡ at → NamedRow mid.made mid.clock mid.ready b (row_of mid.table s) (row_of after.table s) → NamedRow mid.made at mid.ready b (row_of mid.table s) (row_of after.table s)
 named_at at mid after b s e h = subst (λ (k : ℕ). NamedRow mid.made k mid.ready b (row_of mid.table s) (row_of after.table s)) e h
 
-pub goes_on : (c : Config) (n : ℕ) (start old new : Seen) (past : List Act) (until : Option ℕ) (at : ℕ) (before mid after : Crew) → Waits c n start old new past until at false before mid → HearsNamed c mid after → Queued c mid after → Onward c n start new after
+pub goes_on : (c : Config) (n : ℕ) (start old new : Seen) (past : List Act) (until : Option ℕ) (at : ℕ) (before mid after : Crew) → Waits c n start old new past until at false before mid → HearsNamed c mid after → Queued c mid after → Course c n start new (Turn until at (copied_list mid.ready) false ∷ past) after
 goes_on c n start old new past until at before mid after w h q = record {
-  past = Turn until at (copied_list mid.ready) false ∷ past;
-  course = record {
-    frame = frame_rest c n start new (Turn until at (copied_list mid.ready) false ∷ past) mid after (frame_turned c n start old new past until at before mid w) h.same;
-    unowed = refl;
-    rows = λ s.
-        row_turned c n past s mid.made until at mid.ready mid.work.items after.work.items (timer_of mid s) (timer_of after s) (names_own c s mid.ready.entries) (row_of mid.table s) (row_of after.table s)
-        (no_work c n start old new past until at false before mid w) (one_made c n start old new past until at false before mid w) (let a = w.course.frame.run.clock in let b = w.turns.counts.later in omega (arith, a, b)) w.on_clock
-        (unnamed_own c s mid.ready.entries) (q.named s) (q.moved s) (λ m e. let k = q.ahead s m e in let l = w.has.clock_is in omega (arith, k, l)) (row_before c n start old new past until at false before mid w s) (named_at at mid after (names_own c s mid.ready.entries) s w.has.clock_is (h.rows s));
-  };
+  frame = frame_rest c n start new (Turn until at (copied_list mid.ready) false ∷ past) mid after (frame_turned c n start old new past until at before mid w) h.same;
+  unowed = refl;
+  rows = λ s.
+      row_turned c n past s mid.made until at mid.ready mid.work.items after.work.items (timer_of mid s) (timer_of after s) (names_own c s mid.ready.entries) (row_of mid.table s) (row_of after.table s)
+      (no_work c n start old new past until at false before mid w) (one_made c n start old new past until at false before mid w) (let a = w.course.frame.run.clock in let b = w.turns.counts.later in omega (arith, a, b)) w.on_clock
+      (unnamed_own c s mid.ready.entries) (q.named s) (q.moved s) (λ m e. let k = q.ahead s m e in let l = w.has.clock_is in omega (arith, k, l)) (row_before c n start old new past until at false before mid w s) (named_at at mid after (names_own c s mid.ready.entries) s w.has.clock_is (h.rows s));
 }
 
 -- no memory for the list of work
@@ -286,7 +283,7 @@ all_unheard c now at stop before mid there idle w s =
     unheard_row c there.n there.past s mid.made mid.work.items (timer_of mid s) (row_of mid.table s) (w.lists.work_same ∙ idle) (sym (one_turn (turns there.past) before.made mid.made e w.made_is))
     (row_listed c there.n there.past s before mid (ap (λ (t : Table Row). row_of t s) w.table_same) w.lists (there.course.rows s))
 
-pub when_going : (c : Config) (n : ℕ) (start old new : Seen) (past : List Act) (until : Option ℕ) (at : ℕ) (stop : Bool) (before mid after : Crew) → stop ≡ false → Waits c n start old new past until at stop before mid → HearsNamed c mid after → Queued c mid after → Onward c n start new after
+pub when_going : (c : Config) (n : ℕ) (start old new : Seen) (past : List Act) (until : Option ℕ) (at : ℕ) (stop : Bool) (before mid after : Crew) → stop ≡ false → Waits c n start old new past until at stop before mid → HearsNamed c mid after → Queued c mid after → Course c n start new (Turn until at (copied_list mid.ready) false ∷ past) after
 when_going c n start old new past until at false before mid after e w h q = goes_on c n start old new past until at before mid after w h q
 when_going c n start old new past until at true before mid after e w h q = absurd (true≢false e)
 

@@ -11,7 +11,7 @@ use Rattle.fork_loop.specs.declared.turned.RunEnd.TheVariants as ends
 use Rattle.fork_loop.specs.Asking.{DoorIsOver}
 use Rattle.fork_loop.specs.Courses.{Course, Onward}
 use Rattle.fork_loop.specs.Endings.{MayEnd}
-use Rattle.fork_loop.specs.Waited.{Stopping}
+use Rattle.fork_loop.specs.Waited.{Stopping, TurnedOn}
 
 -- no session lives
 abbrev pub NoneLives : Crew → Type 0
@@ -22,9 +22,15 @@ pub record Rested (c : Config) (past : List Act) (first : Option ℕ) (crew : Cr
   pub door : Sleeps c past first
   pub remains : GoesOn c past ⊎ ((s : ℕ) × (is_some (row_of crew.table s) ≡ true))
 
+-- the run went on by a turn after some acts, until some moment
+pub record GoesRound (c : Config) (n : ℕ) (start now : Seen) (crew : Crew) : Type 0 where
+  pub past : List Act
+  pub until : Option ℕ
+  pub turned : TurnedOn c n start now past until crew
+
 -- what became of a run of at most n turns
 abbrev pub RunIs : Config → ℕ → Seen → Seen → Crew → Option RunEnd → Type 0
-RunIs c n start new after None = Onward c n start new after
+RunIs c n start new after None = GoesRound c n start new after
 RunIs c n start new after (Some ends.Over) = DoorIsOver c n start new after × NoneLives after
 RunIs c n start new after (Some (ends.Ends why)) = MayEnd c n start new why after
 RunIs c n start new after (Some ends.Stops) = Stopping c n start new after

@@ -1,15 +1,16 @@
 -- What a wait makes of the loop.
-use Rattle.std.specs.Prelude.{◌≡◌, ◌⊎◌, ℕ, suc, ◌<◌, true, false, List, ◌∷◌, Option, Some, None}
+use Rattle.std.specs.Prelude.{◌≡◌, ◌⊎◌, ℕ, suc, ◌<◌, ◌≤◌, true, false, List, ◌∷◌, length, Option, Some, None}
 use Rattle.relay_model.specs.declared.commands.Config.{Config}
 use Rattle.relay_model.specs.declared.acts.Act.{Act}
 use Rattle.relay_model.specs.declared.acts.Act.TheVariants.{Turn}
 use Rattle.relay_model.specs.declared.acts.Why.{Why}
 use Rattle.relay_model.specs.declared.acts.Why.TheVariants as whys
 use Rattle.relay_model.specs.Configs.{has_fork}
-use Rattle.relay_model.specs.Readiness.{copied_list}
+use Rattle.relay_model.specs.Readiness.{Listed, copied_list}
 use Rattle.relay_model.specs.History.{turns, memory_said}
 use Rattle.relay_model.specs.Sessions.{admitted, holds}
 use Rattle.relay_model.specs.Rest.{Rest, owed, until_of}
+use Rattle.relay_core.specs.Timers.{session_until}
 use Rattle.relay_core.specs.Told.{stop_turned}
 use Rattle.program_door.specs.declared.doors.Door.{Door}
 use Rattle.program_door.specs.Stands.{DoorStands}
@@ -17,12 +18,16 @@ use Rattle.fork_table.specs.Tables.{row_of}
 use Rattle.session_driver.specs.Seen.{Seen}
 use Rattle.session_crew.specs.Crews.{IsSaid, MaySay, Sleeper}
 use Rattle.session_runs.specs.Runs.{Run}
+use Rattle.session_sleep.specs.Sleeps.{IsBefore}
 use Rattle.fork_loop.specs.declared.crews.Crew.{Crew}
 use Rattle.fork_loop.specs.declared.crews.Row.{Row}
 use Rattle.fork_loop.specs.declared.waited.Waited.{Waited}
 use Rattle.fork_loop.specs.declared.waited.Waited.TheVariants as waits
-use Rattle.fork_loop.specs.Courses.{Counts, Unsaid, Course, Onward}
+use Rattle.fork_loop.specs.Courses.{Counts, Unsaid, Course}
 use Rattle.fork_loop.specs.Endings.{LeavesRow, MayEnd, RunsOut}
+use Rattle.fork_loop.specs.Looks.{WaitsNoLonger}
+use Rattle.fork_loop.specs.Rows.{Has}
+use Rattle.fork_loop.specs.Turns.{names_own}
 
 -- where it is a stop, a turn says stop, or the turns are used up
 abbrev pub StopsAt : ℕ → Why → List Act → Type 0
@@ -78,8 +83,17 @@ pub record InOrder (c : Config) (past : List Act) (until : Option ℕ) : Type 0 
   pub rests : Rest c past
   pub is_until : until ≡ until_of c past
 
+-- the run goes on after one more turn, which is its last act; each session in the list of work is named by the turn or
+-- waited for a moment that has come, and where the turn came before the end of its wait, they are no more than its entries
+pub record TurnedOn (c : Config) (n : ℕ) (start now : Seen) (past : List Act) (until : Option ℕ) (crew : Crew) : Type 0 where
+  pub at : ℕ
+  pub ready : Listed
+  pub course : Course c n start now (Turn until at ready false ∷ past) crew
+  pub came : (s : ℕ) → Has s crew.work.items → (names_own c s ready.entries ≡ true) ⊎ ((m : ℕ) × (session_until c past s ≡ Some m) × (m ≤ at))
+  pub few : IsBefore at until → length crew.work.items ≤ length ready.entries
+
 -- where it was, the run goes on after the turn, or is stopped by it
 abbrev pub WaitedIs : Config → ℕ → Option ℕ → Seen → Seen → Crew → Crew → Waited → Type 0
-WaitedIs c n until old new before after waits.Goes = ((start : Seen) (past : List Act) → Course c n start old past before → InOrder c past until → Onward c n start new after) × (after.made ≡ suc before.made)
+WaitedIs c n until old new before after waits.Goes = ((start : Seen) (past : List Act) → Course c n start old past before → InOrder c past until → WaitsNoLonger until before → TurnedOn c n start new past until after) × (after.made ≡ suc before.made)
 WaitedIs c n until old new before after waits.Stops = (start : Seen) (past : List Act) → Course c n start old past before → InOrder c past until → Stopping c n start new after
 WaitedIs c n until old new before after waits.Memory = (start : Seen) (past : List Act) → Course c n start old past before → InOrder c past until → MayEnd c n start new whys.Memory after

@@ -12,11 +12,13 @@ use timer_set::TimerSet;
 
 impl Crew {
     ghost use Rattle.fork_loop.specs.Births.{Forks, BeginsAll};
+    ghost use Rattle.fork_loop.specs.Courses.{NoWork};
 
     /// Nothing is open and no session has begun.
     pub fn new(alloc: Global, config: &Config) -> Result<Crew, NoMemory>
         requires { Forks config.now }
-        ensures { IfOk result (BeginsAll config.now) }
+        ensures begins { IfOk result (BeginsAll config.now) }
+        ensures idle { IfOk result NoWork }
     {
         let options = options_of(config, program_door());
         let ready = ReadyList::new(alloc)?;

@@ -23,7 +23,7 @@ use std::sync::ledger::Ledger;
 impl Crew {
     ghost use Rattle.fork_loop.specs.Turns.{RowHeard, AllHeard, AsleepRow, AllAsleep, AllUnheard, NamedHeard, RowHearsOnce, Queues, QueuesDue};
     ghost use Rattle.fork_loop.specs.Courses.{SameButWork, SameButLists};
-    ghost use Rattle.fork_loop.specs.Looks.{WorksFew};
+    ghost use Rattle.fork_loop.specs.Looks.{CameByName, CameInTime, OnlyNamedCame, WorksFew};
 
     /// Has each session hear the last turn, which says stop.
     pub fn stop_all<L: Ledger>(&mut self, steps: &mut Steps<L>)
@@ -77,6 +77,7 @@ impl Crew {
         ensures named { OnOk result (Queues config.now self.old.ready.entries self.old self.new) }
         ensures same { SameButWork self.old self.new }
         ensures few { length self.new.work.items ≤ length self.old.work.items + length self.old.ready.entries }
+        ensures came { CameByName config.now self.old.ready.entries self.old self.new }
     {
         for i in 0..self.ready.len() {
             let place = self.ready.get(i).place;
@@ -92,6 +93,8 @@ impl Crew {
         ensures due { OnOk result (QueuesDue self.old self.new) }
         ensures same { SameButLists self.old self.new }
         ensures few { WorksFew 0 self.old self.new }
+        ensures alone { OnlyNamedCame 0 self.old self.new }
+        ensures came { CameInTime self.old self.new }
     {
         while let Some(number) = self.timers.due(self.clock) {
             self.work.push_back(number)?;

@@ -22,7 +22,7 @@ pub enum Waited {
 impl Crew {
     ghost use Rattle.fork_loop.specs.Courses.{Somewhere, NoWork};
     ghost use Rattle.fork_loop.specs.Turns.{AllUnheard, HearsNamed, Queued, TakesTurn};
-    ghost use Rattle.fork_loop.specs.Looks.{LooksFew, WorksFew};
+    ghost use Rattle.fork_loop.specs.Looks.{CameForCause, LooksFew, OnlyNamedCame, WorksFew};
     ghost use Rattle.fork_loop.specs.Waited.{WaitedIs};
 
     /// Waits until this moment at the latest, and has those hear what the turn says that it concerns: the door, the
@@ -81,6 +81,8 @@ impl Crew {
         ensures ready { self.new.ready ≡ self.old.ready }
         ensures looks { steps.new.ticks ≤ steps.old.ticks + length self.old.ready.entries }
         ensures few { WorksFew (length self.old.ready.entries) self.old self.new }
+        ensures alone { OnlyNamedCame (length self.old.ready.entries) self.old self.new }
+        ensures came { CameForCause config.now self.old.ready.entries self.old self.new }
     {
         self.hear_named(config, steps);
         self.queue_named(config)?;

@@ -1,6 +1,6 @@
-use Rattle.std.proofs.Common.{◌∙◌, arith}
-use Rattle.fork_loop.proofs.Looking.{works_waited, works_named, works_alone, as_many}
-use Rattle.fork_loop.proofs.Hearing.{on_ok, all_queued}
+use Rattle.std.proofs.Common.{◌∙◌, ap, length, arith}
+use Rattle.fork_loop.proofs.Looking.{works_waited, works_named, works_alone, as_many, named_alone, came_then}
+use Rattle.fork_loop.proofs.Hearing.{on_ok, all_queued, all_came, named_came}
 use Rattle.fork_loop.proofs.crews.Crew.hear_turn.Goals as goal
 
 pub returns-clause-queued : goal.returns-clause-queued
@@ -21,3 +21,24 @@ returns-in_err-queue_named-clause-few g c =
 
 pub returns-in_err-queue_named-clause-ready : goal.returns-in_err-queue_named-clause-ready
 returns-in_err-queue_named-clause-ready g c = c.queue_named.ensures.same.ready_same ∙ c.hear_named.ensures.heard.same.ready_same
+
+pub returns-clause-alone : goal.returns-clause-alone
+returns-clause-alone g c =
+    let h = c.hear_named.ensures.heard.same in
+    let e = as_many _ _ h.ready_same in
+    came_then _ c.args.self.now c.hear_named.new.self c.queue_due.new.self h.lists.work_same h.same.clock_same h.lists.timers_same
+    (named_alone _ _ c.hear_named.new.self c.queue_named.new.self c.queue_due.new.self c.queue_named.ensures.few c.queue_named.ensures.same.same.clock_same c.queue_named.ensures.same.timers_same (omega (arith, e)) c.queue_due.ensures.alone)
+
+pub returns-in_err-queue_named-clause-alone : goal.returns-in_err-queue_named-clause-alone
+returns-in_err-queue_named-clause-alone g c = λ none.
+    let h = c.hear_named.ensures.heard.same in
+    let e = as_many _ _ h.ready_same in
+    let few = c.queue_named.ensures.few in
+    let w = ap length h.lists.work_same in
+    omega (arith, e, few, w)
+
+pub returns-clause-came : goal.returns-clause-came
+returns-clause-came g c = all_came c.args.config.now c.args.self.now c.hear_named.new.self c.queue_named.new.self c.queue_due.new.self c.hear_named.ensures.heard.same c.queue_named.ensures.came c.queue_named.ensures.same c.queue_due.ensures.came
+
+pub returns-in_err-queue_named-clause-came : goal.returns-in_err-queue_named-clause-came
+returns-in_err-queue_named-clause-came g c = named_came c.args.config.now c.args.self.now c.hear_named.new.self c.queue_named.new.self c.hear_named.ensures.heard.same c.queue_named.ensures.came

@@ -1,9 +1,10 @@
-use Rattle.std.proofs.Common.{arith, ap, length}
-use Rattle.fork_loop.proofs.Hearing.{none_moved, one_longer, fewer_by, one_kept, one_moved, fewer_timers}
+use Rattle.std.proofs.Common.{arith, ap, inl, length, subst}
+use Rattle.fork_loop.proofs.Hearing.{none_moved, one_longer, fewer_by, one_kept, one_moved, fewer_timers, was_due, one_came}
+use Rattle.fork_loop.specs.Rows.{Has}
 use Rattle.fork_loop.proofs.crews.Crew.queue_due.Goals as goal
 
 pub loop-number-init : goal.loop-number-init
-loop-number-init c = record { moves = none_moved c.args.self.now; few = omega arith }
+loop-number-init c = record { moves = none_moved c.args.self.now; few = omega arith; alone = λ none. omega arith; came = λ s h. inl h }
 
 pub loop-number-preserved : goal.loop-number-preserved
 loop-number-preserved c =
@@ -15,6 +16,8 @@ loop-number-preserved c =
         same = (let r = i.same in record { table_same = r.table_same; same = (let q = r.same in record { door_same = q.door_same; unborn_same = q.unborn_same; clock_same = q.clock_same; made_same = q.made_same; admitted_same = q.admitted_same; bounds_same = q.bounds_same }); ready_same = r.ready_same });
       };
       few = (let l = c.loop-number.invariant.few in let m = one_longer c.loop-number.self.work.items c.push_back.new.self.items c.in-Some.number c.in_ok-push_back.ensures.items in let d = c.in-Some.ensures.due in let n = fewer_by c.loop-number.self.timers.moments c.due.new.self.moments c.in-Some.number d.0 c.in-Some.ensures.taken.0 d.2.is_set in omega (arith, l, m, n));
+      alone = λ none. (let d = c.in-Some.ensures.due in was_due c.in-Some.number d.0 c.args.self.now c.loop-number.self d.1 d.2.is_set i none);
+      came = (let d = c.in-Some.ensures.due in one_came c.in-Some.number d.0 c.args.self.now c.loop-number.self c.push_back.new.self.items d.1 d.2.is_set i c.in_ok-push_back.ensures.items c.loop-number.invariant.came);
     }
 
 pub loop-number-smaller : goal.loop-number-smaller
@@ -27,3 +30,9 @@ returns-in_err-push_back-clause-few c =
     let n = fewer_by c.loop-number.self.timers.moments c.due.new.self.moments c.in-Some.number d.0 c.in-Some.ensures.taken.0 d.2.is_set in
     let e = ap length c.in_err-push_back.ensures.items in
     omega (arith, l, n, e)
+
+pub returns-in_err-push_back-clause-alone : goal.returns-in_err-push_back-clause-alone
+returns-in_err-push_back-clause-alone c = λ none. (let d = c.in-Some.ensures.due in was_due c.in-Some.number d.0 c.args.self.now c.loop-number.self d.1 d.2.is_set c.loop-number.invariant.moves none)
+
+pub returns-in_err-push_back-clause-came : goal.returns-in_err-push_back-clause-came
+returns-in_err-push_back-clause-came c = λ s h. c.loop-number.invariant.came s (subst (Has s) c.in_err-push_back.ensures.items h)

@@ -1,4 +1,5 @@
 use Rattle.std.specs.Prelude.{take, length, ◌+◌, ◌≤◌}
+use Rattle.fork_loop.specs.Looks.{CameByName}
 use Rattle.fork_loop.specs.Turns.{Queues}
 use Rattle.fork_loop.proofs.crews.Crew.queue_named.Given as goal
 
@@ -6,4 +7,5 @@ abbrev pub invariant-loop-i : goal.invariant-loop-i
 invariant-loop-i l = record {
   queued : Queues l.config (take l.i l.fn.self.ready.entries) l.fn.self l.self;
   few : length l.self.work.items ≤ length l.fn.self.work.items + l.i;
+  came : CameByName l.config (take l.i l.fn.self.ready.entries) l.fn.self l.self;
 }

@@ -1,4 +1,4 @@
-use Rattle.fork_loop.proofs.InOrder.{within_on, fewer_left}
+use Rattle.fork_loop.proofs.InOrder.{within_on, fewer_left, round_on}
 use Rattle.fork_loop.proofs.crews.Crew.run.Goals as goal
 
 pub loop-end-init : goal.loop-end-init
@@ -11,7 +11,7 @@ pub returns-in-Some : goal.returns-in-Some
 returns-in-Some g c = λ start past on. let o = c.loop-end.invariant start past on in c.in-Some.ensures.turns.0 start o.past o.course
 
 pub loop-end-preserved : goal.loop-end-preserved
-loop-end-preserved g c = λ start past on. let o = c.loop-end.invariant start past on in c.in_default.ensures.turns.0 start o.past o.course
+loop-end-preserved g c = λ start past on. let o = c.loop-end.invariant start past on in round_on c.args.config.now c.args.turns start _ _ (c.in_default.ensures.turns.0 start o.past o.course)
 
 pub loop-end-smaller : goal.loop-end-smaller
 loop-end-smaller g c = fewer_left c.args.turns c.loop-end.self.made _ c.in_default.ensures.turns.1

@@ -1,12 +1,14 @@
 use Rattle.fork_table.specs.Tables.{Table}
+use Rattle.relay_model.specs.Readiness.{copied_list}
 use Rattle.fork_loop.specs.declared.crews.Row.{Row}
-use Rattle.fork_loop.proofs.Looking.{looks_waited, works_waited, works_alone, as_many}
+use Rattle.fork_loop.proofs.Looking.{looks_waited, works_waited, works_alone, as_many, turned_few}
 use Rattle.fork_loop.proofs.RowRuns.{rest_itself}
 use Rattle.std.proofs.Common.{ap, refl, inl, inr, ◌∙◌, add-one, arith}
 use Rattle.std.proofs.lemmas.Bool.{false≢true}
 use Rattle.session_runs.proofs.Going.{idle_run}
 use Rattle.fork_loop.proofs.Turning.{has_waited, turned_there, all_unheard, when_going, when_short, when_stopped}
 use Rattle.fork_loop.proofs.DoorSteps.{memory_rows}
+use Rattle.fork_loop.proofs.InOrder.{came_for}
 use Rattle.fork_loop.proofs.crews.Crew.wait.Goals as goal
 
 pub hear_turn-requires : goal.hear_turn-requires
@@ -29,17 +31,23 @@ returns-then-stop-clause-waits g c = λ start past on order.
 
 pub returns-in-Ok-clause-waits : goal.returns-in-Ok-clause-waits
 returns-in-Ok-clause-waits g c = (
-  λ start past on order.
+  λ start past on order longest.
       let h = has_waited c.in-Turned.at c.in-Turned.stop _ c.take_turn.new.self c.take_turn.ensures in
-      when_going c.args.config.now c.args.turns start _ _ past c.args.until c.in-Turned.at c.in-Turned.stop c.args.self.now c.take_turn.new.self c.hear_turn.new.self c.if-stop.false (record {
-        course = on;
-        few = c.requires.few;
-        idle = c.requires.idle;
-        order = order;
-        turns = turned_there _ _ c.args.until c.in-Turned.at _ c.take_turn.new.self.ready c.in-Turned.stop c.take_turn.ensures.ready_same (record { did = c.in-Turned.ensures.act; named = c.in-Turned.ensures.named; later = c.in-Turned.ensures.faults; counts = c.in-Turned.ensures.counts });
-        has = record { door = h.door; table_same = h.table_same; lists = record { work_same = h.lists.work_same; timers_same = h.lists.timers_same }; unborn_same = h.unborn_same; clock_is = h.clock_is; made_is = h.made_is };
-        on_clock = c.take_turn.ensures.on_clock;
-      }) c.hear_turn.ensures.heard c.in-Ok.ensures.queued,
+      record {
+        at = c.in-Turned.at;
+        ready = copied_list c.take_turn.new.self.ready;
+        course = when_going c.args.config.now c.args.turns start _ _ past c.args.until c.in-Turned.at c.in-Turned.stop c.args.self.now c.take_turn.new.self c.hear_turn.new.self c.if-stop.false (record {
+          course = on;
+          few = c.requires.few;
+          idle = c.requires.idle;
+          order = order;
+          turns = turned_there _ _ c.args.until c.in-Turned.at _ c.take_turn.new.self.ready c.in-Turned.stop c.take_turn.ensures.ready_same (record { did = c.in-Turned.ensures.act; named = c.in-Turned.ensures.named; later = c.in-Turned.ensures.faults; counts = c.in-Turned.ensures.counts });
+          has = record { door = h.door; table_same = h.table_same; lists = record { work_same = h.lists.work_same; timers_same = h.lists.timers_same }; unborn_same = h.unborn_same; clock_is = h.clock_is; made_is = h.made_is };
+          on_clock = c.take_turn.ensures.on_clock;
+        }) c.hear_turn.ensures.heard c.in-Ok.ensures.queued;
+        came = came_for c.args.config.now c.args.turns start _ past c.in-Turned.at c.args.self.now c.take_turn.new.self c.hear_turn.new.self on c.requires.idle c.take_turn.ensures.clock_is (record { work_same = h.lists.work_same; timers_same = h.lists.timers_same }) c.hear_turn.ensures.came;
+        few = λ early. turned_few c.in-Turned.at c.args.until c.args.self.now c.take_turn.new.self c.hear_turn.new.self c.take_turn.ensures.clock_is (record { work_same = h.lists.work_same; timers_same = h.lists.timers_same }) c.requires.idle c.hear_turn.ensures.alone longest early;
+      },
   c.hear_turn.ensures.heard.same.made_same ∙ (c.take_turn.ensures.made_is ∙ add-one _),
 )
 

@@ -1,8 +1,9 @@
 use Rattle.fork_loop.proofs.InOrder.{in_order, limit_ends}
+use Rattle.fork_loop.proofs.Looking.{no_longer}
 use Rattle.fork_loop.proofs.crews.Crew.wait_for.Goals as goal
 
 pub returns-in-Goes-clause-waits : goal.returns-in-Goes-clause-waits
-returns-in-Goes-clause-waits g c = (λ start past on wished. c.in-Goes.ensures.waits.0 start past on (in_order c.args.config.now c.args.turns start _ past c.args.self.now c.args.first _ on wished c.requires.idle c.least_until-until.ensures), (c.if-self-turns.true, c.in-Goes.ensures.waits.1))
+returns-in-Goes-clause-waits g c = (λ start past on wished. record { past = past; until = _; turned = c.in-Goes.ensures.waits.0 start past on (in_order c.args.config.now c.args.turns start _ past c.args.self.now c.args.first _ on wished c.requires.idle c.least_until-until.ensures) (no_longer c.args.first _ c.args.self.now c.least_until-until.ensures) }, (c.if-self-turns.true, c.in-Goes.ensures.waits.1))
 
 pub returns-in-Stops-clause-waits : goal.returns-in-Stops-clause-waits
 returns-in-Stops-clause-waits g c = (λ start past on wished. c.in-Stops.ensures.waits start past on (in_order c.args.config.now c.args.turns start _ past c.args.self.now c.args.first _ on wished c.requires.idle c.least_until-until.ensures), tt)
