@@ -1,8 +1,9 @@
 #!/usr/bin/env bash
 # Refused memory: runs the built program with the C library's allocator refusing one request, for each of the requests
-# in turn: one way, a dump, 100,000 bytes over both rings, three TCP peers with `fork`; each also with a journal, which
-# the built auditor judges. Each run either is as ever, or ends for want of memory with everything closed and no wrong
-# byte passed. Where the program worked_runs is named too, some of its rows are tried likewise.
+# in turn: one way, a dump, 100,000 bytes over both rings, three TCP peers with `fork`; and one way and a dump with all
+# behind it refused too; each also with a journal, which the built auditor judges. Each run either is as ever, or ends for
+# want of memory, which it says, with everything closed and no wrong byte passed. Where the program worked_runs is named
+# too, some of its rows are tried likewise.
 # Usage: tests/memory.sh [PROGRAM [AUDITOR [WORKED]]]     (bin/socat and bin/socat-audit where none is given, and
 # crates/worked_runs/out/worked_runs where it was built)
 # A line for each row, and 'N passed, M failed' at the end; the status is 1 where a run was otherwise.

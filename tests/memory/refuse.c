@@ -1,5 +1,5 @@
 /* Takes the place of the C library's allocator, and refuses one request: the one with the number in REFUSE, counted from
-   1. The file in REFUSE_COUNT, of eight bytes, holds how many there were so far. */
+   1; with REFUSE_REST all behind it too. The file in REFUSE_COUNT, of eight bytes, holds how many there were so far. */
 #define _GNU_SOURCE
 #include <errno.h>
 #include <fcntl.h>
@@ -18,6 +18,7 @@ extern void *__libc_memalign(size_t, size_t);
 static atomic_long before;
 static atomic_long *requests = &before;
 static long wanted;
+static int rest;
 
 __attribute__((constructor)) static void begin(void) {
     const char *number = getenv("REFUSE");
@@ -29,10 +30,12 @@ __attribute__((constructor)) static void begin(void) {
     close(file);
     requests = shared;
     wanted = number ? atol(number) : 0;
+    rest = wanted > 0 && getenv("REFUSE_REST") != NULL;
 }
 
 static int refused(void) {
-    if (atomic_fetch_add(requests, 1) + 1 != wanted)
+    long number = atomic_fetch_add(requests, 1) + 1;
+    if (number != wanted && !(rest && number > wanted))
         return 0;
     errno = ENOMEM;
     return 1;

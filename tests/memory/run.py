@@ -24,14 +24,16 @@ class Ended:
         self.status, self.output, self.errors, self.requests = status, output, errors, requests
 
 
-def begun(library, number, words, stdin, folder):
-    """A process whose request with this number is refused."""
+def begun(library, number, words, stdin, folder, rest=False):
+    """A process whose request with this number is refused, and with `rest` each behind it."""
     count, journal = os.path.join(folder, "count"), os.path.join(folder, "journal")
     if os.path.exists(journal):
         os.remove(journal)
     with open(count, "wb") as out:
         out.write(bytes(8))
     environment = {"PATH": os.environ["PATH"], "LD_PRELOAD": library, "REFUSE": str(number), "REFUSE_COUNT": count}
+    if rest:
+        environment["REFUSE_REST"] = "yes"
     return subprocess.Popen(words, stdin=stdin, stdout=subprocess.PIPE, stderr=subprocess.PIPE, cwd=folder,
                             env=environment)
 
@@ -50,11 +52,12 @@ def ended(process, given, folder):
 class Row:
     """One row: its words, what it is given, and what comes of it where no memory is refused."""
 
-    def __init__(self, name, words, given, output, errors=b""):
+    def __init__(self, name, words, given, output, errors=b"", rest=False):
         self.name, self.words, self.given, self.output, self.errors = name, words, given, output, errors
+        self.rest = rest
 
     def run(self, library, number, program, flags, folder):
-        process = begun(library, number, [program, *flags, *self.words], subprocess.PIPE, folder)
+        process = begun(library, number, [program, *flags, *self.words], subprocess.PIPE, folder, self.rest)
         return ended(process, self.given, folder)
 
     def is_whole(self, end):
@@ -189,9 +192,9 @@ class Tally:
     passed = failed = 0
 
 
-WHOLE, UNSAVED, UNBEGUN = "as ever", "as ever but for the journal", "ended before they began"
+WHOLE, UNSAVED = "as ever", "as ever but for the journal"
 THREADLESS, WANTING, OTHERWISE = "had no thread for a stream", "ended for want of memory", "were otherwise"
-HOW = (WHOLE, UNSAVED, UNBEGUN, THREADLESS, WANTING, OTHERWISE)
+HOW = (WHOLE, UNSAVED, THREADLESS, WANTING, OTHERWISE)
 
 
 def how_it_ended(row, end, journal):
@@ -203,10 +206,8 @@ def how_it_ended(row, end, journal):
         return THREADLESS
     if row.errors and row.is_whole(Ended(end.status, end.output, row.errors, 0)) and not end.errors and not journal:
         return THREADLESS
-    if end.status == 2 and journal in (None, "none"):
-        if not end.output and not end.errors:
-            return UNBEGUN
-        if row.is_whole(Ended(0, end.output, end.errors, 0)) and journal:
+    if end.status == 2 and journal == "none":
+        if row.is_whole(Ended(0, end.output, end.errors.removesuffix(NO_MEMORY), 0)) and end.errors.endswith(NO_MEMORY):
             return UNSAVED
     return WANTING if row.is_front(end) and journal in (None, "", "none") else OTHERWISE
 
@@ -241,6 +242,8 @@ def main(library, program, auditor, worked=None, rows=None):
         Row("one way", ["-u", "STDIN", "STDOUT"], b"abc", b"abc"),
         Row("a dump", ["-v", "-u", "STDIN", "STDOUT"], b"a\n", b"a\n", b"> length=2 from=0 to=1\na\n"),
         Row("100,000 bytes over both rings", ["-u", "STDIN", "STDOUT"], many, many),
+        Row("one way, and all behind it", ["-u", "STDIN", "STDOUT"], b"abc", b"abc", rest=True),
+        Row("a dump, and all behind it", ["-v", "-u", "STDIN", "STDOUT"], b"a\n", b"a\n", b"> length=2 from=0 to=1\na\n", True),
         Peers(),
     ]
     with tempfile.TemporaryDirectory() as folder:

@@ -4,8 +4,7 @@
 
 mod parts;
 
-use mio_poller::MioPoller;
-use parts::{NO_MEMORY, carried_out, closed_streams, concluded, made, told, wakes};
+use parts::{Lack, carried_out, closed_streams, concluded, lacking, polling, told};
 use port_desk::Standard;
 use port_trait::{StdSink, StdSource, StdSpawner};
 use program_words::program_words;
@@ -17,18 +16,15 @@ use thread_rings::{RingReader, RingWriter};
 fn main(rt: HostRuntime) -> ExitCode {
     let _closed = closed_streams(&rt);
     let alloc = rt.alloc();
-    let Ok(words) = program_words(alloc, &rt) else {
-        return ExitCode::from(NO_MEMORY);
-    };
-    let poller = match made(MioPoller::new(rt, alloc)) {
-        Ok(poller) => poller,
-        Err(status) => return ExitCode::from(status),
-    };
-    let (Ok((reading, writing, noting)), Ok((sink, failures))) = (
-        wakes(&poller),
+    let (Ok(words), Ok((sink, failures))) = (
+        program_words(alloc, &rt),
         told(alloc, StdSink::new(rt.stdout())),
     ) else {
-        return ExitCode::from(NO_MEMORY);
+        return lacking(&rt, Lack::Memory);
+    };
+    let (poller, (reading, writing, noting)) = match polling(rt, alloc) {
+        Ok(polling) => polling,
+        Err(lack) => return lacking(&rt, lack),
     };
     let mut spawner = StdSpawner::new(rt);
     let stdin = match direct_input(rt, alloc, &poller) {
@@ -50,13 +46,15 @@ fn main(rt: HostRuntime) -> ExitCode {
         Err(error) => Err(error),
     };
     let (Ok(stdin), Ok(stdout), Ok(stderr)) = (stdin, stdout, stderr) else {
-        return ExitCode::from(NO_MEMORY);
+        return lacking(&rt, Lack::Memory);
     };
     let standard = Standard {
         stdin: stdin.into_port(),
         stdout: stdout.into_port(),
         stderr: stderr.into_port(),
     };
-    let status = carried_out(rt, rt, alloc, poller, standard, words.as_slice());
-    concluded(&rt, status, &failures)
+    match carried_out(rt, rt, alloc, poller, standard, words.as_slice()) {
+        Ok(status) => concluded(&rt, status, &failures),
+        Err(lack) => lacking(&rt, lack),
+    }
 }

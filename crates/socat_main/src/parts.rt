@@ -6,8 +6,8 @@ use mio_poller::{MioPoller, MioWake};
 use port_desk::{Desk, Standard};
 use port_trait::{Making, Port, Sink};
 use real_maker::RealMaker;
-use relay_model::{NoMemory, Text};
-use socat_top::run_written;
+use relay_model::{Act, Journal, NoMemory, Text};
+use socat_top::{Saving, Written, run_written};
 use std::alloc::Global;
 use std::fs::{Files, OpenOptions};
 use std::io::Eprint;
@@ -23,18 +23,49 @@ use world_trait::Recorder;
 /// The status where the system refuses the poller or what is registered with it, and where output failed after the run.
 const FAILED: u8 = 1;
 
-/// The status where there is no memory to begin with.
-pub const NO_MEMORY: u8 = 2;
+/// The status where there is no memory.
+const NO_MEMORY: u8 = 2;
 
-/// A wake for the thread of each standard stream.
-pub fn wakes<R: Net + Clock + Drop>(
-    poller: &MioPoller<R>,
-) -> Result<(MioWake, MioWake, MioWake), u8> {
-    Ok((
+/// What was wanting before a run began, or for its journal once it had ended.
+#[derive(Clone, Copy, Debug)]
+pub enum Lack {
+    Memory,
+    /// The system refused the poller, or what is registered with it.
+    Poller,
+}
+
+impl From<NoMemory> for Lack {
+    fn from(_absent: NoMemory) -> Lack {
+        Lack::Memory
+    }
+}
+
+/// Says what was wanting, and gives the status of it. The line takes no memory.
+pub fn lacking<R: Eprint>(rt: &R, lack: Lack) -> ExitCode {
+    match lack {
+        Lack::Memory => {
+            let _ = eprintln!(rt; "socat: out of memory");
+            ExitCode::from(NO_MEMORY)
+        }
+        Lack::Poller => {
+            let _ = eprintln!(rt; "socat: no poller");
+            ExitCode::from(FAILED)
+        }
+    }
+}
+
+/// A poller, and a wake of it for the thread of each standard stream.
+pub fn polling<R: Net + Clock + Drop>(
+    rt: R,
+    alloc: Global,
+) -> Result<(MioPoller<R>, (MioWake, MioWake, MioWake)), Lack> {
+    let poller = made(MioPoller::new(rt, alloc))?;
+    let wakes = (
         made(poller.wake())?,
         made(poller.wake())?,
         made(poller.wake())?,
-    ))
+    );
+    Ok((poller, wakes))
 }
 
 /// What stands on the descriptor of a standard stream that was closed when the program began, so that nothing else
@@ -59,12 +90,12 @@ where
     [occupied(files), occupied(files), occupied(files)]
 }
 
-/// What was made, or the status where it wasn't.
-pub fn made<T: Drop>(making: Making<T>) -> Result<T, u8> {
+/// What was made, or what was wanting for it.
+fn made<T: Drop>(making: Making<T>) -> Result<T, Lack> {
     match making {
         Making::Made(made) => Ok(made),
-        Making::Later(_) | Making::Failed => Err(FAILED),
-        Making::Memory => Err(NO_MEMORY),
+        Making::Later(_) | Making::Failed => Err(Lack::Poller),
+        Making::Memory => Err(Lack::Memory),
     }
 }
 
@@ -75,8 +106,9 @@ pub fn told<K: Sink + Drop>(alloc: Global, sink: K) -> Result<(ToldSink<K>, Fail
     Ok((told, failures))
 }
 
-/// Carries out the words over a desk of these streams, which have passed no bytes, and of the ports that a maker opens, and gives the status. Files and
-/// programs are the system's. In `main` the types would be known, and the prover compares more of them than its steps allow.
+/// Carries out the words over a desk of these streams, which have passed no bytes, and of the ports that a maker opens,
+/// and gives the status. Files and programs are the system's. In `main` the types would be known, and the prover compares
+/// more of them than its steps allow.
 pub fn carried_out<R, I: Port, O: Port, E: Port>(
     rt: R,
     system: HostRuntime,
@@ -84,22 +116,38 @@ pub fn carried_out<R, I: Port, O: Port, E: Port>(
     poller: MioPoller<R>,
     standard: Standard<I, O, E>,
     words: &[Text],
-) -> u8
+) -> Result<u8, Lack>
 where
     R: Files + Net + Clock + Threads + Copy + Drop,
     requires given { IfSome (I.gave standard.stdin) (λ all. all ≡ []) }
     requires taken { IfSome (O.took standard.stdout) (λ all. all ≡ []) }
     requires silent { IfSome (E.took standard.stderr) (λ all. all ≡ []) }
 {
-    let maker = match made(RealMaker::on(rt, system, alloc, &poller)) {
-        Ok(maker) => maker,
-        Err(status) => return status,
-    };
-    let Ok(desk) = Desk::new(alloc, standard, maker, poller, Recorder::Skip) else {
-        return NO_MEMORY;
-    };
+    let maker = made(RealMaker::on(rt, system, alloc, &poller))?;
+    let desk = Desk::new(alloc, standard, maker, poller, Recorder::Skip)?;
     let mut journal = DiskJournal::new(rt);
-    run_written(alloc, desk, words, u64::MAX, &mut journal).status
+    let written = run_written(alloc, desk, words, u64::MAX, &mut journal);
+    if !has_told(&written) {
+        return Err(Lack::Memory);
+    }
+    Ok(written.status)
+}
+
+/// Whether the run has told a want of memory, where there was one. Where a history is kept its line takes an act, for which
+/// there may be no memory; and that of the journal's text comes after the run.
+fn has_told<I: Port, O: Port, E: Port>(written: &Written<I, O, E>) -> bool {
+    match written.shipped.status {
+        0 => written.saving != Saving::Memory,
+        NO_MEMORY => {
+            written.saving == Saving::NotAsked || ends_with_note(written.shipped.kept.journal())
+        }
+        _ => true,
+    }
+}
+
+fn ends_with_note(journal: &Journal) -> bool {
+    let count = journal.len();
+    count > 0 && matches!(journal.get(count - 1), Act::Note(_) | Act::NoteFault(_))
 }
 
 /// The status of the run, or that of a failure where output failed after its last act, which is told.
