@@ -101,10 +101,12 @@ bench: bin/socat
 	bench/streams.sh bin/socat
 	bench/sockets.sh bin/socat
 	bench/programs.sh bin/socat
+	bench/connections.py bin/socat
+	python3 -B bench/flood.py bin/socat
 	PYTHONDONTWRITEBYTECODE=1 bench/sessions.py bin/socat $$(command -v socat)
 	bench/many.py bin/socat
 	bench/senders.py bin/socat
-	bench/dumps.sh bin/socat
+	bench/dumps.py bin/socat
 	bench/words.sh bin/socat
 	bench/parts.sh
 	cd crates/bench_pump && rt run </dev/null >/dev/null
