@@ -5,9 +5,7 @@ use case_rows::{Answered, Answers, Inputs, RowFault};
 use port_desk::{Desk, Standard};
 use port_objects::{MakeItem, MemMaker, MemPoller, MemPort};
 use port_trait::KeyList;
-use relay_model::{
-    Half, Options, Part, Place, ReadyAt, ReadyList, Side, Single, Target, Text,
-};
+use relay_model::{Half, Options, Part, Place, ReadyAt, ReadyList, Side, Single, Target, Text};
 use std::alloc::Global;
 use world_trait::{OpenAnswer, ReadAnswer, Recorder, Standing, Turned, World};
 
