@@ -1,3 +1,4 @@
+mod Holding
 pub mod Pieces
 pub mod Steps
 pub mod Unmoved

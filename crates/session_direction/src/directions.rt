@@ -290,6 +290,9 @@ impl Direction {
         if self.may_write() && self.can_write() {
             return self.want_to_write();
         }
+        if self.holds_enough() {
+            return Want::Nothing;
+        }
         read
     }
 
@@ -298,6 +301,15 @@ impl Direction {
     fn reads_on(&self) -> bool {
         let enough = GATHERED.min(self.terms.block as usize);
         self.gathers && self.asked_in && self.flow.waiting() < enough
+    }
+
+    /// Whether it gathers, was asked since the last turn, and as much waits as is gathered, while the output takes nothing:
+    /// to read further ahead would only fill the processor's caches.
+    fn holds_enough(&self) -> bool
+        ensures asked { result ≡ true → self.now.asked_in ≡ true }
+        ensures waits { result ≡ true → self.now.armed_out ≡ false }
+    {
+        self.gathers && self.asked_in && !self.armed_out && self.flow.waiting() >= GATHERED
     }
 
     /// Whether the input is armed, and more of it counts.
