@@ -1,6 +1,5 @@
 -- What standard input gave and standard output took before their first byte.
 use Rattle.std.proofs.Common.{◌≡◌, ℕ, true, List, [], ◌∷◌, Option, None, Some, IfSome, refl, ap, sym, subst}
-use Rattle.standard_ports.specs.declared.direct.DirectPort.{DirectPort}
 use Rattle.standard_ports.specs.declared.direct.DirectPort.TheVariants as directs
 use Rattle.standard_ports.specs.declared.input.InputPort.{InputPort}
 use Rattle.standard_ports.specs.declared.input.InputPort.TheVariants as inputs
