@@ -6,7 +6,7 @@ use Rattle.desk_ports.specs.Harbors.{taking_pier}
 use Rattle.desk_places.specs.Stations.{SetsStation, station_at, with_half}
 use Rattle.desk_ports.specs.Ports.{Sends}
 use Rattle.desk_places.proofs.PortLemmas.{at_base}
-use Rattle.desk_places.proofs.SoundLemmas.{pier_stays, sound_on}
+use Rattle.desk_places.proofs.SoundLemmas.{taking_of, pier_keeps, sound_marked}
 use Rattle.desk_places.proofs.ports.Ports.send.Goals as goal
 
 pub held-station-requires : goal.held-station-requires
@@ -26,14 +26,15 @@ returns-clause-made g c = at_base c.args.stations.now.entries c.args.place c.hel
 
 pub returns-clause-marks : goal.returns-clause-marks
 returns-clause-marks g c =
-    let Set : Bool → Type 0 = λ b. SetsStation c.args.place (option_map (with_half ToWrite b) (station_at c.args.stations.now.entries c.args.place)) (station_at c.args.stations.now.entries) (station_at c.mark.new.self.entries) in
+    let Set : Bool → Type 0 = λ b. SetsStation c.args.place (option_map (with_half ToWrite b) (station_at c.args.stations.now.entries c.args.place)) (station_at c.args.stations.now.entries) (station_at c.mark.new.stations.entries) in
     subst Set c.took_not_yet.ensures c.mark.ensures.set
 
 pub returns-clause-sound : goal.returns-clause-sound
 returns-clause-sound g c = λ sound.
-    sound_on c.args.stations.now.entries c.mark.new.self.entries c.args.self.now.harbor.made c.send-took.new.self.made c.mark.ensures.footing
-    (pier_stays (taking_pier c.held-station.result.base) c.args.self.now.harbor.made c.send-took.new.self.made _ (λ o n call. call.hinting) c.send-took.ensures.made)
-    sound
+    c.mark.ensures.sound
+    (sound_marked c.args.stations.now.entries c.mark.new.stations.entries c.args.place c.held-station.result ToWrite c.took_not_yet.result c.args.self.now.harbor.made c.send-took.new.self.made c.args.self.now.listed c.held-station.ensures c.mark.ensures.set
+    (pier_keeps (taking_pier c.held-station.result.base) c.held-station.result.base c.args.self.now.harbor.made c.send-took.new.self.made _ (taking_of c.held-station.result.base) c.send-took.ensures.made)
+    sound)
 
 pub returns-clause-bases : goal.returns-clause-bases
-returns-clause-bases g c = same_bases c.args.stations.now.entries c.mark.new.self.entries c.mark.ensures.footing
+returns-clause-bases g c = same_bases c.args.stations.now.entries c.mark.new.stations.entries c.mark.ensures.footing

@@ -5,9 +5,8 @@ use Rattle.relay_model.specs.declared.places.Place.{Place}
 use Rattle.world_trait.specs.Answers.{NamesHeld}
 use Rattle.desk_ports.specs.Harbors.{hint_told}
 use Rattle.desk_places.specs.Stations.{hold_at}
-use Rattle.port_desk.specs.Naming.{Grown}
-use Rattle.port_desk.proofs.TurnLemmas.{PlaceNamed}
-use Rattle.port_desk.proofs.naming.name_hinting.Given as goal
+use Rattle.desk_naming.specs.Naming.{Grown, PlaceNamed}
+use Rattle.desk_naming.proofs.naming.name_standard.Given as goal
 
 abbrev pub invariant-loop-i : goal.invariant-loop-i
 invariant-loop-i g l = record {
@@ -18,6 +17,7 @@ invariant-loop-i g l = record {
   output : l.ports.harbor.output.port ≡ l.initial.ports.harbor.output.port;
   errors : l.ports.harbor.errors.port ≡ l.initial.ports.harbor.errors.port;
   made : SameValues l.initial.ports.harbor.made l.ports.harbor.made;
+  listed : l.ports.listed ≡ l.initial.ports.listed;
   maker : l.ports.maker ≡ l.initial.ports.maker;
   parents : l.ports.parents ≡ l.initial.ports.parents;
   named : (j : ℕ) (p : Place) → j < l.i → slice_get l.stations.asked j ≡ Some p → PlaceNamed (hint_told l.initial.ports.harbor.input.port.hints l.initial.ports.harbor.output.port.hints l.initial.ports.harbor.errors.port.hints l.initial.ports.harbor.made) l.stations.entries p l.ready.entries;

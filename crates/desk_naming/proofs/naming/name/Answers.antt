@@ -1,5 +1,5 @@
-use Rattle.port_desk.proofs.NamingLemmas.{push_named, push_grown, push_held}
-use Rattle.port_desk.proofs.naming.name.Goals as goal
+use Rattle.desk_naming.proofs.NamingLemmas.{push_named, push_grown, push_held}
+use Rattle.desk_naming.proofs.naming.name.Goals as goal
 
 pub returns-clause-named : goal.returns-clause-named
 returns-clause-named c = push_named c.push.result c.args.ready.now c.push.new.self (record { place = c.args.place; half = c.args.half }) c.push.ensures.full c.push.ensures.pushed c.push.ensures.refused

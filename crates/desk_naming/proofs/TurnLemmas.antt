@@ -9,18 +9,21 @@ use Rattle.relay_model.specs.declared.readiness.ReadyAt.{ReadyAt}
 use Rattle.relay_model.specs.Places.{same_place, same_half}
 use Rattle.relay_model.specs.Readiness.{names}
 use Rattle.port_trait.specs.declared.answers.Hint.{Hint}
-use Rattle.desk_ports.specs.Ports.{BerthSeen}
-use Rattle.desk_ports.specs.Harbors.{Pier, Input, Output, Errors, Made, giving_pier, hint_told, hints_of, taking_pier}
+use Rattle.desk_ports.specs.Bases.{is_standard}
+use Rattle.desk_ports.specs.Ports.{BerthSeen, PortSeen}
+use Rattle.desk_ports.specs.Harbors.{Pier, Input, Output, Errors, Made, giving_pier, hint_told, hints_of, place_of, taking_pier}
 use Rattle.desk_ports.specs.declared.bases.Base.{Base}
 use Rattle.desk_ports.specs.declared.bases.Base.TheVariants as bases
 use Rattle.desk_places.specs.declared.stations.Station.{Station}
-use Rattle.desk_places.specs.Footing.{IsSound}
+use Rattle.desk_places.specs.Footing.{IsSound, heeds, is_heeded, is_quiet, may_tell, stands_on, tells}
+use Rattle.desk_places.specs.Keys.{KeyTable, is_in}
+use Rattle.desk_places.proofs.KeyLemmas.{in_index}
 use Rattle.desk_places.specs.Stations.{AreListed, SetsStation, half_disarmed, is_disarmed, station_at, with_half}
 use Rattle.desk_places.proofs.PlaceLemmas.{same_place-eq}
-use Rattle.desk_places.proofs.SoundLemmas.{IsMoored, StandsOn, StandsSo, so_is}
+use Rattle.desk_places.proofs.SoundLemmas.{stands_at}
 use Rattle.desk_places.proofs.StationLemmas.{asked_index, found_place}
-use Rattle.port_desk.specs.Naming.{Grown, HintNamed, IsHinted, IsHinting, IsNamed, NamesHinting, PollsUntil, StationNamed, half_pier, is_hinted}
-use Rattle.port_desk.proofs.NamingLemmas.{below_or_last, named_on, within}
+use Rattle.desk_naming.specs.Naming.{Grown, HintNamed, IsHinted, IsHinting, IsNamed, NamesHinting, NamesListed, NamesStandard, PlaceNamed, PollsUntil, StationNamed, half_pier, is_hinted}
+use Rattle.desk_naming.proofs.NamingLemmas.{below_or_last, named_on, within}
 
 -- ---- hints
 
@@ -107,10 +110,6 @@ polls_at_once told stations hinting ready last until asked some grown is = recor
   either = inl is;
 }
 
--- the place is gone through
-abbrev pub PlaceNamed : (Pier → Option Hint) → List Station → Place → List ReadyAt → Type 0
-PlaceNamed told stations p ready = IfSome (station_at stations p) (λ station. StationNamed told station ready)
-
 asked_step : (told : Pier → Option Hint) (stations : List Station) (places : List Place) (i j : ℕ) (last p : Place) (xs ys : List ReadyAt) → (j < i) ⊎ (j ≡ i) → slice_get places i ≡ Some last → slice_get places j ≡ Some p → Grown xs ys → (j < i → PlaceNamed told stations p xs) → PlaceNamed told stations last ys → PlaceNamed told stations p ys
 asked_step told stations places i j last p xs ys (inl below) at here grown before named = slot_on (station_at stations p) told xs ys grown (before below)
 asked_step told stations places i j last p xs ys (inr same) at here grown before named =
@@ -123,41 +122,120 @@ pub asked_more : (told : Pier → Option Hint) (stations : List Station) (places
 asked_more told stations places i last xs ys at grown before named j p below here =
     asked_step told stations places i j last p xs ys (below_or_last i j below) at here grown (λ b. before j p b here) named
 
-quiet_told : (p : Place) (slot : Option BerthSeen) → IsMoored p false slot → hints_of slot ≡ None
-quiet_told p None h = elim h [ ]
-quiet_told p (Some berth) h = (h.1 refl).1
-
-none_named : (slot : Option Hint) (half : Half) (place : Place) (ready : List ReadyAt) → slot ≡ None → IfSome slot (λ hint. is_hinted half hint ≡ true → IsNamed ready place half)
-none_named slot half place ready e = subst (λ x. IfSome x (λ hint. is_hinted half hint ≡ true → IsNamed ready place half)) (sym e) tt
-
--- a port that never hints tells no half as ready
-quiet_named : (input output errors : Option Hint) (made : Slab BerthSeen) (p : Place) (station : Station) (base : Base) (half : Half) (ready : List ReadyAt) → StandsOn made p base false → IfSome (hint_told input output errors made (half_pier half base)) (λ hint. is_hinted half hint ≡ true → IsNamed ready station.place half)
-quiet_named input output errors made p station (bases.Made key) ToRead ready h = none_named (hints_of (get made key)) ToRead station.place ready (quiet_told p (get made key) h)
-quiet_named input output errors made p station (bases.Made key) ToWrite ready h = none_named (hints_of (get made key)) ToWrite station.place ready (quiet_told p (get made key) h)
-quiet_named input output errors made p station bases.Input half ready h = absurd cc
-quiet_named input output errors made p station bases.Output half ready h = absurd cc
-quiet_named input output errors made p station bases.Both half ready h = absurd cc
-quiet_named input output errors made p station bases.Errors half ready h = absurd cc
-
-either_named : (input output errors : Option Hint) (made : Slab BerthSeen) (p : Place) (station : Station) (asked : Bool) (ready : List ReadyAt) → station.asked ≡ asked → (asked ≡ true → StationNamed (hint_told input output errors made) station ready) → StandsOn made p station.base station.asked → StationNamed (hint_told input output errors made) station ready
-either_named input output errors made p station true ready e named stands = named refl
-either_named input output errors made p station false ready e named stands =
-    λ half off. quiet_named input output errors made p station station.base half ready (subst (λ b. StandsOn made p station.base b) e stands)
-
-asked_slot : (input output errors : Option Hint) (made : Slab BerthSeen) (stations : List Station) (places : List Place) (i : ℕ) (ready : List ReadyAt) → length places ≤ i → AreListed stations places → ((j : ℕ) (p : Place) → j < i → slice_get places j ≡ Some p → PlaceNamed (hint_told input output errors made) stations p ready) → (p : Place) (slot : Option Station) → station_at stations p ≡ slot → StandsSo made p slot → IfSome slot (λ station. StationNamed (hint_told input output errors made) station ready)
-asked_slot input output errors made stations places i ready past listed named p None e stands = tt
-asked_slot input output errors made stations places i ready past listed named p (Some s) e stands =
-    either_named input output errors made p s s.asked ready refl
-    (λ asked.
-    let index = asked_index stations places p s listed e asked in
+standard_slot : (told : Pier → Option Hint) (stations : List Station) (places : List Place) (i : ℕ) (ready : List ReadyAt) → length places ≤ i → AreListed stations places → ((j : ℕ) (p : Place) → j < i → slice_get places j ≡ Some p → PlaceNamed told stations p ready) → (p : Place) (slot : Option Station) → station_at stations p ≡ slot → IfSome slot (λ station. is_standard station.base ≡ true → StationNamed told station ready)
+standard_slot told stations places i ready past listed named p None e = tt
+standard_slot told stations places i ready past listed named p (Some s) e =
+    λ standard.
+    let index = asked_index stations places p s listed e standard in
     let here = named index.0 p (omega (arith, within places index.0 p index.1, past)) index.1 in
-    subst (λ slot. IfSome slot (λ station. StationNamed (hint_told input output errors made) station ready)) e here)
-    stands
+    subst (λ slot. IfSome slot (λ station. StationNamed told station ready)) e here
 
--- every listed place was gone through, and no other one hints
-pub asked_all : (input output errors : Option Hint) (made : Slab BerthSeen) (stations : List Station) (places : List Place) (i : ℕ) (ready : List ReadyAt) → length places ≤ i → AreListed stations places → IsSound stations made → ((j : ℕ) (p : Place) → j < i → slice_get places j ≡ Some p → PlaceNamed (hint_told input output errors made) stations p ready) → NamesHinting (hint_told input output errors made) stations ready
-asked_all input output errors made stations places i ready past listed sound named p =
-    asked_slot input output errors made stations places i ready past listed named p (station_at stations p) refl (so_is made p (station_at stations p) (sound p))
+-- every place on standard streams was gone through
+pub standard_all : (told : Pier → Option Hint) (stations : List Station) (places : List Place) (i : ℕ) (ready : List ReadyAt) → length places ≤ i → AreListed stations places → ((j : ℕ) (p : Place) → j < i → slice_get places j ≡ Some p → PlaceNamed told stations p ready) → NamesStandard told stations ready
+standard_all told stations places i ready past listed named p = standard_slot told stations places i ready past listed named p (station_at stations p) refl
+
+-- ---- made ports that are listed
+
+-- the place of the key is gone through
+abbrev pub KeyPlaced : (Pier → Option Hint) → List Station → Slab BerthSeen → ℕ → List ReadyAt → Type 0
+KeyPlaced told stations made key ready = IfSome (place_of (get made key)) (λ place. PlaceNamed told stations place ready)
+
+placed_on : (slot : Option Place) (told : Pier → Option Hint) (stations : List Station) (xs ys : List ReadyAt) → Grown xs ys → IfSome slot (λ place. PlaceNamed told stations place xs) → IfSome slot (λ place. PlaceNamed told stations place ys)
+placed_on None told stations xs ys grown named = tt
+placed_on (Some place) told stations xs ys grown named = slot_on (station_at stations place) told xs ys grown named
+
+listed_step : (told : Pier → Option Hint) (stations : List Station) (made : Slab BerthSeen) (keys : List ℕ) (i j last key : ℕ) (xs ys : List ReadyAt) → (j < i) ⊎ (j ≡ i) → slice_get keys i ≡ Some last → slice_get keys j ≡ Some key → Grown xs ys → (j < i → KeyPlaced told stations made key xs) → KeyPlaced told stations made last ys → KeyPlaced told stations made key ys
+listed_step told stations made keys i j last key xs ys (inl below) at here grown before named = placed_on (place_of (get made key)) told stations xs ys grown (before below)
+listed_step told stations made keys i j last key xs ys (inr same) at here grown before named =
+    let f : Some last ≡ Some key = sym at ∙ (ap (slice_get keys) (sym same) ∙ here) in
+    let is : last ≡ key = cc in
+    subst (λ k. KeyPlaced told stations made k ys) is named
+
+-- one more key whose place is gone through
+pub listed_more : (told : Pier → Option Hint) (stations : List Station) (made : Slab BerthSeen) (keys : List ℕ) (i last : ℕ) (xs ys : List ReadyAt) → slice_get keys i ≡ Some last → Grown xs ys → ((j key : ℕ) → j < i → slice_get keys j ≡ Some key → KeyPlaced told stations made key xs) → KeyPlaced told stations made last ys → (j key : ℕ) → j < i + 1 → slice_get keys j ≡ Some key → KeyPlaced told stations made key ys
+listed_more told stations made keys i last xs ys at grown before named j key below here =
+    listed_step told stations made keys i j last key xs ys (below_or_last i j below) at here grown (λ b. before j key b here) named
+
+-- every key was gone through
+pub listed_all : (told : Pier → Option Hint) (stations : List Station) (made : Slab BerthSeen) (keys : List ℕ) (i : ℕ) (ready : List ReadyAt) → length keys ≤ i → ((j key : ℕ) → j < i → slice_get keys j ≡ Some key → KeyPlaced told stations made key ready) → NamesListed told stations made keys ready
+listed_all told stations made keys i ready past named j key at = named j key (omega (arith, within keys j key at, past)) at
+
+-- a key that tells the same
+pub placed_told : (told told' : Pier → Option Hint) (stations : List Station) (made made' : Slab BerthSeen) (key : ℕ) (ready : List ReadyAt) → ((pier : Pier) → told' pier ≡ told pier) → SameValues made made' → KeyPlaced told' stations made' key ready → KeyPlaced told stations made key ready
+placed_told told told' stations made made' key ready same values named =
+    slot_placed (place_of (get made key)) (subst (λ slot. IfSome (place_of slot) (λ place. PlaceNamed told' stations place ready)) (values key) named)
+  where
+    slot_placed : (slot : Option Place) → IfSome slot (λ place. PlaceNamed told' stations place ready) → IfSome slot (λ place. PlaceNamed told stations place ready)
+    slot_placed None h = tt
+    slot_placed (Some place) h = slot_named (station_at stations place) told told' ready same h
+
+-- ---- both
+
+true_or : (a b : Bool) (Fact : Type 0) → (a || b) ≡ true → (a ≡ true → Fact) → (b ≡ true → Fact) → Fact
+true_or true b Fact e left right = left refl
+true_or false b Fact e left right = right e
+
+not_told : (disarmed may told : Bool) → not (disarmed && (may || told)) ≡ true → disarmed ≡ true → told ≡ true → ⊥
+not_told true true true e off is = absurd cc
+not_told true false true e off is = absurd cc
+not_told true may false e off is = absurd cc
+not_told false may told e off is = absurd cc
+
+both_parts : (a b : Bool) → (a && b) ≡ true → (a ≡ true) × (b ≡ true)
+both_parts true b e = (refl, e)
+both_parts false b e = absurd cc
+
+-- a quiet port tells no disarmed half as ready
+quiet_half : (station : Station) (port : PortSeen) (half : Half) (ready : List ReadyAt) → is_quiet station port ≡ true → half_disarmed half (Some station) ≡ true → (hints : Option Hint) → port.hints ≡ hints → IfSome hints (λ hint. is_hinted half hint ≡ true → IsNamed ready station.place half)
+quiet_half station port half ready quiet off None e = tt
+quiet_half station port ToRead ready quiet off (Some hint) e =
+    λ hinted. absurd (not_told station.reading_disarmed port.hinting.readable (tells ToRead port.hints) (both_parts (not (station.reading_disarmed && may_tell ToRead port)) (not (station.writing_disarmed && may_tell ToWrite port)) quiet).0 off (ap (tells ToRead) e ∙ hinted))
+quiet_half station port ToWrite ready quiet off (Some hint) e =
+    λ hinted. absurd (not_told station.writing_disarmed port.hinting.writable (tells ToWrite port.hints) (both_parts (not (station.reading_disarmed && may_tell ToRead port)) (not (station.writing_disarmed && may_tell ToWrite port)) quiet).1 off (ap (tells ToWrite) e ∙ hinted))
+
+either_half : (half : Half) (base : Base) (key : ℕ) → base ≡ bases.Made key → half_pier half base ≡ Made key
+either_half ToRead base key is = ap giving_pier is
+either_half ToWrite base key is = ap taking_pier is
+
+module _ (input output errors : Option Hint) (made : Slab BerthSeen) (stations : List Station) (listed : KeyTable) (xs ys : List ReadyAt) (standard : NamesStandard (hint_told input output errors made) stations xs) (grown : Grown xs ys) (keyed : NamesListed (hint_told input output errors made) stations made listed.keys ys) where
+  quiet_station : (p : Place) (s : Station) (key : ℕ) → s.base ≡ bases.Made key → (berth : BerthSeen) → get made key ≡ Some berth → is_quiet s berth.port ≡ true → StationNamed (hint_told input output errors made) s ys
+  quiet_station p s key is berth at quiet half off =
+      let telling : hint_told input output errors made (half_pier half s.base) ≡ berth.port.hints = ap (hint_told input output errors made) (either_half half s.base key is) ∙ ap hints_of at in
+      subst (λ slot. IfSome slot (λ hint. is_hinted half hint ≡ true → IsNamed ys s.place half)) (sym telling) (quiet_half s berth.port half ys quiet off berth.port.hints refl)
+
+  keyed_station : (p : Place) (s : Station) (key : ℕ) → station_at stations p ≡ Some s → place_of (get made key) ≡ Some p → is_in key listed.keys ≡ true → StationNamed (hint_told input output errors made) s ys
+  keyed_station p s key e here inside =
+      let index = in_index key listed.keys inside in
+      let named : PlaceNamed (hint_told input output errors made) stations p ys = subst (λ slot. IfSome slot (λ place. PlaceNamed (hint_told input output errors made) stations place ys)) here (keyed index.0 key index.1) in
+      subst (λ slot. IfSome slot (λ station. StationNamed (hint_told input output errors made) station ys)) e named
+
+  made_station : (p : Place) (s : Station) (key : ℕ) → station_at stations p ≡ Some s → s.base ≡ bases.Made key → stands_on made listed.covered p s.base ≡ true → heeds made listed.keys s s.base ≡ true → StationNamed (hint_told input output errors made) s ys
+  made_station p s key e is stands heeded =
+      let at = stands_at made listed.covered p s.base key is stands in
+      let either : (is_in key listed.keys || is_quiet s at.0.port) ≡ true = ap (is_heeded s key listed.keys) (sym at.1) ∙ (ap (heeds made listed.keys s) (sym is) ∙ heeded) in
+      true_or (is_in key listed.keys) (is_quiet s at.0.port) (StationNamed (hint_told input output errors made) s ys) either
+      (keyed_station p s key e (ap place_of at.1 ∙ ap Some at.2))
+      (quiet_station p s key is at.0 at.1)
+
+  standard_station : (p : Place) (s : Station) → station_at stations p ≡ Some s → is_standard s.base ≡ true → StationNamed (hint_told input output errors made) s ys
+  standard_station p s e is =
+      station_on (hint_told input output errors made) s xs ys grown
+      (subst (λ slot. IfSome slot (λ station. is_standard station.base ≡ true → StationNamed (hint_told input output errors made) station xs)) e (standard p) is)
+
+  base_hinting : (p : Place) (s : Station) (base : Base) → s.base ≡ base → station_at stations p ≡ Some s → stands_on made listed.covered p s.base ≡ true → heeds made listed.keys s s.base ≡ true → StationNamed (hint_told input output errors made) s ys
+  base_hinting p s (bases.Made key) is e stands heeded = made_station p s key e is stands heeded
+  base_hinting p s bases.Input is e stands heeded = standard_station p s e (ap is_standard is)
+  base_hinting p s bases.Output is e stands heeded = standard_station p s e (ap is_standard is)
+  base_hinting p s bases.Both is e stands heeded = standard_station p s e (ap is_standard is)
+  base_hinting p s bases.Errors is e stands heeded = standard_station p s e (ap is_standard is)
+
+  slot_hinting : (p : Place) (slot : Option Station) → station_at stations p ≡ slot → IfSome slot (λ s. stands_on made listed.covered p s.base ≡ true) → IfSome slot (λ s. heeds made listed.keys s s.base ≡ true) → IfSome slot (λ station. StationNamed (hint_told input output errors made) station ys)
+  slot_hinting p None e stands heeded = tt
+  slot_hinting p (Some s) e stands heeded = base_hinting p s s.base refl e stands heeded
+
+  -- who isn't listed is quiet
+  pub hinting_all : IsSound stations made listed → NamesHinting (hint_told input output errors made) stations ys
+  hinting_all sound p = slot_hinting p (station_at stations p) refl (sound.berthed p) (sound.heeded p)
 
 pub place_told : (told told' : Pier → Option Hint) (stations : List Station) (p : Place) (ready : List ReadyAt) → ((pier : Pier) → told' pier ≡ told pier) → PlaceNamed told' stations p ready → PlaceNamed told stations p ready
 place_told told told' stations p ready same named = slot_named (station_at stations p) told told' ready same named

@@ -3,8 +3,8 @@ use Rattle.std.proofs.Common.{◌≡◌, ◌<◌, ℕ, slice_get, Some}
 use Rattle.relay_model.specs.declared.places.Half.{Half}
 use Rattle.world_trait.specs.Answers.{NamesHeld}
 use Rattle.desk_places.specs.Stations.{hold_at}
-use Rattle.port_desk.specs.Naming.{Grown, KeyNamed}
-use Rattle.port_desk.proofs.naming.name_keyed.Given as goal
+use Rattle.desk_naming.specs.Naming.{Grown, KeyNamed}
+use Rattle.desk_naming.proofs.naming.name_keyed.Given as goal
 
 abbrev pub invariant-loop-i : goal.invariant-loop-i
 invariant-loop-i g l = record {

@@ -1,5 +1,5 @@
 -- What a list of ready halves names after another was named.
-use Rattle.std.proofs.Common.{◌≡◌, ◌≤◌, ◌<◌, ◌+◌, ◌⊎◌, inl, inr, ℕ, zero, suc, Bool, true, false, ◌&&◌, ◌||◌, ◌↔◌, IsTrue, List, [], ◌∷◌, ◌++◌, length, slice_get, Option, Some, None, option_map, refl, sym, ap, subst, ◌∙◌, arith}
+use Rattle.std.proofs.Common.{◌≡◌, ◌≤◌, ◌<◌, ◌+◌, ◌⊎◌, inl, inr, ℕ, zero, suc, Bool, true, false, ◌&&◌, ◌||◌, ◌↔◌, IsTrue, List, [], ◌∷◌, ◌++◌, length, slice_get, Option, Some, None, IfSome, option_map, refl, sym, ap, subst, ◌∙◌, arith}
 use Rattle.std.specs.Bool.{OnTrue, OnFalse}
 use Rattle.relay_model.specs.declared.places.Place.{Place}
 use Rattle.relay_model.specs.declared.places.Half.{Half}
@@ -15,12 +15,13 @@ use Rattle.desk_ports.specs.Ports.{BerthSeen}
 use Rattle.desk_ports.specs.declared.bases.Base.{Base}
 use Rattle.desk_ports.specs.declared.bases.Base.TheVariants as bases
 use Rattle.desk_places.specs.declared.stations.Station.{Station}
-use Rattle.desk_places.specs.Footing.{IsSound}
+use Rattle.desk_places.specs.Footing.{IsSound, stands_on}
+use Rattle.desk_places.specs.Keys.{KeyTable}
 use Rattle.desk_places.specs.Stations.{base_at, hold_at, hold_by, station_at}
 use Rattle.desk_places.proofs.PlaceLemmas.{same_place-same}
-use Rattle.desk_places.proofs.SoundLemmas.{IsMoored, StandsOn, StandsSo, so_is}
+use Rattle.desk_places.proofs.SoundLemmas.{stands_at}
 use Rattle.desk_places.proofs.StationLemmas.{standing_held}
-use Rattle.port_desk.specs.Naming.{Grown, IsNamed, KeyNamed, NamesKeyed}
+use Rattle.desk_naming.specs.Naming.{Grown, IsNamed, KeyNamed, NamesKeyed}
 
 or_left : (a b : Bool) → a ≡ true → (a || b) ≡ true
 or_left true b e = refl
@@ -126,37 +127,34 @@ pub keyed_all : (entries : List (ℕ × Half)) (stations : List Station) (i : �
 keyed_all entries stations i xs past named j e here = named j e (omega (arith, within entries j e here, past)) here
 
 -- the place that stands on a key is the one that its port was made for
-keyed_slot : (made : Slab BerthSeen) (p : Place) (slot : Option Station) (key : ℕ) → option_map (λ s. s.base) slot ≡ Some (bases.Made key) → StandsSo made p slot → place_of (get made key) ≡ Some p
-keyed_slot made p None key based stands = absurd cc
-keyed_slot made p (Some s) key based stands =
+keyed_slot : (made : Slab BerthSeen) (covered : ℕ) (p : Place) (slot : Option Station) (key : ℕ) → option_map (λ s. s.base) slot ≡ Some (bases.Made key) → IfSome slot (λ s. stands_on made covered p s.base ≡ true) → place_of (get made key) ≡ Some p
+keyed_slot made covered p None key based stands = absurd cc
+keyed_slot made covered p (Some s) key based stands =
     let is : s.base ≡ bases.Made key = cc in
-    moored_place p s.asked (get made key) (subst (λ b. StandsOn made p b s.asked) is stands)
-  where
-    moored_place : (q : Place) (asked : Bool) (port : Option BerthSeen) → IsMoored q asked port → place_of port ≡ Some q
-    moored_place q asked None h = elim h [ ]
-    moored_place q asked (Some berth) h = ap Some h.0
+    let at = stands_at made covered p s.base key is stands in
+    ap place_of at.1 ∙ ap Some at.2
 
-pub keyed_place : (stations : List Station) (made : Slab BerthSeen) (p : Place) (key : ℕ) → IsSound stations made → base_at stations p ≡ Some (bases.Made key) → place_of (get made key) ≡ Some p
-keyed_place stations made p key sound based = keyed_slot made p (station_at stations p) key based (so_is made p (station_at stations p) (sound p))
+pub keyed_place : (stations : List Station) (made : Slab BerthSeen) (listed : KeyTable) (p : Place) (key : ℕ) → IsSound stations made listed → base_at stations p ≡ Some (bases.Made key) → place_of (get made key) ≡ Some p
+keyed_place stations made listed p key sound based = keyed_slot made listed.covered p (station_at stations p) key based (sound.berthed p)
 
 -- nobody stands on a key without a port
-pub nobody_keyed : (stations : List Station) (made : Slab BerthSeen) (key : ℕ) (half : Half) (ready : List ReadyAt) → IsSound stations made → place_of (get made key) ≡ None → KeyNamed (key, half) stations ready
-nobody_keyed stations made key half ready sound none p based =
-    absurd (let f : None ≡ Some p = sym none ∙ keyed_place stations made p key sound based in cc)
+pub nobody_keyed : (stations : List Station) (made : Slab BerthSeen) (listed : KeyTable) (key : ℕ) (half : Half) (ready : List ReadyAt) → IsSound stations made listed → place_of (get made key) ≡ None → KeyNamed (key, half) stations ready
+nobody_keyed stations made listed key half ready sound none p based =
+    absurd (let f : None ≡ Some p = sym none ∙ keyed_place stations made listed p key sound based in cc)
 
-one_keyed : (stations : List Station) (made : Slab BerthSeen) (place p : Place) (key : ℕ) → IsSound stations made → place_of (get made key) ≡ Some place → base_at stations p ≡ Some (bases.Made key) → place ≡ p
-one_keyed stations made place p key sound here based =
-    let f : Some place ≡ Some p = sym here ∙ keyed_place stations made p key sound based in cc
+one_keyed : (stations : List Station) (made : Slab BerthSeen) (listed : KeyTable) (place p : Place) (key : ℕ) → IsSound stations made listed → place_of (get made key) ≡ Some place → base_at stations p ≡ Some (bases.Made key) → place ≡ p
+one_keyed stations made listed place p key sound here based =
+    let f : Some place ≡ Some p = sym here ∙ keyed_place stations made listed p key sound based in cc
 
 -- the place of the key is named
-pub place_keyed : (stations : List Station) (made : Slab BerthSeen) (place : Place) (key : ℕ) (half : Half) (ready : List ReadyAt) → IsSound stations made → place_of (get made key) ≡ Some place → IsNamed ready place half → KeyNamed (key, half) stations ready
-place_keyed stations made place key half ready sound here named p based =
-    subst (λ q. IsNamed ready q half) (one_keyed stations made place p key sound here based) named
+pub place_keyed : (stations : List Station) (made : Slab BerthSeen) (listed : KeyTable) (place : Place) (key : ℕ) (half : Half) (ready : List ReadyAt) → IsSound stations made listed → place_of (get made key) ≡ Some place → IsNamed ready place half → KeyNamed (key, half) stations ready
+place_keyed stations made listed place key half ready sound here named p based =
+    subst (λ q. IsNamed ready q half) (one_keyed stations made listed place p key sound here based) named
 
 -- or doesn't stand on it any longer
-pub place_unkeyed : (stations : List Station) (made : Slab BerthSeen) (place : Place) (key : ℕ) (half : Half) (ready : List ReadyAt) → IsSound stations made → place_of (get made key) ≡ Some place → (base_at stations place ≡ Some (bases.Made key) → ⊥) → KeyNamed (key, half) stations ready
-place_unkeyed stations made place key half ready sound here away p based =
-    absurd (away (ap (base_at stations) (one_keyed stations made place p key sound here based) ∙ based))
+pub place_unkeyed : (stations : List Station) (made : Slab BerthSeen) (listed : KeyTable) (place : Place) (key : ℕ) (half : Half) (ready : List ReadyAt) → IsSound stations made listed → place_of (get made key) ≡ Some place → (base_at stations place ≡ Some (bases.Made key) → ⊥) → KeyNamed (key, half) stations ready
+place_unkeyed stations made listed place key half ready sound here away p based =
+    absurd (away (ap (base_at stations) (one_keyed stations made listed place p key sound here based) ∙ based))
 
 -- a place that stands on a port is held
 pub based_held : (stations : List Station) (p : Place) (base : Base) → base_at stations p ≡ Some base → is_free (hold_at stations p) ≡ false

@@ -6,7 +6,10 @@ use Rattle.relay_model.specs.declared.places.Half.TheVariants.{ToRead, ToWrite}
 use Rattle.relay_model.specs.declared.readiness.ReadyAt.{ReadyAt}
 use Rattle.relay_model.specs.Readiness.{names}
 use Rattle.port_trait.specs.declared.answers.Hint.{Hint}
-use Rattle.desk_ports.specs.Harbors.{Pier, giving_pier, taking_pier}
+use Rattle.slab.specs.Slab.{Slab, get}
+use Rattle.desk_ports.specs.Bases.{is_standard}
+use Rattle.desk_ports.specs.Harbors.{Pier, giving_pier, place_of, taking_pier}
+use Rattle.desk_ports.specs.Ports.{BerthSeen}
 use Rattle.desk_ports.specs.declared.bases.Base.{Base}
 use Rattle.desk_ports.specs.declared.bases.Base.TheVariants as bases
 use Rattle.desk_places.specs.declared.stations.Station.{Station}
@@ -47,9 +50,21 @@ HintNamed station hint ready = (half : Half) → half_disarmed half (Some statio
 abbrev pub StationNamed : (Pier → Option Hint) → Station → List ReadyAt → Type 0
 StationNamed told station ready = (half : Half) → half_disarmed half (Some station) ≡ true → IfSome (told (half_pier half station.base)) (λ hint. is_hinted half hint ≡ true → IsNamed ready station.place half)
 
+-- the same of the station of a place, if it is held
+abbrev pub PlaceNamed : (Pier → Option Hint) → List Station → Place → List ReadyAt → Type 0
+PlaceNamed told stations p ready = IfSome (station_at stations p) (λ station. StationNamed told station ready)
+
+-- each disarmed half on a standard stream that tells that it is ready is named
+abbrev pub NamesStandard : (Pier → Option Hint) → List Station → List ReadyAt → Type 0
+NamesStandard told stations ready = (p : Place) → IfSome (station_at stations p) (λ station. is_standard station.base ≡ true → StationNamed told station ready)
+
+-- each disarmed half on a made port of these keys that tells that it is ready is named
+abbrev pub NamesListed : (Pier → Option Hint) → List Station → Slab BerthSeen → List ℕ → List ReadyAt → Type 0
+NamesListed told stations made keys ready = (i : ℕ) (key : ℕ) → slice_get keys i ≡ Some key → IfSome (place_of (get made key)) (λ place. PlaceNamed told stations place ready)
+
 -- each disarmed half whose port tells that it is ready is named
 abbrev pub NamesHinting : (Pier → Option Hint) → List Station → List ReadyAt → Type 0
-NamesHinting told stations ready = (p : Place) → IfSome (station_at stations p) (λ station. StationNamed told station ready)
+NamesHinting told stations ready = (p : Place) → PlaceNamed told stations p ready
 
 -- a hint that is told tells of this half
 abbrev pub IsHinted : Half → Option Hint → Type 0

@@ -1,6 +1,6 @@
 use Rattle.std.proofs.Common.{◌∙◌, arith}
-use Rattle.port_desk.proofs.NamingLemmas.{grown_then, keyed_all, keyed_more}
-use Rattle.port_desk.proofs.naming.name_keyed.Goals as goal
+use Rattle.desk_naming.proofs.NamingLemmas.{grown_then, keyed_all, keyed_more}
+use Rattle.desk_naming.proofs.naming.name_keyed.Goals as goal
 
 pub loop-i-preserved : goal.loop-i-preserved
 loop-i-preserved g c = record {
