@@ -169,6 +169,10 @@ placed_told told told' stations made made' key ready same values named =
     slot_placed None h = tt
     slot_placed (Some place) h = slot_named (station_at stations place) told told' ready same h
 
+pub listed_told : (told told' : Pier → Option Hint) (stations : List Station) (made made' : Slab BerthSeen) (keys keys' : List ℕ) (ready : List ReadyAt) → ((pier : Pier) → told' pier ≡ told pier) → SameValues made made' → keys' ≡ keys → NamesListed told' stations made' keys' ready → NamesListed told stations made keys ready
+listed_told told told' stations made made' keys keys' ready same values e named i key at =
+    placed_told told told' stations made made' key ready same values (named i key (ap (λ (ks : List ℕ). slice_get ks i) e ∙ at))
+
 -- ---- both
 
 true_or : (a b : Bool) (Fact : Type 0) → (a || b) ≡ true → (a ≡ true → Fact) → (b ≡ true → Fact) → Fact

@@ -469,17 +469,17 @@ sound_armed xs ys place half made listed sets sound = record {
 -- the port of either half of a base
 pub giving_of : (base : Base) → PierOf (giving_pier base) base
 giving_of (bases.Made key) = refl
-giving_of bases.Input key is = absurd cc
-giving_of bases.Output key is = absurd cc
-giving_of bases.Both key is = absurd cc
-giving_of bases.Errors key is = absurd cc
+giving_of bases.Input = λ key is. absurd cc
+giving_of bases.Output = λ key is. absurd cc
+giving_of bases.Both = λ key is. absurd cc
+giving_of bases.Errors = λ key is. absurd cc
 
 pub taking_of : (base : Base) → PierOf (taking_pier base) base
 taking_of (bases.Made key) = refl
-taking_of bases.Input key is = absurd cc
-taking_of bases.Output key is = absurd cc
-taking_of bases.Both key is = absurd cc
-taking_of bases.Errors key is = absurd cc
+taking_of bases.Input = λ key is. absurd cc
+taking_of bases.Output = λ key is. absurd cc
+taking_of bases.Both = λ key is. absurd cc
+taking_of bases.Errors = λ key is. absurd cc
 
 marked_base : (half : Half) (disarmed : Bool) (s : Station) → (with_half half disarmed s).base ≡ s.base
 marked_base ToRead disarmed s = refl

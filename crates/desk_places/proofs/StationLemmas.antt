@@ -266,7 +266,7 @@ asked_or false xs ys s places is sets listed = listed_unasked xs ys s places set
 
 -- a station that is put in is listed where it is asked
 pub listed_add : (xs ys : List Station) (s : Station) (places : List Place) → SetsStation s.place (Some s) (station_at xs) (station_at ys) → AreListed xs places → AreListed ys (if is_standard s.base then places ++ s.place ∷ [] else places)
-listed_add xs ys s places sets listed = asked_or is_standard s.base xs ys s places refl sets listed
+listed_add xs ys s places sets listed = asked_or (is_standard s.base) xs ys s places refl sets listed
 
 listed_out : (slot : Option Station) (p q : Place) (places : List Place) → same_place p q ≡ false → listed_so slot p places ≡ true → listed_so slot p (filter (λ x. not (same_place x q)) places) ≡ true
 listed_out None p q places other h = refl

@@ -77,6 +77,7 @@ impl<M: Maker + Drop, I: Port, O: Port, E: Port> Ports<M, I, O, E> {
     }
 
     /// Makes room for one further port, and for keeping this many made ports after their places.
+    #[tactic(auto, using(crate::proofs::SoundLemmas::sound_kept))]
     pub fn reserve(&mut self, kept: usize) -> Result<(), NoMemory>
         ensures made_room { OnOk result (HasBerth self.new.harbor.made self.new.listed) }
         ensures parents_room { OnOk result (kept + vec_len self.new.parents ≤ vec_capacity self.new.parents) }
@@ -345,11 +346,10 @@ impl<M: Maker + Drop, I: Port, O: Port, E: Port> Ports<M, I, O, E> {
             return AcceptAnswer::Memory;
         };
         let key = self.harbor.next_key();
-        match accept_at(&mut self.harbor, &mut self.maker, door_key, key) {
-            MadePeer::Came(port, peer) => {
-                self.mark(stations, door, Half::ToRead, false);
-                self.welcome(stations, door, place, port, peer)
-            }
+        let taken = accept_at(&mut self.harbor, &mut self.maker, door_key, key);
+        self.list(stations, door);
+        match taken {
+            MadePeer::Came(port, peer) => self.welcome(stations, door, place, port, peer),
             MadePeer::NoPeer => {
                 self.mark(stations, door, Half::ToRead, true);
                 AcceptAnswer::NoPeer
@@ -358,10 +358,7 @@ impl<M: Maker + Drop, I: Port, O: Port, E: Port> Ports<M, I, O, E> {
                 self.mark(stations, door, Half::ToRead, false);
                 AcceptAnswer::Failed
             }
-            MadePeer::Memory => {
-                self.list(stations, door);
-                AcceptAnswer::Memory
-            }
+            MadePeer::Memory => AcceptAnswer::Memory,
         }
     }
 
@@ -387,8 +384,14 @@ impl<M: Maker + Drop, I: Port, O: Port, E: Port> Ports<M, I, O, E> {
         ensures parents { self.new.parents ≡ self.old.parents }
     {
         match self.moor(stations, place, port, false) {
-            Begun::Begun => AcceptAnswer::Accepted(peer),
-            Begun::Failed => AcceptAnswer::Failed,
+            Begun::Begun => {
+                self.mark(stations, door, Half::ToRead, false);
+                AcceptAnswer::Accepted(peer)
+            }
+            Begun::Failed => {
+                self.mark(stations, door, Half::ToRead, false);
+                AcceptAnswer::Failed
+            }
             Begun::Memory => AcceptAnswer::Memory,
         }
     }

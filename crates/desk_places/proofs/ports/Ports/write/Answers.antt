@@ -13,16 +13,16 @@ pub held-station-requires : goal.held-station-requires
 held-station-requires g c = ap is_free c.requires.open
 
 pub returns-clause-input : goal.returns-clause-input
-returns-clause-input g c = at_base c.args.stations.now.entries c.args.place c.held-station.result _ c.held-station.ensures c.write-took.ensures.input
+returns-clause-input g c = rw c.mark.ensures.harbor (at_base c.args.stations.now.entries c.args.place c.held-station.result _ c.held-station.ensures c.write-took.ensures.input)
 
 pub returns-clause-output : goal.returns-clause-output
-returns-clause-output g c = at_base c.args.stations.now.entries c.args.place c.held-station.result _ c.held-station.ensures c.write-took.ensures.output
+returns-clause-output g c = rw c.mark.ensures.harbor (at_base c.args.stations.now.entries c.args.place c.held-station.result _ c.held-station.ensures c.write-took.ensures.output)
 
 pub returns-clause-errors : goal.returns-clause-errors
-returns-clause-errors g c = at_base c.args.stations.now.entries c.args.place c.held-station.result _ c.held-station.ensures c.write-took.ensures.errors
+returns-clause-errors g c = rw c.mark.ensures.harbor (at_base c.args.stations.now.entries c.args.place c.held-station.result _ c.held-station.ensures c.write-took.ensures.errors)
 
 pub returns-clause-made : goal.returns-clause-made
-returns-clause-made g c = at_base c.args.stations.now.entries c.args.place c.held-station.result _ c.held-station.ensures c.write-took.ensures.made
+returns-clause-made g c = rw c.mark.ensures.harbor (at_base c.args.stations.now.entries c.args.place c.held-station.result _ c.held-station.ensures c.write-took.ensures.made)
 
 pub returns-clause-marks : goal.returns-clause-marks
 returns-clause-marks g c =
