@@ -1,5 +1,5 @@
 -- Keys that change their places in an order.
-use Rattle.std.proofs.Common.{◌≡◌, ◌≢◌, ◌⊎◌, inl, inr, ℕ, zero, suc, Bool, true, false, true≢false, ◌||◌, eqb, List, [], ◌∷◌, ◌++◌, set, take, length, slice_get, ◌<◌, ◌≤◌, ◌+◌, ◌-◌, Option, None, Some, refl, sym, ap, subst, ◌∙◌, if◌then◌else◌, arith}
+use Rattle.std.proofs.Common.{◌≡◌, ◌≢◌, ◌⊎◌, inl, inr, ℕ, zero, suc, Bool, true, false, true≢false, ◌||◌, eqb, List, [], ◌∷◌, ◌++◌, set, take, length, slice_get, ◌<◌, ◌≤◌, ◌+◌, Some, refl, sym, ap, ◌∙◌, if◌then◌else◌, arith}
 use Rattle.std.proofs.lemmas.Bool.Decides.{eqb_tells}
 use Rattle.std.proofs.lemmas.List.{length-append, length-set}
 use Rattle.std.proofs.lemmas.Option.{slice_get_within}
@@ -255,8 +255,8 @@ module _ (xs xs' : List ℕ) (key place count : ℕ) (at : slice_get xs place �
       keys_out other = here_or other key false _ _ (eqb_tells other key)
           (λ e. not_so _ (λ h. let f = in_found other last xs' h in gone other f.0 (eqb_tells f.0 place) e f.1 f.2))
           (λ away. bool_iff _ _
-            (λ h. let f = in_found other last xs' h in out_new other f.0 (eqb_tells f.0 place) f.1 f.2)
-            (λ h. let f = in_found other count xs h in out_old other f.0 (eqb_tells f.0 last) away f.1 f.2))
+          (λ h. let f = in_found other last xs' h in out_new other f.0 (eqb_tells f.0 place) f.1 f.2)
+          (λ h. let f = in_found other count xs h in out_old other f.0 (eqb_tells f.0 last) away f.1 f.2))
 
 index_by : (b : Bool) (x k : ℕ) (xs : List ℕ) → eqb x k ≡ b → Tells x k → (is_in k xs ≡ true → (i : ℕ) × (slice_get xs i ≡ Some k)) → (b || is_in k xs) ≡ true → (i : ℕ) × (slice_get (x ∷ xs) i ≡ Some k)
 index_by true x k xs e (inl t) rest h = (zero, ap Some t.1)

@@ -1,6 +1,6 @@
 -- Each place keeps its port, and each port its place, after a call on a port and after a place comes or goes; and what may
 -- be hinted stays listed.
-use Rattle.std.proofs.Common.{◌≡◌, ◌≢◌, ◌<◌, ◌≤◌, ◌⊎◌, inl, inr, ℕ, Bool, true, false, true≢false, not, ◌&&◌, ◌||◌, eqb, ltb, nat_lt, List, Option, None, Some, IfSome, is_some, option_map, refl, sym, ap, subst, ◌∙◌, if◌then◌else◌, arith}
+use Rattle.std.proofs.Common.{◌≡◌, ◌≢◌, ◌<◌, ◌≤◌, ◌⊎◌, inl, inr, ℕ, Bool, true, false, true≢false, not, ◌&&◌, ◌||◌, eqb, nat_lt, List, Option, None, Some, IfSome, is_some, option_map, refl, sym, ap, subst, ◌∙◌, if◌then◌else◌, arith}
 use Rattle.std.proofs.lemmas.Bool.Decides.{eqb_tells, nat_tests}
 use Rattle.slab.specs.Slab.{Slab, Updates, SameValues, get}
 use Rattle.relay_model.specs.declared.places.Half.{Half}
@@ -210,9 +210,9 @@ module _ (xs ys : List Station) (place : Place) (s s' : Station) (made made' : S
       if_slot (same_place place p) (HeededSlot made' listed.keys) (Some s') (station_at xs p) (station_at ys p) (sets p)
       (λ same. absurd (true≢false (sym same ∙ differ)))
       (λ other. slot_heeded p (station_at xs p) listed.covered listed.keys listed.keys made made'
-        (for_slot (station_at xs p) _ (λ t key is here. only.others key (apart_keys p place key listed.covered s.base made here_stands differ here)))
-        (for_slot (station_at xs p) _ (λ t key is here. refl))
-        (sound.berthed p) (sound.heeded p))
+      (for_slot (station_at xs p) _ (λ t key is here. only.others key (apart_keys p place key listed.covered s.base made here_stands differ here)))
+      (for_slot (station_at xs p) _ (λ t key is here. refl))
+      (sound.berthed p) (sound.heeded p))
 
   pub sound_but : IsSoundBut place ys made' listed
   sound_but = record { berthed = call_berthed; heeded = call_heeded }
@@ -308,9 +308,9 @@ pub sound_unheld : (xs : List Station) (place : Place) (made : Slab BerthSeen) (
 sound_unheld xs place made listed none but = record {
   berthed = but.berthed;
   heeded = λ p.
-    either_place (same_place place p) place p (HeededSlot made listed.keys (station_at xs p)) refl
-    (λ same. subst (λ slot. HeededSlot made listed.keys slot) (sym none ∙ ap (station_at xs) same) tt)
-    (but.heeded p);
+      either_place (same_place place p) place p (HeededSlot made listed.keys (station_at xs p)) refl
+      (λ same. subst (λ slot. HeededSlot made listed.keys slot) (sym none ∙ ap (station_at xs) same) tt)
+      (but.heeded p);
 }
 
 -- ---- a place that comes
@@ -455,13 +455,13 @@ slot_heeds_armed half (Some s) keys made h = ap (heeds made keys (with_half half
 pub sound_armed : (xs ys : List Station) (place : Place) (half : Half) (made : Slab BerthSeen) (listed : KeyTable) → SetsStation place (option_map (with_half half false) (station_at xs place)) (station_at xs) (station_at ys) → IsSound xs made listed → IsSound ys made listed
 sound_armed xs ys place half made listed sets sound = record {
   berthed = λ p.
-    if_slot (same_place place p) (BerthedSlot made listed.covered p) (option_map (with_half half false) (station_at xs place)) (station_at xs p) (station_at ys p) (sets p)
-    (λ same. subst (λ q. BerthedSlot made listed.covered q (option_map (with_half half false) (station_at xs place))) (same_place-eq place p same) (slot_armed half place (station_at xs place) listed.covered made (sound.berthed place)))
-    (λ other. sound.berthed p);
+      if_slot (same_place place p) (BerthedSlot made listed.covered p) (option_map (with_half half false) (station_at xs place)) (station_at xs p) (station_at ys p) (sets p)
+      (λ same. subst (λ q. BerthedSlot made listed.covered q (option_map (with_half half false) (station_at xs place))) (same_place-eq place p same) (slot_armed half place (station_at xs place) listed.covered made (sound.berthed place)))
+      (λ other. sound.berthed p);
   heeded = λ p.
-    if_slot (same_place place p) (HeededSlot made listed.keys) (option_map (with_half half false) (station_at xs place)) (station_at xs p) (station_at ys p) (sets p)
-    (λ same. slot_heeds_armed half (station_at xs place) listed.keys made (sound.heeded place))
-    (λ other. sound.heeded p);
+      if_slot (same_place place p) (HeededSlot made listed.keys) (option_map (with_half half false) (station_at xs place)) (station_at xs p) (station_at ys p) (sets p)
+      (λ same. slot_heeds_armed half (station_at xs place) listed.keys made (sound.heeded place))
+      (λ other. sound.heeded p);
 }
 
 -- ---- a call on the port of a held place

@@ -1,4 +1,4 @@
-use Rattle.std.proofs.Common.{rules, arith}
+use Rattle.std.proofs.Common.{rules}
 use Rattle.desk_places.proofs.KeyLemmas.{inverse_more}
 use Rattle.desk_places.proofs.keys.KeySet.grow.Goals as goal
 

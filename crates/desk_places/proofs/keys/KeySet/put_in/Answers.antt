@@ -1,4 +1,4 @@
-use Rattle.std.proofs.Common.{rules, refl, arith, ◌≡◌, ◌<◌, length, slice_get, Some}
+use Rattle.std.proofs.Common.{rules, refl, arith, ◌≡◌, length, slice_get, Some}
 use Rattle.std.proofs.lemmas.Option.{slice_get_read, slice_get_within}
 use Rattle.desk_places.proofs.KeyLemmas.{keys_put, keys_there}
 use Rattle.desk_places.proofs.keys.KeySet.put_in.Goals as goal

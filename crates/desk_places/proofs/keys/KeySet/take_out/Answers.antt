@@ -1,5 +1,5 @@
-use Rattle.std.proofs.Common.{rules, refl, arith, ◌≡◌, ◌<◌, ◌-◌, length, slice_get, Some}
-use Rattle.std.proofs.lemmas.Option.{slice_get_read, slice_get_within}
+use Rattle.std.proofs.Common.{rules, refl, arith, ◌≡◌, ◌-◌, length, slice_get, Some}
+use Rattle.std.proofs.lemmas.Option.{slice_get_read}
 use Rattle.desk_places.proofs.KeyLemmas.{keys_absent, keys_out}
 use Rattle.desk_places.proofs.keys.KeySet.take_out.Goals as goal
 

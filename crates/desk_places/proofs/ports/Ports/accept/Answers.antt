@@ -1,5 +1,5 @@
 use Rattle.desk_places.proofs.BaseLemmas.{same_bases}
-use Rattle.std.proofs.Common.{Some, ap, false, refl, subst, sym, true, ◌∙◌}
+use Rattle.std.proofs.Common.{ap, false, refl, subst, sym, true, ◌∙◌}
 use Rattle.relay_model.specs.Holding.{is_free}
 use Rattle.relay_model.specs.declared.places.Half.TheVariants.{ToRead}
 use Rattle.desk_places.proofs.PortLemmas.{key_made, welcomed}

@@ -1,4 +1,3 @@
-use Rattle.desk_places.proofs.PortLemmas.{at_station}
 use Rattle.desk_places.proofs.SoundLemmas.{but_of}
 use Rattle.desk_places.proofs.StationLemmas.{found_base}
 use Rattle.desk_places.proofs.ports.Ports.close.Goals as goal

@@ -1,6 +1,6 @@
 use Rattle.desk_places.proofs.BaseLemmas.{leaves_here}
 use Rattle.std.proofs.Common.{◌≡◌, ◌∙◌, None, Some, ap, refl, sym}
-use Rattle.desk_places.proofs.PortLemmas.{based_some, key_made, let_go_gone, let_go_others, none_made, not_made}
+use Rattle.desk_places.proofs.PortLemmas.{based_some, key_made, let_go_gone, let_go_others, not_made}
 use Rattle.desk_places.proofs.SoundLemmas.{sound_fewer, sound_let_go}
 use Rattle.desk_places.proofs.ports.Ports.leave.Goals as goal
 

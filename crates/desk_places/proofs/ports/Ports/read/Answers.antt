@@ -4,7 +4,6 @@ use Rattle.relay_model.specs.declared.places.Half.TheVariants.{ToRead}
 use Rattle.desk_ports.specs.Harbors.{giving_pier}
 use Rattle.desk_places.specs.Stations.{hold_at, SetsStation, station_at, with_half}
 use Rattle.desk_places.proofs.PortLemmas.{open_held}
-use Rattle.desk_ports.specs.Ports.{Reads}
 use Rattle.desk_places.proofs.PortLemmas.{at_base}
 use Rattle.desk_places.proofs.SoundLemmas.{giving_of, pier_keeps, sound_marked}
 use Rattle.desk_places.proofs.ports.Ports.read.Goals as goal

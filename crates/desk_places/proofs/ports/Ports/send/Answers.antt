@@ -4,7 +4,6 @@ use Rattle.relay_model.specs.declared.places.Half.TheVariants.{ToWrite}
 use Rattle.relay_model.specs.Holding.{is_free}
 use Rattle.desk_ports.specs.Harbors.{taking_pier}
 use Rattle.desk_places.specs.Stations.{SetsStation, station_at, with_half}
-use Rattle.desk_ports.specs.Ports.{Sends}
 use Rattle.desk_places.proofs.PortLemmas.{at_base}
 use Rattle.desk_places.proofs.SoundLemmas.{taking_of, pier_keeps, sound_marked}
 use Rattle.desk_places.proofs.ports.Ports.send.Goals as goal
