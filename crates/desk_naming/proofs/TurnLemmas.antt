@@ -21,7 +21,7 @@ use Rattle.desk_places.proofs.KeyLemmas.{in_index}
 use Rattle.desk_places.specs.Stations.{AreListed, SetsStation, half_disarmed, is_disarmed, station_at, with_half}
 use Rattle.desk_places.proofs.PlaceLemmas.{same_place-eq}
 use Rattle.desk_places.proofs.SoundLemmas.{stands_at}
-use Rattle.desk_places.proofs.StationLemmas.{asked_index, found_place}
+use Rattle.desk_places.proofs.StationLemmas.{asked_index}
 use Rattle.desk_naming.specs.Naming.{Grown, HintNamed, IsHinted, IsHinting, IsNamed, NamesHinting, NamesListed, NamesStandard, PlaceNamed, PollsUntil, StationNamed, half_pier, is_hinted}
 use Rattle.desk_naming.proofs.NamingLemmas.{below_or_last, named_on, within}
 

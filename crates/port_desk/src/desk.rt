@@ -1,5 +1,6 @@
 // The world of a relay between ports.
 ghost use Rattle.std.specs.Prelude.{◌≡◌, ◌≤◌, ◌<◌, ◌&&◌, ◌+◌, not, [], length, vec_len, vec_capacity, Some, true, false, is_some, IfOk, IfSome, MatchOption, None, OnOk};
+ghost use Rattle.std.proofs.Props.{props};
 ghost use Rattle.slab.specs.Slab.{SameValues};
 ghost use Rattle.world_trait.specs.Answers.{NamesHeld};
 ghost use Rattle.world_trait.specs.HoldTables.{hold_found};
@@ -37,7 +38,7 @@ pub struct Desk<M: Maker + Drop, P: Poller + Drop, I: Port, O: Port, E: Port> {
     pub(crate) stops: u64,
     // what the join of the port that the last closing let go answered; none where it wasn't joined
     pub(crate) joined: Option<Joining>,
-    ghost sound: { IsSound log.stations.entries ports.harbor.made ports.listed },
+    ghost sound: { IsSound log.stations.entries ports.harbor.made ports.listed } by { Prim.hlevel props },
     ghost parents_room: { length log.stations.entries + vec_len ports.parents ≤ vec_capacity ports.parents },
 }
 

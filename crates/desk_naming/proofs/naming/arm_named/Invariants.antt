@@ -1,5 +1,5 @@
 -- the halves that the entries so far name are armed, and nothing else has changed
-use Rattle.std.proofs.Common.{◌≡◌, ◌≤◌, ◌&&◌, not, length, take}
+use Rattle.std.proofs.Common.{◌≡◌, ◌&&◌, not, length, take}
 use Rattle.relay_model.specs.Readiness.{names}
 use Rattle.relay_model.specs.declared.places.Half.{Half}
 use Rattle.relay_model.specs.declared.places.Place.{Place}

@@ -1,6 +1,5 @@
-use Rattle.std.proofs.Common.{◌≡◌, ◌∙◌, arith, ap, slice_get, Some}
+use Rattle.std.proofs.Common.{arith}
 use Rattle.desk_ports.specs.Harbors.{hint_told}
-use Rattle.desk_places.specs.Keys.{KeyTable}
 use Rattle.desk_naming.proofs.TurnLemmas.{listed_all}
 use Rattle.desk_naming.proofs.naming.name_listed.Goals as goal
 
