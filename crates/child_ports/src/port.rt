@@ -103,7 +103,7 @@ impl Port for ChildPort {
         self.pipes.hint()
     }
 
-    fn may_hint(&self) -> bool {
+    fn may_hint(&self) -> Hint {
         self.pipes.may_hint()
     }
 

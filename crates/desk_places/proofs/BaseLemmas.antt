@@ -5,18 +5,12 @@ use Rattle.relay_model.specs.Places.{same_place}
 use Rattle.desk_ports.specs.declared.bases.Base.{Base}
 use Rattle.desk_places.specs.declared.stations.Station.{Station}
 use Rattle.desk_places.specs.Bases.{ComesOn, Leaves, OtherBases, SameBases, is_made}
-use Rattle.desk_places.specs.Stations.{SameFooting, SetsStation, base_at, footing_by, station_at}
+use Rattle.desk_places.specs.Stations.{SameFooting, SetsStation, base_at, station_at}
 use Rattle.desk_places.proofs.PlaceLemmas.{same_place-same}
-
-from_footing : (slot slot' : Option Station) → footing_by slot' ≡ footing_by slot → option_map (λ s. s.base) slot' ≡ option_map (λ s. s.base) slot
-from_footing None None e = refl
-from_footing None (Some s') e = absurd cc
-from_footing (Some s) None e = absurd cc
-from_footing (Some s) (Some s') e = ap (option_map (λ f. f.0)) e
 
 -- what keeps its footing stands on what it stood on
 pub same_bases : (xs ys : List Station) → SameFooting xs ys → SameBases (base_at xs) (base_at ys)
-same_bases xs ys same p = from_footing (station_at xs p) (station_at ys p) (same p)
+same_bases xs ys same p = same p
 
 picked : (b : Bool) (x y : Option Station) → b ≡ true → (if b then x else y) ≡ x
 picked true x y e = refl

@@ -1,4 +1,5 @@
 pub mod BaseLemmas
+pub mod KeyLemmas
 pub mod PlaceLemmas
 pub mod PortLemmas
 pub mod SoundLemmas

@@ -1,8 +1,7 @@
 -- What calls on the ports of places say, by the place.
-use Rattle.std.proofs.Common.{◌<◌, ◌≤◌, arith, find, length, nat_lt, position, slice_get, slice_index_or, zero, suc, [], ◌≡◌, ◌≢◌, ℕ, Bool, true, false, ◌&&◌, List, ◌∷◌, Option, None, Some, IfSome, is_some, option_map, inr, ◌⊎◌, refl, sym, ap, subst, ◌∙◌, if◌then◌else◌}
+use Rattle.std.proofs.Common.{◌<◌, ◌≤◌, arith, find, length, nat_lt, position, slice_get, slice_index_or, zero, suc, [], ◌≡◌, ◌≢◌, ℕ, Bool, true, false, List, ◌∷◌, Option, None, Some, IfSome, is_some, option_map, inr, refl, sym, ap, subst, ◌∙◌, if◌then◌else◌}
 use Rattle.std.specs.List.{position_or_len}
 use Rattle.std.proofs.lemmas.Bool.Decides.{nat_tests}
-use Rattle.std.proofs.lemmas.Grind.{common_steps}
 use Rattle.std.proofs.lemmas.List.Folds.{find_at}
 use Rattle.std.proofs.lemmas.Option.{slice_get-get_or}
 use Rattle.slab.specs.Slab.{Slab, Updates, get}
@@ -11,11 +10,9 @@ use Rattle.relay_model.specs.declared.acts.Shut.{Shut}
 use Rattle.relay_model.specs.declared.acts.Peer.{Peer}
 use Rattle.relay_model.specs.Places.{same_place}
 use Rattle.relay_model.specs.Holding.{Hold, Free, Settling, Open, ShutDown, is_free, is_open}
-use Rattle.port_trait.specs.Meanings.{join_answer}
 use Rattle.port_trait.specs.declared.answers.Shutting.{Shutting}
 use Rattle.port_trait.specs.declared.answers.Shutting.TheVariants as shuttings
 use Rattle.port_trait.specs.declared.answers.Settled.TheVariants as settles
-use Rattle.port_trait.specs.declared.answers.Joining.{Joining}
 use Rattle.world_trait.specs.Answers.{shut_act}
 use Rattle.world_trait.specs.HoldTables.{SetsHold}
 use Rattle.world_trait.specs.declared.answers.OpenAnswer.TheVariants as opens
@@ -28,7 +25,7 @@ use Rattle.desk_ports.specs.declared.bases.Base.{Base}
 use Rattle.desk_ports.specs.declared.bases.Base.TheVariants as bases
 use Rattle.desk_places.specs.declared.stations.Station.{Station}
 use Rattle.desk_places.specs.Causes.{AcceptCause, WelcomeCause}
-use Rattle.desk_places.specs.Changes.{HeldAfter, KeptFor, LeavesParent, LeftSo, ReapsKept, SettlesMade, joined_answer, made_at, shut_answer}
+use Rattle.desk_places.specs.Changes.{HeldAfter, KeptFor, LeavesParent, LeftSo, SettlesMade, made_at, shut_answer}
 use Rattle.desk_places.specs.Stations.{SetsStation, station_at, base_at}
 use Rattle.desk_places.proofs.PlaceLemmas.{same_place-eq}
 

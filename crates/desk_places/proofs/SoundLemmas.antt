@@ -1,35 +1,26 @@
--- Each place keeps its port, and each port its place, after a call on a port and after a place comes or goes.
-use Rattle.std.proofs.Common.{◌≡◌, ◌≢◌, ◌⊎◌, inl, inr, ℕ, Bool, true, false, not, ◌&&◌, ◌||◌, eqb, List, Option, None, Some, IfSome, is_some, option_map, refl, sym, ap, subst, ◌∙◌, if◌then◌else◌}
-use Rattle.std.proofs.lemmas.Bool.Decides.{eqb_tells}
+-- Each place keeps its port, and each port its place, after a call on a port and after a place comes or goes; and what may
+-- be hinted stays listed.
+use Rattle.std.proofs.Common.{◌≡◌, ◌≢◌, ◌<◌, ◌≤◌, ◌⊎◌, inl, inr, ℕ, Bool, true, false, true≢false, not, ◌&&◌, ◌||◌, eqb, nat_lt, List, Option, None, Some, IfSome, is_some, option_map, refl, sym, ap, subst, ◌∙◌, if◌then◌else◌, arith}
+use Rattle.std.proofs.lemmas.Bool.Decides.{eqb_tells, nat_tests}
 use Rattle.slab.specs.Slab.{Slab, Updates, SameValues, get}
+use Rattle.relay_model.specs.declared.places.Half.{Half}
+use Rattle.relay_model.specs.declared.places.Half.TheVariants.{ToRead, ToWrite}
 use Rattle.relay_model.specs.declared.places.Place.{Place}
 use Rattle.relay_model.specs.Places.{same_place}
-use Rattle.port_trait.specs.Hinting.{TellsHints}
+use Rattle.port_trait.specs.Hinting.{IsWithin}
 use Rattle.port_trait.specs.declared.answers.Hint.{Hint}
 use Rattle.desk_ports.specs.Bases.{IsStandard, key_of}
-use Rattle.desk_ports.specs.Harbors.{AtMade, MadeCall, Pier, Input, Output, Errors, Made}
-use Rattle.desk_ports.specs.Ports.{PortSeen, BerthSeen, StaysSo}
+use Rattle.desk_ports.specs.Harbors.{AtMade, MadeCall, Pier, Input, Output, Errors, Made, giving_pier, taking_pier}
+use Rattle.desk_ports.specs.Ports.{PortSeen, BerthSeen}
 use Rattle.desk_ports.specs.declared.bases.Base.{Base}
 use Rattle.desk_ports.specs.declared.bases.Base.TheVariants as bases
 use Rattle.desk_places.specs.declared.stations.Station.{Station}
-use Rattle.desk_places.specs.Footing.{IsQuiet, IsSound, StaysMoored, is_moored, is_quiet, stands_on, stands_so}
-use Rattle.desk_places.specs.Stations.{station_at, base_at, footing_by, footing_at, SameFooting, SetsStation}
+use Rattle.desk_places.specs.Footing.{IsSound, IsSoundBut, heeds, is_berthed, is_heeded, is_quiet, may_tell, stands_on, tells}
+use Rattle.desk_places.specs.Keys.{KeyTable, is_in}
+use Rattle.desk_places.specs.Stations.{station_at, base_at, with_half, SetsStation}
 use Rattle.desk_places.proofs.PlaceLemmas.{same_place-eq, same_place-same}
 
--- the made port is there for the place, and may hint only where the place is asked for hints
-abbrev pub IsMoored : Place → Bool → Option BerthSeen → Type 0
-IsMoored p asked None = ⊥
-IsMoored p asked (Some berth) = (berth.place ≡ p) × (asked ≡ false → IsQuiet berth.port)
-
-abbrev pub StandsOn : Slab BerthSeen → Place → Base → Bool → Type 0
-StandsOn made p (bases.Made key) asked = IsMoored p asked (get made key)
-StandsOn made p bases.Input asked = asked ≡ true
-StandsOn made p bases.Output asked = asked ≡ true
-StandsOn made p bases.Both asked = asked ≡ true
-StandsOn made p bases.Errors asked = asked ≡ true
-
-abbrev pub StandsSo : Slab BerthSeen → Place → Option Station → Type 0
-StandsSo made p slot = IfSome slot (λ s. StandsOn made p s.base s.asked)
+-- ---- tests and facts
 
 and_parts : (a b : Bool) → (a && b) ≡ true → (a ≡ true) × (b ≡ true)
 and_parts true b e = (refl, e)
@@ -39,217 +30,463 @@ and_both : (a b : Bool) → a ≡ true → b ≡ true → (a && b) ≡ true
 and_both true b e f = f
 and_both false b e f = absurd cc
 
-not_true : (b : Bool) → not b ≡ true → b ≡ false
-not_true true e = absurd cc
-not_true false e = refl
+below_is : (a b : ℕ) → nat_lt a b ≡ true → a < b
+below_is a b e = grind (arith, nat_tests)
 
-not_some : (slot : Option Hint) → not (is_some slot) ≡ true → slot ≡ None
-not_some None e = refl
-not_some (Some hint) e = absurd cc
+is_below : (a b : ℕ) → a < b → nat_lt a b ≡ true
+is_below a b lt = grind (arith, nat_tests)
 
-quiet_is : (port : PortSeen) → is_quiet port ≡ true → IsQuiet port
-quiet_is port e =
-    let parts = and_parts (not port.hinting) (not (is_some port.hints)) e in
-    (not_true port.hinting parts.0, not_some port.hints parts.1)
+-- the made port is there for the place, and its key can be listed
+abbrev pub BerthedAt : Place → ℕ → ℕ → Option BerthSeen → Type 0
+BerthedAt p key covered slot = (berth : BerthSeen) × (slot ≡ Some berth) × (berth.place ≡ p) × (key < covered)
 
-is_quiet_by : (port : PortSeen) → IsQuiet port → is_quiet port ≡ true
-is_quiet_by port quiet = and_both (not port.hinting) (not (is_some port.hints)) (ap not quiet.0) (ap (λ slot. not (is_some slot)) quiet.1)
+berthed_is : (p : Place) (key covered : ℕ) (slot : Option BerthSeen) → is_berthed p key covered slot ≡ true → BerthedAt p key covered slot
+berthed_is p key covered None e = absurd cc
+berthed_is p key covered (Some berth) e =
+    let parts = and_parts (same_place berth.place p) (nat_lt key covered) e in
+    (berth, refl, same_place-eq berth.place p parts.0, below_is key covered parts.1)
 
-unless_is : (asked : Bool) (port : PortSeen) → (asked || is_quiet port) ≡ true → asked ≡ false → IsQuiet port
-unless_is true port e unasked = absurd cc
-unless_is false port e unasked = quiet_is port e
+berthed_here : (p : Place) (key covered : ℕ) (berth : BerthSeen) → berth.place ≡ p → key < covered → is_berthed p key covered (Some berth) ≡ true
+berthed_here p key covered berth place below = and_both (same_place berth.place p) (nat_lt key covered) (ap (same_place berth.place) (sym place) ∙ same_place-same berth.place) (is_below key covered below)
 
-unless_by : (asked : Bool) (port : PortSeen) → (asked ≡ false → IsQuiet port) → (asked || is_quiet port) ≡ true
-unless_by true port quiet = refl
-unless_by false port quiet = is_quiet_by port (quiet refl)
+berthed_by : (p : Place) (key covered : ℕ) (slot : Option BerthSeen) → BerthedAt p key covered slot → is_berthed p key covered slot ≡ true
+berthed_by p key covered slot at = ap (is_berthed p key covered) at.1 ∙ berthed_here p key covered at.0 at.2 at.3
 
-moored_is : (p : Place) (asked : Bool) (slot : Option BerthSeen) → is_moored p asked slot ≡ true → IsMoored p asked slot
-moored_is p asked None e = absurd cc
-moored_is p asked (Some berth) e =
-    let parts = and_parts (same_place berth.place p) (asked || is_quiet berth.port) e in
-    (same_place-eq berth.place p parts.0, unless_is asked berth.port parts.1)
+-- a made port that a station stands on
+pub stands_at : (made : Slab BerthSeen) (covered : ℕ) (p : Place) (base : Base) (key : ℕ) → base ≡ bases.Made key → stands_on made covered p base ≡ true → BerthedAt p key covered (get made key)
+stands_at made covered p base key is e = berthed_is p key covered (get made key) (sym (ap (stands_on made covered p) is) ∙ e)
 
-moored_by : (p : Place) (asked : Bool) (slot : Option BerthSeen) → IsMoored p asked slot → is_moored p asked slot ≡ true
-moored_by p asked None h = elim h [ ]
-moored_by p asked (Some berth) h =
-    and_both (same_place berth.place p) (asked || is_quiet berth.port) (ap (same_place berth.place) (sym h.0) ∙ same_place-same berth.place) (unless_by asked berth.port h.1)
+-- ---- what a call on one made port keeps
 
-on_is : (made : Slab BerthSeen) (p : Place) (base : Base) (asked : Bool) → stands_on made p base asked ≡ true → StandsOn made p base asked
-on_is made p (bases.Made key) asked e = moored_is p asked (get made key) e
-on_is made p bases.Input asked e = e
-on_is made p bases.Output asked e = e
-on_is made p bases.Both asked e = e
-on_is made p bases.Errors asked e = e
+-- the port of the base is still there for its place, and each other port is what it was
+pub record OnlyAt (base : Base) (made made' : Slab BerthSeen) : Type 0 where
+  pub others : (key : ℕ) → (base ≡ bases.Made key → ⊥) → get made' key ≡ get made key
+  pub stands : (key : ℕ) (berth : BerthSeen) → get made key ≡ Some berth → (now : BerthSeen) × (get made' key ≡ Some now) × (now.place ≡ berth.place)
 
-on_by : (made : Slab BerthSeen) (p : Place) (base : Base) (asked : Bool) → StandsOn made p base asked → stands_on made p base asked ≡ true
-on_by made p (bases.Made key) asked h = moored_by p asked (get made key) h
-on_by made p bases.Input asked h = h
-on_by made p bases.Output asked h = h
-on_by made p bases.Both asked h = h
-on_by made p bases.Errors asked h = h
+found_after : (old new : Option BerthSeen) (Call : PortSeen → PortSeen → Type 0) (berth : BerthSeen) → old ≡ Some berth → IfSome old (λ o. IfSome new (λ n. (n.place ≡ o.place) × Call o.port n.port)) → is_some new ≡ is_some old → (now : BerthSeen) × (new ≡ Some now) × (now.place ≡ berth.place)
+found_after None new Call berth e call stands = absurd cc
+found_after (Some o) None Call berth e call stands = absurd cc
+found_after (Some o) (Some n) Call berth e call stands =
+    let is : o ≡ berth = cc in
+    (n, refl, call.0 ∙ ap (λ (b : BerthSeen). b.place) is)
 
-pub so_is : (made : Slab BerthSeen) (p : Place) (slot : Option Station) → stands_so made p slot ≡ true → StandsSo made p slot
-so_is made p None e = tt
-so_is made p (Some s) e = on_is made p s.base s.asked e
+stands_either : (made made' : Slab BerthSeen) (key other : ℕ) (Call : PortSeen → PortSeen → Type 0) (berth : BerthSeen) → MadeCall made made' key Call → get made other ≡ Some berth → ((eqb other key ≡ true) × (other ≡ key)) ⊎ ((eqb other key ≡ false) × (other ≢ key)) → (now : BerthSeen) × (get made' other ≡ Some now) × (now.place ≡ berth.place)
+stands_either made made' key other Call berth call e (inl t) =
+    let found = found_after (get made key) (get made' key) Call berth (ap (get made) (sym t.1) ∙ e) call.call call.stands in
+    (found.0, ap (get made') t.1 ∙ found.1, found.2)
+stands_either made made' key other Call berth call e (inr t) = (berth, call.others other t.1 ∙ e, refl)
 
-so_by : (made : Slab BerthSeen) (p : Place) (slot : Option Station) → StandsSo made p slot → stands_so made p slot ≡ true
-so_by made p None h = refl
-so_by made p (Some s) h = on_by made p s.base s.asked h
+pub call_keeps : (made made' : Slab BerthSeen) (key : ℕ) (Call : PortSeen → PortSeen → Type 0) → MadeCall made made' key Call → OnlyAt (bases.Made key) made made'
+call_keeps made made' key Call call = record {
+  others = λ other away. call.others other (λ same. away (ap bases.Made (sym same)));
+  stands = λ other berth e. stands_either made made' key other Call berth call e (eqb_tells other key);
+}
 
-abbrev Stays : Slab BerthSeen → Slab BerthSeen → Type 0
-Stays made made' = (key : ℕ) → StaysMoored (get made key) (get made' key)
+pub same_keeps : (base : Base) (made made' : Slab BerthSeen) → SameValues made made' → OnlyAt base made made'
+same_keeps base made made' same = record {
+  others = λ other away. same other;
+  stands = λ other berth e. (berth, same other ∙ e, refl);
+}
 
--- ---- a port stays moored
+-- a pier is the port of its base, whichever half
+abbrev pub PierOf : Pier → Base → Type 0
+PierOf Input base = (key : ℕ) → base ≡ bases.Made key → ⊥
+PierOf Output base = (key : ℕ) → base ≡ bases.Made key → ⊥
+PierOf Errors base = (key : ℕ) → base ≡ bases.Made key → ⊥
+PierOf (Made key) base = base ≡ bases.Made key
 
-stays_same : (slot : Option BerthSeen) → StaysMoored slot slot
-stays_same None = tt
-stays_same (Some berth) = (refl, λ quiet. quiet)
+pub pier_keeps : (pier : Pier) (base : Base) (made made' : Slab BerthSeen) (Call : PortSeen → PortSeen → Type 0) → PierOf pier base → AtMade pier (λ key. MadeCall made made' key Call) (made' ≡ made) → OnlyAt base made made'
+pier_keeps Input base made made' Call of same = same_keeps base made made' (λ key. ap (λ m. get m key) same)
+pier_keeps Output base made made' Call of same = same_keeps base made made' (λ key. ap (λ m. get m key) same)
+pier_keeps Errors base made made' Call of same = same_keeps base made made' (λ key. ap (λ m. get m key) same)
+pier_keeps (Made key) base made made' Call of call = subst (λ b. OnlyAt b made made') (sym of) (call_keeps made made' key Call call)
 
-stays_is : (slot slot' : Option BerthSeen) → slot' ≡ slot → StaysMoored slot slot'
-stays_is slot slot' e = subst (StaysMoored slot) (sym e) (stays_same slot)
+-- ---- another place, whose port and whose listing are what they were
 
-quiet_on : (before now : PortSeen) → StaysSo before now → IsQuiet before → IsQuiet now
-quiet_on before now stays quiet =
-    let unhinting : now.hinting ≡ false = stays.same ∙ quiet.0 in
-    let Told : Bool → Type 0 = λ b. TellsHints b now.hints in
-    (unhinting, subst Told unhinting stays.told)
+-- the made port of a place is what it was
+abbrev SamePort : Place → Base → ℕ → Slab BerthSeen → Slab BerthSeen → Type 0
+SamePort p on covered made made' = (key : ℕ) → on ≡ bases.Made key → BerthedAt p key covered (get made key) → get made' key ≡ get made key
 
-stay_slot : (old new : Option BerthSeen) (Call : PortSeen → PortSeen → Type 0) → ((o n : PortSeen) → Call o n → StaysSo o n) → IfSome old (λ o. IfSome new (λ n. (n.place ≡ o.place) × Call o.port n.port)) → is_some new ≡ is_some old → StaysMoored old new
-stay_slot None new Call so call stands = tt
-stay_slot (Some o) None Call so call stands = absurd cc
-stay_slot (Some o) (Some n) Call so call stands = (call.0, quiet_on o.port n.port (so o.port n.port call.1))
+-- and it is listed as it was
+abbrev SameListing : Place → Base → ℕ → Slab BerthSeen → List ℕ → List ℕ → Type 0
+SameListing p on covered made keys keys' = (key : ℕ) → on ≡ bases.Made key → BerthedAt p key covered (get made key) → is_in key keys' ≡ is_in key keys
 
-stay_either : (made made' : Slab BerthSeen) (key other : ℕ) → StaysMoored (get made key) (get made' key) → ((k : ℕ) → k ≢ key → StaysMoored (get made k) (get made' k)) → ((eqb other key ≡ true) × (other ≡ key)) ⊎ ((eqb other key ≡ false) × (other ≢ key)) → StaysMoored (get made other) (get made' other)
-stay_either made made' key other here others (inl e) = subst (λ k. StaysMoored (get made k) (get made' k)) (sym e.1) here
-stay_either made made' key other here others (inr e) = others other e.1
+stands_same : (p : Place) (on : Base) (covered : ℕ) (made made' : Slab BerthSeen) → SamePort p on covered made made' → stands_on made covered p on ≡ true → stands_on made' covered p on ≡ true
+stands_same p (bases.Made key) covered made made' same e =
+    ap (is_berthed p key covered) (same key refl (berthed_is p key covered (get made key) e)) ∙ e
+stands_same p bases.Input covered made made' same e = refl
+stands_same p bases.Output covered made made' same e = refl
+stands_same p bases.Both covered made made' same e = refl
+stands_same p bases.Errors covered made made' same e = refl
 
--- after a call on a made port
-pub call_stays : (made made' : Slab BerthSeen) (key : ℕ) (Call : PortSeen → PortSeen → Type 0) → ((o n : PortSeen) → Call o n → StaysSo o n) → MadeCall made made' key Call → (other : ℕ) → StaysMoored (get made other) (get made' other)
-call_stays made made' key Call so call other =
-    stay_either made made' key other (stay_slot (get made key) (get made' key) Call so call.call call.stands) (λ k away. stays_is (get made k) (get made' k) (call.others k away)) (eqb_tells other key)
+heeded_keys : (station : Station) (key : ℕ) (keys keys' : List ℕ) (slot : Option BerthSeen) → is_in key keys' ≡ is_in key keys → is_heeded station key keys slot ≡ true → is_heeded station key keys' slot ≡ true
+heeded_keys station key keys keys' None listed e = refl
+heeded_keys station key keys keys' (Some berth) listed e = ap (λ b. b || is_quiet station berth.port) listed ∙ e
 
--- and after one on any port
-pub pier_stays : (pier : Pier) (made made' : Slab BerthSeen) (Call : PortSeen → PortSeen → Type 0) → ((o n : PortSeen) → Call o n → StaysSo o n) → AtMade pier (λ key. MadeCall made made' key Call) (made' ≡ made) → (other : ℕ) → StaysMoored (get made other) (get made' other)
-pier_stays Input made made' Call so same other = stays_is (get made other) (get made' other) (ap (λ m. get m other) same)
-pier_stays Output made made' Call so same other = stays_is (get made other) (get made' other) (ap (λ m. get m other) same)
-pier_stays Errors made made' Call so same other = stays_is (get made other) (get made' other) (ap (λ m. get m other) same)
-pier_stays (Made key) made made' Call so call other = call_stays made made' key Call so call other
-
-pub made_stays : (made made' : Slab BerthSeen) → made' ≡ made → (key : ℕ) → StaysMoored (get made key) (get made' key)
-made_stays made made' same key = stays_is (get made key) (get made' key) (ap (λ m. get m key) same)
-
--- after a port was taken in under a vacant key
-stays_update : (made made' : Slab BerthSeen) (key : ℕ) (berth : BerthSeen) → get made key ≡ None → Updates made made' key (Some berth) → Stays made made'
-stays_update made made' key berth vacant updates other =
-    stay_either made made' key other (subst (λ slot. StaysMoored slot (get made' key)) (sym vacant) tt) (λ k away. stays_is (get made k) (get made' k) (updates.others k away)) (eqb_tells other key)
-
--- ---- a place stands on it
-
-moored_on : (p : Place) (asked : Bool) (old new : Option BerthSeen) → StaysMoored old new → IsMoored p asked old → IsMoored p asked new
-moored_on p asked None new stays h = elim h [ ]
-moored_on p asked (Some o) None stays h = elim stays [ ]
-moored_on p asked (Some o) (Some n) stays h = (stays.0 ∙ h.0, λ unasked. stays.1 (h.1 unasked))
-
-base_stays : (made made' : Slab BerthSeen) (p : Place) (base : Base) (asked : Bool) → Stays made made' → StandsOn made p base asked → StandsOn made' p base asked
-base_stays made made' p (bases.Made key) asked stays h = moored_on p asked (get made key) (get made' key) (stays key) h
-base_stays made made' p bases.Input asked stays h = h
-base_stays made made' p bases.Output asked stays h = h
-base_stays made made' p bases.Both asked stays h = h
-base_stays made made' p bases.Errors asked stays h = h
-
-abbrev base_of : Base → Option (Base × Bool) → Base
-base_of base None = base
-base_of base (Some footing) = footing.0
-
-abbrev asked_of : Option (Base × Bool) → Bool
-asked_of None = false
-asked_of (Some footing) = footing.1
-
-slot_on : (p : Place) (slot slot' : Option Station) (made made' : Slab BerthSeen) → footing_by slot' ≡ footing_by slot → Stays made made' → StandsSo made p slot → StandsSo made' p slot'
-slot_on p slot None made made' e stays h = tt
-slot_on p None (Some s') made made' e stays h = absurd cc
-slot_on p (Some s) (Some s') made made' e stays h =
-    let base_is : s'.base ≡ s.base = ap (base_of s.base) e in
-    let asked_is : s'.asked ≡ s.asked = ap asked_of e in
-    let On : Base → Type 0 = λ b. StandsOn made' p b s'.asked in
-    let At : Bool → Type 0 = λ a. StandsOn made' p s.base a in
-    subst On (sym base_is) (subst At (sym asked_is) (base_stays made made' p s.base s.asked stays h))
-
--- every place keeps its footing, and every port its place
-pub sound_on : (xs ys : List Station) (made made' : Slab BerthSeen) → SameFooting xs ys → ((key : ℕ) → StaysMoored (get made key) (get made' key)) → IsSound xs made → IsSound ys made'
-sound_on xs ys made made' same stays sound p = so_by made' p (station_at ys p) (slot_on p (station_at xs p) (station_at ys p) made made' (same p) stays (so_is made p (station_at xs p) (sound p)))
-
-stands_if : (b : Bool) (slot rest now : Option Station) (made : Slab BerthSeen) (p : Place) → now ≡ (if b then slot else rest) → (b ≡ true → StandsSo made p slot) → (b ≡ false → StandsSo made p rest) → StandsSo made p now
-stands_if true slot rest now made p e here there = subst (StandsSo made p) (sym e) (here refl)
-stands_if false slot rest now made p e here there = subst (StandsSo made p) (sym e) (there refl)
-
-standard_stands : (made : Slab BerthSeen) (p : Place) (base : Base) (asked : Bool) → IsStandard base → asked ≡ true → StandsOn made p base asked
-standard_stands made p (bases.Made key) asked standard is = elim standard [ ]
-standard_stands made p bases.Input asked standard is = is
-standard_stands made p bases.Output asked standard is = is
-standard_stands made p bases.Both asked standard is = is
-standard_stands made p bases.Errors asked standard is = is
-
--- a place that is held from now on, on a standard stream
-pub sound_add : (xs ys : List Station) (s : Station) (made : Slab BerthSeen) → SetsStation s.place (Some s) (station_at xs) (station_at ys) → IsStandard s.base → s.asked ≡ true → IsSound xs made → IsSound ys made
-sound_add xs ys s made sets standard asked sound p =
-    so_by made p (station_at ys p) (stands_if (same_place s.place p) (Some s) (station_at xs p) (station_at ys p) made p (sets p) (λ same. standard_stands made p s.base s.asked standard asked) (λ other. so_is made p (station_at xs p) (sound p)))
-
-slot_stays : (p : Place) (slot : Option Station) (made made' : Slab BerthSeen) → Stays made made' → StandsSo made p slot → StandsSo made' p slot
-slot_stays p slot made made' stays h = slot_on p slot slot made made' refl stays h
-
--- a port that was just taken in for its place
-new_moored : (p : Place) (asked : Bool) (slot : Option BerthSeen) (berth : BerthSeen) → slot ≡ Some berth → berth.place ≡ p → asked ≡ berth.port.hinting → TellsHints berth.port.hinting berth.port.hints → IsMoored p asked slot
-new_moored p asked slot berth is place hinting told =
-    let quiet : asked ≡ false → IsQuiet berth.port = λ unasked.
-    let unhinting : berth.port.hinting ≡ false = sym hinting ∙ unasked in
-    let Told : Bool → Type 0 = λ b. TellsHints b berth.port.hints in
-    (unhinting, subst Told unhinting told) in
-    subst (IsMoored p asked) (sym is) (place, quiet)
-
--- a place that is held from now on, on a made port that was taken in under a vacant key
-pub sound_moor : (xs ys : List Station) (s : Station) (made made' : Slab BerthSeen) (key : ℕ) (berth : BerthSeen) → s.base ≡ bases.Made key → berth.place ≡ s.place → s.asked ≡ berth.port.hinting → TellsHints berth.port.hinting berth.port.hints → SetsStation s.place (Some s) (station_at xs) (station_at ys) → get made key ≡ None → Updates made made' key (Some berth) → IsSound xs made → IsSound ys made'
-sound_moor xs ys s made made' key berth based place hinting told sets vacant updates sound p =
-    let On : Base → Type 0 = λ b. StandsOn made' p b s.asked in
-    so_by made' p (station_at ys p) (stands_if (same_place s.place p) (Some s) (station_at xs p) (station_at ys p) made' p (sets p)
-    (λ same. subst On (sym based) (new_moored p s.asked (get made' key) berth updates.changed (place ∙ same_place-eq s.place p same) hinting told))
-    (λ other. slot_stays p (station_at xs p) made made' (stays_update made made' key berth vacant updates) (so_is made p (station_at xs p) (sound p))))
+heeds_same : (p : Place) (station : Station) (on : Base) (covered : ℕ) (keys keys' : List ℕ) (made made' : Slab BerthSeen) → SamePort p on covered made made' → SameListing p on covered made keys keys' → stands_on made covered p on ≡ true → heeds made keys station on ≡ true → heeds made' keys' station on ≡ true
+heeds_same p station (bases.Made key) covered keys keys' made made' same listed stands e =
+    let at = berthed_is p key covered (get made key) stands in
+    ap (is_heeded station key keys') (same key refl at) ∙ heeded_keys station key keys keys' (get made key) (listed key refl at) e
+heeds_same p station bases.Input covered keys keys' made made' same listed stands e = refl
+heeds_same p station bases.Output covered keys keys' made made' same listed stands e = refl
+heeds_same p station bases.Both covered keys keys' made made' same listed stands e = refl
+heeds_same p station bases.Errors covered keys keys' made made' same listed stands e = refl
 
 -- two places on one made port are the same
-one_place : (p q : Place) (asked asked' : Bool) (slot : Option BerthSeen) → IsMoored p asked slot → IsMoored q asked' slot → p ≡ q
-one_place p q asked asked' None h k = elim h [ ]
-one_place p q asked asked' (Some berth) h k = sym h.0 ∙ k.0
+one_place : (p q : Place) (key covered : ℕ) (slot : Option BerthSeen) → BerthedAt p key covered slot → BerthedAt q key covered slot → p ≡ q
+one_place p q key covered slot h k =
+    let is : h.0 ≡ k.0 = let e : Some h.0 ≡ Some k.0 = sym h.1 ∙ k.1 in cc in
+    sym h.2 ∙ (ap (λ (b : BerthSeen). b.place) is ∙ k.2)
 
-away_either : (p place : Place) (asked asked' : Bool) (made made' : Slab BerthSeen) (key other : ℕ) → IsMoored place asked' (get made key) → same_place place p ≡ false → ((k : ℕ) → k ≢ key → get made' k ≡ get made k) → ((eqb other key ≡ true) × (other ≡ key)) ⊎ ((eqb other key ≡ false) × (other ≢ key)) → IsMoored p asked (get made other) → IsMoored p asked (get made' other)
-away_either p place asked asked' made made' key other mine differ others (inl e) h =
-    let here : IsMoored p asked (get made key) = subst (λ k. IsMoored p asked (get made k)) e.1 h in
-    let is : place ≡ p = one_place place p asked' asked (get made key) mine here in
-    let f : false ≡ true = sym differ ∙ (ap (same_place place) (sym is) ∙ same_place-same place) in
-    absurd cc
-away_either p place asked asked' made made' key other mine differ others (inr e) h = subst (IsMoored p asked) (sym (others other e.1)) h
+apart_keys : (p place : Place) (key covered : ℕ) (base : Base) (made : Slab BerthSeen) → stands_on made covered place base ≡ true → same_place place p ≡ false → BerthedAt p key covered (get made key) → base ≡ bases.Made key → ⊥
+apart_keys p place key covered base made mine differ at is =
+    let same : place ≡ p = one_place place p key covered (get made key) (stands_at made covered place base key is mine) at in
+    true≢false (sym (same_place-same place) ∙ (ap (same_place place) same ∙ differ))
 
-away_stands : (p place : Place) (base : Base) (asked asked' : Bool) (made made' : Slab BerthSeen) (key : ℕ) → IsMoored place asked' (get made key) → same_place place p ≡ false → ((k : ℕ) → k ≢ key → get made' k ≡ get made k) → StandsOn made p base asked → StandsOn made' p base asked
-away_stands p place (bases.Made other) asked asked' made made' key mine differ others h = away_either p place asked asked' made made' key other mine differ others (eqb_tells other key) h
-away_stands p place bases.Input asked asked' made made' key mine differ others h = h
-away_stands p place bases.Output asked asked' made made' key mine differ others h = h
-away_stands p place bases.Both asked asked' made made' key mine differ others h = h
-away_stands p place bases.Errors asked asked' made made' key mine differ others h = h
+abbrev BerthedSlot : Slab BerthSeen → ℕ → Place → Option Station → Type 0
+BerthedSlot made covered p slot = IfSome slot (λ s. stands_on made covered p s.base ≡ true)
 
-away_slot : (p place : Place) (slot mine : Option Station) (made made' : Slab BerthSeen) (key : ℕ) → option_map (λ s. s.base) mine ≡ Some (bases.Made key) → StandsSo made place mine → same_place place p ≡ false → ((k : ℕ) → k ≢ key → get made' k ≡ get made k) → StandsSo made p slot → StandsSo made' p slot
-away_slot p place None mine made made' key based stands differ others h = tt
-away_slot p place (Some s) None made made' key based stands differ others h = absurd cc
-away_slot p place (Some s) (Some m) made made' key based stands differ others h =
-    let is : m.base ≡ bases.Made key = cc in
-    let On : Base → Type 0 = λ b. StandsOn made place b m.asked in
-    away_stands p place s.base s.asked m.asked made made' key (subst On is stands) differ others h
+abbrev HeededSlot : Slab BerthSeen → List ℕ → Option Station → Type 0
+HeededSlot made keys slot = IfSome slot (λ s. heeds made keys s s.base ≡ true)
 
--- a place that is let go, with its made port
-pub sound_let_go : (xs ys : List Station) (place : Place) (made made' : Slab BerthSeen) (key : ℕ) → base_at xs place ≡ Some (bases.Made key) → SetsStation place None (station_at xs) (station_at ys) → Updates made made' key None → IsSound xs made → IsSound ys made'
-sound_let_go xs ys place made made' key based sets updates sound p =
-    so_by made' p (station_at ys p) (stands_if (same_place place p) None (station_at xs p) (station_at ys p) made' p (sets p) (λ same. tt)
-    (λ other. away_slot p place (station_at xs p) (station_at xs place) made made' key based (so_is made place (station_at xs place) (sound place)) other updates.others (so_is made p (station_at xs p) (sound p))))
+slot_berthed : (p : Place) (slot : Option Station) (covered : ℕ) (made made' : Slab BerthSeen) → IfSome slot (λ s. SamePort p s.base covered made made') → BerthedSlot made covered p slot → BerthedSlot made' covered p slot
+slot_berthed p None covered made made' same h = tt
+slot_berthed p (Some s) covered made made' same h = stands_same p s.base covered made made' same h
 
--- a place that is let go alone
-pub sound_fewer : (xs ys : List Station) (place : Place) (made : Slab BerthSeen) → SetsStation place None (station_at xs) (station_at ys) → IsSound xs made → IsSound ys made
-sound_fewer xs ys place made sets sound p =
-    so_by made p (station_at ys p) (stands_if (same_place place p) None (station_at xs p) (station_at ys p) made p (sets p) (λ same. tt) (λ other. so_is made p (station_at xs p) (sound p)))
+slot_heeded : (p : Place) (slot : Option Station) (covered : ℕ) (keys keys' : List ℕ) (made made' : Slab BerthSeen) → IfSome slot (λ s. SamePort p s.base covered made made') → IfSome slot (λ s. SameListing p s.base covered made keys keys') → BerthedSlot made covered p slot → HeededSlot made keys slot → HeededSlot made' keys' slot
+slot_heeded p None covered keys keys' made made' same listed h k = tt
+slot_heeded p (Some s) covered keys keys' made made' same listed h k = heeds_same p s s.base covered keys keys' made made' same listed h k
+
+-- a fact of each station there may be
+for_slot : (slot : Option Station) (Fact : Station → Type 0) → ((s : Station) → Fact s) → IfSome slot Fact
+for_slot None Fact all = tt
+for_slot (Some s) Fact all = all s
+
+if_slot : (b : Bool) (Fact : Option Station → Type 0) (slot rest now : Option Station) → now ≡ (if b then slot else rest) → (b ≡ true → Fact slot) → (b ≡ false → Fact rest) → Fact now
+if_slot true Fact slot rest now e here there = subst Fact (sym e) (here refl)
+if_slot false Fact slot rest now e here there = subst Fact (sym e) (there refl)
+
+either_place : (b : Bool) (place p : Place) (Fact : Type 0) → same_place place p ≡ b → (place ≡ p → Fact) → (same_place place p ≡ false → Fact) → Fact
+either_place true place p Fact e here there = here (same_place-eq place p e)
+either_place false place p Fact e here there = there e
+
+-- ---- after a call on the port of a place, and before the place is listed anew
+
+-- a place stays on its port
+stands_still : (p : Place) (on base : Base) (covered : ℕ) (made made' : Slab BerthSeen) → OnlyAt base made made' → stands_on made covered p on ≡ true → stands_on made' covered p on ≡ true
+stands_still p (bases.Made key) base covered made made' only e =
+    let at = berthed_is p key covered (get made key) e in
+    let now = only.stands key at.0 at.1 in
+    berthed_by p key covered (get made' key) (now.0, now.1, now.2 ∙ at.2, at.3)
+stands_still p bases.Input base covered made made' only e = refl
+stands_still p bases.Output base covered made made' only e = refl
+stands_still p bases.Both base covered made made' only e = refl
+stands_still p bases.Errors base covered made made' only e = refl
+
+slot_still : (p : Place) (slot : Option Station) (base : Base) (covered : ℕ) (made made' : Slab BerthSeen) → OnlyAt base made made' → BerthedSlot made covered p slot → BerthedSlot made' covered p slot
+slot_still p None base covered made made' only h = tt
+slot_still p (Some s) base covered made made' only h = stands_still p s.base base covered made made' only h
+
+of_slot : (slot : Option Station) (s : Station) (Fact : Station → Type 0) → slot ≡ Some s → IfSome slot Fact → Fact s
+of_slot slot s Fact e h = subst (λ x. IfSome x Fact) e h
+
+module _ (xs ys : List Station) (place : Place) (s s' : Station) (made made' : Slab BerthSeen) (listed : KeyTable) (at : station_at xs place ≡ Some s) (based : s'.base ≡ s.base) (sets : SetsStation place (Some s') (station_at xs) (station_at ys)) (only : OnlyAt s.base made made') (sound : IsSound xs made listed) where
+  here_stands : stands_on made listed.covered place s.base ≡ true
+  here_stands = of_slot (station_at xs place) s (λ t. stands_on made listed.covered place t.base ≡ true) at (sound.berthed place)
+
+  here_still : (p : Place) → place ≡ p → stands_on made' listed.covered p s'.base ≡ true
+  here_still p same =
+      let there : stands_on made' listed.covered place s.base ≡ true = stands_still place s.base s.base listed.covered made made' only here_stands in
+      ap (λ q. stands_on made' listed.covered q s'.base) (sym same) ∙ (ap (stands_on made' listed.covered place) based ∙ there)
+
+  call_berthed : (p : Place) → BerthedSlot made' listed.covered p (station_at ys p)
+  call_berthed p =
+      if_slot (same_place place p) (BerthedSlot made' listed.covered p) (Some s') (station_at xs p) (station_at ys p) (sets p)
+      (λ same. here_still p (same_place-eq place p same))
+      (λ other. slot_still p (station_at xs p) s.base listed.covered made made' only (sound.berthed p))
+
+  call_heeded : (p : Place) → same_place place p ≡ false → HeededSlot made' listed.keys (station_at ys p)
+  call_heeded p differ =
+      if_slot (same_place place p) (HeededSlot made' listed.keys) (Some s') (station_at xs p) (station_at ys p) (sets p)
+      (λ same. absurd (true≢false (sym same ∙ differ)))
+      (λ other. slot_heeded p (station_at xs p) listed.covered listed.keys listed.keys made made'
+      (for_slot (station_at xs p) _ (λ t key is here. only.others key (apart_keys p place key listed.covered s.base made here_stands differ here)))
+      (for_slot (station_at xs p) _ (λ t key is here. refl))
+      (sound.berthed p) (sound.heeded p))
+
+  pub sound_but : IsSoundBut place ys made' listed
+  sound_but = record { berthed = call_berthed; heeded = call_heeded }
+
+-- the same where no station changed
+same_or : (b : Bool) (slot now : Option Station) → (b ≡ true → now ≡ slot) → now ≡ (if b then slot else now)
+same_or true slot now same = same refl
+same_or false slot now same = refl
+
+pub sound_but_still : (xs : List Station) (place : Place) (s : Station) (made made' : Slab BerthSeen) (listed : KeyTable) → station_at xs place ≡ Some s → OnlyAt s.base made made' → IsSound xs made listed → IsSoundBut place xs made' listed
+sound_but_still xs place s made made' listed at only sound =
+    sound_but xs xs place s s made made' listed at refl
+    (λ p. same_or (same_place place p) (Some s) (station_at xs p) (λ same. ap (station_at xs) (sym (same_place-eq place p same)) ∙ at))
+    only sound
+
+pub but_of : (xs : List Station) (place : Place) (made : Slab BerthSeen) (listed : KeyTable) → IsSound xs made listed → IsSoundBut place xs made listed
+but_of xs place made listed sound = record { berthed = sound.berthed; heeded = λ p differ. sound.heeded p }
+
+-- ---- the place is listed anew
+
+told_half : (half : Half) (may : Hint) (hints : Option Hint) → IfSome hints (λ hint. IsWithin may hint) → tells half hints ≡ true → tells half (Some may) ≡ true
+told_half half may None within e = absurd cc
+told_half ToRead may (Some hint) within e = within.readable e
+told_half ToWrite may (Some hint) within e = within.writable e
+
+half_quiet : (disarmed may told : Bool) → (disarmed && may) ≡ false → (told ≡ true → may ≡ true) → not (disarmed && (may || told)) ≡ true
+half_quiet false may told e within = refl
+half_quiet true true told e within = absurd cc
+half_quiet true false true e within = absurd (true≢false (sym (within refl)))
+half_quiet true false false e within = refl
+
+neither : (a b : Bool) → (a || b) ≡ false → (a ≡ false) × (b ≡ false)
+neither true b e = absurd cc
+neither false b e = (refl, e)
+
+quiet_by : (s : Station) (port : PortSeen) → IfSome port.hints (λ hint. IsWithin port.hinting hint) → ((s.reading_disarmed && port.hinting.readable) || (s.writing_disarmed && port.hinting.writable)) ≡ false → is_quiet s port ≡ true
+quiet_by s port within e =
+    let parts = neither (s.reading_disarmed && port.hinting.readable) (s.writing_disarmed && port.hinting.writable) e in
+    and_both _ _
+    (half_quiet s.reading_disarmed port.hinting.readable (tells ToRead port.hints) parts.0 (told_half ToRead port.hinting port.hints within))
+    (half_quiet s.writing_disarmed port.hinting.writable (tells ToWrite port.hints) parts.1 (told_half ToWrite port.hinting port.hints within))
+
+listed_or : (b : Bool) (s : Station) (key : ℕ) (keys : List ℕ) (port : PortSeen) → is_in key keys ≡ b → (b ≡ false → is_quiet s port ≡ true) → (is_in key keys || is_quiet s port) ≡ true
+listed_or true s key keys port e quiet = ap (λ x. x || is_quiet s port) e
+listed_or false s key keys port e quiet = ap (λ x. x || is_quiet s port) e ∙ quiet refl
+
+heeded_by : (s : Station) (key : ℕ) (keys : List ℕ) (may : Hint) (slot : Option BerthSeen) → IfSome slot (λ berth. may ≡ berth.port.hinting) → IfSome slot (λ berth. IfSome berth.port.hints (λ hint. IsWithin may hint)) → is_in key keys ≡ ((s.reading_disarmed && may.readable) || (s.writing_disarmed && may.writable)) → is_heeded s key keys slot ≡ true
+heeded_by s key keys may None halves told e = refl
+heeded_by s key keys may (Some berth) halves told e =
+    let within : IfSome berth.port.hints (λ hint. IsWithin berth.port.hinting hint) = subst (λ m. IfSome berth.port.hints (λ hint. IsWithin m hint)) halves told in
+    listed_or _ s key keys berth.port e
+    (λ no. quiet_by s berth.port within (ap (λ (m : Hint). (s.reading_disarmed && m.readable) || (s.writing_disarmed && m.writable)) (sym halves) ∙ no))
+
+-- a made port that was asked what it may hint
+pub heeds_set : (s : Station) (key covered : ℕ) (p : Place) (keys : List ℕ) (may : Hint) (made : Slab BerthSeen) → s.base ≡ bases.Made key → IfSome (get made key) (λ berth. may ≡ berth.port.hinting) → IfSome (get made key) (λ berth. IfSome berth.port.hints (λ hint. IsWithin may hint)) → (key < covered → is_in key keys ≡ ((s.reading_disarmed && may.readable) || (s.writing_disarmed && may.writable))) → stands_on made covered p s.base ≡ true → heeds made keys s s.base ≡ true
+heeds_set s key covered p keys may made is halves told listed stands =
+    let at = stands_at made covered p s.base key is stands in
+    ap (heeds made keys s) is ∙ heeded_by s key keys may (get made key) halves told (listed at.3)
+
+pub heeds_standard : (s : Station) (keys : List ℕ) (base : Base) (made : Slab BerthSeen) → key_of base ≡ None → heeds made keys s base ≡ true
+heeds_standard s keys (bases.Made key) made none = absurd cc
+heeds_standard s keys bases.Input made none = refl
+heeds_standard s keys bases.Output made none = refl
+heeds_standard s keys bases.Both made none = refl
+heeds_standard s keys bases.Errors made none = refl
+
+module _ (xs : List Station) (place : Place) (made : Slab BerthSeen) (listed listed' : KeyTable) (covered : listed'.covered ≡ listed.covered) (but : IsSoundBut place xs made listed) where
+  still_berthed : (p : Place) → BerthedSlot made listed'.covered p (station_at xs p)
+  still_berthed p = subst (λ c. BerthedSlot made c p (station_at xs p)) (sym covered) (but.berthed p)
+
+  module _ (s : Station) (at : station_at xs place ≡ Some s) (others : (key : ℕ) → (s.base ≡ bases.Made key → ⊥) → is_in key listed'.keys ≡ is_in key listed.keys) (here : stands_on made listed.covered place s.base ≡ true → heeds made listed'.keys s s.base ≡ true) where
+    mine : stands_on made listed.covered place s.base ≡ true
+    mine = of_slot (station_at xs place) s (λ t. stands_on made listed.covered place t.base ≡ true) at (but.berthed place)
+
+    other_heeded : (p : Place) → same_place place p ≡ false → HeededSlot made listed'.keys (station_at xs p)
+    other_heeded p differ =
+        slot_heeded p (station_at xs p) listed.covered listed.keys listed'.keys made made
+        (for_slot (station_at xs p) _ (λ t key is there. refl))
+        (for_slot (station_at xs p) _ (λ t key is there. others key (apart_keys p place key listed.covered s.base made mine differ there)))
+        (but.berthed p) (but.heeded p differ)
+
+    listed_heeded : (p : Place) → HeededSlot made listed'.keys (station_at xs p)
+    listed_heeded p =
+        either_place (same_place place p) place p (HeededSlot made listed'.keys (station_at xs p)) refl
+        (λ same. subst (λ q. HeededSlot made listed'.keys (station_at xs q)) same (subst (λ slot. HeededSlot made listed'.keys slot) (sym at) (here mine)))
+        (other_heeded p)
+
+    pub sound_listed : IsSound xs made listed'
+    sound_listed = record { berthed = still_berthed; heeded = listed_heeded }
+
+-- nothing is held at the place
+pub sound_unheld : (xs : List Station) (place : Place) (made : Slab BerthSeen) (listed : KeyTable) → station_at xs place ≡ None → IsSoundBut place xs made listed → IsSound xs made listed
+sound_unheld xs place made listed none but = record {
+  berthed = but.berthed;
+  heeded = λ p.
+      either_place (same_place place p) place p (HeededSlot made listed.keys (station_at xs p)) refl
+      (λ same. subst (λ slot. HeededSlot made listed.keys slot) (sym none ∙ ap (station_at xs) same) tt)
+      (but.heeded p);
+}
+
+-- ---- a place that comes
+
+standard_stands : (made : Slab BerthSeen) (covered : ℕ) (p : Place) (base : Base) → IsStandard base → stands_on made covered p base ≡ true
+standard_stands made covered p (bases.Made key) standard = elim standard [ ]
+standard_stands made covered p bases.Input standard = refl
+standard_stands made covered p bases.Output standard = refl
+standard_stands made covered p bases.Both standard = refl
+standard_stands made covered p bases.Errors standard = refl
+
+standard_heeds : (made : Slab BerthSeen) (keys : List ℕ) (s : Station) (base : Base) → IsStandard base → heeds made keys s base ≡ true
+standard_heeds made keys s (bases.Made key) standard = elim standard [ ]
+standard_heeds made keys s bases.Input standard = refl
+standard_heeds made keys s bases.Output standard = refl
+standard_heeds made keys s bases.Both standard = refl
+standard_heeds made keys s bases.Errors standard = refl
+
+-- on a standard stream
+pub sound_add : (xs ys : List Station) (s : Station) (made : Slab BerthSeen) (listed : KeyTable) → SetsStation s.place (Some s) (station_at xs) (station_at ys) → IsStandard s.base → IsSound xs made listed → IsSound ys made listed
+sound_add xs ys s made listed sets standard sound = record {
+  berthed = λ p. if_slot (same_place s.place p) (BerthedSlot made listed.covered p) (Some s) (station_at xs p) (station_at ys p) (sets p) (λ same. standard_stands made listed.covered p s.base standard) (λ other. sound.berthed p);
+  heeded = λ p. if_slot (same_place s.place p) (HeededSlot made listed.keys) (Some s) (station_at xs p) (station_at ys p) (sets p) (λ same. standard_heeds made listed.keys s s.base standard) (λ other. sound.heeded p);
+}
+
+-- on a made port that was taken in under a vacant key
+module _ (xs ys : List Station) (s : Station) (made made' : Slab BerthSeen) (listed : KeyTable) (key : ℕ) (berth : BerthSeen) (based : s.base ≡ bases.Made key) (place : berth.place ≡ s.place) (below : key < listed.covered) (sets : SetsStation s.place (Some s) (station_at xs) (station_at ys)) (vacant : get made key ≡ None) (updates : Updates made made' key (Some berth)) (sound : IsSound xs made listed) where
+  not_vacant : (p : Place) (k : ℕ) → BerthedAt p k listed.covered (get made k) → k ≢ key
+  not_vacant p k at same = let e : None ≡ Some at.0 = sym vacant ∙ (ap (get made) (sym same) ∙ at.1) in absurd cc
+
+  kept_port : (p : Place) (on : Base) → SamePort p on listed.covered made made'
+  kept_port p on k is at = updates.others k (not_vacant p k at)
+
+  new_stands : (p : Place) → s.place ≡ p → stands_on made' listed.covered p s.base ≡ true
+  new_stands p same = ap (stands_on made' listed.covered p) based ∙ berthed_by p key listed.covered (get made' key) (berth, updates.changed, place ∙ same, below)
+
+  moor_berthed : (p : Place) → BerthedSlot made' listed.covered p (station_at ys p)
+  moor_berthed p =
+      if_slot (same_place s.place p) (BerthedSlot made' listed.covered p) (Some s) (station_at xs p) (station_at ys p) (sets p)
+      (λ same. new_stands p (same_place-eq s.place p same))
+      (λ other. slot_berthed p (station_at xs p) listed.covered made made' (for_slot (station_at xs p) _ (λ t. kept_port p t.base)) (sound.berthed p))
+
+  moor_heeded : (p : Place) → same_place s.place p ≡ false → HeededSlot made' listed.keys (station_at ys p)
+  moor_heeded p differ =
+      if_slot (same_place s.place p) (HeededSlot made' listed.keys) (Some s) (station_at xs p) (station_at ys p) (sets p)
+      (λ same. absurd (true≢false (sym same ∙ differ)))
+      (λ other. slot_heeded p (station_at xs p) listed.covered listed.keys listed.keys made made' (for_slot (station_at xs p) _ (λ t. kept_port p t.base)) (for_slot (station_at xs p) _ (λ t k is at. refl)) (sound.berthed p) (sound.heeded p))
+
+  pub sound_moor : IsSoundBut s.place ys made' listed
+  sound_moor = record { berthed = moor_berthed; heeded = moor_heeded }
+
+-- ---- a place that is let go
+
+module _ (xs ys : List Station) (place : Place) (made made' : Slab BerthSeen) (listed listed' : KeyTable) (sets : SetsStation place None (station_at xs) (station_at ys)) (covered : listed'.covered ≡ listed.covered) (but : IsSoundBut place xs made listed) where
+  module _ (same : (p : Place) (on : Base) → same_place place p ≡ false → SamePort p on listed.covered made made') (listing : (p : Place) (on : Base) → same_place place p ≡ false → SameListing p on listed.covered made listed.keys listed'.keys) where
+    left_berthed : (p : Place) → BerthedSlot made' listed'.covered p (station_at ys p)
+    left_berthed p =
+        if_slot (same_place place p) (BerthedSlot made' listed'.covered p) None (station_at xs p) (station_at ys p) (sets p)
+        (λ gone. tt)
+        (λ other. subst (λ c. BerthedSlot made' c p (station_at xs p)) (sym covered) (slot_berthed p (station_at xs p) listed.covered made made' (for_slot (station_at xs p) _ (λ t. same p t.base other)) (but.berthed p)))
+
+    left_heeded : (p : Place) → HeededSlot made' listed'.keys (station_at ys p)
+    left_heeded p =
+        if_slot (same_place place p) (HeededSlot made' listed'.keys) None (station_at xs p) (station_at ys p) (sets p)
+        (λ gone. tt)
+        (λ other. slot_heeded p (station_at xs p) listed.covered listed.keys listed'.keys made made' (for_slot (station_at xs p) _ (λ t. same p t.base other)) (for_slot (station_at xs p) _ (λ t. listing p t.base other)) (but.berthed p) (but.heeded p other))
+
+    sound_left : IsSound ys made' listed'
+    sound_left = record { berthed = left_berthed; heeded = left_heeded }
+
+  -- with its made port
+  module _ (key : ℕ) (based : base_at xs place ≡ Some (bases.Made key)) (updates : Updates made made' key None) (others : (other : ℕ) → other ≢ key → is_in other listed'.keys ≡ is_in other listed.keys) where
+    own_stands : (slot : Option Station) → option_map (λ s. s.base) slot ≡ Some (bases.Made key) → BerthedSlot made listed.covered place slot → stands_on made listed.covered place (bases.Made key) ≡ true
+    own_stands None e h = absurd cc
+    own_stands (Some s) e h = let is : s.base ≡ bases.Made key = cc in sym (ap (stands_on made listed.covered place) is) ∙ h
+
+    other_key : (p : Place) (k : ℕ) → same_place place p ≡ false → BerthedAt p k listed.covered (get made k) → k ≢ key
+    other_key p k differ at is = apart_keys p place k listed.covered (bases.Made key) made (own_stands (station_at xs place) based (but.berthed place)) differ at (ap bases.Made (sym is))
+
+    pub sound_let_go : IsSound ys made' listed'
+    sound_let_go = sound_left (λ p on differ k is at. updates.others k (other_key p k differ at)) (λ p on differ k is at. others k (other_key p k differ at))
+
+  -- alone
+  pub sound_fewer : made' ≡ made → listed'.keys ≡ listed.keys → IsSound ys made' listed'
+  sound_fewer is keys = sound_left (λ p on differ k e at. ap (λ m. get m k) is) (λ p on differ k e at. ap (is_in k) keys)
+
+-- ---- room, and halves that are armed
+
+wider : (p : Place) (on : Base) (covered covered' : ℕ) (made : Slab BerthSeen) → covered ≤ covered' → stands_on made covered p on ≡ true → stands_on made covered' p on ≡ true
+wider p (bases.Made key) covered covered' made le e =
+    let at = berthed_is p key covered (get made key) e in
+    let below = at.3 in
+    berthed_by p key covered' (get made key) (at.0, at.1, at.2, omega (arith, below, le))
+wider p bases.Input covered covered' made le e = refl
+wider p bases.Output covered covered' made le e = refl
+wider p bases.Both covered covered' made le e = refl
+wider p bases.Errors covered covered' made le e = refl
+
+slot_wider : (p : Place) (slot : Option Station) (covered covered' : ℕ) (made : Slab BerthSeen) → covered ≤ covered' → BerthedSlot made covered p slot → BerthedSlot made covered' p slot
+slot_wider p None covered covered' made le h = tt
+slot_wider p (Some s) covered covered' made le h = wider p s.base covered covered' made le h
+
+-- the same ports, the same keys, and more that can be listed
+pub sound_kept : (xs : List Station) (made made' : Slab BerthSeen) (listed listed' : KeyTable) → SameValues made made' → listed'.keys ≡ listed.keys → listed.covered ≤ listed'.covered → IsSound xs made listed → IsSound xs made' listed'
+sound_kept xs made made' listed listed' same keys le sound = record {
+  berthed = λ p. slot_wider p (station_at xs p) listed.covered listed'.covered made' le (slot_berthed p (station_at xs p) listed.covered made made' (for_slot (station_at xs p) _ (λ t k is at. same k)) (sound.berthed p));
+  heeded = λ p. slot_heeded p (station_at xs p) listed.covered listed.keys listed'.keys made made' (for_slot (station_at xs p) _ (λ t k is at. same k)) (for_slot (station_at xs p) _ (λ t k is at. ap (is_in k) keys)) (sound.berthed p) (sound.heeded p);
+}
+
+quiet_armed : (half : Half) (s : Station) (port : PortSeen) → is_quiet s port ≡ true → is_quiet (with_half half false s) port ≡ true
+quiet_armed ToRead s port e = (and_parts (not (s.reading_disarmed && may_tell ToRead port)) (not (s.writing_disarmed && may_tell ToWrite port)) e).1
+quiet_armed ToWrite s port e = and_both (not (s.reading_disarmed && may_tell ToRead port)) true (and_parts (not (s.reading_disarmed && may_tell ToRead port)) (not (s.writing_disarmed && may_tell ToWrite port)) e).0 refl
+
+or_armed : (a b c : Bool) → (b ≡ true → c ≡ true) → (a || b) ≡ true → (a || c) ≡ true
+or_armed true b c f e = refl
+or_armed false b c f e = f e
+
+heeded_armed : (half : Half) (s : Station) (key : ℕ) (keys : List ℕ) (slot : Option BerthSeen) → is_heeded s key keys slot ≡ true → is_heeded (with_half half false s) key keys slot ≡ true
+heeded_armed half s key keys None e = refl
+heeded_armed half s key keys (Some berth) e = or_armed (is_in key keys) (is_quiet s berth.port) (is_quiet (with_half half false s) berth.port) (quiet_armed half s berth.port) e
+
+heeds_armed : (half : Half) (s : Station) (on : Base) (keys : List ℕ) (made : Slab BerthSeen) → heeds made keys s on ≡ true → heeds made keys (with_half half false s) on ≡ true
+heeds_armed half s (bases.Made key) keys made e = heeded_armed half s key keys (get made key) e
+heeds_armed half s bases.Input keys made e = refl
+heeds_armed half s bases.Output keys made e = refl
+heeds_armed half s bases.Both keys made e = refl
+heeds_armed half s bases.Errors keys made e = refl
+
+armed_base : (half : Half) (s : Station) → (with_half half false s).base ≡ s.base
+armed_base ToRead s = refl
+armed_base ToWrite s = refl
+
+slot_armed : (half : Half) (p : Place) (slot : Option Station) (covered : ℕ) (made : Slab BerthSeen) → BerthedSlot made covered p slot → BerthedSlot made covered p (option_map (with_half half false) slot)
+slot_armed half p None covered made h = tt
+slot_armed half p (Some s) covered made h = ap (stands_on made covered p) (armed_base half s) ∙ h
+
+slot_heeds_armed : (half : Half) (slot : Option Station) (keys : List ℕ) (made : Slab BerthSeen) → HeededSlot made keys slot → HeededSlot made keys (option_map (with_half half false) slot)
+slot_heeds_armed half None keys made h = tt
+slot_heeds_armed half (Some s) keys made h = ap (heeds made keys (with_half half false s)) (armed_base half s) ∙ heeds_armed half s s.base keys made h
+
+-- a half that is armed has nothing more to be listed for
+pub sound_armed : (xs ys : List Station) (place : Place) (half : Half) (made : Slab BerthSeen) (listed : KeyTable) → SetsStation place (option_map (with_half half false) (station_at xs place)) (station_at xs) (station_at ys) → IsSound xs made listed → IsSound ys made listed
+sound_armed xs ys place half made listed sets sound = record {
+  berthed = λ p.
+      if_slot (same_place place p) (BerthedSlot made listed.covered p) (option_map (with_half half false) (station_at xs place)) (station_at xs p) (station_at ys p) (sets p)
+      (λ same. subst (λ q. BerthedSlot made listed.covered q (option_map (with_half half false) (station_at xs place))) (same_place-eq place p same) (slot_armed half place (station_at xs place) listed.covered made (sound.berthed place)))
+      (λ other. sound.berthed p);
+  heeded = λ p.
+      if_slot (same_place place p) (HeededSlot made listed.keys) (option_map (with_half half false) (station_at xs place)) (station_at xs p) (station_at ys p) (sets p)
+      (λ same. slot_heeds_armed half (station_at xs place) listed.keys made (sound.heeded place))
+      (λ other. sound.heeded p);
+}
+
+-- ---- a call on the port of a held place
+
+-- the port of either half of a base
+pub giving_of : (base : Base) → PierOf (giving_pier base) base
+giving_of (bases.Made key) = refl
+giving_of bases.Input = λ key is. absurd cc
+giving_of bases.Output = λ key is. absurd cc
+giving_of bases.Both = λ key is. absurd cc
+giving_of bases.Errors = λ key is. absurd cc
+
+pub taking_of : (base : Base) → PierOf (taking_pier base) base
+taking_of (bases.Made key) = refl
+taking_of bases.Input = λ key is. absurd cc
+taking_of bases.Output = λ key is. absurd cc
+taking_of bases.Both = λ key is. absurd cc
+taking_of bases.Errors = λ key is. absurd cc
+
+marked_base : (half : Half) (disarmed : Bool) (s : Station) → (with_half half disarmed s).base ≡ s.base
+marked_base ToRead disarmed s = refl
+marked_base ToWrite disarmed s = refl
+
+-- a half is marked after it
+pub sound_marked : (xs ys : List Station) (place : Place) (s : Station) (half : Half) (disarmed : Bool) (made made' : Slab BerthSeen) (listed : KeyTable) → station_at xs place ≡ Some s → SetsStation place (option_map (with_half half disarmed) (station_at xs place)) (station_at xs) (station_at ys) → OnlyAt s.base made made' → IsSound xs made listed → IsSoundBut place ys made' listed
+sound_marked xs ys place s half disarmed made made' listed at sets only sound =
+    let Sets : Option Station → Type 0 = λ slot. SetsStation place (option_map (with_half half disarmed) slot) (station_at xs) (station_at ys) in
+    sound_but xs ys place s (with_half half disarmed s) made made' listed at (marked_base half disarmed s) (subst Sets at sets) only sound

@@ -1,7 +1,7 @@
 -- What a place stands on after a change of the table of stations.
-use Rattle.std.proofs.Common.{◌≡◌, ◌≢◌, ℕ, zero, suc, slice_get, get_or, set, take, drop, ◌+◌, ◌-◌, ◌≤◌, ◌<◌, nat_lt, Bool, true, false, not, ◌||◌, List, [], ◌∷◌, ◌++◌, length, filter, Option, None, Some, is_some, IfSome, MatchOption, find, position, option_map, refl, sym, ap, subst, ◌∙◌, arith, if◌then◌else◌}
+use Rattle.std.proofs.Common.{◌≡◌, ℕ, zero, suc, slice_get, get_or, set, take, drop, ◌+◌, ◌-◌, ◌≤◌, ◌<◌, nat_lt, Bool, true, false, not, ◌||◌, List, [], ◌∷◌, ◌++◌, length, filter, Option, None, Some, is_some, IfSome, MatchOption, position, option_map, refl, sym, ap, subst, ◌∙◌, arith, if◌then◌else◌}
 use Rattle.std.specs.List.{insert, position_or_len}
-use Rattle.std.specs.List.Sorted.{IsNonDecreasingBy, IsPartitionPoint, IsPartitionedBy}
+use Rattle.std.specs.List.Sorted.{IsPartitionPoint, IsPartitionedBy}
 use Rattle.std.proofs.lemmas.List.{length-drop, length-set, take_all}
 use Rattle.std.proofs.lemmas.List.Folds.{find_at}
 use Rattle.std.proofs.lemmas.List.Kept.{IsNonDecreasingBy-filter}
@@ -16,9 +16,10 @@ use Rattle.relay_model.specs.Holding.{Hold, Free, is_free}
 use Rattle.world_trait.specs.HoldTables.{hold_of, SetsHold}
 use Rattle.world_trait.specs.declared.tables.Standing.{Standing}
 use Rattle.world_trait.specs.declared.tables.Standing.TheVariants as standings
+use Rattle.desk_ports.specs.Bases.{is_standard}
 use Rattle.desk_ports.specs.declared.bases.Base.{Base}
 use Rattle.desk_places.specs.declared.stations.Station.{Station}
-use Rattle.desk_places.specs.Stations.{station_at, base_at, hold_by, hold_at, footing_by, footing_at, with_half, AreInOrder, AreListed, IsFirstOf, IsStartOf, is_listed, listed_so, SetsStation, SameFooting, SameHold}
+use Rattle.desk_places.specs.Stations.{station_at, base_at, hold_by, hold_at, base_by, with_half, AreInOrder, AreListed, IsFirstOf, IsStartOf, is_listed, listed_so, SetsStation, SameFooting, SameHold}
 use Rattle.desk_places.proofs.PlaceLemmas.{same_place-eq, same_place-same, false_unless, apart, earlier_apart}
 
 -- ---- the station of a place after a change
@@ -239,7 +240,7 @@ remove_listed p q (x ∷ xs) other listed =
 
 listed_more : (slot : Option Station) (p : Place) (xs ys : List Place) → listed_so slot p xs ≡ true → listed_so slot p (xs ++ ys) ≡ true
 listed_more None p xs ys h = refl
-listed_more (Some s) p xs ys h = or_step (not s.asked) (is_listed p xs) (is_listed p (xs ++ ys)) (more_listed p xs ys) h
+listed_more (Some s) p xs ys h = or_step (not (is_standard s.base)) (is_listed p xs) (is_listed p (xs ++ ys)) (more_listed p xs ys) h
 
 listed_if : (b : Bool) (slot rest now : Option Station) (p : Place) (places : List Place) → now ≡ (if b then slot else rest) → (b ≡ true → listed_so slot p places ≡ true) → (b ≡ false → listed_so rest p places ≡ true) → listed_so now p places ≡ true
 listed_if true slot rest now p places e here there = ap (λ x. listed_so x p places) e ∙ here refl
@@ -249,27 +250,27 @@ listed_if false slot rest now p places e here there = ap (λ x. listed_so x p pl
 pub listed_asked : (xs ys : List Station) (s : Station) (places : List Place) → SetsStation s.place (Some s) (station_at xs) (station_at ys) → AreListed xs places → AreListed ys (places ++ s.place ∷ [])
 listed_asked xs ys s places sets listed p =
     listed_if (same_place s.place p) (Some s) (station_at xs p) (station_at ys p) p (places ++ s.place ∷ []) (sets p)
-    (λ same. or_right (not s.asked) (is_listed p (places ++ s.place ∷ [])) (last_listed places p s.place same))
+    (λ same. or_right (not (is_standard s.base)) (is_listed p (places ++ s.place ∷ [])) (last_listed places p s.place same))
     (λ other. listed_more (station_at xs p) p places (s.place ∷ []) (listed p))
 
 -- and one that isn't needn't be
-pub listed_unasked : (xs ys : List Station) (s : Station) (places : List Place) → SetsStation s.place (Some s) (station_at xs) (station_at ys) → s.asked ≡ false → AreListed xs places → AreListed ys places
+pub listed_unasked : (xs ys : List Station) (s : Station) (places : List Place) → SetsStation s.place (Some s) (station_at xs) (station_at ys) → is_standard s.base ≡ false → AreListed xs places → AreListed ys places
 listed_unasked xs ys s places sets unasked listed p =
     listed_if (same_place s.place p) (Some s) (station_at xs p) (station_at ys p) p places (sets p)
     (λ same. ap (λ b. not b || is_listed p places) unasked)
     (λ other. listed p)
 
-asked_or : (b : Bool) (xs ys : List Station) (s : Station) (places : List Place) → s.asked ≡ b → SetsStation s.place (Some s) (station_at xs) (station_at ys) → AreListed xs places → AreListed ys (if b then places ++ s.place ∷ [] else places)
+asked_or : (b : Bool) (xs ys : List Station) (s : Station) (places : List Place) → is_standard s.base ≡ b → SetsStation s.place (Some s) (station_at xs) (station_at ys) → AreListed xs places → AreListed ys (if b then places ++ s.place ∷ [] else places)
 asked_or true xs ys s places is sets listed = listed_asked xs ys s places sets listed
 asked_or false xs ys s places is sets listed = listed_unasked xs ys s places sets is listed
 
 -- a station that is put in is listed where it is asked
-pub listed_add : (xs ys : List Station) (s : Station) (places : List Place) → SetsStation s.place (Some s) (station_at xs) (station_at ys) → AreListed xs places → AreListed ys (if s.asked then places ++ s.place ∷ [] else places)
-listed_add xs ys s places sets listed = asked_or s.asked xs ys s places refl sets listed
+pub listed_add : (xs ys : List Station) (s : Station) (places : List Place) → SetsStation s.place (Some s) (station_at xs) (station_at ys) → AreListed xs places → AreListed ys (if is_standard s.base then places ++ s.place ∷ [] else places)
+listed_add xs ys s places sets listed = asked_or (is_standard s.base) xs ys s places refl sets listed
 
 listed_out : (slot : Option Station) (p q : Place) (places : List Place) → same_place p q ≡ false → listed_so slot p places ≡ true → listed_so slot p (filter (λ x. not (same_place x q)) places) ≡ true
 listed_out None p q places other h = refl
-listed_out (Some s) p q places other h = or_step (not s.asked) (is_listed p places) (is_listed p (filter (λ x. not (same_place x q)) places)) (remove_listed p q places other) h
+listed_out (Some s) p q places other h = or_step (not (is_standard s.base)) (is_listed p places) (is_listed p (filter (λ x. not (same_place x q)) places)) (remove_listed p q places other) h
 
 same_turned : (p q : Place) → same_place q p ≡ false → same_place p q ≡ false
 same_turned p q other = false_unless (same_place p q) (λ e. let f : same_place q p ≡ true = ap (λ x. same_place x p) (sym (same_place-eq p q e)) ∙ same_place-same p in let g : true ≡ false = sym f ∙ other in cc)
@@ -281,11 +282,11 @@ listed_remove xs ys q places sets listed p =
     (λ same. refl)
     (λ other. listed_out (station_at xs p) p q places (same_turned p q other) (listed p))
 
-abbrev asked_by : Option (Base × Bool) → Bool
+abbrev asked_by : Option Base → Bool
 asked_by None = false
-asked_by (Some footing) = footing.1
+asked_by (Some base) = is_standard base
 
-listed_footing : (slot slot' : Option Station) (p : Place) (places : List Place) → footing_by slot' ≡ footing_by slot → listed_so slot p places ≡ true → listed_so slot' p places ≡ true
+listed_footing : (slot slot' : Option Station) (p : Place) (places : List Place) → base_by slot' ≡ base_by slot → listed_so slot p places ≡ true → listed_so slot' p places ≡ true
 listed_footing slot None p places e h = refl
 listed_footing None (Some s') p places e h = absurd cc
 listed_footing (Some s) (Some s') p places e h = ap (λ b. not b || is_listed p places) (ap asked_by e) ∙ h
@@ -293,7 +294,7 @@ listed_footing (Some s) (Some s') p places e h = ap (λ b. not b || is_listed p 
 pub listed_on : (xs ys : List Station) (places : List Place) → SameFooting xs ys → AreListed xs places → AreListed ys places
 listed_on xs ys places same listed p = listed_footing (station_at xs p) (station_at ys p) p places (same p) (listed p)
 
-slot_asked : (slot : Option Station) (s : Station) (p : Place) (places : List Place) → slot ≡ Some s → s.asked ≡ true → listed_so slot p places ≡ true → is_listed p places ≡ true
+slot_asked : (slot : Option Station) (s : Station) (p : Place) (places : List Place) → slot ≡ Some s → is_standard s.base ≡ true → listed_so slot p places ≡ true → is_listed p places ≡ true
 slot_asked slot s p places e asked listed = sym (ap (λ b. not b || is_listed p places) asked) ∙ (sym (ap (λ x. listed_so x p places) e) ∙ listed)
 
 index_step : (b : Bool) (x p : Place) (xs : List Place) → same_place x p ≡ b → (is_listed p xs ≡ true → (i : ℕ) × (slice_get xs i ≡ Some p)) → (b || is_listed p xs) ≡ true → (i : ℕ) × (slice_get (x ∷ xs) i ≡ Some p)
@@ -305,7 +306,7 @@ index_listed p [] listed = absurd cc
 index_listed p (x ∷ xs) listed = index_step (same_place x p) x p xs refl (index_listed p xs) listed
 
 -- where a place that is asked for hints is listed
-pub asked_index : (xs : List Station) (places : List Place) (p : Place) (s : Station) → AreListed xs places → station_at xs p ≡ Some s → s.asked ≡ true → (i : ℕ) × (slice_get places i ≡ Some p)
+pub asked_index : (xs : List Station) (places : List Place) (p : Place) (s : Station) → AreListed xs places → station_at xs p ≡ Some s → is_standard s.base ≡ true → (i : ℕ) × (slice_get places i ≡ Some p)
 asked_index xs places p s listed e asked = index_listed p places (slot_asked (station_at xs p) s p places e asked (listed p))
 
 -- ---- how places stand
@@ -318,14 +319,14 @@ hold_if false slot rest now e = ap hold_by e
 pub hold_sets : (xs ys : List Station) (place : Place) (slot : Option Station) → SetsStation place slot (station_at xs) (station_at ys) → SetsHold place (hold_by slot) (hold_at xs) (hold_at ys)
 hold_sets xs ys place slot sets p = hold_if (same_place place p) slot (station_at xs p) (station_at ys p) (sets p)
 
-footing_if : (b : Bool) (slot rest now : Option Station) → now ≡ (if b then slot else rest) → (b ≡ true → footing_by slot ≡ footing_by rest) → footing_by now ≡ footing_by rest
-footing_if true slot rest now e same = ap footing_by e ∙ same refl
-footing_if false slot rest now e same = ap footing_by e
+footing_if : (b : Bool) (slot rest now : Option Station) → now ≡ (if b then slot else rest) → (b ≡ true → base_by slot ≡ base_by rest) → base_by now ≡ base_by rest
+footing_if true slot rest now e same = ap base_by e ∙ same refl
+footing_if false slot rest now e same = ap base_by e
 
 -- a place that is set to a station on the same footing leaves every place on its own
-pub sets_footing : (xs ys : List Station) (place : Place) (slot : Option Station) → SetsStation place slot (station_at xs) (station_at ys) → footing_by slot ≡ footing_at xs place → SameFooting xs ys
+pub sets_footing : (xs ys : List Station) (place : Place) (slot : Option Station) → SetsStation place slot (station_at xs) (station_at ys) → base_by slot ≡ base_at xs place → SameFooting xs ys
 sets_footing xs ys place slot sets same p =
-    footing_if (same_place place p) slot (station_at xs p) (station_at ys p) (sets p) (λ e. same ∙ ap (footing_at xs) (same_place-eq place p e))
+    footing_if (same_place place p) slot (station_at xs p) (station_at ys p) (sets p) (λ e. same ∙ ap (base_at xs) (same_place-eq place p e))
 
 stays_step : (b : Bool) (slot now : Option Station) → (b ≡ true → now ≡ slot) → now ≡ (if b then slot else now)
 stays_step true slot now same = same refl
@@ -335,7 +336,7 @@ stays_step false slot now same = refl
 pub station_stays : (place : Place) (slot : Option Station) (table : Place → Option Station) → table place ≡ slot → SetsStation place slot table table
 station_stays place slot table is p = stays_step (same_place place p) slot (table p) (λ e. sym (ap table (same_place-eq place p e)) ∙ is)
 
-half_footing : (half : Half) (disarmed : Bool) (slot : Option Station) → footing_by (option_map (with_half half disarmed) slot) ≡ footing_by slot
+half_footing : (half : Half) (disarmed : Bool) (slot : Option Station) → base_by (option_map (with_half half disarmed) slot) ≡ base_by slot
 half_footing half disarmed None = refl
 half_footing ToRead disarmed (Some s) = refl
 half_footing ToWrite disarmed (Some s) = refl
@@ -371,9 +372,6 @@ found_place (x ∷ xs) p s e = place_step (same_place x.place p) x s (station_at
 pub found_here : (xs : List Station) (p : Place) (slot : Option Station) → slot ≡ station_at xs p → IfSome slot (λ s. s.place ≡ p)
 found_here xs p None e = tt
 found_here xs p (Some s) e = found_place xs p s (sym e)
-
-pub found_footing : (xs : List Station) (p : Place) (s : Station) → station_at xs p ≡ Some s → footing_at xs p ≡ Some (s.base, s.asked)
-found_footing xs p s e = ap footing_by e
 
 pub found_base : (xs : List Station) (p : Place) (s : Station) → station_at xs p ≡ Some s → base_at xs p ≡ Some s.base
 found_base xs p s e = ap (λ slot. option_map (λ t. t.base) slot) e

@@ -1,46 +1,77 @@
--- That each held place stands on a port of its own.
-use Rattle.std.specs.Prelude.{◌≡◌, Bool, true, false, not, ◌&&◌, ◌||◌, List, Option, None, Some, is_some, ⊤}
-use Rattle.slab.specs.Slab.{Slab, get}
+-- That each held place stands on a port of its own, and that a port that may hint at a disarmed half is listed.
+use Rattle.std.specs.Prelude.{◌≡◌, ◌<◌, Bool, true, false, not, ◌&&◌, ◌||◌, nat_lt, ℕ, List, Option, None, Some, IfSome}
+use Rattle.slab.specs.Slab.{HasRoomFor, Slab, get}
+use Rattle.relay_model.specs.declared.places.Half.{Half}
+use Rattle.relay_model.specs.declared.places.Half.TheVariants.{ToRead, ToWrite}
 use Rattle.relay_model.specs.declared.places.Place.{Place}
 use Rattle.relay_model.specs.Places.{same_place}
+use Rattle.port_trait.specs.declared.answers.Hint.{Hint}
 use Rattle.desk_ports.specs.Ports.{PortSeen, BerthSeen}
 use Rattle.desk_ports.specs.declared.bases.Base.{Base}
 use Rattle.desk_ports.specs.declared.bases.Base.TheVariants as bases
 use Rattle.desk_places.specs.declared.stations.Station.{Station}
+use Rattle.desk_places.specs.Keys.{KeyTable, is_in}
 use Rattle.desk_places.specs.Stations.{station_at}
 
--- the port may not hint, and tells no hints
-abbrev pub IsQuiet : PortSeen → Type 0
-IsQuiet port = (port.hinting ≡ false) × (port.hints ≡ None)
+-- whether a hint, if there is one, tells of this half
+abbrev pub tells : Half → Option Hint → Bool
+tells half None = false
+tells ToRead (Some hint) = hint.readable
+tells ToWrite (Some hint) = hint.writable
 
--- a port that may hint at nothing
-abbrev pub is_quiet : PortSeen → Bool
-is_quiet port = not port.hinting && not (is_some port.hints)
+-- whether the port may hint at this half before the next call on it, or tells that it does
+abbrev pub may_tell : Half → PortSeen → Bool
+may_tell half port = tells half (Some port.hinting) || tells half port.hints
 
--- whether the made port is there for the place, and may hint only where the place is asked for hints
-abbrev pub is_moored : Place → Bool → Option BerthSeen → Bool
-is_moored p asked None = false
-is_moored p asked (Some berth) = same_place berth.place p && (asked || is_quiet berth.port)
+-- whether the port may hint at no disarmed half of the station
+abbrev pub is_quiet : Station → PortSeen → Bool
+is_quiet station port = not (station.reading_disarmed && may_tell ToRead port) && not (station.writing_disarmed && may_tell ToWrite port)
 
--- the same of the port of a base; a place on standard streams is always asked
-abbrev pub stands_on : Slab BerthSeen → Place → Base → Bool → Bool
-stands_on made p (bases.Made key) asked = is_moored p asked (get made key)
-stands_on made p bases.Input asked = asked
-stands_on made p bases.Output asked = asked
-stands_on made p bases.Both asked = asked
-stands_on made p bases.Errors asked = asked
+-- whether the made port is there for the place, and its key can be listed
+abbrev pub is_berthed : Place → ℕ → ℕ → Option BerthSeen → Bool
+is_berthed p key covered None = false
+is_berthed p key covered (Some berth) = same_place berth.place p && nat_lt key covered
 
--- the port of a place is there as its station says
-abbrev pub stands_so : Slab BerthSeen → Place → Option Station → Bool
-stands_so made p None = true
-stands_so made p (Some station) = stands_on made p station.base station.asked
+-- whether the key is listed, unless its port is quiet
+abbrev pub is_heeded : Station → ℕ → List ℕ → Option BerthSeen → Bool
+is_heeded station key keys None = true
+is_heeded station key keys (Some berth) = is_in key keys || is_quiet station berth.port
+
+-- the first, of a made port; standard streams are always there
+abbrev pub stands_on : Slab BerthSeen → ℕ → Place → Base → Bool
+stands_on made covered p (bases.Made key) = is_berthed p key covered (get made key)
+stands_on made covered p bases.Input = true
+stands_on made covered p bases.Output = true
+stands_on made covered p bases.Both = true
+stands_on made covered p bases.Errors = true
+
+-- the second, of a made port; standard streams are always asked
+abbrev pub heeds : Slab BerthSeen → List ℕ → Station → Base → Bool
+heeds made keys station (bases.Made key) = is_heeded station key keys (get made key)
+heeds made keys station bases.Input = true
+heeds made keys station bases.Output = true
+heeds made keys station bases.Both = true
+heeds made keys station bases.Errors = true
 
 -- each place has its port; no two places have the same made one, since that is there for one place
-abbrev pub IsSound : List Station → Slab BerthSeen → Type 0
-IsSound stations made = (p : Place) → stands_so made p (station_at stations p) ≡ true
+abbrev pub AreBerthed : List Station → Slab BerthSeen → ℕ → Type 0
+AreBerthed stations made covered = (p : Place) → IfSome (station_at stations p) (λ s. stands_on made covered p s.base ≡ true)
 
--- the made port of a key is still there for its place, and is quiet if it was
-abbrev pub StaysMoored : Option BerthSeen → Option BerthSeen → Type 0
-StaysMoored None now = ⊤
-StaysMoored (Some before) None = ⊥
-StaysMoored (Some before) (Some now) = (now.place ≡ before.place) × (IsQuiet before.port → IsQuiet now.port)
+-- whatever may be hinted at a place is listed
+abbrev pub IsHeeded : List Station → Slab BerthSeen → List ℕ → Place → Type 0
+IsHeeded stations made keys p = IfSome (station_at stations p) (λ s. heeds made keys s s.base ≡ true)
+
+-- a further port can be taken in, and its key be listed
+pub record HasBerth (made : Slab BerthSeen) (listed : KeyTable) : Type 0 where
+  pub room : HasRoomFor made 1
+  pub covered : made.vacant_key < listed.covered
+
+-- each place has its port, and is listed where that may hint at a disarmed half
+pub record IsSound (stations : List Station) (made : Slab BerthSeen) (listed : KeyTable) : Type 0 where
+  pub berthed : AreBerthed stations made listed.covered
+  pub heeded : (p : Place) → IsHeeded stations made listed.keys p
+
+-- the same, but for what may be hinted at this place
+pub record IsSoundBut (place : Place) (stations : List Station) (made : Slab BerthSeen) (listed : KeyTable) : Type 0 where
+  pub berthed : AreBerthed stations made listed.covered
+  pub heeded : (p : Place) → same_place place p ≡ false → IsHeeded stations made listed.keys p

@@ -2,4 +2,5 @@ pub mod Bases
 pub mod Causes
 pub mod Changes
 pub mod Footing
+pub mod Keys
 pub mod Stations

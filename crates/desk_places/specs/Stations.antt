@@ -8,11 +8,12 @@ use Rattle.relay_model.specs.Places.{same_place}
 use Rattle.relay_model.specs.Holding.{Hold, Free}
 use Rattle.world_trait.specs.HoldTables.{hold_of}
 use Rattle.world_trait.specs.declared.tables.Standing.TheVariants as standings
+use Rattle.desk_ports.specs.Bases.{is_standard}
 use Rattle.desk_ports.specs.declared.bases.Base.{Base}
 use Rattle.desk_places.specs.declared.stations.Station.{Station}
 
--- the held places in the order of their sessions, those of them that are asked for hints, and how many more places there
--- is room for
+-- the held places in the order of their sessions, those of them on standard streams, and how many more places there is
+-- room for
 pub record StationTable : Type 0 where
   pub entries : List Station
   pub asked : List Place
@@ -31,17 +32,13 @@ hold_by (Some station) = hold_of station.standing
 abbrev pub hold_at : List Station → Place → Hold
 hold_at stations p = hold_by (station_at stations p)
 
+-- what a station stands on
+abbrev pub base_by : Option Station → Option Base
+base_by slot = option_map (λ s. s.base) slot
+
 -- what a place stands on
 abbrev pub base_at : List Station → Place → Option Base
-base_at stations p = option_map (λ s. s.base) (station_at stations p)
-
--- the same, and whether the place is asked for hints
-abbrev pub footing_by : Option Station → Option (Base × Bool)
-footing_by slot = option_map (λ s. (s.base, s.asked)) slot
-
--- what a place stands on, and whether its child was asked for
-abbrev pub footing_at : List Station → Place → Option (Base × Bool)
-footing_at stations p = footing_by (station_at stations p)
+base_at stations p = base_by (station_at stations p)
 
 -- the place has this station, or none, and every other place what it had
 abbrev pub SetsStation : Place → Option Station → (Place → Option Station) → (Place → Option Station) → Type 0
@@ -86,12 +83,12 @@ abbrev pub is_listed : Place → List Place → Bool
 is_listed p [] = false
 is_listed p (x ∷ xs) = same_place x p || is_listed p xs
 
--- whether a place of this station is listed, if it is asked for hints
+-- whether a place of this station is listed, if it is on standard streams
 abbrev pub listed_so : Option Station → Place → List Place → Bool
 listed_so None p places = true
-listed_so (Some station) p places = not station.asked || is_listed p places
+listed_so (Some station) p places = not (is_standard station.base) || is_listed p places
 
--- each place that is asked for hints is listed
+-- each place on standard streams is listed
 abbrev pub AreListed : List Station → List Place → Type 0
 AreListed stations places = (p : Place) → listed_so (station_at stations p) p places ≡ true
 
@@ -101,4 +98,4 @@ SameHold before after = (p : Place) → after p ≡ before p
 
 -- every place stands on what it stood on
 abbrev pub SameFooting : List Station → List Station → Type 0
-SameFooting before after = (p : Place) → footing_at after p ≡ footing_at before p
+SameFooting before after = (p : Place) → base_at after p ≡ base_at before p

@@ -1,8 +1,10 @@
 // The held places of a desk, and what they stand on. Each call on a place is one call on its port.
 #![tactic(auto)]
 
+mod keys;
 mod ports;
 mod stations;
 
+pub use keys::KeySet;
 pub use ports::Ports;
 pub use stations::{Station, Stations};

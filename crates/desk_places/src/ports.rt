@@ -1,7 +1,8 @@
-// The ports that held places stand on, and those that closed places left. Each call on a place is one call on its port.
-ghost use Rattle.std.specs.Prelude.{◌≡◌, ℕ, None, ◌<◌, ◌≤◌, ◌+◌, ◌&&◌, ◌∷◌, [], Some, if◌then◌else◌, true, false, length, vec_len, vec_capacity, option_map, find, position, ◌⊎◌, IfSome, IfNone, OnOk, MatchOption};
+// The ports that held places stand on, and those that closed places left. Each call on a place is one call on its port,
+// after which the port is listed where it may hint.
+ghost use Rattle.std.specs.Prelude.{◌≡◌, ◌≢◌, ℕ, List, None, ◌<◌, ◌≤◌, ◌+◌, ◌&&◌, ◌||◌, ◌∷◌, [], Some, if◌then◌else◌, true, false, length, vec_len, vec_capacity, option_map, find, position, ◌⊎◌, IfSome, IfNone, OnOk, MatchOption};
 ghost use Rattle.std.specs.List.{remove};
-ghost use Rattle.slab.specs.Slab.{HasRoomFor, SameValues, Updates, get};
+ghost use Rattle.slab.specs.Slab.{SameValues, Updates, get};
 ghost use Rattle.desk_ports.specs.declared.bases.Base.TheVariants as bases;
 ghost use Rattle.relay_model.specs.Holding.{Free, Open, Settling, is_free, is_open};
 ghost use Rattle.relay_model.specs.Places.{same_place};
@@ -15,24 +16,29 @@ ghost use Rattle.desk_ports.specs.Harbors.{AtErrors, AtInput, AtMade, AtOutput, 
 ghost use Rattle.desk_ports.specs.Answers.{GotFits, SaidSo, TookFits, is_got_not_yet, is_took_not_yet, is_unsaid};
 ghost use Rattle.desk_places.specs.Changes.{HeldAfter, HeldSo, LeavesParent, LeftSo, ReapsKept, SettlesMade, SettlesSo, is_finished, joined_answer, made_at, shut_answer};
 ghost use Rattle.desk_places.specs.Bases.{AcceptsOn, BeginsOn, Leaves, ListensOn, OpensOn, SameBases, SettlesOn};
-ghost use Rattle.desk_places.specs.Footing.{IsSound};
+ghost use Rattle.desk_places.specs.Footing.{HasBerth, IsSound, IsSoundBut};
+ghost use Rattle.desk_places.specs.Keys.{is_in};
+ghost use Rattle.desk_places.specs.declared.stations.Station.{Station};
 ghost use Rattle.desk_ports.specs.Bases.{IsStandard, key_of, standard_of};
 ghost use Rattle.port_trait.specs.Streams.{finishes};
-ghost use Rattle.desk_places.specs.Stations.{SameHold, SetsStation, base_at, hold_at, shut_down, station_at, with_half};
+ghost use Rattle.desk_places.specs.Stations.{SameFooting, SameHold, SetsStation, base_at, hold_at, shut_down, station_at, with_half};
 
+use crate::keys::KeySet;
 use crate::stations::{Station, Stations};
 use desk_ports::{Base, Berth, Harbor, Standard, Stream, accept_at, is_final, standard_base};
 use port_trait::{
-    Begun, Got, Joining, MadePeer, Maker, Making, Port, PortReap, Settled, Shutting, Took,
+    Begun, Got, Hint, Joining, MadePeer, Maker, Making, Port, PortReap, Settled, Shutting, Took,
 };
 use relay_model::{Half, NoMemory, Peer, Place, Shut, Single, Why};
 use std::alloc::Global;
 use world_trait::{AcceptAnswer, ListenAnswer, OpenAnswer, Standing};
 
-/// All ports, the maker of those that are made, and the ports with a child that closed places left, the last one first.
+/// All ports, the keys of those that may hint at a disarmed half, the maker of those that are made, and the ports with a
+/// child that closed places left, the last one first.
 #[derive(Drop)]
 pub struct Ports<M: Maker + Drop, I: Port, O: Port, E: Port> {
     pub harbor: Harbor<M::Made, I, O, E>,
+    pub listed: KeySet,
     pub maker: M,
     pub parents: Vec<Berth<M::Made>>,
 }
@@ -49,6 +55,7 @@ impl<M: Maker + Drop, I: Port, O: Port, E: Port> Ports<M, I, O, E> {
     {
         Ports {
             harbor: Harbor::new(alloc, standard),
+            listed: KeySet::new(alloc),
             maker,
             parents: Vec::new(alloc),
         }
@@ -62,6 +69,7 @@ impl<M: Maker + Drop, I: Port, O: Port, E: Port> Ports<M, I, O, E> {
     {
         let Ports {
             harbor,
+            listed: _,
             maker: _,
             parents: _,
         } = self;
@@ -69,18 +77,55 @@ impl<M: Maker + Drop, I: Port, O: Port, E: Port> Ports<M, I, O, E> {
     }
 
     /// Makes room for one further port, and for keeping this many made ports after their places.
+    #[tactic(auto, using(crate::proofs::SoundLemmas::sound_kept))]
     pub fn reserve(&mut self, kept: usize) -> Result<(), NoMemory>
-        ensures made_room { OnOk result (HasRoomFor self.new.harbor.made 1) }
+        ensures made_room { OnOk result (HasBerth self.new.harbor.made self.new.listed) }
         ensures parents_room { OnOk result (kept + vec_len self.new.parents ≤ vec_capacity self.new.parents) }
         ensures streams { (self.new.harbor.input ≡ self.old.harbor.input) × (self.new.harbor.output ≡ self.old.harbor.output) × (self.new.harbor.errors ≡ self.old.harbor.errors) }
         ensures made { SameValues self.old.harbor.made self.new.harbor.made }
+        ensures sound { (stations : List Station) → IsSound stations self.old.harbor.made self.old.listed → IsSound stations self.new.harbor.made self.new.listed }
         ensures parents { self.new.parents.items ≡ self.old.parents.items }
         ensures capacity { vec_capacity self.old.parents ≤ vec_capacity self.new.parents }
         ensures maker { self.new.maker ≡ self.old.maker }
     {
         self.harbor.reserve()?;
+        self.listed.cover(self.harbor.next_key())?;
         self.parents.reserve(kept)?;
         Ok(())
+    }
+
+    /// Lists the made port of the place where it may hint at a disarmed half, and lists it no longer where it may not.
+    fn list(&mut self, stations: &Stations, place: Place)
+        ensures sound { IsSoundBut place stations.now.entries self.old.harbor.made self.old.listed → IsSound stations.now.entries self.new.harbor.made self.new.listed }
+        ensures harbor { self.new.harbor ≡ self.old.harbor }
+        ensures maker { self.new.maker ≡ self.old.maker }
+        ensures parents { self.new.parents ≡ self.old.parents }
+        ensures covered { self.new.listed.covered ≡ self.old.listed.covered }
+    {
+        let Some(station) = stations.find(place) else {
+            return;
+        };
+        let Some(key) = station.base.made_key() else {
+            return;
+        };
+        let may = self.harbor.may_hint(key);
+        self.listed.set(key, is_awaited(station, may));
+    }
+
+    /// Disarms the half of the place, or arms it, and lists its port accordingly.
+    fn mark(&mut self, stations: &mut Stations, place: Place, half: Half, disarmed: bool)
+        ensures sound { IsSoundBut place stations.new.entries self.old.harbor.made self.old.listed → IsSound stations.new.entries self.new.harbor.made self.new.listed }
+        ensures set { SetsStation place (option_map (with_half half disarmed) (station_at stations.old.entries place)) (station_at stations.old.entries) (station_at stations.new.entries) }
+        ensures held { SameHold (hold_at stations.old.entries) (hold_at stations.new.entries) }
+        ensures footing { SameFooting stations.old.entries stations.new.entries }
+        ensures len { length stations.new.entries ≡ length stations.old.entries }
+        ensures harbor { self.new.harbor ≡ self.old.harbor }
+        ensures maker { self.new.maker ≡ self.old.maker }
+        ensures parents { self.new.parents ≡ self.old.parents }
+        ensures covered { self.new.listed.covered ≡ self.old.listed.covered }
+    {
+        stations.mark(place, half, disarmed);
+        self.list(stations, place);
     }
 
     /// Begins the new port, which goes to its key, and holds the place. A port that doesn't begin is dropped.
@@ -93,11 +138,11 @@ impl<M: Maker + Drop, I: Port, O: Port, E: Port> Ports<M, I, O, E> {
     ) -> Begun
         requires free { hold_at stations.old.entries place ≡ Free }
         requires stations_room { 0 < stations.old.spare }
-        requires made_room { HasRoomFor self.old.harbor.made 1 }
+        requires made_room { HasBerth self.old.harbor.made self.old.listed }
         ensures cause { BeginCause result }
         ensures streams { (self.new.harbor.input ≡ self.old.harbor.input) × (self.new.harbor.output ≡ self.old.harbor.output) × (self.new.harbor.errors ≡ self.old.harbor.errors) }
         ensures bases { BeginsOn place (base_at stations.old.entries) (base_at stations.new.entries) result }
-        ensures sound { IsSound stations.old.entries self.old.harbor.made → IsSound stations.new.entries self.new.harbor.made }
+        ensures sound { IsSound stations.old.entries self.old.harbor.made self.old.listed → IsSound stations.new.entries self.new.harbor.made self.new.listed }
         ensures held { HeldSo result settling place (hold_at stations.old.entries) (hold_at stations.new.entries) }
         ensures one_more { length stations.new.entries ≤ length stations.old.entries + 1 }
         ensures maker { self.new.maker ≡ self.old.maker }
@@ -109,13 +154,9 @@ impl<M: Maker + Drop, I: Port, O: Port, E: Port> Ports<M, I, O, E> {
             Begun::Failed => return Begun::Failed,
             Begun::Memory => return Begun::Memory,
         }
-        let asked = berth.may_hint();
         let base = Base::Made(self.harbor.moor(berth));
-        if settling {
-            stations.add(Station::settling(place, base, asked));
-            return Begun::Begun;
-        }
-        stations.add(Station::open(place, base, asked));
+        stations.add(Station::begun(place, base, settling));
+        self.list(stations, place);
         Begun::Begun
     }
 
@@ -129,7 +170,7 @@ impl<M: Maker + Drop, I: Port, O: Port, E: Port> Ports<M, I, O, E> {
     ) -> OpenAnswer
         requires free { hold_at stations.old.entries place ≡ Free }
         requires stations_room { 0 < stations.old.spare }
-        requires made_room { HasRoomFor self.old.harbor.made 1 }
+        requires made_room { HasBerth self.old.harbor.made self.old.listed }
         ensures standard { IfSome (standard_of place single.now.target) (λ base. StandardCause (Rose self.old.harbor.input.port.counts.faults self.new.harbor.input.port.counts.faults
             ⊎ (Rose self.old.harbor.output.port.counts.faults self.new.harbor.output.port.counts.faults
             ⊎ Rose self.old.harbor.errors.port.counts.faults self.new.harbor.errors.port.counts.faults)) result) }
@@ -141,7 +182,7 @@ impl<M: Maker + Drop, I: Port, O: Port, E: Port> Ports<M, I, O, E> {
         ensures errors { MovesNothing self.old.harbor.errors.port self.new.harbor.errors.port }
         ensures ended { (self.new.harbor.input.port.ended ≡ self.old.harbor.input.port.ended) × (self.new.harbor.output.port.ended ≡ self.old.harbor.output.port.ended) × (self.new.harbor.errors.port.ended ≡ self.old.harbor.errors.port.ended) }
         ensures bases { OpensOn (standard_of place single.now.target) place (base_at stations.old.entries) (base_at stations.new.entries) result }
-        ensures sound { IsSound stations.old.entries self.old.harbor.made → IsSound stations.new.entries self.new.harbor.made }
+        ensures sound { IsSound stations.old.entries self.old.harbor.made self.old.listed → IsSound stations.new.entries self.new.harbor.made self.new.listed }
         ensures held { HeldAfter (open_act place result) (hold_at stations.old.entries) (hold_at stations.new.entries) }
         ensures one_more { length stations.new.entries ≤ length stations.old.entries + 1 }
         ensures parents { self.new.parents ≡ self.old.parents }
@@ -165,14 +206,14 @@ impl<M: Maker + Drop, I: Port, O: Port, E: Port> Ports<M, I, O, E> {
         ensures errors { MovesNothing self.old.harbor.errors.port self.new.harbor.errors.port }
         ensures ended { (self.new.harbor.input.port.ended ≡ self.old.harbor.input.port.ended) × (self.new.harbor.output.port.ended ≡ self.old.harbor.output.port.ended) × (self.new.harbor.errors.port.ended ≡ self.old.harbor.errors.port.ended) }
         ensures bases { OpensOn (Some base) place (base_at stations.old.entries) (base_at stations.new.entries) result }
-        ensures sound { IsSound stations.old.entries self.old.harbor.made → IsSound stations.new.entries self.new.harbor.made }
+        ensures sound { IsSound stations.old.entries self.old.harbor.made self.old.listed → IsSound stations.new.entries self.new.harbor.made self.new.listed }
         ensures held { HeldAfter (open_act place result) (hold_at stations.old.entries) (hold_at stations.new.entries) }
         ensures one_more { length stations.new.entries ≤ length stations.old.entries + 1 }
         ensures parents { self.new.parents ≡ self.old.parents }
     {
         match self.harbor.begin(base) {
             Begun::Begun => {
-                stations.add(Station::open(place, base, true));
+                stations.add(Station::open(place, base));
                 OpenAnswer::Opened
             }
             Begun::Failed => OpenAnswer::Failed,
@@ -189,13 +230,13 @@ impl<M: Maker + Drop, I: Port, O: Port, E: Port> Ports<M, I, O, E> {
     ) -> OpenAnswer
         requires free { hold_at stations.old.entries place ≡ Free }
         requires stations_room { 0 < stations.old.spare }
-        requires made_room { HasRoomFor self.old.harbor.made 1 }
+        requires made_room { HasBerth self.old.harbor.made self.old.listed }
         ensures cause { OpenCause (M.faults self.old.maker) (M.faults self.new.maker) (M.stalls self.old.maker) (M.stalls self.new.maker) result }
         ensures asked { AskedFor place single.now behind (M.asked self.new.maker) }
         ensures came { M.came self.new.maker ≡ M.came self.old.maker }
         ensures streams { (self.new.harbor.input ≡ self.old.harbor.input) × (self.new.harbor.output ≡ self.old.harbor.output) × (self.new.harbor.errors ≡ self.old.harbor.errors) }
         ensures bases { OpensOn None place (base_at stations.old.entries) (base_at stations.new.entries) result }
-        ensures sound { IsSound stations.old.entries self.old.harbor.made → IsSound stations.new.entries self.new.harbor.made }
+        ensures sound { IsSound stations.old.entries self.old.harbor.made self.old.listed → IsSound stations.new.entries self.new.harbor.made self.new.listed }
         ensures held { HeldAfter (open_act place result) (hold_at stations.old.entries) (hold_at stations.new.entries) }
         ensures one_more { length stations.new.entries ≤ length stations.old.entries + 1 }
         ensures parents { self.new.parents ≡ self.old.parents }
@@ -235,7 +276,7 @@ impl<M: Maker + Drop, I: Port, O: Port, E: Port> Ports<M, I, O, E> {
             (self.new.harbor.made ≡ self.old.harbor.made)) }
         ensures maker { self.new.maker ≡ self.old.maker }
         ensures bases { SettlesOn place (base_at stations.old.entries) (base_at stations.new.entries) result }
-        ensures sound { IsSound stations.old.entries self.old.harbor.made → IsSound stations.new.entries self.new.harbor.made }
+        ensures sound { IsSound stations.old.entries self.old.harbor.made self.old.listed → IsSound stations.new.entries self.new.harbor.made self.new.listed }
         ensures held { HeldAfter (open_act place result) (hold_at stations.old.entries) (hold_at stations.new.entries) }
         ensures no_more { length stations.new.entries ≤ length stations.old.entries }
         ensures room { length stations.new.entries + vec_len self.new.parents ≤ length stations.old.entries + vec_len self.old.parents }
@@ -244,11 +285,13 @@ impl<M: Maker + Drop, I: Port, O: Port, E: Port> Ports<M, I, O, E> {
         let station = stations.held(place);
         match self.harbor.settle(station.base) {
             Settled::Ready => {
-                stations.replace(Station::open(place, station.base, station.asked));
+                stations.replace(Station::open(place, station.base));
+                self.list(stations, place);
                 OpenAnswer::Opened
             }
             Settled::NotYet => {
-                stations.replace(Station::settling(place, station.base, station.asked));
+                stations.replace(Station::settling(place, station.base));
+                self.list(stations, place);
                 OpenAnswer::Later
             }
             Settled::Failed => {
@@ -262,12 +305,12 @@ impl<M: Maker + Drop, I: Port, O: Port, E: Port> Ports<M, I, O, E> {
     pub fn listen(&mut self, stations: &mut Stations, door: Place, single: &Single) -> ListenAnswer
         requires free { hold_at stations.old.entries door ≡ Free }
         requires stations_room { 0 < stations.old.spare }
-        requires made_room { HasRoomFor self.old.harbor.made 1 }
+        requires made_room { HasBerth self.old.harbor.made self.old.listed }
         ensures cause { ListenCause (M.faults self.old.maker) (M.faults self.new.maker) result }
         ensures came { M.came self.new.maker ≡ M.came self.old.maker }
         ensures streams { (self.new.harbor.input ≡ self.old.harbor.input) × (self.new.harbor.output ≡ self.old.harbor.output) × (self.new.harbor.errors ≡ self.old.harbor.errors) }
         ensures bases { ListensOn door (base_at stations.old.entries) (base_at stations.new.entries) result }
-        ensures sound { IsSound stations.old.entries self.old.harbor.made → IsSound stations.new.entries self.new.harbor.made }
+        ensures sound { IsSound stations.old.entries self.old.harbor.made self.old.listed → IsSound stations.new.entries self.new.harbor.made self.new.listed }
         ensures held { HeldAfter (listen_act door result) (hold_at stations.old.entries) (hold_at stations.new.entries) }
         ensures one_more { length stations.new.entries ≤ length stations.old.entries + 1 }
         ensures parents { self.new.parents ≡ self.old.parents }
@@ -291,11 +334,11 @@ impl<M: Maker + Drop, I: Port, O: Port, E: Port> Ports<M, I, O, E> {
         requires door { hold_at stations.old.entries door ≡ Open }
         requires free { hold_at stations.old.entries place ≡ Free }
         requires stations_room { 0 < stations.old.spare }
-        requires made_room { HasRoomFor self.old.harbor.made 1 }
+        requires made_room { HasBerth self.old.harbor.made self.old.listed }
         ensures cause { AcceptCause (M.faults self.old.maker) (M.faults self.new.maker) (M.stalls self.old.maker) (M.stalls self.new.maker) (M.came self.new.maker) result }
         ensures streams { (self.new.harbor.input ≡ self.old.harbor.input) × (self.new.harbor.output ≡ self.old.harbor.output) × (self.new.harbor.errors ≡ self.old.harbor.errors) }
         ensures bases { AcceptsOn place (base_at stations.old.entries) (base_at stations.new.entries) result }
-        ensures sound { IsSound stations.old.entries self.old.harbor.made → IsSound stations.new.entries self.new.harbor.made }
+        ensures sound { IsSound stations.old.entries self.old.harbor.made self.old.listed → IsSound stations.new.entries self.new.harbor.made self.new.listed }
         ensures held { HeldAfter (accept_act door place result) (hold_at stations.old.entries) (hold_at stations.new.entries) }
         ensures one_more { length stations.new.entries ≤ length stations.old.entries + 1 }
         ensures parents { self.new.parents ≡ self.old.parents }
@@ -305,14 +348,16 @@ impl<M: Maker + Drop, I: Port, O: Port, E: Port> Ports<M, I, O, E> {
             return AcceptAnswer::Memory;
         };
         let key = self.harbor.next_key();
-        match accept_at(&mut self.harbor, &mut self.maker, door_key, key) {
+        let taken = accept_at(&mut self.harbor, &mut self.maker, door_key, key);
+        self.list(stations, door);
+        match taken {
             MadePeer::Came(port, peer) => self.welcome(stations, door, place, port, peer),
             MadePeer::NoPeer => {
-                stations.mark(door, Half::ToRead, true);
+                self.mark(stations, door, Half::ToRead, true);
                 AcceptAnswer::NoPeer
             }
             MadePeer::Failed => {
-                stations.mark(door, Half::ToRead, false);
+                self.mark(stations, door, Half::ToRead, false);
                 AcceptAnswer::Failed
             }
             MadePeer::Memory => AcceptAnswer::Memory,
@@ -330,23 +375,23 @@ impl<M: Maker + Drop, I: Port, O: Port, E: Port> Ports<M, I, O, E> {
     ) -> AcceptAnswer
         requires free { hold_at stations.old.entries place ≡ Free }
         requires stations_room { 0 < stations.old.spare }
-        requires made_room { HasRoomFor self.old.harbor.made 1 }
+        requires made_room { HasBerth self.old.harbor.made self.old.listed }
         ensures cause { WelcomeCause peer result }
         ensures maker { self.new.maker ≡ self.old.maker }
         ensures streams { (self.new.harbor.input ≡ self.old.harbor.input) × (self.new.harbor.output ≡ self.old.harbor.output) × (self.new.harbor.errors ≡ self.old.harbor.errors) }
         ensures bases { AcceptsOn place (base_at stations.old.entries) (base_at stations.new.entries) result }
-        ensures sound { IsSound stations.old.entries self.old.harbor.made → IsSound stations.new.entries self.new.harbor.made }
+        ensures sound { IsSound stations.old.entries self.old.harbor.made self.old.listed → IsSound stations.new.entries self.new.harbor.made self.new.listed }
         ensures held { HeldAfter (accept_act door place result) (hold_at stations.old.entries) (hold_at stations.new.entries) }
         ensures one_more { length stations.new.entries ≤ length stations.old.entries + 1 }
         ensures parents { self.new.parents ≡ self.old.parents }
     {
         match self.moor(stations, place, port, false) {
             Begun::Begun => {
-                stations.mark(door, Half::ToRead, false);
+                self.mark(stations, door, Half::ToRead, false);
                 AcceptAnswer::Accepted(peer)
             }
             Begun::Failed => {
-                stations.mark(door, Half::ToRead, false);
+                self.mark(stations, door, Half::ToRead, false);
                 AcceptAnswer::Failed
             }
             Begun::Memory => AcceptAnswer::Memory,
@@ -372,14 +417,14 @@ impl<M: Maker + Drop, I: Port, O: Port, E: Port> Ports<M, I, O, E> {
             (self.new.harbor.made ≡ self.old.harbor.made)) }
         ensures marks { SetsStation place (option_map (with_half ToRead (is_got_not_yet result)) (station_at stations.old.entries place)) (station_at stations.old.entries) (station_at stations.new.entries) }
         ensures bases { SameBases (base_at stations.old.entries) (base_at stations.new.entries) }
-        ensures sound { IsSound stations.old.entries self.old.harbor.made → IsSound stations.new.entries self.new.harbor.made }
+        ensures sound { IsSound stations.old.entries self.old.harbor.made self.old.listed → IsSound stations.new.entries self.new.harbor.made self.new.listed }
         ensures held { SameHold (hold_at stations.old.entries) (hold_at stations.new.entries) }
         ensures no_more { length stations.new.entries ≤ length stations.old.entries }
         ensures parents { self.new.parents ≡ self.old.parents }
     {
         let station = stations.held(place);
         let got = self.harbor.read(station.base, into);
-        stations.mark(place, Half::ToRead, gave_not_yet(got));
+        self.mark(stations, place, Half::ToRead, gave_not_yet(got));
         got
     }
 
@@ -402,14 +447,14 @@ impl<M: Maker + Drop, I: Port, O: Port, E: Port> Ports<M, I, O, E> {
             (self.new.harbor.made ≡ self.old.harbor.made)) }
         ensures marks { SetsStation place (option_map (with_half ToWrite (is_took_not_yet result)) (station_at stations.old.entries place)) (station_at stations.old.entries) (station_at stations.new.entries) }
         ensures bases { SameBases (base_at stations.old.entries) (base_at stations.new.entries) }
-        ensures sound { IsSound stations.old.entries self.old.harbor.made → IsSound stations.new.entries self.new.harbor.made }
+        ensures sound { IsSound stations.old.entries self.old.harbor.made self.old.listed → IsSound stations.new.entries self.new.harbor.made self.new.listed }
         ensures held { SameHold (hold_at stations.old.entries) (hold_at stations.new.entries) }
         ensures no_more { length stations.new.entries ≤ length stations.old.entries }
         ensures parents { self.new.parents ≡ self.old.parents }
     {
         let station = stations.held(place);
         let took = self.harbor.write(station.base, bytes);
-        stations.mark(place, Half::ToWrite, took_not_yet(took));
+        self.mark(stations, place, Half::ToWrite, took_not_yet(took));
         took
     }
 
@@ -431,14 +476,14 @@ impl<M: Maker + Drop, I: Port, O: Port, E: Port> Ports<M, I, O, E> {
             (self.new.harbor.made ≡ self.old.harbor.made)) }
         ensures marks { SetsStation place (option_map (with_half ToWrite (is_took_not_yet result)) (station_at stations.old.entries place)) (station_at stations.old.entries) (station_at stations.new.entries) }
         ensures bases { SameBases (base_at stations.old.entries) (base_at stations.new.entries) }
-        ensures sound { IsSound stations.old.entries self.old.harbor.made → IsSound stations.new.entries self.new.harbor.made }
+        ensures sound { IsSound stations.old.entries self.old.harbor.made self.old.listed → IsSound stations.new.entries self.new.harbor.made self.new.listed }
         ensures held { SameHold (hold_at stations.old.entries) (hold_at stations.new.entries) }
         ensures no_more { length stations.new.entries ≤ length stations.old.entries }
         ensures parents { self.new.parents ≡ self.old.parents }
     {
         let station = stations.held(place);
         let took = self.harbor.send(station.base, bytes);
-        stations.mark(place, Half::ToWrite, took_not_yet(took));
+        self.mark(stations, place, Half::ToWrite, took_not_yet(took));
         took
     }
 
@@ -458,7 +503,7 @@ impl<M: Maker + Drop, I: Port, O: Port, E: Port> Ports<M, I, O, E> {
             (λ key. MadeCall self.old.harbor.made self.new.harbor.made key (λ old new. Shuts old new how result))
             (self.new.harbor.made ≡ self.old.harbor.made)) }
         ensures bases { SameBases (base_at stations.old.entries) (base_at stations.new.entries) }
-        ensures sound { IsSound stations.old.entries self.old.harbor.made → IsSound stations.new.entries self.new.harbor.made }
+        ensures sound { IsSound stations.old.entries self.old.harbor.made self.old.listed → IsSound stations.new.entries self.new.harbor.made self.new.listed }
         ensures station { SetsStation place (option_map (shut_down (finishes how)) (station_at stations.old.entries place)) (station_at stations.old.entries) (station_at stations.new.entries) }
         ensures held { HeldAfter (shut_act place how (shut_answer result)) (hold_at stations.old.entries) (hold_at stations.new.entries) }
         ensures no_more { length stations.new.entries ≤ length stations.old.entries }
@@ -472,6 +517,7 @@ impl<M: Maker + Drop, I: Port, O: Port, E: Port> Ports<M, I, O, E> {
             finished: is_final(how),
             ..station
         });
+        self.list(stations, place);
         answer
     }
 
@@ -485,7 +531,7 @@ impl<M: Maker + Drop, I: Port, O: Port, E: Port> Ports<M, I, O, E> {
         ensures others { (key : ℕ) → (base_at stations.old.entries place ≡ Some (bases.Made key) → ⊥) → get self.new.harbor.made key ≡ get self.old.harbor.made key }
         ensures maker { self.new.maker ≡ self.old.maker }
         ensures bases { Leaves place (base_at stations.old.entries) (base_at stations.new.entries) }
-        ensures sound { IsSound stations.old.entries self.old.harbor.made → IsSound stations.new.entries self.new.harbor.made }
+        ensures sound { IsSound stations.old.entries self.old.harbor.made self.old.listed → IsSound stations.new.entries self.new.harbor.made self.new.listed }
         ensures joined { IfSome (station_at stations.old.entries place) (λ s. result ≡ joined_answer (s.finished && is_finished why) (made_at self.old.harbor.made s.base)) }
         ensures parents { IfSome (station_at stations.old.entries place) (λ s. LeavesParent (s.finished && is_finished why) (made_at self.old.harbor.made s.base) self.old.parents.items self.new.parents.items) }
         ensures held { HeldAfter (close_act place why) (hold_at stations.old.entries) (hold_at stations.new.entries) }
@@ -514,7 +560,7 @@ impl<M: Maker + Drop, I: Port, O: Port, E: Port> Ports<M, I, O, E> {
         ensures standard { key_of base ≡ None → self.new.harbor.made ≡ self.old.harbor.made }
         ensures maker { self.new.maker ≡ self.old.maker }
         ensures bases { Leaves place (base_at stations.old.entries) (base_at stations.new.entries) }
-        ensures sound { IsSound stations.old.entries self.old.harbor.made → IsSound stations.new.entries self.new.harbor.made }
+        ensures sound { IsSoundBut place stations.old.entries self.old.harbor.made self.old.listed → IsSound stations.new.entries self.new.harbor.made self.new.listed }
         ensures joined { result ≡ joined_answer joined (made_at self.old.harbor.made base) }
         ensures parents { LeavesParent joined (made_at self.old.harbor.made base) self.old.parents.items self.new.parents.items }
         ensures held { (p : Place) → hold_at stations.new.entries p ≡ (if same_place place p then Free else hold_at stations.old.entries p) }
@@ -529,17 +575,20 @@ impl<M: Maker + Drop, I: Port, O: Port, E: Port> Ports<M, I, O, E> {
         }
     }
 
-    /// Lets the made port of the key go.
+    /// Lets the made port of the key go, which is listed no longer.
     fn let_go(&mut self, key: usize, joined: bool) -> Option<Joining>
         requires parents_room { vec_len self.old.parents < vec_capacity self.old.parents }
         ensures streams { (self.new.harbor.input ≡ self.old.harbor.input) × (self.new.harbor.output ≡ self.old.harbor.output) × (self.new.harbor.errors ≡ self.old.harbor.errors) }
         ensures made { Updates self.old.harbor.made self.new.harbor.made key None }
+        ensures listed { (other : ℕ) → other ≢ key → is_in other self.new.listed.keys ≡ is_in other self.old.listed.keys }
+        ensures covered { self.new.listed.covered ≡ self.old.listed.covered }
         ensures joined { result ≡ joined_answer joined (get self.old.harbor.made key) }
         ensures parents { LeavesParent joined (get self.old.harbor.made key) self.old.parents.items self.new.parents.items }
         ensures room { vec_len self.new.parents ≤ vec_len self.old.parents + 1 }
         ensures capacity { vec_capacity self.new.parents ≡ vec_capacity self.old.parents }
         ensures maker { self.new.maker ≡ self.old.maker }
     {
+        self.listed.set(key, false);
         match self.harbor.cast_off(key) {
             None => None,
             Some(mut berth) => {
@@ -554,6 +603,7 @@ impl<M: Maker + Drop, I: Port, O: Port, E: Port> Ports<M, I, O, E> {
     /// there is no child.
     pub fn reap(&mut self, place: Place) -> PortReap
         ensures streams { (self.new.harbor ≡ self.old.harbor) × (self.new.maker ≡ self.old.maker) }
+        ensures listed { self.new.listed ≡ self.old.listed }
         ensures reaped { ReapsKept (find (λ b. same_place b.place place) self.old.parents.items) result }
         ensures dropped { MatchOption (position (λ b. same_place b.place place) self.old.parents.items) (self.new.parents ≡ self.old.parents) (λ i. self.new.parents.items ≡ remove self.old.parents.items i) }
         ensures room { vec_len self.new.parents ≤ vec_len self.old.parents }
@@ -571,6 +621,7 @@ impl<M: Maker + Drop, I: Port, O: Port, E: Port> Ports<M, I, O, E> {
     /// Writes the whole text to standard error, which is begun first. None where there is no memory to begin it.
     pub fn note(&mut self, text: &[u8]) -> Option<Took>
         ensures made { self.new.harbor.made ≡ self.old.harbor.made }
+        ensures listed { self.new.listed ≡ self.old.listed }
         ensures parents { self.new.parents ≡ self.old.parents }
         ensures streams { (self.new.harbor.input ≡ self.old.harbor.input) × (self.new.harbor.output ≡ self.old.harbor.output) }
         ensures said { SaidSo result
@@ -586,6 +637,13 @@ impl<M: Maker + Drop, I: Port, O: Port, E: Port> Ports<M, I, O, E> {
     {
         self.harbor.note(text)
     }
+}
+
+/// Whether the port of the station may hint at a half that is disarmed.
+fn is_awaited(station: Station, may: Hint) -> bool
+    ensures { result ≡ ((station.reading_disarmed && may.readable) || (station.writing_disarmed && may.writable)) }
+{
+    (station.reading_disarmed && may.readable) || (station.writing_disarmed && may.writable)
 }
 
 /// Joins the port where that is to be done, and tells what that answered.

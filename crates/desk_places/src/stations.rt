@@ -1,11 +1,11 @@
 // What each held place stands on.
 ghost use Rattle.std.specs.Prelude.{◌≡◌, ◌++◌, ◌∷◌, vec_len, vec_capacity, if◌then◌else◌, ◌<◌, ◌≤◌, ◌+◌, ◌-◌, ◌^◌, [], None, Some, true, false, is_some, IfSome, IfNone, length, option_map, position, slice_get, OnOk, MatchOption};
 ghost use Rattle.relay_model.specs.Places.{same_place};
-ghost use Rattle.relay_model.specs.Holding.{is_free};
+ghost use Rattle.relay_model.specs.Holding.{Open, Settling, is_free};
 ghost use Rattle.world_trait.specs.HoldTables.{SetsHold};
-ghost use Rattle.desk_ports.specs.Bases.{key_of};
+ghost use Rattle.desk_ports.specs.Bases.{is_standard, key_of};
 ghost use Rattle.desk_ports.specs.declared.bases.Base.TheVariants as bases;
-ghost use Rattle.desk_places.specs.Stations.{AreInOrder, AreListed, IsFirstOf, IsStartOf, SameFooting, SameHold, SetsStation, base_at, footing_at, hold_at, hold_by, station_at, with_half};
+ghost use Rattle.desk_places.specs.Stations.{AreInOrder, AreListed, IsFirstOf, IsStartOf, SameFooting, SameHold, SetsStation, base_at, hold_at, hold_by, station_at, with_half};
 
 use desk_ports::Base;
 use relay_model::{Half, NoMemory, Place};
@@ -13,45 +13,55 @@ use std::alloc::Global;
 use std::marker::Model;
 use world_trait::Standing;
 
-/// A held place: what it stands on and how it stands, whether it was shut so that its output is finished, whether its
-/// ports may hint, and which of its halves are disarmed, that is, answered last that there is nothing yet.
+/// A held place: what it stands on and how it stands, whether it was shut so that its output is finished, and which of its
+/// halves are disarmed, that is, answered last that there is nothing yet.
 #[derive(Clone, Copy, Debug, PartialEq, Eq)]
 pub struct Station {
     pub place: Place,
     pub base: Base,
     pub standing: Standing,
     pub finished: bool,
-    pub asked: bool,
     pub reading_disarmed: bool,
     pub writing_disarmed: bool,
 }
 
 impl Station {
     /// An open place on this base.
-    pub fn open(place: Place, base: Base, asked: bool) -> Station
-        ensures { result ≡ record { place = place; base = base; standing = Standing.Open; finished = false; asked = asked; reading_disarmed = false; writing_disarmed = false } }
+    pub fn open(place: Place, base: Base) -> Station
+        ensures { result ≡ record { place = place; base = base; standing = Standing.Open; finished = false; reading_disarmed = false; writing_disarmed = false } }
     {
         Station {
             place,
             base,
             standing: Standing::Open,
             finished: false,
-            asked,
             reading_disarmed: false,
             writing_disarmed: false,
         }
     }
 
     /// A place on this base whose opening is under way.
-    pub fn settling(place: Place, base: Base, asked: bool) -> Station
-        ensures { result ≡ record { place = place; base = base; standing = Standing.Settling; finished = false; asked = asked; reading_disarmed = true; writing_disarmed = true } }
+    pub fn settling(place: Place, base: Base) -> Station
+        ensures { result ≡ record { place = place; base = base; standing = Standing.Settling; finished = false; reading_disarmed = true; writing_disarmed = true } }
     {
         Station {
             standing: Standing::Settling,
             reading_disarmed: true,
             writing_disarmed: true,
-            ..Station::open(place, base, asked)
+            ..Station::open(place, base)
         }
+    }
+
+    /// A place on this base, whose opening is under way or not.
+    pub fn begun(place: Place, base: Base, settling: bool) -> Station
+        ensures place { result.place ≡ place }
+        ensures base { result.base ≡ base }
+        ensures stands { hold_by (Some result) ≡ (if settling then Settling else Open) }
+    {
+        if settling {
+            return Station::settling(place, base);
+        }
+        Station::open(place, base)
     }
 
     /// The same with this half disarmed or not.
@@ -72,7 +82,7 @@ impl Station {
 }
 
 /// The held places, in the order of their sessions, so that one is found by a few comparisons. A place that isn't in the
-/// table is free. Those whose ports may hint are listed once more, so that a wait passes over all others.
+/// table is free. Those on standard streams are listed once more, since a wait asks them each time.
 #[derive(Debug, Drop)]
 pub struct Stations {
     entries: Vec<Station>,
@@ -109,7 +119,7 @@ impl Stations {
         self.entries.len()
     }
 
-    /// How many places are listed to be asked for hints, among them each held one whose ports may hint.
+    /// How many places are listed, among them each held one on standard streams.
     pub fn asked_len(&self) -> usize
         ensures len { result ≡ length self.now.asked }
         ensures listed { AreListed self.now.entries self.now.asked }
@@ -203,7 +213,7 @@ impl Stations {
 
     /// Puts the station in the stead of the one of its place, which stands on the same.
     pub fn replace(&mut self, station: Station)
-        requires { footing_at self.old.entries station.place ≡ Some (station.base, station.asked) }
+        requires { base_at self.old.entries station.place ≡ Some station.base }
         ensures set { SetsStation station.place (Some station) (station_at self.old.entries) (station_at self.new.entries) }
         ensures held { SetsHold station.place (hold_by (Some station)) (hold_at self.old.entries) (hold_at self.new.entries) }
         ensures footing { SameFooting self.old.entries self.new.entries }
@@ -227,12 +237,12 @@ impl Stations {
     }
 }
 
-/// Lists the place of the station where it is asked for hints. Takes no memory: the room was made before.
+/// Lists the place of the station where it is on standard streams. Takes no memory: the room was made before.
 fn list_asked(asked: &mut Vec<Place>, station: Station)
     requires { vec_len asked.old < vec_capacity asked.old }
-    ensures listed { asked.new.items ≡ (if station.asked then asked.old.items ++ station.place ∷ [] else asked.old.items) }
+    ensures listed { asked.new.items ≡ (if is_standard station.base then asked.old.items ++ station.place ∷ [] else asked.old.items) }
 {
-    if station.asked {
+    if station.base.is_standard() {
         asked.push_reserved(station.place);
     }
 }

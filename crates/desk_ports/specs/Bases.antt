@@ -1,5 +1,5 @@
 -- What a place stands on, by its address.
-use Rattle.std.specs.Prelude.{◌≡◌, ℕ, Bool, false, ◌==◌, ⊤, Option, None, Some}
+use Rattle.std.specs.Prelude.{◌≡◌, ℕ, Bool, true, false, ◌==◌, ⊤, Option, None, Some}
 use Rattle.relay_model.specs.declared.places.Place.{Place}
 use Rattle.relay_model.specs.declared.places.Part.{Part}
 use Rattle.relay_model.specs.declared.places.Part.TheVariants.{Both, Reading, Writing}
@@ -12,6 +12,14 @@ use Rattle.desk_ports.specs.declared.bases.Base.TheVariants as bases
 abbrev pub is_keyed : ℕ → Base → Bool
 is_keyed key (bases.Made other) = other == key
 is_keyed key base = false
+
+-- a standard stream, or two, as a test
+abbrev pub is_standard : Base → Bool
+is_standard (bases.Made key) = false
+is_standard bases.Input = true
+is_standard bases.Output = true
+is_standard bases.Both = true
+is_standard bases.Errors = true
 
 -- the key of the made port; none where it is a standard stream
 abbrev pub key_of : Base → Option ℕ

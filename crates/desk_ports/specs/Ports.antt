@@ -1,7 +1,6 @@
 -- What a port tells, and what each call on it does to that.
 use Rattle.std.specs.Prelude.{◌≡◌, ℕ, Bool, List, Option, IfSome, true}
 use Rattle.port_trait.specs.Counting.{Tallied}
-use Rattle.port_trait.specs.Hinting.{StaysHinting}
 use Rattle.relay_model.specs.declared.places.Place.{Place}
 use Rattle.relay_model.specs.declared.acts.Shut.{Shut}
 use Rattle.port_trait.specs.Meanings.{Gives, Accepts, AcceptsWhole, AcceptsAll, ReapsChild, Behind, OnJoined, join_answer, begun_after, is_end, begin_event, settle_event, read_event, write_event, shut_event, noted}
@@ -21,7 +20,7 @@ pub record PortSeen : Type 0 where
   pub took : Option (List ℕ)
   pub shuts : Option (List Shut)
   pub hints : Option Hint
-  pub hinting : Bool
+  pub hinting : Hint
   pub counts : Counts
   pub ended : Bool
   pub joins : Bool
@@ -44,14 +43,9 @@ pub record MovesNothing (before now : PortSeen) : Type 0 where
   pub took : now.took ≡ before.took
   pub unshut : now.shuts ≡ before.shuts
 
--- whether a port may hint is known for good
-abbrev pub StaysSo : PortSeen → PortSeen → Type 0
-StaysSo before now = StaysHinting before.hinting now.hinting now.hints
-
 -- an accepting moves no byte of the door
 pub record LetsIn (before now : PortSeen) : Type 0 where
   pub still : MovesNothing before now
-  pub hinting : StaysSo before now
 
 -- a beginning moves no bytes, and counts as its answer says
 pub record Begins (before now : PortSeen) (answer : BeginAnswer) : Type 0 where
@@ -61,7 +55,6 @@ pub record Begins (before now : PortSeen) (answer : BeginAnswer) : Type 0 where
 
 -- a settling moves no bytes, and counts as its answer says
 pub record Settles (before now : PortSeen) (answer : Settled) : Type 0 where
-  pub hinting : StaysSo before now
   pub ended : now.ended ≡ before.ended
   pub still : MovesNothing before now
   pub child : now.child ≡ before.child
@@ -69,7 +62,6 @@ pub record Settles (before now : PortSeen) (answer : Settled) : Type 0 where
 
 -- a read gives bytes as its answer says
 pub record Reads (before now : PortSeen) (into : List ℕ) (answer : Got) : Type 0 where
-  pub hinting : StaysSo before now
   pub ended : now.ended ≡ is_end answer
   pub gives : Gives before.gave now.gave into answer
   pub took : now.took ≡ before.took
@@ -79,7 +71,6 @@ pub record Reads (before now : PortSeen) (into : List ℕ) (answer : Got) : Type
 
 -- a write takes bytes as its answer says
 pub record Writes (before now : PortSeen) (bytes : List ℕ) (answer : WriteAnswer) : Type 0 where
-  pub hinting : StaysSo before now
   pub ended : now.ended ≡ before.ended
   pub accepts : Accepts before.took now.took bytes answer
   pub gave : now.gave ≡ before.gave
@@ -89,7 +80,6 @@ pub record Writes (before now : PortSeen) (bytes : List ℕ) (answer : WriteAnsw
 
 -- a packet is taken whole or not at all
 pub record Sends (before now : PortSeen) (bytes : List ℕ) (answer : WriteAnswer) : Type 0 where
-  pub hinting : StaysSo before now
   pub ended : now.ended ≡ before.ended
   pub accepts : AcceptsWhole before.took now.took bytes answer
   pub gave : now.gave ≡ before.gave
@@ -99,7 +89,6 @@ pub record Sends (before now : PortSeen) (bytes : List ℕ) (answer : WriteAnswe
 
 -- bytes are put whole or the call failed
 pub record PutsAll (before now : PortSeen) (bytes : List ℕ) (answer : WriteAnswer) : Type 0 where
-  pub hinting : StaysSo before now
   pub ended : now.ended ≡ before.ended
   pub accepts : AcceptsAll before.took now.took bytes answer
   pub gave : now.gave ≡ before.gave
@@ -109,7 +98,6 @@ pub record PutsAll (before now : PortSeen) (bytes : List ℕ) (answer : WriteAns
 
 -- a shut is passed on as it was asked for, moves no bytes, and counts as its answer says
 pub record Shuts (before now : PortSeen) (how : Shut) (answer : Shutting) : Type 0 where
-  pub hinting : StaysSo before now
   pub ended : now.ended ≡ before.ended
   pub gave : now.gave ≡ before.gave
   pub took : now.took ≡ before.took
@@ -124,7 +112,6 @@ pub record HintsSo (before now : PortSeen) (hint : Hint) : Type 0 where
 
 -- a reaping tells of the port's child
 pub record Reaps (before now : PortSeen) (answer : PortReap) : Type 0 where
-  pub hinting : StaysSo before now
   pub ended : now.ended ≡ before.ended
   pub reaped : ReapsChild before.child answer
   pub still : MovesNothing before now
@@ -132,7 +119,6 @@ pub record Reaps (before now : PortSeen) (answer : PortReap) : Type 0 where
 
 -- a joining answers as the port may be joined
 pub record JoinsSo (before now : PortSeen) (answer : Joining) : Type 0 where
-  pub hinting : StaysSo before now
   pub ended : now.ended ≡ before.ended
   pub joined : answer ≡ join_answer before.joins
   pub joins : now.joins ≡ before.joins
@@ -141,5 +127,5 @@ pub record JoinsSo (before now : PortSeen) (answer : Joining) : Type 0 where
   pub child : now.child ≡ before.child
 
 -- what a port tells, by its meanings
-abbrev pub seen : {S : Type 0} → (S → Option (List ℕ)) → (S → Option (List ℕ)) → (S → Option (List Shut)) → (S → Option Hint) → (S → Bool) → (S → Counts) → (S → Bool) → (S → Bool) → (S → Bool) → S → PortSeen
+abbrev pub seen : {S : Type 0} → (S → Option (List ℕ)) → (S → Option (List ℕ)) → (S → Option (List Shut)) → (S → Option Hint) → (S → Hint) → (S → Counts) → (S → Bool) → (S → Bool) → (S → Bool) → S → PortSeen
 seen gave took shuts hints hinting counts ended joins child port = record { gave = gave port; took = took port; shuts = shuts port; hints = hints port; hinting = hinting port; counts = counts port; ended = ended port; joins = joins port; child = child port }

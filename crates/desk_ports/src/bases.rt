@@ -1,6 +1,6 @@
 // What a place stands on.
 ghost use Rattle.std.specs.Prelude.{◌≡◌, IfSome};
-ghost use Rattle.desk_ports.specs.Bases.{IsStandard, is_keyed, key_of, standard_of};
+ghost use Rattle.desk_ports.specs.Bases.{IsStandard, is_keyed, is_standard, key_of, standard_of};
 
 use relay_model::{Part, Place, Single, Target};
 
@@ -22,6 +22,16 @@ impl Base {
         match self {
             Base::Made(key) => Some(key),
             Base::Input | Base::Output | Base::Both | Base::Errors => None,
+        }
+    }
+
+    /// Whether it is a standard stream, or two.
+    pub fn is_standard(self) -> bool
+        ensures { result ≡ is_standard self }
+    {
+        match self {
+            Base::Made(_) => false,
+            Base::Input | Base::Output | Base::Both | Base::Errors => true,
         }
     }
 

@@ -1,6 +1,7 @@
 // A made port, seen by contracts as what it tells.
-ghost use Rattle.std.specs.Prelude.{◌<◌, ◌≡◌, length};
-ghost use Rattle.desk_ports.specs.Ports.{seen, Begins, Settles, Reads, Writes, Sends, Shuts, HintsSo, Reaps, JoinsSo, LetsIn, StaysSo};
+ghost use Rattle.std.specs.Prelude.{◌<◌, ◌≡◌, length, IfSome};
+ghost use Rattle.port_trait.specs.Hinting.{IsWithin};
+ghost use Rattle.desk_ports.specs.Ports.{seen, Begins, Settles, Reads, Writes, Sends, Shuts, HintsSo, Reaps, JoinsSo, LetsIn};
 ghost use Rattle.port_trait.specs.Counting.{Counted};
 ghost use Rattle.port_trait.specs.Made.{peer_failed, peer_stalled, came_after};
 
@@ -41,9 +42,10 @@ impl<T: Port> Berth<T> {
         self.place
     }
 
-    /// Whether the port may ever hint.
-    pub fn may_hint(&self) -> bool
-        ensures { result ≡ self.now.port.hinting }
+    /// The halves that a hint of the port may tell of.
+    pub fn may_hint(&self) -> Hint
+        ensures halves { result ≡ self.now.port.hinting }
+        ensures told { IfSome self.now.port.hints (λ hint. IsWithin result hint) }
     {
         self.port.may_hint()
     }
@@ -57,7 +59,6 @@ impl<T: Port> Berth<T> {
 
     pub fn begin(&mut self) -> Begun
         ensures call { Begins self.old.port self.new.port result }
-        ensures hinting { StaysSo self.old.port self.new.port }
         ensures place { self.new.place ≡ self.old.place }
     {
         self.port.begin()

@@ -3,6 +3,7 @@
 ghost use Rattle.std.specs.Prelude.{◌≡◌, ◌<◌, ◌⊎◌, None, Some, true, false, length, [], IfSome, OnOk};
 ghost use Rattle.slab.specs.Slab.{HasRoomFor, SameValues, Updates, get};
 ghost use Rattle.port_trait.specs.Counting.{Counted, Rose};
+ghost use Rattle.port_trait.specs.Hinting.{IsWithin};
 ghost use Rattle.port_trait.specs.declared.answers.Begun.TheVariants as begins;
 ghost use Rattle.port_trait.specs.Made.{peer_failed, peer_stalled, came_after};
 ghost use Rattle.desk_ports.specs.Answers.{GotFits, SaidSo, TookFits, is_unsaid};
@@ -322,6 +323,17 @@ impl<T: Port, I: Port, O: Port, E: Port> Harbor<T, I, O, E> {
         }
     }
 
+    /// The halves that a hint of the port of the key may tell of; neither where there is no such port.
+    pub fn may_hint(&self, key: usize) -> Hint
+        ensures halves { IfSome (get self.now.made key) (λ berth. result ≡ berth.port.hinting) }
+        ensures told { IfSome (get self.now.made key) (λ berth. IfSome berth.port.hints (λ hint. IsWithin result hint)) }
+    {
+        match self.made.get(key) {
+            Some(berth) => berth.may_hint(),
+            None => Hint::none(),
+        }
+    }
+
     fn hint_made(&mut self, key: usize) -> Hint
         ensures made { SameValues self.old.made self.new.made }
         ensures streams { (self.new.input ≡ self.old.input) × (self.new.output ≡ self.old.output) × (self.new.errors ≡ self.old.errors) }
@@ -329,10 +341,7 @@ impl<T: Port, I: Port, O: Port, E: Port> Harbor<T, I, O, E> {
     {
         match self.made.get_mut(key) {
             Some(berth) => berth.hint(),
-            None => Hint {
-                readable: false,
-                writable: false,
-            },
+            None => Hint::none(),
         }
     }
 
@@ -382,6 +391,7 @@ pub fn accept_at<M: Maker, I: Port, O: Port, E: Port>(
 ) -> MadePeer<M::Made>
     ensures door { MadeCall harbor.old.made harbor.new.made door LetsIn }
     ensures room { HasRoomFor harbor.old.made 1 → HasRoomFor harbor.new.made 1 }
+    ensures next { harbor.new.made.vacant_key ≡ harbor.old.made.vacant_key }
     ensures streams { (harbor.new.input ≡ harbor.old.input) × (harbor.new.output ≡ harbor.old.output) × (harbor.new.errors ≡ harbor.old.errors) }
     ensures came { M.came maker.new ≡ came_after (M.came maker.old) result }
     ensures faults { Counted (peer_failed result) (M.faults maker.old) (M.faults maker.new) }

@@ -1,6 +1,7 @@
 -- What contracts see of two halves.
-use Rattle.std.specs.Prelude.{◌≡◌, Bool, not, ◌&&◌, Option, None, Some}
+use Rattle.std.specs.Prelude.{◌≡◌, Bool, true, false, not, ◌&&◌}
 use Rattle.relay_model.specs.declared.places.Part.{Part}
+use Rattle.port_trait.specs.Hinting.{no_hint}
 use Rattle.port_trait.specs.declared.answers.Hint.{Hint}
 use Rattle.file_ports.specs.declared.halves.Readiness.{Readiness}
 use Rattle.file_ports.specs.declared.halves.Readiness.TheVariants as readiness
@@ -12,13 +13,18 @@ pub record HalvesState : Type 0 where
   pub writes : Bool
   pub readiness : Readiness
 
+-- whether nothing reports them, since they are always ready
+abbrev pub is_always : Readiness → Bool
+is_always readiness.Reported = false
+is_always readiness.Always = true
+
 -- a hint at these halves, where they are always ready
-abbrev pub hint_by : Readiness → Bool → Bool → Option Hint
-hint_by readiness.Reported reads writes = None
-hint_by readiness.Always reads writes = Some (record { readable = reads; writable = writes })
+abbrev pub hint_by : Readiness → Bool → Bool → Hint
+hint_by readiness.Reported reads writes = no_hint
+hint_by readiness.Always reads writes = record { readable = reads; writable = writes }
 
 -- what is always ready hints at each half that is there, and what is reported hints at nothing
-abbrev pub halves_hint : HalvesState → Option Hint
+abbrev pub halves_hint : HalvesState → Hint
 halves_hint halves = hint_by halves.readiness halves.reads halves.writes
 
 -- the halves are those that the part uses

@@ -47,10 +47,22 @@ impl EchoPort {
             ended: false,
         })
     }
+
+    /// Which halves are ready.
+    fn readiness(&self) -> Hint
+        ensures { result ≡ echo_hint self.now }
+    {
+        Hint {
+            readable: self.is_shut || self.held.len() > 0,
+            writable: self.held.len() < self.held.capacity(),
+        }
+    }
 }
 
 impl Port for EchoPort {
     ghost hints = { λ port. Some (echo_hint port) };
+
+    ghost hinting = { echo_hint };
 
     ghost counts = { λ port. port.counts };
 
@@ -165,16 +177,14 @@ impl Port for EchoPort {
         ensures hinted { result ≡ echo_hint self.old }
         ensures kept { self.new ≡ self.old }
     {
-        Hint {
-            readable: self.is_shut || self.held.len() > 0,
-            writable: self.held.len() < self.held.capacity(),
-        }
+        self.readiness()
     }
 
-    fn may_hint(&self) -> bool
-        ensures { result ≡ true }
+    /// Only a call on the pipe makes it ready.
+    fn may_hint(&self) -> Hint
+        ensures { result ≡ echo_hint self.now }
     {
-        true
+        self.readiness()
     }
 
     fn has_child(&self) -> bool

@@ -6,8 +6,7 @@ ghost use Rattle.port_trait.specs.declared.answers.Got.TheVariants as reads;
 ghost use Rattle.port_trait.specs.declared.answers.Settled.TheVariants as settles;
 ghost use Rattle.port_trait.specs.declared.answers.Shutting.TheVariants as shuts;
 ghost use Rattle.port_trait.specs.declared.answers.Took.TheVariants as writes;
-ghost use Rattle.socket_kinds.specs.Sockets.{hint_told};
-ghost use Rattle.file_ports.specs.Halves.{halves_hint};
+ghost use Rattle.file_ports.specs.Halves.{halves_hint, is_always};
 ghost use Rattle.file_ports.specs.declared.halves.Readiness.TheVariants as readiness;
 
 use mio::unix::SourceFd;
@@ -94,6 +93,13 @@ impl<I, O> Halves<I, O> {
     {
         self.writing.is_some()
     }
+
+    /// Whether the descriptors are always ready, so that nothing reports them.
+    pub(crate) fn is_always_ready(&self) -> bool
+        ensures { result ≡ is_always self.now.readiness }
+    {
+        self.readiness == Readiness::Always
+    }
 }
 
 /// Has no call on the descriptor wait, and the registry report it unless it is always ready.
@@ -173,18 +179,12 @@ impl<I: Read + Drop, O: Write + Drop> Socket for Halves<I, O> {
 
     /// What is always ready says so. The poller names what it is told of the others.
     fn hint(&self) -> Hint
-        ensures { result ≡ hint_told (halves_hint self.now) }
+        ensures { result ≡ halves_hint self.now }
     {
-        let always = self.readiness == Readiness::Always;
+        let always = self.is_always_ready();
         Hint {
             readable: always && self.reading.is_some(),
             writable: always && self.writing.is_some(),
         }
-    }
-
-    fn may_hint(&self) -> bool
-        ensures { result ≡ is_some (halves_hint self.now) }
-    {
-        self.readiness == Readiness::Always
     }
 }

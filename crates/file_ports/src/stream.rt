@@ -6,7 +6,6 @@ ghost use Rattle.port_trait.specs.declared.answers.Got.TheVariants as reads;
 ghost use Rattle.port_trait.specs.declared.answers.Settled.TheVariants as settles;
 ghost use Rattle.port_trait.specs.declared.answers.Shutting.TheVariants as shuts;
 ghost use Rattle.port_trait.specs.declared.answers.Took.TheVariants as writes;
-ghost use Rattle.socket_kinds.specs.Sockets.{hint_told};
 ghost use Rattle.file_ports.specs.Halves.{halves_hint};
 ghost use Rattle.file_ports.specs.Streams.{halves_of, is_open};
 
@@ -117,20 +116,11 @@ impl Socket for FileStream {
 
     /// What is always ready says so. The poller names what it is told of the others.
     fn hint(&self) -> Hint
-        ensures { result ≡ hint_told (halves_hint (halves_of self.now)) }
+        ensures { result ≡ halves_hint (halves_of self.now) }
     {
         match self {
             FileStream::Open(halves) => halves.hint(),
             FileStream::Waiting(pipe) => pipe.hint(),
-        }
-    }
-
-    fn may_hint(&self) -> bool
-        ensures { result ≡ is_some (halves_hint (halves_of self.now)) }
-    {
-        match self {
-            FileStream::Open(halves) => halves.may_hint(),
-            FileStream::Waiting(pipe) => pipe.may_hint(),
         }
     }
 }

@@ -3,7 +3,6 @@ ghost use Rattle.std.specs.Prelude.{◌≡◌, ◌||◌, true, false, is_some, I
 ghost use Rattle.port_trait.specs.Made.{IsAtOnce};
 ghost use Rattle.port_trait.specs.Streams.{finishes};
 ghost use Rattle.port_trait.specs.declared.answers.Shutting.TheVariants as shuts;
-ghost use Rattle.socket_kinds.specs.Sockets.{hint_told};
 ghost use Rattle.file_ports.specs.Halves.{waiting_halves, halves_hint};
 ghost use Rattle.file_ports.specs.Opened.{OnMade};
 ghost use Rattle.file_ports.specs.Streams.{OnOpened};
@@ -149,7 +148,7 @@ impl WaitingPipe {
             }
             _ => return None,
         };
-        if halves.may_hint() {
+        if halves.is_always_ready() {
             return None;
         }
         Some(halves)
@@ -175,18 +174,9 @@ impl WaitingPipe {
 
     /// The poller names the pipe.
     pub(crate) fn hint(&self) -> Hint
-        ensures { result ≡ hint_told (halves_hint (waiting_halves self.now)) }
+        ensures { result ≡ halves_hint (waiting_halves self.now) }
     {
-        Hint {
-            readable: false,
-            writable: false,
-        }
-    }
-
-    pub(crate) fn may_hint(&self) -> bool
-        ensures { result ≡ is_some (halves_hint (waiting_halves self.now)) }
-    {
-        false
+        Hint::none()
     }
 
     /// Nothing more will be written from `Down` and `Close` on. What is written waits for the other end first, so that this

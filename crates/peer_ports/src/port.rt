@@ -2,6 +2,7 @@
 ghost use Rattle.std.specs.Prelude.{◌≡◌, ◌<◌, ◌≤◌, ◌++◌, true, false, length, take, None};
 ghost use Rattle.port_trait.specs.Counting.{Tallied};
 ghost use Rattle.port_trait.specs.Made.{IsAtOnce};
+ghost use Rattle.port_trait.specs.Hinting.{all_hints};
 ghost use Rattle.port_trait.specs.Meanings.{Gives, Accepts, AcceptsWhole, AcceptsAll, is_end, read_event, write_event, shut_event};
 ghost use Rattle.port_trait.specs.declared.answers.Begun.TheVariants as begins;
 ghost use Rattle.port_trait.specs.declared.answers.Settled.TheVariants as settles;
@@ -218,10 +219,10 @@ impl Port for PeerPort {
         Hint { readable, writable }
     }
 
-    fn may_hint(&self) -> bool
-        ensures { result ≡ true }
+    fn may_hint(&self) -> Hint
+        ensures { result ≡ all_hints }
     {
-        true
+        Hint::all()
     }
 
     fn has_child(&self) -> bool

@@ -1,3 +1,1 @@
 pub mod CallLemmas
-pub mod NamingLemmas
-pub mod TurnLemmas

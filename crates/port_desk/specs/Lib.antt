@@ -1,4 +1,3 @@
 pub mod Calls
 pub mod Clocks
-pub mod Naming
 pub mod Records

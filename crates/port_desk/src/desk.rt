@@ -1,6 +1,7 @@
 // The world of a relay between ports.
 ghost use Rattle.std.specs.Prelude.{◌≡◌, ◌≤◌, ◌<◌, ◌&&◌, ◌+◌, not, [], length, vec_len, vec_capacity, Some, true, false, is_some, IfOk, IfSome, MatchOption, None, OnOk};
-ghost use Rattle.slab.specs.Slab.{HasRoomFor, SameValues};
+ghost use Rattle.std.proofs.Props.{props};
+ghost use Rattle.slab.specs.Slab.{SameValues};
 ghost use Rattle.world_trait.specs.Answers.{NamesHeld};
 ghost use Rattle.world_trait.specs.HoldTables.{hold_found};
 ghost use Rattle.world_trait.specs.Recordings.{HasAskingRoom, HasRoom, KeepsNothing, told_by};
@@ -11,14 +12,14 @@ ghost use Rattle.port_trait.specs.Meanings.{Behind};
 ghost use Rattle.desk_ports.specs.Endings.{EndsSo, OnJoinedBack, handed, is_left};
 ghost use Rattle.desk_ports.specs.Ports.{seen};
 ghost use Rattle.desk_ports.specs.Harbors.{hint_told};
-ghost use Rattle.desk_places.specs.Footing.{IsSound};
+ghost use Rattle.desk_places.specs.Footing.{HasBerth, IsSound};
 ghost use Rattle.desk_places.specs.Stations.{hold_at};
-ghost use Rattle.port_desk.specs.Naming.{NamesHinting, NamesKeyed, PollsUntil};
+ghost use Rattle.desk_naming.specs.Naming.{NamesHinting, NamesKeyed, PollsUntil};
 
 use crate::clocks::Clock;
 use crate::endings::{Backs, Counts, Ended};
-use crate::naming::{name_hinting, name_keyed};
 use crate::records::Log;
+use desk_naming::{name_hinting, name_keyed};
 use desk_places::Ports;
 use desk_ports::Standard;
 use port_trait::{Joining, Maker, Polled, Poller, Port};
@@ -37,7 +38,7 @@ pub struct Desk<M: Maker + Drop, P: Poller + Drop, I: Port, O: Port, E: Port> {
     pub(crate) stops: u64,
     // what the join of the port that the last closing let go answered; none where it wasn't joined
     pub(crate) joined: Option<Joining>,
-    ghost sound: { IsSound log.stations.entries ports.harbor.made },
+    ghost sound: { IsSound log.stations.entries ports.harbor.made ports.listed } by { Prim.hlevel props },
     ghost parents_room: { length log.stations.entries + vec_len ports.parents ≤ vec_capacity ports.parents },
 }
 
@@ -140,7 +141,7 @@ impl<M: Maker + Drop, P: Poller + Drop, I: Port, O: Port, E: Port> Desk<M, P, I,
     pub(crate) fn prepare_port(&mut self) -> Result<(), NoMemory>
         ensures acts_room { OnOk result (HasRoom (length self.new.log.stations.entries + 2) self.new.log.recording) }
         ensures stations_room { OnOk result (0 < self.new.log.stations.spare) }
-        ensures made_room { OnOk result (HasRoomFor self.new.ports.harbor.made 1) }
+        ensures made_room { OnOk result (HasBerth self.new.ports.harbor.made self.new.ports.listed) }
         ensures parents_room { OnOk result (length self.new.log.stations.entries + 1 + vec_len self.new.ports.parents ≤ vec_capacity self.new.ports.parents) }
         ensures entries { self.new.log.stations.entries ≡ self.old.log.stations.entries }
         ensures told { self.new.log.recording.told ≡ self.old.log.recording.told }
@@ -163,7 +164,7 @@ impl<M: Maker + Drop, P: Poller + Drop, I: Port, O: Port, E: Port> Desk<M, P, I,
         ensures asking_room { OnOk result (HasAskingRoom 1 self.new.log.recording) }
         ensures copied { IfOk result (λ copy. MatchOption copy (self.new.log.recording.told ≡ None) (λ kept. kept ≡ single.now)) }
         ensures stations_room { OnOk result (0 < self.new.log.stations.spare) }
-        ensures made_room { OnOk result (HasRoomFor self.new.ports.harbor.made 1) }
+        ensures made_room { OnOk result (HasBerth self.new.ports.harbor.made self.new.ports.listed) }
         ensures parents_room { OnOk result (length self.new.log.stations.entries + 1 + vec_len self.new.ports.parents ≤ vec_capacity self.new.ports.parents) }
         ensures entries { self.new.log.stations.entries ≡ self.old.log.stations.entries }
         ensures told { self.new.log.recording.told ≡ self.old.log.recording.told }

@@ -4,7 +4,6 @@
 mod clocks;
 mod desk;
 mod endings;
-mod naming;
 mod records;
 mod worlds;
 

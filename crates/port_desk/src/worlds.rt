@@ -15,14 +15,14 @@ ghost use Rattle.port_trait.specs.Counting.{Rose as Rises};
 ghost use Rattle.desk_ports.specs.Bases.{standard_of};
 ghost use Rattle.desk_ports.specs.Harbors.{AtErrors, AtInput, AtMade, AtOutput, MadeCall, giving_pier, hint_told, taking_pier};
 ghost use Rattle.desk_places.specs.Changes.{LeavesParent, ReapsAnswered, SettlesMade, SettlesSo, is_finished, joined_answer, made_at};
-ghost use Rattle.port_desk.specs.Naming.{NamesHinting, NamesKeyed, PollsUntil};
+ghost use Rattle.desk_naming.specs.Naming.{NamesHinting, NamesKeyed, PollsUntil};
 ghost use Rattle.desk_ports.specs.Ports.{MovesNothing, seen};
 ghost use Rattle.port_desk.specs.Records.{CountsOnce, CountsStop, NotedSo};
 ghost use Rattle.desk_places.specs.Stations.{SetsStation, base_at, hold_at, is_disarmed, shut_down, station_at};
 ghost use Rattle.desk_ports.specs.declared.bases.Base.TheVariants as bases;
 
 use crate::desk::Desk;
-use crate::naming::arm_named;
+use desk_naming::arm_named;
 use port_trait::{Maker, Poller, Port, Took};
 use relay_model::{Act, Peer, Place, ReadyList, Shut, Single, Why};
 use world_trait::{

@@ -59,6 +59,16 @@ impl MemPort {
         self.script.push(item)
     }
 
+    /// Which halves are ready.
+    fn readiness(&self) -> Hint
+        ensures { result ≡ scripted_hint self.now }
+    {
+        Hint {
+            readable: self.script.has_more(),
+            writable: self.intake.room() > 0,
+        }
+    }
+
     /// A look at what the port took.
     pub fn tap(&self) -> Tap {
         self.intake.tap()
@@ -71,6 +81,8 @@ impl Port for MemPort {
     ghost took = { λ port. Some port.intake.bytes };
 
     ghost hints = { λ port. Some (scripted_hint port) };
+
+    ghost hinting = { scripted_hint };
 
     ghost counts = { λ port. port.counts };
 
@@ -169,16 +181,14 @@ impl Port for MemPort {
         ensures hinted { result ≡ scripted_hint self.old }
         ensures kept { self.new ≡ self.old }
     {
-        Hint {
-            readable: self.script.has_more(),
-            writable: self.intake.room() > 0,
-        }
+        self.readiness()
     }
 
-    fn may_hint(&self) -> bool
-        ensures { result ≡ true }
+    /// Only a call on the port changes what it hints.
+    fn may_hint(&self) -> Hint
+        ensures { result ≡ scripted_hint self.now }
     {
-        true
+        self.readiness()
     }
 
     fn has_child(&self) -> bool

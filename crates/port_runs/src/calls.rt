@@ -96,7 +96,7 @@ fn call<P: Port>(alloc: Global, port: &mut P, name: &str, value: &str) -> Result
         "write" | "send" | "put" => put(port, name, bytes_of(alloc, value)?.as_slice()),
         "shut" => Ok(Answer::Word(shutting_word(port.shut(Shut::Down)))),
         "hint" => Ok(Answer::Word(hint_word(port.hint()))),
-        "may-hint" => Ok(Answer::Word(truth_word(port.may_hint()))),
+        "may-hint" => Ok(Answer::Word(hint_word(port.may_hint()))),
         "has-child" => Ok(Answer::Word(truth_word(port.has_child()))),
         "reap" => Ok(reap(port)),
         "join" => Ok(join(port)),

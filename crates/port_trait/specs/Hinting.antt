@@ -1,17 +1,16 @@
--- Which ports may hint that a half is ready.
-use Rattle.std.specs.Prelude.{◌≡◌, Bool, true, false, Option, None}
+-- Which halves a port may hint at until the next call on it.
+use Rattle.std.specs.Prelude.{◌≡◌, true, false}
 use Rattle.port_trait.specs.declared.answers.Hint.{Hint}
 
 -- a hint at nothing
 abbrev pub no_hint : Hint
 no_hint = record { readable = false; writable = false }
 
--- a port that never hints tells no hints
-abbrev pub TellsHints : Bool → Option Hint → Type 0
-TellsHints true hints = Unit {0}
-TellsHints false hints = hints ≡ None
+-- a hint at both halves
+abbrev pub all_hints : Hint
+all_hints = record { readable = true; writable = true }
 
--- whether a port may hint is known for good
-pub record StaysHinting (before now : Bool) (hints : Option Hint) : Type 0 where
-  pub same : now ≡ before
-  pub told : TellsHints now hints
+-- a hint only at halves that may be hinted
+pub record IsWithin (may hint : Hint) : Type 0 where
+  pub readable : hint.readable ≡ true → may.readable ≡ true
+  pub writable : hint.writable ≡ true → may.writable ≡ true

@@ -1,4 +1,7 @@
 // What the calls of ports, sources and sinks answer.
+ghost use Rattle.std.specs.Prelude.{◌≡◌};
+ghost use Rattle.port_trait.specs.Hinting.{all_hints, no_hint};
+
 use relay_model::ChildEnd;
 
 /// What a `begin` came to.
@@ -47,6 +50,28 @@ pub enum Shutting {
 pub struct Hint {
     pub readable: bool,
     pub writable: bool,
+}
+
+impl Hint {
+    /// Neither half.
+    pub fn none() -> Hint
+        ensures { result ≡ no_hint }
+    {
+        Hint {
+            readable: false,
+            writable: false,
+        }
+    }
+
+    /// Both halves.
+    pub fn all() -> Hint
+        ensures { result ≡ all_hints }
+    {
+        Hint {
+            readable: true,
+            writable: true,
+        }
+    }
 }
 
 /// How the port's child stands.

@@ -60,7 +60,7 @@ impl<S: Source + Drop> Port for DirectReader<S> {
 
     ghost ended = { λ port. port.ended };
 
-    ghost hinting = { λ _. false };
+    ghost hinting = { λ _. no_hint };
 
     ghost joins = { λ _. true };
 
@@ -148,16 +148,13 @@ impl<S: Source + Drop> Port for DirectReader<S> {
         ensures hinted { result ≡ no_hint }
         ensures kept { self.new ≡ self.old }
     {
-        Hint {
-            readable: false,
-            writable: false,
-        }
+        Hint::none()
     }
 
-    fn may_hint(&self) -> bool
-        ensures { result ≡ false }
+    fn may_hint(&self) -> Hint
+        ensures { result ≡ no_hint }
     {
-        false
+        Hint::none()
     }
 
     fn has_child(&self) -> bool
@@ -219,7 +216,7 @@ impl<K: Sink + Drop> Port for DirectWriter<K> {
 
     ghost ended = { λ port. port.ended };
 
-    ghost hinting = { λ _. false };
+    ghost hinting = { λ _. no_hint };
 
     ghost joins = { λ _. true };
 
@@ -318,16 +315,13 @@ impl<K: Sink + Drop> Port for DirectWriter<K> {
         ensures hinted { result ≡ no_hint }
         ensures kept { self.new ≡ self.old }
     {
-        Hint {
-            readable: false,
-            writable: false,
-        }
+        Hint::none()
     }
 
-    fn may_hint(&self) -> bool
-        ensures { result ≡ false }
+    fn may_hint(&self) -> Hint
+        ensures { result ≡ no_hint }
     {
-        false
+        Hint::none()
     }
 
     fn has_child(&self) -> bool

@@ -1,7 +1,6 @@
 // Makers open what isn't a standard stream, and hand out the ports of it.
 ghost use Rattle.std.specs.Prelude.{◌≡◌, ℕ, Option, None, Some, IfSome};
 ghost use Rattle.port_trait.specs.Counting.{Counted};
-ghost use Rattle.port_trait.specs.Hinting.{StaysHinting};
 ghost use Rattle.port_trait.specs.Made.{making_failed, making_stalled, IsAtOnce, peer_failed, peer_stalled, came_after};
 ghost use Rattle.port_trait.specs.declared.makers.AskedPlace.{AskedPlace};
 ghost use Rattle.relay_model.specs.declared.acts.Peer.{Peer};
@@ -73,7 +72,6 @@ pub trait Maker {
         ensures door { (Self.Made.gave door.new ≡ Self.Made.gave door.old) × (Self.Made.took door.new ≡ Self.Made.took door.old) }
         ensures unshut { Self.Made.shuts door.new ≡ Self.Made.shuts door.old }
         ensures asked { asked self.new ≡ asked self.old }
-        ensures hinting { StaysHinting (Self.Made.hinting door.old) (Self.Made.hinting door.new) (Self.Made.hints door.new) }
         ensures came { came self.new ≡ came_after (came self.old) result }
         ensures faults { Counted (peer_failed result) (faults self.old) (faults self.new) }
         ensures stalls { Counted (peer_stalled result) (stalls self.old) (stalls self.new) };

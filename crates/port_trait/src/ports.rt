@@ -1,7 +1,7 @@
 // A port is one end of a transfer: standard input, a file, a socket, a child.
 ghost use Rattle.std.specs.Prelude.{◌≡◌, ◌<◌, ℕ, Bool, true, false, ◌&&◌, List, length, Option, None, IfSome};
 ghost use Rattle.port_trait.specs.Counting.{Tallied};
-ghost use Rattle.port_trait.specs.Hinting.{StaysHinting, no_hint};
+ghost use Rattle.port_trait.specs.Hinting.{IsWithin, all_hints};
 ghost use Rattle.port_trait.specs.Meanings.{Gives, Accepts, AcceptsWhole, AcceptsAll, ReapsChild, Behind, FinishedBehind, OnJoined, join_answer, begun_after, is_end, begin_event, settle_event, read_event, write_event, shut_event, noted};
 ghost use Rattle.port_trait.specs.Serving.{Serving, Called, Shuts, MisusesCounted, Explained, is_begin_served};
 ghost use Rattle.port_trait.specs.declared.answers.Hint.{Hint};
@@ -38,8 +38,8 @@ pub trait Port: Drop {
     ghost served: { Self → Option Serving } = { λ _. None };
     // the answer that `hint` gives
     ghost hints: { Self → Option Hint } = { λ _. None };
-    // whether a half may ever be hinted; it stays so for good
-    ghost hinting: { Self → Bool } = { λ _. true };
+    // the halves that `hint` may tell of until the next other call on the port
+    ghost hinting: { Self → Hint } = { λ _. all_hints };
 
     ghost counts: { Self → Counts };
     // whether a `begin` answered `Begun`, and whether the last read answered `End`
@@ -59,7 +59,6 @@ pub trait Port: Drop {
         ensures unshut { shuts self.new ≡ shuts self.old }
         ensures served { Called (λ _. is_begin_served result) (served self.old) (served self.new) }
         ensures misused { result ≡ begins.Begun → MisusesCounted (served self.new) (counts self.new) }
-        ensures hinting { StaysHinting (hinting self.old) (hinting self.new) (hints self.new) }
         ensures counts { Tallied (begin_event result) (counts self.old) (counts self.new) };
 
     /// Asks once, without waiting, whether what was begun stands.
@@ -67,7 +66,6 @@ pub trait Port: Drop {
         ensures kept { (gave self.new ≡ gave self.old) × (took self.new ≡ took self.old) × (begun self.new ≡ begun self.old) × (ended self.new ≡ ended self.old) × (child self.new ≡ child self.old) }
         ensures unshut { shuts self.new ≡ shuts self.old }
         ensures served { served self.new ≡ served self.old }
-        ensures hinting { StaysHinting (hinting self.old) (hinting self.new) (hints self.new) }
         ensures counts { Tallied (settle_event result) (counts self.old) (counts self.new) };
 
     /// Takes what there is, up to the length of `into`. A read after `End` or `Failed` asks once more.
@@ -78,7 +76,6 @@ pub trait Port: Drop {
         ensures kept { (took self.new ≡ took self.old) × (begun self.new ≡ begun self.old) × (child self.new ≡ child self.old) }
         ensures unshut { shuts self.new ≡ shuts self.old }
         ensures served { Called (λ serving. serving.reads) (served self.old) (served self.new) }
-        ensures hinting { StaysHinting (hinting self.old) (hinting self.new) (hints self.new) }
         ensures counts { Tallied (read_event result) (counts self.old) (counts self.new) };
 
     /// Accepts a front of the bytes.
@@ -88,7 +85,6 @@ pub trait Port: Drop {
         ensures kept { (gave self.new ≡ gave self.old) × (begun self.new ≡ begun self.old) × (ended self.new ≡ ended self.old) × (child self.new ≡ child self.old) }
         ensures unshut { shuts self.new ≡ shuts self.old }
         ensures served { Called (λ serving. begun self.old && serving.writes) (served self.old) (served self.new) }
-        ensures hinting { StaysHinting (hinting self.old) (hinting self.new) (hints self.new) }
         ensures counts { Tallied (write_event result) (counts self.old) (counts self.new) };
 
     /// Accepts the bytes as one packet, or none of them. A port without packets fails.
@@ -98,7 +94,6 @@ pub trait Port: Drop {
         ensures kept { (gave self.new ≡ gave self.old) × (begun self.new ≡ begun self.old) × (ended self.new ≡ ended self.old) × (child self.new ≡ child self.old) }
         ensures unshut { shuts self.new ≡ shuts self.old }
         ensures served { Called (λ _. false) (served self.old) (served self.new) }
-        ensures hinting { StaysHinting (hinting self.old) (hinting self.new) (hints self.new) }
         ensures counts { Tallied (write_event result) (counts self.old) (counts self.new) };
 
     /// Accepts all bytes, and may wait for room. Where it fails, a front of them was accepted.
@@ -107,7 +102,6 @@ pub trait Port: Drop {
         ensures kept { (gave self.new ≡ gave self.old) × (begun self.new ≡ begun self.old) × (ended self.new ≡ ended self.old) × (child self.new ≡ child self.old) }
         ensures unshut { shuts self.new ≡ shuts self.old }
         ensures served { Called (λ serving. begun self.old && serving.writes) (served self.old) (served self.new) }
-        ensures hinting { StaysHinting (hinting self.old) (hinting self.new) (hints self.new) }
         ensures counts { Tallied (write_event result) (counts self.old) (counts self.new) };
 
     /// Passes on that no more bytes will be written.
@@ -115,22 +109,22 @@ pub trait Port: Drop {
         ensures kept { (gave self.new ≡ gave self.old) × (took self.new ≡ took self.old) × (begun self.new ≡ begun self.old) × (ended self.new ≡ ended self.old) × (child self.new ≡ child self.old) }
         ensures told { shuts self.new ≡ noted how (shuts self.old) }
         ensures served { Shuts how (served self.old) (served self.new) }
-        ensures hinting { StaysHinting (hinting self.old) (hinting self.new) (hints self.new) }
         ensures counts { Tallied (shut_event result) (counts self.old) (counts self.new) };
 
     /// What the port knows of its readiness by itself.
     fn hint(&mut self) -> Hint
         ensures hinted { IfSome (hints self.old) (λ hint. result ≡ hint) }
-        ensures unready { hinting self.old ≡ false → result ≡ no_hint }
+        ensures within { IsWithin (hinting self.old) result }
         ensures kept { (gave self.new ≡ gave self.old) × (took self.new ≡ took self.old) × (hints self.new ≡ hints self.old) × (counts self.new ≡ counts self.old) × (begun self.new ≡ begun self.old) × (ended self.new ≡ ended self.old) × (joins self.new ≡ joins self.old) × (child self.new ≡ child self.old) }
         ensures behind { (behind_gave self.new ≡ behind_gave self.old) × (behind_took self.new ≡ behind_took self.old) × (behind_faults self.new ≡ behind_faults self.old) × (behind_ends self.new ≡ behind_ends self.old) × (behind_left self.new ≡ behind_left self.old) × (behind_finished self.new ≡ behind_finished self.old) }
-        ensures hinting { StaysHinting (hinting self.old) (hinting self.new) (hints self.new) }
+        ensures hinting { hinting self.new ≡ hinting self.old }
         ensures unshut { shuts self.new ≡ shuts self.old }
         ensures served { served self.new ≡ served self.old };
 
-    /// Whether the port may ever hint. Where it may not, nobody has to ask it, now or later.
-    fn may_hint(&self) -> bool
-        ensures { result ≡ hinting self.now };
+    /// The halves that a hint may tell of, whatever comes but a call on the port. At others nobody has to ask it before.
+    fn may_hint(&self) -> Hint
+        ensures halves { result ≡ hinting self.now }
+        ensures told { IfSome (hints self.now) (λ hint. IsWithin result hint) };
 
     /// Whether the port has a child, which a `reap` asks for.
     fn has_child(&self) -> bool
@@ -142,7 +136,6 @@ pub trait Port: Drop {
         ensures kept { (gave self.new ≡ gave self.old) × (took self.new ≡ took self.old) × (begun self.new ≡ begun self.old) × (ended self.new ≡ ended self.old) × (child self.new ≡ child self.old) }
         ensures unshut { shuts self.new ≡ shuts self.old }
         ensures served { served self.new ≡ served self.old }
-        ensures hinting { StaysHinting (hinting self.old) (hinting self.new) (hints self.new) }
         ensures counts { Tallied None (counts self.old) (counts self.new) };
 
     /// Waits for the thread that works for the port, if that has come to an end of its work.
@@ -153,6 +146,5 @@ pub trait Port: Drop {
         ensures served { served self.new ≡ served self.old }
         ensures explained { OnJoined result (Explained (served self.new) (counts self.new) (behind_faults self.new) (behind_ends self.new)) }
         ensures behind { OnJoined result (Behind (gave self.new) (took self.new) (behind_gave self.new) (behind_took self.new) (behind_left self.new) (behind_faults self.new) (ended self.new)) }
-        ensures finished { OnJoined result (FinishedBehind (behind_faults self.new) (behind_finished self.new)) }
-        ensures hinting { StaysHinting (hinting self.old) (hinting self.new) (hints self.new) };
+        ensures finished { OnJoined result (FinishedBehind (behind_faults self.new) (behind_finished self.new)) };
 }

@@ -1,7 +1,6 @@
 // The maker of every address that isn't a standard stream.
 ghost use Rattle.std.specs.Prelude.{◌≡◌, true, None};
 ghost use Rattle.port_trait.specs.Counting.{Counted};
-ghost use Rattle.port_trait.specs.Hinting.{StaysHinting};
 ghost use Rattle.port_trait.specs.Made.{making_failed, making_stalled, IsAtOnce};
 ghost use Rattle.file_ports.specs.Opened.{OnMade};
 ghost use Rattle.real_maker.specs.Makers.{risen, risen_if};
@@ -227,16 +226,12 @@ where
     /// Takes a peer at the door of a socket, without counting.
     fn take_peer(&mut self, door: &mut RealPort, key: usize) -> MadePeer<RealPort>
         ensures same { self.new ≡ self.old }
-        ensures hinting { StaysHinting (⟦<RealPort as Port>⟧.hinting door.old) (⟦<RealPort as Port>⟧.hinting door.new) (⟦<RealPort as Port>⟧.hints door.new) }
         ensures door { (⟦<RealPort as Port>⟧.gave door.new ≡ ⟦<RealPort as Port>⟧.gave door.old) × (⟦<RealPort as Port>⟧.took door.new ≡ ⟦<RealPort as Port>⟧.took door.old) }
     {
         match door {
             RealPort::Socket(socket) => peer_of(self.sockets.accept(socket, key)),
             RealPort::Peer(door) => gathered(door.accept()),
-            _ => {
-                let _ = door.hint();
-                MadePeer::Failed
-            }
+            _ => MadePeer::Failed,
         }
     }
 }

@@ -153,7 +153,7 @@ impl Port for RealPort {
         }
     }
 
-    fn may_hint(&self) -> bool {
+    fn may_hint(&self) -> Hint {
         match self {
             RealPort::Echo(port) => port.may_hint(),
             RealPort::Socket(port) => port.may_hint(),

@@ -1,6 +1,7 @@
 // A reader as a port.
 ghost use Rattle.std.specs.Prelude.{◌≡◌, ◌<◌, ◌≤◌, ◌+◌, ◌-◌, ◌^◌, ◌++◌, ◌∷◌, min, [], true, false, length, Some, None};
 ghost use Rattle.port_trait.specs.Counting.{Tallied};
+ghost use Rattle.port_trait.specs.Hinting.{all_hints};
 ghost use Rattle.port_trait.specs.Meanings.{Gives, Accepts, AcceptsWhole, AcceptsAll, Behind, OnJoined, begun_after, is_end, begin_event, settle_event, read_event, write_event, shut_event, join_answer};
 ghost use Rattle.port_trait.specs.Serving.{IsCalled, Explained, is_begin_served};
 ghost use Rattle.port_trait.specs.declared.answers.Begun.TheVariants as begins;
@@ -197,10 +198,10 @@ where
         }
     }
 
-    fn may_hint(&self) -> bool
-        ensures { result ≡ true }
+    fn may_hint(&self) -> Hint
+        ensures { result ≡ all_hints }
     {
-        true
+        Hint::all()
     }
 
     fn has_child(&self) -> bool

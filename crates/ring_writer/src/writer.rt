@@ -3,6 +3,7 @@ ghost use Rattle.std.specs.Prelude.{◌≡◌, ◌≢◌, ◌<◌, ◌≤◌, �
 ghost use Rattle.port_trait.specs.Counting.{Rose, Tallied};
 ghost use Rattle.port_trait.specs.Streams.{finishes};
 ghost use Rattle.port_trait.specs.Serving.{IsCalled, Explained, is_begin_served};
+ghost use Rattle.port_trait.specs.Hinting.{all_hints};
 ghost use Rattle.port_trait.specs.Meanings.{Gives, Accepts, AcceptsWhole, AcceptsAll, Behind, FinishedBehind, OnJoined, join_answer, begun_after, is_end, begin_event, settle_event, read_event, write_event, shut_event};
 ghost use Rattle.port_trait.specs.declared.answers.Begun.TheVariants as begins;
 ghost use Rattle.port_trait.specs.declared.answers.Got.TheVariants as reads;
@@ -283,10 +284,10 @@ where
         }
     }
 
-    fn may_hint(&self) -> bool
-        ensures { result ≡ true }
+    fn may_hint(&self) -> Hint
+        ensures { result ≡ all_hints }
     {
-        true
+        Hint::all()
     }
 
     fn has_child(&self) -> bool

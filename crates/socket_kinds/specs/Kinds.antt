@@ -1,5 +1,6 @@
 -- What contracts see of any socket.
-use Rattle.std.specs.Prelude.{Bool, true, false, Option, None, Some}
+use Rattle.std.specs.Prelude.{Bool, true, false}
+use Rattle.port_trait.specs.Hinting.{no_hint}
 use Rattle.port_trait.specs.declared.answers.Hint.{Hint}
 use Rattle.socket_kinds.specs.Datagrams.{datagram_hint}
 use Rattle.socket_kinds.specs.Doors.{door_hint}
@@ -7,10 +8,10 @@ use Rattle.socket_kinds.specs.declared.any_socket.AnySocket.{AnySocket}
 use Rattle.socket_kinds.specs.declared.any_socket.AnySocket.TheVariants as sockets
 
 -- what it knows of its readiness by itself: a stream knows nothing
-abbrev pub hint_of : AnySocket → Option Hint
-hint_of (sockets.Stream socket) = None
-hint_of (sockets.Datagrams socket) = Some (datagram_hint socket)
-hint_of (sockets.Door door) = Some (door_hint door)
+abbrev pub hint_of : AnySocket → Hint
+hint_of (sockets.Stream socket) = no_hint
+hint_of (sockets.Datagrams socket) = datagram_hint socket
+hint_of (sockets.Door door) = door_hint door
 
 -- the socket is a door
 abbrev pub is_door : AnySocket → Bool

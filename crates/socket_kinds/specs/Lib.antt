@@ -4,4 +4,3 @@ pub mod Datagrams
 pub mod Doors
 pub mod Kinds
 pub mod Peers
-pub mod Sockets

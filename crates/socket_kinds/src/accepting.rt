@@ -30,7 +30,6 @@ impl AnySocket {
         ensures sort { OnPeer (λ socket. is_door socket ≡ false) result }
         ensures no_door { is_door self.old ≡ false → result ≡ peers.Failed }
         ensures left_off { has_left_off self.new ≡ true → result ≡ peers.NoPeer }
-        ensures hinting { is_some (hint_of self.new) ≡ is_some (hint_of self.old) }
     {
         match self {
             AnySocket::Door(door) => accept_at(alloc, registry, door, key),

@@ -2,7 +2,6 @@
 ghost use Rattle.std.specs.Prelude.{◌≡◌, ◌<◌, length, None, is_some};
 ghost use Rattle.port_trait.specs.Meanings.{Gives, Accepts, AcceptsWhole};
 ghost use Rattle.socket_kinds.specs.Kinds.{hint_of};
-ghost use Rattle.socket_kinds.specs.Sockets.{hint_told};
 
 use crate::datagram::DatagramSocket;
 use crate::door::Door;
@@ -50,7 +49,6 @@ impl Socket for AnySocket {
 
     fn receive(&mut self, into: &mut [u8]) -> Got
         requires { 0 < length into.old }
-        ensures hinting { is_some (hint_of self.new) ≡ is_some (hint_of self.old) }
         ensures gives { Gives None None into.new result }
     {
         match self {
@@ -62,7 +60,6 @@ impl Socket for AnySocket {
 
     fn transmit(&mut self, bytes: &[u8]) -> Took
         requires { 0 < length bytes.now }
-        ensures hinting { is_some (hint_of self.new) ≡ is_some (hint_of self.old) }
         ensures accepts { Accepts None None bytes.now result }
     {
         match self {
@@ -74,7 +71,6 @@ impl Socket for AnySocket {
 
     fn transmit_packet(&mut self, bytes: &[u8]) -> Took
         requires { 0 < length bytes.now }
-        ensures hinting { is_some (hint_of self.new) ≡ is_some (hint_of self.old) }
         ensures accepts { AcceptsWhole None None bytes.now result }
     {
         match self {
@@ -93,22 +89,12 @@ impl Socket for AnySocket {
     }
 
     fn hint(&self) -> Hint
-        ensures { result ≡ hint_told (hint_of self.now) }
+        ensures { result ≡ hint_of self.now }
     {
         match self {
             AnySocket::Stream(socket) => socket.hint(),
             AnySocket::Datagrams(socket) => socket.hint(),
             AnySocket::Door(door) => door.hint(),
-        }
-    }
-
-    fn may_hint(&self) -> bool
-        ensures { result ≡ is_some (hint_of self.now) }
-    {
-        match self {
-            AnySocket::Stream(socket) => socket.may_hint(),
-            AnySocket::Datagrams(socket) => socket.may_hint(),
-            AnySocket::Door(door) => door.may_hint(),
         }
     }
 }

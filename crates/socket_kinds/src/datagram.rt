@@ -307,7 +307,7 @@ impl DatagramSocket {
 }
 
 impl Socket for DatagramSocket {
-    ghost hints = { λ socket. Some (datagram_hint socket) };
+    ghost hints = { datagram_hint };
 
     fn settle(&mut self) -> Settled
         ensures ready { result ≡ settles.Ready }
@@ -390,12 +390,6 @@ impl Socket for DatagramSocket {
             readable: self.waiting || self.cut_short,
             writable: false,
         }
-    }
-
-    fn may_hint(&self) -> bool
-        ensures { result ≡ true }
-    {
-        true
     }
 }
 

@@ -167,7 +167,7 @@ impl Door {
 }
 
 impl Socket for Door {
-    ghost hints = { λ door. Some (door_hint door) };
+    ghost hints = { door_hint };
 
     fn settle(&mut self) -> Settled
         ensures ready { result ≡ settles.Ready }
@@ -212,11 +212,5 @@ impl Socket for Door {
             readable: self.cut_short,
             writable: false,
         }
-    }
-
-    fn may_hint(&self) -> bool
-        ensures { result ≡ true }
-    {
-        true
     }
 }

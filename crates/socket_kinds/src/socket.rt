@@ -1,9 +1,9 @@
 // A socket, as the port over it calls it.
-ghost use Rattle.std.specs.Prelude.{◌≡◌, ◌<◌, List, ℕ, length, Option, None, is_some};
+ghost use Rattle.std.specs.Prelude.{◌≡◌, ◌<◌, List, ℕ, length, Option, None};
+ghost use Rattle.port_trait.specs.Hinting.{no_hint};
 ghost use Rattle.port_trait.specs.Meanings.{Gives, Accepts, AcceptsWhole, noted};
 ghost use Rattle.port_trait.specs.declared.answers.Hint.{Hint};
 ghost use Rattle.relay_model.specs.declared.acts.Shut.{Shut};
-ghost use Rattle.socket_kinds.specs.Sockets.{hint_told};
 
 use port_trait::{Got, Hint, Settled, Shutting, Took};
 use relay_model::Shut;
@@ -16,46 +16,37 @@ pub trait Socket: Drop {
     ghost took: { Self → Option (List ℕ) } = { λ _. None };
     // how it was told that no more will be written, each time
     ghost shuts: { Self → Option (List Shut) } = { λ _. None };
-    // what it knows of its readiness by itself; None, now and later, where it knows nothing
-    ghost hints: { Self → Option Hint } = { λ _. None };
+    // what it knows of its readiness by itself; only a call on it changes that
+    ghost hints: { Self → Hint } = { λ _. no_hint };
 
     /// Whether the connection stands.
     fn settle(&mut self) -> Settled
-        ensures hinting { is_some (hints self.new) ≡ is_some (hints self.old) }
         ensures kept { (gave self.new ≡ gave self.old) × (took self.new ≡ took self.old) × (shuts self.new ≡ shuts self.old) };
 
     /// Takes what there is, up to the length of `into`.
     fn receive(&mut self, into: &mut [u8]) -> Got
         requires { 0 < length into.old }
         ensures gives { Gives (gave self.old) (gave self.new) into.new result }
-        ensures hinting { is_some (hints self.new) ≡ is_some (hints self.old) }
         ensures kept { (took self.new ≡ took self.old) × (shuts self.new ≡ shuts self.old) };
 
     /// Accepts a front of the bytes.
     fn transmit(&mut self, bytes: &[u8]) -> Took
         requires { 0 < length bytes.now }
         ensures accepts { Accepts (took self.old) (took self.new) bytes.now result }
-        ensures hinting { is_some (hints self.new) ≡ is_some (hints self.old) }
         ensures kept { (gave self.new ≡ gave self.old) × (shuts self.new ≡ shuts self.old) };
 
     /// Accepts the bytes as one datagram, or none of them.
     fn transmit_packet(&mut self, bytes: &[u8]) -> Took
         requires { 0 < length bytes.now }
         ensures accepts { AcceptsWhole (took self.old) (took self.new) bytes.now result }
-        ensures hinting { is_some (hints self.new) ≡ is_some (hints self.old) }
         ensures kept { (gave self.new ≡ gave self.old) × (shuts self.new ≡ shuts self.old) };
 
     /// Passes on that no more bytes will be written.
     fn finish(&mut self, how: Shut) -> Shutting
         ensures told { shuts self.new ≡ noted how (shuts self.old) }
-        ensures hinting { is_some (hints self.new) ≡ is_some (hints self.old) }
         ensures kept { (gave self.new ≡ gave self.old) × (took self.new ≡ took self.old) };
 
     /// What it knows of its readiness by itself.
     fn hint(&self) -> Hint
-        ensures { result ≡ hint_told (hints self.now) };
-
-    /// Whether it may ever hint.
-    fn may_hint(&self) -> bool
-        ensures { result ≡ is_some (hints self.now) };
+        ensures { result ≡ hints self.now };
 }

@@ -176,15 +176,6 @@ impl Socket for StreamSocket {
     fn hint(&self) -> Hint
         ensures { result ≡ no_hint }
     {
-        Hint {
-            readable: false,
-            writable: false,
-        }
-    }
-
-    fn may_hint(&self) -> bool
-        ensures { result ≡ false }
-    {
-        false
+        Hint::none()
     }
 }

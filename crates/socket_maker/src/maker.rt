@@ -5,7 +5,6 @@ ghost use Rattle.port_trait.specs.Made.{making_failed, making_stalled, IsAtOnce,
 ghost use Rattle.port_trait.specs.declared.makers.Making.TheVariants as makings;
 ghost use Rattle.socket_maker.specs.Makers.{risen_if};
 ghost use Rattle.answer_counts.specs.Counted.{risen};
-ghost use Rattle.port_trait.specs.Hinting.{StaysHinting};
 ghost use Rattle.port_trait.specs.declared.makers.MadePeer.TheVariants as peers;
 ghost use Rattle.socket_kinds.specs.Kinds.{Listening, hint_of, is_door, has_left_off};
 ghost use Rattle.socket_kinds.specs.Accepting.{OnPort, OnPeer};
@@ -158,7 +157,6 @@ impl<R: Net + Clock + Files + Copy + Drop> Maker for SocketMaker<R> {
         ensures sort { OnPeer (λ port. is_door port.socket ≡ false) result }
         ensures no_door { is_door door.old.socket ≡ false → result ≡ peers.Failed }
         ensures left_off { has_left_off door.new.socket ≡ true → result ≡ peers.NoPeer }
-        ensures hinting { StaysHinting (is_some (hint_of door.old.socket)) (is_some (hint_of door.new.socket)) (hint_of door.new.socket) }
         ensures came { self.new.came ≡ came_after self.old.came result }
         ensures faults { Counted (peer_failed result) self.old.faults self.new.faults }
         ensures stalls { Counted (peer_stalled result) self.old.stalls self.new.stalls }

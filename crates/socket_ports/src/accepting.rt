@@ -1,6 +1,5 @@
 // Peers are accepted at doors.
 ghost use Rattle.std.specs.Prelude.{◌≡◌, false, true, is_some};
-ghost use Rattle.port_trait.specs.Hinting.{StaysHinting};
 ghost use Rattle.port_trait.specs.declared.makers.MadePeer.TheVariants as peers;
 ghost use Rattle.socket_kinds.specs.Accepting.{OnPeer};
 ghost use Rattle.socket_kinds.specs.Kinds.{is_door, has_left_off, hint_of};
@@ -29,7 +28,6 @@ impl<G: Drop> SocketPort<AnySocket, G> {
         ensures sort { OnPeer (λ port. is_door port.socket ≡ false) result }
         ensures no_door { is_door self.old.socket ≡ false → result ≡ peers.Failed }
         ensures left_off { has_left_off self.new.socket ≡ true → result ≡ peers.NoPeer }
-        ensures hinting { StaysHinting (is_some (hint_of self.old.socket)) (is_some (hint_of self.new.socket)) (hint_of self.new.socket) }
         ensures kept { (self.new.counts ≡ self.old.counts) × (self.new.begun ≡ self.old.begun) × (self.new.ended ≡ self.old.ended) }
     {
         match self.socket.accept(alloc, registry, key) {

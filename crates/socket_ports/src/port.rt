@@ -1,12 +1,10 @@
 // The port over a socket, which counts the answers.
-ghost use Rattle.std.specs.Prelude.{◌≡◌, ◌<◌, ◌≤◌, ◌++◌, true, false, length, take, is_some, option_map};
+ghost use Rattle.std.specs.Prelude.{◌≡◌, ◌<◌, ◌≤◌, ◌++◌, true, false, length, take, option_map, Some};
 ghost use Rattle.port_trait.specs.Counting.{Tallied};
-ghost use Rattle.port_trait.specs.Hinting.{StaysHinting};
 ghost use Rattle.port_trait.specs.Meanings.{Gives, Accepts, AcceptsWhole, AcceptsAll, is_end, settle_event, read_event, write_event, shut_event, noted};
 ghost use Rattle.port_trait.specs.declared.answers.Begun.TheVariants as begins;
 ghost use Rattle.port_trait.specs.declared.answers.PortReap.TheVariants as reaps;
 ghost use Rattle.port_trait.specs.declared.answers.Joining.TheVariants as joining;
-ghost use Rattle.socket_kinds.specs.Sockets.{hint_told};
 ghost use Rattle.answer_counts.specs.Counted.{counted};
 ghost use Rattle.socket_ports.specs.Sockets.{fresh_port};
 
@@ -63,9 +61,9 @@ impl<S: Socket, G: Drop> Port for SocketPort<S, G> {
 
     ghost shuts = { λ port. S.shuts port.socket };
 
-    ghost hints = { λ port. S.hints port.socket };
+    ghost hints = { λ port. Some (S.hints port.socket) };
 
-    ghost hinting = { λ port. is_some (S.hints port.socket) };
+    ghost hinting = { λ port. S.hints port.socket };
 
     ghost counts = { λ port. port.counts };
 
@@ -78,21 +76,17 @@ impl<S: Socket, G: Drop> Port for SocketPort<S, G> {
     ghost child = { λ _. false };
 
     /// The socket was opened by what made it.
-    #[tactic(auto, using(crate::proofs::Hintings::stays))]
     fn begin(&mut self) -> Begun
         ensures begun { result ≡ begins.Begun }
         ensures kept { self.new ≡ record self.old { begun = true } }
-        ensures hinting { StaysHinting (is_some (S.hints self.old.socket)) (is_some (S.hints self.new.socket)) (S.hints self.new.socket) }
     {
         self.begun = true;
         Begun::Begun
     }
 
-    #[tactic(auto, using(crate::proofs::Hintings::stays))]
     fn settle(&mut self) -> Settled
         ensures kept { (S.gave self.new.socket ≡ S.gave self.old.socket) × (S.took self.new.socket ≡ S.took self.old.socket) × (self.new.begun ≡ self.old.begun) × (self.new.ended ≡ self.old.ended) }
         ensures unshut { S.shuts self.new.socket ≡ S.shuts self.old.socket }
-        ensures hinting { StaysHinting (is_some (S.hints self.old.socket)) (is_some (S.hints self.new.socket)) (S.hints self.new.socket) }
         ensures counted { self.new.counts ≡ counted (settle_event result) self.old.counts }
         ensures counts { Tallied (settle_event result) self.old.counts self.new.counts }
     {
@@ -101,14 +95,12 @@ impl<S: Socket, G: Drop> Port for SocketPort<S, G> {
         settled
     }
 
-    #[tactic(auto, using(crate::proofs::Hintings::stays))]
     fn read(&mut self, into: &mut [u8]) -> Got
         requires { 0 < length into.old }
         ensures gives { Gives (S.gave self.old.socket) (S.gave self.new.socket) into.new result }
         ensures ended { self.new.ended ≡ is_end result }
         ensures kept { (S.took self.new.socket ≡ S.took self.old.socket) × (self.new.begun ≡ self.old.begun) }
         ensures unshut { S.shuts self.new.socket ≡ S.shuts self.old.socket }
-        ensures hinting { StaysHinting (is_some (S.hints self.old.socket)) (is_some (S.hints self.new.socket)) (S.hints self.new.socket) }
         ensures counted { self.new.counts ≡ counted (read_event result) self.old.counts }
         ensures counts { Tallied (read_event result) self.old.counts self.new.counts }
     {
@@ -118,13 +110,11 @@ impl<S: Socket, G: Drop> Port for SocketPort<S, G> {
         got
     }
 
-    #[tactic(auto, using(crate::proofs::Hintings::stays))]
     fn write(&mut self, bytes: &[u8]) -> Took
         requires { 0 < length bytes.now }
         ensures accepts { Accepts (S.took self.old.socket) (S.took self.new.socket) bytes.now result }
         ensures kept { (S.gave self.new.socket ≡ S.gave self.old.socket) × (self.new.begun ≡ self.old.begun) × (self.new.ended ≡ self.old.ended) }
         ensures unshut { S.shuts self.new.socket ≡ S.shuts self.old.socket }
-        ensures hinting { StaysHinting (is_some (S.hints self.old.socket)) (is_some (S.hints self.new.socket)) (S.hints self.new.socket) }
         ensures counted { self.new.counts ≡ counted (write_event result) self.old.counts }
         ensures counts { Tallied (write_event result) self.old.counts self.new.counts }
     {
@@ -133,13 +123,11 @@ impl<S: Socket, G: Drop> Port for SocketPort<S, G> {
         took
     }
 
-    #[tactic(auto, using(crate::proofs::Hintings::stays))]
     fn send(&mut self, bytes: &[u8]) -> Took
         requires { 0 < length bytes.now }
         ensures accepts { AcceptsWhole (S.took self.old.socket) (S.took self.new.socket) bytes.now result }
         ensures kept { (S.gave self.new.socket ≡ S.gave self.old.socket) × (self.new.begun ≡ self.old.begun) × (self.new.ended ≡ self.old.ended) }
         ensures unshut { S.shuts self.new.socket ≡ S.shuts self.old.socket }
-        ensures hinting { StaysHinting (is_some (S.hints self.old.socket)) (is_some (S.hints self.new.socket)) (S.hints self.new.socket) }
         ensures counted { self.new.counts ≡ counted (write_event result) self.old.counts }
         ensures counts { Tallied (write_event result) self.old.counts self.new.counts }
     {
@@ -149,12 +137,10 @@ impl<S: Socket, G: Drop> Port for SocketPort<S, G> {
     }
 
     /// Writes until all is accepted. Where the socket would block it fails, since no call of a socket waits.
-    #[tactic(auto, using(crate::proofs::Hintings::stays))]
     fn put_all(&mut self, bytes: &[u8]) -> Took
         ensures accepts { AcceptsAll (S.took self.old.socket) (S.took self.new.socket) bytes.now result }
         ensures kept { (S.gave self.new.socket ≡ S.gave self.old.socket) × (self.new.begun ≡ self.old.begun) × (self.new.ended ≡ self.old.ended) }
         ensures unshut { S.shuts self.new.socket ≡ S.shuts self.old.socket }
-        ensures hinting { StaysHinting (is_some (S.hints self.old.socket)) (is_some (S.hints self.new.socket)) (S.hints self.new.socket) }
         ensures counted { self.new.counts ≡ counted (write_event result) self.old.counts }
         ensures counts { Tallied (write_event result) self.old.counts self.new.counts }
     {
@@ -166,11 +152,9 @@ impl<S: Socket, G: Drop> Port for SocketPort<S, G> {
         Took::Took(count)
     }
 
-    #[tactic(auto, using(crate::proofs::Hintings::stays))]
     fn shut(&mut self, how: Shut) -> Shutting
         ensures told { S.shuts self.new.socket ≡ noted how (S.shuts self.old.socket) }
         ensures kept { (S.gave self.new.socket ≡ S.gave self.old.socket) × (S.took self.new.socket ≡ S.took self.old.socket) × (self.new.begun ≡ self.old.begun) × (self.new.ended ≡ self.old.ended) }
-        ensures hinting { StaysHinting (is_some (S.hints self.old.socket)) (is_some (S.hints self.new.socket)) (S.hints self.new.socket) }
         ensures counted { self.new.counts ≡ counted (shut_event result) self.old.counts }
         ensures counts { Tallied (shut_event result) self.old.counts self.new.counts }
     {
@@ -180,19 +164,17 @@ impl<S: Socket, G: Drop> Port for SocketPort<S, G> {
     }
 
     /// What the socket knows by itself. What the system knows of it, the poller names.
-    #[tactic(auto, using(crate::proofs::Hintings::stays))]
     fn hint(&mut self) -> Hint
-        ensures hinted { result ≡ hint_told (S.hints self.old.socket) }
+        ensures hinted { result ≡ S.hints self.old.socket }
         ensures kept { self.new ≡ self.old }
-        ensures hinting { StaysHinting (is_some (S.hints self.old.socket)) (is_some (S.hints self.new.socket)) (S.hints self.new.socket) }
     {
         self.socket.hint()
     }
 
-    fn may_hint(&self) -> bool
-        ensures { result ≡ is_some (S.hints self.now.socket) }
+    fn may_hint(&self) -> Hint
+        ensures { result ≡ S.hints self.now.socket }
     {
-        self.socket.may_hint()
+        self.socket.hint()
     }
 
     fn has_child(&self) -> bool
@@ -201,20 +183,16 @@ impl<S: Socket, G: Drop> Port for SocketPort<S, G> {
         false
     }
 
-    #[tactic(auto, using(crate::proofs::Hintings::stays))]
     fn reap(&mut self) -> PortReap
         ensures none { result ≡ reaps.NoChild }
         ensures kept { self.new ≡ self.old }
-        ensures hinting { StaysHinting (is_some (S.hints self.old.socket)) (is_some (S.hints self.new.socket)) (S.hints self.new.socket) }
     {
         PortReap::NoChild
     }
 
-    #[tactic(auto, using(crate::proofs::Hintings::stays))]
     fn join(&mut self) -> Joining
         ensures joined { result ≡ joining.Joined }
         ensures kept { self.new ≡ self.old }
-        ensures hinting { StaysHinting (is_some (S.hints self.old.socket)) (is_some (S.hints self.new.socket)) (S.hints self.new.socket) }
     {
         Joining::Joined
     }
@@ -225,7 +203,6 @@ fn transmit_front<S: Socket>(socket: &mut S, bytes: &[u8]) -> (usize, bool)
     ensures bound { result.0 ≤ length bytes.now }
     ensures all { result.1 ≡ false → result.0 ≡ length bytes.now }
     ensures took { S.took socket.new ≡ option_map (λ all. all ++ take result.0 bytes.now) (S.took socket.old) }
-    ensures hinting { is_some (S.hints socket.new) ≡ is_some (S.hints socket.old) }
     ensures kept { (S.gave socket.new ≡ S.gave socket.old) × (S.shuts socket.new ≡ S.shuts socket.old) }
 {
     let mut count = 0;

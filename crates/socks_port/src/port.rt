@@ -1,12 +1,11 @@
 // The port through a SOCKS server.
 ghost use Rattle.std.specs.Prelude.{◌≡◌, ◌<◌, true, false, [], length};
 ghost use Rattle.port_trait.specs.Counting.{Tallied};
-ghost use Rattle.port_trait.specs.Hinting.{StaysHinting};
 ghost use Rattle.answer_counts.specs.Counted.{counted};
 ghost use Rattle.port_trait.specs.Meanings.{Gives, Accepts, AcceptsAll, is_end, settle_event, read_event, write_event};
 ghost use Rattle.port_trait.specs.declared.answers.Took.TheVariants as writes;
 ghost use Rattle.tunnel_port.specs.Talks.{is_passed, is_over, settled_at, read_at, write_at, IsOnly, Follows, behind_talk, InTalk, HasCause};
-ghost use Rattle.tunnel_port.specs.Tunnels.{fresh_tunnel, hints_told};
+ghost use Rattle.tunnel_port.specs.Tunnels.{fresh_tunnel};
 ghost use Rattle.socks_port.specs.Replies.{Stands, refusal_of};
 
 use crate::refusal::SocksEnd;
@@ -68,7 +67,7 @@ impl<P: Port> Port for SocksPort<P> {
 
     ghost took = { λ port. behind_talk (is_passed port.stage) port.talk.request (P.took port.inner) };
 
-    ghost hints = { λ port. hints_told (P.hinting port.inner) (P.hints port.inner) };
+    ghost hints = { λ port. P.hints port.inner };
 
     ghost hinting = { λ port. P.hinting port.inner };
 
@@ -99,7 +98,6 @@ impl<P: Port> Port for SocksPort<P> {
         ensures request { self.new.talk.request ≡ self.old.talk.request }
         ensures unmoved { (behind_talk (is_passed self.new.stage) self.new.talk.request (P.took self.new.inner) ≡ behind_talk (is_passed self.old.stage) self.old.talk.request (P.took self.old.inner)) × (behind_talk (is_passed self.new.stage) self.new.talk.heard (P.gave self.new.inner) ≡ behind_talk (is_passed self.old.stage) self.old.talk.heard (P.gave self.old.inner)) }
         ensures kept { (P.begun self.new.inner ≡ P.begun self.old.inner) × (P.child self.new.inner ≡ P.child self.old.inner) × (self.new.ended ≡ self.old.ended) }
-        ensures hinting { StaysHinting (P.hinting self.old.inner) (P.hinting self.new.inner) (hints_told (P.hinting self.new.inner) (P.hints self.new.inner)) }
         ensures counted { self.new.counts ≡ counted (settle_event result) self.old.counts }
         ensures counts { Tallied (settle_event result) self.old.counts self.new.counts }
     {
@@ -117,7 +115,6 @@ impl<P: Port> Port for SocksPort<P> {
         ensures ended { self.new.ended ≡ is_end result }
         ensures kept { self.new ≡ record self.old { inner = self.new.inner; counts = self.new.counts; ended = self.new.ended } }
         ensures same { (P.took self.new.inner ≡ P.took self.old.inner) × (P.begun self.new.inner ≡ P.begun self.old.inner) × (P.child self.new.inner ≡ P.child self.old.inner) }
-        ensures hinting { StaysHinting (P.hinting self.old.inner) (P.hinting self.new.inner) (hints_told (P.hinting self.new.inner) (P.hints self.new.inner)) }
         ensures counted { self.new.counts ≡ counted (read_event result) self.old.counts }
         ensures counts { Tallied (read_event result) self.old.counts self.new.counts }
     {
@@ -134,7 +131,6 @@ impl<P: Port> Port for SocksPort<P> {
         ensures accepts { Accepts (behind_talk (is_passed self.old.stage) self.old.talk.request (P.took self.old.inner)) (behind_talk (is_passed self.new.stage) self.new.talk.request (P.took self.new.inner)) bytes.now result }
         ensures kept { self.new ≡ record self.old { inner = self.new.inner; counts = self.new.counts } }
         ensures same { (P.gave self.new.inner ≡ P.gave self.old.inner) × (P.begun self.new.inner ≡ P.begun self.old.inner) × (P.child self.new.inner ≡ P.child self.old.inner) }
-        ensures hinting { StaysHinting (P.hinting self.old.inner) (P.hinting self.new.inner) (hints_told (P.hinting self.new.inner) (P.hints self.new.inner)) }
         ensures counted { self.new.counts ≡ counted (write_event result) self.old.counts }
         ensures counts { Tallied (write_event result) self.old.counts self.new.counts }
     {
@@ -145,7 +141,6 @@ impl<P: Port> Port for SocksPort<P> {
     fn send(&mut self, bytes: &[u8]) -> Took
         ensures failed { result ≡ writes.Failed }
         ensures kept { self.new ≡ record self.old { counts = self.new.counts } }
-        ensures hinting { StaysHinting (P.hinting self.old.inner) (P.hinting self.new.inner) (hints_told (P.hinting self.new.inner) (P.hints self.new.inner)) }
         ensures counted { self.new.counts ≡ counted (write_event result) self.old.counts }
         ensures counts { Tallied (write_event result) self.old.counts self.new.counts }
     {
@@ -161,7 +156,6 @@ impl<P: Port> Port for SocksPort<P> {
         ensures accepts { AcceptsAll (behind_talk (is_passed self.old.stage) self.old.talk.request (P.took self.old.inner)) (behind_talk (is_passed self.new.stage) self.new.talk.request (P.took self.new.inner)) bytes.now result }
         ensures kept { self.new ≡ record self.old { inner = self.new.inner; counts = self.new.counts } }
         ensures same { (P.gave self.new.inner ≡ P.gave self.old.inner) × (P.begun self.new.inner ≡ P.begun self.old.inner) × (P.child self.new.inner ≡ P.child self.old.inner) }
-        ensures hinting { StaysHinting (P.hinting self.old.inner) (P.hinting self.new.inner) (hints_told (P.hinting self.new.inner) (P.hints self.new.inner)) }
         ensures counted { self.new.counts ≡ counted (write_event result) self.old.counts }
         ensures counts { Tallied (write_event result) self.old.counts self.new.counts }
     {
@@ -176,7 +170,7 @@ impl<P: Port> Port for SocksPort<P> {
         self.tunnel.hint()
     }
 
-    fn may_hint(&self) -> bool {
+    fn may_hint(&self) -> Hint {
         self.tunnel.may_hint()
     }
 

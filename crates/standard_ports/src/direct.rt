@@ -111,7 +111,7 @@ impl Port for DirectPort {
         }
     }
 
-    fn may_hint(&self) -> bool {
+    fn may_hint(&self) -> Hint {
         match self {
             DirectPort::Pipe(port) => port.may_hint(),
             DirectPort::Shared(port) => port.may_hint(),

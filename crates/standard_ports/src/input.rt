@@ -110,7 +110,7 @@ impl<R: Threads + Wait + Copy + Drop> Port for InputPort<R> {
         }
     }
 
-    fn may_hint(&self) -> bool {
+    fn may_hint(&self) -> Hint {
         match self {
             InputPort::Direct(port) => port.may_hint(),
             InputPort::Ring(port) => port.may_hint(),

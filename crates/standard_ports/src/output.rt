@@ -111,7 +111,7 @@ impl<R: Threads + Wait + Copy + Drop> Port for OutputPort<R> {
         }
     }
 
-    fn may_hint(&self) -> bool {
+    fn may_hint(&self) -> Hint {
         match self {
             OutputPort::Direct(port) => port.may_hint(),
             OutputPort::Ring(port) => port.may_hint(),

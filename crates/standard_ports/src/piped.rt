@@ -120,8 +120,8 @@ impl Port for PipePort {
         }
     }
 
-    fn may_hint(&self) -> bool {
-        true
+    fn may_hint(&self) -> Hint {
+        Hint::all()
     }
 
     fn has_child(&self) -> bool {

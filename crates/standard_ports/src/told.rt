@@ -1,6 +1,5 @@
 // A socket with an account of what passed it.
 ghost use Rattle.std.specs.Prelude.{◌≡◌, ◌<◌, length};
-ghost use Rattle.socket_kinds.specs.Sockets.{hint_told};
 ghost use Rattle.standard_ports.specs.Told.{fresh_told, told_or};
 
 use port_account::{Account, Call};
@@ -91,9 +90,5 @@ impl<S: Socket> Socket for ToldSocket<S> {
 
     fn hint(&self) -> Hint {
         self.socket.hint()
-    }
-
-    fn may_hint(&self) -> bool {
-        self.socket.may_hint()
     }
 }

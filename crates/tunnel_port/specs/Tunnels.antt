@@ -18,8 +18,3 @@ pub record TunnelState (P T : Type 0) : Type 0 where
 -- a port whose talk has not begun
 abbrev pub fresh_tunnel : {P T : Type 0} → P → T → TunnelState P T
 fresh_tunnel inner talk = record { inner = inner; talk = talk; said = 0; stage = stages.Joining; counts = record { faults = 0; ends = 0; empties = 0; stalls = 0 }; ended = false }
-
--- a port that never hints tells no hints
-abbrev pub hints_told : Bool → Option Hint → Option Hint
-hints_told true hints = hints
-hints_told false hints = None

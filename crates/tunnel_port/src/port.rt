@@ -1,13 +1,13 @@
 // The port behind a talk.
 ghost use Rattle.std.specs.Prelude.{◌≡◌, ◌<◌, true, false, [], length, IfSome};
 ghost use Rattle.port_trait.specs.Counting.{Tallied};
-ghost use Rattle.port_trait.specs.Hinting.{StaysHinting, no_hint};
+ghost use Rattle.port_trait.specs.Hinting.{IsWithin};
 ghost use Rattle.answer_counts.specs.Counted.{counted};
 ghost use Rattle.port_trait.specs.Meanings.{Gives, Accepts, AcceptsAll, ReapsChild, begun_after, is_end, begin_event, settle_event, read_event, write_event, shut_event, join_answer};
 ghost use Rattle.port_trait.specs.declared.answers.Begun.TheVariants as begins;
 ghost use Rattle.port_trait.specs.declared.answers.Took.TheVariants as writes;
 ghost use Rattle.tunnel_port.specs.Talks.{is_passed, is_over, settled_at, read_at, write_at, IsOnly, behind_talk, InTalk, IsJudged, HasCause};
-ghost use Rattle.tunnel_port.specs.Tunnels.{fresh_tunnel, hints_told};
+ghost use Rattle.tunnel_port.specs.Tunnels.{fresh_tunnel};
 
 use crate::progress::go_on;
 use crate::stage::Stage;
@@ -91,7 +91,7 @@ impl<P: Port, T: Talk> Port for TunnelPort<P, T> {
 
     ghost took = { λ port. behind_talk (is_passed port.stage) (T.asks port.talk) (P.took port.inner) };
 
-    ghost hints = { λ port. hints_told (P.hinting port.inner) (P.hints port.inner) };
+    ghost hints = { λ port. P.hints port.inner };
 
     ghost hinting = { λ port. P.hinting port.inner };
 
@@ -106,13 +106,12 @@ impl<P: Port, T: Talk> Port for TunnelPort<P, T> {
     ghost child = { λ port. P.child port.inner };
 
     /// Begins the port beneath.
-    #[tactic(auto, using(crate::proofs::Passing::talk_kept, crate::proofs::Hints::stays))]
+    #[tactic(auto, using(crate::proofs::Passing::talk_kept))]
     fn begin(&mut self) -> Begun
         ensures again { P.begun self.old.inner ≡ true → (result ≡ begins.Begun) × (self.new ≡ self.old) }
         ensures begun { P.begun self.new.inner ≡ begun_after (P.begun self.old.inner) result }
         ensures beneath { (P.gave self.new.inner ≡ P.gave self.old.inner) × (P.took self.new.inner ≡ P.took self.old.inner) }
         ensures kept { self.new ≡ record self.old { inner = self.new.inner; counts = self.new.counts } }
-        ensures hinting { StaysHinting (P.hinting self.old.inner) (P.hinting self.new.inner) (hints_told (P.hinting self.new.inner) (P.hints self.new.inner)) }
         ensures counted { self.new.counts ≡ counted (begin_event result) self.old.counts }
         ensures counts { Tallied (begin_event result) self.old.counts self.new.counts }
     {
@@ -123,7 +122,6 @@ impl<P: Port, T: Talk> Port for TunnelPort<P, T> {
 
     /// Settles the port beneath, and then goes on with the talk as far as that port lets it. It is ready once the
     /// reply has granted the request; after a failure each further call fails.
-    #[tactic(auto, using(crate::proofs::Hints::stays))]
     fn settle(&mut self) -> Settled
         ensures answer { result ≡ settled_at self.new.stage }
         ensures cause { is_over self.old.stage ≡ false → HasCause self.new.stage (P.counts self.old.inner) (P.counts self.new.inner) }
@@ -134,7 +132,6 @@ impl<P: Port, T: Talk> Port for TunnelPort<P, T> {
         ensures took { behind_talk (is_passed self.new.stage) (T.asks self.new.talk) (P.took self.new.inner) ≡ behind_talk (is_passed self.old.stage) (T.asks self.old.talk) (P.took self.old.inner) }
         ensures gave { behind_talk (is_passed self.new.stage) (T.heard self.new.talk) (P.gave self.new.inner) ≡ behind_talk (is_passed self.old.stage) (T.heard self.old.talk) (P.gave self.old.inner) }
         ensures kept { (P.begun self.new.inner ≡ P.begun self.old.inner) × (P.child self.new.inner ≡ P.child self.old.inner) × (self.new.ended ≡ self.old.ended) }
-        ensures hinting { StaysHinting (P.hinting self.old.inner) (P.hinting self.new.inner) (hints_told (P.hinting self.new.inner) (P.hints self.new.inner)) }
         ensures counted { self.new.counts ≡ counted (settle_event result) self.old.counts }
         ensures counts { Tallied (settle_event result) self.old.counts self.new.counts }
     {
@@ -145,7 +142,7 @@ impl<P: Port, T: Talk> Port for TunnelPort<P, T> {
     }
 
     /// Reads what lies behind the reply.
-    #[tactic(auto, using(crate::proofs::Passing::talk_given, crate::proofs::Hints::stays))]
+    #[tactic(auto, using(crate::proofs::Passing::talk_given))]
     fn read(&mut self, into: &mut [u8]) -> Got
         requires { 0 < length into.old }
         ensures barred { is_passed self.old.stage ≡ false → (result ≡ read_at self.old.stage) × (self.new ≡ record self.old { counts = self.new.counts; ended = false }) }
@@ -155,7 +152,6 @@ impl<P: Port, T: Talk> Port for TunnelPort<P, T> {
         ensures ended { self.new.ended ≡ is_end result }
         ensures kept { self.new ≡ record self.old { inner = self.new.inner; counts = self.new.counts; ended = self.new.ended } }
         ensures same { (P.took self.new.inner ≡ P.took self.old.inner) × (P.begun self.new.inner ≡ P.begun self.old.inner) × (P.child self.new.inner ≡ P.child self.old.inner) }
-        ensures hinting { StaysHinting (P.hinting self.old.inner) (P.hinting self.new.inner) (hints_told (P.hinting self.new.inner) (P.hints self.new.inner)) }
         ensures counted { self.new.counts ≡ counted (read_event result) self.old.counts }
         ensures counts { Tallied (read_event result) self.old.counts self.new.counts }
     {
@@ -172,7 +168,7 @@ impl<P: Port, T: Talk> Port for TunnelPort<P, T> {
     }
 
     /// Writes behind the request.
-    #[tactic(auto, using(crate::proofs::Passing::talk_accepted, crate::proofs::Hints::stays))]
+    #[tactic(auto, using(crate::proofs::Passing::talk_accepted))]
     fn write(&mut self, bytes: &[u8]) -> Took
         requires { 0 < length bytes.now }
         ensures barred { is_passed self.old.stage ≡ false → (result ≡ write_at self.old.stage) × (self.new ≡ record self.old { counts = self.new.counts }) }
@@ -181,7 +177,6 @@ impl<P: Port, T: Talk> Port for TunnelPort<P, T> {
         ensures accepts { Accepts (behind_talk (is_passed self.old.stage) (T.asks self.old.talk) (P.took self.old.inner)) (behind_talk (is_passed self.new.stage) (T.asks self.new.talk) (P.took self.new.inner)) bytes.now result }
         ensures kept { self.new ≡ record self.old { inner = self.new.inner; counts = self.new.counts } }
         ensures same { (P.gave self.new.inner ≡ P.gave self.old.inner) × (P.begun self.new.inner ≡ P.begun self.old.inner) × (P.child self.new.inner ≡ P.child self.old.inner) }
-        ensures hinting { StaysHinting (P.hinting self.old.inner) (P.hinting self.new.inner) (hints_told (P.hinting self.new.inner) (P.hints self.new.inner)) }
         ensures counted { self.new.counts ≡ counted (write_event result) self.old.counts }
         ensures counts { Tallied (write_event result) self.old.counts self.new.counts }
     {
@@ -196,12 +191,10 @@ impl<P: Port, T: Talk> Port for TunnelPort<P, T> {
     }
 
     /// There are no packets behind a talk.
-    #[tactic(auto, using(crate::proofs::Hints::stays))]
     fn send(&mut self, _bytes: &[u8]) -> Took
         ensures failed { result ≡ writes.Failed }
         ensures kept { self.new ≡ record self.old { counts = self.new.counts } }
         ensures counted { self.new.counts ≡ counted (write_event result) self.old.counts }
-        ensures hinting { StaysHinting (P.hinting self.old.inner) (P.hinting self.new.inner) (hints_told (P.hinting self.new.inner) (P.hints self.new.inner)) }
         ensures counts { Tallied (write_event result) self.old.counts self.new.counts }
     {
         let took = Took::Failed;
@@ -210,7 +203,7 @@ impl<P: Port, T: Talk> Port for TunnelPort<P, T> {
     }
 
     /// Writes all bytes behind the request. It fails before the request is granted.
-    #[tactic(auto, using(crate::proofs::Passing::talk_accepted_all, crate::proofs::Hints::stays))]
+    #[tactic(auto, using(crate::proofs::Passing::talk_accepted_all))]
     fn put_all(&mut self, bytes: &[u8]) -> Took
         ensures barred { is_passed self.old.stage ≡ false → (result ≡ writes.Failed) × (self.new ≡ record self.old { counts = self.new.counts }) }
         ensures beneath { is_passed self.old.stage ≡ true → AcceptsAll (P.took self.old.inner) (P.took self.new.inner) bytes.now result × Tallied (write_event result) (P.counts self.old.inner) (P.counts self.new.inner) }
@@ -218,7 +211,6 @@ impl<P: Port, T: Talk> Port for TunnelPort<P, T> {
         ensures accepts { AcceptsAll (behind_talk (is_passed self.old.stage) (T.asks self.old.talk) (P.took self.old.inner)) (behind_talk (is_passed self.new.stage) (T.asks self.new.talk) (P.took self.new.inner)) bytes.now result }
         ensures kept { self.new ≡ record self.old { inner = self.new.inner; counts = self.new.counts } }
         ensures same { (P.gave self.new.inner ≡ P.gave self.old.inner) × (P.begun self.new.inner ≡ P.begun self.old.inner) × (P.child self.new.inner ≡ P.child self.old.inner) }
-        ensures hinting { StaysHinting (P.hinting self.old.inner) (P.hinting self.new.inner) (hints_told (P.hinting self.new.inner) (P.hints self.new.inner)) }
         ensures counted { self.new.counts ≡ counted (write_event result) self.old.counts }
         ensures counts { Tallied (write_event result) self.old.counts self.new.counts }
     {
@@ -233,12 +225,11 @@ impl<P: Port, T: Talk> Port for TunnelPort<P, T> {
     }
 
     /// Shuts the port beneath.
-    #[tactic(auto, using(crate::proofs::Passing::talk_kept, crate::proofs::Hints::stays))]
+    #[tactic(auto, using(crate::proofs::Passing::talk_kept))]
     fn shut(&mut self, how: Shut) -> Shutting
         ensures beneath { Tallied (shut_event result) (P.counts self.old.inner) (P.counts self.new.inner) }
         ensures kept { self.new ≡ record self.old { inner = self.new.inner; counts = self.new.counts } }
         ensures same { (P.gave self.new.inner ≡ P.gave self.old.inner) × (P.took self.new.inner ≡ P.took self.old.inner) × (P.begun self.new.inner ≡ P.begun self.old.inner) × (P.child self.new.inner ≡ P.child self.old.inner) }
-        ensures hinting { StaysHinting (P.hinting self.old.inner) (P.hinting self.new.inner) (hints_told (P.hinting self.new.inner) (P.hints self.new.inner)) }
         ensures counted { self.new.counts ≡ counted (shut_event result) self.old.counts }
         ensures counts { Tallied (shut_event result) self.old.counts self.new.counts }
     {
@@ -248,19 +239,20 @@ impl<P: Port, T: Talk> Port for TunnelPort<P, T> {
     }
 
     /// What the port beneath hints.
-    #[tactic(auto, using(crate::proofs::Passing::talk_kept, crate::proofs::Hints::stays))]
+    #[tactic(auto, using(crate::proofs::Passing::talk_kept))]
     fn hint(&mut self) -> Hint
         ensures hinted { IfSome (P.hints self.old.inner) (λ hint. result ≡ hint) }
-        ensures unready { P.hinting self.old.inner ≡ false → result ≡ no_hint }
+        ensures within { IsWithin (P.hinting self.old.inner) result }
+        ensures hinting { P.hinting self.new.inner ≡ P.hinting self.old.inner }
         ensures kept { self.new ≡ record self.old { inner = self.new.inner } }
         ensures same { (P.gave self.new.inner ≡ P.gave self.old.inner) × (P.took self.new.inner ≡ P.took self.old.inner) × (P.hints self.new.inner ≡ P.hints self.old.inner) × (P.counts self.new.inner ≡ P.counts self.old.inner) × (P.begun self.new.inner ≡ P.begun self.old.inner) × (P.joins self.new.inner ≡ P.joins self.old.inner) × (P.child self.new.inner ≡ P.child self.old.inner) }
-        ensures hinting { StaysHinting (P.hinting self.old.inner) (P.hinting self.new.inner) (hints_told (P.hinting self.new.inner) (P.hints self.new.inner)) }
     {
         self.inner.hint()
     }
 
-    fn may_hint(&self) -> bool
-        ensures { result ≡ P.hinting self.now.inner }
+    fn may_hint(&self) -> Hint
+        ensures halves { result ≡ P.hinting self.now.inner }
+        ensures told { IfSome (P.hints self.now.inner) (λ hint. IsWithin result hint) }
     {
         self.inner.may_hint()
     }
@@ -272,23 +264,21 @@ impl<P: Port, T: Talk> Port for TunnelPort<P, T> {
     }
 
     /// Reaps the child of the port beneath.
-    #[tactic(auto, using(crate::proofs::Passing::talk_kept, crate::proofs::Hints::stays))]
+    #[tactic(auto, using(crate::proofs::Passing::talk_kept))]
     fn reap(&mut self) -> PortReap
         ensures reaped { ReapsChild (P.child self.old.inner) result }
         ensures kept { self.new ≡ record self.old { inner = self.new.inner } }
         ensures same { (P.gave self.new.inner ≡ P.gave self.old.inner) × (P.took self.new.inner ≡ P.took self.old.inner) × (P.begun self.new.inner ≡ P.begun self.old.inner) × (P.child self.new.inner ≡ P.child self.old.inner) }
-        ensures hinting { StaysHinting (P.hinting self.old.inner) (P.hinting self.new.inner) (hints_told (P.hinting self.new.inner) (P.hints self.new.inner)) }
     {
         self.inner.reap()
     }
 
     /// Joins the port beneath.
-    #[tactic(auto, using(crate::proofs::Passing::talk_kept, crate::proofs::Hints::stays))]
+    #[tactic(auto, using(crate::proofs::Passing::talk_kept))]
     fn join(&mut self) -> Joining
         ensures joined { result ≡ join_answer (P.joins self.old.inner) }
         ensures kept { self.new ≡ record self.old { inner = self.new.inner } }
         ensures same { (P.gave self.new.inner ≡ P.gave self.old.inner) × (P.took self.new.inner ≡ P.took self.old.inner) × (P.begun self.new.inner ≡ P.begun self.old.inner) × (P.joins self.new.inner ≡ P.joins self.old.inner) × (P.child self.new.inner ≡ P.child self.old.inner) }
-        ensures hinting { StaysHinting (P.hinting self.old.inner) (P.hinting self.new.inner) (hints_told (P.hinting self.new.inner) (P.hints self.new.inner)) }
     {
         self.inner.join()
     }

@@ -20,7 +20,7 @@ fn ask<P: Port>(inner: &mut P, request: &[u8], said: usize) -> (usize, Settled)
     ensures cause { Paused result.1 (P.counts inner.old) (P.counts inner.new) }
     ensures grew { Grew (P.counts inner.old) (P.counts inner.new) }
     ensures unsaid { nothing_of (P.took inner.new) ≡ nothing_of (P.took inner.old) }
-    ensures kept { (P.gave inner.new ≡ P.gave inner.old) × (P.begun inner.new ≡ P.begun inner.old) × (P.child inner.new ≡ P.child inner.old) × (P.hinting inner.new ≡ P.hinting inner.old) }
+    ensures kept { (P.gave inner.new ≡ P.gave inner.old) × (P.begun inner.new ≡ P.begun inner.old) × (P.child inner.new ≡ P.child inner.old) }
 {
     let mut count = said;
     while count < request.len() {
@@ -45,7 +45,7 @@ fn hear_byte<P: Port, T: Talk>(inner: &mut P, talk: &mut T) -> Option<Stage>
     ensures grew { Grew (P.counts inner.old) (P.counts inner.new) }
     ensures unheard { nothing_of (P.gave inner.new) ≡ nothing_of (P.gave inner.old) }
     ensures asks { T.asks talk.new ≡ T.asks talk.old }
-    ensures kept { (P.took inner.new ≡ P.took inner.old) × (P.begun inner.new ≡ P.begun inner.old) × (P.child inner.new ≡ P.child inner.old) × (P.hinting inner.new ≡ P.hinting inner.old) }
+    ensures kept { (P.took inner.new ≡ P.took inner.old) × (P.begun inner.new ≡ P.begun inner.old) × (P.child inner.new ≡ P.child inner.old) }
 {
     let mut byte = [0];
     match inner.read(&mut byte) {
@@ -69,7 +69,7 @@ fn listen<P: Port, T: Talk>(inner: &mut P, talk: &mut T) -> Stage
     ensures cause { HasCause result (P.counts inner.old) (P.counts inner.new) }
     ensures unheard { nothing_of (P.gave inner.new) ≡ nothing_of (P.gave inner.old) }
     ensures asks { T.asks talk.new ≡ T.asks talk.old }
-    ensures kept { (P.took inner.new ≡ P.took inner.old) × (P.begun inner.new ≡ P.begun inner.old) × (P.child inner.new ≡ P.child inner.old) × (P.hinting inner.new ≡ P.hinting inner.old) }
+    ensures kept { (P.took inner.new ≡ P.took inner.old) × (P.begun inner.new ≡ P.begun inner.old) × (P.child inner.new ≡ P.child inner.old) }
 {
     loop {
         if let Some(stage) = hear_byte(inner, talk) {
@@ -89,7 +89,7 @@ fn talk_on<P: Port, T: Talk>(inner: &mut P, talk: &mut T, said: &mut usize) -> S
     ensures unsaid { behind_talk (is_passed result) (T.asks talk.new) (P.took inner.new) ≡ nothing_of (P.took inner.old) }
     ensures unheard { behind_talk (is_passed result) (T.heard talk.new) (P.gave inner.new) ≡ nothing_of (P.gave inner.old) }
     ensures asks { T.asks talk.new ≡ T.asks talk.old }
-    ensures kept { (P.begun inner.new ≡ P.begun inner.old) × (P.child inner.new ≡ P.child inner.old) × (P.hinting inner.new ≡ P.hinting inner.old) }
+    ensures kept { (P.begun inner.new ≡ P.begun inner.old) × (P.child inner.new ≡ P.child inner.old) }
 {
     let (written, asked) = ask(inner, talk.request(), *said);
     *said = written;
@@ -117,7 +117,7 @@ pub(crate) fn go_on<P: Port, T: Talk>(
     ensures unsaid { behind_talk (is_passed result) (T.asks talk.new) (P.took inner.new) ≡ behind_talk (is_passed stage) (T.asks talk.old) (P.took inner.old) }
     ensures unheard { behind_talk (is_passed result) (T.heard talk.new) (P.gave inner.new) ≡ behind_talk (is_passed stage) (T.heard talk.old) (P.gave inner.old) }
     ensures asks { T.asks talk.new ≡ T.asks talk.old }
-    ensures kept { (P.begun inner.new ≡ P.begun inner.old) × (P.child inner.new ≡ P.child inner.old) × (P.hinting inner.new ≡ P.hinting inner.old) }
+    ensures kept { (P.begun inner.new ≡ P.begun inner.old) × (P.child inner.new ≡ P.child inner.old) }
 {
     match stage {
         Stage::Joining => match inner.settle() {

@@ -9,5 +9,4 @@ loop-count-preserved g c = record {
   took = adds_more (g.S.Socket.took c.args.socket.now) (g.S.Socket.took c.loop-count.socket) (g.S.Socket.took c.transmit.new.self) c.args.bytes.now c.loop-count.count c.in-Took.more c.loop-count.invariant.took (c.in-Took.ensures.accepts.2);
   gave = c.in-Took.ensures.kept.0 ∙ c.loop-count.invariant.gave;
   shuts = c.in-Took.ensures.kept.1 ∙ c.loop-count.invariant.shuts;
-  hinting = c.in-Took.ensures.hinting ∙ c.loop-count.invariant.hinting;
 }

@@ -1,4 +1,4 @@
-use Rattle.std.proofs.Common.{◌≡◌, ◌≤◌, ◌-◌, ◌++◌, length, take, option_map, is_some}
+use Rattle.std.proofs.Common.{◌≡◌, ◌≤◌, ◌-◌, ◌++◌, length, take, option_map}
 use Rattle.socket_ports.proofs.port.transmit_front.Given as goal
 
 abbrev pub invariant-loop-count : goal.invariant-loop-count
@@ -7,7 +7,6 @@ invariant-loop-count g l = record {
   took : g.S.Socket.took l.socket ≡ option_map (λ all. all ++ take l.count l.bytes) (g.S.Socket.took l.fn.socket);
   gave : g.S.Socket.gave l.socket ≡ g.S.Socket.gave l.fn.socket;
   shuts : g.S.Socket.shuts l.socket ≡ g.S.Socket.shuts l.fn.socket;
-  hinting : is_some (g.S.Socket.hints l.socket) ≡ is_some (g.S.Socket.hints l.fn.socket);
 }
 
 abbrev pub decreases-loop-count : goal.decreases-loop-count

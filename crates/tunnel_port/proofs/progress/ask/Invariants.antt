@@ -13,7 +13,6 @@ invariant-loop-count g l =
     × (g.P.Port.gave l.inner ≡ g.P.Port.gave l.fn.inner)
     × (g.P.Port.begun l.inner ≡ g.P.Port.begun l.fn.inner)
     × (g.P.Port.child l.inner ≡ g.P.Port.child l.fn.inner)
-    × (g.P.Port.hinting l.inner ≡ g.P.Port.hinting l.fn.inner)
 
 abbrev pub decreases-loop-count : goal.decreases-loop-count
 decreases-loop-count g l = length l.request - l.count

@@ -14,7 +14,6 @@ invariant-loop-stage g l =
     × (g.P.Port.took l.inner ≡ g.P.Port.took l.fn.inner)
     × (g.P.Port.begun l.inner ≡ g.P.Port.begun l.fn.inner)
     × (g.P.Port.child l.inner ≡ g.P.Port.child l.fn.inner)
-    × (g.P.Port.hinting l.inner ≡ g.P.Port.hinting l.fn.inner)
 
 abbrev pub decreases-loop-stage : goal.decreases-loop-stage
 decreases-loop-stage g l = g.T.Talk.limit - length (g.T.Talk.heard l.talk)

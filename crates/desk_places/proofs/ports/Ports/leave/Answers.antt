@@ -1,6 +1,6 @@
 use Rattle.desk_places.proofs.BaseLemmas.{leaves_here}
-use Rattle.std.proofs.Common.{◌≡◌, ◌∙◌, None, Some, ap, sym}
-use Rattle.desk_places.proofs.PortLemmas.{based_some, key_made, let_go_gone, let_go_others, none_made, not_made}
+use Rattle.std.proofs.Common.{◌≡◌, ◌∙◌, None, Some, ap, refl, sym}
+use Rattle.desk_places.proofs.PortLemmas.{based_some, key_made, let_go_gone, let_go_others, not_made}
 use Rattle.desk_places.proofs.SoundLemmas.{sound_fewer, sound_let_go}
 use Rattle.desk_places.proofs.ports.Ports.leave.Goals as goal
 
@@ -8,7 +8,7 @@ pub returns-in-None-clause-gone : goal.returns-in-None-clause-gone
 returns-in-None-clause-gone g c = λ key e. absurd (not_made c.args.stations.now.entries c.args.place c.args.base (sym c.made_key.ensures ∙ c.in-None.is) c.requires.based key e)
 
 pub returns-in-None-clause-sound : goal.returns-in-None-clause-sound
-returns-in-None-clause-sound g c = λ sound. sound_fewer c.args.stations.now.entries c.remove.new.self.entries c.args.place c.args.self.now.harbor.made c.remove.ensures.set sound
+returns-in-None-clause-sound g c = λ but. sound_fewer c.args.stations.now.entries c.remove.new.self.entries c.args.place c.args.self.now.harbor.made c.args.self.now.harbor.made c.args.self.now.listed c.args.self.now.listed c.remove.ensures.set refl but refl refl
 
 pub returns-in-None-clause-held : goal.returns-in-None-clause-held
 returns-in-None-clause-held g c = c.remove.ensures.held
@@ -23,7 +23,9 @@ pub returns-in-Some-clause-others : goal.returns-in-Some-clause-others
 returns-in-Some-clause-others g c = let_go_others c.args.stations.now.entries c.args.place c.args.self.now.harbor.made c.let_go.new.self.harbor.made c.in-Some.key (c.requires.based ∙ ap Some (key_made c.args.base c.in-Some.key (sym c.made_key.ensures ∙ c.in-Some.is))) c.let_go.ensures.made
 
 pub returns-in-Some-clause-sound : goal.returns-in-Some-clause-sound
-returns-in-Some-clause-sound g c = λ sound. sound_let_go c.args.stations.now.entries c.remove.new.self.entries c.args.place c.args.self.now.harbor.made c.let_go.new.self.harbor.made c.in-Some.key (c.requires.based ∙ ap Some (key_made c.args.base c.in-Some.key (sym c.made_key.ensures ∙ c.in-Some.is))) c.remove.ensures.set c.let_go.ensures.made sound
+returns-in-Some-clause-sound g c = λ but.
+    sound_let_go c.args.stations.now.entries c.remove.new.self.entries c.args.place c.args.self.now.harbor.made c.let_go.new.self.harbor.made c.args.self.now.listed c.let_go.new.self.listed c.remove.ensures.set c.let_go.ensures.covered but
+    c.in-Some.key (c.requires.based ∙ ap Some (key_made c.args.base c.in-Some.key (sym c.made_key.ensures ∙ c.in-Some.is))) c.let_go.ensures.made c.let_go.ensures.listed
 
 pub returns-in-Some-clause-held : goal.returns-in-Some-clause-held
 returns-in-Some-clause-held g c = c.remove.ensures.held

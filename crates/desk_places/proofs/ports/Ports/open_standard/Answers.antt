@@ -1,7 +1,4 @@
 use Rattle.desk_places.proofs.BaseLemmas.{comes_standard}
-use Rattle.std.proofs.Common.{ap, refl}
-use Rattle.desk_places.specs.declared.stations.Station.{Station}
-use Rattle.desk_ports.specs.Bases.{IsStandard}
 use Rattle.desk_places.proofs.StationLemmas.{free_station}
 use Rattle.desk_places.proofs.SoundLemmas.{sound_add}
 use Rattle.desk_places.proofs.ports.Ports.open_standard.Goals as goal
@@ -12,7 +9,7 @@ add-requires-clause-free g c = rw c.open.ensures (free_station c.args.stations.n
 pub returns-in-Begun-clause-sound : goal.returns-in-Begun-clause-sound
 returns-in-Begun-clause-sound g c = λ sound.
     rw c.begin.ensures.made
-    (sound_add c.args.stations.now.entries c.add.new.self.entries c.open.result c.args.self.now.harbor.made c.add.ensures.set (rw c.open.ensures c.requires.standard) (ap (λ (s : Station). s.asked) c.open.ensures) sound)
+    (sound_add c.args.stations.now.entries c.add.new.self.entries c.open.result c.args.self.now.harbor.made c.args.self.now.listed c.add.ensures.set (rw c.open.ensures c.requires.standard) sound)
 
 pub returns-in-Begun-clause-held : goal.returns-in-Begun-clause-held
 returns-in-Begun-clause-held g c = rw c.open.ensures at c.add.ensures.held

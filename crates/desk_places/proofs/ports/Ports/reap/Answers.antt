@@ -1,7 +1,7 @@
 use Rattle.desk_places.proofs.PortLemmas.{found_at, found_nowhere}
 use Rattle.desk_places.specs.Changes.{ReapsKept}
 use Rattle.port_trait.specs.declared.answers.PortReap.TheVariants as reaps
-use Rattle.std.proofs.Common.{None, Some, refl, subst, sym}
+use Rattle.std.proofs.Common.{refl, subst, sym}
 use Rattle.desk_places.proofs.ports.Ports.reap.Goals as goal
 
 pub returns-in-None-clause-reaped : goal.returns-in-None-clause-reaped

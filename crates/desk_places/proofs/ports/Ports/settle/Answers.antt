@@ -1,39 +1,46 @@
 use Rattle.desk_places.proofs.BaseLemmas.{same_bases}
 use Rattle.desk_places.proofs.PortLemmas.{at_base, on_another, settle_left}
-use Rattle.std.proofs.Common.{Some, ◌∙◌}
-use Rattle.std.proofs.Common.{ap, arith, refl}
+use Rattle.std.proofs.Common.{Some, ap, subst, ◌∙◌}
 use Rattle.relay_model.specs.Holding.{is_free}
 use Rattle.desk_ports.specs.Harbors.{giving_pier}
-use Rattle.desk_places.proofs.SoundLemmas.{pier_stays, sound_on}
-use Rattle.desk_places.proofs.StationLemmas.{found_base, found_footing}
+use Rattle.desk_places.specs.declared.stations.Station.{Station}
+use Rattle.desk_places.specs.Stations.{SetsStation, station_at}
+use Rattle.desk_places.proofs.SoundLemmas.{giving_of, pier_keeps, sound_but, sound_but_still}
+use Rattle.desk_places.proofs.StationLemmas.{found_base}
 use Rattle.desk_places.proofs.ports.Ports.settle.Goals as goal
 
 pub held-station-requires : goal.held-station-requires
 held-station-requires g c = ap is_free c.requires.settling
 
 pub replace-requires : goal.replace-requires
-replace-requires g c = rw c.open.ensures (found_footing c.args.stations.now.entries c.args.place c.held-station.result c.held-station.ensures)
+replace-requires g c = rw c.open.ensures (found_base c.args.stations.now.entries c.args.place c.held-station.result c.held-station.ensures)
 
 pub replace-requires-in-NotYet : goal.replace-requires-in-NotYet
-replace-requires-in-NotYet g c = rw c.settling.ensures (found_footing c.args.stations.now.entries c.args.place c.held-station.result c.held-station.ensures)
+replace-requires-in-NotYet g c = rw c.settling.ensures (found_base c.args.stations.now.entries c.args.place c.held-station.result c.held-station.ensures)
 
 pub leave-requires-clause-based : goal.leave-requires-clause-based
 leave-requires-clause-based g c = found_base c.args.stations.now.entries c.args.place c.held-station.result c.held-station.ensures
 
 pub returns-in-Ready-clause-sound : goal.returns-in-Ready-clause-sound
 returns-in-Ready-clause-sound g c = λ sound.
-    sound_on c.args.stations.now.entries c.replace.new.self.entries c.args.self.now.harbor.made c.settle.new.self.made c.replace.ensures.footing
-    (pier_stays (giving_pier c.held-station.result.base) c.args.self.now.harbor.made c.settle.new.self.made _ (λ o n call. call.hinting) c.settle.ensures.made)
-    sound
+    c.list.ensures.sound
+    (sound_but c.args.stations.now.entries c.replace.new.self.entries c.args.place c.held-station.result c.open.result c.args.self.now.harbor.made c.settle.new.self.made c.args.self.now.listed c.held-station.ensures
+    (ap (λ (s : Station). s.base) c.open.ensures)
+    (subst (λ q. SetsStation q (Some c.open.result) (station_at c.args.stations.now.entries) (station_at c.replace.new.self.entries)) (ap (λ (s : Station). s.place) c.open.ensures) c.replace.ensures.set)
+    (pier_keeps (giving_pier c.held-station.result.base) c.held-station.result.base c.args.self.now.harbor.made c.settle.new.self.made _ (giving_of c.held-station.result.base) c.settle.ensures.made)
+    sound)
 
 pub returns-in-Ready-clause-held : goal.returns-in-Ready-clause-held
 returns-in-Ready-clause-held g c = rw c.open.ensures at c.replace.ensures.held
 
 pub returns-in-NotYet-clause-sound : goal.returns-in-NotYet-clause-sound
 returns-in-NotYet-clause-sound g c = λ sound.
-    sound_on c.args.stations.now.entries c.replace-in-NotYet.new.self.entries c.args.self.now.harbor.made c.settle.new.self.made c.replace-in-NotYet.ensures.footing
-    (pier_stays (giving_pier c.held-station.result.base) c.args.self.now.harbor.made c.settle.new.self.made _ (λ o n call. call.hinting) c.settle.ensures.made)
-    sound
+    c.list-in-NotYet.ensures.sound
+    (sound_but c.args.stations.now.entries c.replace-in-NotYet.new.self.entries c.args.place c.held-station.result c.settling.result c.args.self.now.harbor.made c.settle.new.self.made c.args.self.now.listed c.held-station.ensures
+    (ap (λ (s : Station). s.base) c.settling.ensures)
+    (subst (λ q. SetsStation q (Some c.settling.result) (station_at c.args.stations.now.entries) (station_at c.replace-in-NotYet.new.self.entries)) (ap (λ (s : Station). s.place) c.settling.ensures) c.replace-in-NotYet.ensures.set)
+    (pier_keeps (giving_pier c.held-station.result.base) c.held-station.result.base c.args.self.now.harbor.made c.settle.new.self.made _ (giving_of c.held-station.result.base) c.settle.ensures.made)
+    sound)
 
 pub returns-in-NotYet-clause-held : goal.returns-in-NotYet-clause-held
 returns-in-NotYet-clause-held g c = rw c.settling.ensures at c.replace-in-NotYet.ensures.held
@@ -41,7 +48,9 @@ returns-in-NotYet-clause-held g c = rw c.settling.ensures at c.replace-in-NotYet
 pub returns-in-Failed-clause-sound : goal.returns-in-Failed-clause-sound
 returns-in-Failed-clause-sound g c = λ sound.
     c.leave.ensures.sound
-    (sound_on c.args.stations.now.entries c.args.stations.now.entries c.args.self.now.harbor.made c.settle.new.self.made (λ p. refl) (pier_stays (giving_pier c.held-station.result.base) c.args.self.now.harbor.made c.settle.new.self.made _ (λ o n call. call.hinting) c.settle.ensures.made) sound)
+    (sound_but_still c.args.stations.now.entries c.args.place c.held-station.result c.args.self.now.harbor.made c.settle.new.self.made c.args.self.now.listed c.held-station.ensures
+    (pier_keeps (giving_pier c.held-station.result.base) c.held-station.result.base c.args.self.now.harbor.made c.settle.new.self.made _ (giving_of c.held-station.result.base) c.settle.ensures.made)
+    sound)
 
 pub returns-in-Failed-clause-held : goal.returns-in-Failed-clause-held
 returns-in-Failed-clause-held g c = c.leave.ensures.held
@@ -62,3 +71,9 @@ returns-in-NotYet-clause-bases g c = same_bases c.args.stations.now.entries c.re
 
 pub returns-in-Failed-clause-bases : goal.returns-in-Failed-clause-bases
 returns-in-Failed-clause-bases g c = c.leave.ensures.bases
+
+pub returns-in-Ready-clause-made : goal.returns-in-Ready-clause-made
+returns-in-Ready-clause-made g c = rw c.list.ensures.harbor (at_base c.args.stations.now.entries c.args.place c.held-station.result _ c.held-station.ensures c.in-Ready.ensures.made)
+
+pub returns-in-NotYet-clause-made : goal.returns-in-NotYet-clause-made
+returns-in-NotYet-clause-made g c = rw c.list-in-NotYet.ensures.harbor (at_base c.args.stations.now.entries c.args.place c.held-station.result _ c.held-station.ensures c.in-NotYet.ensures.made)

@@ -4,36 +4,36 @@ use Rattle.relay_model.specs.declared.places.Half.TheVariants.{ToWrite}
 use Rattle.relay_model.specs.Holding.{is_free}
 use Rattle.desk_ports.specs.Harbors.{taking_pier}
 use Rattle.desk_places.specs.Stations.{SetsStation, station_at, with_half}
-use Rattle.desk_ports.specs.Ports.{Writes}
 use Rattle.desk_places.proofs.PortLemmas.{at_base}
-use Rattle.desk_places.proofs.SoundLemmas.{pier_stays, sound_on}
+use Rattle.desk_places.proofs.SoundLemmas.{taking_of, pier_keeps, sound_marked}
 use Rattle.desk_places.proofs.ports.Ports.write.Goals as goal
 
 pub held-station-requires : goal.held-station-requires
 held-station-requires g c = ap is_free c.requires.open
 
 pub returns-clause-input : goal.returns-clause-input
-returns-clause-input g c = at_base c.args.stations.now.entries c.args.place c.held-station.result _ c.held-station.ensures c.write-took.ensures.input
+returns-clause-input g c = rw c.mark.ensures.harbor (at_base c.args.stations.now.entries c.args.place c.held-station.result _ c.held-station.ensures c.write-took.ensures.input)
 
 pub returns-clause-output : goal.returns-clause-output
-returns-clause-output g c = at_base c.args.stations.now.entries c.args.place c.held-station.result _ c.held-station.ensures c.write-took.ensures.output
+returns-clause-output g c = rw c.mark.ensures.harbor (at_base c.args.stations.now.entries c.args.place c.held-station.result _ c.held-station.ensures c.write-took.ensures.output)
 
 pub returns-clause-errors : goal.returns-clause-errors
-returns-clause-errors g c = at_base c.args.stations.now.entries c.args.place c.held-station.result _ c.held-station.ensures c.write-took.ensures.errors
+returns-clause-errors g c = rw c.mark.ensures.harbor (at_base c.args.stations.now.entries c.args.place c.held-station.result _ c.held-station.ensures c.write-took.ensures.errors)
 
 pub returns-clause-made : goal.returns-clause-made
-returns-clause-made g c = at_base c.args.stations.now.entries c.args.place c.held-station.result _ c.held-station.ensures c.write-took.ensures.made
+returns-clause-made g c = rw c.mark.ensures.harbor (at_base c.args.stations.now.entries c.args.place c.held-station.result _ c.held-station.ensures c.write-took.ensures.made)
 
 pub returns-clause-marks : goal.returns-clause-marks
 returns-clause-marks g c =
-    let Set : Bool → Type 0 = λ b. SetsStation c.args.place (option_map (with_half ToWrite b) (station_at c.args.stations.now.entries c.args.place)) (station_at c.args.stations.now.entries) (station_at c.mark.new.self.entries) in
+    let Set : Bool → Type 0 = λ b. SetsStation c.args.place (option_map (with_half ToWrite b) (station_at c.args.stations.now.entries c.args.place)) (station_at c.args.stations.now.entries) (station_at c.mark.new.stations.entries) in
     subst Set c.took_not_yet.ensures c.mark.ensures.set
 
 pub returns-clause-sound : goal.returns-clause-sound
 returns-clause-sound g c = λ sound.
-    sound_on c.args.stations.now.entries c.mark.new.self.entries c.args.self.now.harbor.made c.write-took.new.self.made c.mark.ensures.footing
-    (pier_stays (taking_pier c.held-station.result.base) c.args.self.now.harbor.made c.write-took.new.self.made _ (λ o n call. call.hinting) c.write-took.ensures.made)
-    sound
+    c.mark.ensures.sound
+    (sound_marked c.args.stations.now.entries c.mark.new.stations.entries c.args.place c.held-station.result ToWrite c.took_not_yet.result c.args.self.now.harbor.made c.write-took.new.self.made c.args.self.now.listed c.held-station.ensures c.mark.ensures.set
+    (pier_keeps (taking_pier c.held-station.result.base) c.held-station.result.base c.args.self.now.harbor.made c.write-took.new.self.made _ (taking_of c.held-station.result.base) c.write-took.ensures.made)
+    sound)
 
 pub returns-clause-bases : goal.returns-clause-bases
-returns-clause-bases g c = same_bases c.args.stations.now.entries c.mark.new.self.entries c.mark.ensures.footing
+returns-clause-bases g c = same_bases c.args.stations.now.entries c.mark.new.stations.entries c.mark.ensures.footing

@@ -1,0 +1,11 @@
+use Rattle.desk_naming.proofs.NamingLemmas.{push_named, push_grown, push_held}
+use Rattle.desk_naming.proofs.naming.name.Goals as goal
+
+pub returns-clause-named : goal.returns-clause-named
+returns-clause-named c = push_named c.push.result c.args.ready.now c.push.new.self (record { place = c.args.place; half = c.args.half }) c.push.ensures.full c.push.ensures.pushed c.push.ensures.refused
+
+pub returns-clause-grown : goal.returns-clause-grown
+returns-clause-grown c = push_grown c.push.result c.args.ready.now c.push.new.self (record { place = c.args.place; half = c.args.half }) c.push.ensures.pushed c.push.ensures.refused
+
+pub returns-clause-held : goal.returns-clause-held
+returns-clause-held c = push_held c.push.result c.args.ready.now c.push.new.self (record { place = c.args.place; half = c.args.half }) c.push.ensures.pushed c.push.ensures.refused

@@ -1,0 +1,11 @@
+use Rattle.std.proofs.Common.{sym, ◌∙◌}
+use Rattle.desk_naming.proofs.NamingLemmas.{place_keyed, place_unkeyed}
+use Rattle.desk_naming.proofs.naming.name_key.Goals as goal
+
+pub returns-else-stands_on-clause-named : goal.returns-else-stands_on-clause-named
+returns-else-stands_on-clause-named g c =
+    place_unkeyed c.args.stations.now.entries c.args.ports.now.harbor.made c.args.ports.now.listed c.in-Some.place c.args.key c.args.half c.args.ready.now.entries c.requires.sound (sym c.place_of.ensures ∙ c.in-Some.is) (c.stands_on.ensures.elsewhere c.if-stands_on.false)
+
+pub returns-then-stands_on-clause-named : goal.returns-then-stands_on-clause-named
+returns-then-stands_on-clause-named g c =
+    place_keyed c.args.stations.now.entries c.args.ports.now.harbor.made c.args.ports.now.listed c.in-Some.place c.args.key c.args.half c.name.new.ready.entries c.requires.sound (sym c.place_of.ensures ∙ c.in-Some.is) c.name.ensures.named

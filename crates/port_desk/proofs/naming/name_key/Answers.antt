@@ -1,7 +1,0 @@
-use Rattle.std.proofs.Common.{refl, ap, sym, ◌∙◌}
-use Rattle.port_desk.proofs.NamingLemmas.{based_held, grown_same, nobody_keyed, place_keyed, place_unkeyed}
-use Rattle.port_desk.proofs.naming.name_key.Goals as goal
-
-pub returns-else-stands_on-clause-named : goal.returns-else-stands_on-clause-named
-returns-else-stands_on-clause-named g c =
-    place_unkeyed c.args.stations.now.entries c.args.ports.now.harbor.made c.in-Some.place c.args.key c.args.half c.args.ready.now.entries c.requires.sound (sym c.place_of.ensures ∙ c.in-Some.is) (c.stands_on.ensures.elsewhere c.if-stands_on.false)
