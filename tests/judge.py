@@ -16,6 +16,9 @@ import sys
 # The auditor refuses longer journals.
 MOST_BYTES = 16 << 20
 
+# Seconds for the auditor, PATIENCE times as many on a slow machine.
+LIMIT = 60 * int(os.environ.get("PATIENCE", 1))
+
 
 def content(*path):
     """What the regular file holds, or None. A named pipe isn't opened."""
@@ -201,9 +204,9 @@ def changes_of(lines):
 
 def said_of(auditor, name, words):
     try:
-        done = subprocess.run([auditor, name, *words], capture_output=True, timeout=60)
+        done = subprocess.run([auditor, name, *words], capture_output=True, timeout=LIMIT)
     except subprocess.TimeoutExpired:
-        return "nothing in 60 seconds"
+        return f"nothing in {LIMIT} seconds"
     return done.stdout.decode().strip()
 
 

@@ -5,6 +5,7 @@
 # tests/data/refusals.txt has most of them; it was made by an independent model. One line a group, and
 # 'N passed, M failed' at the end; the status is 1 where a case failed.
 # Usage: tests/words.sh [PROGRAM]      (bin/socat where none is given)
+# On a slow machine PATIENCE is how many times longer each run may take.
 set -u
 
 . "$(dirname "${BASH_SOURCE[0]}")/common.sh"
@@ -24,7 +25,7 @@ says() {
     esac
     printf 'abc' >"$scratch/offered"
     {
-        timeout 20 "$program" "$@" >"$scratch/out" 2>"$scratch/err"
+        timeout "$((20 * ${PATIENCE:-1}))" "$program" "$@" >"$scratch/out" 2>"$scratch/err"
         got=$?
         left="$(cat)"
     } <"$scratch/offered"

@@ -194,6 +194,8 @@ class Partner:
         self.sent, self.got = b"", b""
         self.sent_pieces, self.got_pieces = [], []
         self.saw_end = False
+        # Whether what it gave met a reset. The system tells that once, so what it takes may seem to end then.
+        self.was_reset = False
         self.wrong = []
         self.threads = []
         self.options = []
@@ -231,7 +233,11 @@ class Partner:
     def give(self, stream):
         for data, pause in self.gift.pieces:
             while data:
-                count = stream.send(data[:65536])
+                try:
+                    count = stream.send(data[:65536])
+                except OSError:
+                    self.was_reset = True
+                    raise
                 self.sent += data[:count]
                 data = data[count:]
                 if count == 0 and self.room.over.is_set():

@@ -1,7 +1,12 @@
 """Commands at random: two sides with their partners, flags and options."""
+import os
+
 from crowds import Crowd, Words
 from partners import Appetite, Caller, Child, Datagrams, Echo, File, Gift, NamedPipe, Reply, Server, Standard
 
+# How many times longer a slow machine or program takes, and the times within which what is calm passes all its bytes.
+PATIENCE = int(os.environ.get("PATIENCE", 1))
+CLOSING, INACTIVE = f"-t{10 * PATIENCE}", f"-T{10 * PATIENCE}"
 BLOCKS = (1, 2, 3, 7, 16, 64, 511, 512, 513, 1000, 4096, 8191, 8192, 8193, 65536, 1048576)
 
 
@@ -398,11 +403,11 @@ def some_flags(dice, plan, calm):
     if plan.block:
         flags += dice.choice(([f"-b{plan.block}"], [f"-b {plan.block}"]))
     if calm:
-        flags.append("-t10")
+        flags.append(CLOSING)
     elif dice.randrange(2):
         flags.append(dice.choice(("-t0", "-t0.1", "-t1")))
     if not calm or dice.randrange(6) == 0:
-        flags.append("-T10" if calm else dice.choice(("-T0.4", "-T0.8", "-T 1")))
+        flags.append(INACTIVE if calm else dice.choice(("-T0.4", "-T0.8", "-T 1")))
     if dice.randrange(6) == 0:
         flags.append("-s")
     if dice.randrange(6) == 0:
@@ -449,7 +454,7 @@ def some_plan(dice, room, crowds=False):
     plan.calm = calm and all(it.calm for it in plan.partners()) and any(not it.answers for it in plan.partners())
     if not plan.calm:
         # An end may never come: the run is over where nothing passes.
-        plan.flags = ["-T1"] + [flag for flag in plan.flags if flag != "-T10"]
+        plan.flags = ["-T1"] + [flag for flag in plan.flags if flag != INACTIVE]
     # Where there is no standard error a dump fails, and the run goes on.
     plan.silent = dice.randrange(16) == 0
     signals(dice, plan)
@@ -511,7 +516,7 @@ def crowd_plan(dice, room, plan):
     if family == "v":
         # Who has sent its datagram sends an empty one, which ends its session.
         options.append("null-eof")
-    plan.flags = ["-t1" if family in DATAGRAMS else "-t10"] if plan.calm else ["-t0.3", "-T2"]
+    plan.flags = [f"-t{PATIENCE}" if family in DATAGRAMS else CLOSING] if plan.calm else ["-t0.3", "-T2"]
     if plan.block and family not in DATAGRAMS:
         plan.flags.append(f"-b{plan.block}")
     if dice.randrange(5) == 0:
