@@ -14,11 +14,12 @@ use worked_rows::{Line, RowFault, act_of, unquoted};
 struct Item {
     place: Place,
     answer: PortItem,
-    ghost filled: { IsFilled answer },
 }
 
 /// What the line of a script says. There is no moment but 0.
-fn item_of(alloc: Global, line: Line<'_>) -> Result<Item, RowFault> {
+fn item_of(alloc: Global, line: Line<'_>) -> Result<Item, RowFault>
+    ensures { IfOk result (λ item. IsFilled item.answer) }
+{
     let (moment, act) = line.parts();
     let act = unquoted(alloc, act)?.ok_or(line.fault())?;
     if moment != "0" {
@@ -29,7 +30,9 @@ fn item_of(alloc: Global, line: Line<'_>) -> Result<Item, RowFault> {
 }
 
 /// What a read answers in this act, if it is one.
-fn answer_of(act: &Act) -> Result<Option<Item>, NoMemory> {
+fn answer_of(act: &Act) -> Result<Option<Item>, NoMemory>
+    ensures { IfOk result (λ found. IfSome found (λ item. IsFilled item.answer)) }
+{
     let item = match act {
         Act::Read(place, bytes) if bytes.len() > 0 => Item {
             place: *place,
