@@ -1,10 +1,10 @@
 -- What the answer of a desk says, from what the port did.
-use Rattle.std.proofs.Common.{◌≡◌, ◌≤◌, ◌<◌, ℕ, Bool, List, length, take, Option, None, Some, IfSome, option_map, refl, sym, ap, ◌∙◌}
+use Rattle.std.proofs.Common.{◌≡◌, ℕ, List, Option, None, Some, IfSome}
 use Rattle.slab.specs.Slab.{Slab, get}
 use Rattle.relay_model.specs.declared.places.Place.{Place}
 use Rattle.relay_model.specs.declared.acts.Act.{Act}
 use Rattle.relay_model.specs.declared.acts.Shut.{Shut}
-use Rattle.relay_model.specs.Holding.{Hold, hold_after}
+use Rattle.relay_model.specs.Holding.{Hold}
 use Rattle.relay_model.specs.Journals.{History, Asking}
 use Rattle.port_trait.specs.declared.answers.Got.{Got}
 use Rattle.port_trait.specs.declared.answers.Got.TheVariants as gots
@@ -12,9 +12,6 @@ use Rattle.port_trait.specs.declared.answers.Took.{Took}
 use Rattle.port_trait.specs.declared.answers.Took.TheVariants as tooks
 use Rattle.port_trait.specs.declared.answers.Shutting.{Shutting}
 use Rattle.port_trait.specs.declared.answers.Shutting.TheVariants as shuttings
-use Rattle.world_trait.specs.declared.answers.ReadAnswer.{ReadAnswer}
-use Rattle.world_trait.specs.declared.answers.WriteAnswer.{WriteAnswer}
-use Rattle.world_trait.specs.declared.answers.SendAnswer.{SendAnswer}
 use Rattle.world_trait.specs.Answers.{Answered, AnsweredAsking, ReadFits, WriteFits, read_act, send_act, write_act}
 use Rattle.desk_ports.specs.declared.bases.Base.{Base}
 use Rattle.port_desk.specs.Calls.{ReadsSo, WritesSo, SendsSo, ShutsSo}

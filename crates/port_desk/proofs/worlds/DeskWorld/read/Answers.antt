@@ -1,4 +1,3 @@
-use Rattle.std.proofs.Common.{rules}
 use Rattle.desk_ports.specs.Harbors.{giving_pier}
 use Rattle.desk_ports.specs.Ports.{Reads}
 use Rattle.desk_places.specs.Stations.{base_at}

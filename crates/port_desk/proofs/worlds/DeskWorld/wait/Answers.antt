@@ -1,4 +1,3 @@
-use Rattle.std.proofs.Common.{rules}
 use Rattle.desk_places.specs.Stations.{hold_at}
 use Rattle.desk_naming.proofs.NamingLemmas.{names_on}
 use Rattle.port_desk.proofs.worlds.DeskWorld.wait.Goals as goal
@@ -14,3 +13,9 @@ returns-then-stop-clause-until g c = rw c.turn.ensures.same.1 (rw c.reserve.ensu
 
 pub returns-else-stop-clause-until : goal.returns-else-stop-clause-until
 returns-else-stop-clause-until g c = rw c.turn.ensures.same.1 (rw c.reserve.ensures.stations at c.poll-polled.ensures.until)
+
+pub invariant_of-self-then-stop-clause-sound : goal.invariant_of-self-then-stop-clause-sound
+invariant_of-self-then-stop-clause-sound g c = c.arm_named.ensures.sound _ _ (rw c.put_turn.ensures.stations c.poll-polled.new.self.sound)
+
+pub invariant_of-self-else-stop-clause-sound : goal.invariant_of-self-else-stop-clause-sound
+invariant_of-self-else-stop-clause-sound g c = c.arm_named.ensures.sound _ _ (rw c.put_turn.ensures.stations c.poll-polled.new.self.sound)
