@@ -58,14 +58,14 @@ where
     R: Files + Net + Clock + Threads + Wait + Copy + Send + Drop + 'static,
 {
     let script = row.script.as_slice();
-    let has_rings = setting.input != Input::Memory || setting.output != Output::Memory;
-    if has_rings && setting.opener != Opener::Memory {
-        return Err(row.head.fault());
+    if let Output::Ring(room) = setting.output {
+        return behind_rings(rt, run, script, setting.input, room);
     }
-    match setting.output {
-        Output::Ring(room) => behind_rings(rt, run, script, setting.input, room),
-        Output::Memory if has_rings => behind_ring(rt, run, script, setting.input),
-        Output::Memory => in_memory(rt, system, run, script, setting.opener),
+    match setting.input {
+        Input::Memory => in_memory(rt, system, run, script, setting.opener),
+        Input::Ring | Input::Gated | Input::Unstarted => {
+            behind_ring(rt, run, script, setting.input)
+        }
     }
 }
 
