@@ -58,11 +58,14 @@ where
     R: Files + Net + Clock + Threads + Wait + Copy + Send + Drop + 'static,
 {
     let script = row.script.as_slice();
-    match (setting.input, setting.output, setting.opener) {
-        (Input::Memory, Output::Memory, opener) => in_memory(rt, system, run, script, opener),
-        (input, Output::Memory, Opener::Memory) => behind_ring(rt, run, script, input),
-        (input, Output::Ring(room), Opener::Memory) => behind_rings(rt, run, script, input, room),
-        _ => Err(row.head.fault()),
+    if let Output::Ring(room) = setting.output {
+        return behind_rings(rt, run, script, setting.input, room);
+    }
+    match setting.input {
+        Input::Memory => in_memory(rt, system, run, script, setting.opener),
+        Input::Ring | Input::Gated | Input::Unstarted => {
+            behind_ring(rt, run, script, setting.input)
+        }
     }
 }
 

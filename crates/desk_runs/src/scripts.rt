@@ -1,55 +1,57 @@
 // What a script makes ports and sources answer to their reads.
-ghost use Rattle.std.specs.Prelude.{◌≡◌, [], IfOk, IfSome};
+ghost use Rattle.std.specs.Prelude.{◌≡◌, [], IfOk};
 ghost use Rattle.port_objects.specs.Scripts.{IsFilled, given_of};
 
 use crate::desks::{Look, ROOM};
 use crate::settings::Input;
 use port_objects::{MakeItem, MemMaker, MemPort, MemSource, PortItem};
-use relay_model::{Act, Bytes, NoMemory, Place, Side};
+use relay_model::{Act, Bytes, NoMemory, Side};
 use std::alloc::Global;
 use worked_rows::{Line, RowFault, act_of, unquoted};
 
-/// A place, and what a read there answers.
+/// What a read answers, and at which side.
 #[derive(Drop)]
 struct Item {
-    place: Place,
+    side: Side,
     answer: PortItem,
-    ghost filled: { IsFilled answer },
 }
 
 /// What the line of a script says. There is no moment but 0.
-fn item_of(alloc: Global, line: Line<'_>) -> Result<Item, RowFault> {
+fn item_of(alloc: Global, line: Line<'_>) -> Result<Item, RowFault>
+    ensures { IfOk result (λ item. IsFilled item.answer) }
+{
     let (moment, act) = line.parts();
     let act = unquoted(alloc, act)?.ok_or(line.fault())?;
     if moment != "0" {
         return Err(line.fault());
     }
     let act = act_of(alloc, act.as_str())?.ok_or(line.fault())?;
-    answer_of(&act)?.ok_or(line.fault())
+    answer_of(&act, line)
 }
 
-/// What a read answers in this act, if it is one.
-fn answer_of(act: &Act) -> Result<Option<Item>, NoMemory> {
-    let item = match act {
-        Act::Read(place, bytes) if bytes.len() > 0 => Item {
-            place: *place,
+/// What a read answers in the act of this line.
+fn answer_of(act: &Act, line: Line<'_>) -> Result<Item, RowFault>
+    ensures { IfOk result (λ item. IsFilled item.answer) }
+{
+    match act {
+        Act::Read(place, bytes) if bytes.len() > 0 => Ok(Item {
+            side: place.side,
             answer: PortItem::Bytes(bytes.copy()?),
-        },
-        Act::ReadEnd(place) => Item {
-            place: *place,
+        }),
+        Act::ReadEnd(place) => Ok(Item {
+            side: place.side,
             answer: PortItem::End,
-        },
-        Act::ReadNotYet(place) => Item {
-            place: *place,
+        }),
+        Act::ReadNotYet(place) => Ok(Item {
+            side: place.side,
             answer: PortItem::NotYet,
-        },
-        Act::ReadFault(place) => Item {
-            place: *place,
+        }),
+        Act::ReadFault(place) => Ok(Item {
+            side: place.side,
             answer: PortItem::Fault,
-        },
-        _ => return Ok(None),
-    };
-    Ok(Some(item))
+        }),
+        _ => Err(line.fault()),
+    }
 }
 
 /// The port at this side of a script, which has given nothing yet, with room for so many bytes.
@@ -63,9 +65,9 @@ pub(crate) fn port_of(
 {
     let mut port = MemPort::new(alloc, room)?;
     for line in script {
-        let Item { place, answer } = item_of(alloc, *line)?;
-        if place.side == side {
-            port.add(answer)?;
+        let item = item_of(alloc, *line)?;
+        if item.side == side {
+            port.add(item.answer)?;
         }
     }
     Ok(port)
@@ -76,11 +78,11 @@ pub(crate) fn source_of(alloc: Global, script: &[Line<'_>]) -> Result<MemSource,
     let mut bytes = Vec::new(alloc);
     let mut ends = true;
     for line in script {
-        let Item { place, answer } = item_of(alloc, *line)?;
-        if place.side == Side::Right {
+        let item = item_of(alloc, *line)?;
+        if item.side == Side::Right {
             continue;
         }
-        match answer {
+        match item.answer {
             PortItem::Bytes(more) => bytes.extend_from_slice(more.as_slice())?,
             PortItem::End => ends = true,
             PortItem::Fault => ends = false,

@@ -48,7 +48,20 @@ impl<'a> Setting<'a> {
         for line in row.over.as_slice() {
             setting.take(*line)?;
         }
-        Ok(setting)
+        if setting.is_known() {
+            Ok(setting)
+        } else {
+            Err(row.head.fault())
+        }
+    }
+
+    /// Whether runs are made over such a desk.
+    fn is_known(&self) -> bool {
+        match self.input {
+            Input::Memory => self.output == Output::Memory,
+            Input::Ring | Input::Unstarted => self.opener == Opener::Memory,
+            Input::Gated => self.opener == Opener::Memory && self.output != Output::Memory,
+        }
     }
 
     fn take(&mut self, line: Line<'a>) -> Result<(), RowFault> {
