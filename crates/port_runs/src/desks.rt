@@ -5,7 +5,9 @@ use case_rows::{Answered, Answers, Inputs, RowFault};
 use port_desk::{Desk, Standard};
 use port_objects::{MakeItem, MemMaker, MemPoller, MemPort};
 use port_trait::KeyList;
-use relay_model::{Half, Options, Part, Place, ReadyAt, ReadyList, Side, Single, Target, Text};
+use relay_model::{
+    Half, NoMemory, Options, Part, Place, ReadyAt, ReadyList, Side, Single, Target, Text,
+};
 use std::alloc::Global;
 use world_trait::{OpenAnswer, ReadAnswer, Recorder, Standing, Turned, World};
 
@@ -19,21 +21,9 @@ const PLACE: Place = Place {
 
 type MemDesk = Desk<MemMaker, MemPoller, MemPort, MemPort, MemPort>;
 
-/// A desk: whether it keeps or skips its history, the room and the items of the port that its maker makes, the key and
-/// the half that its poller names at its first poll, and the calls.
+/// A desk, and the calls.
 pub(crate) fn ask(alloc: Global, inputs: &mut Inputs<'_>, answers: &mut Answers) -> Answered {
-    let recorder = recorder_of(inputs.word()?)?;
-    let mut port = MemPort::new(alloc, inputs.word()?.parse::<usize>()?)?;
-    add_items(alloc, &mut port, inputs)?;
-    let mut maker = MemMaker::new(alloc);
-    maker.add(MakeItem::Port(port))?;
-    let poller = MemPoller::naming(keys_of(alloc, inputs)?);
-    let standard = Standard {
-        stdin: MemPort::new(alloc, 0)?,
-        stdout: MemPort::new(alloc, 0)?,
-        stderr: MemPort::new(alloc, 0)?,
-    };
-    let mut desk = Desk::new(alloc, standard, maker, poller, recorder)?;
+    let mut desk = desk_of(alloc, inputs)?;
     for _ in 0..u64::MAX {
         match inputs.step() {
             Some("open") => open(alloc, &mut desk, answers)?,
@@ -44,6 +34,33 @@ pub(crate) fn ask(alloc: Global, inputs: &mut Inputs<'_>, answers: &mut Answers)
         }
     }
     Ok(())
+}
+
+/// A desk: whether it keeps or skips its history, the port that its maker makes, and what its poller names.
+fn desk_of(alloc: Global, inputs: &mut Inputs<'_>) -> Result<MemDesk, RowFault> {
+    let recorder = recorder_of(inputs.word()?)?;
+    let maker = maker_of(alloc, inputs)?;
+    let poller = MemPoller::naming(keys_of(alloc, inputs)?);
+    let standard = standard(alloc)?;
+    Ok(Desk::new(alloc, standard, maker, poller, recorder)?)
+}
+
+/// A maker of one port, of which the next words tell its room and its items, up to `calls`.
+fn maker_of(alloc: Global, inputs: &mut Inputs<'_>) -> Result<MemMaker, RowFault> {
+    let mut port = MemPort::new(alloc, inputs.word()?.parse::<usize>()?)?;
+    add_items(alloc, &mut port, inputs)?;
+    let mut maker = MemMaker::new(alloc);
+    maker.add(MakeItem::Port(port))?;
+    Ok(maker)
+}
+
+/// Standard streams that nothing is asked of.
+fn standard(alloc: Global) -> Result<Standard<MemPort, MemPort, MemPort>, NoMemory> {
+    Ok(Standard {
+        stdin: MemPort::new(alloc, 0)?,
+        stdout: MemPort::new(alloc, 0)?,
+        stderr: MemPort::new(alloc, 0)?,
+    })
 }
 
 fn recorder_of(word: &str) -> Result<Recorder, RowFault> {
