@@ -2,19 +2,12 @@
 ghost use Rattle.std.specs.Prelude.{◌≡◌, [], IfSome};
 
 use desk_ports::Back;
-use mio_poller::MioPoller;
 use port_desk::{Desk, Standard};
-use port_objects::{MemPoller, MemPort, MemSink, Tap};
-use port_trait::{Maker, Making, Poller, Port};
-use real_maker::RealMaker;
+use port_objects::{MemPort, MemSink, Tap};
+use port_trait::{Maker, Poller, Port};
 use relay_model::Text;
 use socat_top::{Written, run_written};
 use std::alloc::{AllocError, Global};
-use std::fs::Files;
-use std::net::Net;
-use std::rt::HostRuntime;
-use std::thread::Threads;
-use std::time::Clock;
 use worked_rows::{Ran, RowFault, part, push_digits};
 use world_trait::Recorder;
 
@@ -89,33 +82,6 @@ where
         saved: saved.bytes()?,
         ports,
     })
-}
-
-/// Carries out the words over a desk of these ports and of those that the program's maker opens. Files and programs are
-/// the system's. The desk has the program's poller too, or looks by one in memory.
-pub(crate) fn over_system<R, I: Port, O: Port>(
-    rt: R,
-    system: HostRuntime,
-    run: Run<'_>,
-    streams: Streams<I, O>,
-    polled: bool,
-    looks: &[Look],
-) -> Result<Ran, RowFault>
-where
-    R: Files + Net + Clock + Threads + Copy + Drop,
-    requires given { IfSome (I.gave streams.stdin) (λ all. all ≡ []) }
-    requires taken { IfSome (O.took streams.stdout) (λ all. all ≡ []) }
-{
-    let Making::Made(poller) = MioPoller::new(rt, run.alloc) else {
-        return Err(RowFault::Memory);
-    };
-    let Making::Made(maker) = RealMaker::on(rt, system, run.alloc, &poller) else {
-        return Err(RowFault::Memory);
-    };
-    if polled {
-        return carried_out(run, streams, maker, poller, looks);
-    }
-    carried_out(run, streams, maker, MemPoller::new(), looks)
 }
 
 /// What is seen there.

@@ -4,7 +4,6 @@
 #![tactic(auto)]
 
 mod desks;
-mod files;
 mod gates;
 mod runs;
 mod scripts;
@@ -18,6 +17,6 @@ use std::process::ExitCode;
 use worked_rows::{Row, check_files};
 
 fn main(rt: HostRuntime) -> io::Result<ExitCode> {
-    let run = |alloc: Global, row: &Row<'_>, words: &[Text]| run_row(rt, rt, alloc, row, words);
+    let run = |alloc: Global, row: &Row<'_>, words: &[Text]| run_row(rt, alloc, row, words);
     check_files(&rt, &run)
 }

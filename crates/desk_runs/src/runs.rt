@@ -1,32 +1,26 @@
 // The runs of a row, over the ports that it asks for.
-use crate::desks::{Look, ROOM, Run, Streams, carried_out, over_system};
-use crate::files::{add_left, remove};
+use crate::desks::{Look, ROOM, Run, Streams, carried_out};
 use crate::gates::{Gate, GatedSource, NoWake, OpeningSink};
 use crate::scripts::{maker_of, port_of, refused_of, source_of};
-use crate::settings::{Input, Opener, Output, Setting};
+use crate::settings::{Input, Output, Setting};
 use port_objects::{ListSpawner, MemPoller, MemPort, MemSink};
 use relay_model::{Side, Text};
 use std::alloc::Global;
-use std::fs::Files;
-use std::net::Net;
-use std::rt::HostRuntime;
 use std::sync::Wait;
 use std::thread::Threads;
-use std::time::Clock;
 use thread_rings::{RingReader, RingWriter};
 use worked_rows::{Line, Ran, Row, RowFault};
 use world_trait::Recorder;
 
-/// Runs the words of the row over a desk that skips its history, and over one that keeps it. Files are the system's.
+/// Runs the words of the row over a desk that skips its history, and over one that keeps it.
 pub(crate) fn run_row<R>(
     rt: R,
-    system: HostRuntime,
     alloc: Global,
     row: &Row<'_>,
     words: &[Text],
 ) -> Result<Vec<Ran>, RowFault>
 where
-    R: Files + Net + Clock + Threads + Wait + Copy + Send + Drop + 'static,
+    R: Threads + Wait + Copy + Send + Drop + 'static,
 {
     let setting = Setting::of(row)?;
     let mut runs = Vec::new(alloc);
@@ -38,74 +32,26 @@ where
             room: row.room,
             recorder,
         };
-        remove(&system, setting.file);
-        let mut ran = run_once(rt, system, run, row, setting)?;
-        add_left(&system, setting.file, &mut ran)?;
-        runs.push(ran)?;
+        runs.push(run_once(rt, run, row, setting)?)?;
     }
     Ok(runs)
 }
 
 /// Runs the words over the ports that the row asks for.
-fn run_once<R>(
-    rt: R,
-    system: HostRuntime,
-    run: Run<'_>,
-    row: &Row<'_>,
-    setting: Setting<'_>,
-) -> Result<Ran, RowFault>
+fn run_once<R>(rt: R, run: Run<'_>, row: &Row<'_>, setting: Setting) -> Result<Ran, RowFault>
 where
-    R: Files + Net + Clock + Threads + Wait + Copy + Send + Drop + 'static,
+    R: Threads + Wait + Copy + Send + Drop + 'static,
 {
     let script = row.script.as_slice();
-    if let Output::Ring(room) = setting.output {
-        return behind_rings(rt, run, script, setting.input, room);
-    }
-    match setting.input {
-        Input::Memory => in_memory(rt, system, run, script, setting.opener),
-        Input::Ring | Input::Gated | Input::Unstarted => {
-            behind_ring(rt, run, script, setting.input)
-        }
+    match setting.output {
+        Output::Memory => in_memory(run, script),
+        Output::Ring(room) => behind_rings(rt, run, script, setting.input, room),
     }
 }
 
 /// Over streams in memory.
-fn in_memory<R>(
-    rt: R,
-    system: HostRuntime,
-    run: Run<'_>,
-    script: &[Line<'_>],
-    opener: Opener,
-) -> Result<Ran, RowFault>
-where
-    R: Files + Net + Clock + Threads + Copy + Drop,
-{
+fn in_memory(run: Run<'_>, script: &[Line<'_>]) -> Result<Ran, RowFault> {
     let stdin = port_of(run.alloc, script, Side::Left, 0)?;
-    let stdout = MemPort::new(run.alloc, ROOM)?;
-    let mut looks = Vec::new(run.alloc);
-    looks.push(Look {
-        name: "stdout",
-        tap: stdout.tap(),
-    })?;
-    let streams = Streams { stdin, stdout };
-    match opener {
-        Opener::Memory => {
-            let maker = maker_of(run.alloc, script, &mut looks)?;
-            carried_out(run, streams, maker, MemPoller::new(), looks.as_slice())
-        }
-        Opener::System => over_system(rt, system, run, streams, false, looks.as_slice()),
-        Opener::PolledSystem => over_system(rt, system, run, streams, true, looks.as_slice()),
-    }
-}
-
-/// Over standard input behind a ring.
-fn behind_ring<R>(rt: R, run: Run<'_>, script: &[Line<'_>], input: Input) -> Result<Ran, RowFault>
-where
-    R: Threads + Wait + Copy + Send + Drop + 'static,
-{
-    let source = GatedSource::new(None, source_of(run.alloc, script)?);
-    let mut spawner = ListSpawner::new(rt, refused_of(run.alloc, input)?);
-    let stdin = RingReader::new(run.alloc, source, &mut spawner, NoWake)?;
     let stdout = MemPort::new(run.alloc, ROOM)?;
     let mut looks = Vec::new(run.alloc);
     looks.push(Look {

@@ -18,32 +18,19 @@ pub(crate) enum Output {
     Ring(usize),
 }
 
-/// What opens all other places: a maker in memory, or the one of the program, where the desk may also have the program's
-/// poller.
-#[derive(Clone, Copy, Debug, PartialEq, Eq)]
-pub(crate) enum Opener {
-    Memory,
-    System,
-    PolledSystem,
-}
-
-/// The desk of a row, and the name of a file that its run is to leave.
+/// The desk of a row.
 #[derive(Clone, Copy, Debug)]
-pub(crate) struct Setting<'a> {
+pub(crate) struct Setting {
     pub(crate) input: Input,
     pub(crate) output: Output,
-    pub(crate) opener: Opener,
-    pub(crate) file: Option<&'a str>,
 }
 
-impl<'a> Setting<'a> {
+impl Setting {
     /// What the row says.
-    pub(crate) fn of(row: &Row<'a>) -> Result<Setting<'a>, RowFault> {
+    pub(crate) fn of(row: &Row<'_>) -> Result<Setting, RowFault> {
         let mut setting = Setting {
             input: Input::Memory,
             output: Output::Memory,
-            opener: Opener::Memory,
-            file: None,
         };
         for line in row.over.as_slice() {
             setting.take(*line)?;
@@ -55,24 +42,17 @@ impl<'a> Setting<'a> {
         }
     }
 
-    /// Whether runs are made over such a desk.
+    /// Whether runs are made over such a desk: both streams are in memory, or both stand behind rings.
     fn is_known(&self) -> bool {
-        match self.input {
-            Input::Memory => self.output == Output::Memory,
-            Input::Ring | Input::Unstarted => self.opener == Opener::Memory,
-            Input::Gated => self.opener == Opener::Memory && self.output != Output::Memory,
-        }
+        (self.input == Input::Memory) == (self.output == Output::Memory)
     }
 
-    fn take(&mut self, line: Line<'a>) -> Result<(), RowFault> {
+    fn take(&mut self, line: Line<'_>) -> Result<(), RowFault> {
         match line.parts() {
             ("stdin", "ring") => self.input = Input::Ring,
             ("stdin", "gated") => self.input = Input::Gated,
             ("stdin", "unstarted") => self.input = Input::Unstarted,
             ("stdout", kind) => self.output = Output::Ring(room_of(kind).ok_or(line.fault())?),
-            ("maker", "real") => self.opener = Opener::System,
-            ("poller", "real") => self.opener = Opener::PolledSystem,
-            ("file", name) if !name.is_empty() => self.file = Some(name),
             _ => return Err(line.fault()),
         }
         Ok(())

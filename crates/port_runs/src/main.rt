@@ -1,10 +1,9 @@
-//! Tries ports, queues and a desk on rows of calls. Arguments: files. Each line of theirs is a case: a name, what the calls are
+//! Tries ports and queues on rows of calls. Arguments: files. Each line of theirs is a case: a name, what the calls are
 //! made on, the calls, and after `=` what each must answer. The program prints a line for each case and at the end how
 //! many there were, and ends with 1 where one differs.
 #![tactic(auto)]
 
 mod calls;
-mod desks;
 mod files;
 mod memory;
 mod proxies;
@@ -41,7 +40,6 @@ fn main(rt: HostRuntime) -> io::Result<ExitCode> {
             }
             "senders" => senders::ask_table(alloc, inputs, answers),
             "hub" => senders::ask_hub(alloc, inputs, answers),
-            "desk" => desks::ask(alloc, inputs, answers),
             "file" => files::ask(&rt, rt, alloc, inputs, answers),
             "queue" => queues::ask_queue(&rt, alloc, inputs, answers),
             "numbers" => queues::ask_numbers(&rt, alloc, inputs, answers),
