@@ -1,4 +1,4 @@
-/* Loads a relay between TCP sockets of the loopback, one request a connection, as bench/connections.sh uses it.
+/* Loads a relay between TCP sockets of the loopback, one request a connection, as bench/connections.py uses it.
 
    load serve BYTES
        prints its port, and answers each connection's BYTES bytes with as many; then it closes. It goes on until its
