@@ -7,31 +7,17 @@
        does the other part on STREAMS connections at once. It prints how many bytes passed, and in how many microseconds
        until the last connection had ended. */
 #define _GNU_SOURCE
-#include <arpa/inet.h>
+#include "parts.h"
 #include <errno.h>
 #include <fcntl.h>
-#include <stdio.h>
-#include <stdlib.h>
 #include <string.h>
 #include <sys/epoll.h>
 #include <sys/socket.h>
-#include <time.h>
 #include <unistd.h>
 
 enum { PIECE = 65536, EVENTS = 64 };
 
 static char piece[PIECE];
-
-static long long micros(void) {
-    struct timespec now;
-    clock_gettime(CLOCK_MONOTONIC, &now);
-    return now.tv_sec * 1000000LL + now.tv_nsec / 1000;
-}
-
-static void fail(const char *what) {
-    perror(what);
-    exit(2);
-}
 
 /* One connection: whether it gives, how much is still to be given, and how much passed. */
 struct stream {
@@ -86,15 +72,12 @@ static long long finished(struct stream *it) {
 }
 
 static int far(int gives, long long bytes) {
-    struct sockaddr_in place = {.sin_family = AF_INET, .sin_addr.s_addr = htonl(INADDR_LOOPBACK)};
-    socklen_t length = sizeof place;
+    struct sockaddr_in place = here(0);
     int epoll = epoll_create1(EPOLL_CLOEXEC), door = socket(AF_INET, SOCK_STREAM | SOCK_NONBLOCK, 0);
     struct epoll_event input = {.events = EPOLLIN, .data.ptr = NULL}, knock = {.events = EPOLLIN, .data.ptr = &door};
-    if (bind(door, (void *)&place, length) < 0 || listen(door, 1024) < 0)
+    if (bind(door, (void *)&place, sizeof place) < 0 || listen(door, 1024) < 0)
         fail("listen");
-    getsockname(door, (void *)&place, &length);
-    printf("%d\n", ntohs(place.sin_port));
-    fflush(stdout);
+    print_port(door);
     epoll_ctl(epoll, EPOLL_CTL_ADD, STDIN_FILENO, &input);
     epoll_ctl(epoll, EPOLL_CTL_ADD, door, &knock);
     for (;;) {
@@ -115,8 +98,7 @@ static int far(int gives, long long bytes) {
 }
 
 static int near(int gives, int port, int streams, long long bytes) {
-    struct sockaddr_in place = {.sin_family = AF_INET, .sin_port = htons(port)};
-    place.sin_addr.s_addr = htonl(INADDR_LOOPBACK);
+    struct sockaddr_in place = here(port);
     int epoll = epoll_create1(EPOLL_CLOEXEC);
     long long start = micros(), passed = 0;
     for (int which = 0; which < streams; which++) {

@@ -12,38 +12,18 @@
        refused, how many were lost otherwise, the microseconds until the last was answered and until 95 of 100 of
        REQUESTS were (0 where fewer were), and those of the slowest. */
 #define _GNU_SOURCE
-#include <arpa/inet.h>
+#include "parts.h"
 #include <errno.h>
 #include <netinet/tcp.h>
-#include <stdio.h>
-#include <stdlib.h>
 #include <string.h>
 #include <sys/epoll.h>
 #include <sys/resource.h>
 #include <sys/socket.h>
-#include <time.h>
 #include <unistd.h>
 
 enum { MOST_BYTES = 65536, EVENTS = 256, MOST_CLIENTS = 20000 };
 
 static char piece[MOST_BYTES];
-
-static long long micros(void) {
-    struct timespec now;
-    clock_gettime(CLOCK_MONOTONIC, &now);
-    return now.tv_sec * 1000000LL + now.tv_nsec / 1000;
-}
-
-static void fail(const char *what) {
-    perror(what);
-    exit(2);
-}
-
-static struct sockaddr_in here(int port) {
-    struct sockaddr_in place = {.sin_family = AF_INET, .sin_port = htons(port)};
-    place.sin_addr.s_addr = htonl(INADDR_LOOPBACK);
-    return place;
-}
 
 static void watch(int epoll, int sock, unsigned events, void *of) {
     struct epoll_event event = {.events = events, .data.ptr = of};
@@ -58,14 +38,6 @@ static int listening(int port) {
     if (door < 0 || bind(door, (void *)&place, sizeof place) < 0 || listen(door, 4096) < 0)
         fail("listen");
     return door;
-}
-
-static void print_port(int door) {
-    struct sockaddr_in place;
-    socklen_t length = sizeof place;
-    getsockname(door, (void *)&place, &length);
-    printf("%d\n", ntohs(place.sin_port));
-    fflush(stdout);
 }
 
 /* One connection: how many bytes came and went, and when it began. */
@@ -287,16 +259,6 @@ static int ask(int port, int clients, int bytes, long requests, long seconds) {
     printf("%ld %ld %ld %lld %lld %lld\n", all.answered, all.refused, all.lost + all.busy, micros() - all.start, all.most,
            all.slowest);
     return 0;
-}
-
-static long number(const char *text, long most) {
-    char *end;
-    long value = strtol(text, &end, 10);
-    if (*end || value < 1 || value > most) {
-        fprintf(stderr, "%s is no number up to %ld\n", text, most);
-        exit(2);
-    }
-    return value;
 }
 
 int main(int count, char **words) {

@@ -1,11 +1,13 @@
 #!/usr/bin/env python3
-"""Measures relays between sockets of the loopback, two programs in turn, and prints medians of the rounds.
+"""Measures relays between sockets of the loopback, the programs in turn, and prints medians of the rounds. Streams also go
+through a bare loop, bare.c, which is compiled first: nothing that reads and writes blocks of 8192 bytes can do with less.
 
-sockets.py PROGRAM [SOCAT]    a line a measure: NAME ours socat ratio
+sockets.py PROGRAM [SOCAT]    a line a measure: NAME ours socat, and ours to it, bare loop, and that to socat
 """
 import os
 import re
 import select
+import shutil
 import signal
 import socket
 import subprocess
@@ -87,6 +89,19 @@ def processor_time(relay):
     return usage.ru_utime + usage.ru_stime
 
 
+def words_of(program, kind, near, far):
+    """What tells the relay to take a peer at the one place and to connect to the other."""
+    if is_bare(program):
+        return [kind, *((near, far) if kind == "unix" else (str(near[1]), str(far[1])))]
+    if kind == "unix":
+        return ["-t10", f"UNIX-LISTEN:{near}", f"UNIX-CONNECT:{far}"]
+    return ["-t10", f"TCP4-LISTEN:{near[1]}", BEHIND[kind].format(HERE, far[1])]
+
+
+def is_bare(program):
+    return os.path.basename(program) == "bare"
+
+
 class Ends:
     """A relay with a connection at each end."""
 
@@ -100,11 +115,8 @@ class Ends:
         server.bind(far)
         server.listen(1)
         server.settimeout(LIMIT)
-        if kind == "unix":
-            words = [f"UNIX-LISTEN:{near}", f"UNIX-CONNECT:{far}"]
-        else:
-            words = [f"TCP4-LISTEN:{near[1]}", BEHIND[kind].format(HERE, server.getsockname()[1])]
-        self.relay = start([*before, program, "-t10", *words])
+        place = far if kind == "unix" else server.getsockname()
+        self.relay = start([*before, program, *words_of(program, kind, near, place)])
         self.near = reach(family, near)
         self.far = server.accept()[0]
         self.far.settimeout(LIMIT)
@@ -261,23 +273,24 @@ def calls(program, kind):
 
 
 def flows(title, kind, ways):
-    return [f"{title}, MB/s", f"{title}, processor s/GiB"], lambda program: flow(program, kind, ways)
+    return [f"{title}, MB/s", f"{title}, processor s/GiB"], lambda program: flow(program, kind, ways), True
 
 
+# What is measured: its names, how, and whether a bare loop can do it.
 MEASURES = [
     flows("TCP to the right", "tcp", "right"),
     flows("TCP to the left", "tcp", "left"),
     flows("TCP both ways", "tcp", "both"),
     flows("Unix to the right", "unix", "right"),
     flows("Unix both ways", "unix", "both"),
-    (PROXIED, proxied),
-    (["TCP 64 bytes there and back, us"], lambda program: trips(program, "tcp")),
-    (["Unix 64 bytes there and back, us"], lambda program: trips(program, "unix")),
-    ([f"UDP lost of {DATAGRAMS} at {PACE}/s"], lambda program: lost(program, "udp")),
+    (PROXIED, proxied, False),
+    (["TCP 64 bytes there and back, us"], lambda program: trips(program, "tcp"), True),
+    (["Unix 64 bytes there and back, us"], lambda program: trips(program, "unix"), True),
+    ([f"UDP lost of {DATAGRAMS} at {PACE}/s"], lambda program: lost(program, "udp"), False),
 ]
 TRACES = [
-    (["TCP system calls a block"], lambda program: calls(program, "tcp")),
-    (["Unix system calls a block"], lambda program: calls(program, "unix")),
+    (["TCP system calls a block"], lambda program: calls(program, "tcp"), True),
+    (["Unix system calls a block"], lambda program: calls(program, "unix"), True),
 ]
 
 
@@ -285,19 +298,25 @@ def median(values):
     return sorted(values)[(len(values) - 1) // 2]
 
 
-def row(name, ours, theirs):
-    ratio = f"{ours / theirs:.2f}" if theirs else "-"
-    print(f"{name:36} {ours:10.2f} {'-' if theirs is None else f'{theirs:.2f}':>10} {ratio:>8}", flush=True)
+def figure(value):
+    return "-" if value is None else f"{value:.2f}"
+
+
+def row(name, found):
+    """A line of what was found of our program, of socat and of the bare loop, the latter with their ratios to socat's."""
+    ours, theirs, bare = found.get("ours"), found.get("socat"), found.get("bare")
+    ratios = [one / theirs if one is not None and theirs else None for one in (ours, bare)]
+    cells = [figure(it) for it in (ours, theirs, ratios[0], bare, ratios[1])]
+    print(f"{name:36} {cells[0]:>10} {cells[1]:>10} {cells[2]:>8} {cells[3]:>10} {cells[4]:>8}", flush=True)
 
 
 def compare(names, measure, programs, rounds):
-    seen = [[] for _ in programs]
+    seen = {name: [] for name in programs}
     for _ in range(rounds):
-        for values, program in zip(seen, programs):
-            values.append(measure(program))
+        for name, program in programs.items():
+            seen[name].append(measure(program))
     for at, name in enumerate(names):
-        medians = [median([values[at] for values in one]) for one in seen]
-        row(name, medians[0], medians[1] if len(medians) > 1 else None)
+        row(name, {which: median([values[at] for values in rows]) for which, rows in seen.items()})
 
 
 def can_trace():
@@ -307,14 +326,31 @@ def can_trace():
         return False
 
 
-def main(*programs):
-    print(f"{'median of ' + str(ROUNDS) + ' rounds':36} {'ours':>10} {'socat':>10} {'ratio':>8}", flush=True)
-    for names, measure in MEASURES:
-        compare(names, measure, programs, ROUNDS)
-    if not can_trace():
-        return print("system calls are skipped: strace can't be used")
-    for names, measure in TRACES:
-        compare(names, measure, programs, 1)
+def bare_loop(folder):
+    """The bare loop, where it can be compiled."""
+    compiler = shutil.which("cc") or shutil.which("gcc") or shutil.which("clang")
+    if not compiler:
+        return {}
+    program = os.path.join(folder, "bare")
+    source = os.path.join(os.path.dirname(os.path.abspath(__file__)), "bare.c")
+    subprocess.run([compiler, "-O2", "-o", program, source], check=True)
+    return {"bare": program}
+
+
+def measure_all(measures, programs, rounds):
+    for names, measure, can_be_bare in measures:
+        chosen = {name: program for name, program in programs.items() if can_be_bare or name != "bare"}
+        compare(names, measure, chosen, rounds)
+
+
+def main(program, *others):
+    print(f"{'median of ' + str(ROUNDS) + ' rounds':36} {'ours':>10} {'socat':>10} {'ratio':>8} {'bare':>10} {'ratio':>8}", flush=True)
+    with tempfile.TemporaryDirectory() as folder:
+        programs = {"ours": program} | {"socat": it for it in others} | bare_loop(folder)
+        measure_all(MEASURES, programs, ROUNDS)
+        if not can_trace():
+            return print("system calls are skipped: strace can't be used")
+        measure_all(TRACES, programs, 1)
 
 
 if __name__ == "__main__":
