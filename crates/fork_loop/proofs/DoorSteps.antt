@@ -10,12 +10,11 @@ use Rattle.relay_model.specs.declared.acts.Why.{Why}
 use Rattle.relay_model.specs.declared.acts.Why.TheVariants as whys
 use Rattle.relay_model.specs.Choices.{only_if, first_some, one_more, count}
 use Rattle.relay_model.specs.Configs.{has_fork, single, program_door}
-use Rattle.relay_model.specs.History.{now as moment, turns, memory_said, stop_said, accept_failed}
+use Rattle.relay_model.specs.History.{now as moment, memory_said, stop_said, accept_failed}
 use Rattle.relay_model.specs.Journals.{Asking}
 use Rattle.relay_model.specs.declared.places.Side.{Side}
 use Rattle.relay_model.specs.Rest.{owed}
 use Rattle.relay_model.specs.Sessions.{admitted, holds, live, live_count, numbers, next_place, permits, door_options}
-use Rattle.relay_model.specs.Cause.{cause}
 use Rattle.relay_model.specs.Calls.{door_call}
 use Rattle.relay_model.specs.Openings.{Accept}
 use Rattle.relay_model.specs.Laws.{DoorTells}
@@ -39,22 +38,22 @@ use Rattle.session_crew.specs.Crews.{Waker}
 use Rattle.session_crew.proofs.Members.{through_acts, awake, accept_ends}
 use Rattle.session_runs.specs.Pauses.{ends_all}
 use Rattle.session_runs.specs.Runs.{Run}
-use Rattle.session_driver.specs.Dumpers.{Counted, counted_at}
+use Rattle.session_driver.specs.Dumpers.{counted_at}
 use Rattle.session_driver.proofs.Counting.{unread_owes}
 use Rattle.session_runs.proofs.Going.{AllCommands, acted_run, idle_run}
 use Rattle.door_driver.specs.Steps.{DoorFor, DoorMeets, DoorActs, DoorAsking, DoorIdles, EndsNone, AdmitsNone, Admits}
 use Rattle.fork_loop.specs.declared.crews.Crew.{Crew}
 use Rattle.fork_loop.specs.declared.crews.Row.{Row}
-use Rattle.fork_loop.specs.Rows.{Has, RowIs, UpRow, SleepsIfLate}
-use Rattle.fork_loop.specs.Courses.{RowOf, NextIs, Counts, Unsaid, Frame, Course, CourseAt, Somewhere, SomewhereAt, Onward, Keeps, NoWork, SameLists, SameButWork, AllSleepIfLate, timer_of}
-use Rattle.fork_loop.specs.Endings.{MayLeave, MayLeaveRow, MayEnd, CutRow, CutsRows, RunsOut, RowRuns, AllRun, AllUp, AllQueued, FailedAt, Failed, SomeFailed, EndsRows}
+use Rattle.fork_loop.specs.Rows.{RowIs, UpRow}
+use Rattle.fork_loop.specs.Courses.{RowOf, NextIs, Counts, Unsaid, Frame, Course, CourseAt, Somewhere, SomewhereAt, Onward, Keeps, NoWork, SameLists, timer_of}
+use Rattle.fork_loop.specs.Endings.{MayLeave, MayLeaveRow, MayEnd, RunsOut, RowRuns, FailedAt, Failed, SomeFailed, EndsRows}
 use Rattle.fork_loop.specs.declared.asked.Asked.{Asked}
 use Rattle.fork_loop.specs.declared.asked.Asked.TheVariants as asks
 use Rattle.fork_loop.specs.Asking.{SameButNext, TakesNext, AskedIs, GoesOn}
 use Rattle.fork_loop.proofs.Others.{unsaid_kept, moment_kept, turns_kept}
 use Rattle.fork_loop.proofs.Counting.{counted_kept, counted_by, counted_first}
-use Rattle.fork_loop.proofs.RowLaws.{rouses_kept, awake_rouses, sleeper_rouses, row_up, row_listed, up_listed, same_timer}
-use Rattle.fork_loop.proofs.RowRuns.{frame_rest, rest_then}
+use Rattle.fork_loop.proofs.RowLaws.{rouses_kept, awake_rouses, sleeper_rouses, row_up, row_listed, same_timer}
+use Rattle.fork_loop.proofs.RowRuns.{here_of, ran_course, ran_ends}
 use Rattle.fork_loop.proofs.Spreading.{up_may}
 
 -- ---- how many live
@@ -129,8 +128,8 @@ pub record KeptBack (c : Config) (before after : Crew) : Type 0 where
   pub lists : SameLists before after
   pub next : (past : List Act) → before.table.admitted ≡ admitted c past → NextIs c past after.unborn
 
-pub door_acted : (c : Config) (n : ℕ) (start old new : Seen) (past : List Act) (live : ℕ) (before after : Crew) (act : Act) → live ≡ live_in before.table → Course c n start old past before → DoorActs c (λ m p. DoorFor c m p before.clock live before.door) old new before.door after.door act → ((m : ℕ) (p : List Act) → DoorFor c m p before.clock live before.door → AdmitsNone c p act) → KeptBack c before after → Onward c n start new after
-door_acted c n start old new past live before after act e on a none kept =
+pub door_course : (c : Config) (n : ℕ) (start old new : Seen) (past : List Act) (live : ℕ) (before after : Crew) (act : Act) → live ≡ live_in before.table → Course c n start old past before → DoorActs c (λ m p. DoorFor c m p before.clock live before.door) old new before.door after.door act → ((m : ℕ) (p : List Act) → DoorFor c m p before.clock live before.door → AdmitsNone c p act) → KeptBack c before after → Course c n start new (act ∷ past) after
+door_course c n start old new past live before after act e on a none kept =
     let f = on.frame in
     let for = door_for c n start old past before live e on in
     let h = a.heard n past for in
@@ -139,22 +138,22 @@ door_acted c n start old new past live before after act e on a none kept =
     let same = z.admitted_same in
     let table = kept.table_same in
     record {
-      past = act ∷ past;
-      course = record {
-        frame = record {
-          fork = f.fork;
-          run = run_on c n start old new past (λ m p. DoorFor c m p before.clock live before.door) before after act f on.unowed for a;
-          door = h.stands;
-          counts = subst (Counts c (act ∷ past)) (sym table) (record { admitted_is = f.counts.admitted_is ∙ sym same; children_is = f.counts.children_is; stop_is = f.counts.stop_is });
-          next = kept.next (act ∷ past) (f.counts.admitted_is ∙ sym same);
-          clock_is = kept.clock_same ∙ f.clock_is ∙ sym (moment_kept act past a.untimed);
-          made_is = turns_kept act past a.untimed ∙ f.made_is ∙ sym kept.made_same;
-          unsaid = unsaid_kept c act past k f.unsaid;
-        };
-        unowed = unread_owes c act past a.unread;
-        rows = λ s. row_listed c n (act ∷ past) s before after (ap (λ (t : Table Row). row_of t s) table) kept.lists (row_on c n act past s before.work.items (timer_of before s) (row_of before.table s) f.fork (a.apart n past for s) k (λ b. omega (arith, b, same)) (on.rows s));
+      frame = record {
+        fork = f.fork;
+        run = run_on c n start old new past (λ m p. DoorFor c m p before.clock live before.door) before after act f on.unowed for a;
+        door = h.stands;
+        counts = subst (Counts c (act ∷ past)) (sym table) (record { admitted_is = f.counts.admitted_is ∙ sym same; children_is = f.counts.children_is; stop_is = f.counts.stop_is });
+        next = kept.next (act ∷ past) (f.counts.admitted_is ∙ sym same);
+        clock_is = kept.clock_same ∙ f.clock_is ∙ sym (moment_kept act past a.untimed);
+        made_is = turns_kept act past a.untimed ∙ f.made_is ∙ sym kept.made_same;
+        unsaid = unsaid_kept c act past k f.unsaid;
       };
+      unowed = unread_owes c act past a.unread;
+      rows = λ s. row_listed c n (act ∷ past) s before after (ap (λ (t : Table Row). row_of t s) table) kept.lists (row_on c n act past s before.work.items (timer_of before s) (row_of before.table s) f.fork (a.apart n past for s) k (λ b. omega (arith, b, same)) (on.rows s));
     }
+
+pub door_acted : (c : Config) (n : ℕ) (start old new : Seen) (past : List Act) (live : ℕ) (before after : Crew) (act : Act) → live ≡ live_in before.table → Course c n start old past before → DoorActs c (λ m p. DoorFor c m p before.clock live before.door) old new before.door after.door act → ((m : ℕ) (p : List Act) → DoorFor c m p before.clock live before.door → AdmitsNone c p act) → KeptBack c before after → Onward c n start new after
+door_acted c n start old new past live before after act e on a none kept = record { past = act ∷ past; course = door_course c n start old new past live before after act e on a none kept }
 
 pub steps_fewer : (c : Config) (old new : Seen) (live : ℕ) (before after : Crew) (act : Act) → live ≡ live_in before.table → Somewhere c old before → DoorActs c (λ m p. DoorFor c m p before.clock live before.door) old new before.door after.door act → steps_of after.door < steps_of before.door
 steps_fewer c old new live before after act e at a = (a.heard at.n at.past (door_for c at.n at.start old at.past before live e at.course)).fewer
@@ -329,18 +328,6 @@ row_fails c n past s timer (Some row) fork u r = record {
   counted = counted_by c (acts.AcceptFailed program_door) past s row.member.dumper row.member.dumper refl refl r.counted;
 }
 
-row_rises : (c : Config) (n : ℕ) (past : List Act) (s made at : ℕ) (timer : Option ℕ) (before after : Option Row) → has_fork c ≡ true → Unsaid past → turns past ≡ made → moment past ≡ at → FailedAt c n (acts.AcceptFailed program_door ∷ past) s timer before → CutRow made at whys.AcceptFailed s before after → UpRow c n (acts.AcceptFailed program_door ∷ past) s timer after
-row_rises c n past s made at timer None None fork u e m r cut = r
-row_rises c n past s made at timer (Some old) (Some new) fork u e m r cut =
-    let l = cut.2 c n (acts.AcceptFailed program_door ∷ past) e m r.may in
-    let k = l.unclosed in
-    let h = u.remembered in
-    let t = u.unstopped in
-    let caused : cause c (acts.AcceptFailed program_door ∷ past) s ≡ Some whys.AcceptFailed = rw (k, h, t, fork) refl in
-    awake_rouses c n (acts.AcceptFailed program_door ∷ past) s new (record { stands = l.stands; ending = l.ending ∙ sym caused; unclosed = k }) (cut.0 ∙ sym e) (subst (Counted c (acts.AcceptFailed program_door ∷ past) s) (sym cut.1) r.counted)
-row_rises c n past s made at timer None (Some new) fork u e m r cut = absurd cut
-row_rises c n past s made at timer (Some old) None fork u e m r cut = absurd cut
-
 pub door_failed : (c : Config) (n : ℕ) (start old new : Seen) (past : List Act) (live : ℕ) (before mid : Crew) → live ≡ live_in before.table → Course c n start old past before → NoWork before → DoorActs c (λ m p. DoorFor c m p before.clock live before.door) old new before.door mid.door (acts.AcceptFailed program_door) → KeptBack c before mid → Failed c n start new past mid
 door_failed c n start old new past live before mid e on idle a kept =
     let f = on.frame in
@@ -364,58 +351,6 @@ door_failed c n start old new past live before mid e on idle a kept =
           (row_fails c n past s (timer_of before s) (row_of before.table s) f.fork f.unsaid (row_up c n past s before.work.items (timer_of before s) (row_of before.table s) (on.rows s))));
       idle = kept.lists.work_same ∙ idle;
     }
-
--- each session was cut
-pub failed_cut : (c : Config) (n : ℕ) (start now : Seen) (past : List Act) (before after : Crew) → Failed c n start now past before → CutsRows whys.AcceptFailed before after → AllUp c n start now (acts.AcceptFailed program_door ∷ past) after
-failed_cut c n start now past before after failed cuts =
-    let f = failed.frame in
-    record {
-      frame = frame_rest c n start now (acts.AcceptFailed program_door ∷ past) before after f cuts.same;
-      unowed = refl;
-      rows = λ s.
-          subst (λ (k : Option ℕ). UpRow c n (acts.AcceptFailed program_door ∷ past) s k (row_of after.table s)) (sym (same_timer s before after cuts.lists.timers_same))
-          (row_rises c n past s before.made before.clock (timer_of before s) (row_of before.table s) (row_of after.table s) f.fork (record { remembered = f.unsaid.remembered; unstopped = f.unsaid.unstopped }) f.made_is (sym f.clock_is) (failed.rows s) (cuts.rows s));
-    }
-
--- and is in the list of work
-row_queued : (c : Config) (n : ℕ) (past : List Act) (s : ℕ) (work : List ℕ) (timer : Option ℕ) (row : Option Row) → (is_some row ≡ true → Has s work) → UpRow c n past s timer row → RowIs c n past s work timer row
-row_queued c n past s work timer None h r = r
-row_queued c n past s work timer (Some row) h r = inl (h refl, r)
-
-pub all_queued : (c : Config) (n : ℕ) (start now : Seen) (past : List Act) (before after : Crew) → AllUp c n start now past before → SameButWork before after → AllQueued after → Course c n start now past after
-all_queued c n start now past before after up same queued = record {
-  frame = frame_rest c n start now past before after up.frame same.same;
-  unowed = up.unowed;
-  rows = λ s. row_queued c n past s after.work.items (timer_of after s) (row_of after.table s) (queued s) (up_listed c n past s before after (ap (λ (t : Table Row). row_of t s) same.table_same) (same_timer s before after same.timers_same) (up.rows s));
-}
-
-pub up_memory : (c : Config) (n : ℕ) (start now : Seen) (past : List Act) (before after : Crew) → AllUp c n start now past before → SameButWork before after → MayEnd c n start now whys.Memory after
-up_memory c n start now past before after up same = record {
-  past = past;
-  frame = frame_rest c n start now past before after up.frame same.same;
-  all = refl;
-  ends = inl refl;
-  owes = inr refl;
-  rows = λ s. up_may c n past s whys.Memory (timer_of after s) (row_of after.table s) (inl refl) (up_listed c n past s before after (ap (λ (t : Table Row). row_of t s) same.table_same) (same_timer s before after same.timers_same) (up.rows s));
-}
-
-fails_late : (c : Config) (n : ℕ) (past : List Act) (s made : ℕ) (timer : Option ℕ) (row : Option Row) → turns past ≡ made → FailedAt c n past s timer row → SleepsIfLate made row
-fails_late c n past s made timer None e r = tt
-fails_late c n past s made timer (Some row) e r = λ h. (r.may.late (omega (arith, h, e))).0
-
-pub failed_sleep : (c : Config) (now : Seen) (crew : Crew) → SomeFailed c now crew → AllSleepIfLate crew
-failed_sleep c now crew at s = fails_late c at.n (acts.AcceptFailed program_door ∷ at.past) s crew.made (timer_of crew s) (row_of crew.table s) at.failed.frame.made_is (at.failed.rows s)
-
-pub some_queued : (c : Config) (now : Seen) (before mid after : Crew) → SomeFailed c now before → CutsRows whys.AcceptFailed before mid → SameButWork mid after → AllQueued after → Somewhere c now after
-some_queued c now before mid after at cuts same queued = record { n = at.n; start = at.start; past = acts.AcceptFailed program_door ∷ at.past; course = all_queued c at.n at.start now (acts.AcceptFailed program_door ∷ at.past) mid after (failed_cut c at.n at.start now at.past before mid at.failed cuts) same queued }
-
-pub ends_after : (c : Config) (old new : Seen) (before cut mid after : Crew) (why : Option Why) → CutsRows whys.AcceptFailed before cut → SameButWork cut mid → AllQueued mid → AllRun c old new mid after why → EndsRows c old new before after why
-ends_after c old new before cut mid after None cuts same queued run = (
-  λ n start past f. run.0 n start (acts.AcceptFailed program_door ∷ past) (all_queued c n start old (acts.AcceptFailed program_door ∷ past) cut mid (failed_cut c n start old past before cut f cuts) same queued),
-  run.1,
-  rest_then before mid after (rest_then before cut mid cuts.same same.same) run.2,
-)
-ends_after c old new before cut mid after (Some why) cuts same queued run = λ n start past f. run n start (acts.AcceptFailed program_door ∷ past) (all_queued c n start old (acts.AcceptFailed program_door ∷ past) cut mid (failed_cut c n start old past before cut f cuts) same queued)
 
 -- ---- steps of a door that stayed as it was
 
@@ -479,24 +414,29 @@ BornAs c before peer session = (n : ℕ) (past : List Act) → Begins c n past (
 pub born_as : (c : Config) (n : ℕ) (past : List Act) (peer : Peer) (x y : Session) → y ≡ x → Hears c n (acts.Accepted (home c (admitted c past)) peer ∷ past) (admitted c past) x → Hears c n (acts.Accepted (home c (admitted c past)) peer ∷ past) (admitted c past) y
 born_as c n past peer x y e h = subst (Hears c n (acts.Accepted (home c (admitted c past)) peer ∷ past) (admitted c past)) (sym e) h
 
-born_on : (c : Config) (n : ℕ) (start old new : Seen) (past : List Act) (live number : ℕ) (before after : Crew) (place : Place) (peer : Peer) (row : Row) → live ≡ live_in before.table → Course c n start old past before → DoorActs c (λ m p. DoorFor c m p before.clock live before.door) old new before.door after.door (acts.Accepted place peer) → ((m : ℕ) (p : List Act) → DoorFor c m p before.clock live before.door → Admits c p place peer) → BornAs c before peer row.member.session → OneMore row before after → number ≡ before.table.admitted → CourseAt c n start new (acts.Accepted place peer ∷ past) number after
+pub born_on : (c : Config) (n : ℕ) (start old new : Seen) (past : List Act) (live number : ℕ) (before after : Crew) (place : Place) (peer : Peer) (row : Row) → live ≡ live_in before.table → Course c n start old past before → DoorActs c (λ m p. DoorFor c m p before.clock live before.door) old new before.door after.door (acts.Accepted place peer) → ((m : ℕ) (p : List Act) → DoorFor c m p before.clock live before.door → Admits c p place peer) → BornAs c before peer row.member.session → OneMore row before after → number ≡ before.table.admitted → CourseAt c n start new (acts.Accepted place peer ∷ past) number after
 born_on c n start old new past live number before after place peer row e on a admits born more same =
     subst (λ (k : ℕ). CourseAt c n start new (acts.Accepted place peer ∷ past) k after) (sym same)
     (door_admitted c n start old new past live before after place peer row e on a admits (λ b. born n past b on.frame.counts.admitted_is on.frame.clock_is) more)
 
 pub some_admitted : (c : Config) (old new : Seen) (live number : ℕ) (before after : Crew) (place : Place) (peer : Peer) (row : Row) → live ≡ live_in before.table → Somewhere c old before → DoorActs c (λ m p. DoorFor c m p before.clock live before.door) old new before.door after.door (acts.Accepted place peer) → ((m : ℕ) (p : List Act) → DoorFor c m p before.clock live before.door → Admits c p place peer) → BornAs c before peer row.member.session → OneMore row before after → number ≡ before.table.admitted → SomewhereAt c new number after
-some_admitted c old new live number before after place peer row e at a admits born more same = record { n = at.n; start = at.start; past = acts.Accepted place peer ∷ at.past; course = born_on c at.n at.start old new at.past live number before after place peer row e at.course a admits born more same }
+some_admitted c old new live number before after place peer row e at a admits born more same = record { n = at.n; start = at.start; past = acts.Accepted place peer ∷ at.past; course = here_of c at.n at.start new (acts.Accepted place peer ∷ at.past) number after (born_on c at.n at.start old new at.past live number before after place peer row e at.course a admits born more same) }
 
 pub goes_admitted : (c : Config) (old mid_seen new : Seen) (live number : ℕ) (before mid after : Crew) (place : Place) (peer : Peer) (row : Row) → live ≡ live_in before.table → Somewhere c old before → NoWork before → DoorActs c (λ m p. DoorFor c m p before.clock live before.door) old mid_seen before.door mid.door (acts.Accepted place peer) → ((m : ℕ) (p : List Act) → DoorFor c m p before.clock live before.door → Admits c p place peer) → BornAs c before peer row.member.session → OneMore row before mid → number ≡ before.table.admitted → RowRuns c mid_seen new number mid after None → GoesOn c old new before after None
 goes_admitted c old mid_seen new live number before mid after place peer row e at idle a admits born more same run = (
-  λ n start past on. run.0 n start (acts.Accepted place peer ∷ past) (born_on c n start old mid_seen past live number before mid place peer row e on a admits born more same),
-  run.1 ∙ (more.lists.work_same ∙ idle),
+  λ n start past on.
+      let at = born_on c n start old mid_seen past live number before mid place peer row e on a admits born more same in
+      let r = run.0 n start (acts.Accepted place peer ∷ past) (here_of c n start mid_seen (acts.Accepted place peer ∷ past) number mid at) in
+      record { past = r.since; course = ran_course c n start mid_seen new (acts.Accepted place peer ∷ past) number mid after at r run.1 },
+  run.1.work_same ∙ (more.lists.work_same ∙ idle),
   fewer_kept before mid after (steps_fewer c old mid_seen live before mid (acts.Accepted place peer) e at a) run.2.door_same,
   run.2.made_same ∙ more.made_same,
 )
 
 pub ends_admitted : (c : Config) (old mid_seen new : Seen) (live number : ℕ) (why : Why) (before mid after : Crew) (place : Place) (peer : Peer) (row : Row) → live ≡ live_in before.table → DoorActs c (λ m p. DoorFor c m p before.clock live before.door) old mid_seen before.door mid.door (acts.Accepted place peer) → ((m : ℕ) (p : List Act) → DoorFor c m p before.clock live before.door → Admits c p place peer) → BornAs c before peer row.member.session → OneMore row before mid → number ≡ before.table.admitted → RowRuns c mid_seen new number mid after (Some why) → AskedIs c old new before after (asks.Ends why)
-ends_admitted c old mid_seen new live number why before mid after place peer row e a admits born more same run = λ n start past on. run n start (acts.Accepted place peer ∷ past) (born_on c n start old mid_seen past live number before mid place peer row e on a admits born more same)
+ends_admitted c old mid_seen new live number why before mid after place peer row e a admits born more same run = λ n start past on.
+    let at = born_on c n start old mid_seen past live number before mid place peer row e on a admits born more same in
+    ran_ends c n start mid_seen new (acts.Accepted place peer ∷ past) number why mid after at (run.0 n start (acts.Accepted place peer ∷ past) (here_of c n start mid_seen (acts.Accepted place peer ∷ past) number mid at)) run.1
 
 pub some_failed : (c : Config) (old new : Seen) (live : ℕ) (before mid : Crew) → live ≡ live_in before.table → Somewhere c old before → NoWork before → DoorActs c (λ m p. DoorFor c m p before.clock live before.door) old new before.door mid.door (acts.AcceptFailed program_door) → KeptBack c before mid → SomeFailed c new mid
 some_failed c old new live before mid e at idle a kept = record { n = at.n; start = at.start; past = at.past; failed = door_failed c at.n at.start old new at.past live before mid e at.course idle a kept }

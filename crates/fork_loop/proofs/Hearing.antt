@@ -4,7 +4,7 @@ use Rattle.std.specs.Ordering.{nat_cmp}
 use Rattle.std.specs.Cmp.{nat_cmp_total}
 use Rattle.std.specs.FinMap.{FinMap, get, remove, len, contains_key, len-remove, empty_of_len, get-empty}
 use Rattle.std.proofs.lemmas.Bool.{cases_eq, cases_lt, or_parts, true≢false, false≢true, false_from_ne_true}
-use Rattle.std.proofs.lemmas.List.{take_more, length-append}
+use Rattle.std.proofs.lemmas.List.{take_more, length-append, append-nil, append_assoc}
 use Rattle.std.proofs.lemmas.List.Folds.{list_any-append}
 use Rattle.std.proofs.lemmas.Option.{slice_get_within, get_or_from_slice_get}
 use Rattle.relay_model.specs.declared.commands.Config.{Config}
@@ -19,10 +19,11 @@ use Rattle.fork_table.specs.Tables.{Table, row_of, IsFirstLive}
 use Rattle.fork_loop.specs.declared.crews.Crew.{Crew}
 use Rattle.fork_loop.specs.declared.crews.Row.{Row}
 use Rattle.fork_loop.specs.Rows.{Has, SleepsIfLate}
-use Rattle.fork_loop.specs.Courses.{SameButWork, SameButLists, timer_of}
-use Rattle.fork_loop.specs.Looks.{CameByName, CameForCause, CameInTime, HasCome, NoneDue}
+use Rattle.fork_loop.specs.Courses.{NoWork, SameButWork, SameButLists, timer_of}
+use Rattle.fork_loop.specs.Endings.{Once}
+use Rattle.fork_loop.specs.Looks.{AddsDue, AddsParts, CameByName, CameForCause, CameInTime, HasCome, NoneDue}
 use Rattle.fork_loop.specs.Turns.{HearsTurn, HearsRow, SameBesides, RowHeard, UnheardRow, AllUnheard, names_own, NamedRow, NamedHeard, HearsOnce, RowHearsOnce, Queues, Moves, QueuesDue, Queued}
-use Rattle.fork_loop.proofs.Lists.{has_left, has_last}
+use Rattle.fork_loop.proofs.Lists.{has_left, has_last, has_none}
 use Rattle.fork_loop.proofs.Loops.{RowsTo, rows_next}
 use Rattle.fork_loop.proofs.RowLaws.{same_timer}
 use Rattle.fork_loop.proofs.RowRuns.{rest_itself, rest_then}
@@ -324,6 +325,79 @@ queued_next k table work more next q w f = go next f
         each : (s : ℕ) → (s < k + 1) ⊎ (k + 1 ≤ s) → s < j → is_some (row_of table s) ≡ true → Has s more
         each s (inl l) b e = one s (cases_lt s k) l e
         each s (inr l) b e = no_row (row_of table s) (h.2 s l b) e
+
+-- each once, and only of sessions that live
+
+once_last : (k : ℕ) (xs : List ℕ) → Once xs → (Has k xs → ⊥) → Once (xs ++ k ∷ [])
+once_last k [] once absent = (λ h. h, tt)
+once_last k (x ∷ xs) once absent = (λ h. go (has_more x k xs (xs ++ k ∷ []) refl h), once_last k xs once.1 (λ h. absent (inr h)))
+  where
+    go : Has x xs ⊎ (x ≡ k) → ⊥
+    go (inl h) = once.0 h
+    go (inr e) = absent (inl (sym e))
+
+abbrev pub LivesTo : Option ℕ → Table Row → List ℕ → Type 0
+LivesTo None table work = Once work × ((s : ℕ) → Has s work → is_some (row_of table s) ≡ true)
+LivesTo (Some k) table work = Once work × (((s : ℕ) → Has s work → (s < k) × (is_some (row_of table s) ≡ true)) × (is_some (row_of table k) ≡ true))
+
+pub lives_first : (crew : Crew) (first : Option ℕ) → IsFirstLive crew.table 0 first → NoWork crew → LivesTo first crew.table crew.work.items
+lives_first crew None f idle = (subst Once (sym idle) tt, λ s h. has_none s crew.work.items idle h)
+lives_first crew (Some k) f idle = (subst Once (sym idle) tt, (λ s h. has_none s crew.work.items idle h, f.1))
+
+pub lives_next : (k : ℕ) (table : Table Row) (work more : List ℕ) (next : Option ℕ) → LivesTo (Some k) table work → more ≡ work ++ k ∷ [] → IsFirstLive table (k + 1) next → LivesTo next table more
+lives_next k table work more next (once, (below, here)) w f = go next f
+  where
+    longer : Once more
+    longer = subst Once (sym w) (once_last k work once (λ h. let l = (below k h).0 in omega (arith, l)))
+
+    each : (s : ℕ) → Has s work ⊎ (s ≡ k) → (s < k + 1) × (is_some (row_of table s) ≡ true)
+    each s (inl h) = (let b = below s h in let l = b.0 in (omega (arith, l), b.1))
+    each s (inr e) = (omega (arith, e), subst (λ (x : ℕ). is_some (row_of table x) ≡ true) (sym e) here)
+
+    go : (o : Option ℕ) → IsFirstLive table (k + 1) o → LivesTo o table more
+    go None h = (longer, λ s g. (each s (has_more s k work more w g)).1)
+    go (Some j) h = (longer, (λ s g. (let b = each s (has_more s k work more w g) in let l = b.0 in let m = h.0 in (omega (arith, l, m), b.1)), h.1))
+
+-- each whose timer fell due
+
+pub due_first : (crew : Crew) → AddsDue crew crew
+due_first crew = record { due = []; work_is = sym (append-nil crew.work.items); once = tt; come = λ s h. absurd h; taken = λ s h. absurd h }
+
+pub due_next : (k at : ℕ) (before mid after : Crew) → at ≤ mid.clock → timer_of mid k ≡ Some at → Moves before mid → after.work.items ≡ mid.work.items ++ k ∷ [] → after.timers.moments ≡ remove mid.timers.moments k → AddsDue before mid → AddsDue before after
+due_next k at before mid after due set moves w t d = record {
+  due = d.due ++ k ∷ [];
+  work_is = w ∙ (ap (λ (xs : List ℕ). xs ++ k ∷ []) d.work_is ∙ append_assoc before.work.items d.due (k ∷ []));
+  once = once_last k d.due d.once (λ h. let y : None ≡ Some at = sym (d.taken k h) ∙ set in let x : ⊥ = cc in x);
+  come = λ s h. come s (has_more s k d.due (d.due ++ k ∷ []) refl h);
+  taken = λ s h. gone s (cases_eq s k) (has_more s k d.due (d.due ++ k ∷ []) refl h);
+}
+  where
+    here : (timer_of mid k ≡ timer_of before k) ⊎ (Has k mid.work.items × (timer_of mid k ≡ None)) → HasCome before before.clock k
+    here (inl e) = (at, sym e ∙ set, (let c = moves.same.same.clock_same in omega (arith, due, c)))
+    here (inr g) = (let y : None ≡ Some at = sym g.1 ∙ set in let x : ⊥ = cc in absurd x)
+
+    come : (s : ℕ) → Has s d.due ⊎ (s ≡ k) → HasCome before before.clock s
+    come s (inl h) = d.come s h
+    come s (inr e) = subst (HasCome before before.clock) (sym e) (here (moves.moved k))
+
+    gone : (s : ℕ) → (s ≡ k) ⊎ (s ≡ k → ⊥) → Has s d.due ⊎ (s ≡ k) → timer_of after s ≡ None
+    gone s (inl e) h = rw t (got_removed mid.timers.moments k s e)
+    gone s (inr apart) (inl h) = rw t (got_left mid.timers.moments k s apart) ∙ d.taken s h
+    gone s (inr apart) (inr e) = absurd (apart e)
+
+pub due_kept : (before mid after : Crew) → after.work.items ≡ mid.work.items → after.timers.moments ≡ mid.timers.moments → AddsDue before mid → AddsDue before after
+due_kept before mid after w t d = record { due = d.due; work_is = w ∙ d.work_is; once = d.once; come = d.come; taken = λ s h. same_timer s mid after t ∙ d.taken s h }
+
+-- with those that were named
+pub parts_of : (before heard named after : Crew) → SameBesides before heard → length named.work.items ≤ length heard.work.items + length heard.ready.entries → SameButWork heard named → AddsDue named after → AddsParts (length before.ready.entries) before after
+parts_of before heard named after h few q d = record {
+  named = named.work.items;
+  due = d.due;
+  work_is = d.work_is;
+  few = (let w = ap length h.lists.work_same in let e = ap (λ (l : Listed). length l.entries) h.ready_same in omega (arith, few, w, e));
+  once = d.once;
+  come = λ s g. (let m = d.come s g in (m.0, sym (same_timer s heard named q.timers_same ∙ same_timer s before heard h.lists.timers_same) ∙ m.1, (let b = m.2 in let l = q.same.clock_same in let k = h.same.clock_same in omega (arith, b, l, k))));
+}
 
 -- ---- after a turn
 

@@ -1,12 +1,12 @@
 -- Where the door and all sessions wait, a wait is in order, until the least moment that one of them waits for.
-use Rattle.std.proofs.Common.{◌≡◌, refl, sym, ap, ◌∙◌, ℕ, suc, ◌-◌, ◌<◌, ◌≤◌, ◌⊎◌, inl, inr, Bool, true, false, ◌&&◌, nat_lt, List, [], ◌∷◌, Option, Some, None, is_some, arith}
+use Rattle.std.proofs.Common.{◌≡◌, refl, sym, ap, ◌∙◌, ℕ, suc, ◌-◌, ◌<◌, ◌≤◌, ◌⊎◌, inl, inr, Bool, true, false, ◌&&◌, nat_lt, List, [], ◌∷◌, length, Option, Some, None, is_some, arith}
 use Rattle.std.proofs.lemmas.Bool.{false≢true}
 use Rattle.relay_model.specs.declared.commands.Config.{Config}
 use Rattle.relay_model.specs.declared.acts.Act.{Act}
 use Rattle.relay_model.specs.declared.acts.Why.TheVariants as whys
 use Rattle.relay_model.specs.Configs.{has_fork}
 use Rattle.relay_model.specs.History.{turns}
-use Rattle.relay_model.specs.Sessions.{admitted, holds, numbers}
+use Rattle.relay_model.specs.Sessions.{admitted, holds, live, numbers}
 use Rattle.relay_model.specs.May.{Legal}
 use Rattle.relay_model.specs.declared.acts.Act.TheVariants as acts
 use Rattle.relay_model.specs.Rest.{SessionRests}
@@ -27,12 +27,13 @@ use Rattle.fork_loop.specs.declared.crews.Crew.{Crew}
 use Rattle.fork_loop.specs.declared.crews.Row.{Row}
 use Rattle.fork_loop.specs.Rows.{Has, UpRow, RowIs}
 use Rattle.fork_loop.specs.Turns.{names_own}
-use Rattle.fork_loop.specs.Looks.{CameForCause, HasCome}
+use Rattle.fork_loop.specs.Looks.{AddsParts, CameForCause, HasCome, LeftByTurn, NoneDue, WaitsNoLonger, WasDue}
 use Rattle.fork_loop.specs.Courses.{Course, Onward, SameLists, Somewhere, Keeps, NoWork, timer_of}
 use Rattle.fork_loop.specs.Asking.{DoorWaits, DoorIsOver}
 use Rattle.fork_loop.specs.Endings.{MayEnd}
 use Rattle.fork_loop.specs.Waited.{InOrder}
 use Rattle.fork_loop.specs.Waits.{WaitsFor, IsLeast}
+use Rattle.fork_loop.proofs.Looking.{none_then}
 use Rattle.fork_loop.proofs.Lists.{has_none}
 use Rattle.fork_loop.proofs.RowLaws.{row_up, same_timer}
 use Rattle.fork_loop.proofs.DoorSteps.{course_may_end}
@@ -45,7 +46,7 @@ pub record RowRests (c : Config) (past : List Act) (s : ℕ) (timer : Option ℕ
 gone_until : (c : Config) (past : List Act) (s : ℕ) → RestsUntil c past s None → session_until c past s ≡ None
 gone_until c past s r = rw r.no_work r.moment_is
 
-row_rests : (c : Config) (n : ℕ) (past : List Act) (s : ℕ) (work : List ℕ) (timer : Option ℕ) (row : Option Row) → has_fork c ≡ true → s < admitted c past → work ≡ [] → RowIs c n past s work timer row → RowRests c past s timer
+pub row_rests : (c : Config) (n : ℕ) (past : List Act) (s : ℕ) (work : List ℕ) (timer : Option ℕ) (row : Option Row) → has_fork c ≡ true → s < admitted c past → work ≡ [] → RowIs c n past s work timer row → RowRests c past s timer
 row_rests c n past s work timer None fork below e r =
     let g = gone c past s fork (r.0 below) in
     record { rests = g.rests; until_is = gone_until c past s g ∙ sym r.1 }
@@ -113,6 +114,40 @@ came_for c n start now past at before mid after on idle clock same came s has = 
     go (inl f) = has_none s mid.work.items (same.work_same ∙ idle) f
     go (inr (inl f)) = inl f
     go (inr (inr d)) = inr (d.0, waited d.0 (sym (same_timer s before mid same.timers_same) ∙ d.1), (let b = d.2 in omega (arith, b, clock)))
+
+-- where the turn came before the end of the wait, none was due
+none_due : (mid : Crew) (due : List ℕ) → NoneDue mid → ((s : ℕ) → Has s due → HasCome mid mid.clock s) → due ≡ []
+none_due mid [] none come = refl
+none_due mid (s ∷ ss) none come = let d = come s (inl refl) in let l = none s d.0 d.1 in let m = d.2 in absurd (omega (arith, l, m))
+
+set_lives : (c : Config) (n : ℕ) (past : List Act) (s m : ℕ) (timer : Option ℕ) (row : Option Row) → timer ≡ Some m → UpRow c n past s timer row → live c past s ≡ true
+set_lives c n past s m timer None e r = let y : None ≡ Some m = sym r.1 ∙ e in let x : ⊥ = cc in absurd x
+set_lives c n past s m timer (Some row) e r = r.lives
+
+-- the list of work after it
+pub left_by : (c : Config) (n : ℕ) (start now : Seen) (past : List Act) (until : Option ℕ) (at : ℕ) (before mid after : Crew) → Course c n start now past before → NoWork before → mid.clock ≡ at → SameLists before mid → WaitsNoLonger until before → AddsParts (length mid.ready.entries) mid after → LeftByTurn c past until at mid.ready.entries after.work.items
+left_by c n start now past until at before mid after on idle clock same longest a = record {
+  named = a.named;
+  due = a.due;
+  work_is = a.work_is;
+  few = (let f = a.few in let w = ap length (same.work_same ∙ idle) in omega (arith, f, w));
+  once = a.once;
+  come = λ s h. due s (a.come s h);
+  none = λ early. none_due mid a.due (none_then at until before mid clock same.timers_same longest early) a.come;
+}
+  where
+    due : (s : ℕ) → HasCome mid mid.clock s → WasDue c past at s
+    due s d =
+        let e : timer_of before s ≡ Some d.0 = sym (same_timer s before mid same.timers_same) ∙ d.1 in
+        let up = row_up c n past s before.work.items (timer_of before s) (row_of before.table s) (on.rows s) in
+        let b = set_begun c n past s d.0 (timer_of before s) (row_of before.table s) e up in
+        let k = numbers_are c past on.frame.fork in
+        let l = d.2 in
+        record {
+          begun = b;
+          lives = set_lives c n past s d.0 (timer_of before s) (row_of before.table s) e up;
+          come = (d.0, (row_rests c n past s before.work.items (timer_of before s) (row_of before.table s) on.frame.fork (omega (arith, b, k)) idle (on.rows s)).until_is ∙ e, omega (arith, l, clock));
+        }
 
 -- ---- the turns are used up
 

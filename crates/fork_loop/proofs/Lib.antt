@@ -1,7 +1,10 @@
 pub mod Begun
+pub mod CallPays
 pub mod Closings
 pub mod Counting
+pub mod Cutting
 pub mod DoorClosings
+pub mod DoorPays
 pub mod DoorSteps
 pub mod Emptying
 pub mod Finishing
@@ -13,6 +16,7 @@ pub mod Lists
 pub mod Looking
 pub mod Loops
 pub mod Others
+pub mod Paying
 pub mod Relayed
 pub mod RowLaws
 pub mod RowRuns

@@ -21,7 +21,7 @@ use Rattle.fork_loop.specs.Rows.{Has, Rouses, Roused, RowIs, UpRow}
 use Rattle.fork_loop.specs.Courses.{RowOf, SameLists, timer_of}
 use Rattle.fork_loop.proofs.Counting.{counted_kept, counted_by}
 
-now_kept : (c : Config) (act : Act) (past : List Act) → is_common c act ≡ false → moment (act ∷ past) ≡ moment past
+pub now_kept : (c : Config) (act : Act) (past : List Act) → is_common c act ≡ false → moment (act ∷ past) ≡ moment past
 now_kept c (Turn until at ready stop) past k = absurd (false≢true (sym k))
 now_kept c act past k = refl
 

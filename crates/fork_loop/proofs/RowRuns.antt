@@ -1,5 +1,5 @@
 -- What the run of one row makes of the course of all.
-use Rattle.std.proofs.Common.{◌≡◌, ◌≢◌, refl, sym, ap, subst, ◌∙◌, ℕ, suc, ◌+◌, ◌≤◌, ◌<◌, ◌⊎◌, inl, inr, true, false, List, length, Option, Some, None, arith}
+use Rattle.std.proofs.Common.{◌≡◌, ◌≢◌, refl, sym, ap, subst, ◌∙◌, ℕ, suc, ◌+◌, ◌≤◌, ◌<◌, ◌⊎◌, inl, inr, true, false, List, [], length, Option, Some, None, arith}
 use Rattle.std.proofs.lemmas.Bool.{cases_eq}
 use Rattle.relay_model.specs.declared.commands.Config.{Config}
 use Rattle.relay_model.specs.declared.acts.Act.{Act}
@@ -8,6 +8,8 @@ use Rattle.relay_model.specs.declared.acts.Why.TheVariants as whys
 use Rattle.relay_model.specs.History.{turns}
 use Rattle.relay_model.specs.Rest.{owed}
 use Rattle.relay_model.specs.Sessions.{admitted, holds}
+use Rattle.relay_model.specs.May.{Legal}
+use Rattle.relay_model.specs.Configs.{has_fork}
 use Rattle.relay_core.specs.declared.sessions.Session.{Session}
 use Rattle.relay_core.specs.declared.sessions.Unborn.{Unborn}
 use Rattle.relay_core.specs.declared.wishes.Wish.TheVariants as wishes
@@ -20,18 +22,18 @@ use Rattle.session_driver.specs.Seen.{Seen}
 use Rattle.session_crew.specs.Crews.{Sleeper, Waker}
 use Rattle.session_crew.proofs.Members.{asleep, awake_asleep}
 use Rattle.session_driver.specs.Dumpers.{Counted}
-use Rattle.session_runs.specs.Runs.{Run, RunOf, Runs, Owes}
+use Rattle.session_runs.specs.Runs.{Run, RunOf, Runs, Owes, stayed}
 use Rattle.session_runs.specs.declared.pauses.Pause.{Pause}
 use Rattle.session_runs.specs.declared.pauses.Pause.TheVariants as pauses
 use Rattle.fork_loop.specs.declared.crews.Crew.{Crew}
 use Rattle.session_runs.specs.Pauses.{Spreads, ends_all}
 use Rattle.fork_loop.specs.declared.crews.Row.{Row}
 use Rattle.fork_loop.specs.Rows.{Sleeping, Rouses, Roused, RowIs, UpRow}
-use Rattle.fork_loop.specs.Courses.{RowOf, NextIs, OwesFor, Frame, Course, CourseAt, Somewhere, SomewhereAt, Keeps, OthersStay, HasRow, DrainsTo, SetsTimer, Takes, TakesNone, Retires, Settles, SameRest, SameLists, timer_of}
-use Rattle.fork_loop.specs.Endings.{MayLeaveRow, MayEnd, RunsOut, RowRuns}
+use Rattle.fork_loop.specs.Courses.{RowOf, NextIs, OwesFor, Frame, Course, CourseAt, HereAt, Beside, Somewhere, SomewhereAt, Keeps, HasRow, DrainsTo, SetsTimer, Takes, TakesNone, Retires, Settles, SameRest, SameLists, timer_of}
+use Rattle.fork_loop.specs.Endings.{MayLeaveRow, MayEnd, RunsOut, OnlyActs, RowRan, RowEnds, RowRuns}
 use Rattle.fork_loop.proofs.Lists.{has_rest}
 use Rattle.fork_loop.proofs.Others.{Leave, ran_leaves}
-use Rattle.fork_loop.proofs.RowLaws.{row_up, row_as, row_listed, same_timer, same_work, up_listed, roused_awake}
+use Rattle.fork_loop.proofs.RowLaws.{row_up, row_as, row_listed, row_work, same_timer, same_work, up_listed, roused_awake}
 use Rattle.fork_loop.proofs.Spreading.{waker_may, spread_tells, up_may, heard_may}
 
 next_kept : (c : Config) (past since : List Act) (unborn : Option Unborn) → admitted c since ≡ admitted c past → NextIs c past unborn → NextIs c since unborn
@@ -82,12 +84,6 @@ rest_then one two three r same = record {
 
 -- ---- one row and all others
 
--- all but one row and its timer is as it was
-pub record Beside (t : ℕ) (before after : Crew) : Type 0 where
-  pub rows : OthersStay t before after
-  pub timers : (s : ℕ) → s ≢ t → timer_of after s ≡ timer_of before s
-  pub work_same : after.work.items ≡ before.work.items
-
 pub others_on : (c : Config) (n : ℕ) (past since : List Act) (t : ℕ) (before after : Crew) → Leave c n past since t → ((s : ℕ) → s ≢ t → RowOf c n past before s) → Beside t before after → (s : ℕ) → s ≢ t → RowOf c n since after s
 others_on c n past since t before after l rows b s apart =
     row_as c n since s before after (b.rows s apart) (b.timers s apart) (same_work s before after b.work_same)
@@ -113,28 +109,30 @@ may_end_at c n start now past t why crew frame all ends owes here others = recor
 -- where its session came to
 pub record RowWent (c : Config) (n : ℕ) (start new : Seen) (past : List Act) (t : ℕ) (is : Row) : Type 0 where
   pub since : List Act
+  pub only : OnlyActs c t past since
   pub run : RunOf c n start new since t is.member
   pub leave : Leave c n past since t
   pub heard : is.turn ≡ turns since
 
 -- the session that is to make its calls has heard the last turn
-pub up_awake : (c : Config) (n : ℕ) (start now : Seen) (past : List Act) (t : ℕ) (crew : Crew) (was up : Row) → CourseAt c n start now past t crew → HasRow crew t was → Roused crew.made crew.clock was up → Waker c n past t up.member.session
+pub up_awake : (c : Config) (n : ℕ) (start now : Seen) (past : List Act) (t : ℕ) (crew : Crew) (was up : Row) → HereAt c n start now past t crew → HasRow crew t was → Roused crew.made crew.clock was up → Waker c n past t up.member.session
 up_awake c n start now past t crew was up on had roused =
     roused_awake c n past t crew.made crew.clock was up on.frame.made_is on.frame.clock_is (subst (UpRow c n past t (timer_of crew t)) had on.here) roused
 
-up_counted : (c : Config) (n : ℕ) (start now : Seen) (past : List Act) (t : ℕ) (crew : Crew) (was up : Row) → CourseAt c n start now past t crew → HasRow crew t was → Roused crew.made crew.clock was up → Counted c past t up.member.dumper
+up_counted : (c : Config) (n : ℕ) (start now : Seen) (past : List Act) (t : ℕ) (crew : Crew) (was up : Row) → HereAt c n start now past t crew → HasRow crew t was → Roused crew.made crew.clock was up → Counted c past t up.member.dumper
 up_counted c n start now past t crew was up on had roused =
     let r : Rouses c n past t was = subst (UpRow c n past t (timer_of crew t)) had on.here in
     subst (Counted c past t) (sym roused.dumper_same) r.counted
 
-pub row_went : (c : Config) (n : ℕ) (start old new : Seen) (past : List Act) (t : ℕ) (before after : Crew) (pause : Pause) → CourseAt c n start old past t before → (d : DrainsTo c old new t before after pause) → RowWent c n start new past t d.is
+pub row_went : (c : Config) (n : ℕ) (start old new : Seen) (past : List Act) (t : ℕ) (before after : Crew) (pause : Pause) → HereAt c n start old past t before → (d : DrainsTo c old new t before after pause) → RowWent c n start new past t d.is
 row_went c n start old new past t before after pause on d =
     let w = up_awake c n start old past t before d.was d.up on d.had d.roused in
     let o = d.runs n start past t (record { run = on.frame.run; stands = w.stands; counted = up_counted c n start old past t before d.was d.up on d.had d.roused; owes = inl on.unowed }) in
     let e = numbers_are c past on.frame.fork in
     let b = w.stands.fields.ground.begun in
-    let l = ran_leaves c n t past o.since on.frame.fork o.run.run.legal (omega (arith, b, e)) o.ran in
-    record { since = o.since; run = o.run; leave = l; heard = d.turn_same ∙ (d.roused.turn_is ∙ (sym on.frame.made_is ∙ sym l.turns_same)) }
+    let begun : t < admitted c past = omega (arith, b, e) in
+    let l = ran_leaves c n t past o.since on.frame.fork o.run.run.legal begun o.ran in
+    record { since = o.since; only = record { ran = o.ran; begun = inl begun }; run = o.run; leave = l; heard = d.turn_same ∙ (d.roused.turn_is ∙ (sym on.frame.made_is ∙ sym l.turns_same)) }
 
 -- what a drained row leaves of the others
 drained_beside : (c : Config) (old new : Seen) (t : ℕ) (before after : Crew) (pause : Pause) → DrainsTo c old new t before after pause → Beside t before after
@@ -169,28 +167,34 @@ row_sleeps c old new t before mid after until d set timer = (
       let q : Sleeper c n w.since t (timer_of after t) d.is.turn d.is.member.session = subst (λ (k : Option ℕ). Sleeper c n w.since t k d.is.turn d.is.member.session) (sym timer) p in
       let has : row_of after.table t ≡ Some d.is = ap (λ (k : Table Row). row_of k t) set.table_same ∙ d.has in
       record {
-        past = w.since;
-        course = record {
-          frame = frame_on c n start old new past w.since t before after on.frame w.run.run w.leave (rest_then before mid after d.same set.same);
-          unowed = unowed_asleep c w.since d.is.member.session until d.paused.0 w.run.owes;
-          rows = with_row c n w.since t after (subst (RowIs c n w.since t after.work.items (timer_of after t)) (sym has) (inr (q, w.run.counted)))
-              (others_on c n past w.since t before after w.leave on.rows (beside_set t before mid after (drained_beside c old new t before mid (pauses.Sleep until) d) set));
-        };
+        since = w.since;
+        only = w.only;
+        frame = frame_on c n start old new past w.since t before after on.frame w.run.run w.leave (rest_then before mid after d.same set.same);
+        unowed = unowed_asleep c w.since d.is.member.session until d.paused.0 w.run.owes;
+        row = subst (RowIs c n w.since t [] (timer_of after t)) (sym has) (inr (q, w.run.counted));
       },
-  set.work_same ∙ d.lists.work_same,
+  beside_set t before mid after (drained_beside c old new t before mid (pauses.Sleep until) d) set,
   rest_then before mid after d.same set.same,
 )
 
 -- no room for its timer
 pub row_unset : (c : Config) (old new : Seen) (t : ℕ) (before mid after : Crew) (until : Option ℕ) → DrainsTo c old new t before mid (pauses.Sleep until) → SetsTimer t mid after → RowRuns c old new t before after (Some whys.Memory)
-row_unset c old new t before mid after until d set = λ n start past on.
-    let w = row_went c n start old new past t before mid (pauses.Sleep until) on d in
-    let has : row_of after.table t ≡ Some d.is = ap (λ (k : Table Row). row_of k t) set.table_same ∙ d.has in
-    let may = waker_may c n w.since t whys.Memory d.is.member.session (inl refl) (awake_asleep c n w.since t until d.is.member.session w.run.stands d.paused.0) in
-    may_end_at c n start new w.since t whys.Memory after
-    (frame_on c n start old new past w.since t before after on.frame w.run.run w.leave (rest_then before mid after d.same set.same)) refl (inl refl) (inr refl)
-    (subst (MayLeaveRow c n w.since t whys.Memory) (sym has) (heard_may c n w.since t whys.Memory d.is w.heard may))
-    (others_on c n past w.since t before after w.leave on.rows (beside_set t before mid after (drained_beside c old new t before mid (pauses.Sleep until) d) set))
+row_unset c old new t before mid after until d set = (
+  λ n start past on.
+      let w = row_went c n start old new past t before mid (pauses.Sleep until) on d in
+      let has : row_of after.table t ≡ Some d.is = ap (λ (k : Table Row). row_of k t) set.table_same ∙ d.has in
+      let may = waker_may c n w.since t whys.Memory d.is.member.session (inl refl) (awake_asleep c n w.since t until d.is.member.session w.run.stands d.paused.0) in
+      record {
+        since = w.since;
+        only = w.only;
+        frame = frame_on c n start old new past w.since t before after on.frame w.run.run w.leave (rest_then before mid after d.same set.same);
+        all = refl;
+        ends = inl refl;
+        owes = inr refl;
+        row = subst (MayLeaveRow c n w.since t whys.Memory) (sym has) (heard_may c n w.since t whys.Memory d.is w.heard may);
+      },
+  beside_set t before mid after (drained_beside c old new t before mid (pauses.Sleep until) d) set,
+)
 
 -- a session that is done holds nothing
 done_holds : (c : Config) (n : ℕ) (past : List Act) (t : ℕ) (x : Session) (why : Why) → Stands c n past t x → wish_of x ≡ wishes.Done why → holds c past t ≡ false
@@ -208,26 +212,33 @@ row_done c old new t before mid after d r = (
   λ n start past on.
       let w = row_went c n start old new past t before mid pauses.Done on d in
       record {
-        past = w.since;
-        course = record {
-          frame = frame_on c n start old new past w.since t before after on.frame w.run.run w.leave (rest_then before mid after d.same r.same);
-          unowed = unowed_done c w.since d.is.member.session d.paused.0 d.paused.1 w.run.owes;
-          rows = with_row c n w.since t after (subst (RowIs c n w.since t after.work.items (timer_of after t)) (sym r.gone) (λ below. done_holds c n w.since t d.is.member.session d.paused.0 w.run.stands d.paused.1, r.timer_gone))
-              (others_on c n past w.since t before after w.leave on.rows (beside_then t before mid after (drained_beside c old new t before mid pauses.Done d) (record { rows = r.rows; timers = r.timers; work_same = r.work_same })));
-        };
+        since = w.since;
+        only = w.only;
+        frame = frame_on c n start old new past w.since t before after on.frame w.run.run w.leave (rest_then before mid after d.same r.same);
+        unowed = unowed_done c w.since d.is.member.session d.paused.0 d.paused.1 w.run.owes;
+        row = subst (RowIs c n w.since t [] (timer_of after t)) (sym r.gone) (λ below. done_holds c n w.since t d.is.member.session d.paused.0 w.run.stands d.paused.1, r.timer_gone);
       },
-  r.work_same ∙ d.lists.work_same,
+  beside_then t before mid after (drained_beside c old new t before mid pauses.Done d) (record { rows = r.rows; timers = r.timers; work_same = r.work_same }),
   rest_then before mid after d.same r.same,
 )
 
 pub row_spreads : (c : Config) (old new : Seen) (t : ℕ) (why : Why) (before after : Crew) → DrainsTo c old new t before after (pauses.Spreads why) → RowRuns c old new t before after (Some why)
-row_spreads c old new t why before after d = λ n start past on.
-    let w = row_went c n start old new past t before after (pauses.Spreads why) on d in
-    let f = frame_on c n start old new past w.since t before after on.frame w.run.run w.leave d.same in
-    let told = spread_tells c n w.since t why d.is.member.session f.unsaid w.run.stands d.paused in
-    may_end_at c n start new w.since t why after f d.paused.2 told.ends (owes_spread c w.since d.is.member.session why d.paused w.run.owes)
-    (subst (MayLeaveRow c n w.since t why) (sym d.has) (heard_may c n w.since t why d.is w.heard told.may))
-    (others_on c n past w.since t before after w.leave on.rows (drained_beside c old new t before after (pauses.Spreads why) d))
+row_spreads c old new t why before after d = (
+  λ n start past on.
+      let w = row_went c n start old new past t before after (pauses.Spreads why) on d in
+      let f = frame_on c n start old new past w.since t before after on.frame w.run.run w.leave d.same in
+      let told = spread_tells c n w.since t why d.is.member.session f.unsaid w.run.stands d.paused in
+      record {
+        since = w.since;
+        only = w.only;
+        frame = f;
+        all = d.paused.2;
+        ends = told.ends;
+        owes = owes_spread c w.since d.is.member.session why d.paused w.run.owes;
+        row = subst (MayLeaveRow c n w.since t why) (sym d.has) (heard_may c n w.since t why d.is w.heard told.may);
+      },
+  drained_beside c old new t before after (pauses.Spreads why) d,
+)
 
 -- what comes of its pause
 pub row_settles : (c : Config) (old new : Seen) (t : ℕ) (before mid after : Crew) (pause : Pause) (result : Option Why) → DrainsTo c old new t before mid pause → Settles t pause mid after result → RowRuns c old new t before after result
@@ -245,16 +256,40 @@ row_absent c old new t before after d =
     subst (λ (k : Seen). RowRuns c old k t before after None) (sym d.1)
     (subst (λ (k : Crew). RowRuns c old old t before k None) (sym d.2) (
       λ n start past on. record {
-        past = past;
-        course = record {
-          frame = on.frame;
-          unowed = on.unowed;
-          rows = with_row c n past t before (subst (RowIs c n past t before.work.items (timer_of before t)) (sym d.0) (subst (UpRow c n past t (timer_of before t)) d.0 on.here)) on.rows;
-        };
+        since = past;
+        only = record { ran = stayed; begun = inr refl };
+        frame = on.frame;
+        unowed = on.unowed;
+        row = subst (RowIs c n past t [] (timer_of before t)) (sym d.0) (subst (UpRow c n past t (timer_of before t)) d.0 on.here);
       },
-      refl,
+      record { rows = λ s apart. refl; timers = λ s apart. refl; work_same = refl },
       rest_itself before,
     ))
+
+-- ---- and what that makes of all
+
+pub here_of : (c : Config) (n : ℕ) (start now : Seen) (past : List Act) (t : ℕ) (crew : Crew) → CourseAt c n start now past t crew → HereAt c n start now past t crew
+here_of c n start now past t crew on = record { frame = on.frame; unowed = on.unowed; here = on.here }
+
+pub only_leaves : (c : Config) (n t : ℕ) (past since : List Act) → has_fork c ≡ true → Legal c n since → OnlyActs c t past since → Leave c n past since t
+only_leaves c n t past since fork legal only = go only.begun
+  where
+    go : (t < admitted c past) ⊎ (since ≡ past) → Leave c n past since t
+    go (inl b) = ran_leaves c n t past since fork legal b only.ran
+    go (inr e) = subst (λ (x : List Act). Leave c n past x t) (sym e) (record { admitted_same = refl; moment_same = refl; turns_same = refl; unsaid = λ u. u; door = λ door d. d; rows = λ s work timer row apart r. r })
+
+pub ran_course : (c : Config) (n : ℕ) (start old new : Seen) (past : List Act) (t : ℕ) (before after : Crew) → CourseAt c n start old past t before → (r : RowRan c n start new past t after) → Beside t before after → Course c n start new r.since after
+ran_course c n start old new past t before after on r b = record {
+  frame = r.frame;
+  unowed = r.unowed;
+  rows = with_row c n r.since t after (row_work c n r.since t [] after.work.items (timer_of after t) (row_of after.table t) (λ h. absurd h) r.row)
+      (others_on c n past r.since t before after (only_leaves c n t past r.since on.frame.fork r.frame.run.legal r.only) on.rows b);
+}
+
+pub ran_ends : (c : Config) (n : ℕ) (start old new : Seen) (past : List Act) (t : ℕ) (why : Why) (before after : Crew) → CourseAt c n start old past t before → RowEnds c n start new past t why after → Beside t before after → MayEnd c n start new why after
+ran_ends c n start old new past t why before after on r b =
+    may_end_at c n start new r.since t why after r.frame r.all r.ends r.owes r.row
+    (others_on c n past r.since t before after (only_leaves c n t past r.since on.frame.fork r.frame.run.legal r.only) on.rows b)
 
 -- ---- a row that is taken out of the list of work
 
@@ -270,10 +305,14 @@ taken_at c n start now past k before after on t = record {
     row_same s = ap (λ (x : Table Row). row_of x s) t.table_same
 
 pub some_taken : (c : Config) (now : Seen) (k : ℕ) (before after : Crew) → Somewhere c now before → Takes k before after → SomewhereAt c now k after
-some_taken c now k before after at t = record { n = at.n; start = at.start; past = at.past; course = taken_at c at.n at.start now at.past k before after at.course t }
+some_taken c now k before after at t = record { n = at.n; start = at.start; past = at.past; course = here_of c at.n at.start now at.past k after (taken_at c at.n at.start now at.past k before after at.course t) }
 
 pub keeps_run : (c : Config) (old mid new : Seen) (k : ℕ) (one two three four : Crew) → Keeps c old mid one two → Takes k two three → RowRuns c mid new k three four None → Keeps c old new one four
-keeps_run c old mid new k one two three four keeps t run = λ n start past on. let a = keeps n start past on in run.0 n start a.past (taken_at c n start mid a.past k two three a.course t)
+keeps_run c old mid new k one two three four keeps t run = λ n start past on.
+    let a = keeps n start past on in
+    let at = taken_at c n start mid a.past k two three a.course t in
+    let r = run.0 n start a.past (here_of c n start mid a.past k three at) in
+    record { past = r.since; course = ran_course c n start mid new a.past k three four at r run.1 }
 
 pub fewer_works : (k : ℕ) (before mid after : Crew) → Takes k before mid → after.work.items ≡ mid.work.items → length after.work.items < length before.work.items
 fewer_works k before mid after t e = let x = ap length e in let y : length before.work.items ≡ suc (length mid.work.items) = ap length t.work_is in omega (arith, x, y)
@@ -295,17 +334,15 @@ pub drains_up : (c : Config) (now : Seen) (t : ℕ) (crew : Crew) (was up : Row)
 drains_up c now t crew was up at had roused = record { n = at.n; start = at.start; past = at.past; s = t; run = record { run = at.course.frame.run; stands = (up_awake c at.n at.start now at.past t crew was up at.course had roused).stands; counted = up_counted c at.n at.start now at.past t crew was up at.course had roused; owes = inl at.course.unowed } }
 
 -- the list of work is empty
+pub none_taken : (c : Config) (n : ℕ) (start now : Seen) (past : List Act) (before after : Crew) → Course c n start now past before → TakesNone before after → Course c n start now past after
+none_taken c n start now past before after on t = record {
+  frame = frame_rest c n start now past before after on.frame t.same;
+  unowed = on.unowed;
+  rows = λ s. row_listed c n past s before after (ap (λ (x : Table Row). row_of x s) t.table_same) t.lists (on.rows s);
+}
+
 pub keeps_none : (c : Config) (old mid : Seen) (one two three : Crew) → Keeps c old mid one two → TakesNone two three → Keeps c old mid one three
-keeps_none c old mid one two three keeps t = λ n start past on.
-    let a = keeps n start past on in
-    record {
-      past = a.past;
-      course = record {
-        frame = frame_rest c n start mid a.past two three a.course.frame t.same;
-        unowed = a.course.unowed;
-        rows = λ s. row_listed c n a.past s two three (ap (λ (x : Table Row). row_of x s) t.table_same) t.lists (a.course.rows s);
-      };
-    }
+keeps_none c old mid one two three keeps t = λ n start past on. let a = keeps n start past on in record { past = a.past; course = none_taken c n start mid a.past two three a.course t }
 
 -- ---- all but the rows and the lists
 

@@ -277,6 +277,12 @@ stops_at c n start old new past until at before mid w =
 
 -- whichever the turn says
 
+pub run_turned : (c : Config) (n : ℕ) (start old new : Seen) (past : List Act) (until : Option ℕ) (at : ℕ) (stop : Bool) (before mid : Crew) → Waits c n start old new past until at stop before mid → Run c n start new (Turn until at (copied_list mid.ready) stop ∷ past)
+run_turned c n start old new past until at stop before mid w =
+    let e = w.course.frame.made_is in
+    let few = w.few in
+    turned_run c n start old new past until at mid.ready stop w.course.frame.run w.turns (omega (arith, few, e)) w.order
+
 pub all_unheard : (c : Config) (now : Seen) (at : ℕ) (stop : Bool) (before mid : Crew) → Somewhere c now before → NoWork before → HasWaited at stop before mid → AllUnheard mid
 all_unheard c now at stop before mid there idle w s =
     let e = there.course.frame.made_is in

@@ -70,6 +70,12 @@ pub record CourseAt (c : Config) (n : ℕ) (start now : Seen) (past : List Act) 
   pub rows : (s : ℕ) → s ≢ t → RowOf c n past crew s
   pub here : UpRow c n past t (timer_of crew t) (row_of crew.table t)
 
+-- the same of this session alone, whatever the others are
+pub record HereAt (c : Config) (n : ℕ) (start now : Seen) (past : List Act) (t : ℕ) (crew : Crew) : Type 0 where
+  pub frame : Frame c n start now past crew
+  pub unowed : owed c past ≡ None
+  pub here : UpRow c n past t (timer_of crew t) (row_of crew.table t)
+
 -- some run led here
 pub record Somewhere (c : Config) (now : Seen) (crew : Crew) : Type 0 where
   pub n : ℕ
@@ -82,7 +88,7 @@ pub record SomewhereAt (c : Config) (now : Seen) (t : ℕ) (crew : Crew) : Type 
   pub n : ℕ
   pub start : Seen
   pub past : List Act
-  pub course : CourseAt c n start now past t crew
+  pub course : HereAt c n start now past t crew
 
 -- the run from this beginning has led here
 pub record Onward (c : Config) (n : ℕ) (start now : Seen) (crew : Crew) : Type 0 where
@@ -96,6 +102,12 @@ Keeps c old new before after = (n : ℕ) (start : Seen) (past : List Act) → Co
 -- each other number has the session that it had
 abbrev pub OthersStay : ℕ → Crew → Crew → Type 0
 OthersStay t before after = (s : ℕ) → s ≢ t → row_of after.table s ≡ row_of before.table s
+
+-- of all rows, timers and numbers that have work, only the row of this number and its timer may have changed
+pub record Beside (t : ℕ) (before after : Crew) : Type 0 where
+  pub rows : OthersStay t before after
+  pub timers : (s : ℕ) → s ≢ t → timer_of after s ≡ timer_of before s
+  pub work_same : after.work.items ≡ before.work.items
 
 -- the number has this row
 abbrev pub HasRow : Crew → ℕ → Row → Type 0

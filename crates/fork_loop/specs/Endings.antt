@@ -1,11 +1,11 @@
 -- How the run of all sessions is ended.
-use Rattle.std.specs.Prelude.{◌≡◌, ◌⊎◌, ℕ, ◌<◌, ◌≤◌, true, false, List, ◌∷◌, Option, Some, None, is_some}
+use Rattle.std.specs.Prelude.{◌≡◌, ◌⊎◌, ℕ, ◌<◌, ◌≤◌, true, false, List, [], ◌∷◌, Option, Some, None, is_some}
 use Rattle.relay_model.specs.declared.commands.Config.{Config}
 use Rattle.relay_model.specs.declared.acts.Act.{Act}
 use Rattle.relay_model.specs.declared.acts.Act.TheVariants.{AcceptFailed}
 use Rattle.relay_model.specs.declared.acts.Why.{Why}
 use Rattle.relay_model.specs.declared.acts.Why.TheVariants as whys
-use Rattle.relay_model.specs.History.{now as moment, turns}
+use Rattle.relay_model.specs.History.{now as moment, turns, accept_failed}
 use Rattle.relay_model.specs.Rest.{Rest, owed}
 use Rattle.relay_model.specs.Configs.{program_door}
 use Rattle.relay_model.specs.Sessions.{admitted, holds, live, numbers}
@@ -16,12 +16,13 @@ use Rattle.relay_core.specs.Sessions.{IsGrounded}
 use Rattle.fork_table.specs.Tables.{row_of}
 use Rattle.session_driver.specs.Seen.{Seen}
 use Rattle.session_driver.specs.Dumpers.{Counted}
-use Rattle.session_crew.specs.Crews.{Leaver, Woke}
+use Rattle.session_crew.specs.Crews.{Leaver, Sleeper, Woke}
 use Rattle.session_runs.specs.Pauses.{ends_all}
+use Rattle.session_runs.specs.Runs.{Ran}
 use Rattle.fork_loop.specs.declared.crews.Crew.{Crew}
 use Rattle.fork_loop.specs.declared.crews.Row.{Row}
-use Rattle.fork_loop.specs.Rows.{Sleeping, Has, UpRow}
-use Rattle.fork_loop.specs.Courses.{Frame, OwesFor, Course, CourseAt, Onward, Keeps, NoWork, SameRest, SameLists, OthersStay, timer_of}
+use Rattle.fork_loop.specs.Rows.{Sleeping, Has, RowIs}
+use Rattle.fork_loop.specs.Courses.{Frame, OwesFor, Course, HereAt, Beside, Onward, Keeps, NoWork, SameRest, SameLists, OthersStay, timer_of}
 
 -- a session may be cut for this reason, and nothing of it was closed yet
 pub record MayLeave (c : Config) (n : ℕ) (past : List Act) (s : ℕ) (why : Why) (x : Session) : Type 0 where
@@ -81,22 +82,38 @@ pub record CutsRow (t : ℕ) (why : Why) (before after : Crew) : Type 0 where
 
 -- ---- the calls of sessions
 
--- the session of this number waits or is gone, or the run may be ended
+-- only acts of the session of this number came since, or none where it hasn't begun
+pub record OnlyActs (c : Config) (t : ℕ) (past since : List Act) : Type 0 where
+  pub ran : Ran c t past since
+  pub begun : (t < admitted c past) ⊎ (since ≡ past)
+
+-- by acts of its own the session came to where it waits or is gone
+pub record RowRan (c : Config) (n : ℕ) (start now : Seen) (past : List Act) (t : ℕ) (crew : Crew) : Type 0 where
+  pub since : List Act
+  pub only : OnlyActs c t past since
+  pub frame : Frame c n start now since crew
+  pub unowed : owed c since ≡ None
+  pub row : RowIs c n since t [] (timer_of crew t) (row_of crew.table t)
+
+-- by acts of its own the session came to where the run may be ended, as far as it is concerned
+pub record RowEnds (c : Config) (n : ℕ) (start now : Seen) (past : List Act) (t : ℕ) (why : Why) (crew : Crew) : Type 0 where
+  pub since : List Act
+  pub only : OnlyActs c t past since
+  pub frame : Frame c n start now since crew
+  pub all : ends_all why ≡ true
+  pub ends : RunsOut c n since why
+  pub owes : OwesFor c since why
+  pub row : MayLeaveRow c n since t why (row_of crew.table t)
+
+-- where the session of this number came to, whatever the others are, which stayed
 abbrev pub RowRuns : Config → Seen → Seen → ℕ → Crew → Crew → Option Why → Type 0
-RowRuns c old new t before after None =
-    ((n : ℕ) (start : Seen) (past : List Act) → CourseAt c n start old past t before → Onward c n start new after) × (after.work.items ≡ before.work.items) × SameRest before after
-RowRuns c old new t before after (Some why) = (n : ℕ) (start : Seen) (past : List Act) → CourseAt c n start old past t before → MayEnd c n start new why after
+RowRuns c old new t before after None = ((n : ℕ) (start : Seen) (past : List Act) → HereAt c n start old past t before → RowRan c n start new past t after) × Beside t before after × SameRest before after
+RowRuns c old new t before after (Some why) = ((n : ℕ) (start : Seen) (past : List Act) → HereAt c n start old past t before → RowEnds c n start new past t why after) × Beside t before after
 
 -- no session has work any more, or the run may be ended
 abbrev pub AllRun : Config → Seen → Seen → Crew → Crew → Option Why → Type 0
 AllRun c old new before after None = Keeps c old new before after × NoWork after × SameRest before after
 AllRun c old new before after (Some why) = (n : ℕ) (start : Seen) (past : List Act) → Course c n start old past before → MayEnd c n start new why after
-
--- each session that lives is awake or is to hear a turn
-pub record AllUp (c : Config) (n : ℕ) (start now : Seen) (past : List Act) (crew : Crew) : Type 0 where
-  pub frame : Frame c n start now past crew
-  pub unowed : owed c past ≡ None
-  pub rows : (s : ℕ) → UpRow c n past s (timer_of crew s) (row_of crew.table s)
 
 -- each session that lives is in the list of work
 abbrev pub AllQueued : Crew → Type 0
@@ -133,3 +150,34 @@ pub record SomeFailed (c : Config) (now : Seen) (crew : Crew) : Type 0 where
 abbrev pub EndsRows : Config → Seen → Seen → Crew → Crew → Option Why → Type 0
 EndsRows c old new before after None = ((n : ℕ) (start : Seen) (past : List Act) → Failed c n start old past before → Onward c n start new after) × NoWork after × SameRest before after
 EndsRows c old new before after (Some why) = (n : ℕ) (start : Seen) (past : List Act) → Failed c n start old past before → MayEnd c n start new why after
+
+-- ---- a failed accepting, session by session
+
+-- a session that lives has work and may be cut for a failed accepting, or has none and sleeps
+abbrev pub EndingRow : Config → ℕ → List Act → ℕ → List ℕ → Option ℕ → Option Row → Type 0
+EndingRow c n past s work timer None = (s < admitted c past → holds c past s ≡ false) × (timer ≡ None)
+EndingRow c n past s work timer (Some row) = (Has s work × FailedRow c n past s row) ⊎ ((Has s work → ⊥) × Sleeper c n past s timer row.turn row.member.session × Counted c past s row.member.dumper)
+
+-- accepting a peer has failed, which no session that has work was cut for yet
+pub record Ending (c : Config) (n : ℕ) (start now : Seen) (past : List Act) (crew : Crew) : Type 0 where
+  pub frame : Frame c n start now past crew
+  pub unowed : owed c past ≡ None
+  pub failed : accept_failed past program_door ≡ true
+  pub rows : (s : ℕ) → EndingRow c n past s crew.work.items (timer_of crew s) (row_of crew.table s)
+
+-- some run led here
+pub record SomeEnding (c : Config) (now : Seen) (crew : Crew) : Type 0 where
+  pub n : ℕ
+  pub start : Seen
+  pub past : List Act
+  pub ending : Ending c n start now past crew
+
+-- no number is twice in the list
+abbrev pub Once : List ℕ → Type 0
+Once [] = Unit {0}
+Once (s ∷ ss) = (Has s ss → ⊥) × Once ss
+
+-- the list of work has each number once, and only of sessions that live
+pub record WorkLives (crew : Crew) : Type 0 where
+  pub once : Once crew.work.items
+  pub lives : (s : ℕ) → Has s crew.work.items → is_some (row_of crew.table s) ≡ true

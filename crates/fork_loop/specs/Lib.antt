@@ -5,6 +5,7 @@ pub mod Courses
 pub mod Endings
 pub mod Left
 pub mod Looks
+pub mod Paid
 pub mod Rows
 pub mod Turned
 pub mod Turns

@@ -1,11 +1,20 @@
 -- How many looks at sessions the loop makes.
-use Rattle.std.specs.Prelude.{◌≡◌, ◌⊎◌, ℕ, ◌+◌, ◌≤◌, ◌<◌, true, List, Option, Some, None, length}
+use Rattle.std.specs.Prelude.{◌≡◌, ◌⊎◌, ℕ, ◌+◌, ◌*◌, ◌≤◌, ◌<◌, true, false, List, [], ◌∷◌, ◌++◌, Option, Some, None, length}
 use Rattle.std.specs.FinMap.{len}
 use Rattle.fork_loop.specs.declared.crews.Crew.{Crew}
 use Rattle.relay_model.specs.declared.commands.Config.{Config}
 use Rattle.relay_model.specs.declared.readiness.ReadyAt.{ReadyAt}
+use Rattle.relay_model.specs.declared.acts.Act.{Act}
+use Rattle.relay_model.specs.declared.acts.Act.TheVariants.{Turn}
+use Rattle.relay_model.specs.History.{now as moment}
+use Rattle.relay_model.specs.Sessions.{live, numbers}
+use Rattle.relay_core.specs.Timers.{session_until}
+use Rattle.session_sleep.specs.Sleeps.{IsBefore}
+use Rattle.session_driver.specs.Seen.{Seen}
+use Rattle.session_runs.specs.Runs.{Run}
 use Rattle.fork_loop.specs.Rows.{Has}
-use Rattle.fork_loop.specs.Courses.{timer_of}
+use Rattle.fork_loop.specs.Courses.{Course, timer_of}
+use Rattle.fork_loop.specs.Endings.{Once}
 use Rattle.fork_loop.specs.Turns.{names_own}
 
 -- where nothing has ended the calls of the door, nothing had before, and the looks are no more than the sessions that
@@ -45,3 +54,77 @@ CameInTime before after = (s : ℕ) → Has s after.work.items → Has s before.
 abbrev pub CameForCause : Config → List ReadyAt → Crew → Crew → Type 0
 CameForCause c entries before after =
     (s : ℕ) → Has s after.work.items → Has s before.work.items ⊎ ((names_own c s entries ≡ true) ⊎ HasCome before before.clock s)
+
+-- the list of work has grown by those alone whose timer fell due, each once
+pub record AddsDue (before after : Crew) : Type 0 where
+  pub due : List ℕ
+  pub work_is : after.work.items ≡ before.work.items ++ due
+  pub once : Once due
+  pub come : (s : ℕ) → Has s due → HasCome before before.clock s
+  pub taken : (s : ℕ) → Has s due → timer_of after s ≡ None
+
+-- the list of work is at most so many numbers more than it was, and then those whose timer fell due, each once
+pub record AddsParts (more : ℕ) (before after : Crew) : Type 0 where
+  pub named : List ℕ
+  pub due : List ℕ
+  pub work_is : after.work.items ≡ named ++ due
+  pub few : length named ≤ length before.work.items + more
+  pub once : Once due
+  pub come : (s : ℕ) → Has s due → HasCome before before.clock s
+
+-- ---- a call looks twice at most for each act, for each entry of a turn before or in it, and for one
+
+-- how many entries the last turn has, if one was made
+abbrev pub last_named : List Act → ℕ
+last_named [] = 0
+last_named (Turn until at ready stop ∷ past) = length ready.entries
+last_named (act ∷ past) = last_named past
+
+-- how many entries these turns have
+abbrev pub all_named : List Act → ℕ
+all_named [] = 0
+all_named (Turn until at ready stop ∷ acts) = length ready.entries + all_named acts
+all_named (act ∷ acts) = all_named acts
+
+-- a session that lives, and that after these acts waited for a moment that has come at this one
+pub record WasDue (c : Config) (past : List Act) (at s : ℕ) : Type 0 where
+  pub begun : s < numbers c past
+  pub lives : live c past s ≡ true
+  pub come : (m : ℕ) × (session_until c past s ≡ Some m) × (m ≤ at)
+
+-- the list of work as a turn leaves it: at most as many numbers as it has entries, and then, each once, those of
+-- sessions that live and waited for a moment that has come, of which there are none where it came before its wait was over
+pub record LeftByTurn (c : Config) (past : List Act) (until : Option ℕ) (at : ℕ) (entries : List ReadyAt) (work : List ℕ) : Type 0 where
+  pub named : List ℕ
+  pub due : List ℕ
+  pub work_is : work ≡ named ++ due
+  pub few : length named ≤ length entries
+  pub once : Once due
+  pub come : (s : ℕ) → Has s due → WasDue c past at s
+  pub none : IsBefore at until → due ≡ []
+
+-- where a call begins no act was made yet and there is no work, or the last act is a turn, and the list of work is as it
+-- left it
+abbrev pub BeginsCall : Config → List Act → List ℕ → Type 0
+BeginsCall c [] work = work ≡ []
+BeginsCall c (Turn until at ready false ∷ past) work = LeftByTurn c past until at ready.entries work
+BeginsCall c (act ∷ past) work = ⊥
+
+-- the last turn, if one was made, came before the end of its wait, as any does where the wait has no end, or no time
+-- passed in it
+abbrev pub IsTimely : List Act → Type 0
+IsTimely [] = Unit {0}
+IsTimely (Turn until at ready stop ∷ past) = IsBefore at until ⊎ (at ≡ moment past)
+IsTimely (act ∷ past) = IsTimely past
+
+-- the run has led on to here by the acts of the call, and the looks are at most twice as many as these acts, the entries of
+-- the last turn before them and of the turn among them, and one
+pub record LooksPaid (c : Config) (n : ℕ) (start now : Seen) (past : List Act) (old new : ℕ) : Type 0 where
+  pub made : List Act
+  pub run : Run c n start now (made ++ past)
+  pub few : new ≤ old + 2 * (length made + (last_named past + all_named made) + 1)
+
+-- so of each run that led to the beginning of the call, unless the last wait lasted up to its end
+abbrev pub LooksBounded : Config → ℕ → Seen → Seen → Crew → Crew → ℕ → ℕ → Type 0
+LooksBounded c n from to before after old new =
+    (start : Seen) (past : List Act) → Course c n start from past before → BeginsCall c past before.work.items → IsTimely past → LooksPaid c n start to past old new

@@ -25,7 +25,7 @@ use Rattle.fork_loop.specs.declared.waited.Waited.{Waited}
 use Rattle.fork_loop.specs.declared.waited.Waited.TheVariants as waits
 use Rattle.fork_loop.specs.Courses.{Counts, Unsaid, Course}
 use Rattle.fork_loop.specs.Endings.{LeavesRow, MayEnd, RunsOut}
-use Rattle.fork_loop.specs.Looks.{WaitsNoLonger}
+use Rattle.fork_loop.specs.Looks.{BeginsCall, WaitsNoLonger}
 use Rattle.fork_loop.specs.Rows.{Has}
 use Rattle.fork_loop.specs.Turns.{names_own}
 
@@ -84,13 +84,15 @@ pub record InOrder (c : Config) (past : List Act) (until : Option ℕ) : Type 0 
   pub is_until : until ≡ until_of c past
 
 -- the run goes on after one more turn, which is its last act; each session in the list of work is named by the turn or
--- waited for a moment that has come, and where the turn came before the end of its wait, they are no more than its entries
+-- waited for a moment that has come, and where the turn came before the end of its wait, they are no more than its
+-- entries; the next call begins so
 pub record TurnedOn (c : Config) (n : ℕ) (start now : Seen) (past : List Act) (until : Option ℕ) (crew : Crew) : Type 0 where
   pub at : ℕ
   pub ready : Listed
   pub course : Course c n start now (Turn until at ready false ∷ past) crew
   pub came : (s : ℕ) → Has s crew.work.items → (names_own c s ready.entries ≡ true) ⊎ ((m : ℕ) × (session_until c past s ≡ Some m) × (m ≤ at))
   pub few : IsBefore at until → length crew.work.items ≤ length ready.entries
+  pub begins : BeginsCall c (Turn until at ready false ∷ past) crew.work.items
 
 -- where it was, the run goes on after the turn, or is stopped by it
 abbrev pub WaitedIs : Config → ℕ → Option ℕ → Seen → Seen → Crew → Crew → Waited → Type 0

@@ -31,7 +31,8 @@ pub enum Asked {
 impl Crew {
     ghost use Rattle.fork_loop.specs.Courses.{Somewhere, SameRest, NoWork};
     ghost use Rattle.fork_loop.specs.Asking.{AskedIs, GoesOn, TakesNext, SameButNext};
-    ghost use Rattle.fork_loop.specs.Endings.{SomeFailed, EndsRows};
+    ghost use Rattle.fork_loop.specs.Endings.{SomeEnding, SomeFailed, EndsRows, WorkLives};
+    ghost use Rattle.fork_loop.specs.Paid.{AskPaid, AskedPaid, EndingPaid, EndsPaid};
     ghost use Rattle.fork_loop.specs.Looks.{LooksFew};
 
     /// Makes the calls of the door, and those of each session that its peers bring, until the door waits or is over.
@@ -47,6 +48,7 @@ impl Crew {
         requires idle { NoWork self.old }
         ensures asks { AskedIs config.now (seen W.told W.held W.faults W.waits W.stops W.clock world.old) (seen W.told W.held W.faults W.waits W.stops W.clock world.new) self.old self.new result }
         ensures looks { LooksFew 0 steps.old.ticks steps.new.ticks self.old self.new }
+        ensures paid { AskedPaid config.now (seen W.told W.held W.faults W.waits W.stops W.clock world.old) (seen W.told W.held W.faults W.waits W.stops W.clock world.new) self.old self.new steps.old.ticks steps.new.ticks result }
     {
         loop {
             if let Some(asked) = self.ask_once(alloc, world, config, steps) {
@@ -68,6 +70,7 @@ impl Crew {
         requires idle { NoWork self.old }
         ensures asks { GoesOn config.now (seen W.told W.held W.faults W.waits W.stops W.clock world.old) (seen W.told W.held W.faults W.waits W.stops W.clock world.new) self.old self.new result }
         ensures looks { LooksFew 0 steps.old.ticks steps.new.ticks self.old self.new }
+        ensures paid { AskPaid config.now (seen W.told W.held W.faults W.waits W.stops W.clock world.old) (seen W.told W.held W.faults W.waits W.stops W.clock world.new) self.old self.new steps.old.ticks steps.new.ticks result }
     {
         match self.take_next(alloc, config) {
             Ok(unborn) => self.ask_for(unborn, alloc, world, config, steps),
@@ -91,6 +94,7 @@ impl Crew {
         requires next { (past : List Act) → self.old.table.admitted ≡ admitted config.now past → IsUnborn config.now (admitted config.now past) unborn }
         ensures asks { GoesOn config.now (seen W.told W.held W.faults W.waits W.stops W.clock world.old) (seen W.told W.held W.faults W.waits W.stops W.clock world.new) self.old self.new result }
         ensures looks { LooksFew 0 steps.old.ticks steps.new.ticks self.old self.new }
+        ensures paid { AskPaid config.now (seen W.told W.held W.faults W.waits W.stops W.clock world.old) (seen W.told W.held W.faults W.waits W.stops W.clock world.new) self.old self.new steps.old.ticks steps.new.ticks result }
     {
         let live = self.table.live();
         match step(&mut self.door, world, config, self.clock, live) {
@@ -132,8 +136,8 @@ impl Crew {
         }
     }
 
-    /// Cuts each session, since accepting a peer has failed, and has it close all that it holds. Answers the reason for
-    /// which the run is to be ended, if there is one.
+    /// Cuts each session, since accepting a peer has failed, and has it close all that it holds, one after another.
+    /// Answers the reason for which the run is to be ended, if there is one.
     fn end_rows<W: World, L: Ledger>(
         &mut self,
         world: &mut W,
@@ -143,12 +147,34 @@ impl Crew {
         requires { SomeFailed config.now (seen W.told W.held W.faults W.waits W.stops W.clock world.old) self.old }
         ensures ends { EndsRows config.now (seen W.told W.held W.faults W.waits W.stops W.clock world.old) (seen W.told W.held W.faults W.waits W.stops W.clock world.new) self.old self.new result }
         ensures rest { SameRest self.old self.new }
+        ensures paid { EndsPaid config.now (seen W.told W.held W.faults W.waits W.stops W.clock world.old) (seen W.told W.held W.faults W.waits W.stops W.clock world.new) self.old self.new steps.old.ticks steps.new.ticks result }
     {
-        self.cut_rows(Why::AcceptFailed, steps);
         match self.queue_all() {
-            Ok(()) => self.run_rows(world, config, steps),
+            Ok(()) => self.end_queued(world, config, steps),
             Err(NoMemory) => Some(Why::Memory),
         }
+    }
+
+    /// The same, where each that lives has work. A session is cut right before its calls, so that each look but the last
+    /// is followed by an act.
+    fn end_queued<W: World, L: Ledger>(
+        &mut self,
+        world: &mut W,
+        config: &Config,
+        steps: &mut Steps<L>,
+    ) -> Option<Why>
+        requires ending { SomeEnding config.now (seen W.told W.held W.faults W.waits W.stops W.clock world.old) self.old }
+        requires lives { WorkLives self.old }
+        ensures paid { EndingPaid config.now (seen W.told W.held W.faults W.waits W.stops W.clock world.old) (seen W.told W.held W.faults W.waits W.stops W.clock world.new) self.old self.new steps.old.ticks steps.new.ticks result }
+        ensures rest { SameRest self.old self.new }
+    {
+        while let Some(number) = self.take_work() {
+            self.cut_row(number, Why::AcceptFailed, steps);
+            if let Some(why) = self.run_row(number, world, config, steps) {
+                return Some(why);
+            }
+        }
+        None
     }
 
     /// The session that the next peer gets, with all its memory, and room for it in the table, in the list of work and

@@ -1,5 +1,5 @@
 // The end of all sessions.
-ghost use Rattle.std.specs.Prelude.{OnOk};
+ghost use Rattle.std.specs.Prelude.{◌≤◌, ◌+◌, OnOk};
 ghost use Rattle.fork_loop.specs.Rows.{SleepsIfLate};
 ghost use Rattle.fork_table.specs.Tables.{row_of};
 
@@ -10,8 +10,8 @@ use relay_model::{NoMemory, Why};
 use std::sync::ledger::Ledger;
 
 impl Crew {
-    ghost use Rattle.fork_loop.specs.Courses.{AllSleepIfLate, SameButWork};
-    ghost use Rattle.fork_loop.specs.Endings.{CutsRow, CutsRows, AllQueued};
+    ghost use Rattle.fork_loop.specs.Courses.{AllSleepIfLate, NoWork, SameButWork};
+    ghost use Rattle.fork_loop.specs.Endings.{CutsRow, CutsRows, AllQueued, WorkLives};
 
     /// Cuts each session for this reason, once it has heard the last turn.
     pub fn cut_rows<L: Ledger>(&mut self, why: Why, steps: &mut Steps<L>)
@@ -25,9 +25,11 @@ impl Crew {
         }
     }
 
-    fn cut_row<L: Ledger>(&mut self, number: u32, why: Why, steps: &mut Steps<L>)
+    /// Cuts the session with this number, if it lives.
+    pub fn cut_row<L: Ledger>(&mut self, number: u32, why: Why, steps: &mut Steps<L>)
         requires { SleepsIfLate self.old.made (row_of self.old.table number) }
-        ensures { CutsRow number why self.old self.new }
+        ensures cuts { CutsRow number why self.old self.new }
+        ensures looks { steps.new.ticks ≤ steps.old.ticks + 1 }
     {
         if let Some(row) = self.table.session_mut(number, steps) {
             rouse(row, self.made, self.clock);
@@ -39,6 +41,7 @@ impl Crew {
     pub fn queue_all(&mut self) -> Result<(), NoMemory>
         ensures all { OnOk result (AllQueued self.new) }
         ensures same { SameButWork self.old self.new }
+        ensures lives { OnOk result (NoWork self.old → WorkLives self.new) }
     {
         let mut next = self.table.first_from(0);
         while let Some(number) = next {

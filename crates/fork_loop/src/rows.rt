@@ -15,6 +15,7 @@ use world_trait::World;
 impl Crew {
     ghost use Rattle.fork_loop.specs.Courses.{Somewhere, SomewhereAt, SameRest, TakesWork, DrainsRow, Settles, SetsTimer, timer_of};
     ghost use Rattle.fork_loop.specs.Endings.{RowRuns, AllRun};
+    ghost use Rattle.fork_loop.specs.Paid.{RowsPaid};
 
     /// Has each session that has work make its calls up to its next pause. Answers the reason for which the run is to be
     /// ended, as soon as there is one: a session wishes for a closing that would end every session, or memory is wanting.
@@ -28,6 +29,7 @@ impl Crew {
         ensures runs { AllRun config.now (seen W.told W.held W.faults W.waits W.stops W.clock world.old) (seen W.told W.held W.faults W.waits W.stops W.clock world.new) self.old self.new result }
         ensures rest { SameRest self.old self.new }
         ensures looks { steps.new.ticks ≤ steps.old.ticks + length self.old.work.items }
+        ensures paid { RowsPaid config.now (seen W.told W.held W.faults W.waits W.stops W.clock world.old) (seen W.told W.held W.faults W.waits W.stops W.clock world.new) self.old self.new steps.old.ticks steps.new.ticks result }
     {
         while let Some(number) = self.take_work() {
             if let Some(why) = self.run_row(number, world, config, steps) {
@@ -38,7 +40,7 @@ impl Crew {
     }
 
     /// Takes the first number out of the list of work.
-    fn take_work(&mut self) -> Option<u32>
+    pub fn take_work(&mut self) -> Option<u32>
         ensures { TakesWork self.old self.new result }
     {
         match self.work.pop_front() {

@@ -25,11 +25,14 @@ pub enum RunEnd {
 
 impl Crew {
     ghost use Rattle.fork_loop.specs.Courses.{Somewhere, NoWork};
-    ghost use Rattle.fork_loop.specs.Looks.{LooksFew};
+    ghost use Rattle.fork_loop.specs.Looks.{LooksBounded, LooksFew};
+    ghost use Rattle.fork_loop.specs.Paid.{WaitForPaid};
     ghost use Rattle.fork_loop.specs.Turned.{TurnIs, WaitsForAll};
 
     /// Has each session that has work and the door make their calls, and then waits once, unless the run ends or `turns` waits were
     /// made. A wait comes only where it is in order, and lasts until the least moment that anything waits for.
+    /// Unless timers may have fallen due by the last turn, a call looks at sessions twice at most for each act that it makes,
+    /// for each entry of that turn and of its own, and for one.
     pub fn turn<W: World, L: Ledger>(
         &mut self,
         alloc: Global,
@@ -41,7 +44,8 @@ impl Crew {
         requires fit { Fit config.now }
         requires course { Somewhere config.now (seen W.told W.held W.faults W.waits W.stops W.clock world.old) self.old }
         ensures turns { TurnIs config.now turns (seen W.told W.held W.faults W.waits W.stops W.clock world.old) (seen W.told W.held W.faults W.waits W.stops W.clock world.new) self.old self.new result }
-        ensures looks { LooksFew (length self.old.work.items + length self.new.ready.entries) steps.old.ticks steps.new.ticks self.old self.new }
+        ensures looks { LooksBounded config.now turns (seen W.told W.held W.faults W.waits W.stops W.clock world.old) (seen W.told W.held W.faults W.waits W.stops W.clock world.new) self.old self.new steps.old.ticks steps.new.ticks }
+        ensures few { LooksFew (length self.old.work.items + length self.new.ready.entries) steps.old.ticks steps.new.ticks self.old self.new }
     {
         if let Some(why) = self.run_rows(world, config, steps) {
             return Some(RunEnd::Ends(why));
@@ -69,6 +73,7 @@ impl Crew {
         requires idle { NoWork self.old }
         ensures waits { WaitsForAll config.now turns first (seen W.told W.held W.faults W.waits W.stops W.clock world.old) (seen W.told W.held W.faults W.waits W.stops W.clock world.new) self.old self.new result }
         ensures looks { LooksFew (length self.new.ready.entries) steps.old.ticks steps.new.ticks self.old self.new }
+        ensures paid { WaitForPaid config.now turns first (seen W.told W.held W.faults W.waits W.stops W.clock world.old) (seen W.told W.held W.faults W.waits W.stops W.clock world.new) self.old self.new steps.old.ticks steps.new.ticks }
     {
         let until = self.least_until(first);
         if self.made < turns {

@@ -23,7 +23,7 @@ use std::sync::ledger::Ledger;
 impl Crew {
     ghost use Rattle.fork_loop.specs.Turns.{RowHeard, AllHeard, AsleepRow, AllAsleep, AllUnheard, NamedHeard, RowHearsOnce, Queues, QueuesDue};
     ghost use Rattle.fork_loop.specs.Courses.{SameButWork, SameButLists};
-    ghost use Rattle.fork_loop.specs.Looks.{CameByName, CameInTime, OnlyNamedCame, WorksFew};
+    ghost use Rattle.fork_loop.specs.Looks.{AddsDue, CameByName, CameInTime, OnlyNamedCame, WorksFew};
 
     /// Has each session hear the last turn, which says stop.
     pub fn stop_all<L: Ledger>(&mut self, steps: &mut Steps<L>)
@@ -95,6 +95,7 @@ impl Crew {
         ensures few { WorksFew 0 self.old self.new }
         ensures alone { OnlyNamedCame 0 self.old self.new }
         ensures came { CameInTime self.old self.new }
+        ensures parts { OnOk result (AddsDue self.old self.new) }
     {
         while let Some(number) = self.timers.due(self.clock) {
             self.work.push_back(number)?;

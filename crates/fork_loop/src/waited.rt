@@ -22,8 +22,9 @@ pub enum Waited {
 impl Crew {
     ghost use Rattle.fork_loop.specs.Courses.{Somewhere, NoWork};
     ghost use Rattle.fork_loop.specs.Turns.{AllUnheard, HearsNamed, Queued, TakesTurn};
-    ghost use Rattle.fork_loop.specs.Looks.{CameForCause, LooksFew, OnlyNamedCame, WorksFew};
+    ghost use Rattle.fork_loop.specs.Looks.{AddsParts, CameForCause, LooksFew, OnlyNamedCame, WorksFew};
     ghost use Rattle.fork_loop.specs.Waited.{WaitedIs};
+    ghost use Rattle.fork_loop.specs.Paid.{WaitPaid};
 
     /// Waits until this moment at the latest, and has those hear what the turn says that it concerns: the door, the
     /// sessions that it names, and no other. Those whose timer has fallen due have work then too.
@@ -41,6 +42,7 @@ impl Crew {
         ensures waits { WaitedIs config.now turns until (seen W.told W.held W.faults W.waits W.stops W.clock world.old) (seen W.told W.held W.faults W.waits W.stops W.clock world.new) self.old self.new result }
         ensures looks { LooksFew (length self.new.ready.entries) steps.old.ticks steps.new.ticks self.old self.new }
         ensures few { WorksFew (length self.new.ready.entries) self.old self.new }
+        ensures paid { WaitPaid config.now turns until (seen W.told W.held W.faults W.waits W.stops W.clock world.old) (seen W.told W.held W.faults W.waits W.stops W.clock world.new) self.old self.new steps.old.ticks steps.new.ticks }
     {
         match world.wait(until, &mut self.ready) {
             Turned::Turned { at, stop } => {
@@ -83,6 +85,7 @@ impl Crew {
         ensures few { WorksFew (length self.old.ready.entries) self.old self.new }
         ensures alone { OnlyNamedCame (length self.old.ready.entries) self.old self.new }
         ensures came { CameForCause config.now self.old.ready.entries self.old self.new }
+        ensures parts { OnOk result (AddsParts (length self.old.ready.entries) self.old self.new) }
     {
         self.hear_named(config, steps);
         self.queue_named(config)?;

@@ -2,6 +2,7 @@ use Rattle.fork_loop.proofs.Looking.{acted_uncut, failed_cut, same_cut}
 use Rattle.std.proofs.Common.{arith, refl}
 use Rattle.relay_model.specs.Sessions.{admitted}
 use Rattle.fork_loop.proofs.DoorSteps.{door_for, door_meets, born_as, may_accept, memory_ends, door_idled, goes_acted, goes_waiting, goes_over, some_admitted, goes_admitted, ends_admitted, some_failed, goes_failed, ends_failed}
+use Rattle.fork_loop.proofs.DoorPays.{paid_acted, paid_admitted, ended_admitted, paid_failed, ended_failed, paid_idled, paid_waiting, paid_over}
 use Rattle.fork_loop.proofs.crews.Crew.ask_for.Goals as goal
 
 pub step-requires : goal.step-requires
@@ -66,3 +67,27 @@ returns-in-Sleep-clause-looks g c = λ k. (same_cut c.args.self.now.door c.step.
 
 pub returns-in-Done-clause-looks : goal.returns-in-Done-clause-looks
 returns-in-Done-clause-looks g c = λ k. (same_cut c.args.self.now.door c.step.new.door c.in-Done.ensures.1 k, omega arith)
+
+pub returns-in-Acted-clause-paid : goal.returns-in-Acted-clause-paid
+returns-in-Acted-clause-paid g c = let s = c.in-Acted.ensures in paid_acted c.args.config.now _ _ c.live-live.result _ c.args.self.now _ s.0 c.live-live.ensures s.1 s.2 (record { clock_same = refl; made_same = refl; table_same = refl; lists = record { work_same = refl; timers_same = refl }; next = λ p e. c.requires.next p e })
+
+pub returns-in-Some-clause-paid : goal.returns-in-Some-clause-paid
+returns-in-Some-clause-paid g c = let s = c.in-Admitted.ensures in ended_admitted c.args.config.now _ _ _ c.live-live.result c.next_number-number.result _ _ c.in-Some.why c.args.self.now _ c.run_row.new.self s.0 c.in-Admitted.peer _ c.live-live.ensures s.1 s.2 (λ n past b e clock. born_as c.args.config.now n past c.in-Admitted.peer _ _ c.new.ensures.session (c.accepted-session.ensures.hears c.args.config.now n past (admitted c.args.config.now past) (c.requires.next past e) b clock)) (record { clock_same = refl; made_same = refl; unborn_is = c.requires.taken; row = c.admit.ensures.row; heard = refl; unread = c.new.ensures.unread; lists = record { work_same = refl; timers_same = refl }; others = c.admit.ensures.others; admitted_is = c.admit.ensures.admitted; bounds_same = c.admit.ensures.bounds }) c.next_number-number.ensures.admitted c.in-Some.ensures.runs c.run_row.ensures.looks
+
+pub returns-in-None-clause-paid : goal.returns-in-None-clause-paid
+returns-in-None-clause-paid g c = let s = c.in-Admitted.ensures in paid_admitted c.args.config.now _ _ _ c.live-live.result c.next_number-number.result _ _ c.args.self.now _ _ s.0 c.in-Admitted.peer _ c.live-live.ensures s.1 s.2 (λ n past b e clock. born_as c.args.config.now n past c.in-Admitted.peer _ _ c.new.ensures.session (c.accepted-session.ensures.hears c.args.config.now n past (admitted c.args.config.now past) (c.requires.next past e) b clock)) (record { clock_same = refl; made_same = refl; unborn_is = c.requires.taken; row = c.admit.ensures.row; heard = refl; unread = c.new.ensures.unread; lists = record { work_same = refl; timers_same = refl }; others = c.admit.ensures.others; admitted_is = c.admit.ensures.admitted; bounds_same = c.admit.ensures.bounds }) c.next_number-number.ensures.admitted c.in-None.ensures.runs c.run_row.ensures.looks
+
+pub returns-in-Some-end_rows-clause-paid : goal.returns-in-Some-end_rows-clause-paid
+returns-in-Some-end_rows-clause-paid g c = ended_failed c.args.config.now _ _ _ c.live-live.result _ _ c.in-Some-end_rows.why c.args.self.now _ c.end_rows.new.self c.live-live.ensures c.requires.idle c.in-AcceptFailed.ensures (record { clock_same = refl; made_same = refl; table_same = refl; lists = record { work_same = refl; timers_same = refl }; next = λ p e. c.requires.next p e }) c.in-Some-end_rows.ensures.paid
+
+pub returns-in-None-end_rows-clause-paid : goal.returns-in-None-end_rows-clause-paid
+returns-in-None-end_rows-clause-paid g c = paid_failed c.args.config.now _ _ _ c.live-live.result _ _ c.args.self.now _ _ c.live-live.ensures c.requires.idle c.in-AcceptFailed.ensures (record { clock_same = refl; made_same = refl; table_same = refl; lists = record { work_same = refl; timers_same = refl }; next = λ p e. c.requires.next p e }) c.in-None-end_rows.ensures.paid
+
+pub returns-in-Memory-clause-paid : goal.returns-in-Memory-clause-paid
+returns-in-Memory-clause-paid g c = λ n start past on. paid_idled c.args.config.now n start _ _ past _ c.args.self.now c.step.new.door on c.in-Memory.ensures
+
+pub returns-in-Sleep-clause-paid : goal.returns-in-Sleep-clause-paid
+returns-in-Sleep-clause-paid g c = let s = c.in-Sleep.ensures in paid_waiting c.args.config.now _ _ c.live-live.result _ c.args.self.now _ c.in-Sleep.until c.live-live.ensures s.0 s.1 s.2 (record { clock_same = refl; made_same = refl; table_same = refl; lists = record { work_same = refl; timers_same = refl }; next = λ p e. c.requires.next p e })
+
+pub returns-in-Done-clause-paid : goal.returns-in-Done-clause-paid
+returns-in-Done-clause-paid g c = let s = c.in-Done.ensures in paid_over c.args.config.now _ _ c.live-live.result _ c.args.self.now _ c.live-live.ensures s.0 s.1 s.2 (record { clock_same = refl; made_same = refl; table_same = refl; lists = record { work_same = refl; timers_same = refl }; next = λ p e. c.requires.next p e })

@@ -1,5 +1,7 @@
 use Rattle.fork_loop.proofs.Looking.{looks_none, looks_then}
 use Rattle.fork_loop.proofs.DoorSteps.{next_taken, idle_but_next, memory_ends, some_next, asked_before, next_for}
+use Rattle.relay_model.specs.declared.acts.Why.TheVariants as whys
+use Rattle.fork_loop.proofs.DoorPays.{paid_before, paid_short}
 use Rattle.fork_loop.proofs.crews.Crew.ask_once.Goals as goal
 
 pub ask_for-requires-clause-course : goal.ask_for-requires-clause-course
@@ -22,3 +24,9 @@ returns-in-Ok-clause-looks g c = looks_then 0 _ _ _ c.args.self.now c.take_next.
 
 pub returns-in-Err-clause-looks : goal.returns-in-Err-clause-looks
 returns-in-Err-clause-looks g c = looks_none _ c.args.self.now c.take_next.new.self c.take_next.ensures.same.door_same c.take_next.ensures.same.admitted_same
+
+pub returns-in-Ok-clause-paid : goal.returns-in-Ok-clause-paid
+returns-in-Ok-clause-paid g c = paid_before c.args.config.now _ _ _ _ c.args.self.now c.take_next.new.self c.ask_for.new.self _ c.take_next.ensures.same c.ask_for.ensures.paid
+
+pub returns-in-Err-clause-paid : goal.returns-in-Err-clause-paid
+returns-in-Err-clause-paid g c = paid_short c.args.config.now _ _ whys.Memory c.args.self.now c.take_next.new.self c.take_next.ensures.same

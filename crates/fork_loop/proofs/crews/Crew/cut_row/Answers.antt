@@ -6,8 +6,8 @@ use Rattle.fork_loop.proofs.crews.Crew.cut_row.Goals as goal
 pub rouse-requires : goal.rouse-requires
 rouse-requires g c = subst (SleepsIfLate c.args.self.now.made) (sym c.in-Some.ensures.value) c.requires
 
-pub returns-in-Some : goal.returns-in-Some
-returns-in-Some g c =
+pub returns-in-Some-clause-cuts : goal.returns-in-Some-clause-cuts
+returns-in-Some-clause-cuts g c =
     let ch = c.in-Some.ensures.changes _ in
     record {
       row = row_cut c.args.self.now.made c.args.self.now.clock c.args.why c.args.number _ _ c.in-Some.row.now c.rouse.new.row _ (sym c.in-Some.ensures.value) ch.row c.rouse.ensures refl c.cut.ensures.early c.cut.ensures.ending refl;

@@ -17,9 +17,9 @@ cut_row-requires g c =
 
 pub loop-next-preserved : goal.loop-next-preserved
 loop-next-preserved g c = record {
-  rows = rows_next (CutRow c.args.self.now.made c.args.self.now.clock c.args.why) (cut_none c.args.self.now.made c.args.self.now.clock c.args.why) c.in-Some.number c.args.self.now c.loop-next.self _ _ (rw c.in-Some.is at c.loop-next.invariant.rows) (rw (c.loop-next.invariant.same.made_same, c.loop-next.invariant.same.clock_same) at c.cut_row.ensures.row) c.cut_row.ensures.others c.next_after-next.ensures;
-  same = rest_then c.args.self.now c.loop-next.self _ c.loop-next.invariant.same c.cut_row.ensures.same;
-  lists = lists_then c.args.self.now c.loop-next.self _ c.loop-next.invariant.lists c.cut_row.ensures.lists;
+  rows = rows_next (CutRow c.args.self.now.made c.args.self.now.clock c.args.why) (cut_none c.args.self.now.made c.args.self.now.clock c.args.why) c.in-Some.number c.args.self.now c.loop-next.self _ _ (rw c.in-Some.is at c.loop-next.invariant.rows) (rw (c.loop-next.invariant.same.made_same, c.loop-next.invariant.same.clock_same) at c.cut_row.ensures.cuts.row) c.cut_row.ensures.cuts.others c.next_after-next.ensures;
+  same = rest_then c.args.self.now c.loop-next.self _ c.loop-next.invariant.same c.cut_row.ensures.cuts.same;
+  lists = lists_then c.args.self.now c.loop-next.self _ c.loop-next.invariant.lists c.cut_row.ensures.cuts.lists;
 }
 
 pub returns : goal.returns

@@ -1,6 +1,6 @@
 use Rattle.std.proofs.Common.{◌∙◌, ap, length, arith}
 use Rattle.fork_loop.proofs.Looking.{works_waited, works_named, works_alone, as_many, named_alone, came_then}
-use Rattle.fork_loop.proofs.Hearing.{on_ok, all_queued, all_came, named_came}
+use Rattle.fork_loop.proofs.Hearing.{on_ok, all_queued, all_came, named_came, parts_of}
 use Rattle.fork_loop.proofs.crews.Crew.hear_turn.Goals as goal
 
 pub returns-clause-queued : goal.returns-clause-queued
@@ -42,3 +42,6 @@ returns-clause-came g c = all_came c.args.config.now c.args.self.now c.hear_name
 
 pub returns-in_err-queue_named-clause-came : goal.returns-in_err-queue_named-clause-came
 returns-in_err-queue_named-clause-came g c = named_came c.args.config.now c.args.self.now c.hear_named.new.self c.queue_named.new.self c.hear_named.ensures.heard.same c.queue_named.ensures.came
+
+pub returns-clause-parts : goal.returns-clause-parts
+returns-clause-parts g c = on_ok c.queue_due.result (λ d. parts_of c.args.self.now c.hear_named.new.self c.queue_named.new.self c.queue_due.new.self c.hear_named.ensures.heard.same c.queue_named.ensures.few c.queue_named.ensures.same d) c.queue_due.ensures.parts

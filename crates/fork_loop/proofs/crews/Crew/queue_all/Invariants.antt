@@ -1,12 +1,13 @@
-use Rattle.fork_loop.specs.Courses.{SameButWork}
+use Rattle.fork_loop.specs.Courses.{NoWork, SameButWork}
 use Rattle.fork_loop.proofs.Loops.{ahead}
-use Rattle.fork_loop.proofs.Hearing.{QueuedTo}
+use Rattle.fork_loop.proofs.Hearing.{LivesTo, QueuedTo}
 use Rattle.fork_loop.proofs.crews.Crew.queue_all.Given as goal
 
 abbrev pub invariant-loop-next : goal.invariant-loop-next
 invariant-loop-next l = record {
   queued : QueuedTo l.next l.self.table l.self.work.items;
   same : SameButWork l.fn.self l.self;
+  lives : NoWork l.fn.self → LivesTo l.next l.self.table l.self.work.items;
 }
 
 abbrev pub decreases-loop-next : goal.decreases-loop-next

@@ -1,10 +1,10 @@
 use Rattle.std.proofs.Common.{arith, ap, inl, length, subst}
-use Rattle.fork_loop.proofs.Hearing.{none_moved, one_longer, fewer_by, one_kept, one_moved, fewer_timers, was_due, one_came}
+use Rattle.fork_loop.proofs.Hearing.{none_moved, one_longer, fewer_by, one_kept, one_moved, fewer_timers, was_due, one_came, due_first, due_next}
 use Rattle.fork_loop.specs.Rows.{Has}
 use Rattle.fork_loop.proofs.crews.Crew.queue_due.Goals as goal
 
 pub loop-number-init : goal.loop-number-init
-loop-number-init c = record { moves = none_moved c.args.self.now; few = omega arith; alone = λ none. omega arith; came = λ s h. inl h }
+loop-number-init c = record { moves = none_moved c.args.self.now; few = omega arith; alone = λ none. omega arith; came = λ s h. inl h; parts = due_first c.args.self.now }
 
 pub loop-number-preserved : goal.loop-number-preserved
 loop-number-preserved c =
@@ -18,6 +18,7 @@ loop-number-preserved c =
       few = (let l = c.loop-number.invariant.few in let m = one_longer c.loop-number.self.work.items c.push_back.new.self.items c.in-Some.number c.in_ok-push_back.ensures.items in let d = c.in-Some.ensures.due in let n = fewer_by c.loop-number.self.timers.moments c.due.new.self.moments c.in-Some.number d.0 c.in-Some.ensures.taken.0 d.2.is_set in omega (arith, l, m, n));
       alone = λ none. (let d = c.in-Some.ensures.due in was_due c.in-Some.number d.0 c.args.self.now c.loop-number.self d.1 d.2.is_set i none);
       came = (let d = c.in-Some.ensures.due in one_came c.in-Some.number d.0 c.args.self.now c.loop-number.self c.push_back.new.self.items d.1 d.2.is_set i c.in_ok-push_back.ensures.items c.loop-number.invariant.came);
+      parts = (let d = c.in-Some.ensures.due in due_next c.in-Some.number d.0 c.args.self.now c.loop-number.self _ d.1 d.2.is_set i c.in_ok-push_back.ensures.items c.in-Some.ensures.taken.0 c.loop-number.invariant.parts);
     }
 
 pub loop-number-smaller : goal.loop-number-smaller

@@ -1,6 +1,6 @@
 use Rattle.std.specs.FinMap.{len}
 use Rattle.fork_loop.specs.Turns.{Moves}
-use Rattle.fork_loop.specs.Looks.{CameInTime, OnlyNamedCame, WorksFew}
+use Rattle.fork_loop.specs.Looks.{AddsDue, CameInTime, OnlyNamedCame, WorksFew}
 use Rattle.fork_loop.proofs.crews.Crew.queue_due.Given as goal
 
 abbrev pub invariant-loop-number : goal.invariant-loop-number
@@ -9,6 +9,7 @@ invariant-loop-number l = record {
   few : WorksFew 0 l.fn.self l.self;
   alone : OnlyNamedCame 0 l.fn.self l.self;
   came : CameInTime l.fn.self l.self;
+  parts : AddsDue l.fn.self l.self;
 }
 
 abbrev pub decreases-loop-number : goal.decreases-loop-number

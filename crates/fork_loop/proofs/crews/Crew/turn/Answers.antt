@@ -1,7 +1,10 @@
 use Rattle.fork_loop.proofs.Looking.{looks_run, looks_after, looks_then, looks_more}
-use Rattle.std.proofs.Common.{inl, inr, arith, ◌∙◌}
+use Rattle.std.proofs.Common.{inl, inr, arith, ◌∙◌, None}
+use Rattle.fork_loop.specs.declared.asked.Asked.TheVariants as asks
+use Rattle.program_door.specs.declared.wishes.DoorWish.TheVariants as wishes
 use Rattle.fork_loop.proofs.Loops.{kept_on}
 use Rattle.fork_loop.proofs.InOrder.{further_then, door_waits, door_over}
+use Rattle.fork_loop.proofs.CallPays.{call_ends, call_asked, call_waited}
 use Rattle.fork_loop.proofs.crews.Crew.turn.Goals as goal
 
 pub returns-in-Some-clause-turns : goal.returns-in-Some-clause-turns
@@ -56,17 +59,32 @@ returns-in-Ends-clause-turns g c = (
   tt,
 )
 
+pub returns-in-Some-clause-few : goal.returns-in-Some-clause-few
+returns-in-Some-clause-few g c = looks_run _ _ _ _ c.args.self.now c.run_rows.new.self c.run_rows.ensures.rest c.run_rows.ensures.looks
+
+pub returns-in-Waits-clause-few : goal.returns-in-Waits-clause-few
+returns-in-Waits-clause-few g c = looks_after _ _ _ _ _ c.args.self.now c.run_rows.new.self c.wait_for.new.self c.run_rows.ensures.rest c.run_rows.ensures.looks (looks_then _ _ _ _ c.run_rows.new.self c.ask_door.new.self c.wait_for.new.self c.ask_door.ensures.looks c.wait_for.ensures.looks)
+
+pub returns-in-Some-first_from-clause-few : goal.returns-in-Some-first_from-clause-few
+returns-in-Some-first_from-clause-few g c = looks_after _ _ _ _ _ c.args.self.now c.run_rows.new.self c.wait_for-in-Some-first_from.new.self c.run_rows.ensures.rest c.run_rows.ensures.looks (looks_then _ _ _ _ c.run_rows.new.self c.ask_door.new.self c.wait_for-in-Some-first_from.new.self c.ask_door.ensures.looks c.wait_for-in-Some-first_from.ensures.looks)
+
+pub returns-in-None-clause-few : goal.returns-in-None-clause-few
+returns-in-None-clause-few g c = looks_after _ _ _ _ _ c.args.self.now c.run_rows.new.self c.ask_door.new.self c.run_rows.ensures.rest c.run_rows.ensures.looks (looks_more _ _ _ c.run_rows.new.self c.ask_door.new.self c.ask_door.ensures.looks)
+
+pub returns-in-Ends-clause-few : goal.returns-in-Ends-clause-few
+returns-in-Ends-clause-few g c = looks_after _ _ _ _ _ c.args.self.now c.run_rows.new.self c.ask_door.new.self c.run_rows.ensures.rest c.run_rows.ensures.looks (looks_more _ _ _ c.run_rows.new.self c.ask_door.new.self c.ask_door.ensures.looks)
+
 pub returns-in-Some-clause-looks : goal.returns-in-Some-clause-looks
-returns-in-Some-clause-looks g c = looks_run _ _ _ _ c.args.self.now c.run_rows.new.self c.run_rows.ensures.rest c.run_rows.ensures.looks
+returns-in-Some-clause-looks g c = call_ends c.args.config.now c.args.turns _ _ _ _ c.args.self.now c.run_rows.new.self c.in-Some.why c.in-Some.ensures.paid
 
 pub returns-in-Waits-clause-looks : goal.returns-in-Waits-clause-looks
-returns-in-Waits-clause-looks g c = looks_after _ _ _ _ _ c.args.self.now c.run_rows.new.self c.wait_for.new.self c.run_rows.ensures.rest c.run_rows.ensures.looks (looks_then _ _ _ _ c.run_rows.new.self c.ask_door.new.self c.wait_for.new.self c.ask_door.ensures.looks c.wait_for.ensures.looks)
+returns-in-Waits-clause-looks g c = call_waited c.args.config.now c.args.turns _ _ _ _ _ _ _ _ c.args.self.now c.run_rows.new.self c.ask_door.new.self c.wait_for.new.self (wishes.Sleep c.in-Waits.first) c.in-Waits.first c.in_default.ensures.paid c.in-Waits.ensures.paid (λ since wished. record { door = wished.0; remains = inl wished.1 }) c.wait_for.ensures.paid
 
 pub returns-in-Some-first_from-clause-looks : goal.returns-in-Some-first_from-clause-looks
-returns-in-Some-first_from-clause-looks g c = looks_after _ _ _ _ _ c.args.self.now c.run_rows.new.self c.wait_for-in-Some-first_from.new.self c.run_rows.ensures.rest c.run_rows.ensures.looks (looks_then _ _ _ _ c.run_rows.new.self c.ask_door.new.self c.wait_for-in-Some-first_from.new.self c.ask_door.ensures.looks c.wait_for-in-Some-first_from.ensures.looks)
+returns-in-Some-first_from-clause-looks g c = call_waited c.args.config.now c.args.turns _ _ _ _ _ _ _ _ c.args.self.now c.run_rows.new.self c.ask_door.new.self c.wait_for-in-Some-first_from.new.self wishes.Done None c.in_default.ensures.paid c.in-Over.ensures.paid (λ since wished. record { door = wished.sleeps; remains = inr (_, c.in-Some-first_from.ensures.1) }) c.wait_for-in-Some-first_from.ensures.paid
 
 pub returns-in-None-clause-looks : goal.returns-in-None-clause-looks
-returns-in-None-clause-looks g c = looks_after _ _ _ _ _ c.args.self.now c.run_rows.new.self c.ask_door.new.self c.run_rows.ensures.rest c.run_rows.ensures.looks (looks_more _ _ _ c.run_rows.new.self c.ask_door.new.self c.ask_door.ensures.looks)
+returns-in-None-clause-looks g c = call_asked c.args.config.now c.args.turns _ _ _ _ _ _ c.args.self.now c.run_rows.new.self c.ask_door.new.self asks.Over (λ start since a. a.0.frame.run) c.in_default.ensures.paid c.in-Over.ensures.paid
 
 pub returns-in-Ends-clause-looks : goal.returns-in-Ends-clause-looks
-returns-in-Ends-clause-looks g c = looks_after _ _ _ _ _ c.args.self.now c.run_rows.new.self c.ask_door.new.self c.run_rows.ensures.rest c.run_rows.ensures.looks (looks_more _ _ _ c.run_rows.new.self c.ask_door.new.self c.ask_door.ensures.looks)
+returns-in-Ends-clause-looks g c = call_asked c.args.config.now c.args.turns _ _ _ _ _ _ c.args.self.now c.run_rows.new.self c.ask_door.new.self (asks.Ends c.in-Ends.why) (λ start since a. a) c.in_default.ensures.paid c.in-Ends.ensures.paid

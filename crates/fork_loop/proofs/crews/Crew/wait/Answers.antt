@@ -6,9 +6,12 @@ use Rattle.fork_loop.proofs.RowRuns.{rest_itself}
 use Rattle.std.proofs.Common.{ap, refl, inl, inr, ◌∙◌, add-one, arith}
 use Rattle.std.proofs.lemmas.Bool.{false≢true}
 use Rattle.session_runs.proofs.Going.{idle_run}
-use Rattle.fork_loop.proofs.Turning.{has_waited, turned_there, all_unheard, when_going, when_short, when_stopped}
+use Rattle.fork_loop.proofs.Turning.{has_waited, turned_there, all_unheard, run_turned, when_going, when_short, when_stopped}
 use Rattle.fork_loop.proofs.DoorSteps.{memory_rows}
-use Rattle.fork_loop.proofs.InOrder.{came_for}
+use Rattle.fork_loop.proofs.InOrder.{came_for, left_by}
+use Rattle.session_runs.specs.Runs.{Run}
+use Rattle.fork_loop.proofs.Paying.{led_itself}
+use Rattle.fork_loop.proofs.DoorPays.{led_turned}
 use Rattle.fork_loop.proofs.crews.Crew.wait.Goals as goal
 
 pub hear_turn-requires : goal.hear_turn-requires
@@ -47,6 +50,7 @@ returns-in-Ok-clause-waits g c = (
         }) c.hear_turn.ensures.heard c.in-Ok.ensures.queued;
         came = came_for c.args.config.now c.args.turns start _ past c.in-Turned.at c.args.self.now c.take_turn.new.self c.hear_turn.new.self on c.requires.idle c.take_turn.ensures.clock_is (record { work_same = h.lists.work_same; timers_same = h.lists.timers_same }) c.hear_turn.ensures.came;
         few = λ early. turned_few c.in-Turned.at c.args.until c.args.self.now c.take_turn.new.self c.hear_turn.new.self c.take_turn.ensures.clock_is (record { work_same = h.lists.work_same; timers_same = h.lists.timers_same }) c.requires.idle c.hear_turn.ensures.alone longest early;
+        begins = left_by c.args.config.now c.args.turns start _ past c.args.until c.in-Turned.at c.args.self.now c.take_turn.new.self c.hear_turn.new.self on c.requires.idle c.take_turn.ensures.clock_is (record { work_same = h.lists.work_same; timers_same = h.lists.timers_same }) longest c.in-Ok.ensures.parts;
       },
   c.hear_turn.ensures.heard.same.made_same ∙ (c.take_turn.ensures.made_is ∙ add-one _),
 )
@@ -119,3 +123,47 @@ returns-in-Memory-clause-looks g c = λ k. (k, omega arith)
 
 pub returns-in-Memory-clause-few : goal.returns-in-Memory-clause-few
 returns-in-Memory-clause-few g c = omega arith
+
+pub returns-in-Ok-clause-paid : goal.returns-in-Ok-clause-paid
+returns-in-Ok-clause-paid g c = λ start past on order longest.
+    let h = has_waited c.in-Turned.at c.in-Turned.stop _ c.take_turn.new.self c.take_turn.ensures in
+    led_turned past (Run c.args.config.now c.args.turns start _) c.args.until c.in-Turned.at _ _ (copied_list c.take_turn.new.self.ready) c.in-Turned.stop (run_turned c.args.config.now c.args.turns start _ _ past c.args.until c.in-Turned.at c.in-Turned.stop c.args.self.now c.take_turn.new.self (record {
+      course = on;
+      few = c.requires.few;
+      idle = c.requires.idle;
+      order = order;
+      turns = turned_there _ _ c.args.until c.in-Turned.at _ c.take_turn.new.self.ready c.in-Turned.stop c.take_turn.ensures.ready_same (record { did = c.in-Turned.ensures.act; named = c.in-Turned.ensures.named; later = c.in-Turned.ensures.faults; counts = c.in-Turned.ensures.counts });
+      has = record { door = h.door; table_same = h.table_same; lists = record { work_same = h.lists.work_same; timers_same = h.lists.timers_same }; unborn_same = h.unborn_same; clock_is = h.clock_is; made_is = h.made_is };
+      on_clock = c.take_turn.ensures.on_clock;
+    })) c.hear_turn.ensures.looks
+
+pub returns-in-Err-clause-paid : goal.returns-in-Err-clause-paid
+returns-in-Err-clause-paid g c = λ start past on order longest.
+    let h = has_waited c.in-Turned.at c.in-Turned.stop _ c.take_turn.new.self c.take_turn.ensures in
+    led_turned past (Run c.args.config.now c.args.turns start _) c.args.until c.in-Turned.at _ _ (copied_list c.take_turn.new.self.ready) c.in-Turned.stop (run_turned c.args.config.now c.args.turns start _ _ past c.args.until c.in-Turned.at c.in-Turned.stop c.args.self.now c.take_turn.new.self (record {
+      course = on;
+      few = c.requires.few;
+      idle = c.requires.idle;
+      order = order;
+      turns = turned_there _ _ c.args.until c.in-Turned.at _ c.take_turn.new.self.ready c.in-Turned.stop c.take_turn.ensures.ready_same (record { did = c.in-Turned.ensures.act; named = c.in-Turned.ensures.named; later = c.in-Turned.ensures.faults; counts = c.in-Turned.ensures.counts });
+      has = record { door = h.door; table_same = h.table_same; lists = record { work_same = h.lists.work_same; timers_same = h.lists.timers_same }; unborn_same = h.unborn_same; clock_is = h.clock_is; made_is = h.made_is };
+      on_clock = c.take_turn.ensures.on_clock;
+    })) c.hear_turn.ensures.looks
+
+pub returns-then-stop-clause-paid : goal.returns-then-stop-clause-paid
+returns-then-stop-clause-paid g c = λ start past on order longest.
+    let h = has_waited c.in-Turned.at c.in-Turned.stop _ c.take_turn.new.self c.take_turn.ensures in
+    led_turned past (Run c.args.config.now c.args.turns start _) c.args.until c.in-Turned.at _ _ (copied_list c.take_turn.new.self.ready) c.in-Turned.stop (run_turned c.args.config.now c.args.turns start _ _ past c.args.until c.in-Turned.at c.in-Turned.stop c.args.self.now c.take_turn.new.self (record {
+      course = on;
+      few = c.requires.few;
+      idle = c.requires.idle;
+      order = order;
+      turns = turned_there _ _ c.args.until c.in-Turned.at _ c.take_turn.new.self.ready c.in-Turned.stop c.take_turn.ensures.ready_same (record { did = c.in-Turned.ensures.act; named = c.in-Turned.ensures.named; later = c.in-Turned.ensures.faults; counts = c.in-Turned.ensures.counts });
+      has = record { door = h.door; table_same = h.table_same; lists = record { work_same = h.lists.work_same; timers_same = h.lists.timers_same }; unborn_same = h.unborn_same; clock_is = h.clock_is; made_is = h.made_is };
+      on_clock = c.take_turn.ensures.on_clock;
+    })) (omega arith)
+
+pub returns-in-Memory-clause-paid : goal.returns-in-Memory-clause-paid
+returns-in-Memory-clause-paid g c = λ start past on order longest.
+    let n = c.in-Memory.ensures.counts in
+    led_itself past (Run c.args.config.now c.args.turns start _) 0 _ (idle_run c.args.config.now c.args.turns start _ _ past on.frame.run c.in-Memory.ensures.act (record { later = c.in-Memory.ensures.faults; rose = λ e. absurd (false≢true e) }) (record { waits = n.waits_is; stops = n.stops_is; clock = n.clock_is }))

@@ -1,0 +1,4 @@
+pub mod Ended
+pub mod OwnCalls
+pub mod Stays
+pub mod Waited
