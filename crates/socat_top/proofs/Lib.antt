@@ -1,5 +1,6 @@
 pub mod Passing
 pub mod PassedEnds
+pub mod EndsBehind
 pub mod Endings
 pub mod Offered
 pub mod Unheld

@@ -1,15 +1,14 @@
 -- What the standard streams passed at the ends of a relay's directions.
-use Rattle.std.proofs.Common.{◌≡◌, ℕ, Bool, true, false, List, [], ◌∷◌, ◌++◌, Option, None, Some, IfSome, refl, sym, ap, subst, inl, inr, ◌⊎◌}
+use Rattle.std.proofs.Common.{◌≡◌, ℕ, Bool, List, [], ◌∷◌, ◌++◌, Option, None, Some, IfSome, refl, sym, ap, subst, inl, inr}
 use Rattle.relay_model.specs.declared.acts.Act.{Act}
 use Rattle.relay_model.specs.declared.acts.Act.TheVariants.{Note, NoteFault}
 use Rattle.relay_model.specs.declared.commands.Config.{Config}
-use Rattle.relay_model.specs.Configs.{has_fork, single}
+use Rattle.relay_model.specs.Configs.{single}
 use Rattle.relay_model.specs.Journals.{Asking, History}
 use Rattle.relay_model.specs.May.{Legal}
 use Rattle.exit_status.specs.declared.outcomes.Outcome.{Outcome}
 use Rattle.exit_status.specs.Lines.{line}
 use Rattle.event_loop.specs.Courses.{OnlyOwn}
-use Rattle.session_driver.specs.Steps.{extend}
 use Rattle.desk_history.specs.Following.{AllOwn, AreElsewhere, Passed, PassedBy}
 use Rattle.stream_ends.specs.Ends.{Ends}
 use Rattle.stream_ends.proofs.CallLemmas.{elsewhere}

@@ -12,6 +12,7 @@ use Rattle.exit_status.specs.Outcomes.{IsOutcome}
 use Rattle.event_loop.specs.Courses.{OnlyOwn}
 use Rattle.session_driver.specs.Steps.{extend}
 use Rattle.stream_ends.specs.Ends.{Ends}
+use Rattle.stream_ends.specs.Behind.{EndsBehind}
 use Rattle.event_loop.specs.Headline as relayed
 use Rattle.event_loop.specs.Headline.{is_relayed}
 use Rattle.socat_top.specs.Notes.{Said, Tail}
@@ -53,6 +54,12 @@ Leaves Unread n before told answer = Tail answer (Some before) told
 abbrev pub TaskEnds : Task → List Act → Option (List ℕ) → Option (List ℕ) → Bool → Type 0
 TaskEnds (Relaying c) acts gave took ended = Ends c acts gave took ended
 TaskEnds other acts gave took ended = Unit {0}
+
+-- the same of the bytes at the far ends of standard input and of standard output, of what is left behind standard input
+-- and of the faults behind standard output
+abbrev pub TaskEndsBehind : Task → List Act → Option (List ℕ) → Option (List ℕ) → Option (List ℕ) → Option ℕ → Type 0
+TaskEndsBehind (Relaying c) acts gave took left faults = EndsBehind c acts gave took left faults
+TaskEndsBehind other acts gave took left faults = Unit {0}
 
 -- the answers that a task can get from any world; each may also be want of memory
 abbrev pub Answers : Task → Outcome → Type 0

@@ -9,8 +9,9 @@ ghost use Rattle.exit_status.specs.Statuses.{exit_code};
 ghost use Rattle.port_trait.specs.Meanings.{Behind};
 ghost use Rattle.desk_ports.specs.Endings.{OnJoinedBack, handed};
 ghost use Rattle.desk_history.specs.Following.{Passed};
+ghost use Rattle.stream_ends.specs.Behind.{far_bytes, far_faults, told_behind};
 ghost use Rattle.socat_top.specs.Kept.{history_of};
-ghost use Rattle.socat_top.specs.Headline.{Answers, CompletesTask, Leaves, TaskEnds};
+ghost use Rattle.socat_top.specs.Headline.{Answers, CompletesTask, Leaves, TaskEnds, TaskEndsBehind};
 ghost use Rattle.socat_top.specs.Tasks.{task};
 
 use crate::calls::socat;
@@ -51,6 +52,7 @@ pub fn run<M: Maker + Drop, P: Poller + Drop, I: Port, O: Port, E: Port>(
     ensures ends { ⟦<Desk<M, P, I, O, E> as World>⟧.told desk ≡ Some (record { acts = []; asked = [] }) → TaskEnds (task words.now) result.kept.journal.acts (I.gave (handed result.standard.stdin)) (O.took (handed result.standard.stdout)) (I.ended (handed result.standard.stdin)) }
     ensures stdin_behind { OnJoinedBack (λ port. Behind (I.gave port) (I.took port) (I.behind_gave port) (I.behind_took port) (I.behind_left port) (I.behind_faults port) (I.ended port)) result.standard.stdin }
     ensures stdout_behind { OnJoinedBack (λ port. Behind (O.gave port) (O.took port) (O.behind_gave port) (O.behind_took port) (O.behind_left port) (O.behind_faults port) (O.ended port)) result.standard.stdout }
+    ensures behind { ⟦<Desk<M, P, I, O, E> as World>⟧.told desk ≡ Some (record { acts = []; asked = [] }) → TaskEndsBehind (task words.now) result.kept.journal.acts (far_bytes (I.gave (handed result.standard.stdin)) (told_behind I.behind_gave result.standard.stdin)) (far_bytes (O.took (handed result.standard.stdout)) (told_behind O.behind_took result.standard.stdout)) (told_behind I.behind_left result.standard.stdin) (far_faults (told_behind O.behind_took result.standard.stdout) (told_behind O.behind_faults result.standard.stdout)) }
     ensures answers { Answers (task words.now) result.outcome }
     ensures complete { let w = ⟦<Desk<M, P, I, O, E> as World>⟧ in CompletesTask (task words.now) turns (w.faults desk) result.counts.faults (w.waits desk) result.counts.waits (w.stops desk) result.counts.stops result.outcome }
     ensures failed { is_failure result.outcome ≡ true → Risen (⟦<Desk<M, P, I, O, E> as World>⟧.faults desk) result.counts.faults }

@@ -11,8 +11,9 @@ ghost use Rattle.socat_top.specs.declared.written.Saving.TheVariants as savings;
 ghost use Rattle.port_trait.specs.Meanings.{Behind};
 ghost use Rattle.desk_ports.specs.Endings.{OnJoinedBack, handed};
 ghost use Rattle.desk_history.specs.Following.{Passed};
+ghost use Rattle.stream_ends.specs.Behind.{far_bytes, far_faults, told_behind};
 ghost use Rattle.socat_top.specs.Kept.{history_of};
-ghost use Rattle.socat_top.specs.Headline.{Answers, CompletesTask, Leaves, TaskEnds};
+ghost use Rattle.socat_top.specs.Headline.{Answers, CompletesTask, Leaves, TaskEnds, TaskEndsBehind};
 ghost use Rattle.socat_top.specs.Tasks.{task};
 ghost use Rattle.socat_top.specs.Written.{TookText, asks_for_journal, is_asked, is_note, status_with, told_before, without_last_note, words_of_run};
 
@@ -77,6 +78,7 @@ where
     ensures ends { told_before (asks_for_journal words.now) (⟦<Desk<M, P, I, O, E> as World>⟧.told desk) ≡ Some (record { acts = []; asked = [] }) → TaskEnds (task (words_of_run words.now)) result.shipped.kept.journal.acts (I.gave (handed result.shipped.standard.stdin)) (O.took (handed result.shipped.standard.stdout)) (I.ended (handed result.shipped.standard.stdin)) }
     ensures stdin_behind { OnJoinedBack (λ port. Behind (I.gave port) (I.took port) (I.behind_gave port) (I.behind_took port) (I.behind_left port) (I.behind_faults port) (I.ended port)) result.shipped.standard.stdin }
     ensures stdout_behind { OnJoinedBack (λ port. Behind (O.gave port) (O.took port) (O.behind_gave port) (O.behind_took port) (O.behind_left port) (O.behind_faults port) (O.ended port)) result.shipped.standard.stdout }
+    ensures behind { told_before (asks_for_journal words.now) (⟦<Desk<M, P, I, O, E> as World>⟧.told desk) ≡ Some (record { acts = []; asked = [] }) → TaskEndsBehind (task (words_of_run words.now)) result.shipped.kept.journal.acts (far_bytes (I.gave (handed result.shipped.standard.stdin)) (told_behind I.behind_gave result.shipped.standard.stdin)) (far_bytes (O.took (handed result.shipped.standard.stdout)) (told_behind O.behind_took result.shipped.standard.stdout)) (told_behind I.behind_left result.shipped.standard.stdin) (far_faults (told_behind O.behind_took result.shipped.standard.stdout) (told_behind O.behind_faults result.shipped.standard.stdout)) }
     ensures answers { Answers (task (words_of_run words.now)) result.shipped.outcome }
     ensures complete { let w = ⟦<Desk<M, P, I, O, E> as World>⟧ in CompletesTask (task (words_of_run words.now)) turns (w.faults desk) result.shipped.counts.faults (w.waits desk) result.shipped.counts.waits (w.stops desk) result.shipped.counts.stops result.shipped.outcome }
     ensures failed { is_failure result.shipped.outcome ≡ true → Risen (⟦<Desk<M, P, I, O, E> as World>⟧.faults desk) result.shipped.counts.faults }

@@ -1,4 +1,4 @@
--- What is behind joined ports is what they passed, up to the first fault.
+-- What is behind ports is what they passed, up to the first fault.
 use Rattle.std.proofs.Common.{◌≡◌, refl, sym, ap, subst, ◌∙◌, ℕ, Bool, true, false, cond, List, [], ◌∷◌, ◌++◌, Option, None, Some, IfSome}
 use Rattle.relay_model.specs.declared.places.Way.{Way}
 use Rattle.relay_model.specs.declared.commands.Config.{Config}
@@ -7,7 +7,12 @@ use Rattle.relay_model.specs.Configs.{input, output}
 use Rattle.relay_model.specs.History.{got, put}
 use Rattle.relay_model.specs.May.{BeginsWith}
 use Rattle.relay_model.specs.Transfers.{due}
-use Rattle.stream_ends.specs.Ends.{BehindIsDue, Ends, EndsBehind, IsDue, IsDueBehind, came_in, is_alone, is_on_input, is_on_output, went_out}
+use Rattle.port_trait.specs.Meanings.{Behind}
+use Rattle.desk_ports.specs.declared.endings.Back.{Back}
+use Rattle.desk_ports.specs.declared.endings.Back.TheVariants as backs
+use Rattle.desk_ports.specs.Endings.{OnJoinedBack, handed}
+use Rattle.stream_ends.specs.Ends.{IsDue, came_in, is_alone, is_on_input, is_on_output, went_out}
+use Rattle.stream_ends.specs.Behind.{BehindIsDue, IsDueBehind, far_bytes, far_faults, faults_out, told_behind}
 
 joined_rest : (xs ys zs : List ℕ) → (xs ++ ys) ++ zs ≡ xs ++ (ys ++ zs)
 joined_rest [] ys zs = refl
@@ -17,20 +22,23 @@ joined_rest (x ∷ xs) ys zs = ap (λ (all : List ℕ). x ∷ all) (joined_rest 
 begins_through : (first list whole : List ℕ) → BeginsWith first list → BeginsWith list whole → BeginsWith first whole
 begins_through first list whole one other = (one.0 ++ other.0, other.1 ∙ (ap (λ (xs : List ℕ). xs ++ other.0) one.1 ∙ joined_rest first one.0 other.0))
 
--- what came in is told behind as it is told of the port
-came_behind : (alone : Bool) (P : List ℕ → Type 0) (given acted : List ℕ) (behind : Option (List ℕ)) → IfSome behind (λ all. all ≡ given) → IfSome (cond alone (Some given) (Some acted)) P → IfSome (cond alone behind (Some acted)) P
-came_behind true P given acted None e h = tt
-came_behind true P given acted (Some all) e h = subst P (sym e) h
-came_behind false P given acted behind e h = h
+-- what came in at the far end is what the port gave
+came_far : (alone : Bool) (P : List ℕ → Type 0) (acted : List ℕ) (gave behind : Option (List ℕ)) → IfSome gave (λ all. IfSome behind (λ bytes. bytes ≡ all)) → IfSome (cond alone gave (Some acted)) P → IfSome (cond alone (far_bytes gave behind) (Some acted)) P
+came_far false P acted gave behind e h = h
+came_far true P acted gave None e h = h
+came_far true P acted None (Some bytes) e h = tt
+came_far true P acted (Some all) (Some bytes) e h = subst P (sym e) h
 
--- what went out behind is a beginning of what the port took, and all of it where no fault is there
-went_behind : (alone : Bool) (c : Config) (acts : List Act) (w : Way) (faults : Option ℕ) (came taken acted : List ℕ) (behind : Option (List ℕ)) → IfSome behind (λ all. BeginsWith all taken) → (faults ≡ Some 0 → IfSome behind (λ all. all ≡ taken)) → IfSome (cond alone (Some taken) (Some acted)) (λ went. IsDue c acts w came went) → IfSome (cond alone behind (Some acted)) (λ went. IsDueBehind c acts w faults came went)
-went_behind true c acts w faults came taken acted None front whole h = tt
-went_behind true c acts w faults came taken acted (Some all) front whole h = record {
-  begins = begins_through all taken (due c w came) front h.begins;
+-- what went out there is a beginning of what the port took, and all of it where no fault is there
+went_far : (alone : Bool) (c : Config) (acts : List Act) (w : Way) (came acted : List ℕ) (took behind : Option (List ℕ)) (faults : Option ℕ) → IfSome took (λ all. IfSome behind (λ bytes. BeginsWith bytes all)) → (faults ≡ Some 0 → IfSome took (λ all. IfSome behind (λ bytes. bytes ≡ all))) → IfSome (cond alone took (Some acted)) (λ went. IsDue c acts w came went) → IfSome (cond alone (far_bytes took behind) (Some acted)) (λ went. IsDueBehind c acts w (cond alone (far_faults behind faults) (Some 0)) came went)
+went_far false c acts w came acted took behind faults front whole h = record { begins = h.begins; whole = λ over sound. h.whole over }
+went_far true c acts w came acted None None faults front whole h = tt
+went_far true c acts w came acted (Some all) None faults front whole h = record { begins = h.begins; whole = λ over sound. h.whole over }
+went_far true c acts w came acted None (Some bytes) faults front whole h = tt
+went_far true c acts w came acted (Some all) (Some bytes) faults front whole h = record {
+  begins = begins_through bytes all (due c w came) front h.begins;
   whole = λ over sound. whole sound ∙ h.whole over;
 }
-went_behind false c acts w faults came taken acted behind front whole h = record { begins = h.begins; whole = λ over sound. h.whole over }
 
 -- a fact of what came in, made one by one
 each : (P Q : List ℕ → Type 0) (slot : Option (List ℕ)) → ((all : List ℕ) → P all → Q all) → IfSome slot P → IfSome slot Q
@@ -38,15 +46,29 @@ each P Q None go h = tt
 each P Q (Some all) go h = go all h
 
 pub behind : BehindIsDue
-behind c acts gave took input_took output_gave behind_gave behind_took input_left output_left input_behind output_behind input_faults output_faults input_ended output_ended given taken is_given is_taken ends source sink =
-    let from : IfSome behind_gave (λ all. all ≡ given) = subst (λ (slot : Option (List ℕ)). IfSome slot (λ all. IfSome behind_gave (λ behind. behind ≡ all))) is_given source.given in
-    let front : IfSome behind_took (λ all. BeginsWith all taken) = subst (λ (slot : Option (List ℕ)). IfSome slot (λ all. IfSome behind_took (λ behind. BeginsWith behind all))) is_taken sink.taken in
-    let whole : output_faults ≡ Some 0 → IfSome behind_took (λ all. all ≡ taken) = λ sound. subst (λ (slot : Option (List ℕ)). IfSome slot (λ all. IfSome behind_took (λ behind. behind ≡ all))) is_taken (sink.whole sound) in
-    let here : Ends c acts (Some given) (Some taken) input_ended = subst (λ (slot : Option (List ℕ)). Ends c acts (Some given) slot input_ended) is_taken (subst (λ (slot : Option (List ℕ)). Ends c acts slot took input_ended) is_given ends) in
+behind c acts gave took input_took output_gave behind_gave behind_took input_left output_left input_behind output_behind input_faults output_faults input_ended output_ended ends source sink =
     record {
       is_due = λ w is.
-          each (λ came. IfSome (went_out c acts w (Some taken)) (λ went. IsDue c acts w came went)) (λ came. IfSome (went_out c acts w behind_took) (λ went. IsDueBehind c acts w output_faults came went)) (came_in c acts w behind_gave)
-          (λ came. went_behind (is_alone c (is_on_output c) (output c 0 w)) c acts w output_faults came taken (put acts (output c 0 w)) behind_took front whole)
-          (came_behind (is_alone c (is_on_input c) (input c 0 w)) (λ came. IfSome (went_out c acts w (Some taken)) (λ went. IsDue c acts w came went)) given (got acts (input c 0 w)) behind_gave from (here.is_due w is));
-      is_spent = λ w is has. source.spent (here.is_ended w is has);
+          each (λ came. IfSome (went_out c acts w took) (λ went. IsDue c acts w came went)) (λ came. IfSome (went_out c acts w (far_bytes took behind_took)) (λ went. IsDueBehind c acts w (faults_out c w (far_faults behind_took output_faults)) came went))
+          (came_in c acts w (far_bytes gave behind_gave))
+          (λ came. went_far (is_alone c (is_on_output c) (output c 0 w)) c acts w came (put acts (output c 0 w)) took behind_took output_faults sink.taken sink.whole)
+          (came_far (is_alone c (is_on_input c) (input c 0 w)) (λ came. IfSome (went_out c acts w took) (λ went. IsDue c acts w came went)) (got acts (input c 0 w)) gave behind_gave source.given (ends.is_due w is));
+      is_spent = λ w is has. source.spent (ends.is_ended w is has);
     }
+
+unsaid : (slot : Option (List ℕ)) → IfSome slot (λ all. Unit {0})
+unsaid None = tt
+unsaid (Some all) = tt
+
+-- what a port that came back tells of what is behind it is so; one that was left tells nothing of it
+pub behind_back :
+    {T : Type 0} (gave took behind_gave behind_took behind_left : T → Option (List ℕ)) (behind_faults : T → Option ℕ) (ended : T → Bool) (back : Back T) →
+    OnJoinedBack (λ port. Behind (gave port) (took port) (behind_gave port) (behind_took port) (behind_left port) (behind_faults port) (ended port)) back →
+    Behind (gave (handed back)) (took (handed back)) (told_behind behind_gave back) (told_behind behind_took back) (told_behind behind_left back) (told_behind behind_faults back) (ended (handed back))
+behind_back gave took behind_gave behind_took behind_left behind_faults ended (backs.Joined port) behind = behind
+behind_back gave took behind_gave behind_took behind_left behind_faults ended (backs.Left port) left = record {
+  given = unsaid (gave port);
+  taken = unsaid (took port);
+  whole = λ sound. unsaid (took port);
+  spent = λ over. tt;
+}

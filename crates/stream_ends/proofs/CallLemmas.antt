@@ -17,7 +17,6 @@ use Rattle.relay_model.specs.Openings.{Call, Nothing, TryAt, Open, Settle, Liste
 use Rattle.relay_model.specs.Cause.{cause}
 use Rattle.relay_model.specs.Calls.{call, door_call, called_at}
 use Rattle.relay_model.specs.May.{Legal}
-use Rattle.desk_ports.specs.declared.bases.Base.{Base}
 use Rattle.desk_ports.specs.Bases.{standard_of}
 use Rattle.desk_history.specs.Following.{AreElsewhere, IsElsewhere, stream_of}
 

@@ -7,18 +7,16 @@ use Rattle.relay_model.specs.declared.places.Place.{Place}
 use Rattle.relay_model.specs.declared.commands.Config.{Config}
 use Rattle.relay_model.specs.declared.acts.Act.{Act}
 use Rattle.relay_model.specs.declared.acts.Act.TheVariants.{Note, NoteFault, Read, ReadEmpty, ReadEnd, ReadNotYet, ReadFault, Wrote}
-use Rattle.relay_model.specs.declared.acts.Why.TheVariants as whys
 use Rattle.relay_model.specs.Places.{same_place}
 use Rattle.relay_model.specs.Choices.{joined}
 use Rattle.relay_model.specs.Configs.{input, output, formed, has_fork, places, single, way_from, way_to}
 use Rattle.relay_model.specs.History.{got, put}
 use Rattle.relay_model.specs.Sessions.{admitted, holds, live}
-use Rattle.relay_model.specs.Cause.{cause, running}
-use Rattle.relay_model.specs.Transfers.{due}
+use Rattle.relay_model.specs.Cause.{cause}
 use Rattle.relay_model.specs.Rest.{is_going}
 use Rattle.relay_model.specs.Openings.{ready}
-use Rattle.relay_model.specs.May.{BeginsWith, Legal}
-use Rattle.legal_steps.proofs.PlaceLemmas.{same_place_equal, same_place_self}
+use Rattle.relay_model.specs.May.{Legal}
+use Rattle.legal_steps.proofs.PlaceLemmas.{same_place_equal}
 use Rattle.legal_steps.proofs.Holdings.{input_passes, output_passes, moves_formed, moves_running}
 use Rattle.relay_model.specs.Frames.{IsForeign}
 use Rattle.relay_laws.proofs.Apart.{base_step, ending_same}

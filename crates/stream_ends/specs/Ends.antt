@@ -13,7 +13,6 @@ use Rattle.relay_model.specs.History.{got, put}
 use Rattle.relay_model.specs.Transfers.{due}
 use Rattle.relay_model.specs.Cause.{cause}
 use Rattle.relay_model.specs.May.{BeginsWith, Legal}
-use Rattle.port_trait.specs.Meanings.{Behind}
 use Rattle.desk_history.specs.Following.{PassedBy, reads_input, stream_of, writes_output}
 
 -- a read at the place is one of standard input, by the place's address
@@ -66,24 +65,3 @@ pub record Ends (c : Config) (acts : List Act) (gave took : Option (List ℕ)) (
 -- so it is after legal acts, where the streams passed what these tell by the command's own addresses
 abbrev pub PassedEnds : Type 0
 PassedEnds = (c : Config) (n : ℕ) (acts : List Act) (gave took said : Option (List ℕ)) (ended : Bool) → Legal c n acts → (has_fork c ≡ false → PassedBy (single c) acts gave took said ended) → Ends c acts gave took ended
-
--- what went out of a sink behind a joined port begins what is due of what came in, and is all of it where the session has
--- finished and no fault is behind that port
-pub record IsDueBehind (c : Config) (acts : List Act) (w : Way) (faults : Option ℕ) (came went : List ℕ) : Type 0 where
-  pub begins : BeginsWith went (due c w came)
-  pub whole : cause c acts 0 ≡ Some whys.Finished → faults ≡ Some 0 → went ≡ due c w came
-
--- the same of each direction, by what is behind the joined ports of standard input and of standard output; and where the
--- source of one has ended, nothing is left behind it
-pub record EndsBehind (c : Config) (acts : List Act) (behind_gave behind_took behind_left : Option (List ℕ)) (faults : Option ℕ) : Type 0 where
-  pub is_due : (w : Way) → formed c w ≡ true → IfSome (came_in c acts w behind_gave) (λ came. IfSome (went_out c acts w behind_took) (λ went. IsDueBehind c acts w faults came went))
-  pub is_spent : (w : Way) → formed c w ≡ true → HasEnded c acts w → IfSome behind_left (λ rest. rest ≡ [])
-
--- so it is behind joined ports that tell what they gave and took, where it is so of these
-abbrev pub BehindIsDue : Type 0
-BehindIsDue =
-    (c : Config) (acts : List Act) (gave took input_took output_gave behind_gave behind_took input_left output_left input_behind output_behind : Option (List ℕ)) (input_faults output_faults : Option ℕ) (input_ended output_ended : Bool) →
-    (given taken : List ℕ) → gave ≡ Some given → took ≡ Some taken → Ends c acts gave took input_ended →
-    Behind gave input_took behind_gave input_behind input_left input_faults input_ended →
-    Behind output_gave took output_behind behind_took output_left output_faults output_ended →
-    EndsBehind c acts behind_gave behind_took input_left output_faults

@@ -4,6 +4,8 @@ use Rattle.socat_top.specs.Headline.{Leaves}
 use Rattle.socat_top.specs.Tasks.{task}
 use Rattle.socat_top.proofs.Passing.{ends_still, passed_at}
 use Rattle.socat_top.proofs.PassedEnds.{nothing, task_ends}
+use Rattle.socat_top.proofs.EndsBehind.{task_ends_behind}
+use Rattle.stream_ends.proofs.BehindLemmas.{behind_back}
 use Rattle.socat_top.proofs.runs.run.Goals as goal
 
 pub returns-clause-headline : goal.returns-clause-headline
@@ -22,3 +24,9 @@ returns-clause-passed g c = λ before told.
 
 pub returns-clause-ends : goal.returns-clause-ends
 returns-clause-ends g c = λ told. task_ends (task c.args.words.now) c.args.turns _ _ _ _ _ _ (returns-clause-headline g c nothing told) (returns-clause-passed g c nothing told)
+
+pub returns-clause-behind : goal.returns-clause-behind
+returns-clause-behind g c = λ told.
+    task_ends_behind (task c.args.words.now) _ _ _ _ _ _ _ _ _ _ _ _ _ _ _ (returns-clause-ends g c told)
+    (behind_back g.I.Port.gave g.I.Port.took g.I.Port.behind_gave g.I.Port.behind_took g.I.Port.behind_left g.I.Port.behind_faults g.I.Port.ended c.end-standard.result.standard.stdin c.end-standard.ensures.stdin_behind)
+    (behind_back g.O.Port.gave g.O.Port.took g.O.Port.behind_gave g.O.Port.behind_took g.O.Port.behind_left g.O.Port.behind_faults g.O.Port.ended c.end-standard.result.standard.stdout c.end-standard.ensures.stdout_behind)

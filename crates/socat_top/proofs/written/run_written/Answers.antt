@@ -1,4 +1,4 @@
-use Rattle.std.proofs.Common.{◌≡◌, [], Some, IfSome, subst, sym, ◌∙◌}
+use Rattle.std.proofs.Common.{◌≡◌, Some, subst, sym, ◌∙◌}
 use Rattle.relay_model.specs.declared.places.Place.{Place}
 use Rattle.relay_model.specs.Holding.{Free}
 use Rattle.desk_places.specs.Stations.{StationTable, hold_at}
@@ -40,3 +40,11 @@ returns-clause-ends g c = λ told.
 
 pub returns-in_default-clause-ends : goal.returns-in_default-clause-ends
 returns-in_default-clause-ends g c = λ told. rw (c.with_saving.ensures, c.in_default.ensures.1) (c.run.ensures.ends (rw c.in_default.ensures.0 at told))
+
+pub returns-clause-behind : goal.returns-clause-behind
+returns-clause-behind g c = λ told.
+    let begun : c.keep.new.self.log.recording.told ≡ Some nothing = c.keep.ensures.told ∙ (rw c.in-Some.ensures.0 at told) in
+    rw (c.with_saving-2.ensures, c.in-Some.ensures.1) (c.run-shipped.ensures.behind begun)
+
+pub returns-in_default-clause-behind : goal.returns-in_default-clause-behind
+returns-in_default-clause-behind g c = λ told. rw (c.with_saving.ensures, c.in_default.ensures.1) (c.run.ensures.behind (rw c.in_default.ensures.0 at told))
