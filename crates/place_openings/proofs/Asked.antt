@@ -20,7 +20,7 @@ use Rattle.place_openings.specs.OpeningState.{OpeningState}
 use Rattle.place_openings.specs.States.{state_of}
 use Rattle.place_openings.specs.declared.one_place.Opening.{Opening}
 use Rattle.place_openings.specs.Stands.{IsOpening, Each, AreOpenings, tried_at}
-use Rattle.place_openings.specs.Queries.{ready_at, ready_by, first_unready, first_of, held_by, held_at, child_by, peer_by, peer_at, gave_up}
+use Rattle.place_openings.specs.Queries.{ready_at, ready_by, first_unready, first_of, held_by, held_at, child_by, gave_up}
 use Rattle.place_openings.proofs.PlaceLemmas.{same_place_self}
 use Rattle.place_openings.proofs.Tries.{some_left}
 
@@ -305,9 +305,13 @@ pub out_by : (b : Bool) (c : Config) (past : List Act) (p : Place) → is_out_of
 out_by true c past p = refl
 out_by false c past p = refl
 
-pub ready_by_none : (c : Config) (past : List Act) (s : ℕ) (os : List OpeningState) (b : Bool) → AreOpenings c past s os → (r : Option OpeningState) → first_unready os ≡ r → b ≡ is_none r → b ≡ ready c past s
-ready_by_none c past s os b are None e k = k ∙ sym (all_ready c past s os are e).ready_is
-ready_by_none c past s os b are (Some x) e k = k ∙ sym (one_unready c past s os x are e).unready_is
+pub ready_by_none : (c : Config) (past : List Act) (s : ℕ) (os : List OpeningState) → AreOpenings c past s os → (r : Option OpeningState) → first_unready os ≡ r → is_none r ≡ ready c past s
+ready_by_none c past s os are None e = sym (all_ready c past s os are e).ready_is
+ready_by_none c past s os are (Some x) e = sym (one_unready c past s os x are e).unready_is
+
+pub none_is : {T : Type 0} (r : Option T) → is_none r ≡ true → r ≡ None
+none_is None e = refl
+none_is (Some x) e = cc
 
 pub none_by : {T U : Type 0} (f : T → U) (r : Option T) (b : Bool) → is_some r ≡ not b → b ≡ is_none (option_map f r)
 none_by f None true e = refl

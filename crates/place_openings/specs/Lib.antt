@@ -6,5 +6,6 @@ pub mod Queries
 pub mod Stands
 pub mod States
 pub mod Steps
+pub mod Summaries
 pub mod Touching
 pub mod Tried

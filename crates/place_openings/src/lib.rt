@@ -7,6 +7,7 @@ mod one_place;
 mod session_openings;
 mod stages;
 mod steps;
+mod summaries;
 
 pub use calls::{Call, GivenUp};
 pub use session_openings::Openings;

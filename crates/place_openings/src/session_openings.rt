@@ -1,6 +1,6 @@
 // The openings of a session, place by place in opening order.
-ghost use Rattle.std.specs.Prelude.{◌≡◌, ◌<◌, ◌≤◌, ◌||◌, ◌∷◌, ◌++◌, [], ℕ, true, false, List, Option, length, Some, None, option_map, map};
-ghost use Rattle.std.specs.List.{list_any, All};
+ghost use Rattle.std.specs.Prelude.{◌≡◌, ◌<◌, ◌≤◌, ◌||◌, ◌∷◌, ◌++◌, [], ℕ, true, false, List, Option, length, Some, None, map};
+ghost use Rattle.std.specs.List.{All};
 ghost use Rattle.relay_model.specs.declared.places.Place.{Place as At};
 ghost use Rattle.relay_model.specs.declared.readiness.ReadyAt.{ReadyAt as Entry};
 ghost use Rattle.relay_model.specs.declared.commands.Config.{Config as Command};
@@ -19,7 +19,7 @@ ghost use Rattle.relay_model.specs.Openings as calls;
 ghost use Rattle.relay_model.specs.Cause.{listening_failed, opening_failed};
 ghost use Rattle.place_openings.specs.Answers.{as_call};
 ghost use Rattle.place_openings.specs.Moves.{TookEach};
-ghost use Rattle.place_openings.specs.Queries.{first_unready, first_of, held_by, child_by, peer_of_first, gave_up};
+ghost use Rattle.place_openings.specs.Queries.{first_of, held_by, child_by, peer_of_first};
 ghost use Rattle.place_openings.specs.Stands.{Each, AreOpenings, kept};
 ghost use Rattle.place_openings.specs.States.{state_of};
 ghost use Rattle.place_openings.specs.Steps.{has_asked, steps_in};
@@ -29,16 +29,18 @@ ghost use Rattle.relay_model.specs.Readiness.{Listed};
 use crate::calls::Call;
 use crate::one_place::Opening;
 use crate::steps::Step;
+use crate::summaries::{Summary, first_unready};
 use command_places::{place_at, places};
 use relay_model::{Config, Part, Peer, Place, ReadyAt, Side, Why};
 use std::marker::Model;
 
 /// The openings of the places of a session, which are at most four, in opening order. Contracts see them as a list of
-/// states.
+/// states. What is asked before each call is worked out once a step.
 #[derive(Debug, Drop)]
 pub struct Openings {
     items: [Opening; 4],
     count: usize,
+    summary: Summary,
 }
 
 impl Model for Openings {
@@ -48,10 +50,11 @@ impl Model for Openings {
     ghost Value = { List OpeningState };
 
     ghost use Rattle.place_openings.specs.States.{state_of};
+    ghost use Rattle.place_openings.specs.Summaries.{Sums};
 
     ghost view = { λ openings. map state_of (take openings.count openings.items) };
 
-    ghost invariant = { λ openings. openings.count ≤ 4 };
+    ghost invariant = { λ openings. (openings.count ≤ 4) × Sums openings.summary (map state_of (take openings.count openings.items)) };
 }
 
 impl Openings {
@@ -72,6 +75,7 @@ impl Openings {
         Openings {
             items: [filler; 4],
             count: 0,
+            summary: Summary::of(&[]),
         }
     }
 
@@ -81,12 +85,16 @@ impl Openings {
     {
         self.items[self.count] = opening;
         self.count += 1;
+        self.summary = Summary::of(&self.items[..self.count]);
     }
 
     /// What the first place that isn't ready calls for at this moment.
     pub fn call(&self, at: u64) -> Call
         ensures { (c : Command) (past : List Act) (s : ℕ) → AreOpenings c past s self.now → at ≡ moment past → as_call result ≡ first_call c past (places c s) }
     {
+        if self.summary.ready {
+            return Call::Nothing;
+        }
         match first_unready(self.as_slice()) {
             Some(opening) => opening.call(at),
             None => Call::Nothing,
@@ -107,16 +115,14 @@ impl Openings {
     pub fn is_ready(&self) -> bool
         ensures { (c : Command) (past : List Act) (s : ℕ) → AreOpenings c past s self.now → result ≡ ready c past s }
     {
-        first_unready(self.as_slice()).is_none()
+        self.summary.ready
     }
 
     /// Why the session ends, where no try is left at one of its places or doors.
     pub fn given_up(&self) -> Option<Why>
         ensures { (c : Command) (past : List Act) (s : ℕ) → AreOpenings c past s self.now → result ≡ or_else (only_if (listening_failed c past s) whys.ListenFailed) (only_if (opening_failed c past s) whys.OpenFailed) }
     {
-        let listening = some_gave_up(self.as_slice(), true);
-        let opening = some_gave_up(self.as_slice(), false);
-        reason(listening, opening)
+        self.summary.given_up
     }
 
     /// A place or own door of the session that is held.
@@ -277,6 +283,7 @@ impl Openings {
         ensures { TookEach step self.old self.new }
     {
         take_each(&mut self.items[..self.count], step);
+        self.summary = Summary::of(&self.items[..self.count]);
     }
 }
 
@@ -301,18 +308,6 @@ fn take_each(openings: &mut [Opening], step: Step)
     }
 }
 
-fn first_unready(mut openings: &[Opening]) -> Option<&Opening>
-    ensures { option_map (λ o. state_of o.now) result ≡ first_unready (map state_of openings.entry.now) }
-{
-    while let [opening, rest @ ..] = openings {
-        if !opening.is_ready() {
-            return Some(opening);
-        }
-        openings = rest;
-    }
-    None
-}
-
 fn first_held(mut openings: &[Opening]) -> Option<Place>
     ensures { result ≡ first_of held_by (map state_of openings.entry.now) }
 {
@@ -335,28 +330,4 @@ fn first_child(mut openings: &[Opening]) -> Option<Place>
         openings = rest;
     }
     None
-}
-
-fn some_gave_up(openings: &[Opening], has_door: bool) -> bool
-    ensures { (c : Command) (past : List Act) (ps : List At) → Each c past ps (map state_of openings.now) → result ≡ list_any (gave_up c past has_door) ps }
-{
-    for opening in openings {
-        if opening.gave_up(has_door) {
-            return true;
-        }
-    }
-    false
-}
-
-/// Why a session ends where no try is left: a listening comes before an opening.
-fn reason(listening: bool, opening: bool) -> Option<Why>
-    ensures { result ≡ or_else (only_if listening whys.ListenFailed) (only_if opening whys.OpenFailed) }
-{
-    if listening {
-        Some(Why::ListenFailed)
-    } else if opening {
-        Some(Why::OpenFailed)
-    } else {
-        None
-    }
 }

@@ -1,7 +1,12 @@
-use Rattle.std.proofs.Common.{sym, ap, ◌∙◌}
+use Rattle.std.proofs.Common.{sym, ap, is_none, ◌∙◌}
 use Rattle.place_openings.specs.Queries.{first_unready}
-use Rattle.place_openings.proofs.Asked.{all_ready, one_unready}
+use Rattle.place_openings.proofs.Asked.{all_ready, one_unready, none_is}
 use Rattle.place_openings.proofs.session_openings.Openings.call.Goals as goal
+
+pub returns-then-self : goal.returns-then-self
+returns-then-self c = λ cfg past s are now_is.
+    let none = ap (λ os. is_none (first_unready os)) (sym c.self.view_is) ∙ (sym c.self.invariant.1.ready_is ∙ c.if-self.true) in
+    sym (all_ready cfg past s c.args.self.now are (none_is (first_unready c.args.self.now) none)).call_is
 
 pub returns-in-Some : goal.returns-in-Some
 returns-in-Some c = λ cfg past s are now_is.

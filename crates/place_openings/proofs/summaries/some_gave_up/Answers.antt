@@ -1,6 +1,6 @@
 use Rattle.std.proofs.Common.{arith, add-one, refl, sym, ◌∙◌}
 use Rattle.place_openings.proofs.Asked.{found_out, one_less, none_out}
-use Rattle.place_openings.proofs.session_openings.some_gave_up.Goals as goal
+use Rattle.place_openings.proofs.summaries.some_gave_up.Goals as goal
 
 pub loop-opening-init : goal.loop-opening-init
 loop-opening-init c = λ cfg past ps each. record { left = ps; each = each; same = refl }

@@ -1,7 +1,7 @@
 use Rattle.std.proofs.Common.{◌≡◌, length, map}
 use Rattle.place_openings.specs.States.{state_of}
 use Rattle.place_openings.specs.Queries.{first_unready}
-use Rattle.place_openings.proofs.session_openings.first_unready.Given as goal
+use Rattle.place_openings.proofs.summaries.first_unready.Given as goal
 
 abbrev pub invariant-loop-openings : goal.invariant-loop-openings
 invariant-loop-openings l = first_unready (map state_of l.openings) ≡ first_unready (map state_of l.initial.openings)

@@ -1,0 +1,84 @@
+// What is asked of the openings of a session before each call, worked out once a step.
+ghost use Rattle.std.specs.Prelude.{◌≡◌, ℕ, Bool, List, option_map, map, is_none};
+ghost use Rattle.std.specs.List.{list_any};
+ghost use Rattle.relay_model.specs.declared.places.Place.{Place as At};
+ghost use Rattle.relay_model.specs.declared.commands.Config.{Config as Command};
+ghost use Rattle.relay_model.specs.declared.acts.Act.{Act};
+ghost use Rattle.relay_model.specs.declared.acts.Why.TheVariants as whys;
+ghost use Rattle.relay_model.specs.Choices.{only_if, or_else};
+ghost use Rattle.place_openings.specs.Queries.{first_unready, gave_up};
+ghost use Rattle.place_openings.specs.Stands.{Each};
+ghost use Rattle.place_openings.specs.States.{state_of};
+ghost use Rattle.place_openings.specs.Summaries.{EndsBy, Sums};
+
+use crate::one_place::Opening;
+use relay_model::Why;
+
+/// Whether every place is ready, and why the session ends, where no try is left at one of its places or doors.
+#[derive(Clone, Copy, Debug)]
+pub struct Summary {
+    pub ready: bool,
+    pub given_up: Option<Why>,
+}
+
+impl Summary {
+    /// What these openings say.
+    pub fn of(openings: &[Opening]) -> Summary
+        ensures { Sums result (map state_of openings.now) }
+    {
+        Summary {
+            ready: are_ready(openings),
+            given_up: why_given_up(openings),
+        }
+    }
+}
+
+fn are_ready(openings: &[Opening]) -> bool
+    ensures { result ≡ is_none (first_unready (map state_of openings.now)) }
+{
+    first_unready(openings).is_none()
+}
+
+pub fn first_unready(mut openings: &[Opening]) -> Option<&Opening>
+    ensures { option_map (λ o. state_of o.now) result ≡ first_unready (map state_of openings.entry.now) }
+{
+    while let [opening, rest @ ..] = openings {
+        if !opening.is_ready() {
+            return Some(opening);
+        }
+        openings = rest;
+    }
+    None
+}
+
+fn why_given_up(openings: &[Opening]) -> Option<Why>
+    ensures { EndsBy result (map state_of openings.now) }
+{
+    let listening = some_gave_up(openings, true);
+    let opening = some_gave_up(openings, false);
+    reason(listening, opening)
+}
+
+fn some_gave_up(openings: &[Opening], has_door: bool) -> bool
+    ensures { (c : Command) (past : List Act) (ps : List At) → Each c past ps (map state_of openings.now) → result ≡ list_any (gave_up c past has_door) ps }
+{
+    for opening in openings {
+        if opening.gave_up(has_door) {
+            return true;
+        }
+    }
+    false
+}
+
+/// Why a session ends where no try is left: a listening comes before an opening.
+fn reason(listening: bool, opening: bool) -> Option<Why>
+    ensures { result ≡ or_else (only_if listening whys.ListenFailed) (only_if opening whys.OpenFailed) }
+{
+    if listening {
+        Some(Why::ListenFailed)
+    } else if opening {
+        Some(Why::OpenFailed)
+    } else {
+        None
+    }
+}
