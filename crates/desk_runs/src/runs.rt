@@ -68,7 +68,8 @@ fn behind_rings<R>(
 where
     R: Threads + Wait + Copy + Send + Drop + 'static,
 {
-    let (waited, opened) = Gate::pair(run.alloc)?;
+    let waited = Gate::shut(run.alloc)?;
+    let opened = waited.another()?;
     let gate = match input {
         Input::Gated => Some(waited),
         Input::Memory | Input::Ring | Input::Unstarted => None,
