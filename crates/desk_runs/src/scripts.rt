@@ -1,4 +1,4 @@
-// The maker of a script, and what is refused of it.
+// The maker of a script, and the threads that are not started for it.
 use crate::settings::Input;
 use desk_rows::{Look, port_of};
 use port_objects::{MakeItem, MemMaker};
