@@ -22,11 +22,20 @@ pub(crate) struct Gate {
 }
 
 impl Gate {
-    /// Two hands on a gate that is shut.
-    pub(crate) fn pair(alloc: Global) -> Result<(Gate, Gate), NoMemory> {
-        let opened = Arc::new(alloc, AtomicU64::new(0))?;
-        let other = Arc::try_clone(&opened)?;
-        Ok((Gate { opened }, Gate { opened: other }))
+    /// A gate that is shut.
+    pub(crate) fn shut(alloc: Global) -> Result<Gate, NoMemory> {
+        match Arc::new(alloc, AtomicU64::new(0)) {
+            Ok(opened) => Ok(Gate { opened }),
+            Err(_) => Err(NoMemory),
+        }
+    }
+
+    /// Another hand on it.
+    pub(crate) fn another(&self) -> Result<Gate, NoMemory> {
+        match Arc::try_clone(&self.opened) {
+            Ok(opened) => Ok(Gate { opened }),
+            Err(_) => Err(NoMemory),
+        }
     }
 
     fn open(&self) {

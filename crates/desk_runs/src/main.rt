@@ -3,7 +3,6 @@
 // for each row, and the status is 1 where one of them doesn't fit or isn't understood.
 #![tactic(auto)]
 
-mod desks;
 mod gates;
 mod runs;
 mod scripts;

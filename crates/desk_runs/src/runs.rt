@@ -1,8 +1,8 @@
 // The runs of a row, over the ports that it asks for.
-use crate::desks::{Look, ROOM, Run, Streams, carried_out};
 use crate::gates::{Gate, GatedSource, NoWake, OpeningSink};
-use crate::scripts::{maker_of, port_of, refused_of, source_of};
+use crate::scripts::{ROOM, maker_of, refused_of};
 use crate::settings::{Input, Output, Setting};
+use desk_rows::{Look, Run, Streams, carried_out, port_of, source_of};
 use port_objects::{ListSpawner, MemPoller, MemPort, MemSink};
 use relay_model::{Side, Text};
 use std::alloc::Global;
@@ -25,13 +25,7 @@ where
     let setting = Setting::of(row)?;
     let mut runs = Vec::new(alloc);
     for recorder in [Recorder::Skip, Recorder::Keep] {
-        let run = Run {
-            alloc,
-            words,
-            turns: row.turns,
-            room: row.room,
-            recorder,
-        };
+        let run = Run::of(alloc, row, words, recorder);
         runs.push(run_once(rt, run, row, setting)?)?;
     }
     Ok(runs)
@@ -74,7 +68,8 @@ fn behind_rings<R>(
 where
     R: Threads + Wait + Copy + Send + Drop + 'static,
 {
-    let (waited, opened) = Gate::pair(run.alloc)?;
+    let waited = Gate::shut(run.alloc)?;
+    let opened = waited.another()?;
     let gate = match input {
         Input::Gated => Some(waited),
         Input::Memory | Input::Ring | Input::Unstarted => None,
