@@ -19,7 +19,7 @@ use Rattle.relay_model.specs.Cause.{listening_failed, opening_failed}
 use Rattle.place_openings.specs.OpeningState.{OpeningState}
 use Rattle.place_openings.specs.States.{state_of}
 use Rattle.place_openings.specs.declared.one_place.Opening.{Opening}
-use Rattle.place_openings.specs.Stands.{IsOpening, Each, AreOpenings, tried_at}
+use Rattle.place_openings.specs.Stands.{IsOpening, IsTried, Each, EachTried, AreOpenings, tried_at}
 use Rattle.place_openings.specs.Queries.{ready_at, ready_by, first_unready, first_of, held_by, held_at, child_by, gave_up}
 use Rattle.place_openings.proofs.PlaceLemmas.{same_place_self}
 use Rattle.place_openings.proofs.Tries.{some_left}
@@ -240,36 +240,36 @@ some_held c past s os q are e =
 -- the places that are left, after some that have tries
 pub record NotBefore (c : Config) (past : List Act) (has_door : Bool) (ps : List Place) (os : List OpeningState) : Type 0 where
   pub left : List Place
-  pub each : Each c past left os
+  pub each : EachTried c past left os
   pub same : list_any (gave_up c past has_door) ps ≡ list_any (gave_up c past has_door) left
 
-some_before : (c : Config) (past : List Act) (has_door : Bool) (ps left : List Place) (o : OpeningState) (os : List OpeningState) → Each c past left (o ∷ os) → list_any (gave_up c past has_door) ps ≡ list_any (gave_up c past has_door) left → ((p : Place) → IsOpening c past p o → true ≡ gave_up c past has_door p) → true ≡ list_any (gave_up c past has_door) ps
+some_before : (c : Config) (past : List Act) (has_door : Bool) (ps left : List Place) (o : OpeningState) (os : List OpeningState) → EachTried c past left (o ∷ os) → list_any (gave_up c past has_door) ps ≡ list_any (gave_up c past has_door) left → ((p : Place) → IsTried c past p o → true ≡ gave_up c past has_door p) → true ≡ list_any (gave_up c past has_door) ps
 some_before c past has_door ps [] o os each same out = absurd each
 some_before c past has_door ps (p ∷ left) o os each same out = sym (same ∙ rw (← out p each.0) refl)
 
-none_before : (c : Config) (past : List Act) (has_door : Bool) (ps left : List Place) (o : OpeningState) (os : List OpeningState) → Each c past left (o ∷ os) → list_any (gave_up c past has_door) ps ≡ list_any (gave_up c past has_door) left → ((p : Place) → IsOpening c past p o → false ≡ gave_up c past has_door p) → NotBefore c past has_door ps os
+none_before : (c : Config) (past : List Act) (has_door : Bool) (ps left : List Place) (o : OpeningState) (os : List OpeningState) → EachTried c past left (o ∷ os) → list_any (gave_up c past has_door) ps ≡ list_any (gave_up c past has_door) left → ((p : Place) → IsTried c past p o → false ≡ gave_up c past has_door p) → NotBefore c past has_door ps os
 none_before c past has_door ps [] o os each same out = absurd each
 none_before c past has_door ps (p ∷ left) o os each same out =
     record { left = left; each = each.1; same = same ∙ rw (← out p each.0) refl }
 
-none_after : (c : Config) (past : List Act) (has_door : Bool) (ps left : List Place) → Each c past left [] → list_any (gave_up c past has_door) ps ≡ list_any (gave_up c past has_door) left → false ≡ list_any (gave_up c past has_door) ps
+none_after : (c : Config) (past : List Act) (has_door : Bool) (ps left : List Place) → EachTried c past left [] → list_any (gave_up c past has_door) ps ≡ list_any (gave_up c past has_door) left → false ≡ list_any (gave_up c past has_door) ps
 none_after c past has_door ps [] each same = sym same
 none_after c past has_door ps (p ∷ left) each same = absurd each
 
 pub next_is : (xs : List Opening) (i : ℕ) (x : Opening) → i < length xs → x ≡ get_or xs i x → map state_of (drop i xs) ≡ (state_of x ∷ map state_of (drop (suc i) xs))
 next_is xs i x lt e = ap (map state_of) (drop-cons xs i x lt) ∙ ap (λ y. state_of y ∷ map state_of (drop (suc i) xs)) (sym e)
 
-pub found_out : (c : Config) (past : List Act) (has_door : Bool) (ps : List Place) (xs : List Opening) (i : ℕ) (x : Opening) → i < length xs → x ≡ get_or xs i x → NotBefore c past has_door ps (map state_of (drop i xs)) → ((p : Place) → IsOpening c past p (state_of x) → true ≡ gave_up c past has_door p) → true ≡ list_any (gave_up c past has_door) ps
+pub found_out : (c : Config) (past : List Act) (has_door : Bool) (ps : List Place) (xs : List Opening) (i : ℕ) (x : Opening) → i < length xs → x ≡ get_or xs i x → NotBefore c past has_door ps (map state_of (drop i xs)) → ((p : Place) → IsTried c past p (state_of x) → true ≡ gave_up c past has_door p) → true ≡ list_any (gave_up c past has_door) ps
 found_out c past has_door ps xs i x lt e n out =
-    some_before c past has_door ps n.left (state_of x) (map state_of (drop (suc i) xs)) (subst (Each c past n.left) (next_is xs i x lt e) n.each) n.same out
+    some_before c past has_door ps n.left (state_of x) (map state_of (drop (suc i) xs)) (subst (EachTried c past n.left) (next_is xs i x lt e) n.each) n.same out
 
-pub one_less : (c : Config) (past : List Act) (has_door : Bool) (ps : List Place) (xs : List Opening) (i : ℕ) (x : Opening) → i < length xs → x ≡ get_or xs i x → NotBefore c past has_door ps (map state_of (drop i xs)) → ((p : Place) → IsOpening c past p (state_of x) → false ≡ gave_up c past has_door p) → NotBefore c past has_door ps (map state_of (drop (suc i) xs))
+pub one_less : (c : Config) (past : List Act) (has_door : Bool) (ps : List Place) (xs : List Opening) (i : ℕ) (x : Opening) → i < length xs → x ≡ get_or xs i x → NotBefore c past has_door ps (map state_of (drop i xs)) → ((p : Place) → IsTried c past p (state_of x) → false ≡ gave_up c past has_door p) → NotBefore c past has_door ps (map state_of (drop (suc i) xs))
 one_less c past has_door ps xs i x lt e n out =
-    none_before c past has_door ps n.left (state_of x) (map state_of (drop (suc i) xs)) (subst (Each c past n.left) (next_is xs i x lt e) n.each) n.same out
+    none_before c past has_door ps n.left (state_of x) (map state_of (drop (suc i) xs)) (subst (EachTried c past n.left) (next_is xs i x lt e) n.each) n.same out
 
 pub none_out : (c : Config) (past : List Act) (has_door : Bool) (ps : List Place) (xs : List Opening) (i : ℕ) → length xs ≤ i → NotBefore c past has_door ps (map state_of (drop i xs)) → false ≡ list_any (gave_up c past has_door) ps
 none_out c past has_door ps xs i le n =
-    none_after c past has_door ps n.left (subst (Each c past n.left) (ap (map state_of) (drop_all i xs le)) n.each) n.same
+    none_after c past has_door ps n.left (subst (EachTried c past n.left) (ap (map state_of) (drop_all i xs le)) n.each) n.same
 
 door_gave_up : (b : Bool) (c : Config) (past : List Act) (p : Place) → (same_bool b true && out_of_tries c past (tried_at b p)) ≡ (b && out_of_tries c past (door_of p))
 door_gave_up true c past p = refl
@@ -290,7 +290,7 @@ pub place_gave_up : (b : Bool) (c : Config) (past : List Act) (p : Place) → (b
 place_gave_up true c past p none = sym (none refl)
 place_gave_up false c past p none = refl
 
-places_gave_up : (c : Config) (past : List Act) (ps : List Place) (os : List OpeningState) → Each c past ps os → list_any (gave_up c past false) ps ≡ list_any (out_of_tries c past) ps
+places_gave_up : (c : Config) (past : List Act) (ps : List Place) (os : List OpeningState) → EachTried c past ps os → list_any (gave_up c past false) ps ≡ list_any (out_of_tries c past) ps
 places_gave_up c past [] [] each = refl
 places_gave_up c past [] (o ∷ os) each = absurd each
 places_gave_up c past (p ∷ ps) [] each = absurd each
@@ -298,8 +298,8 @@ places_gave_up c past (p ∷ ps) (o ∷ os) each =
     let i = each.0 in
     rw (place_gave_up (has_own_door c p) c past p (λ h. no_failures c past p (i.untried (i.listens_is ∙ (and_parts (listens_at c p) _ h).0))), places_gave_up c past ps os each.1) refl
 
-pub places_are_out : (c : Config) (past : List Act) (s : ℕ) (os : List OpeningState) → AreOpenings c past s os → list_any (gave_up c past false) (places c s) ≡ opening_failed c past s
-places_are_out c past s os are = places_gave_up c past (places c s) os are.each
+pub places_are_out : (c : Config) (past : List Act) (s : ℕ) (os : List OpeningState) → EachTried c past (places c s) os → list_any (gave_up c past false) (places c s) ≡ opening_failed c past s
+places_are_out c past s os each = places_gave_up c past (places c s) os each
 
 pub out_by : (b : Bool) (c : Config) (past : List Act) (p : Place) → is_out_of_tries (options_of c p).tries.retry (options_of c p).tries.forever (failures past (tried_at b p)) ≡ out_of_tries c past (tried_at b p)
 out_by true c past p = refl

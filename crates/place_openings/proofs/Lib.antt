@@ -9,3 +9,4 @@ pub mod Called
 pub mod Staying
 pub mod Beginning
 pub mod GivingUp
+pub mod Summing

@@ -10,6 +10,7 @@ use Rattle.relay_model.specs.Places.{same_place}
 use Rattle.relay_model.specs.Configs.{listens_at}
 use Rattle.relay_model.specs.History.{now, holds_at}
 use Rattle.place_openings.specs.OpeningState.{OpeningState}
+use Rattle.place_openings.specs.Queries.{ready_by}
 use Rattle.place_openings.specs.Stands.{kept, IsOpening}
 use Rattle.place_openings.specs.Steps.{stage_weight, steps_of, is_place, is_own_door, asks_child, asked_by}
 use Rattle.place_openings.specs.declared.steps.Step.{Step}
@@ -118,12 +119,29 @@ abbrev pub asks_at : Step → Place → Bool
 asks_at (Reaped q) p = same_place q p
 asks_at step p = false
 
+-- the step moves no stage, and no try failed by it
+abbrev pub is_still : Step → Bool
+is_still (NoPeer d) = true
+is_still (AcceptFailed d) = true
+is_still (Reaped q) = true
+is_still Woken = true
+is_still (Named entry) = true
+is_still step = false
+
+-- an opening is as ready as before, and was tried as often
+pub record Alike (old new : OpeningState) : Type 0 where
+  pub ready_is : ready_by new ≡ ready_by old
+  pub listens_is : new.listens ≡ old.listens
+  pub has_door_is : new.has_door ≡ old.has_door
+  pub plan_is : new.plan ≡ old.plan
+
 -- what a step makes of one opening
 pub record Took (step : Step) (old new : OpeningState) : Type 0 where
   pub goes : (c : Config) (past later : List Act) (p : Place) → Follows c step past later → IsOpening c past p old → IsOpening c later p new
   pub apart : Apart step old → new ≡ old
   pub fewer : Lower step old → steps_of new < steps_of old
   pub asked : (p : Place) → asked_by p new ≡ true → (asked_by p old || asks_at step p) ≡ true
+  pub still : is_still step ≡ true → Alike old new
 
 -- and of each of these
 abbrev pub TookEach : Step → List OpeningState → List OpeningState → Type 0

@@ -51,6 +51,20 @@ Each c past (p ∷ ps) (o ∷ os) = IsOpening c past p o × Each c past ps os
 pub record AreOpenings (c : Config) (past : List Act) (s : ℕ) (os : List OpeningState) : Type 0 where
   pub each : Each c past (places c s) os
 
+-- an opening says of the tries at its place what the acts say
+pub record IsTried (c : Config) (past : List Act) (p : Place) (o : OpeningState) : Type 0 where
+  pub listens_is : o.listens ≡ listens_at c p
+  pub has_door_is : o.has_door ≡ has_own_door c p
+  pub tries_are : PlanIs (options_of c p).tries.retry (options_of c p).tries.forever (options_of c p).tries.interval (failures past (tried_at o.has_door p)) o.plan
+  pub untried : o.listens ≡ true → failures past p ≡ []
+
+-- the openings of these places say so, in their order
+abbrev pub EachTried : Config → List Act → List Place → List OpeningState → Type 0
+EachTried c past [] [] = Unit {0}
+EachTried c past [] (o ∷ os) = ⊥
+EachTried c past (p ∷ ps) [] = ⊥
+EachTried c past (p ∷ ps) (o ∷ os) = IsTried c past p o × EachTried c past ps os
+
 -- what a turn names, as a list of acts keeps it
 abbrev pub kept : List ReadyAt → Listed
 kept entries = record { entries = entries; room = 0 }

@@ -1,23 +1,25 @@
--- What is worked out of the openings of a session after each step.
+-- What is worked out of the openings of a session at the steps that may change it.
 use Rattle.std.specs.Prelude.{◌≡◌, ℕ, List, Option, is_none}
 use Rattle.relay_model.specs.declared.commands.Config.{Config}
 use Rattle.relay_model.specs.declared.acts.Act.{Act}
 use Rattle.relay_model.specs.declared.acts.Why.{Why}
 use Rattle.relay_model.specs.declared.acts.Why.TheVariants as whys
 use Rattle.relay_model.specs.Choices.{only_if, or_else}
+use Rattle.relay_model.specs.Configs.{places}
 use Rattle.relay_model.specs.Cause.{listening_failed, opening_failed}
 use Rattle.place_openings.specs.OpeningState.{OpeningState}
 use Rattle.place_openings.specs.Queries.{first_unready}
-use Rattle.place_openings.specs.Stands.{AreOpenings}
+use Rattle.place_openings.specs.Stands.{EachTried}
 use Rattle.place_openings.specs.declared.summaries.Summary.{Summary}
 
 -- why the session ends, where no try is left at one of its places or doors
 abbrev pub why_given_up : Config → List Act → ℕ → Option Why
 why_given_up c past s = or_else (only_if (listening_failed c past s) whys.ListenFailed) (only_if (opening_failed c past s) whys.OpenFailed)
 
--- the answer is why a session with these openings ends, where no try is left
+-- the answer is why a session with these openings ends, where no try is left; of their places they need to say no more
+-- than what was tried there
 abbrev pub EndsBy : Option Why → List OpeningState → Type 0
-EndsBy given_up os = (c : Config) (past : List Act) (s : ℕ) → AreOpenings c past s os → given_up ≡ why_given_up c past s
+EndsBy given_up os = (c : Config) (past : List Act) (s : ℕ) → EachTried c past (places c s) os → given_up ≡ why_given_up c past s
 
 -- a summary tells whether every one of these is ready, and why the session ends, where no try is left
 pub record Sums (summary : Summary) (os : List OpeningState) : Type 0 where

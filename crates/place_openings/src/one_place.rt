@@ -14,8 +14,9 @@ ghost use Rattle.relay_model.specs.Tries.{is_out_of_tries};
 ghost use Rattle.relay_model.specs.Openings.{opening_call, listening_call, peer_call, place_call};
 ghost use Rattle.retry_plan.specs.Plans.{PlanIs};
 ghost use Rattle.place_openings.specs.Answers.{as_stage, as_call};
+ghost use Rattle.place_openings.specs.Moves.{Alike};
 ghost use Rattle.place_openings.specs.Queries.{ready_by, held_by, child_by, peer_by, gave_up};
-ghost use Rattle.place_openings.specs.Stands.{IsOpening, kept, tried_at};
+ghost use Rattle.place_openings.specs.Stands.{IsOpening, IsTried, kept, tried_at};
 ghost use Rattle.place_openings.specs.States.{state_of};
 ghost use Rattle.place_openings.specs.Steps.{stage_weight, steps_of, is_place, is_own_door, asks_child, asked_by};
 ghost use Rattle.place_openings.specs.Tried.{try_call, call_by, is_end_of_tries};
@@ -101,7 +102,7 @@ impl Opening {
 
     /// Whether the place has an own door, or has none, as it is asked for, and no try is left there.
     pub fn gave_up(&self, has_door: bool) -> bool
-        ensures { (c : Command) (past : List Act) (p : At) → IsOpening c past p (state_of self.now) → result ≡ gave_up c past has_door p }
+        ensures { (c : Command) (past : List Act) (p : At) → IsTried c past p (state_of self.now) → result ≡ gave_up c past has_door p }
     {
         both(is_same(self.has_door, has_door), self.gives_up())
     }
@@ -303,6 +304,7 @@ impl Opening {
         ensures apart { is_place door (state_of self.old) ≡ false → is_own_door door (state_of self.old) ≡ false → state_of self.new ≡ state_of self.old }
         ensures fewer { is_place door (state_of self.old) ≡ false → is_own_door door (state_of self.old) ≡ true → self.old.asked ≡ false → steps_of (state_of self.new) < steps_of (state_of self.old) }
         ensures asked { (p : At) → asked_by p (state_of self.new) ≡ asked_by p (state_of self.old) }
+        ensures still { Alike (state_of self.old) (state_of self.new) }
     {
         let is_here = self.is_own_door(door);
         self.armed = self.armed && !is_here;
@@ -315,6 +317,7 @@ impl Opening {
         ensures apart { is_place door (state_of self.old) ≡ false → is_own_door door (state_of self.old) ≡ false → state_of self.new ≡ state_of self.old }
         ensures fewer { is_place door (state_of self.old) ≡ false → is_own_door door (state_of self.old) ≡ true → self.old.asked ≡ false → steps_of (state_of self.new) < steps_of (state_of self.old) }
         ensures asked { (p : At) → asked_by p (state_of self.new) ≡ asked_by p (state_of self.old) }
+        ensures still { Alike (state_of self.old) (state_of self.new) }
     {
         self.asked = either(self.is_own_door(door), self.asked);
     }
@@ -339,6 +342,7 @@ impl Opening {
         ensures apart { asks_child place (state_of self.old) ≡ false → state_of self.new ≡ state_of self.old }
         ensures fewer { asks_child place (state_of self.old) ≡ true → steps_of (state_of self.new) < steps_of (state_of self.old) }
         ensures asked { (p : At) → asked_by p (state_of self.new) ≡ true → (asked_by p (state_of self.old) || same_place place p) ≡ true }
+        ensures still { Alike (state_of self.old) (state_of self.new) }
     {
         self.asked_child = self.asked_child || place.is(self.place);
     }
@@ -347,6 +351,7 @@ impl Opening {
     pub fn woken(&mut self)
         ensures goes { (c : Command) (past : List Act) (p : At) (until : Option ℕ) (at : ℕ) → IsOpening c past p (state_of self.old) → IsOpening c (acts.Turn until at (kept []) false ∷ past) p (state_of self.new) }
         ensures asked { (p : At) → asked_by p (state_of self.new) ≡ asked_by p (state_of self.old) }
+        ensures still { Alike (state_of self.old) (state_of self.new) }
     {
         self.asked = false;
         self.tried = false;
@@ -356,6 +361,7 @@ impl Opening {
     pub fn named(&mut self, entry: ReadyAt)
         ensures goes { (c : Command) (past : List Act) (p : At) (until : Option ℕ) (at : ℕ) (names : List Entry) → IsOpening c (acts.Turn until at (kept names) false ∷ past) p (state_of self.old) → IsOpening c (acts.Turn until at (kept (names ++ entry ∷ [])) false ∷ past) p (state_of self.new) }
         ensures asked { (p : At) → asked_by p (state_of self.new) ≡ asked_by p (state_of self.old) }
+        ensures still { Alike (state_of self.old) (state_of self.new) }
     {
         let is_armed = both(self.is_own_door(entry.place), is_to_read(entry.half));
         self.woken = either(self.woken, entry.place.is(self.place));

@@ -35,7 +35,7 @@ use relay_model::{Config, Part, Peer, Place, ReadyAt, Side, Why};
 use std::marker::Model;
 
 /// The openings of the places of a session, which are at most four, in opening order. Contracts see them as a list of
-/// states. What is asked before each call is worked out once a step.
+/// states. What is asked before each call is worked out at the steps that may change it.
 #[derive(Debug, Drop)]
 pub struct Openings {
     items: [Opening; 4],
@@ -283,7 +283,7 @@ impl Openings {
         ensures { TookEach step self.old self.new }
     {
         take_each(&mut self.items[..self.count], step);
-        self.summary = Summary::of(&self.items[..self.count]);
+        self.summary = self.summary.after(step, &self.items[..self.count]);
     }
 }
 

@@ -3,7 +3,7 @@ ghost use Rattle.std.specs.Prelude.{◌≡◌, ◌<◌, ◌||◌, true, List};
 ghost use Rattle.relay_model.specs.declared.places.Place.{Place as At};
 ghost use Rattle.relay_model.specs.declared.commands.Config.{Config as Command};
 ghost use Rattle.relay_model.specs.declared.acts.Act.{Act};
-ghost use Rattle.place_openings.specs.Moves.{Follows, Apart, Lower, asks_at};
+ghost use Rattle.place_openings.specs.Moves.{Follows, Apart, Lower, Alike, asks_at, is_still};
 ghost use Rattle.place_openings.specs.Stands.{IsOpening};
 ghost use Rattle.place_openings.specs.States.{state_of};
 ghost use Rattle.place_openings.specs.Steps.{asked_by, steps_of};
@@ -28,6 +28,22 @@ pub enum Step {
     Named(ReadyAt),
 }
 
+impl Step {
+    /// Whether it moves no stage, and no try failed by it.
+    pub fn is_still(self) -> bool
+        ensures { result ≡ is_still self }
+    {
+        match self {
+            Step::NoPeer(_)
+            | Step::AcceptFailed(_)
+            | Step::Reaped(_)
+            | Step::Woken
+            | Step::Named(_) => true,
+            _ => false,
+        }
+    }
+}
+
 impl Opening {
     /// The step, as far as it is at this place or its door.
     pub fn take(&mut self, step: Step)
@@ -35,6 +51,7 @@ impl Opening {
         ensures apart { Apart step (state_of self.old) → state_of self.new ≡ state_of self.old }
         ensures fewer { Lower step (state_of self.old) → steps_of (state_of self.new) < steps_of (state_of self.old) }
         ensures asked { (p : At) → asked_by p (state_of self.new) ≡ true → (asked_by p (state_of self.old) || asks_at step p) ≡ true }
+        ensures still { is_still step ≡ true → Alike (state_of self.old) (state_of self.new) }
     {
         match step {
             Step::Opened(place) => self.opened(place),

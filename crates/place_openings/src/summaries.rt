@@ -1,4 +1,4 @@
-// What is asked of the openings of a session before each call, worked out once a step.
+// What is asked of the openings of a session before each call, worked out at the steps that may change it.
 ghost use Rattle.std.specs.Prelude.{◌≡◌, ℕ, Bool, List, option_map, map, is_none};
 ghost use Rattle.std.specs.List.{list_any};
 ghost use Rattle.relay_model.specs.declared.places.Place.{Place as At};
@@ -6,12 +6,15 @@ ghost use Rattle.relay_model.specs.declared.commands.Config.{Config as Command};
 ghost use Rattle.relay_model.specs.declared.acts.Act.{Act};
 ghost use Rattle.relay_model.specs.declared.acts.Why.TheVariants as whys;
 ghost use Rattle.relay_model.specs.Choices.{only_if, or_else};
+ghost use Rattle.place_openings.specs.Moves.{TookEach};
+ghost use Rattle.place_openings.specs.OpeningState.{OpeningState};
 ghost use Rattle.place_openings.specs.Queries.{first_unready, gave_up};
-ghost use Rattle.place_openings.specs.Stands.{Each};
+ghost use Rattle.place_openings.specs.Stands.{EachTried};
 ghost use Rattle.place_openings.specs.States.{state_of};
 ghost use Rattle.place_openings.specs.Summaries.{EndsBy, Sums};
 
 use crate::one_place::Opening;
+use crate::steps::Step;
 use relay_model::Why;
 
 /// Whether every place is ready, and why the session ends, where no try is left at one of its places or doors.
@@ -29,6 +32,17 @@ impl Summary {
         Summary {
             ready: are_ready(openings),
             given_up: why_given_up(openings),
+        }
+    }
+
+    /// What these openings say after the step, where this is what they said before it.
+    pub fn after(self, step: Step, openings: &[Opening]) -> Summary
+        ensures { (os : List OpeningState) → Sums self os → TookEach step os (map state_of openings.now) → Sums result (map state_of openings.now) }
+    {
+        if step.is_still() {
+            self
+        } else {
+            Summary::of(openings)
         }
     }
 }
@@ -60,7 +74,7 @@ fn why_given_up(openings: &[Opening]) -> Option<Why>
 }
 
 fn some_gave_up(openings: &[Opening], has_door: bool) -> bool
-    ensures { (c : Command) (past : List Act) (ps : List At) → Each c past ps (map state_of openings.now) → result ≡ list_any (gave_up c past has_door) ps }
+    ensures { (c : Command) (past : List Act) (ps : List At) → EachTried c past ps (map state_of openings.now) → result ≡ list_any (gave_up c past has_door) ps }
 {
     for opening in openings {
         if opening.gave_up(has_door) {
