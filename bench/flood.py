@@ -1,7 +1,7 @@
 #!/usr/bin/env python3
 """Measures many TCP streams at once through `TCP4-LISTEN,fork TCP4`, to the right, to the left, beside Debian's socat where
-it is installed, in turn: the rate of all together, and the processor time of the relay. Both ends are those of flood.c,
-which is compiled first. It uses the loopback alone.
+it is installed and a bare loop, in turn: the rate of all together, and the processor time of the relay. Both ends are
+those of flood.c, and the loop is bare.c; they are compiled first. It uses the loopback alone.
 
 flood.py PROGRAM
 ROUNDS (3), STREAMS (8) and MIB of each (256) change what is run. 1 MB is 1,000,000 bytes.
@@ -19,10 +19,16 @@ STREAMS = int(os.environ.get("STREAMS", 8))
 BYTES = int(os.environ.get("MIB", 256)) << 20
 
 
+def words_of(program, port, back):
+    if os.path.basename(program) == "bare":
+        return [program, "many", str(port), str(back)]
+    return [program, "-t10", f"TCP4-LISTEN:{port},reuseaddr,fork", f"TCP4:{HERE}:{back}"]
+
+
 def flow(flood, program, far, part):
     """Megabytes a second of all streams, and seconds of the relay's processor time for a GiB."""
     port = free_port()
-    relay = started([program, "-t10", f"TCP4-LISTEN:{port},reuseaddr,fork", f"TCP4:{HERE}:{far.port}"], port)
+    relay = started(words_of(program, port, far.port), port)
     words = [flood, "near", part, str(port), str(STREAMS), str(BYTES)]
     said = subprocess.run(words, stdout=subprocess.PIPE, check=True, timeout=120).stdout.split()
     passed, micros = map(int, said)
@@ -32,29 +38,43 @@ def flow(flood, program, far, part):
     return passed / micros, seconds * (1 << 30) / passed
 
 
+def compiled(compiler, folder, name):
+    program = os.path.join(folder, name)
+    source = os.path.join(os.path.dirname(os.path.abspath(__file__)), f"{name}.c")
+    subprocess.run([compiler, "-O2", "-o", program, source], check=True)
+    return program
+
+
+def report(way, figures):
+    """A line of the rates and processor times, with their ratios to socat's where that is there."""
+    line = f"{STREAMS} streams to the {way}:"
+    for name, (rate, spent) in figures.items():
+        line += f" {name} {rate:.0f} MB/s, {spent:.2f} s/GiB"
+        if "socat" in figures and name != "socat":
+            line += f" ({rate / figures['socat'][0]:.2f}, {spent / figures['socat'][1]:.2f})"
+        line += ";"
+    print(line.rstrip(";"), flush=True)
+
+
 def main(program):
     compiler = shutil.which("cc") or shutil.which("gcc") or shutil.which("clang")
     if not compiler:
         return print("all is skipped: there is no C compiler")
     theirs = shutil.which("socat")
-    programs = [program] + ([theirs] if theirs and os.path.realpath(theirs) != program else [])
+    programs = {"ours": program}
+    if theirs and os.path.realpath(theirs) != program:
+        programs["socat"] = theirs
     with tempfile.TemporaryDirectory() as folder:
-        flood = os.path.join(folder, "flood")
-        source = os.path.join(os.path.dirname(os.path.abspath(__file__)), "flood.c")
-        subprocess.run([compiler, "-O2", "-o", flood, source], check=True)
+        flood = compiled(compiler, folder, "flood")
+        programs["bare loop"] = compiled(compiler, folder, "bare")
         for way, part, other in (("right", "give", "take"), ("left", "take", "give")):
             far = Tool(flood, "far", other, str(BYTES))
             seen = {name: [] for name in programs}
             for _ in range(ROUNDS):
-                for name in programs:
-                    seen[name].append(flow(flood, name, far, part))
+                for name, relay in programs.items():
+                    seen[name].append(flow(flood, relay, far, part))
             far.end()
-            figures = [(median([it[0] for it in runs]), median([it[1] for it in runs])) for runs in seen.values()]
-            line = f"{STREAMS} streams to the {way}: ours {figures[0][0]:.0f} MB/s, {figures[0][1]:.2f} s/GiB"
-            if len(figures) > 1:
-                rate, spent = figures[1]
-                line += f", socat {rate:.0f} MB/s, {spent:.2f} s/GiB, ratios {figures[0][0] / rate:.2f}, {figures[0][1] / spent:.2f}"
-            print(line, flush=True)
+            report(way, {name: tuple(median([it[at] for it in runs]) for at in (0, 1)) for name, runs in seen.items()})
 
 
 if __name__ == "__main__":
