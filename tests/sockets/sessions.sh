@@ -23,10 +23,10 @@ ended relay 0 '' ''
 await server
 finish
 
-begin "20 clients at once, with a journal"
+begin "200 clients at once, with a journal"
 given_nothing
-start relay -t10 TCP4-LISTEN:0,fork,stop-after=20 PIPE
-crowd '20 had their own' tcp4 "@${pids[relay]}" 20 echo=5000
+start relay -t10 TCP4-LISTEN:0,fork,stop-after=200 PIPE
+crowd '200 had their own' tcp4 "@${pids[relay]}" 200 echo=5000
 ended relay 0 '' ''
 finish
 
@@ -38,6 +38,38 @@ for count in 1 2 50; do
     ended relay 0 '' ''
     finish
 done
+
+begin "a range with fork: who isn't in it is closed, and isn't counted"
+given_nothing
+UNAUDITED=yes start relay -t10 TCP4-LISTEN:0,fork,range=127.0.0.1/32,stop-after=20 PIPE
+listens relay tcp4
+at="$port"
+peer connect tcp4 "/$at" from=127.0.0.2 knocks=20
+told 1 '20 gone\n'
+lives relay
+crowd '19 had their own' tcp4 "$at" 19 echo=1000
+peer connect tcp4 "/$at" from=127.0.0.2 gone
+told 2 'gone\n'
+crowd '1 had their own' tcp4 "$at" 1
+ended relay 0 '' ''
+finish
+
+begin "clients that never read, and clients that never write, hold nobody up"
+given_nothing
+UNAUDITED=yes start relay -t10 TCP4-LISTEN:0,fork PIPE
+listens relay tcp4
+at="$port"
+for number in 1 2 3; do
+    start_peer connect tcp4 "/$at" fill=100000000
+    start_peer connect tcp4 "/$at" read
+done
+nap 0.5
+crowd '50 had their own' tcp4 "$at" 50
+for number in {1..6}; do
+    lives "peer$number"
+done
+lives relay
+finish
 
 begin "500 clients that connect and leave, and then one that talks"
 given_nothing
@@ -77,6 +109,37 @@ ulimit -Sn 64
 UNAUDITED=yes start relay -t30 TCP4-LISTEN:0,fork PIPE
 ulimit -Sn "$ulimit_now"
 crowd '200 had their own' tcp4 "@${pids[relay]}" 200 echo=1000
+lives relay
+finish
+
+# ticks TAG: the processor time of the relay, in hundredths of a second.
+ticks() {
+    local rest fields
+    rest="$(<"/proc/${pids[$1]}/stat")"
+    # shellcheck disable=SC2206
+    fields=(${rest##*) })
+    echo "$((fields[11] + fields[12]))"
+}
+
+begin "where descriptors run out it waits and isn't busy"
+given_nothing
+ulimit_now="$(ulimit -Sn)"
+ulimit -Sn 64
+UNAUDITED=yes start relay -t30 TCP4-LISTEN:0,fork PIPE
+ulimit -Sn "$ulimit_now"
+listens relay tcp4
+for number in {1..70}; do
+    start_peer connect tcp4 "/$port" send=x read=1 read
+done
+for number in {1..70}; do
+    told_port "$number"
+done
+nap 1
+[ "$(descriptors relay)" -ge 60 ] || wrong "it holds $(descriptors relay) descriptors"
+spent="$(ticks relay)"
+nap 2
+spent=$(($(ticks relay) - spent))
+[ "$spent" -le 20 ] || wrong "it took $spent hundredths of a second in 2 s"
 lives relay
 finish
 
@@ -129,14 +192,18 @@ both_in_turn -v "$(ways 2 0 1 ab && ways 2 0 1 c && ways 1 2 2 d && ways 2 2 3 '
 begin_own "-x with fork: each session counts its own bytes"
 both_in_turn -x "$(ways 2 0 1 ' 61 62' && ways 2 0 1 ' 63 0a' && ways 1 2 2 ' 64' && ways 2 2 3 ' 5c 09')"
 
-begin "SIGTERM ends it with 50 sessions"
+begin "SIGTERM ends it with 100 sessions"
 given_nothing
 UNAUDITED=yes start relay TCP4-LISTEN:0,fork PIPE
 listens relay tcp4
-for ((number = 1; number <= 50; number++)); do
+for number in {1..100}; do
     start_peer connect tcp4 "/$port" send=x read=1 read
 done
+for number in {1..100}; do
+    told_port "$number"
+done
 nap 1
+[ "$(descriptors relay)" -ge 100 ] || wrong "it holds $(descriptors relay) descriptors"
 terminate relay
 await relay
 [ "$status" -eq 143 ] || wrong "status $status"
