@@ -180,7 +180,8 @@ impl<M: Maker + Drop, P: Poller + Drop, I: Port, O: Port, E: Port> Desk<M, P, I,
         self.log.copied_asking(single)
     }
 
-    /// Names what is ready, and waits for it where nothing is ready yet.
+    /// Names what is ready, and waits for it where nothing is ready yet. A poll tells of a half once, so what it names comes
+    /// first: what hints goes on to do so where the list is full.
     pub(crate) fn poll(&mut self, until: Option<u64>, ready: &mut ReadyList) -> Polled
         requires room { 256 ≤ ready.old.room }
         requires empty { ready.old.entries ≡ [] }
@@ -216,9 +217,13 @@ impl<M: Maker + Drop, P: Poller + Drop, I: Port, O: Port, E: Port> Desk<M, P, I,
         let log = &self.log;
         name_hinting(&mut self.ports, &log.stations, ready);
         if ready.len() > 0 {
+            let hinting = ready.get(0);
             let last = self.clock.last();
             let polled = self.clock.poll(Some(last));
+            ready.clear();
             name_keyed(&self.ports, &log.stations, self.clock.keys(), ready);
+            ready.push(hinting);
+            name_hinting(&mut self.ports, &log.stations, ready);
             return polled;
         }
         let polled = self.clock.poll(until);
