@@ -222,8 +222,10 @@ impl<M: Maker + Drop, P: Poller + Drop, I: Port, O: Port, E: Port> Desk<M, P, I,
             let polled = self.clock.poll(Some(last));
             ready.clear();
             name_keyed(&self.ports, &log.stations, self.clock.keys(), ready);
-            ready.push(hinting);
             name_hinting(&mut self.ports, &log.stations, ready);
+            if ready.len() == 0 {
+                ready.push(hinting);
+            }
             return polled;
         }
         let polled = self.clock.poll(until);
