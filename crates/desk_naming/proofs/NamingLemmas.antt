@@ -59,6 +59,10 @@ longer : (xs : List ReadyAt) (e : ReadyAt) → length xs ≤ length (xs ++ e ∷
 longer [] e = omega arith
 longer (x ∷ xs) e = omega (arith, longer xs e)
 
+one_longer : (xs : List ReadyAt) (e : ReadyAt) → length (xs ++ e ∷ []) ≤ length xs + 1
+one_longer [] e = omega arith
+one_longer (x ∷ xs) e = omega (arith, one_longer xs e)
+
 not_below : (n : ℕ) → (IsTrue false ↔ (n < 256)) → 256 ≤ n
 not_below n full =
     let above : n < 256 → ⊥ = λ below. let f : false ≡ true = full.1 below in cc in
@@ -68,6 +72,15 @@ not_below n full =
 pub push_named : (b : Bool) (old new : Listed) (e : ReadyAt) → (IsTrue b ↔ (length old.entries < 256)) → OnTrue b (new ≡ record old { entries = old.entries ++ e ∷ [] }) → OnFalse b (new ≡ old) → IsNamed new.entries e.place e.half
 push_named true old new e full pushed refused = inl (ap (λ (l : Listed). names l.entries e.place e.half) pushed ∙ names_last old.entries e)
 push_named false old new e full pushed refused = inr (rw refused (not_below (length old.entries) full))
+
+-- what has room is named
+pub push_fits : (b : Bool) (old new : Listed) (e : ReadyAt) → (IsTrue b ↔ (length old.entries < 256)) → OnTrue b (new ≡ record old { entries = old.entries ++ e ∷ [] }) → length old.entries < 256 → names new.entries e.place e.half ≡ true
+push_fits true old new e full pushed fits = ap (λ (l : Listed). names l.entries e.place e.half) pushed ∙ names_last old.entries e
+push_fits false old new e full pushed fits = absurd (let f : false ≡ true = full.1 fits in cc)
+
+pub push_most : (b : Bool) (old new : Listed) (e : ReadyAt) → OnTrue b (new ≡ record old { entries = old.entries ++ e ∷ [] }) → OnFalse b (new ≡ old) → length new.entries ≤ length old.entries + 1
+push_most true old new e pushed refused = rw pushed (one_longer old.entries e)
+push_most false old new e pushed refused = rw refused (omega arith)
 
 pub push_grown : (b : Bool) (old new : Listed) (e : ReadyAt) → OnTrue b (new ≡ record old { entries = old.entries ++ e ∷ [] }) → OnFalse b (new ≡ old) → Grown old.entries new.entries
 push_grown true old new e pushed refused = rw pushed (record { kept = λ p half h. names_more old.entries (e ∷ []) p half h; longer = longer old.entries e })
@@ -103,7 +116,11 @@ below_or_last zero (suc j) below = absurd (omega (arith, below))
 below_or_last (suc i) (suc j) below = below_next i j (below_or_last i j (omega (arith, below)))
 
 key_on : (e : ℕ × Half) (stations : List Station) (xs ys : List ReadyAt) → Grown xs ys → KeyNamed e stations xs → KeyNamed e stations ys
-key_on e stations xs ys grown named p based = named_on xs ys p e.1 grown (named p based)
+key_on e stations xs ys grown named p based = grown.kept p e.1 (named p based)
+
+-- halves that were named for their keys stay so
+pub keyed_on : (entries : List (ℕ × Half)) (stations : List Station) (xs ys : List ReadyAt) → Grown xs ys → NamesKeyed entries stations xs → NamesKeyed entries stations ys
+keyed_on entries stations xs ys grown named i e here = key_on e stations xs ys grown (named i e here)
 
 keyed_step : (entries : List (ℕ × Half)) (stations : List Station) (i j : ℕ) (last e : ℕ × Half) (xs ys : List ReadyAt) → (j < i) ⊎ (j ≡ i) → slice_get entries i ≡ Some last → slice_get entries j ≡ Some e → Grown xs ys → (j < i → KeyNamed e stations xs) → KeyNamed last stations ys → KeyNamed e stations ys
 keyed_step entries stations i j last e xs ys (inl below) at here grown before named = key_on e stations xs ys grown (before below)
@@ -147,9 +164,9 @@ one_keyed stations made listed place p key sound here based =
     let f : Some place ≡ Some p = sym here ∙ keyed_place stations made listed p key sound based in cc
 
 -- the place of the key is named
-pub place_keyed : (stations : List Station) (made : Slab BerthSeen) (listed : KeyTable) (place : Place) (key : ℕ) (half : Half) (ready : List ReadyAt) → IsSound stations made listed → place_of (get made key) ≡ Some place → IsNamed ready place half → KeyNamed (key, half) stations ready
+pub place_keyed : (stations : List Station) (made : Slab BerthSeen) (listed : KeyTable) (place : Place) (key : ℕ) (half : Half) (ready : List ReadyAt) → IsSound stations made listed → place_of (get made key) ≡ Some place → names ready place half ≡ true → KeyNamed (key, half) stations ready
 place_keyed stations made listed place key half ready sound here named p based =
-    subst (λ q. IsNamed ready q half) (one_keyed stations made listed place p key sound here based) named
+    subst (λ q. names ready q half ≡ true) (one_keyed stations made listed place p key sound here based) named
 
 -- or doesn't stand on it any longer
 pub place_unkeyed : (stations : List Station) (made : Slab BerthSeen) (listed : KeyTable) (place : Place) (key : ℕ) (half : Half) (ready : List ReadyAt) → IsSound stations made listed → place_of (get made key) ≡ Some place → (base_at stations place ≡ Some (bases.Made key) → ⊥) → KeyNamed (key, half) stations ready

@@ -24,9 +24,9 @@ pub record Grown (before now : List ReadyAt) : Type 0 where
   pub kept : (p : Place) (half : Half) → names before p half ≡ true → names now p half ≡ true
   pub longer : length before ≤ length now
 
--- each half whose key the poller named is named for the place that stands on that key
+-- a half whose key the poller named is named for the place that stands on that key
 abbrev pub KeyNamed : ℕ × Half → List Station → List ReadyAt → Type 0
-KeyNamed e stations ready = (p : Place) → base_at stations p ≡ Some (bases.Made e.0) → IsNamed ready p e.1
+KeyNamed e stations ready = (p : Place) → base_at stations p ≡ Some (bases.Made e.0) → names ready p e.1 ≡ true
 
 -- each half whose key was named stands in the list
 abbrev pub NamesKeyed : List (ℕ × Half) → List Station → List ReadyAt → Type 0

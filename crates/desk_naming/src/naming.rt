@@ -1,5 +1,5 @@
 // What a turn names: halves that hint so, and those whose key was named.
-ghost use Rattle.std.specs.Prelude.{◌≡◌, ◌≤◌, ◌&&◌, not, true, false, length, IfSome};
+ghost use Rattle.std.specs.Prelude.{◌≡◌, ◌≤◌, ◌<◌, ◌+◌, ◌&&◌, not, true, false, [], length, IfSome};
 ghost use Rattle.slab.specs.Slab.{SameValues, Slab, get};
 ghost use Rattle.relay_model.specs.Holding.{Hold, is_free};
 ghost use Rattle.relay_model.specs.Readiness.{names};
@@ -22,6 +22,8 @@ fn name(ready: &mut ReadyList, place: Place, half: Half)
     requires { 256 ≤ ready.old.room }
     ensures room { ready.new.room ≡ ready.old.room }
     ensures named { IsNamed ready.new.entries place half }
+    ensures fits { length ready.old.entries < 256 → names ready.new.entries place half ≡ true }
+    ensures most { length ready.new.entries ≤ length ready.old.entries + 1 }
     ensures grown { Grown ready.old.entries ready.new.entries }
     ensures held { (hold : Place → Hold) → is_free (hold place) ≡ false → NamesHeld hold ready.old.entries → NamesHeld hold ready.new.entries }
 {
@@ -208,10 +210,12 @@ fn name_key<M: Maker + Drop, I: Port, O: Port, E: Port>(
     ready: &mut ReadyList,
 )
     requires room { 256 ≤ ready.old.room }
+    requires fits { length ready.old.entries < 256 }
     requires held { NamesHeld (hold_at stations.now.entries) ready.old.entries }
     requires sound { IsSound stations.now.entries ports.now.harbor.made ports.now.listed }
     ensures room { ready.new.room ≡ ready.old.room }
     ensures named { KeyNamed (key, half) stations.now.entries ready.new.entries }
+    ensures most { length ready.new.entries ≤ length ready.old.entries + 1 }
     ensures grown { Grown ready.old.entries ready.new.entries }
     ensures held { NamesHeld (hold_at stations.now.entries) ready.new.entries }
 {
@@ -223,7 +227,7 @@ fn name_key<M: Maker + Drop, I: Port, O: Port, E: Port>(
     }
 }
 
-/// Names each half whose key a poller named.
+/// Names each half whose key a poller named, in an empty list, which they fit.
 pub fn name_keyed<M: Maker + Drop, I: Port, O: Port, E: Port>(
     ports: &Ports<M, I, O, E>,
     stations: &Stations,
@@ -231,11 +235,10 @@ pub fn name_keyed<M: Maker + Drop, I: Port, O: Port, E: Port>(
     ready: &mut ReadyList,
 )
     requires room { 256 ≤ ready.old.room }
-    requires held { NamesHeld (hold_at stations.now.entries) ready.old.entries }
+    requires empty { ready.old.entries ≡ [] }
     requires sound { IsSound stations.now.entries ports.now.harbor.made ports.now.listed }
     ensures room { ready.new.room ≡ ready.old.room }
     ensures named { NamesKeyed keys.now.entries stations.now.entries ready.new.entries }
-    ensures grown { Grown ready.old.entries ready.new.entries }
     ensures held { NamesHeld (hold_at stations.now.entries) ready.new.entries }
 {
     for i in 0..keys.len() {

@@ -7,15 +7,12 @@ use Rattle.relay_model.specs.Holding.{Hold, is_free}
 use Rattle.world_trait.specs.Answers.{NamesHeld}
 use Rattle.desk_places.specs.declared.stations.Station.{Station}
 use Rattle.desk_naming.specs.Naming.{Grown, NamesKeyed}
-use Rattle.desk_naming.proofs.NamingLemmas.{named_on}
+use Rattle.desk_naming.proofs.NamingLemmas.{keyed_on}
 
 -- the first entry of a list that names only what is held
 pub first_held : (hold : Place → Hold) (entries : List ReadyAt) (e : ReadyAt) → NamesHeld hold entries → slice_get entries 0 ≡ Some e → is_free (hold e.place) ≡ false
 first_held hold [] e held first = absurd cc
 first_held hold (x ∷ xs) e held first = let same : x ≡ e = cc in subst (λ (it : ReadyAt). is_free (hold it.place) ≡ false) same held.0
-
-keyed_on : (entries : List (ℕ × Half)) (stations : List Station) (xs ys : List ReadyAt) → Grown xs ys → NamesKeyed entries stations xs → NamesKeyed entries stations ys
-keyed_on entries stations xs ys grown named i e here p base = named_on xs ys p e.1 grown (named i e here p base)
 
 -- what the poller told goes on to be named
 pub told_on : (told : Option (List (ℕ × Half))) (keys : List (ℕ × Half)) (stations : List Station) (xs ys : List ReadyAt) → IfSome told (λ entries. entries ≡ keys) → NamesKeyed keys stations xs → Grown xs ys → IfSome told (λ entries. NamesKeyed entries stations ys)

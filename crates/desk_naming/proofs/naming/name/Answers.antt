@@ -1,8 +1,14 @@
-use Rattle.desk_naming.proofs.NamingLemmas.{push_named, push_grown, push_held}
+use Rattle.desk_naming.proofs.NamingLemmas.{push_fits, push_grown, push_held, push_most, push_named}
 use Rattle.desk_naming.proofs.naming.name.Goals as goal
 
 pub returns-clause-named : goal.returns-clause-named
 returns-clause-named c = push_named c.push.result c.args.ready.now c.push.new.self (record { place = c.args.place; half = c.args.half }) c.push.ensures.full c.push.ensures.pushed c.push.ensures.refused
+
+pub returns-clause-fits : goal.returns-clause-fits
+returns-clause-fits c = push_fits c.push.result c.args.ready.now c.push.new.self (record { place = c.args.place; half = c.args.half }) c.push.ensures.full c.push.ensures.pushed
+
+pub returns-clause-most : goal.returns-clause-most
+returns-clause-most c = push_most c.push.result c.args.ready.now c.push.new.self (record { place = c.args.place; half = c.args.half }) c.push.ensures.pushed c.push.ensures.refused
 
 pub returns-clause-grown : goal.returns-clause-grown
 returns-clause-grown c = push_grown c.push.result c.args.ready.now c.push.new.self (record { place = c.args.place; half = c.args.half }) c.push.ensures.pushed c.push.ensures.refused

@@ -8,4 +8,4 @@ returns-else-stands_on-clause-named g c =
 
 pub returns-then-stands_on-clause-named : goal.returns-then-stands_on-clause-named
 returns-then-stands_on-clause-named g c =
-    place_keyed c.args.stations.now.entries c.args.ports.now.harbor.made c.args.ports.now.listed c.in-Some.place c.args.key c.args.half c.name.new.ready.entries c.requires.sound (sym c.place_of.ensures ∙ c.in-Some.is) c.name.ensures.named
+    place_keyed c.args.stations.now.entries c.args.ports.now.harbor.made c.args.ports.now.listed c.in-Some.place c.args.key c.args.half c.name.new.ready.entries c.requires.sound (sym c.place_of.ensures ∙ c.in-Some.is) (c.name.ensures.fits c.requires.fits)

@@ -1,12 +1,15 @@
 use Rattle.std.proofs.Common.{◌∙◌, arith}
-use Rattle.desk_naming.proofs.NamingLemmas.{grown_then, keyed_all, keyed_more}
+use Rattle.desk_naming.proofs.NamingLemmas.{keyed_all, keyed_more}
 use Rattle.desk_naming.proofs.naming.name_keyed.Goals as goal
+
+pub name_key-requires-clause-fits : goal.name_key-requires-clause-fits
+name_key-requires-clause-fits g c = omega (arith, c.loop-i.invariant.most, c.loop-i-test.true, c.len-i-end.ensures.most)
 
 pub loop-i-preserved : goal.loop-i-preserved
 loop-i-preserved g c = record {
   room = c.name_key.ensures.room ∙ c.loop-i.invariant.room;
   held = c.name_key.ensures.held;
-  grown = grown_then c.args.ready.now.entries c.loop-i.ready.entries c.name_key.new.ready.entries c.loop-i.invariant.grown c.name_key.ensures.grown;
+  most = omega (arith, c.loop-i.invariant.most, c.name_key.ensures.most);
   named = keyed_more c.args.keys.now.entries c.args.stations.now.entries c.loop-i.i c.get-key.result c.loop-i.ready.entries c.name_key.new.ready.entries c.get-key.ensures c.name_key.ensures.grown c.loop-i.invariant.named c.name_key.ensures.named;
 }
 

@@ -1,15 +1,15 @@
--- the halves of the entries so far are named, and all that was named before
-use Rattle.std.proofs.Common.{◌≡◌, ◌<◌, ℕ, slice_get, Some}
+-- the halves of the entries so far are named, and no more than one for each
+use Rattle.std.proofs.Common.{◌≡◌, ◌<◌, ◌≤◌, ℕ, length, slice_get, Some}
 use Rattle.relay_model.specs.declared.places.Half.{Half}
 use Rattle.world_trait.specs.Answers.{NamesHeld}
 use Rattle.desk_places.specs.Stations.{hold_at}
-use Rattle.desk_naming.specs.Naming.{Grown, KeyNamed}
+use Rattle.desk_naming.specs.Naming.{KeyNamed}
 use Rattle.desk_naming.proofs.naming.name_keyed.Given as goal
 
 abbrev pub invariant-loop-i : goal.invariant-loop-i
 invariant-loop-i g l = record {
   room : l.ready.room ≡ l.initial.ready.room;
   held : NamesHeld (hold_at l.stations.entries) l.ready.entries;
-  grown : Grown l.initial.ready.entries l.ready.entries;
+  most : length l.ready.entries ≤ l.i;
   named : (j : ℕ) (e : ℕ × Half) → j < l.i → slice_get l.keys.entries j ≡ Some e → KeyNamed e l.stations.entries l.ready.entries;
 }
