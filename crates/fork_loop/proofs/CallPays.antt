@@ -10,28 +10,33 @@ use Rattle.session_runs.specs.Runs.{Run}
 use Rattle.fork_loop.specs.declared.crews.Crew.{Crew}
 use Rattle.fork_loop.specs.declared.asked.Asked.{Asked}
 use Rattle.fork_loop.specs.Courses.{Course}
-use Rattle.fork_loop.specs.Looks.{LooksBounded, last_named}
+use Rattle.fork_loop.specs.Looks.{last_named}
 use Rattle.fork_loop.specs.Paid.{LedOn, RowsPaid, AskedPaid, AskedTo, WaitForPaid}
-use Rattle.fork_loop.specs.Turned.{Rested}
+use Rattle.fork_loop.specs.Turned.{LooksBounded, Rested}
 use Rattle.fork_loop.proofs.Paying.{call_paid, led_as, led_then, looks_paid}
 
 -- a session ended the run
 pub call_ends : (c : Config) (n : ℕ) (from now : Seen) (old new : ℕ) (before after : Crew) (why : Why) → RowsPaid c from now before after old new (Some why) → LooksBounded c n from now before after old new
-call_ends c n from now old new before after why p start past on begins timely =
-    looks_paid c n start now past (2 * last_named past + 2) old new (omega arith) (p n start past (2 * last_named past) on (call_paid c past before.work.items begins timely))
+call_ends c n from now old new before after why p at timely =
+    let past = at.past in
+    looks_paid c n at.start now past (2 * last_named past + 2) old new (omega arith) (p n at.start past (2 * last_named past) at.course (call_paid c past before.work.items at.begins timely))
 
 -- the door ended it, or is over
 pub call_asked : (c : Config) (n : ℕ) (from mid now : Seen) (old ticks new : ℕ) (before two after : Crew) (asked : Asked) → ((start : Seen) (since : List Act) → AskedTo c n start now after asked since → Run c n start now since) → RowsPaid c from mid before two old ticks None → AskedPaid c mid now two after ticks new asked → LooksBounded c n from now before after old new
-call_asked c n from mid now old ticks new before two after asked run p q start past on begins timely =
-    let a = p n start past (2 * last_named past) on (call_paid c past before.work.items begins timely) in
+call_asked c n from mid now old ticks new before two after asked run p q at timely =
+    let start = at.start in
+    let past = at.past in
+    let a = p n start past (2 * last_named past) at.course (call_paid c past before.work.items at.begins timely) in
     looks_paid c n start now past (2 * last_named past + 2) old new (omega arith)
     (led_then past (λ since. Course c n start mid since two) (Run c n start now) (2 * last_named past) 2 (2 * last_named past + 2) old ticks new (omega arith) a
     (led_as (a.made ++ past) (AskedTo c n start now after asked) (Run c n start now) 2 ticks new (run start) (q n start (a.made ++ past) a.holds)))
 
 -- the door waits, and so does the loop
 pub call_waited : (c : Config) (n : ℕ) (from mid late now : Seen) (old ticks more new : ℕ) (before two three after : Crew) (wish : DoorWish) (first : Option ℕ) → RowsPaid c from mid before two old ticks None → ((m : ℕ) (start : Seen) (past : List Act) → Course c m start mid past two → LedOn past (λ since. Course c m start late since three × Wished c since wish) 2 ticks more) → ((since : List Act) → Wished c since wish → Rested c since first three) → WaitForPaid c n first late now three after more new → LooksBounded c n from now before after old new
-call_waited c n from mid late now old ticks more new before two three after wish first p q rested w start past on begins timely =
-    let a = p n start past (2 * last_named past) on (call_paid c past before.work.items begins timely) in
+call_waited c n from mid late now old ticks more new before two three after wish first p q rested w at timely =
+    let start = at.start in
+    let past = at.past in
+    let a = p n start past (2 * last_named past) at.course (call_paid c past before.work.items at.begins timely) in
     let b = q n start (a.made ++ past) a.holds in
     looks_paid c n start now past (2 * last_named past + 2) old new (omega arith)
     (led_then past (λ since. Course c n start mid since two) (Run c n start now) (2 * last_named past) 2 (2 * last_named past + 2) old ticks new (omega arith) a

@@ -6,14 +6,14 @@ use Rattle.relay_model.specs.declared.acts.Act.{Act}
 use Rattle.relay_model.specs.declared.acts.Why.TheVariants as whys
 use Rattle.relay_model.specs.Configs.{has_fork}
 use Rattle.relay_model.specs.History.{turns}
-use Rattle.relay_model.specs.Sessions.{admitted, holds, live, numbers}
+use Rattle.relay_model.specs.Sessions.{admitted, holds, numbers}
 use Rattle.relay_model.specs.May.{Legal}
 use Rattle.relay_model.specs.declared.acts.Act.TheVariants as acts
 use Rattle.relay_model.specs.Rest.{SessionRests}
 use Rattle.relay_core.specs.Timers.{session_until}
 use Rattle.program_door.specs.Wishes.{GoesOn}
 use Rattle.fork_loop.specs.declared.turned.RunEnd.{RunEnd}
-use Rattle.fork_loop.specs.Turned.{Rested, Further, GoesRound, Within, KeepsTo}
+use Rattle.fork_loop.specs.Turned.{Rested, Further, GoesRound, Within}
 use Rattle.program_door.proofs.Moves.{numbers_are}
 use Rattle.session_sleep.specs.Sleeps.{RestsUntil}
 use Rattle.session_sleep.proofs.Resting.{gone}
@@ -120,10 +120,6 @@ none_due : (mid : Crew) (due : List ℕ) → NoneDue mid → ((s : ℕ) → Has 
 none_due mid [] none come = refl
 none_due mid (s ∷ ss) none come = let d = come s (inl refl) in let l = none s d.0 d.1 in let m = d.2 in absurd (omega (arith, l, m))
 
-set_lives : (c : Config) (n : ℕ) (past : List Act) (s m : ℕ) (timer : Option ℕ) (row : Option Row) → timer ≡ Some m → UpRow c n past s timer row → live c past s ≡ true
-set_lives c n past s m timer None e r = let y : None ≡ Some m = sym r.1 ∙ e in let x : ⊥ = cc in absurd x
-set_lives c n past s m timer (Some row) e r = r.lives
-
 -- the list of work after it
 pub left_by : (c : Config) (n : ℕ) (start now : Seen) (past : List Act) (until : Option ℕ) (at : ℕ) (before mid after : Crew) → Course c n start now past before → NoWork before → mid.clock ≡ at → SameLists before mid → WaitsNoLonger until before → AddsParts (length mid.ready.entries) mid after → LeftByTurn c past until at mid.ready.entries after.work.items
 left_by c n start now past until at before mid after on idle clock same longest a = record {
@@ -145,7 +141,6 @@ left_by c n start now past until at before mid after on idle clock same longest 
         let l = d.2 in
         record {
           begun = b;
-          lives = set_lives c n past s d.0 (timer_of before s) (row_of before.table s) e up;
           come = (d.0, (row_rests c n past s before.work.items (timer_of before s) (row_of before.table s) on.frame.fork (omega (arith, b, k)) idle (on.rows s)).until_is ∙ e, omega (arith, l, clock));
         }
 
@@ -182,8 +177,11 @@ door_over c old mid new one two three at k w = let o = k at.n at.start at.past a
 
 -- ---- until the loop ends
 
-pub within_on : (c : Config) (n : ℕ) (old new : Seen) (before after : Crew) → Within c n old before → KeepsTo c n old new before after → Somewhere c new after
-within_on c n old new before after w k = let o = k w.start w.past w.course in record { n = n; start = w.start; past = o.past; course = o.course }
+pub some_within : (c : Config) (n : ℕ) (now : Seen) (crew : Crew) → Within c n now crew → Somewhere c now crew
+some_within c n now crew w = record { n = n; start = w.start; past = w.past; course = w.course }
+
+pub within_round : (c : Config) (n : ℕ) (start now : Seen) (crew : Crew) → GoesRound c n start now crew → Within c n now crew
+within_round c n start now crew r = record { start = start; past = acts.Turn r.until r.turned.at r.turned.ready false ∷ r.past; course = r.turned.course; begins = r.turned.begins }
 
 pub round_on : (c : Config) (n : ℕ) (start now : Seen) (crew : Crew) → GoesRound c n start now crew → Onward c n start now crew
 round_on c n start now crew r = record { past = acts.Turn r.until r.turned.at r.turned.ready false ∷ r.past; course = r.turned.course }

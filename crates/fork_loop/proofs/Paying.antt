@@ -191,7 +191,7 @@ left_paid c until at ready past work left timely =
     (let few = left.few in named_paid c (Turn until at ready false ∷ past) left.named left.due (2 * length ready.entries) (omega (arith, few)) (rest timely))
   where
     must : at ≡ moment past → (s : ℕ) → WasDue c past at s → MustAct c (Turn until at ready false ∷ past) s
-    must e s d = (let l = d.come.2 in subst (λ (k : ℕ). MustAct c (Turn until k ready false ∷ past) s) (sym e) (waited_now c until ready past s d.come.0 d.begun d.lives d.come.1 (omega (arith, l, e))))
+    must e s d = (let l = d.come.2 in subst (λ (k : ℕ). MustAct c (Turn until k ready false ∷ past) s) (sym e) (waited_now c until ready past s d.come.0 d.come.1 (omega (arith, l, e))))
 
     rest : IsBefore at until ⊎ (at ≡ moment past) → Paid c (Turn until at ready false ∷ past) left.due 0
     rest (inl early) = subst (λ (w : List ℕ). Paid c (Turn until at ready false ∷ past) w 0) (sym (left.none early)) tt

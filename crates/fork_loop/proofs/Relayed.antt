@@ -18,11 +18,12 @@ use Rattle.session_driver.specs.Steps.{extend}
 use Rattle.session_runs.specs.Runs.{IsCommands, OnlyCommands}
 use Rattle.fork_loop.specs.declared.crews.Crew.{Crew}
 use Rattle.fork_loop.specs.Births.{BeginsAll}
+use Rattle.fork_loop.specs.Courses.{NoWork}
 use Rattle.fork_loop.specs.Turned.{Within}
 use Rattle.fork_loop.specs.Vacated.{Ended}
 
-pub within : (c : Config) (n : ℕ) (start : Seen) (crew : Crew) → BeginsAll c crew → ((p : Place) → start.held p ≡ Free) → Within c n start crew
-within c n start crew begins free = record { start = start; past = []; course = begins n start free }
+pub within : (c : Config) (n : ℕ) (start : Seen) (crew : Crew) → BeginsAll c crew → NoWork crew → ((p : Place) → start.held p ≡ Free) → Within c n start crew
+within c n start crew begins idle free = record { start = start; past = []; course = begins n start free; begins = idle }
 
 -- what was asked for is the command's own
 one_own : (c : Config) (p : Place) → has_fork c ≡ true → IsCommands c p → IsOwn c p

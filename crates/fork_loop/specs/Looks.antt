@@ -7,13 +7,13 @@ use Rattle.relay_model.specs.declared.readiness.ReadyAt.{ReadyAt}
 use Rattle.relay_model.specs.declared.acts.Act.{Act}
 use Rattle.relay_model.specs.declared.acts.Act.TheVariants.{Turn}
 use Rattle.relay_model.specs.History.{now as moment}
-use Rattle.relay_model.specs.Sessions.{live, numbers}
+use Rattle.relay_model.specs.Sessions.{numbers}
 use Rattle.relay_core.specs.Timers.{session_until}
 use Rattle.session_sleep.specs.Sleeps.{IsBefore}
 use Rattle.session_driver.specs.Seen.{Seen}
 use Rattle.session_runs.specs.Runs.{Run}
 use Rattle.fork_loop.specs.Rows.{Has}
-use Rattle.fork_loop.specs.Courses.{Course, timer_of}
+use Rattle.fork_loop.specs.Courses.{timer_of}
 use Rattle.fork_loop.specs.Endings.{Once}
 use Rattle.fork_loop.specs.Turns.{names_own}
 
@@ -86,14 +86,13 @@ all_named [] = 0
 all_named (Turn until at ready stop ∷ acts) = length ready.entries + all_named acts
 all_named (act ∷ acts) = all_named acts
 
--- a session that lives, and that after these acts waited for a moment that has come at this one
+-- a session that after these acts waited for a moment that has come at this one
 pub record WasDue (c : Config) (past : List Act) (at s : ℕ) : Type 0 where
   pub begun : s < numbers c past
-  pub lives : live c past s ≡ true
   pub come : (m : ℕ) × (session_until c past s ≡ Some m) × (m ≤ at)
 
 -- the list of work as a turn leaves it: at most as many numbers as it has entries, and then, each once, those of
--- sessions that live and waited for a moment that has come, of which there are none where it came before its wait was over
+-- sessions that waited for a moment that has come, of which there are none where it came before its wait was over
 pub record LeftByTurn (c : Config) (past : List Act) (until : Option ℕ) (at : ℕ) (entries : List ReadyAt) (work : List ℕ) : Type 0 where
   pub named : List ℕ
   pub due : List ℕ
@@ -123,8 +122,3 @@ pub record LooksPaid (c : Config) (n : ℕ) (start now : Seen) (past : List Act)
   pub made : List Act
   pub run : Run c n start now (made ++ past)
   pub few : new ≤ old + 2 * (length made + (last_named past + all_named made) + 1)
-
--- so of each run that led to the beginning of the call, unless the last wait lasted up to its end
-abbrev pub LooksBounded : Config → ℕ → Seen → Seen → Crew → Crew → ℕ → ℕ → Type 0
-LooksBounded c n from to before after old new =
-    (start : Seen) (past : List Act) → Course c n start from past before → BeginsCall c past before.work.items → IsTimely past → LooksPaid c n start to past old new

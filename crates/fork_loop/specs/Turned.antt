@@ -11,6 +11,7 @@ use Rattle.fork_loop.specs.declared.turned.RunEnd.TheVariants as ends
 use Rattle.fork_loop.specs.Asking.{DoorIsOver}
 use Rattle.fork_loop.specs.Courses.{Course, Onward}
 use Rattle.fork_loop.specs.Endings.{MayEnd}
+use Rattle.fork_loop.specs.Looks.{BeginsCall, IsTimely, LooksPaid}
 use Rattle.fork_loop.specs.Waited.{Stopping, TurnedOn}
 
 -- no session lives
@@ -53,13 +54,20 @@ abbrev pub WaitsForAll : Config → ℕ → Option ℕ → Seen → Seen → Cre
 WaitsForAll c n first old new before after end =
     ((start : Seen) (past : List Act) → Course c n start old past before → Rested c past first before → RunIs c n start new after end) × Further n before after end
 
--- ---- the loop until it ends
+-- ---- where a call begins
 
--- some run of at most n turns led here
+-- some run of at most n turns led here, and the list of work is as its last turn left it, or empty where no act was made
 pub record Within (c : Config) (n : ℕ) (now : Seen) (crew : Crew) : Type 0 where
   pub start : Seen
   pub past : List Act
   pub course : Course c n start now past crew
+  pub begins : BeginsCall c past crew.work.items
+
+-- of each such run the call pays for its looks, unless the last wait lasted up to its end
+abbrev pub LooksBounded : Config → ℕ → Seen → Seen → Crew → Crew → ℕ → ℕ → Type 0
+LooksBounded c n from to before after old new = (at : Within c n from before) → IsTimely at.past → LooksPaid c n at.start to at.past old new
+
+-- ---- the loop until it ends
 
 -- each goes on from here to there
 abbrev pub KeepsTo : Config → ℕ → Seen → Seen → Crew → Crew → Type 0

@@ -25,9 +25,9 @@ pub enum RunEnd {
 
 impl Crew {
     ghost use Rattle.fork_loop.specs.Courses.{Somewhere, NoWork};
-    ghost use Rattle.fork_loop.specs.Looks.{LooksBounded, LooksFew};
+    ghost use Rattle.fork_loop.specs.Looks.{LooksFew};
     ghost use Rattle.fork_loop.specs.Paid.{WaitForPaid};
-    ghost use Rattle.fork_loop.specs.Turned.{TurnIs, WaitsForAll};
+    ghost use Rattle.fork_loop.specs.Turned.{LooksBounded, TurnIs, WaitsForAll, Within};
 
     /// Has each session that has work and the door make their calls, and then waits once, unless the run ends or `turns` waits were
     /// made. A wait comes only where it is in order, and lasts until the least moment that anything waits for.
@@ -42,7 +42,7 @@ impl Crew {
         steps: &mut Steps<L>,
     ) -> Option<RunEnd>
         requires fit { Fit config.now }
-        requires course { Somewhere config.now (seen W.told W.held W.faults W.waits W.stops W.clock world.old) self.old }
+        requires course { Within config.now turns (seen W.told W.held W.faults W.waits W.stops W.clock world.old) self.old }
         ensures turns { TurnIs config.now turns (seen W.told W.held W.faults W.waits W.stops W.clock world.old) (seen W.told W.held W.faults W.waits W.stops W.clock world.new) self.old self.new result }
         ensures looks { LooksBounded config.now turns (seen W.told W.held W.faults W.waits W.stops W.clock world.old) (seen W.told W.held W.faults W.waits W.stops W.clock world.new) self.old self.new steps.old.ticks steps.new.ticks }
         ensures few { LooksFew (length self.old.work.items + length self.new.ready.entries) steps.old.ticks steps.new.ticks self.old self.new }

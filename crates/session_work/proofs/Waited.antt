@@ -15,7 +15,7 @@ use Rattle.relay_model.specs.Choices.{earlier, later}
 use Rattle.relay_model.specs.Configs.{places, listens_at, has_own_door, input, output}
 use Rattle.relay_model.specs.History.{now, Stage, Unsettled, Met, Waiting, stage, woken}
 use Rattle.relay_model.specs.Arming.{Arming, Armed, read_arming, is_armed, armed_to_write, armed_to_accept}
-use Rattle.relay_model.specs.Sessions.{live, numbers}
+use Rattle.relay_model.specs.Sessions.{live}
 use Rattle.relay_model.specs.Transfers.{over, backlog}
 use Rattle.relay_model.specs.Moments.{closing_moment, idle_moment}
 use Rattle.relay_model.specs.Openings.{Call, Nothing, Settle, Accept, is_ready, opening_call, listening_call, peer_call, place_call, first_call}
@@ -188,6 +188,5 @@ work_acts c wait ready past s e rests = go (or_cases (way_work c past s LeftToRi
     go (inr h) = accept_acts c wait ready past s h rests
 
 pub waited :
-    (c : Config) (wait : Option ℕ) (ready : Listed) (past : List Act) (s m : ℕ) → s < numbers c past → live c past s ≡ true → session_until c past s ≡ Some m → m ≤ now past →
-    MustAct c (Turn wait (now past) ready false ∷ past) s
-waited c wait ready past s m begun l u come = work_acts c wait ready past s (work_left c past s m u come)
+    (c : Config) (wait : Option ℕ) (ready : Listed) (past : List Act) (s m : ℕ) → session_until c past s ≡ Some m → m ≤ now past → MustAct c (Turn wait (now past) ready false ∷ past) s
+waited c wait ready past s m u come = work_acts c wait ready past s (work_left c past s m u come)

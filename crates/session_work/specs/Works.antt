@@ -24,8 +24,7 @@ MustActStays = (c : Config) (act : Act) (past : List Act) (s : ℕ) → s < numb
 -- a session that waited until a moment that had come already has to act after a turn in which no time passed
 abbrev pub WaitedForNow : Type 0
 WaitedForNow =
-    (c : Config) (wait : Option ℕ) (ready : Listed) (past : List Act) (s m : ℕ) → s < numbers c past → live c past s ≡ true → session_until c past s ≡ Some m → m ≤ now past →
-    MustAct c (Turn wait (now past) ready false ∷ past) s
+    (c : Config) (wait : Option ℕ) (ready : Listed) (past : List Act) (s m : ℕ) → session_until c past s ≡ Some m → m ≤ now past → MustAct c (Turn wait (now past) ready false ∷ past) s
 
 -- a session that lives has to act once something has ended it
 abbrev pub EndedMustAct : Type 0

@@ -6,7 +6,7 @@ use Rattle.fork_loop.proofs.Relayed.{within, frees, heads, tells, fails, stops, 
 use Rattle.fork_loop.proofs.relays.relay.Goals as goal
 
 pub run_with-requires-clause-course : goal.run_with-requires-clause-course
-run_with-requires-clause-course g c = within c.args.config.now c.args.turns _ c.in-Ok.crew c.in-Ok.ensures.begins c.requires.free
+run_with-requires-clause-course g c = within c.args.config.now c.args.turns _ c.in-Ok.crew c.in-Ok.ensures.begins c.in-Ok.ensures.idle c.requires.free
 
 pub returns-in-Ok-clause-free : goal.returns-in-Ok-clause-free
 returns-in-Ok-clause-free g c =

@@ -3,24 +3,27 @@ use Rattle.std.proofs.Common.{inl, inr, arith, ◌∙◌, None}
 use Rattle.fork_loop.specs.declared.asked.Asked.TheVariants as asks
 use Rattle.program_door.specs.declared.wishes.DoorWish.TheVariants as wishes
 use Rattle.fork_loop.proofs.Loops.{kept_on}
-use Rattle.fork_loop.proofs.InOrder.{further_then, door_waits, door_over}
+use Rattle.fork_loop.proofs.InOrder.{further_then, some_within, door_waits, door_over}
 use Rattle.fork_loop.proofs.CallPays.{call_ends, call_asked, call_waited}
 use Rattle.fork_loop.proofs.crews.Crew.turn.Goals as goal
 
 pub returns-in-Some-clause-turns : goal.returns-in-Some-clause-turns
 returns-in-Some-clause-turns g c = (λ start past on. c.in-Some.ensures.runs c.args.turns start past on, tt)
 
+pub run_rows-requires : goal.run_rows-requires
+run_rows-requires g c = some_within c.args.config.now c.args.turns _ c.args.self.now c.requires.course
+
 pub ask_door-requires-clause-course : goal.ask_door-requires-clause-course
-ask_door-requires-clause-course g c = kept_on c.args.config.now _ _ c.args.self.now _ c.requires.course c.in_default.ensures.runs.0
+ask_door-requires-clause-course g c = kept_on c.args.config.now _ _ c.args.self.now _ (some_within c.args.config.now c.args.turns _ c.args.self.now c.requires.course) c.in_default.ensures.runs.0
 
 pub wait_for-requires-clause-course : goal.wait_for-requires-clause-course
-wait_for-requires-clause-course g c = door_waits c.args.config.now _ _ _ c.args.self.now c.run_rows.new.self _ c.in-Waits.first c.requires.course c.in_default.ensures.runs.0 c.in-Waits.ensures.asks.0
+wait_for-requires-clause-course g c = door_waits c.args.config.now _ _ _ c.args.self.now c.run_rows.new.self _ c.in-Waits.first (some_within c.args.config.now c.args.turns _ c.args.self.now c.requires.course) c.in_default.ensures.runs.0 c.in-Waits.ensures.asks.0
 
 pub wait_for-requires-clause-idle : goal.wait_for-requires-clause-idle
 wait_for-requires-clause-idle g c = c.in-Waits.ensures.asks.1
 
 pub wait_for-requires-in-Some-first_from-clause-course : goal.wait_for-requires-in-Some-first_from-clause-course
-wait_for-requires-in-Some-first_from-clause-course g c = door_over c.args.config.now _ _ _ c.args.self.now c.run_rows.new.self _ c.requires.course c.in_default.ensures.runs.0 c.in-Over.ensures.asks.0
+wait_for-requires-in-Some-first_from-clause-course g c = door_over c.args.config.now _ _ _ c.args.self.now c.run_rows.new.self _ (some_within c.args.config.now c.args.turns _ c.args.self.now c.requires.course) c.in_default.ensures.runs.0 c.in-Over.ensures.asks.0
 
 pub wait_for-requires-in-Some-first_from-clause-idle : goal.wait_for-requires-in-Some-first_from-clause-idle
 wait_for-requires-in-Some-first_from-clause-idle g c = c.in-Over.ensures.asks.1
