@@ -19,12 +19,13 @@ import sys
 import tempfile
 import time
 
+from common import HERE, compiled, free_port, median, needed_compiler
+
 ROUNDS = int(os.environ.get("ROUNDS", 3))
 REQUESTS = int(os.environ.get("REQUESTS", 20000))
 SECONDS = int(os.environ.get("SECONDS", 40))
 CLIENTS = (1, 50, 200)
 BYTES = 64
-HERE = "127.0.0.1"
 PROXY = """global
   nbthread 1
 defaults
@@ -37,12 +38,6 @@ listen relay
   maxconn 5000
   server far 127.0.0.1:{}
 """
-
-
-def free_port():
-    with socket.socket() as sock:
-        sock.bind((HERE, 0))
-        return sock.getsockname()[1]
 
 
 class Tool:
@@ -125,10 +120,6 @@ class Round:
         self.processor = ended(process) * 1e6 / max(answered, 1)
 
 
-def median(values):
-    return sorted(values)[(len(values) - 1) // 2]
-
-
 def summary(name, clients, rounds):
     rate, most, processor, slowest = (
         median([getattr(it, field) for it in rounds]) for field in ("rate", "most", "processor", "slowest"))
@@ -139,13 +130,9 @@ def summary(name, clients, rounds):
 
 
 def main(program):
-    compiler = shutil.which("cc") or shutil.which("gcc") or shutil.which("clang")
-    if not compiler:
-        return print("all is skipped: there is no C compiler")
+    compiler = needed_compiler()
     with tempfile.TemporaryDirectory() as folder:
-        load = os.path.join(folder, "load")
-        source = os.path.join(os.path.dirname(os.path.abspath(__file__)), "load.c")
-        subprocess.run([compiler, "-O2", "-o", load, source], check=True)
+        load = compiled(compiler, folder, "load")
         far = Tool(load, "serve", str(BYTES))
         print(f"median of {ROUNDS} rounds; load {' '.join(open('/proc/loadavg').read().split()[:3])}")
         print(f"{'':23} {'all':>11} {'95 of 100':>11} {'processor':>10} {'slowest':>12}")

@@ -13,6 +13,8 @@ import sys
 import tempfile
 import time
 
+from common import median
+
 ROUNDS = int(os.environ.get("ROUNDS", 3))
 MIB = int(os.environ.get("MIB", 1024))
 OTHER_MIB = int(os.environ.get("OTHER_MIB", 64))
@@ -51,10 +53,6 @@ def most_memory(pid):
             return next((int(row.split()[1]) for row in rows if row.startswith("VmHWM:")), 0)
     except OSError:
         return 0
-
-
-def median(values):
-    return sorted(values)[(len(values) - 1) // 2]
 
 
 def main(program):

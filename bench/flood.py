@@ -12,7 +12,8 @@ import subprocess
 import sys
 import tempfile
 
-from connections import HERE, Tool, ended, free_port, median, started
+from connections import Tool, ended, started
+from common import HERE, compiled, free_port, median, needed_compiler
 
 ROUNDS = int(os.environ.get("ROUNDS", 3))
 STREAMS = int(os.environ.get("STREAMS", 8))
@@ -38,13 +39,6 @@ def flow(flood, program, far, part):
     return passed / micros, seconds * (1 << 30) / passed
 
 
-def compiled(compiler, folder, name):
-    program = os.path.join(folder, name)
-    source = os.path.join(os.path.dirname(os.path.abspath(__file__)), f"{name}.c")
-    subprocess.run([compiler, "-O2", "-o", program, source], check=True)
-    return program
-
-
 def report(way, figures):
     """A line of the rates and processor times, with their ratios to socat's where that is there."""
     line = f"{STREAMS} streams to the {way}:"
@@ -57,9 +51,7 @@ def report(way, figures):
 
 
 def main(program):
-    compiler = shutil.which("cc") or shutil.which("gcc") or shutil.which("clang")
-    if not compiler:
-        return print("all is skipped: there is no C compiler")
+    compiler = needed_compiler()
     theirs = shutil.which("socat")
     programs = {"ours": program}
     if theirs and os.path.realpath(theirs) != program:

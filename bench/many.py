@@ -13,16 +13,11 @@ import subprocess
 import sys
 import time
 
+from common import HERE, free_port
+
 MANY = int(os.environ.get("SESSIONS", 10000))
 TRIPS = int(os.environ.get("TRIPS", 2000))
 SECONDS = 30
-HERE = "127.0.0.1"
-
-
-def free_port():
-    with socket.socket() as sock:
-        sock.bind((HERE, 0))
-        return sock.getsockname()[1]
 
 
 def echo(server):

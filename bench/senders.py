@@ -13,15 +13,10 @@ import subprocess
 import sys
 import time
 
-HERE = "127.0.0.1"
+from common import HERE, free_port
+
 AT_ONCE = 64
 LIMIT = 30
-
-
-def free_port():
-    with socket.socket(socket.AF_INET, socket.SOCK_DGRAM) as sock:
-        sock.bind((HERE, 0))
-        return sock.getsockname()[1]
 
 
 def peer(port):
@@ -56,7 +51,7 @@ def cost(pid):
 def main(program, count=1000, rounds=10):
     _, most = resource.getrlimit(resource.RLIMIT_NOFILE)
     resource.setrlimit(resource.RLIMIT_NOFILE, (min(most, 2 * count + 64), most))
-    port = free_port()
+    port = free_port(socket.SOCK_DGRAM)
     relay = subprocess.Popen([program, f"UDP4-LISTEN:{port},fork", "PIPE"])
     time.sleep(0.3)
     peers = [peer(port) for _ in range(count)]

@@ -6,11 +6,7 @@ import subprocess
 import sys
 import time
 
-
-def free_port():
-    with socket.socket() as sock:
-        sock.bind(("127.0.0.1", 0))
-        return sock.getsockname()[1]
+from common import HERE, free_port
 
 
 def started(program, *words):
@@ -18,7 +14,7 @@ def started(program, *words):
     process = subprocess.Popen([program, "-t10", f"TCP4-LISTEN:{port},reuseaddr,fork", *words], stderr=subprocess.DEVNULL)
     for _ in range(200):
         try:
-            socket.create_connection(("127.0.0.1", port)).close()
+            socket.create_connection((HERE, port)).close()
             break
         except ConnectionRefusedError:
             time.sleep(0.02)
@@ -45,7 +41,7 @@ def idle(program, count=1000):
     before = private(process.pid)
     socks = []
     for _ in range(count):
-        sock = socket.create_connection(("127.0.0.1", port))
+        sock = socket.create_connection((HERE, port))
         sock.sendall(b"x")
         sock.recv(1)
         socks.append(sock)

@@ -7,7 +7,6 @@ sockets.py PROGRAM [SOCAT]    a line a measure: NAME ours socat, and ours to it,
 import os
 import re
 import select
-import shutil
 import signal
 import socket
 import subprocess
@@ -15,6 +14,8 @@ import sys
 import tempfile
 import threading
 import time
+
+from common import HERE, c_compiler, compiled, free_port, median
 
 ROUNDS = int(os.environ.get("ROUNDS", 5))
 BYTES = int(os.environ.get("MIB", 256)) << 20
@@ -24,14 +25,7 @@ DATAGRAMS = int(os.environ.get("DATAGRAMS", 20000))
 TRACED = 32 << 20
 BLOCK = 8192
 LIMIT = 120
-HERE = "127.0.0.1"
 zeros = memoryview(bytes(1 << 20))
-
-
-def free_port(how=socket.SOCK_STREAM):
-    with socket.socket(socket.AF_INET, how) as sock:
-        sock.bind((HERE, 0))
-        return sock.getsockname()[1]
 
 
 def reach(family, place):
@@ -294,10 +288,6 @@ TRACES = [
 ]
 
 
-def median(values):
-    return sorted(values)[(len(values) - 1) // 2]
-
-
 def figure(value):
     return "-" if value is None else f"{value:.2f}"
 
@@ -328,13 +318,8 @@ def can_trace():
 
 def bare_loop(folder):
     """The bare loop, where it can be compiled."""
-    compiler = shutil.which("cc") or shutil.which("gcc") or shutil.which("clang")
-    if not compiler:
-        return {}
-    program = os.path.join(folder, "bare")
-    source = os.path.join(os.path.dirname(os.path.abspath(__file__)), "bare.c")
-    subprocess.run([compiler, "-O2", "-o", program, source], check=True)
-    return {"bare": program}
+    compiler = c_compiler()
+    return {"bare": compiled(compiler, folder, "bare")} if compiler else {}
 
 
 def measure_all(measures, programs, rounds):

@@ -68,6 +68,15 @@ told() {
 # sum_of BYTES..: the checksum of what peers send by their lengths.
 sum_of() { peer_py sum "$@"; }
 
+# ticks_of PID: its processor time so far, in hundredths of a second.
+ticks_of() {
+    local fields rest
+    rest="$(<"/proc/$1/stat")"
+    # shellcheck disable=SC2206
+    fields=(${rest##*) })
+    echo "$((fields[11] + fields[12]))"
+}
+
 # --- crowds
 
 as_crowd=("$python" -ES -X "pycache_prefix=$scratch/compiled" "$here/tests/sockets/crowd.py")

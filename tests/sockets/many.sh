@@ -42,18 +42,15 @@ finish
 
 # --- one that waits
 
-# ticks_of PID: its processor time, and the times its threads gave the processor up.
-ticks_of() {
-    local fields rest switches=0 name value task
-    rest="$(<"/proc/$1/stat")"
-    # shellcheck disable=SC2206
-    fields=(${rest##*) })
+# switches_of PID: the times its threads gave the processor up.
+switches_of() {
+    local switches=0 name value task
     for task in "/proc/$1/task"/*/status; do
         while read -r name value _; do
             [ "$name" != voluntary_ctxt_switches: ] || switches=$((switches + value))
         done <"$task"
     done
-    echo "$((fields[11] + fields[12])) $switches"
+    echo "$switches"
 }
 
 count_of() { find "$1" -mindepth 1 2>/dev/null | wc -l; }
@@ -61,7 +58,8 @@ count_of() { find "$1" -mindepth 1 2>/dev/null | wc -l; }
 # look TAG: what it costs and holds so far.
 look() {
     local pid="${pids[$1]}"
-    read -r ticks switches < <(ticks_of "$pid")
+    ticks="$(ticks_of "$pid")"
+    switches="$(switches_of "$pid")"
     descriptors="$(count_of "/proc/$pid/fd")"
     threads="$(count_of "/proc/$pid/task" 2>/dev/null)"
 }

@@ -102,6 +102,18 @@ nap 0.5
 lives relay
 finish
 
+# stay COUNT: starts so many clients at the port that talk once and stay, and waits until they have talked.
+stay() {
+    local number
+    for ((number = 1; number <= $1; number++)); do
+        start_peer connect tcp4 "/$port" send=x read=1 read
+    done
+    for ((number = 1; number <= $1; number++)); do
+        told_port "$number"
+    done
+    nap 1
+}
+
 begin "where descriptors run out the rest is served later"
 given_nothing
 ulimit_now="$(ulimit -Sn)"
@@ -112,15 +124,6 @@ crowd '200 had their own' tcp4 "@${pids[relay]}" 200 echo=1000
 lives relay
 finish
 
-# ticks TAG: the processor time of the relay, in hundredths of a second.
-ticks() {
-    local rest fields
-    rest="$(<"/proc/${pids[$1]}/stat")"
-    # shellcheck disable=SC2206
-    fields=(${rest##*) })
-    echo "$((fields[11] + fields[12]))"
-}
-
 begin "where descriptors run out it waits and isn't busy"
 given_nothing
 ulimit_now="$(ulimit -Sn)"
@@ -128,17 +131,11 @@ ulimit -Sn 64
 UNAUDITED=yes start relay -t30 TCP4-LISTEN:0,fork PIPE
 ulimit -Sn "$ulimit_now"
 listens relay tcp4
-for number in {1..70}; do
-    start_peer connect tcp4 "/$port" send=x read=1 read
-done
-for number in {1..70}; do
-    told_port "$number"
-done
-nap 1
+stay 70
 [ "$(descriptors relay)" -ge 60 ] || wrong "it holds $(descriptors relay) descriptors"
-spent="$(ticks relay)"
+ticks_before="$(ticks_of "${pids[relay]}")"
 nap 2
-spent=$(($(ticks relay) - spent))
+spent=$(($(ticks_of "${pids[relay]}") - ticks_before))
 [ "$spent" -le 20 ] || wrong "it took $spent hundredths of a second in 2 s"
 lives relay
 finish
@@ -196,13 +193,7 @@ begin "SIGTERM ends it with 100 sessions"
 given_nothing
 UNAUDITED=yes start relay TCP4-LISTEN:0,fork PIPE
 listens relay tcp4
-for number in {1..100}; do
-    start_peer connect tcp4 "/$port" send=x read=1 read
-done
-for number in {1..100}; do
-    told_port "$number"
-done
-nap 1
+stay 100
 [ "$(descriptors relay)" -ge 100 ] || wrong "it holds $(descriptors relay) descriptors"
 terminate relay
 await relay
