@@ -5,6 +5,6 @@ mod runs;
 mod scripts;
 mod seen;
 
-pub use runs::{Run, Streams, carried_out};
+pub use runs::{ROOM, Run, Streams, carried_out};
 pub use scripts::{port_of, source_of};
 pub use seen::{Look, taken_line};

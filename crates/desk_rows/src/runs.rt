@@ -11,8 +11,8 @@ use std::alloc::Global;
 use worked_rows::{Ran, Row, RowFault, part};
 use world_trait::Recorder;
 
-/// For how many bytes standard error has room.
-const ROOM: usize = 65_536;
+/// For how many bytes a port in memory has room.
+pub const ROOM: usize = 65_536;
 
 /// What is run, and by which desk.
 #[derive(Clone, Copy)]

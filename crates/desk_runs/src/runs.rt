@@ -1,8 +1,8 @@
 // The runs of a row, over the ports that it asks for.
 use crate::gates::{Gate, GatedSource, NoWake, OpeningSink};
-use crate::scripts::{ROOM, maker_of, refused_of};
+use crate::scripts::{maker_of, refused_of};
 use crate::settings::{Input, Output, Setting};
-use desk_rows::{Look, Run, Streams, carried_out, port_of, source_of};
+use desk_rows::{Look, ROOM, Run, Streams, carried_out, port_of, source_of};
 use port_objects::{ListSpawner, MemPoller, MemPort, MemSink};
 use relay_model::{Side, Text};
 use std::alloc::Global;

@@ -1,13 +1,10 @@
 // The maker of a script, and the threads that are not started for it.
 use crate::settings::Input;
-use desk_rows::{Look, port_of};
+use desk_rows::{Look, ROOM, port_of};
 use port_objects::{MakeItem, MemMaker};
 use relay_model::{Bytes, NoMemory, Side};
 use std::alloc::Global;
 use worked_rows::{Line, RowFault};
-
-/// For how many bytes a port in memory has room.
-pub(crate) const ROOM: usize = 65_536;
 
 /// A maker of one port, which gives what the script says at the right, and a look at what that takes.
 pub(crate) fn maker_of(

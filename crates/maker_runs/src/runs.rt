@@ -2,7 +2,7 @@
 ghost use Rattle.std.specs.Prelude.{◌≡◌, [], IfSome};
 
 use crate::files::{add_left, file_of, remove};
-use desk_rows::{Look, Run, Streams, carried_out, port_of};
+use desk_rows::{Look, ROOM, Run, Streams, carried_out, port_of};
 use mio_poller::MioPoller;
 use port_objects::MemPort;
 use port_trait::{Making, Port};
@@ -16,9 +16,6 @@ use std::thread::Threads;
 use std::time::Clock;
 use worked_rows::{Line, Ran, Row, RowFault};
 use world_trait::Recorder;
-
-/// For how many bytes standard output has room.
-const ROOM: usize = 65_536;
 
 /// Runs the words of the row over a desk that skips its history, and over one that keeps it. Files are the system's.
 pub(crate) fn run_row<R>(
