@@ -1,6 +1,7 @@
 // The calls of the relay on a desk.
 ghost use Rattle.std.specs.Prelude.{◌≡◌, ◌≤◌, ◌<◌, ◌&&◌, ℕ, None, Some, true, false, not, find, length, option_map, ◌⊎◌, IfSome, IfNone};
 ghost use Rattle.slab.specs.Slab.{get};
+ghost use Rattle.relay_model.specs.Conversions.{longest_packet};
 ghost use Rattle.relay_model.specs.declared.places.Place.{Place};
 ghost use Rattle.relay_model.specs.declared.places.Half.{Half};
 ghost use Rattle.relay_model.specs.Holding.{Free, Open, Settling, is_free, is_open};
@@ -282,7 +283,7 @@ impl<M: Maker + Drop, P: Poller + Drop, I: Port, O: Port, E: Port> World for Des
     fn send(&mut self, place: Place, bytes: &[u8]) -> SendAnswer
         requires open { hold_at self.old.log.stations.entries place ≡ Open }
         requires some { 0 < length bytes.now }
-        requires packet { length bytes.now ≤ 65507 }
+        requires packet { length bytes.now ≤ longest_packet }
         ensures act { Answered self.old.log.recording.told self.new.log.recording.told (hold_at self.old.log.stations.entries) (hold_at self.new.log.stations.entries) (send_act place bytes.now result) }
         ensures cause { Rose self.old.log.faults self.new.log.faults (is_send_fault result) }
         ensures exact { CountsOnce self.old.log.faults self.new.log.faults (is_send_fault result) }
