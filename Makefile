@@ -25,7 +25,7 @@ all: bin/socat bin/socat-audit bin/socat-explain
 
 # The run of the proved program on an empty input leaves it in out/; its status is 0 where all is proved.
 bin/socat: $(SOURCES)
-	@echo "Proving and building bin/socat. A first build proves every crate below it, and may take an hour."
+	@echo "Proving and building bin/socat. A first build proves every crate below it, and may take an hour or more."
 	cd crates/socat_main && rt run -- -u STDIN STDOUT </dev/null
 	mkdir -p bin
 	cp $(PROGRAM) bin/socat.new
