@@ -114,22 +114,24 @@ stay() {
     nap 1
 }
 
+# start_short: starts an echo with `fork` that may have 64 descriptors.
+start_short() {
+    local most
+    most="$(ulimit -Sn)"
+    given_nothing
+    ulimit -Sn 64
+    UNAUDITED=yes start relay -t30 TCP4-LISTEN:0,fork PIPE
+    ulimit -Sn "$most"
+}
+
 begin "where descriptors run out the rest is served later"
-given_nothing
-ulimit_now="$(ulimit -Sn)"
-ulimit -Sn 64
-UNAUDITED=yes start relay -t30 TCP4-LISTEN:0,fork PIPE
-ulimit -Sn "$ulimit_now"
+start_short
 crowd '200 had their own' tcp4 "@${pids[relay]}" 200 echo=1000
 lives relay
 finish
 
 begin "where descriptors run out it waits and isn't busy"
-given_nothing
-ulimit_now="$(ulimit -Sn)"
-ulimit -Sn 64
-UNAUDITED=yes start relay -t30 TCP4-LISTEN:0,fork PIPE
-ulimit -Sn "$ulimit_now"
+start_short
 listens relay tcp4
 stay 70
 [ "$(descriptors relay)" -ge 60 ] || wrong "it holds $(descriptors relay) descriptors"
