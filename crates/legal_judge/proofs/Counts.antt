@@ -1,5 +1,5 @@
 -- The counts that a machine word holds, and those before the last act.
-use Rattle.std.proofs.Common.{◌≡◌, ap, ◌∙◌, ℕ, ◌+◌, ◌<◌, ◌^◌, ◌-◌, min, Bool, List, ◌∷◌, ◌++◌, length, length-append, arith}
+use Rattle.std.proofs.Common.{◌≡◌, ap, ◌∙◌, ℕ, ◌+◌, ◌<◌, ◌^◌, ◌-◌, min, List, ◌∷◌, ◌++◌, length, length-append, arith}
 use Rattle.std.proofs.Math.Nat.{min-eq_left}
 use Rattle.relay_model.specs.declared.places.Place.{Place}
 use Rattle.relay_model.specs.declared.acts.Act.{Act}

@@ -165,41 +165,18 @@ fn same_number(one: Option<u64>, other: Option<u64>) -> bool
     }
 }
 
-fn same_list(mut one: &[u8], mut other: &[u8]) -> bool
-    ensures { result ≡ same_list one.entry.now other.entry.now }
+#[tactic(auto, using(crate::proofs::Lists::equal_as_same))]
+fn same_list(one: &[u8], other: &[u8]) -> bool
+    ensures { result ≡ same_list one.now other.now }
 {
-    while let [x, xs @ ..] = one {
-        match other {
-            [] => return false,
-            [y, ys @ ..] => {
-                if *x != *y {
-                    return false;
-                }
-                other = ys;
-            }
-        }
-        one = xs;
-    }
-    other.len() == 0
+    one == other
 }
 
 /// Whether the list begins with the first bytes.
-fn begins(mut first: &[u8], mut list: &[u8]) -> bool
-    ensures { result ≡ begins first.entry.now list.entry.now }
+fn begins(first: &[u8], list: &[u8]) -> bool
+    ensures { result ≡ begins first.now list.now }
 {
-    while let [x, xs @ ..] = first {
-        match list {
-            [] => return false,
-            [y, ys @ ..] => {
-                if *x != *y {
-                    return false;
-                }
-                list = ys;
-            }
-        }
-        first = xs;
-    }
-    true
+    list.starts_with(first)
 }
 
 /// What follows the first so many bytes.

@@ -53,6 +53,7 @@ fn are_ready(openings: &[Opening]) -> bool
     first_unready(openings).is_none()
 }
 
+/// The first opening that isn't ready.
 pub fn first_unready(mut openings: &[Opening]) -> Option<&Opening>
     ensures { option_map (λ o. state_of o.now) result ≡ first_unready (map state_of openings.entry.now) }
 {

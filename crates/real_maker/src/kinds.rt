@@ -1,4 +1,8 @@
 // Which of the makers opens an address.
+ghost use Rattle.std.specs.Prelude.{◌≡◌};
+ghost use Rattle.relay_model.specs.declared.commands.Target.TheVariants as targets;
+ghost use Rattle.real_maker.specs.declared.kinds.Kind.TheVariants as kinds;
+
 use relay_model::{Single, Target};
 use std::fs::Files;
 use std::os::unix::fs::FileTypeExt;
@@ -17,7 +21,9 @@ pub(crate) enum Kind {
 }
 
 /// The kind of the address. A `GOPEN` whose entry is a socket is one (socat(1), `GOPEN`).
-pub(crate) fn kind_of<R: Files>(files: &R, single: &Single) -> Kind {
+pub(crate) fn kind_of<R: Files>(files: &R, single: &Single) -> Kind
+    ensures { result ≡ kinds.Echo → single.now.target ≡ targets.Echo }
+{
     match &single.target {
         Target::Echo => Kind::Echo,
         Target::Create(_) | Target::FileAt(_) | Target::NamedPipe(_) => Kind::File,

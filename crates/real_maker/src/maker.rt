@@ -1,21 +1,34 @@
 // The maker of every address that isn't a standard stream.
-ghost use Rattle.std.specs.Prelude.{◌≡◌, true, None};
+ghost use Rattle.std.specs.Prelude.{◌≡◌, true, false, None, Some, IfSome, is_some};
+ghost use Rattle.relay_model.specs.declared.commands.Single.{Single};
+ghost use Rattle.relay_model.specs.declared.commands.Target.{Target};
+ghost use Rattle.relay_model.specs.Configs.{listens};
 ghost use Rattle.port_trait.specs.Counting.{Counted};
-ghost use Rattle.port_trait.specs.Made.{making_failed, making_stalled, IsAtOnce};
+ghost use Rattle.port_trait.specs.Made.{making_failed, making_stalled, IsAtOnce, peer_failed, peer_stalled, came_after};
+ghost use Rattle.port_trait.specs.declared.makers.Making.TheVariants as makings;
+ghost use Rattle.port_trait.specs.declared.makers.MadePeer.TheVariants as peers;
+ghost use Rattle.socket_kinds.specs.Accepting.{OnPort, OnPeer};
+ghost use Rattle.socket_kinds.specs.Kinds.{Listening, is_door};
+ghost use Rattle.socket_kinds.specs.declared.any_socket.AnySocket.{AnySocket};
+ghost use Rattle.socket_ports.specs.Sockets.{PortState};
+ghost use Rattle.socket_maker.specs.Makings.{opened_sort, port_sort};
+ghost use Rattle.peer_ports.specs.Ports.{PeerState};
 ghost use Rattle.file_ports.specs.Opened.{OnMade};
 ghost use Rattle.real_maker.specs.Makers.{risen, risen_if};
+ghost use Rattle.real_maker.specs.Kinds.{IsOpenedFor, IsDoorFor, ComesAt, gathers_senders};
+ghost use Rattle.real_maker.specs.declared.ports.RealPort.TheVariants as ports;
 
 use crate::kinds::{Kind, kind_of};
 use crate::opening::{OfSocket, make_echo};
 use crate::ports::RealPort;
-use crate::proxied::{through_proxy, through_socks};
+use crate::proxied::{Through, through_proxy, through_socks};
 use child_ports::{Nursery, make_child};
 use file_ports::make_file;
 use mio::Registry;
 use mio_poller::MioPoller;
 use peer_ports::PeerPort;
 use port_trait::{MadePeer, Maker, Making, Port};
-use relay_model::{Part, Peer, Place, Single, Target};
+use relay_model::{Family, Part, Peer, Place, Single, Target};
 use socket_maker::{SocketMaker, bind_udp, door_address};
 use std::alloc::Global;
 use std::fs::Files;
@@ -123,7 +136,8 @@ where
         single: &Single,
         behind: Option<Peer>,
     ) -> Making<RealPort>
-        ensures { self.new ≡ self.old }
+        ensures same { self.new ≡ self.old }
+        ensures kind { OnPort (IsOpenedFor single.now.target) result }
     {
         self.nursery.ask_all();
         match kind_of(&self.system, single) {
@@ -136,7 +150,9 @@ where
         }
     }
 
-    fn open_file(&self, key: usize, part: Part, single: &Single) -> Making<RealPort> {
+    fn open_file(&self, key: usize, part: Part, single: &Single) -> Making<RealPort>
+        ensures { OnPort (IsOpenedFor single.now.target) result }
+    {
         let (system, alloc) = (self.system, self.alloc);
         match make_file(&self.rt, system, alloc, &self.registry, key, single, part) {
             Making::Made(port) => Making::Made(RealPort::File(port)),
@@ -151,7 +167,9 @@ where
         part: Part,
         single: &Single,
         behind: Option<Peer>,
-    ) -> Making<RealPort> {
+    ) -> Making<RealPort>
+        ensures { OnPort (IsOpenedFor single.now.target) result }
+    {
         let (registry, nursery) = (&self.registry, &self.nursery);
         let target = &single.target;
         match make_child(
@@ -170,7 +188,9 @@ where
         }
     }
 
-    fn connect_through(&self, key: usize, single: &Single) -> Making<RealPort> {
+    fn connect_through(&self, key: usize, single: &Single) -> Making<RealPort>
+        ensures { OnPort (IsOpenedFor single.now.target) result }
+    {
         let (rt, registry, options) = (&self.rt, &self.registry, &single.options);
         match &single.target {
             Target::Socks {
@@ -178,16 +198,21 @@ where
                 server,
                 host,
                 port,
-            } => through_socks(rt, registry, key, *named, (server, host, *port), options),
+            } => {
+                let through = Through {
+                    server,
+                    host,
+                    port: *port,
+                };
+                through_socks(rt, registry, key, *named, through, options)
+            }
             Target::Proxy { server, host, port } => {
-                through_proxy(
-                    rt,
-                    self.alloc,
-                    registry,
-                    key,
-                    (server, host, *port),
-                    options,
-                )
+                let through = Through {
+                    server,
+                    host,
+                    port: *port,
+                };
+                through_proxy(rt, self.alloc, registry, key, through, options)
             }
             _ => Making::Failed,
         }
@@ -197,18 +222,20 @@ where
     fn open_door(&mut self, key: usize, single: &Single) -> Making<RealPort>
         ensures at_once { IsAtOnce result }
         ensures same { self.new ≡ self.old }
+        ensures kind { OnPort (IsDoorFor single.now) result }
     {
-        match &single.target {
-            Target::UdpListen { family, port } if single.options.sessions.fork => {
-                self.gather(door_address(single.options.socket.bind, *family, *port))
+        match gathering(single) {
+            Some((family, port)) => {
+                self.gather(door_address(single.options.socket.bind, family, port))
             }
-            _ => of_socket(self.sockets.listen(key, single)),
+            None => of_socket(self.sockets.listen(key, single)),
         }
     }
 
     /// The door of datagrams at this address.
     fn gather(&self, addr: Option<SocketAddr>) -> Making<RealPort>
-        ensures { IsAtOnce result }
+        ensures at_once { IsAtOnce result }
+        ensures kind { (single : Single) → gathers_senders single ≡ true → OnPort (IsDoorFor single) result }
     {
         let Some(addr) = addr else {
             return Making::Failed;
@@ -226,6 +253,7 @@ where
     /// Takes a peer at the door of a socket, without counting.
     fn take_peer(&mut self, door: &mut RealPort, key: usize) -> MadePeer<RealPort>
         ensures same { self.new ≡ self.old }
+        ensures kind { OnPeer (ComesAt door.old) result }
         ensures door { (⟦<RealPort as Port>⟧.gave door.new ≡ ⟦<RealPort as Port>⟧.gave door.old) × (⟦<RealPort as Port>⟧.took door.new ≡ ⟦<RealPort as Port>⟧.took door.old) }
     {
         match door {
@@ -236,10 +264,24 @@ where
     }
 }
 
+/// The family and the port of a door of datagrams each of whose senders has a session; none for another address.
+fn gathering(single: &Single) -> Option<(Family, u16)>
+    ensures { is_some result ≡ gathers_senders single.now }
+{
+    match &single.target {
+        Target::UdpListen { family, port } if single.options.sessions.fork => {
+            Some((*family, *port))
+        }
+        _ => None,
+    }
+}
+
 /// A socket as a port of any kind.
 fn of_socket(making: Making<OfSocket>) -> Making<RealPort>
     ensures failed { making_failed result ≡ making_failed making }
     ensures stalled { making_stalled result ≡ making_stalled making }
+    ensures opened { (target : Target) → IfSome (port_sort making) (λ sort. opened_sort target ≡ Some sort) → OnPort (IsOpenedFor target) result }
+    ensures door { (single : Single) → gathers_senders single ≡ false → (listens single.target ≡ false → making ≡ makings.Failed) → IfSome (port_sort making) (λ sort. sort ≡ Listening) → OnPort (IsDoorFor single) result }
 {
     match making {
         Making::Made(port) => Making::Made(RealPort::Socket(port)),
@@ -250,7 +292,9 @@ fn of_socket(making: Making<OfSocket>) -> Making<RealPort>
 }
 
 /// A peer's socket as a port of any kind.
-fn peer_of(peer: MadePeer<OfSocket>) -> MadePeer<RealPort> {
+fn peer_of(peer: MadePeer<OfSocket>) -> MadePeer<RealPort>
+    ensures { (door : PortState AnySocket) → (is_door door.socket ≡ false → peer ≡ peers.Failed) → OnPeer (λ port. is_door port.socket ≡ false) peer → OnPeer (ComesAt (ports.Socket door)) result }
+{
     match peer {
         MadePeer::Came(port, peer) => MadePeer::Came(RealPort::Socket(port), peer),
         MadePeer::NoPeer => MadePeer::NoPeer,
@@ -260,7 +304,9 @@ fn peer_of(peer: MadePeer<OfSocket>) -> MadePeer<RealPort> {
 }
 
 /// A peer of a shared socket as a port of any kind.
-fn gathered(peer: MadePeer<PeerPort>) -> MadePeer<RealPort> {
+fn gathered(peer: MadePeer<PeerPort>) -> MadePeer<RealPort>
+    ensures { (door : PeerState) → OnPeer (ComesAt (ports.Peer door)) result }
+{
     match peer {
         MadePeer::Came(port, peer) => MadePeer::Came(RealPort::Peer(port), peer),
         MadePeer::NoPeer => MadePeer::NoPeer,
@@ -287,19 +333,36 @@ where
         place: Place,
         single: &Single,
         behind: Option<Peer>,
-    ) -> Making<RealPort> {
+    ) -> Making<RealPort>
+        ensures kind { OnPort (IsOpenedFor single.now.target) result }
+        ensures came { self.new.came ≡ self.old.came }
+        ensures faults { Counted (making_failed result) self.old.faults self.new.faults }
+        ensures stalls { Counted (making_stalled result) self.old.stalls self.new.stalls }
+    {
         let making = self.open(key, place, single, behind);
         self.count_making(&making);
         making
     }
 
-    fn listen(&mut self, key: usize, single: &Single) -> Making<RealPort> {
+    fn listen(&mut self, key: usize, single: &Single) -> Making<RealPort>
+        ensures kind { OnPort (IsDoorFor single.now) result }
+        ensures at_once { IsAtOnce result }
+        ensures came { self.new.came ≡ self.old.came }
+        ensures faults { Counted (making_failed result) self.old.faults self.new.faults }
+        ensures stalls { Counted (making_stalled result) self.old.stalls self.new.stalls }
+    {
         let making = self.open_door(key, single);
         self.count_making(&making);
         making
     }
 
-    fn accept(&mut self, door: &mut RealPort, key: usize) -> MadePeer<RealPort> {
+    fn accept(&mut self, door: &mut RealPort, key: usize) -> MadePeer<RealPort>
+        ensures kind { OnPeer (ComesAt door.old) result }
+        ensures door { (⟦<RealPort as Port>⟧.gave door.new ≡ ⟦<RealPort as Port>⟧.gave door.old) × (⟦<RealPort as Port>⟧.took door.new ≡ ⟦<RealPort as Port>⟧.took door.old) }
+        ensures came { self.new.came ≡ came_after self.old.came result }
+        ensures faults { Counted (peer_failed result) self.old.faults self.new.faults }
+        ensures stalls { Counted (peer_stalled result) self.old.stalls self.new.stalls }
+    {
         match self.take_peer(door, key) {
             MadePeer::Came(port, peer) => {
                 self.came = Some(peer);

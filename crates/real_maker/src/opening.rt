@@ -1,4 +1,8 @@
 // Echo pipes as ports.
+ghost use Rattle.relay_model.specs.declared.commands.Target.TheVariants as targets;
+ghost use Rattle.socket_kinds.specs.Accepting.{OnPort};
+ghost use Rattle.real_maker.specs.Kinds.{IsOpenedFor};
+
 use crate::ports::RealPort;
 use file_ports::EchoPort;
 use port_trait::Making;
@@ -14,7 +18,9 @@ const ECHO_BYTES: usize = 65_536;
 pub type OfSocket = SocketPort<AnySocket, Option<Removal>>;
 
 /// An echo pipe.
-pub(crate) fn make_echo(alloc: Global) -> Making<RealPort> {
+pub(crate) fn make_echo(alloc: Global) -> Making<RealPort>
+    ensures { OnPort (IsOpenedFor targets.Echo) result }
+{
     match EchoPort::new(alloc, ECHO_BYTES) {
         Ok(port) => Making::Made(RealPort::Echo(port)),
         Err(NoMemory) => Making::Memory,

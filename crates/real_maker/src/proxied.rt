@@ -1,4 +1,9 @@
 // Connections through a proxy.
+ghost use Rattle.std.specs.Prelude.{◌≡◌, true};
+ghost use Rattle.relay_model.specs.declared.commands.Target.{Target};
+ghost use Rattle.socket_kinds.specs.Accepting.{OnPort};
+ghost use Rattle.real_maker.specs.Kinds.{IsOpenedFor, is_proxy, is_socks};
+
 use crate::ports::RealPort;
 use connect_port::ConnectPort;
 use mio::Registry;
@@ -12,6 +17,14 @@ use std::net::{Net, SocketAddr};
 /// The most bytes of a user and of a host that a proxy is told.
 const MOST: usize = 255;
 
+/// The proxy's host, and the host and port that it is asked for.
+#[derive(Clone, Copy)]
+pub(crate) struct Through<'a> {
+    pub server: &'a Text,
+    pub host: &'a Text,
+    pub port: u16,
+}
+
 /// Begins to connect to a host through a SOCKS server (socat(1), `SOCKS4` and `SOCKS4A`), which looks the host up where
 /// that is `named`.
 pub(crate) fn through_socks<R: Net>(
@@ -19,9 +32,12 @@ pub(crate) fn through_socks<R: Net>(
     registry: &Registry,
     key: usize,
     named: bool,
-    (server, host, port): (&Text, &Text, u16),
+    through: Through<'_>,
     options: &Options,
-) -> Making<RealPort> {
+) -> Making<RealPort>
+    ensures { (target : Target) → is_socks target ≡ true → OnPort (IsOpenedFor target) result }
+{
+    let Through { server, host, port } = through;
     let Some(request) = request_of(rt, named, host, port, options.proxy.socksuser.as_slice()) else {
         return Making::Failed;
     };
@@ -61,9 +77,12 @@ pub(crate) fn through_proxy<R: Net>(
     alloc: Global,
     registry: &Registry,
     key: usize,
-    (server, host, port): (&Text, &Text, u16),
+    through: Through<'_>,
     options: &Options,
-) -> Making<RealPort> {
+) -> Making<RealPort>
+    ensures { (target : Target) → is_proxy target ≡ true → OnPort (IsOpenedFor target) result }
+{
+    let Through { server, host, port } = through;
     let socket = match connect_host(
         rt,
         registry,

@@ -55,7 +55,7 @@ use Rattle.relay_core.specs.declared.lanes.Lane.{Lane}
 use Rattle.relay_core.specs.declared.lanes.Lane.TheVariants.{Unformed, Formed}
 use Rattle.relay_core.specs.Lanes.{IsLane, AreLanes}
 use Rattle.relay_core.specs.Endings.{Quiet, cause_when_ready}
-use Rattle.relay_core.specs.States.{Ground, Fields, home}
+use Rattle.relay_core.specs.States.{Ground, home}
 use Rattle.relay_core.specs.Births.{IsNew, Begins}
 use Rattle.relay_core.specs.declared.sessions.Session.{Session}
 use Rattle.relay_core.specs.Sessions.{Hears}

@@ -1,5 +1,6 @@
 -- How many steps a session takes at most before the next turn, in one number.
-use Rattle.std.proofs.Common.{◌≡◌, ℕ, ◌+◌, ◌*◌, ◌≤◌, Bool, true, false, ◌&&◌, cond, List, [], ◌∷◌, length, map, is_some, arith, length-append}
+use Rattle.std.proofs.Common.{◌≡◌, refl, ℕ, ◌+◌, ◌*◌, ◌/◌, ◌≤◌, Bool, true, false, ◌&&◌, cond, List, [], ◌∷◌, length, map, is_some, arith, length-append}
+use Rattle.std.proofs.Math.Nat.{div-le_self, mul-div-le}
 use Rattle.std.proofs.lemmas.Bool.{false≢true}
 use Rattle.std.proofs.lemmas.List.{length-map}
 use Rattle.relay_model.specs.declared.places.Place.{Place}
@@ -18,7 +19,7 @@ use Rattle.relay_model.specs.History.{Stage, Untried, Usable, Unsettled, Failed,
 use Rattle.place_openings.specs.OpeningState.{OpeningState}
 use Rattle.place_openings.specs.Stands.{Each}
 use Rattle.place_openings.specs.Steps.{left_unless, stage_weight, steps_of, steps_in}
-use Rattle.session_direction.specs.Directions.{IsDirection, granted}
+use Rattle.session_direction.specs.Directions.{IsDirection, granted, left_to_directions}
 use Rattle.session_direction.specs.States.{DirectionState, unless}
 use Rattle.session_direction.specs.States as directions
 use Rattle.relay_core.specs.declared.lanes.Lane.{Lane}
@@ -63,12 +64,15 @@ parts_within ways.OnlyRight a Right = omega arith
 parts_within ways.OnlyLeft a Left = omega arith
 parts_within ways.OnlyLeft a Right = omega arith
 
-places_within : (c : Config) (s : ℕ) → length (places c s) ≤ 4
-places_within c s =
+places_counted : (c : Config) (s : ℕ) → length (places c s) ≡ length (parts c Left) + length (parts c Right)
+places_counted c s =
     let left : List Place = map (place_at s Left) (parts c Left) in
     let right : List Place = map (place_at s Right) (parts c Right) in
-    rw (length-append left right, length-map (parts c Left) (place_at s Left), length-map (parts c Right) (place_at s Right))
-    (omega (arith, parts_within c.ways (address c Left) Left, parts_within c.ways (address c Right) Right))
+    rw (length-append left right, length-map (parts c Left) (place_at s Left), length-map (parts c Right) (place_at s Right)) refl
+
+-- what four openings leave
+left_at_least : (c : Config) → 36 ≤ left_to_directions c
+left_at_least c = omega (arith, parts_within c.ways (address c Left) Left, parts_within c.ways (address c Right) Right)
 
 -- ---- the directions
 
@@ -81,24 +85,26 @@ direction_within : (c : Config) (past : List Act) (s : ℕ) (w : Way) (d : Direc
 direction_within c past s w d f =
     omega (arith, f.grant_is, f.extra_within, unless_within d.asked_in 2, unless_within d.asked_out 1, unless_within (is_some d.passed_at) 1)
 
-grants_two : (right left : Bool) → right ≡ true → left ≡ true → cond (right && left) 14 32 ≤ 14
-grants_two true true a b = omega arith
-grants_two true false a b = absurd (false≢true b)
-grants_two false left a b = absurd (false≢true a)
+share_alone : (b : Bool) (left : ℕ) → cond b (left / 2) left ≤ left
+share_alone true left = div-le_self left 2
+share_alone false left = omega arith
 
-grants_one : (b : Bool) → cond b 14 32 ≤ 32
-grants_one true = omega arith
-grants_one false = omega arith
+share_of_two : (one other : Bool) (left : ℕ) → one ≡ true → other ≡ true → 2 * cond (one && other) (left / 2) left ≤ left
+share_of_two true true left a b = mul-div-le left 2
+share_of_two true false left a b = absurd (false≢true b)
+share_of_two false other left a b = absurd (false≢true a)
 
--- two directions get less each than one alone
-lanes_within : (c : Config) (past : List Act) (s : ℕ) (right left : Lane) → IsLane c past s LeftToRight right → IsLane c past s RightToLeft left → lane_steps right + lane_steps left ≤ 36
+-- one direction takes at most what is left, and each of two at most half of it
+lanes_within : (c : Config) (past : List Act) (s : ℕ) (right left : Lane) → IsLane c past s LeftToRight right → IsLane c past s RightToLeft left → lane_steps right + lane_steps left ≤ left_to_directions c
 lanes_within c past s Unformed Unformed r l = omega arith
-lanes_within c past s Unformed (Formed e) r l = omega (arith, direction_within c past s RightToLeft e l, grants_one (formed c LeftToRight && formed c RightToLeft))
-lanes_within c past s (Formed d) Unformed r l = omega (arith, direction_within c past s LeftToRight d r, grants_one (formed c LeftToRight && formed c RightToLeft))
+lanes_within c past s Unformed (Formed e) r l =
+    omega (arith, direction_within c past s RightToLeft e l, share_alone (formed c LeftToRight && formed c RightToLeft) (left_to_directions c), left_at_least c)
+lanes_within c past s (Formed d) Unformed r l =
+    omega (arith, direction_within c past s LeftToRight d r, share_alone (formed c LeftToRight && formed c RightToLeft) (left_to_directions c), left_at_least c)
 lanes_within c past s (Formed d) (Formed e) r l =
-    omega (arith, direction_within c past s LeftToRight d r, direction_within c past s RightToLeft e l, grants_two (formed c LeftToRight) (formed c RightToLeft) r.is_formed l.is_formed)
+    omega (arith, direction_within c past s LeftToRight d r, direction_within c past s RightToLeft e l, share_of_two (formed c LeftToRight) (formed c RightToLeft) (left_to_directions c) r.is_formed l.is_formed, left_at_least c)
 
--- four openings of seven steps each, and the directions
+-- the openings, of seven steps each, and the directions
 pub steps_within : (c : Config) (past : List Act) (s : ℕ) (st : State) → Ground c past s st → sessions.steps_of st ≤ 64
 steps_within c past s st g =
-    omega (arith, each_within c past (places c s) st.openings g.openings_are.each, places_within c s, lanes_within c past s st.lanes.to_right st.lanes.to_left g.lanes_are.to_right_is g.lanes_are.to_left_is)
+    omega (arith, each_within c past (places c s) st.openings g.openings_are.each, places_counted c s, left_at_least c, lanes_within c past s st.lanes.to_right st.lanes.to_left g.lanes_are.to_right_is g.lanes_are.to_left_is)

@@ -1,5 +1,6 @@
 -- What a direction stands for after a list of acts, and what its wants say of it.
-use Rattle.std.specs.Prelude.{◌≡◌, ℕ, ◌≤◌, Bool, true, false, not, ◌&&◌, ◌||◌, List, [], ◌∷◌, ◌++◌, is_some, if◌then◌else◌}
+use Rattle.std.specs.Prelude.{◌≡◌, ℕ, ◌+◌, ◌-◌, ◌*◌, ◌/◌, ◌≤◌, Bool, true, false, not, ◌&&◌, ◌||◌, List, [], ◌∷◌, ◌++◌, length, is_some, if◌then◌else◌}
+use Rattle.relay_model.specs.declared.places.Side.TheVariants.{Left, Right}
 use Rattle.relay_model.specs.declared.places.Way.{Way}
 use Rattle.relay_model.specs.declared.places.Way.TheVariants.{LeftToRight, RightToLeft}
 use Rattle.relay_model.specs.declared.commands.Config.{Config}
@@ -7,7 +8,7 @@ use Rattle.relay_model.specs.declared.acts.Act.{Act}
 use Rattle.relay_model.specs.declared.readiness.ReadyAt.{ReadyAt}
 use Rattle.relay_model.specs.Readiness.{Listed}
 use Rattle.relay_model.specs.Choices.{only_if}
-use Rattle.relay_model.specs.Configs.{Medium, Standard, Storage, Program, Connection, Datagrams, input, output, formed, options_of, medium_of, keeps_borders, how}
+use Rattle.relay_model.specs.Configs.{Medium, Standard, Storage, Program, Connection, Datagrams, parts, input, output, formed, options_of, medium_of, keeps_borders, how}
 use Rattle.relay_model.specs.Conversions.{packet_cap}
 use Rattle.relay_model.specs.History.{got, put, sent, met_end, met_empty}
 use Rattle.relay_model.specs.Arming.{read_arming, armed_to_read, armed_to_write, asked_to_read, asked_to_write}
@@ -46,9 +47,15 @@ met_last c past s w =
     met_end past (input c s w) && not (options_of c (input c s w)).input.ignoreeof
     || met_empty past (input c s w) && (options_of c (input c s w)).input.null_eof
 
--- how much a turn grants a direction for further asks: less where the session has two
+-- of at most 64 calls of a session between two turns, those that are left to its directions: each of its places may take
+-- seven until it is ready
+abbrev pub left_to_directions : Config → ℕ
+left_to_directions c = 64 - 7 * (length (parts c Left) + length (parts c Right))
+
+-- how much a turn grants a direction for further asks: what is left, or half of it where the session has two directions,
+-- without four calls that no grant pays
 abbrev pub granted : Config → ℕ
-granted c = if formed c LeftToRight && formed c RightToLeft then 14 else 32
+granted c = (if formed c LeftToRight && formed c RightToLeft then left_to_directions c / 2 else left_to_directions c) - 4
 
 -- the bytes as one piece, or no piece where there are none
 abbrev pub as_pieces : List ℕ → List (List ℕ)

@@ -25,18 +25,23 @@ ghost use Rattle.session_direction.specs.States.{can_read, can_write, left_after
 ghost use Rattle.session_direction.specs.Touches.{touches};
 
 use crate::armings::Arming;
-use command_places::{Medium, formed, how, input, keeps_borders, medium_of, options_of, output};
+use command_places::{
+    Medium, formed, how, input, keeps_borders, medium_of, options_of, output, parts,
+};
 use line_ends::Convs;
 use relay_buffer::{Flow, Lane};
-use relay_model::{Config, Half, NoMemory, Place, ReadyAt, Shut, Way};
+use relay_model::{Config, Half, NoMemory, Place, ReadyAt, Shut, Side, Way};
 use std::alloc::Global;
 use std::marker::Model;
 
-/// How much the only direction of a session may spend between two turns on asks beyond the first of each half.
-const ALONE: u8 = 32;
+/// How many calls a session makes at most between two turns.
+const MOST_CALLS: usize = 64;
 
-/// How much each of two directions may.
-const BESIDE_ANOTHER: u8 = 14;
+/// How many of them each of its places may take until it is ready.
+const OPENING_CALLS: usize = 7;
+
+/// How many of them a direction makes at most that no grant pays.
+const FREE_CALLS: usize = 4;
 
 /// What a further write costs, and a further read where the output wasn't asked since the last one.
 const PRICE: u8 = 1;
@@ -534,15 +539,18 @@ fn is_gathered(medium: Medium) -> bool
     }
 }
 
-/// How much a turn grants a direction for further asks.
+/// How much a turn grants a direction for asks beyond the first of each half.
 fn granted(config: &Config) -> u8
     ensures { result ≡ granted config.now }
 {
-    if formed(config, Way::LeftToRight) && formed(config, Way::RightToLeft) {
-        BESIDE_ANOTHER
+    let places = parts(config, Side::Left).len() + parts(config, Side::Right).len();
+    let left = MOST_CALLS - OPENING_CALLS * places;
+    let share = if formed(config, Way::LeftToRight) && formed(config, Way::RightToLeft) {
+        left / 2
     } else {
-        ALONE
-    }
+        left
+    };
+    (share - FREE_CALLS) as u8
 }
 
 /// What is left to be spent after one more ask: the first of each half costs nothing.

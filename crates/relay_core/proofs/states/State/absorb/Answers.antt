@@ -1,4 +1,4 @@
-use Rattle.std.proofs.Common.{refl, ap, ◌∙◌, is_some}
+use Rattle.std.proofs.Common.{refl}
 use Rattle.std.proofs.lemmas.Bool.{or_left}
 use Rattle.relay_core.proofs.StepLemmas.{reads_bytes, reads_one, takes_some, takes_all, never_ended}
 use Rattle.relay_core.proofs.states.State.absorb.Goals as goal

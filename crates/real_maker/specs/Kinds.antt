@@ -1,0 +1,53 @@
+-- Which port an address gets.
+use Rattle.std.specs.Prelude.{◌≡◌, Bool, true, false, ◌&&◌, Some, is_some}
+use Rattle.relay_model.specs.declared.commands.Single.{Single}
+use Rattle.relay_model.specs.declared.commands.Target.{Target}
+use Rattle.relay_model.specs.declared.commands.Target.TheVariants as targets
+use Rattle.relay_model.specs.Configs.{listens}
+use Rattle.file_ports.specs.Opened.{file_named}
+use Rattle.child_ports.specs.Programs.{runs_program}
+use Rattle.socket_kinds.specs.Kinds.{Listening, is_door, sort_of}
+use Rattle.socket_maker.specs.Makings.{opened_sort}
+use Rattle.real_maker.specs.declared.ports.RealPort.{RealPort}
+use Rattle.real_maker.specs.declared.ports.RealPort.TheVariants as ports
+
+-- it is reached through a SOCKS server
+abbrev pub is_socks : Target → Bool
+is_socks (targets.Socks named server host port) = true
+is_socks _ = false
+
+-- it is reached through an HTTP proxy
+abbrev pub is_proxy : Target → Bool
+is_proxy (targets.Proxy server host port) = true
+is_proxy _ = false
+
+-- its door takes the datagrams of its senders
+abbrev pub takes_datagrams : Target → Bool
+takes_datagrams (targets.UdpListen family port) = true
+takes_datagrams _ = false
+
+-- its door takes datagrams, and each of their senders has a session
+abbrev pub gathers_senders : Single → Bool
+gathers_senders single = takes_datagrams single.target && single.options.sessions.fork
+
+-- the port is of the kind that is opened for such an address
+abbrev pub IsOpenedFor : Target → RealPort → Type 0
+IsOpenedFor target (ports.Echo port) = target ≡ targets.Echo
+IsOpenedFor target (ports.Socket port) = opened_sort target ≡ Some (sort_of port.socket)
+IsOpenedFor target (ports.File port) = is_some (file_named target) ≡ true
+IsOpenedFor target (ports.Child port) = runs_program target ≡ true
+IsOpenedFor target (ports.Socks port) = is_socks target ≡ true
+IsOpenedFor target (ports.Proxy port) = is_proxy target ≡ true
+IsOpenedFor target (ports.Peer port) = ⊥
+
+-- the port is the door of such an address
+abbrev pub IsDoorFor : Single → RealPort → Type 0
+IsDoorFor single (ports.Socket port) = (listens single.target ≡ true) × (gathers_senders single ≡ false) × (sort_of port.socket ≡ Listening)
+IsDoorFor single (ports.Peer port) = gathers_senders single ≡ true
+IsDoorFor single _ = ⊥
+
+-- the port is a peer's, of the kind that comes at such a door
+abbrev pub ComesAt : RealPort → RealPort → Type 0
+ComesAt (ports.Socket door) (ports.Socket port) = (is_door door.socket ≡ true) × (is_door port.socket ≡ false)
+ComesAt (ports.Peer door) (ports.Peer port) = Unit {0}
+ComesAt _ _ = ⊥
