@@ -264,6 +264,9 @@ def main():
         options.seed = random.SystemRandom().randrange(10**9)
     print(f"seed {options.seed}", flush=True)
     signal.signal(signal.SIGTERM, lambda *_: sys.exit("ended by a signal"))
+    if signal.getsignal(signal.SIGHUP) == signal.SIG_IGN:
+        # as under nohup: the relays would ignore it too, but not what is caught here
+        signal.signal(signal.SIGHUP, lambda *_: None)
     folder = tempfile.mkdtemp(prefix="endurance-")
     try:
         it = Endurance(options, folder)

@@ -159,7 +159,8 @@ for row in 'TERM 143' 'HUP 129'; do
     begin "SIG${row% *} while bytes wait for a named pipe"
     no_reader
     input=/dev/zero
-    start relay -u STDIN OPEN:files/pipe
+    # who runs this with nohup ignores hang-ups, and what is started here would too
+    using=env start relay "--default-signal=${row% *}" "$program" -u STDIN OPEN:files/pipe
     ends_by "${row% *}" "${row#* }"
     exec 7>&-
     finish
