@@ -155,8 +155,8 @@ expect "the flag that saves a journal" 'no: words' 1 "$scratch/empty" --journal=
 expect "a file that isn't there" '' 3 "$scratch/missing" "${relay[@]}"
 expect "a folder" '' 3 "$scratch" "${relay[@]}"
 
-said="$("$program")"
-if [ $? -eq 3 ] && [ -z "$said" ]; then
+said="$("$program" 2>"$scratch/usage")"
+if [ $? -eq 3 ] && [ -z "$said" ] && [[ "$(<"$scratch/usage")" == usage:* ]]; then
     passed=$((passed + 1))
 else
     failed=$((failed + 1))

@@ -89,7 +89,7 @@ done
 for name in "$scratch"/blocks/*.run; do
     example "${name%.run}"
 done
-wanted=25
+wanted=28
 tasks="$(grep -c '^### [0-9]' "$here/docs/EXAMPLES.md")"
 [ "$tasks" -eq "$wanted" ] || report "docs/EXAMPLES.md" "it has $tasks tasks, want $wanted"
 

@@ -84,7 +84,7 @@ end_watched() {
 }
 
 parts=("${@:2}")
-[ "${#parts[@]}" -gt 0 ] || parts=(streams journals files options endings children)
+[ "${#parts[@]}" -gt 0 ] || parts=(streams nonblocking journals refusals files files_daily options endings children)
 for part in "${parts[@]}"; do
     . "$here/tests/program/$part.sh"
 done

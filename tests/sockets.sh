@@ -17,7 +17,7 @@ fi
 . "$here/tests/sockets/common.sh"
 
 parts=("${@:2}")
-[ "${#parts[@]}" -gt 0 ] || parts=(pairs streams ends opening filters udp unix proxies sessions senders many)
+[ "${#parts[@]}" -gt 0 ] || parts=(pairs streams ends opening filters udp unix proxies sessions scarce senders names many)
 for part in "${parts[@]}"; do
     . "$here/tests/sockets/$part.sh"
 done

@@ -27,10 +27,46 @@ report "it is emptied first" "$(grep -q before "$journal" && echo 'it keeps what
 try "words that are refused" 1 '' '' 'socat: E05 word 2: empty address' "--journal=$journal" - ''
 report "the file is empty" "$(holds "$journal" '')"
 
-# --- files that can't be made or written: the relay is as ever, but for its status
+# --- files that can't be made or written: the relay is as ever, but for its status and a line
 
-try "a folder as a journal" 1 'abc' 'abc' '' "--journal=$scratch" -u STDIN STDOUT
-try "a journal without a name" 1 'abc' 'abc' '' --journal= -u STDIN STDOUT
-try "a journal in no folder" 1 'abc' 'abc' '' "--journal=$scratch/none/journal" -u STDIN STDOUT
-try "a journal whose name is no text" 1 'abc' 'abc' '' "--journal=$scratch/"$'\xff' -u STDIN STDOUT
-[ ! -e /dev/full ] || try "a journal on a full disk" 1 'abc' 'abc' '' --journal=/dev/full -u STDIN STDOUT
+unwritten="socat: the journal couldn't be written"
+try "a folder as a journal" 1 'abc' 'abc' "$unwritten" "--journal=$scratch" -u STDIN STDOUT
+try "a journal without a name" 1 'abc' 'abc' "$unwritten" --journal= -u STDIN STDOUT
+try "a journal in no folder" 1 'abc' 'abc' "$unwritten" "--journal=$scratch/none/journal" -u STDIN STDOUT
+try "a journal whose name is no text" 1 'abc' 'abc' "$unwritten" "--journal=$scratch/"$'\xff' -u STDIN STDOUT
+[ ! -e /dev/full ] || try "a journal on a full disk" 1 'abc' 'abc' "$unwritten" --journal=/dev/full -u STDIN STDOUT
+
+# The opening of a named pipe would wait for a reader.
+mkfifo "$scratch/journal.pipe"
+try "a named pipe as a journal" 1 'abc' 'abc' "$unwritten" "--journal=$scratch/journal.pipe" -u STDIN STDOUT
+rm -f "$scratch/journal.pipe"
+
+problem=''
+timeout 20 "$program" "--journal=$scratch" - '' </dev/null >/dev/null 2>"$scratch/err"
+[ "$?" -eq 1 ] || problem="another status"
+[ "$(cat "$scratch/err")" = $'socat: E05 word 2: empty address\n'"$unwritten" ] || problem="said $(head -c 200 "$scratch/err")"
+report "words that are refused, and a journal that can't be made" "$problem"
+
+# --- a signal that comes while the journal is written
+
+if command -v strace >/dev/null && strace -o /dev/null true 2>/dev/null; then
+    rm -f "$journal"
+    problem=''
+    printf abc | timeout 60 strace -f -o "$scratch/calls" -P "$journal" -e inject=write:error=EINTR:when=1 \
+        "$program" "--journal=$journal" -u STDIN STDOUT >"$scratch/out" 2>"$scratch/err"
+    status="${PIPESTATUS[1]}"
+    if ! grep -q 'EINTR.*INJECTED' "$scratch/calls"; then
+        problem="no write was interrupted"
+    elif [ "$status" -ne 0 ]; then
+        problem="status $status, said $(head -c 200 "$scratch/err")"
+    else
+        said="$("${AUDITOR:-$here/bin/socat-audit}" "$journal" -u STDIN STDOUT)"
+        case "$said" in
+            yes:*' 0 held') ;;
+            *) problem="the auditor said $said" ;;
+        esac
+    fi
+    report "a journal whose writing is interrupted" "$problem"
+else
+    echo "skipped interrupted journals: there is no strace that may trace"
+fi

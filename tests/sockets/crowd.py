@@ -3,7 +3,8 @@
 
 crowd.py KIND WHERE COUNT [STEP]      KIND is tcp4, tcp6, unix or udp4, WHERE a path, PORT, or @PID of who listens there
 
-STEP is `echo=BYTES` (20000), which sends so many bytes, half-closes, and expects just these back; `leave`, which
+STEP is `echo=BYTES` (20000), which sends so many bytes, half-closes, and expects just these back; `late=BYTES`, the
+same a second after all have connected; `leave`, which
 connects and closes; `reset`, which connects and resets; `read`, which says what comes, one line a client, sorted; with
 udp4 also `rounds=NUMBER`, so many times a datagram with a line of its own, which is to come back in capitals before the
 next one.
@@ -15,6 +16,7 @@ import selectors
 import socket
 import struct
 import sys
+import time
 
 from stand import new_socket, port_now, waited_for
 from talk import LIMIT, kept
@@ -53,7 +55,7 @@ class Client:
         return bool(piece) and not (self.datagrams and len(self.got) >= len(self.sent))
 
 
-def crowd(kind, where, count, size):
+def crowd(kind, where, count, size, pause=0):
     """The clients after all their talks; what went wrong with one is its `wrong`."""
     clients = []
     ready = selectors.DefaultSelector()
@@ -63,6 +65,7 @@ def crowd(kind, where, count, size):
         clients.append(client)
         wants = selectors.EVENT_READ | (selectors.EVENT_WRITE if size else 0)
         ready.register(client.sock, wants, client)
+    time.sleep(pause)
     while ready.get_map():
         events = ready.select(LIMIT)
         if not events:
@@ -138,7 +141,7 @@ def main(kind, where, count, step="echo=20000"):
     if name == "rounds":
         clients = rounds(kind, place, int(count), int(value))
     else:
-        clients = crowd(kind, place, int(count), int(value or 0))
+        clients = crowd(kind, place, int(count), int(value or 0), 1 if name == "late" else 0)
     if name == "read":
         for text in sorted(client.got for client in clients):
             os.write(1, text)

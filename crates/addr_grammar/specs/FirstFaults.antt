@@ -3,7 +3,7 @@ use Rattle.std.specs.Prelude.{◌≡◌, ℕ, ◌+◌, ◌≤◌, ◌⊎◌, Lis
 use Rattle.std.specs.List.{AllByRecursion}
 use Rattle.addr_words.specs.declared.token_list.Token.{Token}
 use Rattle.addr_words.specs.declared.token_list.TokenKind.{TokenKind}
-use Rattle.addr_words.specs.declared.token_list.TokenKind.TheVariants.{Byte, Comma, Dual}
+use Rattle.addr_words.specs.declared.token_list.TokenKind.TheVariants.{Byte, Colon, Comma, Dual, Equals}
 use Rattle.addr_words.specs.declared.faults.WordFault.TheVariants as words
 use Rattle.addr_words.specs.Reading.{tokens_of}
 use Rattle.addr_words.specs.Spelling.{SpellsKinds}
@@ -36,9 +36,36 @@ OptionsBeginBehindCommas =
 abbrev pub HasFewDuals : List TokenKind → Type 0
 HasFewDuals kinds = Free Dual kinds ⊎ ((left : List TokenKind) × (right : List TokenKind) × PartAt Dual kinds left (Some right) × Free Dual right)
 
--- the text is closed, and is one address or two
-abbrev pub IsParted : List ℕ → Type 0
-IsParted text = (kinds : List TokenKind) × SpellsKinds [] text kinds × HasFewDuals kinds
+-- the one address of these kinds, or one of the two around their `!!`
+abbrev pub IsSideOf : List TokenKind → List TokenKind → Type 0
+IsSideOf kinds side =
+    (Free Dual kinds × (side ≡ kinds))
+    ⊎ ((left : List TokenKind) × (right : List TokenKind) × PartAt Dual kinds left (Some right) × Free Dual right × ((side ≡ left) ⊎ (side ≡ right)))
+
+-- these kinds name no keyword: there are none, or a colon or a comma comes first
+abbrev pub NamesNothing : List TokenKind → Type 0
+NamesNothing kinds = (kinds ≡ []) ⊎ ((rest : List TokenKind) × ((kinds ≡ Comma ∷ rest) ⊎ (kinds ≡ Colon ∷ rest)))
+
+-- the text is closed, and of its one address or two one names no keyword
+pub record HasEmptySide (text : List ℕ) : Type 0 where
+  pub kinds : List TokenKind
+  pub side : List TokenKind
+  pub stands : SpellsKinds [] text kinds
+  pub is_side : IsSideOf kinds side
+  pub nameless : NamesNothing side
+
+-- these kinds name no option: there are none, or a comma, an equals sign or a `!!` comes first
+abbrev pub NamesNoOption : List TokenKind → Type 0
+NamesNoOption kinds = (kinds ≡ []) ⊎ ((rest : List TokenKind) × ((kinds ≡ Comma ∷ rest) ⊎ (kinds ≡ Equals ∷ rest) ⊎ (kinds ≡ Dual ∷ rest)))
+
+-- the text is closed and is one address or two, and just behind one of its commas no option is named
+pub record IsEmptyOption (text : List ℕ) (at : ℕ) : Type 0 where
+  pub front : List TokenKind
+  pub behind : List TokenKind
+  pub begins : SpellsKinds [] (take at text) (front ++ Comma ∷ [])
+  pub stands : SpellsKinds [] text (front ++ Comma ∷ behind)
+  pub few : HasFewDuals (front ++ Comma ∷ behind)
+  pub nameless : NamesNoOption behind
 
 -- The faults of words come first, then a second `!!`, then those of its parts. Want of memory is a call's alone,
 -- whatever the text is.
@@ -47,6 +74,6 @@ IsFaultOf text (Unclosed at) = faulty.IsFaultOf text (words.Unclosed at)
 IsFaultOf text (LoneBackslash at) = faulty.IsFaultOf text (words.LoneBackslash at)
 IsFaultOf text TooLong = faulty.IsFaultOf text words.TooLong
 IsFaultOf text (TooManyDuals at) = (length text ≤ 65536) × faulty.IsClosed text × IsSecondDual text at
-IsFaultOf text Empty = (length text ≤ 65536) × IsParted text
-IsFaultOf text (EmptyOption at) = (length text ≤ 65536) × IsParted text × IsOptionPlace text at
+IsFaultOf text Empty = (length text ≤ 65536) × HasEmptySide text
+IsFaultOf text (EmptyOption at) = (length text ≤ 65536) × IsEmptyOption text at
 IsFaultOf text Memory = Unit {0}

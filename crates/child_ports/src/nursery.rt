@@ -5,8 +5,8 @@ use std::cell::Cell;
 use std::process::{Child, OpenProcess};
 use std::rc::Rc;
 
-/// Asks for the ends of the children whose ports are gone, so that none stays a zombie (wait(2)) while others are
-/// started. One that outlives the program is left alone.
+/// Asks for the ends of the children whose ports are gone, so that none stays a zombie (wait(2)). They are asked whenever
+/// a child is started, its output ends or its port is let go. One that outlives the program is left alone.
 #[derive(Drop)]
 pub struct Nursery<P: OpenProcess + Drop> {
     alloc: Global,
@@ -31,12 +31,17 @@ impl<P: OpenProcess + Drop> Nursery<P> {
         })
     }
 
-    /// Asks each child once, and forgets those that have ended.
+    /// Asks each child once, without waiting, and forgets those that have ended. It takes no memory.
     pub fn ask_all(&self) {
-        let mut children = self.left.replace(Vec::new(self.alloc));
-        children.retain_mut(|child| is_running(child));
-        self.left.set(children);
+        ask_each(self.alloc, &self.left);
     }
+}
+
+/// Asks each of these, and keeps those that go on.
+fn ask_each<P: OpenProcess + Drop>(alloc: Global, left: &Cell<Vec<Child<P>>>) {
+    let mut children = left.replace(Vec::new(alloc));
+    children.retain_mut(|child| is_running(child));
+    left.set(children);
 }
 
 /// How the child stands. One that can't be asked counts as running.
@@ -69,12 +74,20 @@ impl<P: OpenProcess + Drop> Ward<P> {
         };
         end_of(child)
     }
+
+    /// Asks the child, and those that were left before.
+    pub fn ask_all(&mut self) {
+        let _ = self.ask();
+        ask_each(self.alloc, &self.left);
+    }
 }
 
 impl<P: OpenProcess + Drop> Drop for Ward<P> {
-    /// A child that hasn't ended goes to the nursery. Where there is no memory for it, it is left alone.
+    /// A child that hasn't ended goes to the nursery, whose children are asked. Where there is no memory for it, it is left
+    /// alone.
     fn drop(self) {
         let Ward { alloc, child, left } = self;
+        ask_each(alloc, &left);
         let Some(mut child) = child else {
             return;
         };

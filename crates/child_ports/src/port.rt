@@ -13,7 +13,8 @@ use std::process::SystemProcess;
 /// The port of a program's pipes.
 pub type ProgramPipes = SocketPort<Halves<PipeReader, PipeWriter>, ()>;
 
-/// A program behind the port of its pipes. Each call but `reap` is that call on the port of the pipes.
+/// A program behind the port of its pipes. Each call but `reap` is that call on the port of the pipes; its child is asked
+/// at the end of its output, too.
 #[derive(Drop)]
 pub struct ChildPort {
     pipes: ProgramPipes,
@@ -79,8 +80,13 @@ impl Port for ChildPort {
         self.pipes.settle()
     }
 
+    /// At the end of its output a child has mostly ended.
     fn read(&mut self, into: &mut [u8]) -> Got {
-        self.pipes.read(into)
+        let got = self.pipes.read(into);
+        if got == Got::End {
+            self.ward.ask_all();
+        }
+        got
     }
 
     fn write(&mut self, bytes: &[u8]) -> Took {

@@ -1,5 +1,7 @@
 // Starting a program.
-ghost use Rattle.std.specs.Prelude.{◌≡◌, false, IfSome};
+ghost use Rattle.std.specs.Prelude.{◌≡◌, ◌∷◌, [], ℕ, List, false, None, Some, IfSome, OnOk, codes};
+ghost use Rattle.std.specs.Process.{SameProgramAndArgs, SameEnv, clears_env};
+ghost use Rattle.child_ports.specs.Commands.{RunsWords, Runs, AddsArgument, SetsTexts, TellsTexts, IsCommandOf, words_of, told_texts};
 ghost use Rattle.port_trait.specs.Made.{IsAtOnce};
 ghost use Rattle.port_trait.specs.declared.makers.Making.TheVariants as makings;
 ghost use Rattle.file_ports.specs.Halves.{AreOf};
@@ -18,13 +20,14 @@ use socket_ports::SocketPort;
 use std::alloc::Global;
 use std::fs::Files;
 use std::io::{PipeReader, PipeWriter, pipe};
-use std::process::{Command, Processes, Stdio, SystemProcess};
+use std::process::{Child, Command, Processes, Stdio, SystemProcess};
 use std::{io, str};
 
 /// Starts the program of an `EXEC` or the shell of a `SYSTEM` (socat(1)), and has the registry report its pipes under
 /// `key`. The stream that the part doesn't use is this process's own, as is standard error. `Failed` where the address
 /// is none of these, where a text of it isn't UTF-8, and where the system refuses. A program that outlives its port
 /// goes to the nursery.
+#[tactic(auto, using(crate::proofs::Words::runs_on))]
 pub fn make_child<R: Files + Processes<Started = SystemProcess>>(
     rt: &R,
     alloc: Global,
@@ -40,18 +43,15 @@ pub fn make_child<R: Files + Processes<Started = SystemProcess>>(
     ensures at_once { IsAtOnce result }
     ensures other { runs_program target.now ≡ false → result ≡ makings.Failed }
 {
-    let mut command = match command_of(alloc, target) {
+    let mut command = match command_for(alloc, target, peer) {
         Making::Made(command) => command,
         Making::Later(_) | Making::Failed => return Making::Failed,
         Making::Memory => return Making::Memory,
     };
-    if set_peer(alloc, &mut command, peer).is_err() {
-        return Making::Memory;
-    }
     let Ok(pipes) = pipe_ends(rt, &mut command, part) else {
         return Making::Failed;
     };
-    let Ok(child) = command.spawn(rt) else {
+    let Ok(child) = start(rt, target, peer, &mut command) else {
         return Making::Failed;
     };
     let Ok(ward) = nursery.ward(child) else {
@@ -63,9 +63,45 @@ pub fn make_child<R: Files + Processes<Started = SystemProcess>>(
     }
 }
 
+/// Starts the program that the target names, which is told of this peer.
+fn start<R: Processes<Started = SystemProcess>>(
+    rt: &R,
+    target: &Target,
+    peer: Option<Peer>,
+    command: &mut Command,
+) -> io::Result<Child<SystemProcess>>
+    requires { IsCommandOf target.now peer command.old }
+{
+    command.spawn(rt)
+}
+
+/// The program with its arguments, which is told of the peer that it serves.
+fn command_for(alloc: Global, target: &Target, peer: Option<Peer>) -> Making<Command>
+    ensures command { OnMade result (IsCommandOf target.now peer) }
+    ensures other { runs_program target.now ≡ false → result ≡ makings.Failed }
+{
+    match command_of(alloc, target) {
+        Making::Made(command) => with_peer(alloc, command, peer),
+        Making::Later(_) | Making::Failed => Making::Failed,
+        Making::Memory => Making::Memory,
+    }
+}
+
+/// The same command, which tells of the peer besides.
+#[tactic(auto, using(crate::proofs::Words::told_after))]
+fn with_peer(alloc: Global, mut command: Command, peer: Option<Peer>) -> Making<Command>
+    ensures { (words : List (List ℕ)) → RunsWords words command → OnMade result (Runs words (told_texts peer)) }
+{
+    match set_peer(alloc, &mut command, peer) {
+        Ok(()) => Making::Made(command),
+        Err(NoMemory) => Making::Memory,
+    }
+}
+
 /// The program and its arguments.
 fn command_of(alloc: Global, target: &Target) -> Making<Command>
-    ensures { runs_program target.now ≡ false → result ≡ makings.Failed }
+    ensures words { OnMade result (RunsWords (words_of target.now)) }
+    ensures other { runs_program target.now ≡ false → result ≡ makings.Failed }
 {
     match target {
         Target::Exec(words) => command_of_words(alloc, words),
@@ -74,7 +110,9 @@ fn command_of(alloc: Global, target: &Target) -> Making<Command>
     }
 }
 
-fn command_of_words(alloc: Global, words: &Texts) -> Making<Command> {
+fn command_of_words(alloc: Global, words: &Texts) -> Making<Command>
+    ensures { OnMade result (RunsWords words.now) }
+{
     if words.len() == 0 {
         return Making::Failed;
     }
@@ -88,35 +126,64 @@ fn command_of_words(alloc: Global, words: &Texts) -> Making<Command> {
         let Ok(word) = str::from_utf8(words.get(i).as_slice()) else {
             return Making::Failed;
         };
-        if command.arg(word).is_err() {
+        let Ok(()) = add_argument(&mut command, word) else {
             return Making::Memory;
-        }
+        };
     }
     Making::Made(command)
 }
 
-fn shell_command(alloc: Global, text: &Text) -> Making<Command> {
+fn add_argument(command: &mut Command, argument: &str) -> Result<(), NoMemory>
+    ensures { OnOk result (AddsArgument command.old command.new argument.now) }
+{
+    command.arg(argument)?;
+    Ok(())
+}
+
+fn shell_command(alloc: Global, text: &Text) -> Making<Command>
+    ensures { OnMade result (RunsWords (codes "/bin/sh" ∷ codes "-c" ∷ text.now ∷ [])) }
+{
     let Ok(text) = str::from_utf8(text.as_slice()) else {
         return Making::Failed;
     };
     let Ok(mut command) = Command::new(alloc, "/bin/sh") else {
         return Making::Memory;
     };
-    if command.arg("-c").is_err() || command.arg(text).is_err() {
+    if add_argument(&mut command, "-c").is_err() {
+        return Making::Memory;
+    }
+    if add_argument(&mut command, text).is_err() {
         return Making::Memory;
     }
     Making::Made(command)
 }
 
-/// Tells the child of the peer that it serves.
-fn set_peer(alloc: Global, command: &mut Command, peer: Option<Peer>) -> Result<(), NoMemory> {
+/// Tells the child of the peer that it serves. Of a peer without an address it isn't told that of another.
+fn set_peer(alloc: Global, command: &mut Command, peer: Option<Peer>) -> Result<(), NoMemory>
+    ensures { clears_env command.old ≡ false → OnOk result (TellsTexts (told_texts peer) command.old command.new) }
+{
     let Some(peer) = peer else {
         return Ok(());
     };
-    if let Some(texts) = PeerTexts::of(alloc, peer)? {
-        command.env("SOCAT_PEERADDR", texts.address.as_str())?;
-        command.env("SOCAT_PEERPORT", texts.port.as_str())?;
+    match PeerTexts::of(alloc, peer)? {
+        Some(texts) => set_texts(command, texts.address.as_str(), texts.port.as_str()),
+        None => unset_texts(command),
     }
+}
+
+fn set_texts(command: &mut Command, address: &str, port: &str) -> Result<(), NoMemory>
+    ensures { OnOk result (SetsTexts command.old command.new (Some (address.now, port.now))) }
+{
+    command.env("SOCAT_PEERADDR", address)?;
+    command.env("SOCAT_PEERPORT", port)?;
+    Ok(())
+}
+
+fn unset_texts(command: &mut Command) -> Result<(), NoMemory>
+    ensures { clears_env command.old ≡ false → OnOk result (SetsTexts command.old command.new None) }
+{
+    command.env_remove("SOCAT_PEERADDR")?;
+    command.env_remove("SOCAT_PEERPORT")?;
     Ok(())
 }
 
@@ -129,7 +196,10 @@ struct PipeEnds {
 
 /// Gives the program the other ends of pipes. These are of io::pipe, since the writer of a `Child` keeps SIGPIPE away by
 /// three more system calls for each write, and this process ignores that signal.
-fn pipe_ends<R: Files>(rt: &R, command: &mut Command, part: Part) -> io::Result<PipeEnds> {
+fn pipe_ends<R: Files>(rt: &R, command: &mut Command, part: Part) -> io::Result<PipeEnds>
+    ensures call { OnOk result (SameProgramAndArgs command.old command.new) }
+    ensures environment { OnOk result (SameEnv command.old command.new) }
+{
     let mut ends = PipeEnds {
         output: None,
         input: None,

@@ -5,6 +5,7 @@ use Rattle.cmd_words.specs.declared.commands.Command.{Command}
 use Rattle.cmd_words.specs.declared.faults.CommandFault.{CommandFault}
 use Rattle.cmd_words.specs.declared.faults.CommandFault.TheVariants as faults
 use Rattle.cmd_words.specs.Commands.{command}
+use Rattle.std.specs.Io.KnownBytes.{Appends}
 use Rattle.place_report.specs.Shown.{IsPrintable, EndsLine}
 use Rattle.command_report.specs.Reports.{Tells}
 use Rattle.command_report.specs.Refusals.{RefusalTold}
@@ -31,3 +32,9 @@ pub record Explained (words : List (List ℕ)) (took_before took : Option (List 
   pub text : List ℕ
   pub report : IsReport (words_of_run words) text status
   pub said : took ≡ option_map (λ all. all ++ text) took_before
+
+-- the same of a writer of std beneath the sink, where its bytes are known
+pub record ExplainedBeneath (words : List (List ℕ)) (holds_before holds : Option (List ℕ)) (status : ℕ) : Type 0 where
+  pub text : List ℕ
+  pub report : IsReport (words_of_run words) text status
+  pub said : Appends holds_before holds text

@@ -1,7 +1,7 @@
 // The program's work: what its words make is written to a sink.
 ghost use Rattle.std.specs.Prelude.{◌≡◌, ◌<◌, true, IfOk};
 ghost use Rattle.port_trait.specs.Counting.{Rose};
-ghost use Rattle.command_report.specs.Runs.{words_of_run, IsReport, Explained};
+ghost use Rattle.command_report.specs.Runs.{words_of_run, IsReport, Explained, ExplainedBeneath};
 
 use crate::commands::explanation;
 use crate::refusals::refusal_report;
@@ -55,6 +55,7 @@ fn report(alloc: Global, words: &[Text]) -> Result<(Bytes, u8), NoMemory>
 pub fn explain_run<K: Sink>(alloc: Global, sink: &mut K, words: &[Text]) -> u8
     ensures known { result < 4 }
     ensures explained { result < 2 → Explained words.now (K.took sink.old) (K.took sink.new) result }
+    ensures beneath { result < 2 → ExplainedBeneath words.now (K.holds sink.old) (K.holds sink.new) result }
     ensures finished { result < 2 → K.finished sink.new ≡ true }
     ensures failed { result ≡ 3 → Rose (K.faults sink.old) (K.faults sink.new) }
 {

@@ -4,7 +4,7 @@ ghost use Rattle.port_trait.specs.Counting.{Tallied};
 ghost use Rattle.answer_counts.specs.Counted.{counted};
 ghost use Rattle.port_trait.specs.Meanings.{Gives, Accepts, AcceptsAll, is_end, settle_event, read_event, write_event};
 ghost use Rattle.port_trait.specs.declared.answers.Took.TheVariants as writes;
-ghost use Rattle.tunnel_port.specs.Talks.{is_passed, is_over, settled_at, read_at, write_at, IsOnly, Follows, behind_talk, InTalk, HasCause};
+ghost use Rattle.tunnel_port.specs.Talks.{is_passed, is_over, settled_at, read_at, write_at, IsOnly, Follows, behind_talk, InTalk, HasCause, IsCutByEnd};
 ghost use Rattle.tunnel_port.specs.Tunnels.{fresh_tunnel};
 ghost use Rattle.connect_port.specs.Replies.{Stands, refusal_of, fresh_talk};
 ghost use Rattle.connect_port.specs.Requests.{connect_request};
@@ -71,6 +71,8 @@ impl<P: Port> Port for ConnectPort<P> {
 
     ghost took = { λ port. behind_talk (is_passed port.stage) port.talk.request (P.took port.inner) };
 
+    ghost shuts = { λ port. P.shuts port.inner };
+
     ghost hints = { λ port. P.hints port.inner };
 
     ghost hinting = { λ port. P.hinting port.inner };
@@ -96,12 +98,14 @@ impl<P: Port> Port for ConnectPort<P> {
         ensures answer { result ≡ settled_at self.new.stage }
         ensures stands { Stands self.new.talk self.new.stage }
         ensures cause { is_over self.old.stage ≡ false → HasCause self.new.stage (P.counts self.old.inner) (P.counts self.new.inner) }
+        ensures cut { is_over self.old.stage ≡ false → IsCutByEnd self.new.stage (P.ended self.old.inner) (P.ended self.new.inner) (P.counts self.old.inner) (P.counts self.new.inner) }
         ensures over { is_over self.old.stage ≡ true → self.new ≡ record self.old { counts = self.new.counts } }
         ensures talk { InTalk (P.took self.new.inner) (P.gave self.new.inner) self.new.talk.request self.new.talk.heard self.new.said self.new.stage }
         ensures follows { is_passed self.new.stage ≡ true → Follows self.new.talk.request (P.took self.new.inner) (behind_talk (is_passed self.new.stage) self.new.talk.request (P.took self.new.inner)) × Follows self.new.talk.heard (P.gave self.new.inner) (behind_talk (is_passed self.new.stage) self.new.talk.heard (P.gave self.new.inner)) }
         ensures request { self.new.talk.request ≡ self.old.talk.request }
         ensures unmoved { (behind_talk (is_passed self.new.stage) self.new.talk.request (P.took self.new.inner) ≡ behind_talk (is_passed self.old.stage) self.old.talk.request (P.took self.old.inner)) × (behind_talk (is_passed self.new.stage) self.new.talk.heard (P.gave self.new.inner) ≡ behind_talk (is_passed self.old.stage) self.old.talk.heard (P.gave self.old.inner)) }
         ensures kept { (P.begun self.new.inner ≡ P.begun self.old.inner) × (P.child self.new.inner ≡ P.child self.old.inner) × (self.new.ended ≡ self.old.ended) }
+        ensures unshut { P.shuts self.new.inner ≡ P.shuts self.old.inner }
         ensures counted { self.new.counts ≡ counted (settle_event result) self.old.counts }
         ensures counts { Tallied (settle_event result) self.old.counts self.new.counts }
     {
@@ -119,6 +123,7 @@ impl<P: Port> Port for ConnectPort<P> {
         ensures ended { self.new.ended ≡ is_end result }
         ensures kept { self.new ≡ record self.old { inner = self.new.inner; counts = self.new.counts; ended = self.new.ended } }
         ensures same { (P.took self.new.inner ≡ P.took self.old.inner) × (P.begun self.new.inner ≡ P.begun self.old.inner) × (P.child self.new.inner ≡ P.child self.old.inner) }
+        ensures unshut { P.shuts self.new.inner ≡ P.shuts self.old.inner }
         ensures counted { self.new.counts ≡ counted (read_event result) self.old.counts }
         ensures counts { Tallied (read_event result) self.old.counts self.new.counts }
     {
@@ -135,6 +140,7 @@ impl<P: Port> Port for ConnectPort<P> {
         ensures accepts { Accepts (behind_talk (is_passed self.old.stage) self.old.talk.request (P.took self.old.inner)) (behind_talk (is_passed self.new.stage) self.new.talk.request (P.took self.new.inner)) bytes.now result }
         ensures kept { self.new ≡ record self.old { inner = self.new.inner; counts = self.new.counts } }
         ensures same { (P.gave self.new.inner ≡ P.gave self.old.inner) × (P.begun self.new.inner ≡ P.begun self.old.inner) × (P.child self.new.inner ≡ P.child self.old.inner) }
+        ensures unshut { P.shuts self.new.inner ≡ P.shuts self.old.inner }
         ensures counted { self.new.counts ≡ counted (write_event result) self.old.counts }
         ensures counts { Tallied (write_event result) self.old.counts self.new.counts }
     {
@@ -160,6 +166,7 @@ impl<P: Port> Port for ConnectPort<P> {
         ensures accepts { AcceptsAll (behind_talk (is_passed self.old.stage) self.old.talk.request (P.took self.old.inner)) (behind_talk (is_passed self.new.stage) self.new.talk.request (P.took self.new.inner)) bytes.now result }
         ensures kept { self.new ≡ record self.old { inner = self.new.inner; counts = self.new.counts } }
         ensures same { (P.gave self.new.inner ≡ P.gave self.old.inner) × (P.begun self.new.inner ≡ P.begun self.old.inner) × (P.child self.new.inner ≡ P.child self.old.inner) }
+        ensures unshut { P.shuts self.new.inner ≡ P.shuts self.old.inner }
         ensures counted { self.new.counts ≡ counted (write_event result) self.old.counts }
         ensures counts { Tallied (write_event result) self.old.counts self.new.counts }
     {

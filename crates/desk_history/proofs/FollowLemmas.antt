@@ -49,7 +49,7 @@ use Rattle.desk_places.proofs.PlaceLemmas.{same_place-eq}
 use Rattle.desk_places.proofs.StationLemmas.{found_none, free_station}
 use Rattle.port_desk.specs.Records.{NotedSo, are_none, has_no_acts}
 use Rattle.port_desk.specs.Calls.{ReadsSo, SendsSo, ShutsSo, WritesSo}
-use Rattle.desk_history.specs.Following.{AllOwn, AreElsewhere, Follows, FollowsTold, IsElsewhere, Passed, are_noted, errors_written, input_ended, input_read, output_written, reads_input, stream_of, writes_errors, writes_output}
+use Rattle.desk_history.specs.Following.{AllOwn, AreElsewhere, Follows, FollowsTold, IsElsewhere, IsUnused, Passed, are_noted, errors_written, input_ended, input_read, output_written, reads_input, stream_of, writes_errors, writes_output}
 use Rattle.desk_history.proofs.FollowSteps.{Goes, IsStill, Stands, acted, asked, ended_of, found, gave_of, grown_sum, kept_over, kept_sum, kept_told, nothing, on_slot, own_reads, own_said, own_writes, quiet, stands_comes, stands_leaves, stands_same, still_follows, took_of, unmapped}
 
 -- ---- a read
@@ -669,11 +669,14 @@ empty : (past : List Act) → are_none past ≡ true → past ≡ []
 empty [] e = refl
 empty (act ∷ past) e = absurd cc
 
+no_acts : (acted : Bool) (acts : List Act) → acted ≡ false → (acted || are_none acts) ≡ true → are_none acts ≡ true
+no_acts true acts untouched none = absurd cc
+no_acts false acts untouched none = none
+
 -- a history without acts, where nothing is held and no bytes were passed
-pub starts : (acted : Bool) (told : Option History) (base : Place → Option Base) (gave took said : Option (List ℕ)) (over : Bool) → (acted || has_no_acts told) ≡ true → acted ≡ false → ((p : Place) → base p ≡ None) → IfSome gave (λ all. all ≡ []) → IfSome took (λ all. all ≡ []) → IfSome said (λ all. all ≡ []) → FollowsTold told base gave took said over
-starts true told base gave took said over unacted untouched free given taken silent = absurd cc
-starts false None base gave took said over unacted untouched free given taken silent = tt
-starts false (Some h) base gave took said over unacted untouched free given taken silent = λ own all elsewhere. start_at own h.acts base gave took said over (empty h.acts unacted) free given taken silent
+pub starts : (acted : Bool) (told : Option History) (base : Place → Option Base) (gave took said : Option (List ℕ)) (over : Bool) → (acted || has_no_acts told) ≡ true → ((p : Place) → base p ≡ None) → IfSome told (λ _. IsUnused acted gave took said) → FollowsTold told base gave took said over
+starts acted None base gave took said over unacted free unused = tt
+starts acted (Some h) base gave took said over unacted free unused = λ own all elsewhere. start_at own h.acts base gave took said over (empty h.acts (no_acts acted h.acts unused.untouched unacted)) free unused.given unused.taken unused.silent
 
 -- what isn't held stands on nothing
 pub unbased : (xs : List Station) → ((p : Place) → hold_at xs p ≡ Free) → (p : Place) → base_at xs p ≡ None

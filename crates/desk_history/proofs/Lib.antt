@@ -1,2 +1,3 @@
+pub mod FollowCalled
 pub mod FollowLemmas
 pub mod FollowSteps

@@ -108,6 +108,13 @@ abbrev pub FollowsTold : Option History → (Place → Option Base) → Option (
 FollowsTold None base gave took said ended = ⊤
 FollowsTold (Some history) base gave took said ended = (own : Place → Single) → AllOwn own history.asked → AreElsewhere own history.acts → Follows own history.acts base gave took said ended
 
+-- nothing was done yet, and the standard streams have passed no bytes
+pub record IsUnused (acted : Bool) (gave took said : Option (List ℕ)) : Type 0 where
+  pub untouched : acted ≡ false
+  pub given : IfSome gave (λ all. all ≡ [])
+  pub taken : IfSome took (λ all. all ≡ [])
+  pub silent : IfSome said (λ all. all ≡ [])
+
 -- what the standard streams passed by these acts: what was read at the places on standard input, with the end where the
 -- last read met it, what was written at those on standard output, and, where no note failed, what was written at those
 -- on standard error and noted

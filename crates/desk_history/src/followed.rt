@@ -1,9 +1,9 @@
 // The calls of a desk, each of which keeps what its standard streams passed in step with what its history tells.
-ghost use Rattle.std.specs.Prelude.{◌≡◌, [], IfSome, false};
+ghost use Rattle.std.specs.Prelude.{◌≡◌, IfSome};
 ghost use Rattle.relay_model.specs.Holding.{Free};
 ghost use Rattle.relay_model.specs.declared.places.Place.{Place as Spot};
 ghost use Rattle.desk_places.specs.Stations.{base_at, hold_at};
-ghost use Rattle.desk_history.specs.Following.{FollowsTold, Passed};
+ghost use Rattle.desk_history.specs.Following.{FollowsTold, IsUnused, Passed};
 
 use port_desk::Desk;
 use port_trait::{Maker, Poller, Port};
@@ -21,13 +21,11 @@ pub struct Followed<M: Maker + Drop, P: Poller + Drop, I: Port, O: Port, E: Port
 }
 
 impl<M: Maker + Drop, P: Poller + Drop, I: Port, O: Port, E: Port> Followed<M, P, I, O, E> {
-    /// Follows the desk, which has done nothing yet, and whose standard streams have passed no bytes.
+    /// Follows the desk, at which nothing is held. One that tells its history has done nothing yet, and its standard streams
+    /// have passed no bytes.
     pub fn new(desk: Desk<M, P, I, O, E>) -> Followed<M, P, I, O, E>
         requires free { (p : Spot) → ⟦<Desk<M, P, I, O, E> as World>⟧.held desk p ≡ Free }
-        requires untouched { desk.log.acted ≡ false }
-        requires given { IfSome desk.ports.harbor.input.port.gave (λ all. all ≡ []) }
-        requires taken { IfSome desk.ports.harbor.output.port.took (λ all. all ≡ []) }
-        requires silent { IfSome desk.ports.harbor.errors.port.took (λ all. all ≡ []) }
+        requires unused { IfSome desk.log.recording.told (λ _. IsUnused desk.log.acted desk.ports.harbor.input.port.gave desk.ports.harbor.output.port.took desk.ports.harbor.errors.port.took) }
         ensures { result.desk ≡ desk }
     {
         Followed { desk }

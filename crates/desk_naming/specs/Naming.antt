@@ -1,5 +1,5 @@
 -- What a turn is to name: halves whose key a poller named, and disarmed ones whose port hints that they are ready.
-use Rattle.std.specs.Prelude.{◌≡◌, ◌≤◌, ◌⊎◌, ℕ, Bool, true, List, [], length, slice_get, Option, None, Some, IfSome}
+use Rattle.std.specs.Prelude.{◌≡◌, ◌≤◌, ◌⊎◌, ℕ, Bool, true, List, [], ◌∷◌, length, slice_get, Option, None, Some, IfSome, ⊤}
 use Rattle.relay_model.specs.declared.places.Place.{Place}
 use Rattle.relay_model.specs.declared.places.Half.{Half}
 use Rattle.relay_model.specs.declared.places.Half.TheVariants.{ToRead, ToWrite}
@@ -8,12 +8,17 @@ use Rattle.relay_model.specs.Readiness.{names}
 use Rattle.port_trait.specs.declared.answers.Hint.{Hint}
 use Rattle.slab.specs.Slab.{Slab, get}
 use Rattle.desk_ports.specs.Bases.{is_standard}
-use Rattle.desk_ports.specs.Harbors.{Pier, giving_pier, place_of, taking_pier}
+use Rattle.desk_ports.specs.Harbors.{Pier, giving_pier, hint_told, place_of, taking_pier}
 use Rattle.desk_ports.specs.Ports.{BerthSeen}
 use Rattle.desk_ports.specs.declared.bases.Base.{Base}
 use Rattle.desk_ports.specs.declared.bases.Base.TheVariants as bases
+use Rattle.desk_ports.specs.declared.harbor.Harbor.{Harbor}
 use Rattle.desk_places.specs.declared.stations.Station.{Station}
 use Rattle.desk_places.specs.Stations.{base_at, half_disarmed, station_at}
+
+-- the hint that each port of the harbor tells
+abbrev pub told_by : {T I O E : Type 0} → Harbor T I O E → Pier → Option Hint
+told_by harbor = hint_told harbor.input.port.hints harbor.output.port.hints harbor.errors.port.hints harbor.made
 
 -- the half is named, unless the list is full
 abbrev pub IsNamed : List ReadyAt → Place → Half → Type 0
@@ -75,6 +80,38 @@ IsHinted half (Some hint) = is_hinted half hint ≡ true
 abbrev pub IsHinting : (Pier → Option Hint) → Option Station → Half → Type 0
 IsHinting told None half = ⊥
 IsHinting told (Some station) half = (half_disarmed half (Some station) ≡ true) × IsHinted half (told (half_pier half station.base))
+
+-- the poller named the key that the place stands on, and this half of it
+pub record IsKeyed (keys : List (ℕ × Half)) (stations : List Station) (p : Place) (half : Half) : Type 0 where
+  pub index : ℕ
+  pub key : ℕ
+  pub entry : slice_get keys index ≡ Some (key, half)
+  pub based : base_at stations p ≡ Some (bases.Made key)
+
+-- the half of the station is disarmed, and its port tells that it is ready, or doesn't tell
+abbrev pub MayHint : (Pier → Option Hint) → Option Station → Half → Type 0
+MayHint told None half = ⊥
+MayHint told (Some station) half = (half_disarmed half (Some station) ≡ true) × IfSome (told (half_pier half station.base)) (λ hint. is_hinted half hint ≡ true)
+
+-- a half may be named where its key was, or where it is disarmed and its port hints so
+abbrev pub IsDue : List (ℕ × Half) → (Pier → Option Hint) → List Station → Place → Half → Type 0
+IsDue keys told stations p half = IsKeyed keys stations p half ⊎ MayHint told (station_at stations p) half
+
+-- no other half is named
+abbrev pub NamesOnly : List (ℕ × Half) → (Pier → Option Hint) → List Station → List ReadyAt → Type 0
+NamesOnly keys told stations [] = ⊤
+NamesOnly keys told stations (e ∷ ready) = IsDue keys told stations e.place e.half × NamesOnly keys told stations ready
+
+-- of a station the halves are named that are disarmed and that the hint finds ready, and no others
+abbrev pub HintsOnly : Station → Hint → List ReadyAt → List ReadyAt → Type 0
+HintsOnly station hint before now =
+    (keys : List (ℕ × Half)) (told : Pier → Option Hint) (stations : List Station) →
+    ((half : Half) → half_disarmed half (Some station) ≡ true → is_hinted half hint ≡ true → IsDue keys told stations station.place half) →
+    NamesOnly keys told stations before → NamesOnly keys told stations now
+
+-- where no half can hint, the poll is asked to wait as the turn asks
+abbrev pub WaitsIdle : (Pier → Option Hint) → List Station → Option ℕ → Option ℕ → Type 0
+WaitsIdle told stations until asked = ((p : Place) (half : Half) → MayHint told (station_at stations p) half → ⊥) → asked ≡ until
 
 -- until when a poll is asked to wait: where a half hints it is asked for the moment of the last turn, and so doesn't
 -- wait, and where nothing came to be named it was asked as the turn was

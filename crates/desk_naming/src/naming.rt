@@ -1,17 +1,19 @@
 // What a turn names: halves that hint so, and those whose key was named.
-ghost use Rattle.std.specs.Prelude.{◌≡◌, ◌≤◌, ◌<◌, ◌+◌, ◌&&◌, not, true, false, [], length, IfSome};
+ghost use Rattle.std.specs.Prelude.{◌≡◌, ◌≤◌, ◌<◌, ◌+◌, ◌&&◌, ℕ, not, true, false, List, Option, Some, [], length, slice_get, IfSome};
 ghost use Rattle.slab.specs.Slab.{SameValues, Slab, get};
 ghost use Rattle.relay_model.specs.Holding.{Hold, is_free};
 ghost use Rattle.relay_model.specs.Readiness.{names};
 ghost use Rattle.relay_model.specs.declared.places.Half.{Half};
 ghost use Rattle.relay_model.specs.declared.places.Place.{Place};
 ghost use Rattle.world_trait.specs.Answers.{NamesHeld};
-ghost use Rattle.desk_ports.specs.Harbors.{hint_told, place_of};
+ghost use Rattle.port_trait.specs.declared.answers.Hint.{Hint};
+ghost use Rattle.desk_ports.specs.Harbors.{Pier, SameStreams, place_of};
 ghost use Rattle.desk_ports.specs.Ports.{BerthSeen, seen};
+ghost use Rattle.desk_places.specs.declared.stations.Station.{Station};
 ghost use Rattle.desk_places.specs.Footing.{IsSound};
 ghost use Rattle.desk_places.specs.Keys.{KeyTable};
 ghost use Rattle.desk_places.specs.Stations.{SameFooting, SameHold, hold_at, is_disarmed, station_at};
-ghost use Rattle.desk_naming.specs.Naming.{Grown, HintNamed, IsNamed, KeyNamed, NamesHinting, NamesKeyed, NamesListed, NamesStandard, PlaceNamed, StationNamed};
+ghost use Rattle.desk_naming.specs.Naming.{Grown, HintNamed, HintsOnly, IsDue, IsNamed, KeyNamed, NamesHinting, NamesKeyed, NamesListed, NamesOnly, NamesStandard, PlaceNamed, StationNamed, told_by};
 
 use desk_places::{Ports, Station, Stations};
 use port_trait::{Hint, KeyList, Maker, Port};
@@ -25,6 +27,7 @@ fn name(ready: &mut ReadyList, place: Place, half: Half)
     ensures fits { length ready.old.entries < 256 → names ready.new.entries place half ≡ true }
     ensures most { length ready.new.entries ≤ length ready.old.entries + 1 }
     ensures grown { Grown ready.old.entries ready.new.entries }
+    ensures only { (keys : List (ℕ × Half)) (told : Pier → Option Hint) (stations : List Station) → IsDue keys told stations place half → NamesOnly keys told stations ready.old.entries → NamesOnly keys told stations ready.new.entries }
     ensures held { (hold : Place → Hold) → is_free (hold place) ≡ false → NamesHeld hold ready.old.entries → NamesHeld hold ready.new.entries }
 {
     ready.push(ReadyAt { place, half });
@@ -36,6 +39,7 @@ fn name_hinted(station: Station, hint: Hint, ready: &mut ReadyList)
     ensures room { ready.new.room ≡ ready.old.room }
     ensures named { HintNamed station hint ready.new.entries }
     ensures grown { Grown ready.old.entries ready.new.entries }
+    ensures only { HintsOnly station hint ready.old.entries ready.new.entries }
     ensures held { (hold : Place → Hold) → is_free (hold station.place) ≡ false → NamesHeld hold ready.old.entries → NamesHeld hold ready.new.entries }
 {
     if station.reading_disarmed && hint.readable {
@@ -55,12 +59,11 @@ fn name_station<M: Maker + Drop, I: Port, O: Port, E: Port>(
 )
     requires { 256 ≤ ready.old.room }
     ensures room { ready.new.room ≡ ready.old.room }
-    ensures named { StationNamed (hint_told ports.old.harbor.input.port.hints ports.old.harbor.output.port.hints ports.old.harbor.errors.port.hints ports.old.harbor.made) station ready.new.entries }
+    ensures named { StationNamed (told_by ports.old.harbor) station ready.new.entries }
     ensures grown { Grown ready.old.entries ready.new.entries }
+    ensures only { (keys : List (ℕ × Half)) (stations : List Station) → station_at stations station.place ≡ Some station → NamesOnly keys (told_by ports.old.harbor) stations ready.old.entries → NamesOnly keys (told_by ports.old.harbor) stations ready.new.entries }
     ensures held { (hold : Place → Hold) → is_free (hold station.place) ≡ false → NamesHeld hold ready.old.entries → NamesHeld hold ready.new.entries }
-    ensures input { ports.new.harbor.input.port ≡ ports.old.harbor.input.port }
-    ensures output { ports.new.harbor.output.port ≡ ports.old.harbor.output.port }
-    ensures errors { ports.new.harbor.errors.port ≡ ports.old.harbor.errors.port }
+    ensures streams { SameStreams ports.old.harbor ports.new.harbor }
     ensures made { SameValues ports.old.harbor.made ports.new.harbor.made }
     ensures listed { ports.new.listed ≡ ports.old.listed }
     ensures maker { ports.new.maker ≡ ports.old.maker }
@@ -83,12 +86,11 @@ fn name_place<M: Maker + Drop, I: Port, O: Port, E: Port>(
     requires room { 256 ≤ ready.old.room }
     requires held { NamesHeld (hold_at stations.now.entries) ready.old.entries }
     ensures room { ready.new.room ≡ ready.old.room }
-    ensures named { PlaceNamed (hint_told ports.old.harbor.input.port.hints ports.old.harbor.output.port.hints ports.old.harbor.errors.port.hints ports.old.harbor.made) stations.now.entries place ready.new.entries }
+    ensures named { PlaceNamed (told_by ports.old.harbor) stations.now.entries place ready.new.entries }
     ensures grown { Grown ready.old.entries ready.new.entries }
+    ensures only { (keys : List (ℕ × Half)) → NamesOnly keys (told_by ports.old.harbor) stations.now.entries ready.old.entries → NamesOnly keys (told_by ports.old.harbor) stations.now.entries ready.new.entries }
     ensures held { NamesHeld (hold_at stations.now.entries) ready.new.entries }
-    ensures input { ports.new.harbor.input.port ≡ ports.old.harbor.input.port }
-    ensures output { ports.new.harbor.output.port ≡ ports.old.harbor.output.port }
-    ensures errors { ports.new.harbor.errors.port ≡ ports.old.harbor.errors.port }
+    ensures streams { SameStreams ports.old.harbor ports.new.harbor }
     ensures made { SameValues ports.old.harbor.made ports.new.harbor.made }
     ensures listed { ports.new.listed ≡ ports.old.listed }
     ensures maker { ports.new.maker ≡ ports.old.maker }
@@ -108,12 +110,11 @@ fn name_standard<M: Maker + Drop, I: Port, O: Port, E: Port>(
     requires room { 256 ≤ ready.old.room }
     requires held { NamesHeld (hold_at stations.now.entries) ready.old.entries }
     ensures room { ready.new.room ≡ ready.old.room }
-    ensures named { NamesStandard (hint_told ports.old.harbor.input.port.hints ports.old.harbor.output.port.hints ports.old.harbor.errors.port.hints ports.old.harbor.made) stations.now.entries ready.new.entries }
+    ensures named { NamesStandard (told_by ports.old.harbor) stations.now.entries ready.new.entries }
     ensures grown { Grown ready.old.entries ready.new.entries }
+    ensures only { (keys : List (ℕ × Half)) → NamesOnly keys (told_by ports.old.harbor) stations.now.entries ready.old.entries → NamesOnly keys (told_by ports.old.harbor) stations.now.entries ready.new.entries }
     ensures held { NamesHeld (hold_at stations.now.entries) ready.new.entries }
-    ensures input { ports.new.harbor.input.port ≡ ports.old.harbor.input.port }
-    ensures output { ports.new.harbor.output.port ≡ ports.old.harbor.output.port }
-    ensures errors { ports.new.harbor.errors.port ≡ ports.old.harbor.errors.port }
+    ensures streams { SameStreams ports.old.harbor ports.new.harbor }
     ensures made { SameValues ports.old.harbor.made ports.new.harbor.made }
     ensures listed { ports.new.listed ≡ ports.old.listed }
     ensures maker { ports.new.maker ≡ ports.old.maker }
@@ -134,12 +135,11 @@ fn name_made<M: Maker + Drop, I: Port, O: Port, E: Port>(
     requires room { 256 ≤ ready.old.room }
     requires held { NamesHeld (hold_at stations.now.entries) ready.old.entries }
     ensures room { ready.new.room ≡ ready.old.room }
-    ensures named { IfSome (place_of (get ports.old.harbor.made key)) (λ place. PlaceNamed (hint_told ports.old.harbor.input.port.hints ports.old.harbor.output.port.hints ports.old.harbor.errors.port.hints ports.old.harbor.made) stations.now.entries place ready.new.entries) }
+    ensures named { IfSome (place_of (get ports.old.harbor.made key)) (λ place. PlaceNamed (told_by ports.old.harbor) stations.now.entries place ready.new.entries) }
     ensures grown { Grown ready.old.entries ready.new.entries }
+    ensures only { (keys : List (ℕ × Half)) → NamesOnly keys (told_by ports.old.harbor) stations.now.entries ready.old.entries → NamesOnly keys (told_by ports.old.harbor) stations.now.entries ready.new.entries }
     ensures held { NamesHeld (hold_at stations.now.entries) ready.new.entries }
-    ensures input { ports.new.harbor.input.port ≡ ports.old.harbor.input.port }
-    ensures output { ports.new.harbor.output.port ≡ ports.old.harbor.output.port }
-    ensures errors { ports.new.harbor.errors.port ≡ ports.old.harbor.errors.port }
+    ensures streams { SameStreams ports.old.harbor ports.new.harbor }
     ensures made { SameValues ports.old.harbor.made ports.new.harbor.made }
     ensures listed { ports.new.listed ≡ ports.old.listed }
     ensures maker { ports.new.maker ≡ ports.old.maker }
@@ -159,12 +159,11 @@ fn name_listed<M: Maker + Drop, I: Port, O: Port, E: Port>(
     requires room { 256 ≤ ready.old.room }
     requires held { NamesHeld (hold_at stations.now.entries) ready.old.entries }
     ensures room { ready.new.room ≡ ready.old.room }
-    ensures named { NamesListed (hint_told ports.old.harbor.input.port.hints ports.old.harbor.output.port.hints ports.old.harbor.errors.port.hints ports.old.harbor.made) stations.now.entries ports.old.harbor.made ports.old.listed.keys ready.new.entries }
+    ensures named { NamesListed (told_by ports.old.harbor) stations.now.entries ports.old.harbor.made ports.old.listed.keys ready.new.entries }
     ensures grown { Grown ready.old.entries ready.new.entries }
+    ensures only { (keys : List (ℕ × Half)) → NamesOnly keys (told_by ports.old.harbor) stations.now.entries ready.old.entries → NamesOnly keys (told_by ports.old.harbor) stations.now.entries ready.new.entries }
     ensures held { NamesHeld (hold_at stations.now.entries) ready.new.entries }
-    ensures input { ports.new.harbor.input.port ≡ ports.old.harbor.input.port }
-    ensures output { ports.new.harbor.output.port ≡ ports.old.harbor.output.port }
-    ensures errors { ports.new.harbor.errors.port ≡ ports.old.harbor.errors.port }
+    ensures streams { SameStreams ports.old.harbor ports.new.harbor }
     ensures made { SameValues ports.old.harbor.made ports.new.harbor.made }
     ensures listed { ports.new.listed ≡ ports.old.listed }
     ensures maker { ports.new.maker ≡ ports.old.maker }
@@ -186,12 +185,11 @@ pub fn name_hinting<M: Maker + Drop, I: Port, O: Port, E: Port>(
     requires held { NamesHeld (hold_at stations.now.entries) ready.old.entries }
     requires sound { IsSound stations.now.entries ports.old.harbor.made ports.old.listed }
     ensures room { ready.new.room ≡ ready.old.room }
-    ensures named { NamesHinting (hint_told ports.old.harbor.input.port.hints ports.old.harbor.output.port.hints ports.old.harbor.errors.port.hints ports.old.harbor.made) stations.now.entries ready.new.entries }
+    ensures named { NamesHinting (told_by ports.old.harbor) stations.now.entries ready.new.entries }
     ensures grown { Grown ready.old.entries ready.new.entries }
+    ensures only { (keys : List (ℕ × Half)) → NamesOnly keys (told_by ports.old.harbor) stations.now.entries ready.old.entries → NamesOnly keys (told_by ports.old.harbor) stations.now.entries ready.new.entries }
     ensures held { NamesHeld (hold_at stations.now.entries) ready.new.entries }
-    ensures input { ports.new.harbor.input.port ≡ ports.old.harbor.input.port }
-    ensures output { ports.new.harbor.output.port ≡ ports.old.harbor.output.port }
-    ensures errors { ports.new.harbor.errors.port ≡ ports.old.harbor.errors.port }
+    ensures streams { SameStreams ports.old.harbor ports.new.harbor }
     ensures made { SameValues ports.old.harbor.made ports.new.harbor.made }
     ensures listed { ports.new.listed ≡ ports.old.listed }
     ensures maker { ports.new.maker ≡ ports.old.maker }
@@ -217,6 +215,7 @@ fn name_key<M: Maker + Drop, I: Port, O: Port, E: Port>(
     ensures named { KeyNamed (key, half) stations.now.entries ready.new.entries }
     ensures most { length ready.new.entries ≤ length ready.old.entries + 1 }
     ensures grown { Grown ready.old.entries ready.new.entries }
+    ensures only { (keys : List (ℕ × Half)) (told : Pier → Option Hint) (i : ℕ) → slice_get keys i ≡ Some (key, half) → NamesOnly keys told stations.now.entries ready.old.entries → NamesOnly keys told stations.now.entries ready.new.entries }
     ensures held { NamesHeld (hold_at stations.now.entries) ready.new.entries }
 {
     let Some(place) = ports.harbor.place_of(key) else {
@@ -239,6 +238,7 @@ pub fn name_keyed<M: Maker + Drop, I: Port, O: Port, E: Port>(
     requires sound { IsSound stations.now.entries ports.now.harbor.made ports.now.listed }
     ensures room { ready.new.room ≡ ready.old.room }
     ensures named { NamesKeyed keys.now.entries stations.now.entries ready.new.entries }
+    ensures only { (told : Pier → Option Hint) → NamesOnly keys.now.entries told stations.now.entries ready.new.entries }
     ensures held { NamesHeld (hold_at stations.now.entries) ready.new.entries }
 {
     for i in 0..keys.len() {

@@ -24,7 +24,8 @@ passed false x y e = refl
 pub others_stay : (xs ys : List Station) (place : Place) (slot : Option Station) → SetsStation place slot (station_at xs) (station_at ys) → OtherBases place (base_at xs) (base_at ys)
 others_stay xs ys place slot sets p away = ap (option_map (λ s. s.base)) (sets p ∙ passed (same_place place p) slot (station_at xs p) away)
 
-comes_here : (xs ys : List Station) (s : Station) → SetsStation s.place (Some s) (station_at xs) (station_at ys) → base_at ys s.place ≡ Some s.base
+-- a place that comes to stand on what its station stands on
+pub comes_here : (xs ys : List Station) (s : Station) → SetsStation s.place (Some s) (station_at xs) (station_at ys) → base_at ys s.place ≡ Some s.base
 comes_here xs ys s sets = ap (option_map (λ t. t.base)) (sets s.place ∙ picked (same_place s.place s.place) (Some s) (station_at xs s.place) (same_place-same s.place))
 
 -- a place that comes to stand on standard streams

@@ -19,13 +19,14 @@ use Rattle.world_trait.specs.declared.answers.OpenAnswer.TheVariants as opens
 use Rattle.world_trait.specs.declared.answers.AcceptAnswer.{AcceptAnswer}
 use Rattle.world_trait.specs.declared.answers.AcceptAnswer.TheVariants as accepts
 use Rattle.desk_ports.specs.Bases.{key_of}
-use Rattle.desk_ports.specs.Harbors.{AtMade, MadeCall, giving_pier}
-use Rattle.desk_ports.specs.Ports.{PortSeen, BerthSeen, Settles}
+use Rattle.desk_ports.specs.Harbors.{CalledAt, Errors, Input, Made, MadeCall, Output, Pier, SameStreams, StreamCall, giving_pier}
+use Rattle.desk_ports.specs.Ports.{BerthSeen, IsOf, PortSeen, Settles, StreamSeen}
 use Rattle.desk_ports.specs.declared.bases.Base.{Base}
 use Rattle.desk_ports.specs.declared.bases.Base.TheVariants as bases
+use Rattle.desk_ports.specs.declared.harbor.Harbor.{Harbor}
 use Rattle.desk_places.specs.declared.stations.Station.{Station}
 use Rattle.desk_places.specs.Causes.{AcceptCause, WelcomeCause}
-use Rattle.desk_places.specs.Changes.{HeldAfter, KeptFor, LeavesParent, LeftSo, SettlesMade, made_at, shut_answer}
+use Rattle.desk_places.specs.Changes.{HeldAfter, KeptFor, KeptIf, LeavesParent, LeftSo, SettledAt, SettledOut, SettlesMade, made_at, shut_answer}
 use Rattle.desk_places.specs.Stations.{SetsStation, station_at, base_at}
 use Rattle.desk_places.proofs.PlaceLemmas.{same_place-eq}
 
@@ -92,11 +93,11 @@ open_held Open e = refl
 open_held ShutDown e = refl
 
 -- an accepting whose peer has come
-pub welcomed : (answer : AcceptAnswer) (peer : Peer) (faults faults' stalls stalls' : ℕ) (came : Option Peer) → came ≡ Some peer → WelcomeCause peer answer → AcceptCause faults faults' stalls stalls' came answer
-welcomed (accepts.Accepted other) peer faults faults' stalls stalls' came is same = is ∙ ap Some (sym same)
-welcomed accepts.NoPeer peer faults faults' stalls stalls' came is never = absurd never
-welcomed accepts.Failed peer faults faults' stalls stalls' came is dropped = inr dropped
-welcomed accepts.Memory peer faults faults' stalls stalls' came is nothing = tt
+pub welcomed : {T : Type 0} (tells : T → PortSeen) (answer : AcceptAnswer) (peer : Peer) (faults faults' stalls stalls' : ℕ) (came : Option Peer) → came ≡ Some peer → WelcomeCause tells peer answer → AcceptCause tells faults faults' stalls stalls' came answer
+welcomed tells (accepts.Accepted other) peer faults faults' stalls stalls' came is same = is ∙ ap Some (sym same)
+welcomed tells accepts.NoPeer peer faults faults' stalls stalls' came is never = absurd never
+welcomed tells accepts.Failed peer faults faults' stalls stalls' came is dropped = inr dropped
+welcomed tells accepts.Memory peer faults faults' stalls stalls' came is nothing = tt
 
 -- a port that is let go was joined where that was to be, and is kept where it has a child
 kept_if : (b : Bool) (joined : Bool) (old new : BerthSeen) (before after : List BerthSeen) → new.place ≡ old.place → LeftSo joined old.port new.port → after ≡ (if b then new ∷ before else before) → KeptFor b joined old before after
@@ -104,32 +105,52 @@ kept_if true joined old new before after place left e =
     (new.port, left, e ∙ ap (λ p. record { place = p; port = new.port } ∷ before) place)
 kept_if false joined old new before after place left e = e
 
-left_child : (joined : Bool) (before now : PortSeen) → LeftSo joined before now → now.child ≡ before.child
-left_child true before now left = left.child
-left_child false before now left = ap (λ (p : PortSeen). p.child) left
+pub leaves_parent : (joined : Bool) (slot : Option BerthSeen) (old new : BerthSeen) (child : Bool) (before after : List BerthSeen) → slot ≡ Some old → new.place ≡ old.place → LeftSo joined old.port new.port → child ≡ old.port.child → after ≡ (if child then new ∷ before else before) → LeavesParent joined slot before after
+leaves_parent joined slot old new child before after is place left same e =
+    subst (λ x. LeavesParent joined x before after) (sym is) (subst (λ b. KeptFor b joined old before after) same (kept_if child joined old new before after place left e))
 
-pub leaves_parent : (joined : Bool) (slot : Option BerthSeen) (old new : BerthSeen) (before after : List BerthSeen) → slot ≡ Some old → new.place ≡ old.place → LeftSo joined old.port new.port → after ≡ (if new.port.child then new ∷ before else before) → LeavesParent joined slot before after
-leaves_parent joined slot old new before after is place left e =
-    let f : after ≡ (if old.port.child then new ∷ before else before) = e ∙ ap (λ b. if b then new ∷ before else before) (left_child joined old.port new.port left) in
-    subst (λ x. LeavesParent joined x before after) (sym is) (kept_if old.port.child joined old new before after place left f)
+kept_last : (b : Bool) (mid old : BerthSeen) (port : PortSeen) (before after : List BerthSeen) → mid.place ≡ old.place → mid.port ≡ port → KeptFor b false mid before after → KeptIf b (record { place = old.place; port = port }) before after
+kept_last true mid old port before after place is kept =
+    kept.2 ∙ (ap (λ (q : Place). record { place = q; port = kept.0 } ∷ before) place ∙ ap (λ (q : PortSeen). record { place = old.place; port = q } ∷ before) (kept.1 ∙ is))
+kept_last false mid old port before after place is kept = kept
 
 -- a settling that failed, on a made port that is gone since
-failed_slot : (old mid : Option BerthSeen) → IfSome old (λ o. IfSome mid (λ n. (n.place ≡ o.place) × Settles o.port n.port settles.Failed)) → is_some mid ≡ is_some old → IfSome old (λ o. (last : PortSeen) × Settles o.port last settles.Failed)
-failed_slot None mid call stands = tt
-failed_slot (Some o) None call stands = absurd cc
-failed_slot (Some o) (Some n) call stands = (n.port, call.1)
+settled_out : {T : Type 0} (tells : T → PortSeen) (old mid : Option BerthSeen) (parents parents' : List BerthSeen) → IfSome old (λ o. IfSome mid (λ n. (n.place ≡ o.place) × Settles o.port n.port settles.Failed)) → is_some mid ≡ is_some old → IfSome mid (λ n. IsOf tells n.port) → LeavesParent false mid parents parents' → IfSome old (λ o. SettledOut tells o parents parents')
+settled_out tells None mid parents parents' call stands told left = tt
+settled_out tells (Some o) None parents parents' call stands told left = absurd cc
+settled_out tells (Some o) (Some n) parents parents' call stands told left = record {
+  last = told.state;
+  call = subst (λ (p : PortSeen). Settles o.port p settles.Failed) told.told call.1;
+  kept = subst (λ b. KeptIf b (record { place = o.place; port = tells told.state }) parents parents') call.1.child (kept_last n.port.child n o (tells told.state) parents parents' call.0 told.told left);
+}
 
-pub settle_failed : (made mid made' : Slab BerthSeen) (key : ℕ) → MadeCall made mid key (λ old new. Settles old new settles.Failed) → get made' key ≡ None → ((other : ℕ) → other ≢ key → get made' other ≡ get mid other) → IfSome (get made key) (λ old. (last : PortSeen) × Settles old.port last settles.Failed) × (get made' key ≡ None) × ((other : ℕ) → other ≢ key → get made' other ≡ get made other)
-settle_failed made mid made' key call gone others =
-    (failed_slot (get made key) (get mid key) call.call call.stands, gone, λ other away. others other away ∙ call.others other away)
+pub settle_failed : {T : Type 0} (tells : T → PortSeen) (made mid made' : Slab BerthSeen) (parents parents' : List BerthSeen) (key : ℕ) → MadeCall made mid key (λ old new. Settles old new settles.Failed) → IfSome (get mid key) (λ n. IsOf tells n.port) → LeavesParent false (get mid key) parents parents' → get made' key ≡ None → ((other : ℕ) → other ≢ key → get made' other ≡ get mid other) → SettlesMade tells made made' parents parents' key opens.Failed
+settle_failed tells made mid made' parents parents' key call told left gone others =
+    (settled_out tells (get made key) (get mid key) parents parents' call.call call.stands told left, gone, λ other away. others other away ∙ call.others other away)
 
--- a settling that failed left the place: its made port is gone, and else nothing of the made ports changed
-pub settle_left : (base : Base) (made mid made' : Slab BerthSeen) → AtMade (giving_pier base) (λ key. MadeCall made mid key (λ old new. Settles old new settles.Failed)) (mid ≡ made) → (key_of base ≡ None → made' ≡ mid) → ((key : ℕ) → base ≡ bases.Made key → get made' key ≡ None) → ((key : ℕ) → base ≡ bases.Made key → (other : ℕ) → other ≢ key → get made' other ≡ get mid other) → AtMade (giving_pier base) (λ key. SettlesMade made made' key opens.Failed) (made' ≡ made)
-settle_left (bases.Made key) made mid made' call same gone others = settle_failed made mid made' key call (gone key refl) (others key refl)
-settle_left bases.Input made mid made' call same gone others = same refl ∙ call
-settle_left bases.Output made mid made' call same gone others = same refl ∙ call
-settle_left bases.Both made mid made' call same gone others = same refl ∙ call
-settle_left bases.Errors made mid made' call same gone others = same refl ∙ call
+stream_on : (a b c : StreamSeen) (Call : PortSeen → PortSeen → Type 0) → StreamCall a b Call → c ≡ b → StreamCall a c Call
+stream_on a b c Call call same = subst (λ (s : StreamSeen). StreamCall a s Call) (sym same) call
+
+-- a settling that failed left the place: its made port is gone, and else nothing changed
+pub settle_left : {T X I O E : Type 0} (tells : T → PortSeen) (base : Base) (a b c : Harbor X I O E) (parents parents' : List BerthSeen) → CalledAt (giving_pier base) a b (λ old new. Settles old new settles.Failed) → SameStreams b c → IfSome (made_at b.made base) (λ n. IsOf tells n.port) → LeavesParent false (made_at b.made base) parents parents' → (key_of base ≡ None → c.made ≡ b.made) → ((key : ℕ) → base ≡ bases.Made key → get c.made key ≡ None) → ((key : ℕ) → base ≡ bases.Made key → (other : ℕ) → other ≢ key → get c.made other ≡ get b.made other) → SettledAt tells (giving_pier base) a c parents parents' opens.Failed
+settle_left tells (bases.Made key) a b c parents parents' call still told left same gone others = (still.input ∙ call.0, still.output ∙ call.1, still.errors ∙ call.2, settle_failed tells a.made b.made c.made parents parents' key call.3 told left (gone key refl) (others key refl))
+settle_left tells bases.Input a b c parents parents' call still told left same gone others = (stream_on a.input b.input c.input _ call.0 still.input, still.output ∙ call.1, still.errors ∙ call.2, same refl ∙ call.3, left)
+settle_left tells bases.Output a b c parents parents' call still told left same gone others = (still.input ∙ call.0, stream_on a.output b.output c.output _ call.1 still.output, still.errors ∙ call.2, same refl ∙ call.3, left)
+settle_left tells bases.Both a b c parents parents' call still told left same gone others = (stream_on a.input b.input c.input _ call.0 still.input, still.output ∙ call.1, still.errors ∙ call.2, same refl ∙ call.3, left)
+settle_left tells bases.Errors a b c parents parents' call still told left same gone others = (still.input ∙ call.0, still.output ∙ call.1, stream_on a.errors b.errors c.errors _ call.2 still.errors, same refl ∙ call.3, left)
+
+-- one that didn't fail keeps the ports that were kept
+pub settle_ready : {T X I O E : Type 0} (tells : T → PortSeen) (pier : Pier) (a b : Harbor X I O E) (parents : List BerthSeen) → CalledAt pier a b (λ old new. Settles old new settles.Ready) → SettledAt tells pier a b parents parents opens.Opened
+settle_ready tells Input a b parents call = (call.0, call.1, call.2, call.3, refl)
+settle_ready tells Output a b parents call = (call.0, call.1, call.2, call.3, refl)
+settle_ready tells Errors a b parents call = (call.0, call.1, call.2, call.3, refl)
+settle_ready tells (Made key) a b parents call = (call.0, call.1, call.2, (call.3, refl))
+
+pub settle_later : {T X I O E : Type 0} (tells : T → PortSeen) (pier : Pier) (a b : Harbor X I O E) (parents : List BerthSeen) → CalledAt pier a b (λ old new. Settles old new settles.NotYet) → SettledAt tells pier a b parents parents opens.Later
+settle_later tells Input a b parents call = (call.0, call.1, call.2, call.3, refl)
+settle_later tells Output a b parents call = (call.0, call.1, call.2, call.3, refl)
+settle_later tells Errors a b parents call = (call.0, call.1, call.2, call.3, refl)
+settle_later tells (Made key) a b parents call = (call.0, call.1, call.2, (call.3, refl))
 
 -- a place on a made port doesn't stand on another one
 pub on_another : (xs : List Station) (p : Place) (base : Base) (key other : ℕ) → base_at xs p ≡ Some base → base ≡ bases.Made key → other ≢ key → base_at xs p ≡ Some (bases.Made other) → ⊥

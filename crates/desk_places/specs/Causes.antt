@@ -5,7 +5,7 @@ use Rattle.relay_model.specs.declared.places.Place.{Place}
 use Rattle.relay_model.specs.declared.commands.Single.{Single}
 use Rattle.port_trait.specs.declared.makers.AskedPlace.{AskedPlace}
 use Rattle.port_trait.specs.Counting.{Rose}
-use Rattle.desk_ports.specs.Ports.{PortSeen}
+use Rattle.desk_ports.specs.Ports.{FailsToBegin, PortSeen}
 use Rattle.world_trait.specs.declared.answers.OpenAnswer.{OpenAnswer}
 use Rattle.world_trait.specs.declared.answers.OpenAnswer.TheVariants as opens
 use Rattle.world_trait.specs.declared.answers.ListenAnswer.{ListenAnswer}
@@ -15,24 +15,24 @@ use Rattle.world_trait.specs.declared.answers.AcceptAnswer.TheVariants as accept
 use Rattle.port_trait.specs.declared.answers.Begun.{Begun}
 use Rattle.port_trait.specs.declared.answers.Begun.TheVariants as begins
 
--- a new port that was dropped since it didn't begin: its count of faults rose between two of its states
-pub record Dropped : Type 0 where
-  pub made : PortSeen
-  pub failed : PortSeen
-  pub rose : Rose made.counts.faults failed.counts.faults
+-- a new port that was dropped since it didn't begin: its states before and after that `begin`, between which its count
+-- of faults rose
+pub record Dropped {T : Type 0} (tells : T → PortSeen) : Type 0 where
+  pub made : T
+  pub fails : FailsToBegin tells made
 
--- why the beginning of a port answered so
-abbrev pub BeginCause : Begun → Type 0
-BeginCause begins.Begun = ⊤
-BeginCause begins.Failed = Dropped
-BeginCause begins.Memory = ⊤
+-- why the beginning of this port answered so
+abbrev pub BeginCause : {T : Type 0} → (T → PortSeen) → T → Begun → Type 0
+BeginCause tells made begins.Begun = ⊤
+BeginCause tells made begins.Failed = FailsToBegin tells made
+BeginCause tells made begins.Memory = ⊤
 
 -- by the maker's counts of faults and stalls, each before and after
-abbrev pub OpenCause : ℕ → ℕ → ℕ → ℕ → OpenAnswer → Type 0
-OpenCause faults faults' stalls stalls' opens.Opened = ⊤
-OpenCause faults faults' stalls stalls' opens.Later = Rose stalls stalls'
-OpenCause faults faults' stalls stalls' opens.Failed = Rose faults faults' ⊎ Dropped
-OpenCause faults faults' stalls stalls' opens.Memory = ⊤
+abbrev pub OpenCause : {T : Type 0} → (T → PortSeen) → ℕ → ℕ → ℕ → ℕ → OpenAnswer → Type 0
+OpenCause tells faults faults' stalls stalls' opens.Opened = ⊤
+OpenCause tells faults faults' stalls stalls' opens.Later = Rose stalls stalls'
+OpenCause tells faults faults' stalls stalls' opens.Failed = Rose faults faults' ⊎ Dropped tells
+OpenCause tells faults faults' stalls stalls' opens.Memory = ⊤
 
 -- what a maker tells that its last opening was asked for: this address for this place, with this peer behind it
 abbrev pub AskedFor : Place → Single → Option Peer → Option AskedPlace → Type 0
@@ -46,24 +46,24 @@ OpenAsks place single behind told opens.Failed = AskedFor place single behind to
 OpenAsks place single behind told opens.Memory = ⊤
 
 -- why a listening answered so
-abbrev pub ListenCause : ℕ → ℕ → ListenAnswer → Type 0
-ListenCause faults faults' listens.Listening = ⊤
-ListenCause faults faults' listens.Failed = Rose faults faults' ⊎ Dropped
-ListenCause faults faults' listens.Memory = ⊤
+abbrev pub ListenCause : {T : Type 0} → (T → PortSeen) → ℕ → ℕ → ListenAnswer → Type 0
+ListenCause tells faults faults' listens.Listening = ⊤
+ListenCause tells faults faults' listens.Failed = Rose faults faults' ⊎ Dropped tells
+ListenCause tells faults faults' listens.Memory = ⊤
 
 -- the peer is the one that the maker tells after the call
-abbrev pub AcceptCause : ℕ → ℕ → ℕ → ℕ → Option Peer → AcceptAnswer → Type 0
-AcceptCause faults faults' stalls stalls' came (accepts.Accepted peer) = came ≡ Some peer
-AcceptCause faults faults' stalls stalls' came accepts.NoPeer = Rose stalls stalls'
-AcceptCause faults faults' stalls stalls' came accepts.Failed = Rose faults faults' ⊎ Dropped
-AcceptCause faults faults' stalls stalls' came accepts.Memory = ⊤
+abbrev pub AcceptCause : {T : Type 0} → (T → PortSeen) → ℕ → ℕ → ℕ → ℕ → Option Peer → AcceptAnswer → Type 0
+AcceptCause tells faults faults' stalls stalls' came (accepts.Accepted peer) = came ≡ Some peer
+AcceptCause tells faults faults' stalls stalls' came accepts.NoPeer = Rose stalls stalls'
+AcceptCause tells faults faults' stalls stalls' came accepts.Failed = Rose faults faults' ⊎ Dropped tells
+AcceptCause tells faults faults' stalls stalls' came accepts.Memory = ⊤
 
 -- of an accepting whose peer has come
-abbrev pub WelcomeCause : Peer → AcceptAnswer → Type 0
-WelcomeCause peer (accepts.Accepted other) = other ≡ peer
-WelcomeCause peer accepts.NoPeer = ⊥
-WelcomeCause peer accepts.Failed = Dropped
-WelcomeCause peer accepts.Memory = ⊤
+abbrev pub WelcomeCause : {T : Type 0} → (T → PortSeen) → Peer → AcceptAnswer → Type 0
+WelcomeCause tells peer (accepts.Accepted other) = other ≡ peer
+WelcomeCause tells peer accepts.NoPeer = ⊥
+WelcomeCause tells peer accepts.Failed = Dropped tells
+WelcomeCause tells peer accepts.Memory = ⊤
 
 -- an opening on a standard stream fails only where the count of one of the three rose
 abbrev pub StandardCause : Type 0 → OpenAnswer → Type 0

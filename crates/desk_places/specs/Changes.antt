@@ -1,6 +1,7 @@
 -- How places stand after a call, and what was left of a port.
-use Rattle.std.specs.Prelude.{◌≡◌, ◌≢◌, ℕ, Bool, true, false, List, ◌∷◌, Option, None, Some, IfSome, ⊤, if◌then◌else◌}
-use Rattle.slab.specs.Slab.{Slab, get}
+use Rattle.std.specs.Prelude.{◌≡◌, ◌≢◌, ◌⊎◌, ℕ, Bool, true, false, List, ◌∷◌, Option, None, Some, IfSome, MatchOption, position, ⊤, if◌then◌else◌}
+use Rattle.std.specs.List.{remove}
+use Rattle.slab.specs.Slab.{SameValues, Slab, Updates, get}
 use Rattle.relay_model.specs.declared.places.Place.{Place}
 use Rattle.relay_model.specs.declared.acts.Act.{Act}
 use Rattle.relay_model.specs.Holding.{Hold, Settling, Open, hold_after}
@@ -20,8 +21,13 @@ use Rattle.world_trait.specs.declared.answers.ReapAnswer.{ReapAnswer}
 use Rattle.world_trait.specs.declared.answers.ReapAnswer.TheVariants as reaped
 use Rattle.world_trait.specs.declared.answers.ShutAnswer.{ShutAnswer}
 use Rattle.world_trait.specs.declared.answers.ShutAnswer.TheVariants as shuts
-use Rattle.desk_ports.specs.Ports.{PortSeen, BerthSeen, Settles, JoinsSo, Reaps}
-use Rattle.desk_ports.specs.Harbors.{MadeCall}
+use Rattle.world_trait.specs.declared.answers.ListenAnswer.{ListenAnswer}
+use Rattle.world_trait.specs.declared.answers.ListenAnswer.TheVariants as listens
+use Rattle.world_trait.specs.declared.answers.AcceptAnswer.{AcceptAnswer}
+use Rattle.world_trait.specs.declared.answers.AcceptAnswer.TheVariants as accepts
+use Rattle.desk_ports.specs.Ports.{Begins, PortSeen, BerthSeen, JoinsSo, LetsIn, Reaps, Settles}
+use Rattle.desk_ports.specs.Harbors.{BeginsAt, Errors, Input, Made, MadeCall, Output, Pier, SameStreams, StreamCall}
+use Rattle.desk_ports.specs.declared.harbor.Harbor.{Harbor}
 use Rattle.desk_ports.specs.declared.bases.Base.{Base}
 use Rattle.desk_ports.specs.declared.bases.Base.TheVariants as bases
 use Rattle.relay_model.specs.declared.acts.Why.{Why}
@@ -50,12 +56,92 @@ SettlesSo before now opens.Later = Settles before now settles.NotYet
 SettlesSo before now opens.Failed = Settles before now settles.Failed
 SettlesSo before now opens.Memory = now ≡ before
 
+-- a port that has a child is kept before all that were kept earlier
+abbrev pub KeptIf : Bool → BerthSeen → List BerthSeen → List BerthSeen → Type 0
+KeptIf true last before after = after ≡ last ∷ before
+KeptIf false last before after = after ≡ before
+
+-- a made port whose settling failed, and its state after that, which is kept where it has a child
+pub record SettledOut {T : Type 0} (tells : T → PortSeen) (old : BerthSeen) (parents parents' : List BerthSeen) : Type 0 where
+  pub last : T
+  pub call : Settles old.port (tells last) settles.Failed
+  pub kept : KeptIf old.port.child (record { place = old.place; port = tells last }) parents parents'
+
 -- what a settling did with the made port of the key; one that failed is gone
-abbrev pub SettlesMade : Slab BerthSeen → Slab BerthSeen → ℕ → OpenAnswer → Type 0
-SettlesMade before now key opens.Opened = MadeCall before now key (λ old new. Settles old new settles.Ready)
-SettlesMade before now key opens.Later = MadeCall before now key (λ old new. Settles old new settles.NotYet)
-SettlesMade before now key opens.Failed = IfSome (get before key) (λ old. (last : PortSeen) × Settles old.port last settles.Failed) × (get now key ≡ None) × ((other : ℕ) → other ≢ key → get now other ≡ get before other)
-SettlesMade before now key opens.Memory = now ≡ before
+abbrev pub SettlesMade : {T : Type 0} → (T → PortSeen) → Slab BerthSeen → Slab BerthSeen → List BerthSeen → List BerthSeen → ℕ → OpenAnswer → Type 0
+SettlesMade tells before now parents parents' key opens.Opened = MadeCall before now key (λ old new. Settles old new settles.Ready) × (parents' ≡ parents)
+SettlesMade tells before now parents parents' key opens.Later = MadeCall before now key (λ old new. Settles old new settles.NotYet) × (parents' ≡ parents)
+SettlesMade tells before now parents parents' key opens.Failed = IfSome (get before key) (λ old. SettledOut tells old parents parents') × (get now key ≡ None) × ((other : ℕ) → other ≢ key → get now other ≡ get before other)
+SettlesMade tells before now parents parents' key opens.Memory = (now ≡ before) × (parents' ≡ parents)
+
+-- the call on the giving port of a place that stands behind the answer of a settling, and what became of the made ports
+-- and of those that were kept; every other port is as it was
+abbrev pub SettledAt : {T X I O E : Type 0} → (T → PortSeen) → Pier → Harbor X I O E → Harbor X I O E → List BerthSeen → List BerthSeen → OpenAnswer → Type 0
+SettledAt tells Input before now parents parents' answer = StreamCall before.input now.input (λ o n. SettlesSo o n answer) × (now.output ≡ before.output) × (now.errors ≡ before.errors) × (now.made ≡ before.made) × (parents' ≡ parents)
+SettledAt tells Output before now parents parents' answer = (now.input ≡ before.input) × StreamCall before.output now.output (λ o n. SettlesSo o n answer) × (now.errors ≡ before.errors) × (now.made ≡ before.made) × (parents' ≡ parents)
+SettledAt tells Errors before now parents parents' answer = (now.input ≡ before.input) × (now.output ≡ before.output) × StreamCall before.errors now.errors (λ o n. SettlesSo o n answer) × (now.made ≡ before.made) × (parents' ≡ parents)
+SettledAt tells (Made key) before now parents parents' answer = (now.input ≡ before.input) × (now.output ≡ before.output) × (now.errors ≡ before.errors) × SettlesMade tells before.made now.made parents parents' key answer
+
+-- one made port more, which the place stands on: it was given, it was begun, and nothing else was done with it
+pub record OneMore {T : Type 0} (tells : T → PortSeen) (place : Place) (base : Option Base) (before now : Slab BerthSeen) : Type 0 where
+  pub key : ℕ
+  pub vacant : get before key ≡ None
+  pub given : T
+  pub port : PortSeen
+  pub begun : Begins (tells given) port begins.Begun
+  pub made : Updates before now key (Some (record { place = place; port = port }))
+  pub based : base ≡ Some (bases.Made key)
+
+-- the made ports after the beginning of a new one for the place; one that doesn't begin is dropped
+abbrev pub BeginsMade : {T : Type 0} → (T → PortSeen) → Place → Option Base → Begun → Slab BerthSeen → Slab BerthSeen → Type 0
+BeginsMade tells place base begins.Begun before now = OneMore tells place base before now
+BeginsMade tells place base begins.Failed before now = SameValues before now
+BeginsMade tells place base begins.Memory before now = SameValues before now
+
+-- the made ports after an opening that isn't one of standard streams
+abbrev pub OpensMade : {T : Type 0} → (T → PortSeen) → Place → Option Base → OpenAnswer → Slab BerthSeen → Slab BerthSeen → Type 0
+OpensMade tells place base opens.Opened before now = OneMore tells place base before now
+OpensMade tells place base opens.Later before now = OneMore tells place base before now
+OpensMade tells place base opens.Failed before now = SameValues before now
+OpensMade tells place base opens.Memory before now = SameValues before now
+
+-- after a listening
+abbrev pub ListensMade : {T : Type 0} → (T → PortSeen) → Place → Option Base → ListenAnswer → Slab BerthSeen → Slab BerthSeen → Type 0
+ListensMade tells door base listens.Listening before now = OneMore tells door base before now
+ListensMade tells door base listens.Failed before now = SameValues before now
+ListensMade tells door base listens.Memory before now = SameValues before now
+
+-- after the peer of an accepting has come
+abbrev pub WelcomesMade : {T : Type 0} → (T → PortSeen) → Place → Option Base → AcceptAnswer → Slab BerthSeen → Slab BerthSeen → Type 0
+WelcomesMade tells place base (accepts.Accepted peer) before now = OneMore tells place base before now
+WelcomesMade tells place base accepts.NoPeer before now = ⊥
+WelcomesMade tells place base accepts.Failed before now = SameValues before now
+WelcomesMade tells place base accepts.Memory before now = SameValues before now
+
+-- after an accepting at the door of this key, which moves no bytes: each other port that was there is as it was, and
+-- there is one more where a peer was accepted
+abbrev pub AcceptsMade : {T : Type 0} → (T → PortSeen) → ℕ → Place → Option Base → AcceptAnswer → Slab BerthSeen → Slab BerthSeen → Type 0
+AcceptsMade tells door place base (accepts.Accepted peer) before now = (between : Slab BerthSeen) × MadeCall before between door LetsIn × OneMore tells place base between now
+AcceptsMade tells door place base accepts.NoPeer before now = MadeCall before now door LetsIn
+AcceptsMade tells door place base accepts.Failed before now = MadeCall before now door LetsIn
+AcceptsMade tells door place base accepts.Memory before now = MadeCall before now door LetsIn
+
+-- the streams of the base were begun, standard input first, and no other; where there was no memory maybe none
+abbrev pub OpensAt : {T I O E : Type 0} → Base → Harbor T I O E → Harbor T I O E → OpenAnswer → Type 0
+OpensAt base before now opens.Opened = BeginsAt base before now begins.Begun
+OpensAt base before now opens.Later = ⊥
+OpensAt base before now opens.Failed = BeginsAt base before now begins.Failed
+OpensAt base before now opens.Memory = BeginsAt base before now begins.Memory ⊎ SameStreams before now
+
+-- the first port that was kept for the place is there no longer
+abbrev pub DropsFirst : Place → List BerthSeen → List BerthSeen → Type 0
+DropsFirst place before after = MatchOption (position (λ b. same_place b.place place) before) (after ≡ before) (λ i. after ≡ remove before i)
+
+-- the same by the answer of a reaping
+abbrev pub ReapsOut : Place → ReapAnswer → List BerthSeen → List BerthSeen → Type 0
+ReapsOut place (reaped.Reaped end) before after = DropsFirst place before after
+ReapsOut place reaped.NoChild before after = DropsFirst place before after
+ReapsOut place reaped.Memory before after = after ≡ before
 
 -- whether the session came to its end by itself
 abbrev pub is_finished : Why → Bool

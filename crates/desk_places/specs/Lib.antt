@@ -3,4 +3,5 @@ pub mod Causes
 pub mod Changes
 pub mod Footing
 pub mod Keys
+pub mod Marks
 pub mod Stations

@@ -11,17 +11,18 @@ ghost use Rattle.world_trait.specs.Answers.{accept_act, close_act, listen_act, o
 ghost use Rattle.relay_model.specs.declared.places.Half.TheVariants.{ToRead, ToWrite};
 ghost use Rattle.port_trait.specs.Counting.{Rose};
 ghost use Rattle.desk_places.specs.Causes.{AcceptCause, AskedFor, BeginCause, ListenCause, OpenCause, StandardCause, WelcomeCause};
-ghost use Rattle.desk_ports.specs.Ports.{JoinsSo, MovesNothing, Reads, Sends, Settles, Shuts, Writes, seen};
-ghost use Rattle.desk_ports.specs.Harbors.{AtErrors, AtInput, AtMade, AtOutput, MadeCall, giving_pier, taking_pier};
+ghost use Rattle.desk_ports.specs.Ports.{IsOf, JoinsSo, MovesNothing, Reads, Sends, Shuts, Writes, seen};
+ghost use Rattle.desk_ports.specs.Harbors.{AtMade, CalledAt, EndsAt, SameStreams, StreamNotes, giving_pier, taking_pier};
 ghost use Rattle.desk_ports.specs.Answers.{GotFits, SaidSo, TookFits, is_got_not_yet, is_took_not_yet, is_unsaid};
-ghost use Rattle.desk_places.specs.Changes.{HeldAfter, HeldSo, LeavesParent, LeftSo, ReapsKept, SettlesMade, SettlesSo, is_finished, joined_answer, made_at, shut_answer};
+ghost use Rattle.desk_places.specs.Changes.{AcceptsMade, BeginsMade, DropsFirst, ListensMade, OpensAt, OpensMade, WelcomesMade, HeldAfter, HeldSo, LeavesParent, LeftSo, ReapsKept, SettledAt, is_finished, joined_answer, made_at, shut_answer};
 ghost use Rattle.desk_places.specs.Bases.{AcceptsOn, BeginsOn, Leaves, ListensOn, OpensOn, SameBases, SettlesOn};
 ghost use Rattle.desk_places.specs.Footing.{HasBerth, IsSound, IsSoundBut};
 ghost use Rattle.desk_places.specs.Keys.{is_in};
+ghost use Rattle.desk_places.specs.Marks.{AcceptMarks, BeginMarks, ListenMarks, MarksPlace, OpenMarks, SettleMarks};
 ghost use Rattle.desk_places.specs.declared.stations.Station.{Station};
 ghost use Rattle.desk_ports.specs.Bases.{IsStandard, key_of, standard_of};
 ghost use Rattle.port_trait.specs.Streams.{finishes};
-ghost use Rattle.desk_places.specs.Stations.{SameFooting, SameHold, SetsStation, base_at, hold_at, shut_down, station_at, with_half};
+ghost use Rattle.desk_places.specs.Stations.{SameFooting, SameHold, SetsStation, base_at, hold_at, is_disarmed, shut_down, station_at, with_half};
 
 use crate::keys::KeySet;
 use crate::stations::{Station, Stations};
@@ -139,7 +140,9 @@ impl<M: Maker + Drop, I: Port, O: Port, E: Port> Ports<M, I, O, E> {
         requires free { hold_at stations.old.entries place ≡ Free }
         requires stations_room { 0 < stations.old.spare }
         requires made_room { HasBerth self.old.harbor.made self.old.listed }
-        ensures cause { BeginCause result }
+        ensures cause { BeginCause (seen M.Made.gave M.Made.took M.Made.shuts M.Made.hints M.Made.hinting M.Made.counts M.Made.ended M.Made.joins M.Made.child) port result }
+        ensures made { BeginsMade (seen M.Made.gave M.Made.took M.Made.shuts M.Made.hints M.Made.hinting M.Made.counts M.Made.ended M.Made.joins M.Made.child) place (base_at stations.new.entries place) result self.old.harbor.made self.new.harbor.made }
+        ensures marks { BeginMarks place settling result (is_disarmed stations.old.entries) (is_disarmed stations.new.entries) }
         ensures streams { (self.new.harbor.input ≡ self.old.harbor.input) × (self.new.harbor.output ≡ self.old.harbor.output) × (self.new.harbor.errors ≡ self.old.harbor.errors) }
         ensures bases { BeginsOn place (base_at stations.old.entries) (base_at stations.new.entries) result }
         ensures sound { IsSound stations.old.entries self.old.harbor.made self.old.listed → IsSound stations.new.entries self.new.harbor.made self.new.listed }
@@ -148,13 +151,13 @@ impl<M: Maker + Drop, I: Port, O: Port, E: Port> Ports<M, I, O, E> {
         ensures maker { self.new.maker ≡ self.old.maker }
         ensures parents { self.new.parents ≡ self.old.parents }
     {
-        let mut berth = Berth::new(place, port);
-        match berth.begin() {
+        let mut begun = port;
+        match begun.begin() {
             Begun::Begun => {}
             Begun::Failed => return Begun::Failed,
             Begun::Memory => return Begun::Memory,
         }
-        let base = Base::Made(self.harbor.moor(berth));
+        let base = Base::Made(self.harbor.moor(Berth::new(place, begun)));
         stations.add(Station::begun(place, base, settling));
         self.list(stations, place);
         Begun::Begun
@@ -174,13 +177,17 @@ impl<M: Maker + Drop, I: Port, O: Port, E: Port> Ports<M, I, O, E> {
         ensures standard { IfSome (standard_of place single.now.target) (λ base. StandardCause (Rose self.old.harbor.input.port.counts.faults self.new.harbor.input.port.counts.faults
             ⊎ (Rose self.old.harbor.output.port.counts.faults self.new.harbor.output.port.counts.faults
             ⊎ Rose self.old.harbor.errors.port.counts.faults self.new.harbor.errors.port.counts.faults)) result) }
-        ensures made { IfNone (standard_of place single.now.target) (OpenCause (M.faults self.old.maker) (M.faults self.new.maker) (M.stalls self.old.maker) (M.stalls self.new.maker) result) }
+        ensures made { IfNone (standard_of place single.now.target) (OpenCause (seen M.Made.gave M.Made.took M.Made.shuts M.Made.hints M.Made.hinting M.Made.counts M.Made.ended M.Made.joins M.Made.child) (M.faults self.old.maker) (M.faults self.new.maker) (M.stalls self.old.maker) (M.stalls self.new.maker) result) }
         ensures asked { IfNone (standard_of place single.now.target) (AskedFor place single.now behind (M.asked self.new.maker)) }
         ensures came { M.came self.new.maker ≡ M.came self.old.maker }
         ensures input { MovesNothing self.old.harbor.input.port self.new.harbor.input.port }
         ensures output { MovesNothing self.old.harbor.output.port self.new.harbor.output.port }
         ensures errors { MovesNothing self.old.harbor.errors.port self.new.harbor.errors.port }
         ensures ended { (self.new.harbor.input.port.ended ≡ self.old.harbor.input.port.ended) × (self.new.harbor.output.port.ended ≡ self.old.harbor.output.port.ended) × (self.new.harbor.errors.port.ended ≡ self.old.harbor.errors.port.ended) }
+        ensures begun { IfSome (standard_of place single.now.target) (λ base. OpensAt base self.old.harbor self.new.harbor result) }
+        ensures streams { IfNone (standard_of place single.now.target) (SameStreams self.old.harbor self.new.harbor) }
+        ensures ports { MatchOption (standard_of place single.now.target) (OpensMade (seen M.Made.gave M.Made.took M.Made.shuts M.Made.hints M.Made.hinting M.Made.counts M.Made.ended M.Made.joins M.Made.child) place (base_at stations.new.entries place) result self.old.harbor.made self.new.harbor.made) (λ base. SameValues self.old.harbor.made self.new.harbor.made) }
+        ensures marks { OpenMarks place result (is_disarmed stations.old.entries) (is_disarmed stations.new.entries) }
         ensures bases { OpensOn (standard_of place single.now.target) place (base_at stations.old.entries) (base_at stations.new.entries) result }
         ensures sound { IsSound stations.old.entries self.old.harbor.made self.old.listed → IsSound stations.new.entries self.new.harbor.made self.new.listed }
         ensures held { HeldAfter (open_act place result) (hold_at stations.old.entries) (hold_at stations.new.entries) }
@@ -205,6 +212,9 @@ impl<M: Maker + Drop, I: Port, O: Port, E: Port> Ports<M, I, O, E> {
         ensures output { MovesNothing self.old.harbor.output.port self.new.harbor.output.port }
         ensures errors { MovesNothing self.old.harbor.errors.port self.new.harbor.errors.port }
         ensures ended { (self.new.harbor.input.port.ended ≡ self.old.harbor.input.port.ended) × (self.new.harbor.output.port.ended ≡ self.old.harbor.output.port.ended) × (self.new.harbor.errors.port.ended ≡ self.old.harbor.errors.port.ended) }
+        ensures begun { OpensAt base self.old.harbor self.new.harbor result }
+        ensures ports { SameValues self.old.harbor.made self.new.harbor.made }
+        ensures marks { OpenMarks place result (is_disarmed stations.old.entries) (is_disarmed stations.new.entries) }
         ensures bases { OpensOn (Some base) place (base_at stations.old.entries) (base_at stations.new.entries) result }
         ensures sound { IsSound stations.old.entries self.old.harbor.made self.old.listed → IsSound stations.new.entries self.new.harbor.made self.new.listed }
         ensures held { HeldAfter (open_act place result) (hold_at stations.old.entries) (hold_at stations.new.entries) }
@@ -231,10 +241,12 @@ impl<M: Maker + Drop, I: Port, O: Port, E: Port> Ports<M, I, O, E> {
         requires free { hold_at stations.old.entries place ≡ Free }
         requires stations_room { 0 < stations.old.spare }
         requires made_room { HasBerth self.old.harbor.made self.old.listed }
-        ensures cause { OpenCause (M.faults self.old.maker) (M.faults self.new.maker) (M.stalls self.old.maker) (M.stalls self.new.maker) result }
+        ensures cause { OpenCause (seen M.Made.gave M.Made.took M.Made.shuts M.Made.hints M.Made.hinting M.Made.counts M.Made.ended M.Made.joins M.Made.child) (M.faults self.old.maker) (M.faults self.new.maker) (M.stalls self.old.maker) (M.stalls self.new.maker) result }
         ensures asked { AskedFor place single.now behind (M.asked self.new.maker) }
         ensures came { M.came self.new.maker ≡ M.came self.old.maker }
         ensures streams { (self.new.harbor.input ≡ self.old.harbor.input) × (self.new.harbor.output ≡ self.old.harbor.output) × (self.new.harbor.errors ≡ self.old.harbor.errors) }
+        ensures ports { OpensMade (seen M.Made.gave M.Made.took M.Made.shuts M.Made.hints M.Made.hinting M.Made.counts M.Made.ended M.Made.joins M.Made.child) place (base_at stations.new.entries place) result self.old.harbor.made self.new.harbor.made }
+        ensures marks { OpenMarks place result (is_disarmed stations.old.entries) (is_disarmed stations.new.entries) }
         ensures bases { OpensOn None place (base_at stations.old.entries) (base_at stations.new.entries) result }
         ensures sound { IsSound stations.old.entries self.old.harbor.made self.old.listed → IsSound stations.new.entries self.new.harbor.made self.new.listed }
         ensures held { HeldAfter (open_act place result) (hold_at stations.old.entries) (hold_at stations.new.entries) }
@@ -262,19 +274,9 @@ impl<M: Maker + Drop, I: Port, O: Port, E: Port> Ports<M, I, O, E> {
     pub fn settle(&mut self, stations: &mut Stations, place: Place) -> OpenAnswer
         requires settling { hold_at stations.old.entries place ≡ Settling }
         requires parents_room { vec_len self.old.parents < vec_capacity self.old.parents }
-        ensures input { IfSome (base_at stations.old.entries place) (λ base. AtInput (giving_pier base)
-            (SettlesSo self.old.harbor.input.port self.new.harbor.input.port result)
-            (self.new.harbor.input ≡ self.old.harbor.input)) }
-        ensures output { IfSome (base_at stations.old.entries place) (λ base. AtOutput (giving_pier base)
-            (SettlesSo self.old.harbor.output.port self.new.harbor.output.port result)
-            (self.new.harbor.output ≡ self.old.harbor.output)) }
-        ensures errors { IfSome (base_at stations.old.entries place) (λ base. AtErrors (giving_pier base)
-            (SettlesSo self.old.harbor.errors.port self.new.harbor.errors.port result)
-            (self.new.harbor.errors ≡ self.old.harbor.errors)) }
-        ensures made { IfSome (base_at stations.old.entries place) (λ base. AtMade (giving_pier base)
-            (λ key. SettlesMade self.old.harbor.made self.new.harbor.made key result)
-            (self.new.harbor.made ≡ self.old.harbor.made)) }
+        ensures call { IfSome (base_at stations.old.entries place) (λ base. SettledAt (seen M.Made.gave M.Made.took M.Made.shuts M.Made.hints M.Made.hinting M.Made.counts M.Made.ended M.Made.joins M.Made.child) (giving_pier base) self.old.harbor self.new.harbor self.old.parents.items self.new.parents.items result) }
         ensures maker { self.new.maker ≡ self.old.maker }
+        ensures marks { SettleMarks place result (is_disarmed stations.old.entries) (is_disarmed stations.new.entries) }
         ensures bases { SettlesOn place (base_at stations.old.entries) (base_at stations.new.entries) result }
         ensures sound { IsSound stations.old.entries self.old.harbor.made self.old.listed → IsSound stations.new.entries self.new.harbor.made self.new.listed }
         ensures held { HeldAfter (open_act place result) (hold_at stations.old.entries) (hold_at stations.new.entries) }
@@ -306,9 +308,11 @@ impl<M: Maker + Drop, I: Port, O: Port, E: Port> Ports<M, I, O, E> {
         requires free { hold_at stations.old.entries door ≡ Free }
         requires stations_room { 0 < stations.old.spare }
         requires made_room { HasBerth self.old.harbor.made self.old.listed }
-        ensures cause { ListenCause (M.faults self.old.maker) (M.faults self.new.maker) result }
+        ensures cause { ListenCause (seen M.Made.gave M.Made.took M.Made.shuts M.Made.hints M.Made.hinting M.Made.counts M.Made.ended M.Made.joins M.Made.child) (M.faults self.old.maker) (M.faults self.new.maker) result }
         ensures came { M.came self.new.maker ≡ M.came self.old.maker }
         ensures streams { (self.new.harbor.input ≡ self.old.harbor.input) × (self.new.harbor.output ≡ self.old.harbor.output) × (self.new.harbor.errors ≡ self.old.harbor.errors) }
+        ensures ports { ListensMade (seen M.Made.gave M.Made.took M.Made.shuts M.Made.hints M.Made.hinting M.Made.counts M.Made.ended M.Made.joins M.Made.child) door (base_at stations.new.entries door) result self.old.harbor.made self.new.harbor.made }
+        ensures marks { ListenMarks door result (is_disarmed stations.old.entries) (is_disarmed stations.new.entries) }
         ensures bases { ListensOn door (base_at stations.old.entries) (base_at stations.new.entries) result }
         ensures sound { IsSound stations.old.entries self.old.harbor.made self.old.listed → IsSound stations.new.entries self.new.harbor.made self.new.listed }
         ensures held { HeldAfter (listen_act door result) (hold_at stations.old.entries) (hold_at stations.new.entries) }
@@ -335,8 +339,12 @@ impl<M: Maker + Drop, I: Port, O: Port, E: Port> Ports<M, I, O, E> {
         requires free { hold_at stations.old.entries place ≡ Free }
         requires stations_room { 0 < stations.old.spare }
         requires made_room { HasBerth self.old.harbor.made self.old.listed }
-        ensures cause { AcceptCause (M.faults self.old.maker) (M.faults self.new.maker) (M.stalls self.old.maker) (M.stalls self.new.maker) (M.came self.new.maker) result }
+        ensures cause { AcceptCause (seen M.Made.gave M.Made.took M.Made.shuts M.Made.hints M.Made.hinting M.Made.counts M.Made.ended M.Made.joins M.Made.child) (M.faults self.old.maker) (M.faults self.new.maker) (M.stalls self.old.maker) (M.stalls self.new.maker) (M.came self.new.maker) result }
         ensures streams { (self.new.harbor.input ≡ self.old.harbor.input) × (self.new.harbor.output ≡ self.old.harbor.output) × (self.new.harbor.errors ≡ self.old.harbor.errors) }
+        ensures ports { IfSome (base_at stations.old.entries door) (λ base. AtMade (giving_pier base)
+            (λ key. AcceptsMade (seen M.Made.gave M.Made.took M.Made.shuts M.Made.hints M.Made.hinting M.Made.counts M.Made.ended M.Made.joins M.Made.child) key place (base_at stations.new.entries place) result self.old.harbor.made self.new.harbor.made)
+            (SameValues self.old.harbor.made self.new.harbor.made)) }
+        ensures marks { AcceptMarks door place result (is_disarmed stations.old.entries) (is_disarmed stations.new.entries) }
         ensures bases { AcceptsOn place (base_at stations.old.entries) (base_at stations.new.entries) result }
         ensures sound { IsSound stations.old.entries self.old.harbor.made self.old.listed → IsSound stations.new.entries self.new.harbor.made self.new.listed }
         ensures held { HeldAfter (accept_act door place result) (hold_at stations.old.entries) (hold_at stations.new.entries) }
@@ -376,9 +384,11 @@ impl<M: Maker + Drop, I: Port, O: Port, E: Port> Ports<M, I, O, E> {
         requires free { hold_at stations.old.entries place ≡ Free }
         requires stations_room { 0 < stations.old.spare }
         requires made_room { HasBerth self.old.harbor.made self.old.listed }
-        ensures cause { WelcomeCause peer result }
+        ensures cause { WelcomeCause (seen M.Made.gave M.Made.took M.Made.shuts M.Made.hints M.Made.hinting M.Made.counts M.Made.ended M.Made.joins M.Made.child) peer result }
         ensures maker { self.new.maker ≡ self.old.maker }
         ensures streams { (self.new.harbor.input ≡ self.old.harbor.input) × (self.new.harbor.output ≡ self.old.harbor.output) × (self.new.harbor.errors ≡ self.old.harbor.errors) }
+        ensures ports { WelcomesMade (seen M.Made.gave M.Made.took M.Made.shuts M.Made.hints M.Made.hinting M.Made.counts M.Made.ended M.Made.joins M.Made.child) place (base_at stations.new.entries place) result self.old.harbor.made self.new.harbor.made }
+        ensures marks { AcceptMarks door place result (is_disarmed stations.old.entries) (is_disarmed stations.new.entries) }
         ensures bases { AcceptsOn place (base_at stations.old.entries) (base_at stations.new.entries) result }
         ensures sound { IsSound stations.old.entries self.old.harbor.made self.old.listed → IsSound stations.new.entries self.new.harbor.made self.new.listed }
         ensures held { HeldAfter (accept_act door place result) (hold_at stations.old.entries) (hold_at stations.new.entries) }
@@ -403,18 +413,8 @@ impl<M: Maker + Drop, I: Port, O: Port, E: Port> Ports<M, I, O, E> {
         requires open { is_open (hold_at stations.old.entries place) ≡ true }
         requires some { 0 < length into.old }
         ensures fits { GotFits (length into.new) result }
-        ensures input { IfSome (base_at stations.old.entries place) (λ base. AtInput (giving_pier base)
-            (Reads self.old.harbor.input.port self.new.harbor.input.port into.new result)
-            (self.new.harbor.input ≡ self.old.harbor.input)) }
-        ensures output { IfSome (base_at stations.old.entries place) (λ base. AtOutput (giving_pier base)
-            (Reads self.old.harbor.output.port self.new.harbor.output.port into.new result)
-            (self.new.harbor.output ≡ self.old.harbor.output)) }
-        ensures errors { IfSome (base_at stations.old.entries place) (λ base. AtErrors (giving_pier base)
-            (Reads self.old.harbor.errors.port self.new.harbor.errors.port into.new result)
-            (self.new.harbor.errors ≡ self.old.harbor.errors)) }
-        ensures made { IfSome (base_at stations.old.entries place) (λ base. AtMade (giving_pier base)
-            (λ key. MadeCall self.old.harbor.made self.new.harbor.made key (λ old new. Reads old new into.new result))
-            (self.new.harbor.made ≡ self.old.harbor.made)) }
+        ensures call { IfSome (base_at stations.old.entries place) (λ base. CalledAt (giving_pier base) self.old.harbor self.new.harbor (λ old new. Reads old new into.new result)) }
+        ensures maker { self.new.maker ≡ self.old.maker }
         ensures marks { SetsStation place (option_map (with_half ToRead (is_got_not_yet result)) (station_at stations.old.entries place)) (station_at stations.old.entries) (station_at stations.new.entries) }
         ensures bases { SameBases (base_at stations.old.entries) (base_at stations.new.entries) }
         ensures sound { IsSound stations.old.entries self.old.harbor.made self.old.listed → IsSound stations.new.entries self.new.harbor.made self.new.listed }
@@ -433,18 +433,8 @@ impl<M: Maker + Drop, I: Port, O: Port, E: Port> Ports<M, I, O, E> {
         requires open { hold_at stations.old.entries place ≡ Open }
         requires some { 0 < length bytes.now }
         ensures fits { TookFits (length bytes.now) result }
-        ensures input { IfSome (base_at stations.old.entries place) (λ base. AtInput (taking_pier base)
-            (Writes self.old.harbor.input.port self.new.harbor.input.port bytes.now result)
-            (self.new.harbor.input ≡ self.old.harbor.input)) }
-        ensures output { IfSome (base_at stations.old.entries place) (λ base. AtOutput (taking_pier base)
-            (Writes self.old.harbor.output.port self.new.harbor.output.port bytes.now result)
-            (self.new.harbor.output ≡ self.old.harbor.output)) }
-        ensures errors { IfSome (base_at stations.old.entries place) (λ base. AtErrors (taking_pier base)
-            (Writes self.old.harbor.errors.port self.new.harbor.errors.port bytes.now result)
-            (self.new.harbor.errors ≡ self.old.harbor.errors)) }
-        ensures made { IfSome (base_at stations.old.entries place) (λ base. AtMade (taking_pier base)
-            (λ key. MadeCall self.old.harbor.made self.new.harbor.made key (λ old new. Writes old new bytes.now result))
-            (self.new.harbor.made ≡ self.old.harbor.made)) }
+        ensures call { IfSome (base_at stations.old.entries place) (λ base. CalledAt (taking_pier base) self.old.harbor self.new.harbor (λ old new. Writes old new bytes.now result)) }
+        ensures maker { self.new.maker ≡ self.old.maker }
         ensures marks { SetsStation place (option_map (with_half ToWrite (is_took_not_yet result)) (station_at stations.old.entries place)) (station_at stations.old.entries) (station_at stations.new.entries) }
         ensures bases { SameBases (base_at stations.old.entries) (base_at stations.new.entries) }
         ensures sound { IsSound stations.old.entries self.old.harbor.made self.old.listed → IsSound stations.new.entries self.new.harbor.made self.new.listed }
@@ -462,18 +452,8 @@ impl<M: Maker + Drop, I: Port, O: Port, E: Port> Ports<M, I, O, E> {
     pub fn send(&mut self, stations: &mut Stations, place: Place, bytes: &[u8]) -> Took
         requires open { hold_at stations.old.entries place ≡ Open }
         requires some { 0 < length bytes.now }
-        ensures input { IfSome (base_at stations.old.entries place) (λ base. AtInput (taking_pier base)
-            (Sends self.old.harbor.input.port self.new.harbor.input.port bytes.now result)
-            (self.new.harbor.input ≡ self.old.harbor.input)) }
-        ensures output { IfSome (base_at stations.old.entries place) (λ base. AtOutput (taking_pier base)
-            (Sends self.old.harbor.output.port self.new.harbor.output.port bytes.now result)
-            (self.new.harbor.output ≡ self.old.harbor.output)) }
-        ensures errors { IfSome (base_at stations.old.entries place) (λ base. AtErrors (taking_pier base)
-            (Sends self.old.harbor.errors.port self.new.harbor.errors.port bytes.now result)
-            (self.new.harbor.errors ≡ self.old.harbor.errors)) }
-        ensures made { IfSome (base_at stations.old.entries place) (λ base. AtMade (taking_pier base)
-            (λ key. MadeCall self.old.harbor.made self.new.harbor.made key (λ old new. Sends old new bytes.now result))
-            (self.new.harbor.made ≡ self.old.harbor.made)) }
+        ensures call { IfSome (base_at stations.old.entries place) (λ base. CalledAt (taking_pier base) self.old.harbor self.new.harbor (λ old new. Sends old new bytes.now result)) }
+        ensures maker { self.new.maker ≡ self.old.maker }
         ensures marks { SetsStation place (option_map (with_half ToWrite (is_took_not_yet result)) (station_at stations.old.entries place)) (station_at stations.old.entries) (station_at stations.new.entries) }
         ensures bases { SameBases (base_at stations.old.entries) (base_at stations.new.entries) }
         ensures sound { IsSound stations.old.entries self.old.harbor.made self.old.listed → IsSound stations.new.entries self.new.harbor.made self.new.listed }
@@ -490,18 +470,8 @@ impl<M: Maker + Drop, I: Port, O: Port, E: Port> Ports<M, I, O, E> {
     /// Passes an end on at the place.
     pub fn shut(&mut self, stations: &mut Stations, place: Place, how: Shut) -> Shutting
         requires { hold_at stations.old.entries place ≡ Open }
-        ensures input { IfSome (base_at stations.old.entries place) (λ base. AtInput (taking_pier base)
-            (Shuts self.old.harbor.input.port self.new.harbor.input.port how result)
-            (self.new.harbor.input ≡ self.old.harbor.input)) }
-        ensures output { IfSome (base_at stations.old.entries place) (λ base. AtOutput (taking_pier base)
-            (Shuts self.old.harbor.output.port self.new.harbor.output.port how result)
-            (self.new.harbor.output ≡ self.old.harbor.output)) }
-        ensures errors { IfSome (base_at stations.old.entries place) (λ base. AtErrors (taking_pier base)
-            (Shuts self.old.harbor.errors.port self.new.harbor.errors.port how result)
-            (self.new.harbor.errors ≡ self.old.harbor.errors)) }
-        ensures made { IfSome (base_at stations.old.entries place) (λ base. AtMade (taking_pier base)
-            (λ key. MadeCall self.old.harbor.made self.new.harbor.made key (λ old new. Shuts old new how result))
-            (self.new.harbor.made ≡ self.old.harbor.made)) }
+        ensures call { IfSome (base_at stations.old.entries place) (λ base. EndsAt (finishes how) (taking_pier base) self.old.harbor self.new.harbor (λ old new. Shuts old new how result)) }
+        ensures maker { self.new.maker ≡ self.old.maker }
         ensures bases { SameBases (base_at stations.old.entries) (base_at stations.new.entries) }
         ensures sound { IsSound stations.old.entries self.old.harbor.made self.old.listed → IsSound stations.new.entries self.new.harbor.made self.new.listed }
         ensures station { SetsStation place (option_map (shut_down (finishes how)) (station_at stations.old.entries place)) (station_at stations.old.entries) (station_at stations.new.entries) }
@@ -530,6 +500,7 @@ impl<M: Maker + Drop, I: Port, O: Port, E: Port> Ports<M, I, O, E> {
         ensures gone { (key : ℕ) → base_at stations.old.entries place ≡ Some (bases.Made key) → get self.new.harbor.made key ≡ None }
         ensures others { (key : ℕ) → (base_at stations.old.entries place ≡ Some (bases.Made key) → ⊥) → get self.new.harbor.made key ≡ get self.old.harbor.made key }
         ensures maker { self.new.maker ≡ self.old.maker }
+        ensures marks { MarksPlace place false (is_disarmed stations.old.entries) (is_disarmed stations.new.entries) }
         ensures bases { Leaves place (base_at stations.old.entries) (base_at stations.new.entries) }
         ensures sound { IsSound stations.old.entries self.old.harbor.made self.old.listed → IsSound stations.new.entries self.new.harbor.made self.new.listed }
         ensures joined { IfSome (station_at stations.old.entries place) (λ s. result ≡ joined_answer (s.finished && is_finished why) (made_at self.old.harbor.made s.base)) }
@@ -559,6 +530,8 @@ impl<M: Maker + Drop, I: Port, O: Port, E: Port> Ports<M, I, O, E> {
         ensures others { (key : ℕ) → (base_at stations.old.entries place ≡ Some (bases.Made key) → ⊥) → get self.new.harbor.made key ≡ get self.old.harbor.made key }
         ensures standard { key_of base ≡ None → self.new.harbor.made ≡ self.old.harbor.made }
         ensures maker { self.new.maker ≡ self.old.maker }
+        ensures told { IfSome (made_at self.old.harbor.made base) (λ berth. IsOf (seen M.Made.gave M.Made.took M.Made.shuts M.Made.hints M.Made.hinting M.Made.counts M.Made.ended M.Made.joins M.Made.child) berth.port) }
+        ensures marks { MarksPlace place false (is_disarmed stations.old.entries) (is_disarmed stations.new.entries) }
         ensures bases { Leaves place (base_at stations.old.entries) (base_at stations.new.entries) }
         ensures sound { IsSoundBut place stations.old.entries self.old.harbor.made self.old.listed → IsSound stations.new.entries self.new.harbor.made self.new.listed }
         ensures joined { result ≡ joined_answer joined (made_at self.old.harbor.made base) }
@@ -579,6 +552,7 @@ impl<M: Maker + Drop, I: Port, O: Port, E: Port> Ports<M, I, O, E> {
     fn let_go(&mut self, key: usize, joined: bool) -> Option<Joining>
         requires parents_room { vec_len self.old.parents < vec_capacity self.old.parents }
         ensures streams { (self.new.harbor.input ≡ self.old.harbor.input) × (self.new.harbor.output ≡ self.old.harbor.output) × (self.new.harbor.errors ≡ self.old.harbor.errors) }
+        ensures told { IfSome (get self.old.harbor.made key) (λ berth. IsOf (seen M.Made.gave M.Made.took M.Made.shuts M.Made.hints M.Made.hinting M.Made.counts M.Made.ended M.Made.joins M.Made.child) berth.port) }
         ensures made { Updates self.old.harbor.made self.new.harbor.made key None }
         ensures listed { (other : ℕ) → other ≢ key → is_in other self.new.listed.keys ≡ is_in other self.old.listed.keys }
         ensures covered { self.new.listed.covered ≡ self.old.listed.covered }
@@ -592,8 +566,9 @@ impl<M: Maker + Drop, I: Port, O: Port, E: Port> Ports<M, I, O, E> {
         match self.harbor.cast_off(key) {
             None => None,
             Some(mut berth) => {
+                let parent = berth.has_child();
                 let answer = join_if(&mut berth, joined);
-                keep_parent(&mut self.parents, berth);
+                keep_if(&mut self.parents, berth, parent);
                 answer
             }
         }
@@ -605,7 +580,7 @@ impl<M: Maker + Drop, I: Port, O: Port, E: Port> Ports<M, I, O, E> {
         ensures streams { (self.new.harbor ≡ self.old.harbor) × (self.new.maker ≡ self.old.maker) }
         ensures listed { self.new.listed ≡ self.old.listed }
         ensures reaped { ReapsKept (find (λ b. same_place b.place place) self.old.parents.items) result }
-        ensures dropped { MatchOption (position (λ b. same_place b.place place) self.old.parents.items) (self.new.parents ≡ self.old.parents) (λ i. self.new.parents.items ≡ remove self.old.parents.items i) }
+        ensures dropped { DropsFirst place self.old.parents.items self.new.parents.items }
         ensures room { vec_len self.new.parents ≤ vec_len self.old.parents }
         ensures capacity { vec_capacity self.new.parents ≡ vec_capacity self.old.parents }
     {
@@ -620,6 +595,7 @@ impl<M: Maker + Drop, I: Port, O: Port, E: Port> Ports<M, I, O, E> {
 
     /// Writes the whole text to standard error, which is begun first. None where there is no memory to begin it.
     pub fn note(&mut self, text: &[u8]) -> Option<Took>
+        ensures call { StreamNotes self.old.harbor.errors self.new.harbor.errors text.now result }
         ensures made { self.new.harbor.made ≡ self.old.harbor.made }
         ensures listed { self.new.listed ≡ self.old.listed }
         ensures parents { self.new.parents ≡ self.old.parents }
@@ -658,14 +634,14 @@ fn join_if<T: Port>(berth: &mut Berth<T>, joined: bool) -> Option<Joining>
     None
 }
 
-/// Keeps the port before all others where it has a child, and drops it otherwise.
-fn keep_parent<T: Port>(parents: &mut Vec<Berth<T>>, berth: Berth<T>)
+/// Keeps the port before all others where that is to be done, and drops it otherwise.
+fn keep_if<T: Port>(parents: &mut Vec<Berth<T>>, berth: Berth<T>, keep: bool)
     requires { vec_len parents.old < vec_capacity parents.old }
-    ensures kept { parents.new.items ≡ (if berth.port.child then berth ∷ parents.old.items else parents.old.items) }
+    ensures kept { parents.new.items ≡ (if keep then berth ∷ parents.old.items else parents.old.items) }
     ensures room { vec_len parents.new ≤ vec_len parents.old + 1 }
     ensures capacity { vec_capacity parents.new ≡ vec_capacity parents.old }
 {
-    if berth.has_child() {
+    if keep {
         let Ok(()) = parents.insert(0, berth) else {
             unreachable!()
         };

@@ -57,6 +57,7 @@ impl Station {
         ensures place { result.place ≡ place }
         ensures base { result.base ≡ base }
         ensures stands { hold_by (Some result) ≡ (if settling then Settling else Open) }
+        ensures marked { (result.reading_disarmed ≡ settling) × (result.writing_disarmed ≡ settling) }
     {
         if settling {
             return Station::settling(place, base);

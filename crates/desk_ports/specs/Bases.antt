@@ -1,5 +1,5 @@
 -- What a place stands on, by its address.
-use Rattle.std.specs.Prelude.{◌≡◌, ℕ, Bool, true, false, ◌==◌, ⊤, Option, None, Some}
+use Rattle.std.specs.Prelude.{ℕ, Bool, true, false, ◌==◌, ⊤, Option, None, Some}
 use Rattle.relay_model.specs.declared.places.Place.{Place}
 use Rattle.relay_model.specs.declared.places.Part.{Part}
 use Rattle.relay_model.specs.declared.places.Part.TheVariants.{Both, Reading, Writing}

@@ -1,11 +1,16 @@
 -- All ports of a desk, and which of them a call on a base goes to.
-use Rattle.std.specs.Prelude.{◌≡◌, ◌≢◌, ℕ, Bool, true, Option, None, Some, IfSome, is_some}
+use Rattle.std.specs.Prelude.{◌≡◌, ◌≢◌, ◌⊎◌, ◌||◌, ℕ, Bool, false, List, Option, None, Some, IfSome, is_some}
 use Rattle.slab.specs.Slab.{Slab, get}
 use Rattle.relay_model.specs.declared.places.Place.{Place}
 use Rattle.port_trait.specs.declared.answers.Hint.{Hint}
-use Rattle.desk_ports.specs.Ports.{PortSeen, BerthSeen}
+use Rattle.port_trait.specs.declared.answers.Begun.{Begun}
+use Rattle.port_trait.specs.declared.answers.Begun.TheVariants as begins
+use Rattle.port_trait.specs.declared.answers.Took.{Took}
+use Rattle.port_trait.specs.declared.answers.Took.TheVariants as tooks
+use Rattle.desk_ports.specs.Ports.{PortSeen, BerthSeen, PutsAll, StreamBegins, StreamSeen}
 use Rattle.desk_ports.specs.declared.bases.Base.{Base}
 use Rattle.desk_ports.specs.declared.bases.Base.TheVariants as bases
+use Rattle.desk_ports.specs.declared.harbor.Harbor.{Harbor}
 
 -- one port: a standard one, or the made one of a key
 pub data Pier : Type 0 where
@@ -63,6 +68,65 @@ pub record MadeCall (before now : Slab BerthSeen) (key : ℕ) (Call : PortSeen �
   pub call : IfSome (get before key) (λ old. IfSome (get now key) (λ new. (new.place ≡ old.place) × Call old.port new.port))
   pub stands : is_some (get now key) ≡ is_some (get before key)
   pub others : (other : ℕ) → other ≢ key → get now other ≡ get before other
+
+-- the call was made on the port of the stream, which has begun or not as before; its output is finished where it was or
+-- where the call finishes it
+pub record StreamEnds (ends : Bool) (before now : StreamSeen) (Call : PortSeen → PortSeen → Type 0) : Type 0 where
+  pub call : Call before.port now.port
+  pub begun : now.begun ≡ before.begun
+  pub finished : now.finished ≡ (ends || before.finished)
+
+-- a call that finishes no output
+abbrev pub StreamCall : StreamSeen → StreamSeen → (PortSeen → PortSeen → Type 0) → Type 0
+StreamCall before now Call = StreamEnds false before now Call
+
+-- the call was made on the port of the pier, and every other port of the harbor is as it was
+abbrev pub EndsAt : {T I O E : Type 0} → Bool → Pier → Harbor T I O E → Harbor T I O E → (PortSeen → PortSeen → Type 0) → Type 0
+EndsAt ends Input before now Call = StreamEnds ends before.input now.input Call × (now.output ≡ before.output) × (now.errors ≡ before.errors) × (now.made ≡ before.made)
+EndsAt ends Output before now Call = (now.input ≡ before.input) × StreamEnds ends before.output now.output Call × (now.errors ≡ before.errors) × (now.made ≡ before.made)
+EndsAt ends Errors before now Call = (now.input ≡ before.input) × (now.output ≡ before.output) × StreamEnds ends before.errors now.errors Call × (now.made ≡ before.made)
+EndsAt ends (Made key) before now Call = (now.input ≡ before.input) × (now.output ≡ before.output) × (now.errors ≡ before.errors) × MadeCall before.made now.made key Call
+
+-- the same of a call that finishes no output
+abbrev pub CalledAt : {T I O E : Type 0} → Pier → Harbor T I O E → Harbor T I O E → (PortSeen → PortSeen → Type 0) → Type 0
+CalledAt pier before now Call = EndsAt false pier before now Call
+
+-- a stream that has begun and was then handed the text
+pub record NotePut (before now : StreamSeen) (text : List ℕ) (answer : Took) : Type 0 where
+  pub between : StreamSeen
+  pub begins : StreamBegins before between begins.Begun
+  pub puts : StreamCall between now (λ old new. PutsAll old new text answer)
+
+-- a note on the stream, which is begun first and only then handed the text; none where there was no memory to begin it
+abbrev pub StreamNotes : StreamSeen → StreamSeen → List ℕ → Option Took → Type 0
+StreamNotes before now text None = StreamBegins before now begins.Memory
+StreamNotes before now text (Some answer) = NotePut before now text answer ⊎ ((answer ≡ tooks.Failed) × StreamBegins before now begins.Failed)
+
+-- standard output is begun once standard input has begun; else the answer is that of standard input
+abbrev pub ThenBegins : Begun → StreamSeen → StreamSeen → Begun → Type 0
+ThenBegins begins.Begun before now answer = StreamBegins before now answer
+ThenBegins begins.Failed before now answer = (now ≡ before) × (answer ≡ begins.Failed)
+ThenBegins begins.Memory before now answer = (now ≡ before) × (answer ≡ begins.Memory)
+
+-- both streams are begun, standard input first
+pub record BothBegin (input input' output output' : StreamSeen) (answer : Begun) : Type 0 where
+  pub first : Begun
+  pub begins : StreamBegins input input' first
+  pub then : ThenBegins first output output' answer
+
+-- the streams of the base are begun, and every other stream is as it was
+abbrev pub BeginsAt : {T I O E : Type 0} → Base → Harbor T I O E → Harbor T I O E → Begun → Type 0
+BeginsAt bases.Input before now answer = StreamBegins before.input now.input answer × (now.output ≡ before.output) × (now.errors ≡ before.errors)
+BeginsAt bases.Output before now answer = (now.input ≡ before.input) × StreamBegins before.output now.output answer × (now.errors ≡ before.errors)
+BeginsAt bases.Both before now answer = BothBegin before.input now.input before.output now.output answer × (now.errors ≡ before.errors)
+BeginsAt bases.Errors before now answer = (now.input ≡ before.input) × (now.output ≡ before.output) × StreamBegins before.errors now.errors answer
+BeginsAt (bases.Made key) before now answer = StreamBegins before.input now.input answer × (now.output ≡ before.output) × (now.errors ≡ before.errors)
+
+-- every standard stream is as it was
+pub record SameStreams {T I O E : Type 0} (before now : Harbor T I O E) : Type 0 where
+  pub input : now.input ≡ before.input
+  pub output : now.output ≡ before.output
+  pub errors : now.errors ≡ before.errors
 
 -- the place that a made port was made for
 abbrev pub place_of : Option BerthSeen → Option Place

@@ -1,12 +1,13 @@
 -- What a port tells, and what each call on it does to that.
-use Rattle.std.specs.Prelude.{◌≡◌, ℕ, Bool, List, Option, IfSome, true}
+use Rattle.std.specs.Prelude.{◌≡◌, ◌||◌, ℕ, Bool, List, Option, IfSome, false, true}
 use Rattle.port_trait.specs.Counting.{Tallied}
 use Rattle.relay_model.specs.declared.places.Place.{Place}
 use Rattle.relay_model.specs.declared.acts.Shut.{Shut}
-use Rattle.port_trait.specs.Meanings.{Gives, Accepts, AcceptsWhole, AcceptsAll, ReapsChild, Behind, OnJoined, join_answer, begun_after, is_end, begin_event, settle_event, read_event, write_event, shut_event, noted}
+use Rattle.port_trait.specs.Meanings.{Gives, Accepts, AcceptsWhole, AcceptsAll, ReapsChild, join_answer, begun_after, is_end, begin_event, settle_event, read_event, write_event, shut_event, noted}
 use Rattle.port_trait.specs.declared.counts.Counts.{Counts}
 use Rattle.port_trait.specs.declared.answers.Hint.{Hint}
 use Rattle.port_trait.specs.declared.answers.Begun.{Begun as BeginAnswer}
+use Rattle.port_trait.specs.declared.answers.Begun.TheVariants as begins
 use Rattle.port_trait.specs.declared.answers.Settled.{Settled}
 use Rattle.port_trait.specs.declared.answers.Got.{Got}
 use Rattle.port_trait.specs.declared.answers.Took.{Took as WriteAnswer}
@@ -52,6 +53,23 @@ pub record Begins (before now : PortSeen) (answer : BeginAnswer) : Type 0 where
   pub ended : now.ended ≡ before.ended
   pub still : MovesNothing before now
   pub counts : Tallied (begin_event answer) before.counts now.counts
+
+-- a beginning of a stream: one of its port, unless it has begun
+pub record StreamBegins (before now : StreamSeen) (answer : BeginAnswer) : Type 0 where
+  pub port : Begins before.port now.port answer
+  pub begun : now.begun ≡ (before.begun || begun_after false answer)
+  pub finished : now.finished ≡ before.finished
+  pub again : before.begun ≡ true → (answer ≡ begins.Begun) × (now ≡ before)
+
+-- two states of a port, before and after a `begin` that failed
+pub record FailsToBegin {T : Type 0} (tells : T → PortSeen) (made : T) : Type 0 where
+  pub failed : T
+  pub call : Begins (tells made) (tells failed) begins.Failed
+
+-- what contracts see of a port is what a state of its type tells
+pub record IsOf {T : Type 0} (tells : T → PortSeen) (port : PortSeen) : Type 0 where
+  pub state : T
+  pub told : port ≡ tells state
 
 -- a settling moves no bytes, and counts as its answer says
 pub record Settles (before now : PortSeen) (answer : Settled) : Type 0 where

@@ -1,13 +1,11 @@
 // A made port, seen by contracts as what it tells.
 ghost use Rattle.std.specs.Prelude.{◌<◌, ◌≡◌, length, IfSome};
 ghost use Rattle.port_trait.specs.Hinting.{IsWithin};
-ghost use Rattle.desk_ports.specs.Ports.{seen, Begins, Settles, Reads, Writes, Sends, Shuts, HintsSo, Reaps, JoinsSo, LetsIn};
+ghost use Rattle.desk_ports.specs.Ports.{seen, IsOf, Settles, Reads, Writes, Sends, Shuts, HintsSo, Reaps, JoinsSo, LetsIn};
 ghost use Rattle.port_trait.specs.Counting.{Counted};
 ghost use Rattle.port_trait.specs.Made.{peer_failed, peer_stalled, came_after};
 
-use port_trait::{
-    Begun, Got, Hint, Joining, MadePeer, Maker, Port, PortReap, Settled, Shutting, Took,
-};
+use port_trait::{Got, Hint, Joining, MadePeer, Maker, Port, PortReap, Settled, Shutting, Took};
 use relay_model::{Place, Shut};
 use std::marker::Model;
 
@@ -52,16 +50,10 @@ impl<T: Port> Berth<T> {
 
     /// Whether the port has a child.
     pub fn has_child(&self) -> bool
-        ensures { result ≡ self.now.port.child }
+        ensures child { result ≡ self.now.port.child }
+        ensures told { IsOf (seen T.gave T.took T.shuts T.hints T.hinting T.counts T.ended T.joins T.child) self.now.port }
     {
         self.port.has_child()
-    }
-
-    pub fn begin(&mut self) -> Begun
-        ensures call { Begins self.old.port self.new.port result }
-        ensures place { self.new.place ≡ self.old.place }
-    {
-        self.port.begin()
     }
 
     pub fn settle(&mut self) -> Settled

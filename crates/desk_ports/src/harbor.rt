@@ -8,7 +8,8 @@ ghost use Rattle.port_trait.specs.declared.answers.Begun.TheVariants as begins;
 ghost use Rattle.port_trait.specs.Made.{peer_failed, peer_stalled, came_after};
 ghost use Rattle.desk_ports.specs.Answers.{GotFits, SaidSo, TookFits, is_unsaid};
 ghost use Rattle.desk_ports.specs.Ports.{LetsIn, MovesNothing, Settles, Reads, Writes, Sends, Shuts, seen};
-ghost use Rattle.desk_ports.specs.Harbors.{AtErrors, AtInput, AtMade, AtOutput, MadeCall, giving_pier, hint_told, hints_of, place_of, taking_pier};
+ghost use Rattle.port_trait.specs.Streams.{finishes};
+ghost use Rattle.desk_ports.specs.Harbors.{BeginsAt, CalledAt, EndsAt, MadeCall, SameStreams, StreamNotes, giving_pier, hint_told, hints_of, place_of, taking_pier};
 
 use crate::bases::Base;
 use crate::berths::{Berth, accept_by};
@@ -112,6 +113,7 @@ impl<T: Port, I: Port, O: Port, E: Port> Harbor<T, I, O, E> {
 
     /// Begins the streams of the base, standard input first.
     pub fn begin(&mut self, base: Base) -> Begun
+        ensures call { BeginsAt base self.old self.new result }
         ensures input { MovesNothing self.old.input.port self.new.input.port }
         ensures output { MovesNothing self.old.output.port self.new.output.port }
         ensures errors { MovesNothing self.old.errors.port self.new.errors.port }
@@ -143,18 +145,7 @@ impl<T: Port, I: Port, O: Port, E: Port> Harbor<T, I, O, E> {
     }
 
     pub fn settle(&mut self, base: Base) -> Settled
-        ensures input { AtInput (giving_pier base)
-            (Settles self.old.input.port self.new.input.port result)
-            (self.new.input ≡ self.old.input) }
-        ensures output { AtOutput (giving_pier base)
-            (Settles self.old.output.port self.new.output.port result)
-            (self.new.output ≡ self.old.output) }
-        ensures errors { AtErrors (giving_pier base)
-            (Settles self.old.errors.port self.new.errors.port result)
-            (self.new.errors ≡ self.old.errors) }
-        ensures made { AtMade (giving_pier base)
-            (λ key. MadeCall self.old.made self.new.made key (λ old new. Settles old new result))
-            (self.new.made ≡ self.old.made) }
+        ensures { CalledAt (giving_pier base) self.old self.new (λ old new. Settles old new result) }
     {
         match base {
             Base::Input | Base::Both => self.input.settle(),
@@ -179,18 +170,7 @@ impl<T: Port, I: Port, O: Port, E: Port> Harbor<T, I, O, E> {
     pub fn read(&mut self, base: Base, into: &mut [u8]) -> Got
         requires some { 0 < length into.old }
         ensures fits { GotFits (length into.new) result }
-        ensures input { AtInput (giving_pier base)
-            (Reads self.old.input.port self.new.input.port into.new result)
-            (self.new.input ≡ self.old.input) }
-        ensures output { AtOutput (giving_pier base)
-            (Reads self.old.output.port self.new.output.port into.new result)
-            (self.new.output ≡ self.old.output) }
-        ensures errors { AtErrors (giving_pier base)
-            (Reads self.old.errors.port self.new.errors.port into.new result)
-            (self.new.errors ≡ self.old.errors) }
-        ensures made { AtMade (giving_pier base)
-            (λ key. MadeCall self.old.made self.new.made key (λ old new. Reads old new into.new result))
-            (self.new.made ≡ self.old.made) }
+        ensures call { CalledAt (giving_pier base) self.old self.new (λ old new. Reads old new into.new result) }
     {
         match base {
             Base::Input | Base::Both => self.input.read(into),
@@ -215,18 +195,7 @@ impl<T: Port, I: Port, O: Port, E: Port> Harbor<T, I, O, E> {
     pub fn write(&mut self, base: Base, bytes: &[u8]) -> Took
         requires some { 0 < length bytes.now }
         ensures fits { TookFits (length bytes.now) result }
-        ensures input { AtInput (taking_pier base)
-            (Writes self.old.input.port self.new.input.port bytes.now result)
-            (self.new.input ≡ self.old.input) }
-        ensures output { AtOutput (taking_pier base)
-            (Writes self.old.output.port self.new.output.port bytes.now result)
-            (self.new.output ≡ self.old.output) }
-        ensures errors { AtErrors (taking_pier base)
-            (Writes self.old.errors.port self.new.errors.port bytes.now result)
-            (self.new.errors ≡ self.old.errors) }
-        ensures made { AtMade (taking_pier base)
-            (λ key. MadeCall self.old.made self.new.made key (λ old new. Writes old new bytes.now result))
-            (self.new.made ≡ self.old.made) }
+        ensures call { CalledAt (taking_pier base) self.old self.new (λ old new. Writes old new bytes.now result) }
     {
         match base {
             Base::Input => self.input.write(bytes),
@@ -249,18 +218,7 @@ impl<T: Port, I: Port, O: Port, E: Port> Harbor<T, I, O, E> {
 
     pub fn send(&mut self, base: Base, bytes: &[u8]) -> Took
         requires some { 0 < length bytes.now }
-        ensures input { AtInput (taking_pier base)
-            (Sends self.old.input.port self.new.input.port bytes.now result)
-            (self.new.input ≡ self.old.input) }
-        ensures output { AtOutput (taking_pier base)
-            (Sends self.old.output.port self.new.output.port bytes.now result)
-            (self.new.output ≡ self.old.output) }
-        ensures errors { AtErrors (taking_pier base)
-            (Sends self.old.errors.port self.new.errors.port bytes.now result)
-            (self.new.errors ≡ self.old.errors) }
-        ensures made { AtMade (taking_pier base)
-            (λ key. MadeCall self.old.made self.new.made key (λ old new. Sends old new bytes.now result))
-            (self.new.made ≡ self.old.made) }
+        ensures call { CalledAt (taking_pier base) self.old self.new (λ old new. Sends old new bytes.now result) }
     {
         match base {
             Base::Input => self.input.send(bytes),
@@ -281,18 +239,7 @@ impl<T: Port, I: Port, O: Port, E: Port> Harbor<T, I, O, E> {
     }
 
     pub fn shut(&mut self, base: Base, how: Shut) -> Shutting
-        ensures input { AtInput (taking_pier base)
-            (Shuts self.old.input.port self.new.input.port how result)
-            (self.new.input ≡ self.old.input) }
-        ensures output { AtOutput (taking_pier base)
-            (Shuts self.old.output.port self.new.output.port how result)
-            (self.new.output ≡ self.old.output) }
-        ensures errors { AtErrors (taking_pier base)
-            (Shuts self.old.errors.port self.new.errors.port how result)
-            (self.new.errors ≡ self.old.errors) }
-        ensures made { AtMade (taking_pier base)
-            (λ key. MadeCall self.old.made self.new.made key (λ old new. Shuts old new how result))
-            (self.new.made ≡ self.old.made) }
+        ensures { EndsAt (finishes how) (taking_pier base) self.old self.new (λ old new. Shuts old new how result) }
     {
         match base {
             Base::Input => self.input.shut(how),
@@ -304,6 +251,7 @@ impl<T: Port, I: Port, O: Port, E: Port> Harbor<T, I, O, E> {
 
     /// Writes the whole text to standard error, which is begun first. None where there is no memory to begin it.
     pub fn note(&mut self, text: &[u8]) -> Option<Took>
+        ensures call { StreamNotes self.old.errors self.new.errors text.now result }
         ensures made { self.new.made ≡ self.old.made }
         ensures streams { (self.new.input ≡ self.old.input) × (self.new.output ≡ self.old.output) }
         ensures said { SaidSo result
@@ -347,12 +295,7 @@ impl<T: Port, I: Port, O: Port, E: Port> Harbor<T, I, O, E> {
 
     /// What the ports of the base know of their readiness.
     pub fn hint(&mut self, base: Base) -> Hint
-        ensures input { self.new.input.port
-            ≡ self.old.input.port }
-        ensures output { self.new.output.port
-            ≡ self.old.output.port }
-        ensures errors { self.new.errors.port
-            ≡ self.old.errors.port }
+        ensures streams { SameStreams self.old self.new }
         ensures made { SameValues self.old.made self.new.made }
         ensures readable { IfSome
             (hint_told

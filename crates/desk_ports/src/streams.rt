@@ -1,10 +1,10 @@
 // The three standard streams.
-ghost use Rattle.std.specs.Prelude.{◌<◌, ◌≡◌, ◌||◌, ◌&&◌, not, false, true, length};
+ghost use Rattle.std.specs.Prelude.{◌<◌, ◌≡◌, ◌&&◌, not, false, length, IfSome};
 ghost use Rattle.desk_ports.specs.Endings.{EndsSo, OnJoinedBack, PassedEnd, StandsAfter, handed, is_left};
+ghost use Rattle.desk_ports.specs.Harbors.{StreamCall, StreamEnds};
 ghost use Rattle.port_trait.specs.Streams.{finishes};
-ghost use Rattle.port_trait.specs.Meanings.{Behind, begun_after};
-ghost use Rattle.port_trait.specs.declared.answers.Begun.TheVariants as begins;
-ghost use Rattle.desk_ports.specs.Ports.{Begins, Settles, Reads, Writes, Sends, PutsAll, Shuts, HintsSo, seen};
+ghost use Rattle.port_trait.specs.Meanings.{Behind};
+ghost use Rattle.desk_ports.specs.Ports.{StreamBegins, Settles, Reads, Writes, Sends, PutsAll, Shuts, seen};
 
 use crate::endings::Back;
 use port_trait::{Begun, Got, Hint, Joining, Port, Settled, Shutting, Took};
@@ -57,10 +57,7 @@ impl<T: Port> Stream<T> {
 
     /// Begins the port, unless it has begun.
     pub fn begin(&mut self) -> Begun
-        ensures port { Begins self.old.port self.new.port result }
-        ensures begun { self.new.begun ≡ self.old.begun || begun_after false result }
-        ensures finished { self.new.finished ≡ self.old.finished }
-        ensures again { self.old.begun ≡ true → (result ≡ begins.Begun) × (self.new ≡ self.old) }
+        ensures { StreamBegins self.old self.new result }
     {
         if self.begun {
             return Begun::Begun;
@@ -71,62 +68,49 @@ impl<T: Port> Stream<T> {
     }
 
     pub fn settle(&mut self) -> Settled
-        ensures port { Settles self.old.port self.new.port result }
-        ensures begun { self.new.begun ≡ self.old.begun }
-        ensures finished { self.new.finished ≡ self.old.finished }
+        ensures { StreamCall self.old self.new (λ old new. Settles old new result) }
     {
         self.port.settle()
     }
 
     pub fn read(&mut self, into: &mut [u8]) -> Got
         requires { 0 < length into.old }
-        ensures port { Reads self.old.port self.new.port into.new result }
-        ensures begun { self.new.begun ≡ self.old.begun }
-        ensures finished { self.new.finished ≡ self.old.finished }
+        ensures { StreamCall self.old self.new (λ old new. Reads old new into.new result) }
     {
         self.port.read(into)
     }
 
     pub fn write(&mut self, bytes: &[u8]) -> Took
         requires { 0 < length bytes.now }
-        ensures port { Writes self.old.port self.new.port bytes.now result }
-        ensures begun { self.new.begun ≡ self.old.begun }
-        ensures finished { self.new.finished ≡ self.old.finished }
+        ensures { StreamCall self.old self.new (λ old new. Writes old new bytes.now result) }
     {
         self.port.write(bytes)
     }
 
     pub fn send(&mut self, bytes: &[u8]) -> Took
         requires { 0 < length bytes.now }
-        ensures port { Sends self.old.port self.new.port bytes.now result }
-        ensures begun { self.new.begun ≡ self.old.begun }
-        ensures finished { self.new.finished ≡ self.old.finished }
+        ensures { StreamCall self.old self.new (λ old new. Sends old new bytes.now result) }
     {
         self.port.send(bytes)
     }
 
     pub fn put_all(&mut self, bytes: &[u8]) -> Took
-        ensures port { PutsAll self.old.port self.new.port bytes.now result }
-        ensures begun { self.new.begun ≡ self.old.begun }
-        ensures finished { self.new.finished ≡ self.old.finished }
+        ensures { StreamCall self.old self.new (λ old new. PutsAll old new bytes.now result) }
     {
         self.port.put_all(bytes)
     }
 
     pub fn shut(&mut self, how: Shut) -> Shutting
-        ensures port { Shuts self.old.port self.new.port how result }
-        ensures begun { self.new.begun ≡ self.old.begun }
-        ensures finished { self.new.finished ≡ self.old.finished || finishes how }
+        ensures { StreamEnds (finishes how) self.old self.new (λ old new. Shuts old new how result) }
     {
-        self.finished = self.finished || is_final(how);
+        self.finished = is_final(how) || self.finished;
         self.port.shut(how)
     }
 
     /// What the port knows of its readiness.
     pub fn hint(&mut self) -> Hint
-        ensures port { HintsSo self.old.port self.new.port result }
-        ensures begun { self.new.begun ≡ self.old.begun }
-        ensures finished { self.new.finished ≡ self.old.finished }
+        ensures same { self.new ≡ self.old }
+        ensures hinted { IfSome self.old.port.hints (λ told. result ≡ told) }
     {
         self.port.hint()
     }

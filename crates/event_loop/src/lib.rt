@@ -5,7 +5,8 @@
 mod drivers;
 mod faults;
 mod outcomes;
-mod relays;
 mod turns;
 
-pub use relays::relay;
+pub use drivers::Driver;
+pub use faults::Fault;
+pub use outcomes::outcome_for;

@@ -1,5 +1,5 @@
 // The turns of a session that is driven: up to a sleep, the sleep, and so on until it is done.
-ghost use Rattle.std.specs.Prelude.{◌≡◌, ℕ, ◌+◌, ◌<◌, ◌≤◌, ◌∷◌, [], List, Option, length, true, false};
+ghost use Rattle.std.specs.Prelude.{◌≡◌, ℕ, ◌+◌, ◌<◌, ◌≤◌, ◌∷◌, [], List, Option, length, true, false, IfSome, IfNone};
 ghost use Rattle.relay_model.specs.declared.acts.Act.{Act};
 ghost use Rattle.relay_model.specs.declared.acts.Act.TheVariants as acts;
 ghost use Rattle.relay_model.specs.declared.commands.Config.{Config as Command};
@@ -9,18 +9,20 @@ ghost use Rattle.relay_core.specs.declared.wishes.Wish.TheVariants as wishes;
 ghost use Rattle.relay_core.specs.Sessions.{Stands, Hears, wish_of, has_ended};
 ghost use Rattle.session_direction.specs.Directions.{listed};
 ghost use Rattle.session_driver.specs.Seen.{Seen, seen};
+ghost use Rattle.relay_core.specs.States.{IsDone};
 ghost use Rattle.event_loop.specs.Answers.{AnswerTells};
+ghost use Rattle.event_loop.specs.Ended.{EndsWith};
 ghost use Rattle.event_loop.specs.declared.drivers.Pause.TheVariants as pauses;
 
 use crate::drivers::{Driver, Pause};
 use crate::outcomes::outcome_for;
 use exit_status::Outcome;
-use relay_core::{Answer, Session};
+use relay_core::{Answer, Session, cause_is_told, failure_is_blamed, held_is_own, stop_is_told};
 use relay_model::{Config, ReadyList, Why};
 use world_trait::{Turned, World};
 
 impl Driver {
-    ghost use Rattle.event_loop.specs.Courses.{Course, SomewhereFor, KeepsFor, TurnsFor, PauseIs, IsPause, rank};
+    ghost use Rattle.event_loop.specs.Courses.{Course, SomewhereFor, KeepsFor, TurnsFor, WaitsOnce, PauseIs, IsPause, rank};
 
     /// Makes the calls that are wished for, up to a sleep or the end.
     fn drain<W: World>(&mut self, world: &mut W, config: &Config, scratch: &mut [u8]) -> Pause
@@ -39,68 +41,83 @@ impl Driver {
         }
     }
 
-    /// Sleeps as it is wished for, and hears what the turn names.
-    fn wait<W: World>(&mut self, world: &mut W, until: Option<u64>, turns: u64)
+    /// Sleeps as it is wished for, and hears what the turn names. False where there was no memory for a turn, which ends the
+    /// session.
+    fn wait<W: World>(&mut self, world: &mut W, until: Option<u64>, turns: u64) -> bool
         requires few { self.old.made < turns }
         requires pause { PauseIs self.old (pauses.Sleep until) }
         requires paused { IsPause self.old (pauses.Sleep until) }
         ensures course { (c : Command) → TurnsFor c turns (seen W.told W.held W.faults W.waits W.stops W.clock world.old) (seen W.told W.held W.faults W.waits W.stops W.clock world.new) self.old self.new }
-        ensures made { self.new.made ≤ self.old.made + 1 }
-        ensures goes { has_ended self.new.session ≡ false → self.new.made ≡ self.old.made + 1 }
+        ensures waited { result ≡ true → (c : Command) → WaitsOnce c turns (seen W.told W.held W.faults W.waits W.stops W.clock world.old) (seen W.told W.held W.faults W.waits W.stops W.clock world.new) self.old self.new }
+        ensures goes { result ≡ true → self.new.made ≡ self.old.made + 1 }
+        ensures ended { result ≡ false → has_ended self.new.session ≡ true }
+        ensures short { result ≡ false → self.new.made ≡ self.old.made }
     {
         match world.wait(until, &mut self.ready) {
             Turned::Turned { at, stop } => {
                 self.made += 1;
                 hear_turn(&mut self.session, at, &self.ready, stop);
+                true
             }
-            Turned::Memory => self.session.cut(Why::Memory),
+            Turned::Memory => {
+                self.session.cut(Why::Memory);
+                false
+            }
         }
     }
 
-    /// Relays until the session is done, with at most so many turns.
-    pub fn run<W: World>(
+    /// Makes the calls that are wished for and then waits once. `None` where it goes on after that wait; else the session
+    /// is done for this reason, and holds nothing: by itself, for want of memory, or since `turns` turns were made.
+    pub fn turn<W: World>(
         &mut self,
         world: &mut W,
         config: &Config,
         scratch: &mut [u8],
         turns: u64,
-    ) -> Why
+    ) -> Option<Why>
         requires scratch { 0 < length scratch.old }
         requires course { SomewhereFor config.now turns (seen W.told W.held W.faults W.waits W.stops W.clock world.old) self.old }
-        requires first { self.old.made ≡ 0 }
+        requires within { self.old.made ≤ turns }
         ensures course { TurnsFor config.now turns (seen W.told W.held W.faults W.waits W.stops W.clock world.old) (seen W.told W.held W.faults W.waits W.stops W.clock world.new) self.old self.new }
-        ensures done { IsPause self.new (pauses.Done result) }
-    {
-        for _turn in 0..turns {
-            match self.drain(world, config, scratch) {
-                Pause::Done(why) => return why,
-                Pause::Sleep(until) => self.wait(world, until, turns),
-            }
-        }
-        self.wind_up(world, config, scratch, turns)
-    }
-
-    /// Ends the relay where no turn is left.
-    fn wind_up<W: World>(
-        &mut self,
-        world: &mut W,
-        config: &Config,
-        scratch: &mut [u8],
-        turns: u64,
-    ) -> Why
-        requires scratch { 0 < length scratch.old }
-        requires course { SomewhereFor config.now turns (seen W.told W.held W.faults W.waits W.stops W.clock world.old) self.old }
-        requires used_up { has_ended self.old.session ≡ false → self.old.made ≡ turns }
-        ensures course { TurnsFor config.now turns (seen W.told W.held W.faults W.waits W.stops W.clock world.old) (seen W.told W.held W.faults W.waits W.stops W.clock world.new) self.old self.new }
-        ensures done { IsPause self.new (pauses.Done result) }
+        ensures done { IfSome result (λ why. IsPause self.new (pauses.Done why)) }
+        ensures waitless { IfSome result (λ why. self.new.made ≡ self.old.made) }
+        ensures waited { IfNone result (WaitsOnce config.now turns (seen W.told W.held W.faults W.waits W.stops W.clock world.old) (seen W.told W.held W.faults W.waits W.stops W.clock world.new) self.old self.new) }
+        ensures goes { IfNone result ((self.old.made < turns) × (self.new.made ≡ self.old.made + 1)) }
     {
         match self.drain(world, config, scratch) {
-            Pause::Done(why) => why,
-            Pause::Sleep(_) => {
-                self.session.cut(Why::Stopped);
-                self.close_all(world, config, scratch)
-            }
+            Pause::Done(why) => Some(why),
+            Pause::Sleep(until) => self.sleep(world, config, scratch, until, turns),
         }
+    }
+
+    /// Waits once, where a turn is left and there is memory for it, and else ends the relay.
+    fn sleep<W: World>(
+        &mut self,
+        world: &mut W,
+        config: &Config,
+        scratch: &mut [u8],
+        until: Option<u64>,
+        turns: u64,
+    ) -> Option<Why>
+        requires scratch { 0 < length scratch.old }
+        requires course { SomewhereFor config.now turns (seen W.told W.held W.faults W.waits W.stops W.clock world.old) self.old }
+        requires pause { PauseIs self.old (pauses.Sleep until) }
+        requires paused { IsPause self.old (pauses.Sleep until) }
+        requires within { self.old.made ≤ turns }
+        ensures course { TurnsFor config.now turns (seen W.told W.held W.faults W.waits W.stops W.clock world.old) (seen W.told W.held W.faults W.waits W.stops W.clock world.new) self.old self.new }
+        ensures done { IfSome result (λ why. IsPause self.new (pauses.Done why)) }
+        ensures waitless { IfSome result (λ why. self.new.made ≡ self.old.made) }
+        ensures waited { IfNone result (WaitsOnce config.now turns (seen W.told W.held W.faults W.waits W.stops W.clock world.old) (seen W.told W.held W.faults W.waits W.stops W.clock world.new) self.old self.new) }
+        ensures goes { IfNone result ((self.old.made < turns) × (self.new.made ≡ self.old.made + 1)) }
+    {
+        if self.made < turns {
+            if self.wait(world, until, turns) {
+                return None;
+            }
+            return Some(self.close_all(world, config, scratch));
+        }
+        self.session.cut(Why::Stopped);
+        Some(self.close_all(world, config, scratch))
     }
 
     /// Closes what is held after the session has ended.
@@ -110,6 +127,7 @@ impl Driver {
         requires over { has_ended self.old.session ≡ true }
         ensures course { KeepsFor config.now (seen W.told W.held W.faults W.waits W.stops W.clock world.old) (seen W.told W.held W.faults W.waits W.stops W.clock world.new) self.old self.new }
         ensures done { IsPause self.new (pauses.Done result) }
+        ensures made { self.new.made ≡ self.old.made }
     {
         match self.drain(world, config, scratch) {
             Pause::Done(why) => why,
@@ -117,8 +135,19 @@ impl Driver {
         }
     }
 
-    /// How the run ended, once the session is done.
+    /// How the run ended, once the session is done for this reason.
     pub fn outcome(&self, why: Why) -> Outcome
+        ensures { (c : Command) (n : ℕ) (start now : Seen) (past : List Act) → Course c n start now self.now past → IsDone c n past 0 why → EndsWith c n past result }
+    {
+        cause_is_told();
+        failure_is_blamed();
+        held_is_own();
+        stop_is_told();
+        self.answer(why)
+    }
+
+    /// The answer that what the session tells at its end makes.
+    fn answer(&self, why: Why) -> Outcome
         ensures { (c : Command) (n : ℕ) (past : List Act) → Stands c n past 0 self.now.session → Legal c n past → AnswerTells c past why self.now.fault self.now.made result }
     {
         let listening = self.session.failed_listening();

@@ -1,6 +1,7 @@
 // The explainer: says what the words of a command line make, and opens nothing. Its arguments are those words.
 #![tactic(auto)]
 
+use blocking_streams::Blocking;
 use command_report::explain_run;
 use port_trait::StdSink;
 use program_words::program_words;
@@ -14,6 +15,6 @@ fn main(rt: HostRuntime) -> ExitCode {
     let Ok(words) = program_words(alloc, &rt) else {
         return ExitCode::from(NO_MEMORY);
     };
-    let mut sink = StdSink::new(rt.stdout());
+    let mut sink = StdSink::new(Blocking::new(rt.stdout()));
     ExitCode::from(explain_run(alloc, &mut sink, words.as_slice()))
 }

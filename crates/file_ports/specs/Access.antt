@@ -3,6 +3,8 @@ use Rattle.std.specs.Prelude.{Bool, true, false, not, ◌&&◌}
 use Rattle.relay_model.specs.declared.places.Part.{Part}
 use Rattle.relay_model.specs.declared.places.Part.TheVariants as parts
 use Rattle.relay_model.specs.declared.commands.FileFlags.{FileFlags}
+use Rattle.std.specs.declared.fs.options.OpenOptions.{OpenOptions}
+use Rattle.std.specs.Fs.{new_options, with_read, with_write, with_append, with_truncate, with_create, with_create_new}
 use Rattle.file_ports.specs.declared.access.Access.{Access}
 use Rattle.file_ports.specs.declared.access.FileKind.{FileKind}
 use Rattle.file_ports.specs.declared.access.FileKind.TheVariants as kinds
@@ -19,10 +21,15 @@ writes_by parts.Both = true
 writes_by parts.Reading = false
 writes_by parts.Writing = true
 
--- a file that is opened by its flags, which are the options of std of these names; one that is opened for appending
--- and made where it is written, and emptied before that where it is to be truncated; and one that is there
+-- a file that is made and emptied; one that is opened by its flags, which are the options of std of these names; one that
+-- is opened for appending and made where it is written; and one that is there. What is to be truncated and appended to is
+-- emptied once it is open
 abbrev pub access_of : FileKind → FileFlags → Part → Access
-access_of kinds.Create flags part = record { read = false; write = true; append = false; truncate = true; empty_first = false; create = true; create_new = false }
-access_of kinds.Open flags part = record { read = reads_by part; write = writes_by part; append = writes_by part && flags.append; truncate = flags.trunc; empty_first = false; create = flags.creat; create_new = flags.excl }
-access_of kinds.Generic flags part = record { read = reads_by part; write = writes_by part; append = writes_by part; truncate = flags.trunc && not (writes_by part); empty_first = (flags.trunc && writes_by part) && not flags.excl; create = writes_by part; create_new = flags.excl }
-access_of kinds.Pipe flags part = record { read = reads_by part; write = writes_by part; append = false; truncate = false; empty_first = false; create = false; create_new = false }
+access_of kinds.Create flags part = record { read = false; write = true; append = false; truncate = true; empty = false; create = true; create_new = false }
+access_of kinds.Open flags part = record { read = reads_by part; write = writes_by part; append = writes_by part && flags.append; truncate = flags.trunc && not (writes_by part && flags.append); empty = (flags.trunc && (writes_by part && flags.append)) && not flags.excl; create = flags.creat; create_new = flags.excl }
+access_of kinds.Generic flags part = record { read = reads_by part; write = writes_by part; append = writes_by part; truncate = flags.trunc && not (writes_by part); empty = (flags.trunc && writes_by part) && not flags.excl; create = writes_by part; create_new = flags.excl }
+access_of kinds.Pipe flags part = record { read = reads_by part; write = writes_by part; append = false; truncate = false; empty = false; create = false; create_new = false }
+
+-- the options of std that ask just this
+abbrev pub options_of : Access → OpenOptions
+options_of access = with_create_new (with_create (with_truncate (with_append (with_write (with_read new_options access.read) access.write) access.append) access.truncate) access.create) access.create_new

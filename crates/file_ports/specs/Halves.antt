@@ -1,5 +1,5 @@
 -- What contracts see of two halves.
-use Rattle.std.specs.Prelude.{◌≡◌, Bool, true, false, not, ◌&&◌}
+use Rattle.std.specs.Prelude.{◌≡◌, Bool, true, false, not, ◌&&◌, Option, None, Some, IsSomeAnd}
 use Rattle.relay_model.specs.declared.places.Part.{Part}
 use Rattle.port_trait.specs.Hinting.{no_hint}
 use Rattle.port_trait.specs.declared.answers.Hint.{Hint}
@@ -12,6 +12,11 @@ pub record HalvesState : Type 0 where
   pub reads : Bool
   pub writes : Bool
   pub readiness : Readiness
+
+-- this is done to what the half has, and a half that isn't there stays so
+abbrev pub AtHalf : {T : Type 0} → (T → T → Type 0) → Option T → Option T → Type 0
+AtHalf P None now = now ≡ None
+AtHalf P (Some before) now = IsSomeAnd now (P before)
 
 -- whether nothing reports them, since they are always ready
 abbrev pub is_always : Readiness → Bool

@@ -1,5 +1,7 @@
 -- What a file is when it was opened.
-use Rattle.std.specs.Prelude.{◌≡◌, ℕ, List, Option, None, Some, is_some, IsUtf8}
+use Rattle.std.specs.Prelude.{◌≡◌, ℕ, List, Option, None, Some, true, is_some, IsUtf8, string_bytes, ⊤}
+use Rattle.std.specs.declared.fs.File.{File}
+use Rattle.std.specs.declared.fs.options.OpenOptions.{OpenOptions}
 use Rattle.relay_model.specs.declared.places.Part.{Part}
 use Rattle.relay_model.specs.declared.places.Part.TheVariants as parts
 use Rattle.relay_model.specs.declared.commands.Target.{Target}
@@ -10,9 +12,10 @@ use Rattle.port_trait.specs.declared.makers.Making.TheVariants as makings
 use Rattle.file_ports.specs.declared.access.Access.{Access}
 use Rattle.file_ports.specs.declared.access.FileKind.{FileKind}
 use Rattle.file_ports.specs.declared.access.FileKind.TheVariants as kinds
+use Rattle.file_ports.specs.declared.open.NamedPipe.{NamedPipe}
 use Rattle.file_ports.specs.declared.open.FileEnds.{FileEnds}
 use Rattle.file_ports.specs.declared.open.FileEnds.TheVariants as ends
-use Rattle.file_ports.specs.Access.{access_of}
+use Rattle.file_ports.specs.Access.{access_of, options_of}
 
 -- the kind and the name of an address of a file
 abbrev pub file_named : Target → Option (FileKind × List ℕ)
@@ -29,25 +32,43 @@ OnMade (makings.Later made) P = ⊥
 OnMade makings.Failed P = Unit {0}
 OnMade makings.Memory P = Unit {0}
 
--- a part that reads has what is read, and one that writes what is written, each opened in this way; a pipe that is used
--- one way may be left to be opened so
-abbrev pub AreOpened : Part → Access → FileEnds → Type 0
-AreOpened parts.Both access (ends.Both source sink) = (source.access ≡ access) × (sink.access ≡ access)
-AreOpened parts.Both access (ends.Reading source) = ⊥
-AreOpened parts.Both access (ends.Writing sink) = ⊥
-AreOpened parts.Both access (ends.Waiting asked name) = ⊥
-AreOpened parts.Reading access (ends.Reading source) = source.access ≡ access
-AreOpened parts.Reading access (ends.Writing sink) = ⊥
-AreOpened parts.Reading access (ends.Both source sink) = ⊥
-AreOpened parts.Reading access (ends.Waiting asked name) = asked ≡ access
-AreOpened parts.Writing access (ends.Writing sink) = sink.access ≡ access
-AreOpened parts.Writing access (ends.Reading source) = ⊥
-AreOpened parts.Writing access (ends.Both source sink) = ⊥
-AreOpened parts.Writing access (ends.Waiting asked name) = asked ≡ access
+-- the file came of an opening of this name that asks just this, and was emptied where that is to be
+pub record IsAsked (opens : OpenOptions → List ℕ → File → Type 0) (empties : File → Type 0) (access : Access) (name : List ℕ) (file : File) : Type 0 where
+  pub opened : opens (options_of access) name file
+  pub emptied : access.empty ≡ true → empties file
 
--- the address is one of a file whose name is UTF-8, the ends are those of the part, opened as the kind of the address
--- and its flags ask, and the entry goes where it is to
-pub record IsOpened {G : Type 0} (single : Single) (part : Part) (ends : FileEnds) (removal : Option G) : Type 0 where
+-- a named pipe that is to be opened as it is asked
+pub record IsToOpen (access : Access) (name : List ℕ) (pipe : NamedPipe) : Type 0 where
+  pub asked : pipe.access ≡ access
+  pub named : string_bytes pipe.name ≡ name
+
+-- a part that reads has what is read, and one that writes what is written, opened as it is asked; a pipe that is used one
+-- way may be left to be opened so. What reads of a file that is used both ways is a copy of what writes
+abbrev pub AreOpened : (OpenOptions → List ℕ → File → Type 0) → (File → Type 0) → (File → File → Type 0) → Part → Access → List ℕ → FileEnds → Type 0
+AreOpened opens empties copies parts.Both access name (ends.Both source sink) = IsAsked opens empties access name sink × copies sink source
+AreOpened opens empties copies parts.Both access name (ends.Reading source) = ⊥
+AreOpened opens empties copies parts.Both access name (ends.Writing sink) = ⊥
+AreOpened opens empties copies parts.Both access name (ends.Waiting pipe) = ⊥
+AreOpened opens empties copies parts.Reading access name (ends.Reading source) = IsAsked opens empties access name source
+AreOpened opens empties copies parts.Reading access name (ends.Writing sink) = ⊥
+AreOpened opens empties copies parts.Reading access name (ends.Both source sink) = ⊥
+AreOpened opens empties copies parts.Reading access name (ends.Waiting pipe) = IsToOpen access name pipe
+AreOpened opens empties copies parts.Writing access name (ends.Writing sink) = IsAsked opens empties access name sink
+AreOpened opens empties copies parts.Writing access name (ends.Reading source) = ⊥
+AreOpened opens empties copies parts.Writing access name (ends.Both source sink) = ⊥
+AreOpened opens empties copies parts.Writing access name (ends.Waiting pipe) = IsToOpen access name pipe
+
+-- the address is one of a file whose name is UTF-8, the ends are those of the part, of that name, opened as the kind of
+-- the address and its flags ask, and the entry goes where it is to
+pub record IsOpened {G : Type 0} (opens : OpenOptions → List ℕ → File → Type 0) (empties : File → Type 0) (copies : File → File → Type 0) (single : Single) (part : Part) (ends : FileEnds) (removal : Option G) : Type 0 where
   pub named : (file : FileKind × List ℕ) × (file_named single.target ≡ Some file) × IsUtf8 file.1
-  pub opened : AreOpened part (access_of named.0.0 single.options.file part) ends
+  pub opened : AreOpened opens empties copies part (access_of named.0.0 single.options.file part) named.0.1 ends
   pub removed : is_some removal ≡ single.options.entry.unlink_close
+
+-- the pipe is the one that the address names, to be opened as its kind and its flags ask
+abbrev pub IsPipeOf : Single → Part → NamedPipe → Type 0
+IsPipeOf single part pipe = (file : FileKind × List ℕ) × (file_named single.target ≡ Some file) × IsToOpen (access_of file.0 single.options.file part) file.1 pipe
+
+-- the ends are those of the part, and a pipe among them is the one that the address names
+abbrev pub AreEndsOf : Single → Part → FileEnds → Type 0
+AreEndsOf single part ends = (file : FileKind × List ℕ) × (file_named single.target ≡ Some file) × AreOpened (λ _ _ _. ⊤) (λ _. ⊤) (λ _ _. ⊤) part (access_of file.0 single.options.file part) file.1 ends

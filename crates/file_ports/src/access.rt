@@ -1,7 +1,6 @@
 // How a file is to be opened, by its address and its use.
 ghost use Rattle.std.specs.Prelude.{◌≡◌, false};
-ghost use Rattle.std.specs.Fs.{asks_read, asks_write, asks_append, asks_truncate, asks_create, asks_create_new};
-ghost use Rattle.file_ports.specs.Access.{access_of, reads_by, writes_by};
+ghost use Rattle.file_ports.specs.Access.{access_of, options_of, reads_by, writes_by};
 
 use relay_model::{FileFlags, Part};
 use std::fs::OpenOptions;
@@ -16,15 +15,15 @@ pub enum FileKind {
 }
 
 /// What is asked of the opening. The names are those of std's options: `create_new` makes the file, and fails where
-/// something is there or where nothing is to be written. `empty_first` is no option: std opens no file to truncate
-/// it and to append to it, so it is emptied by an opening of its own.
+/// something is there or where nothing is to be written. `empty` is no option: std opens no file to truncate it and to
+/// append to it, so a regular file is emptied once it is open.
 #[derive(Clone, Copy, Debug, PartialEq)]
 pub struct Access {
     pub read: bool,
     pub write: bool,
     pub append: bool,
     pub truncate: bool,
-    pub empty_first: bool,
+    pub empty: bool,
     pub create: bool,
     pub create_new: bool,
 }
@@ -36,6 +35,7 @@ impl Access {
     {
         let read = reads(part);
         let write = writes(part);
+        let appends = write && flags.append;
         match kind {
             FileKind::Create => Access {
                 truncate: true,
@@ -43,8 +43,9 @@ impl Access {
                 ..Access::plain(false, true)
             },
             FileKind::Open => Access {
-                append: write && flags.append,
-                truncate: flags.trunc,
+                append: appends,
+                truncate: flags.trunc && !appends,
+                empty: flags.trunc && appends && !flags.excl,
                 create: flags.creat,
                 create_new: flags.excl,
                 ..Access::plain(read, write)
@@ -52,7 +53,7 @@ impl Access {
             FileKind::Generic => Access {
                 append: write,
                 truncate: flags.trunc && !write,
-                empty_first: flags.trunc && write && !flags.excl,
+                empty: flags.trunc && write && !flags.excl,
                 create: write,
                 create_new: flags.excl,
                 ..Access::plain(read, write)
@@ -63,14 +64,14 @@ impl Access {
 
     /// What is there, to be read or written.
     pub(crate) fn plain(read: bool, write: bool) -> Access
-        ensures { result ≡ record { read = read; write = write; append = false; truncate = false; empty_first = false; create = false; create_new = false } }
+        ensures { result ≡ record { read = read; write = write; append = false; truncate = false; empty = false; create = false; create_new = false } }
     {
         Access {
             read,
             write,
             append: false,
             truncate: false,
-            empty_first: false,
+            empty: false,
             create: false,
             create_new: false,
         }
@@ -78,12 +79,7 @@ impl Access {
 
     /// The options of std that ask just this.
     pub fn options(&self) -> OpenOptions
-        ensures read { asks_read result ≡ self.now.read }
-        ensures write { asks_write result ≡ self.now.write }
-        ensures append { asks_append result ≡ self.now.append }
-        ensures truncate { asks_truncate result ≡ self.now.truncate }
-        ensures create { asks_create result ≡ self.now.create }
-        ensures create_new { asks_create_new result ≡ self.now.create_new }
+        ensures { result ≡ options_of self.now }
     {
         let mut options = OpenOptions::new();
         options.read(self.read);

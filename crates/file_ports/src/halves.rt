@@ -6,14 +6,15 @@ ghost use Rattle.port_trait.specs.declared.answers.Got.TheVariants as reads;
 ghost use Rattle.port_trait.specs.declared.answers.Settled.TheVariants as settles;
 ghost use Rattle.port_trait.specs.declared.answers.Shutting.TheVariants as shuts;
 ghost use Rattle.port_trait.specs.declared.answers.Took.TheVariants as writes;
-ghost use Rattle.file_ports.specs.Halves.{halves_hint, is_always};
+ghost use Rattle.socket_kinds.specs.Answering.{ReaderGave, WriterTook};
+ghost use Rattle.file_ports.specs.Halves.{AtHalf, halves_hint, is_always};
 ghost use Rattle.file_ports.specs.declared.halves.Readiness.TheVariants as readiness;
 
 use mio::unix::SourceFd;
 use mio::{Interest, Registry, Token};
 use port_trait::{Got, Hint, Settled, Shutting, Took};
 use relay_model::Shut;
-use socket_kinds::{Socket, accepted, received};
+use socket_kinds::{Socket, receive_once, transmit_once};
 use std::io::{ErrorKind, Read, Write};
 use std::marker::Model;
 use std::os::fd::AsRawFd;
@@ -120,6 +121,33 @@ fn enroll<F: AsRawFd>(
     }
 }
 
+/// Reads from a half, where it is there.
+fn receive_at<I: Read>(half: &mut Option<I>, into: &mut [u8]) -> Got
+    requires { 0 < length into.old }
+    ensures absent { is_some half.old ≡ false → result ≡ reads.Failed }
+    ensures bytes { AtHalf (λ before now. ReaderGave (I.remaining before) (I.remaining now) into.new result) half.old half.new }
+    ensures gives { Gives None None into.new result }
+    ensures stream { result ≢ reads.Empty }
+{
+    match half {
+        Some(input) => receive_once(input, into),
+        None => Got::Failed,
+    }
+}
+
+/// Writes to a half, where it is there.
+fn transmit_at<O: Write>(half: &mut Option<O>, bytes: &[u8]) -> Took
+    requires { 0 < length bytes.now }
+    ensures absent { is_some half.old ≡ false → result ≡ writes.Failed }
+    ensures bytes { AtHalf (λ before now. WriterTook (O.contents before) (O.contents now) bytes.now result) half.old half.new }
+    ensures accepts { Accepts None None bytes.now result }
+{
+    match half {
+        Some(output) => transmit_once(output, bytes),
+        None => Took::Failed,
+    }
+}
+
 impl<I: Read + Drop, O: Write + Drop> Socket for Halves<I, O> {
     ghost hints = { halves_hint };
 
@@ -138,10 +166,7 @@ impl<I: Read + Drop, O: Write + Drop> Socket for Halves<I, O> {
         ensures stream { result ≢ reads.Empty }
         ensures kept { self.new ≡ self.old }
     {
-        match &mut self.reading {
-            Some(input) => received(&input.read(into)),
-            None => Got::Failed,
-        }
+        receive_at(&mut self.reading, into)
     }
 
     /// A half that isn't there, or was shut, fails.
@@ -151,10 +176,7 @@ impl<I: Read + Drop, O: Write + Drop> Socket for Halves<I, O> {
         ensures accepts { Accepts None None bytes.now result }
         ensures kept { self.new ≡ self.old }
     {
-        match &mut self.writing {
-            Some(output) => accepted(&output.write(bytes)),
-            None => Took::Failed,
-        }
+        transmit_at(&mut self.writing, bytes)
     }
 
     /// A stream has no packets.

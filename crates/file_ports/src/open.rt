@@ -1,29 +1,44 @@
 // Files are opened by their addresses.
 ghost use Rattle.std.specs.Prelude.{◌≡◌, None, Some, IfSome, IfNone, is_some, IsUtf8};
+ghost use Rattle.std.specs.Fs.{IsValidOptions};
 ghost use Rattle.port_trait.specs.declared.makers.Making.TheVariants as makings;
-ghost use Rattle.relay_model.specs.declared.places.Part.TheVariants as parts;
-ghost use Rattle.file_ports.specs.Opened.{file_named, OnMade, AreOpened, IsOpened};
+ghost use Rattle.file_ports.specs.Access.{access_of, options_of};
+ghost use Rattle.file_ports.specs.Opened.{file_named, OnMade, AreOpened, IsAsked, IsOpened};
 
 use crate::access::{Access, FileKind};
-use crate::opening::{Opened, open_now};
+use crate::opening::{FileCalls, open_asked};
 use port_trait::Making;
 use relay_model::{Part, Single, Target, Text};
 use socket_ports::Removal;
 use std::alloc::Global;
 use std::fs::File;
-use std::io::ErrorKind;
-use std::os::unix::fs::FileTypeExt;
-use std::rt::Files;
+use std::os::unix::fs::{FileTypeExt, MetadataExt};
 use std::str;
 
 /// What is read and what is written, by the use of the file.
 #[derive(Drop)]
 pub enum FileEnds {
-    Reading(Opened),
-    Writing(Opened),
-    Both(Opened, Opened),
-    /// A named pipe of this name that is to be opened one way, which waits for its other end (fifo(7)).
-    Waiting(Access, String),
+    Reading(File),
+    Writing(File),
+    /// Two descriptors of one file, the first to read from.
+    Both(File, File),
+    /// A named pipe that is to be opened one way, which waits for its other end (fifo(7)).
+    Waiting(NamedPipe),
+}
+
+/// A named pipe that is to be opened.
+#[derive(Drop)]
+pub struct NamedPipe {
+    pub access: Access,
+    pub name: String,
+    pub entry: PipeEntry,
+}
+
+/// The entry that a named pipe had when its name was looked at (stat(2)).
+#[derive(Clone, Copy, Debug, PartialEq)]
+pub struct PipeEntry {
+    pub device: u64,
+    pub inode: u64,
 }
 
 /// A file that was opened, and what removes its entry when the port is let go (socat(1), `unlink-close`).
@@ -34,29 +49,34 @@ pub struct OpenedFile {
 }
 
 /// Opens the file of this address for this use. It answers `Failed` where the address is none of a file, where its
-/// name isn't UTF-8, and where the system refuses; a `PIPE` whose entry is no named pipe fails too. It is never
-/// `Later`. A named pipe that is used one way is left to be opened.
-pub fn open_file<R: Files<File = File>>(
-    files: &R,
+/// name isn't UTF-8, where what is asked doesn't go together, and where the system refuses; a `PIPE` whose entry is no
+/// named pipe fails too. It is never `Later`. A named pipe that is used one way is left to be opened. What is asked in
+/// vain makes and removes nothing.
+pub fn open_file<C: FileCalls>(
+    calls: &C,
     alloc: Global,
     single: &Single,
     part: Part,
 ) -> Making<OpenedFile>
-    ensures made { OnMade result (λ opened. IsOpened single.now part opened.ends opened.removal) }
+    ensures made { OnMade result (λ opened. IsOpened (C.opens calls.now) (C.empties calls.now) (C.copies calls.now) single.now part opened.ends opened.removal) }
     ensures other { file_named single.now.target ≡ None → result ≡ makings.Failed }
     ensures unnamed { IfSome (file_named single.now.target) (λ file. ¬ (IsUtf8 file.1) → result ≡ makings.Failed) }
+    ensures unfit { IfSome (file_named single.now.target) (λ file. ¬ (IsValidOptions (options_of (access_of file.0 single.now.options.file part))) → result ≡ makings.Failed) }
 {
     let Some((kind, name)) = file_of(&single.target) else {
         return Making::Failed;
     };
+    let access = Access::of(kind, single.options.file, part);
+    if access.options().check().is_err() {
+        return Making::Failed;
+    }
     let Ok(name) = str::from_utf8(name.as_slice()) else {
         return Making::Failed;
     };
     if single.options.entry.unlink_early {
-        let _ = files.remove_file(name);
+        let _ = calls.remove(name);
     }
-    let access = Access::of(kind, single.options.file, part);
-    match open_ends(files, alloc, kind, access, name, part) {
+    match open_ends(calls, alloc, kind, access, name, part) {
         Making::Made(ends) => keep_entry(alloc, ends, name, single.options.entry.unlink_close),
         Making::Later(_) | Making::Failed => Making::Failed,
         Making::Memory => Making::Memory,
@@ -91,88 +111,78 @@ fn file_of(target: &Target) -> Option<(FileKind, &Text)>
 }
 
 /// Opens what the address names.
-fn open_ends<R: Files<File = File>>(
-    files: &R,
+fn open_ends<C: FileCalls>(
+    calls: &C,
     alloc: Global,
     kind: FileKind,
     access: Access,
     name: &str,
     part: Part,
 ) -> Making<FileEnds>
-    ensures { OnMade result (AreOpened part access) }
+    ensures { OnMade result (AreOpened (C.opens calls.now) (C.empties calls.now) (C.copies calls.now) part access name.now) }
 {
-    let pipe = is_pipe(files, name);
-    if kind == FileKind::Pipe && !pipe {
+    let found = pipe_at(calls, name);
+    if let Some(entry) = found {
+        if !access.create_new && part != Part::Both {
+            return match String::from_str(alloc, name) {
+                Ok(name) => Making::Made(FileEnds::Waiting(NamedPipe {
+                    access,
+                    name,
+                    entry,
+                })),
+                Err(_) => Making::Memory,
+            };
+        }
+    } else if kind == FileKind::Pipe {
         return Making::Failed;
-    }
-    if pipe && !access.create_new && part != Part::Both {
-        return match String::from_str(alloc, name) {
-            Ok(name) => Making::Made(FileEnds::Waiting(access, name)),
-            Err(_) => Making::Memory,
-        };
     }
     if kind == FileKind::Generic && !access.write && !access.create_new {
-        make_missing(files, name);
+        make_missing(calls, name);
     }
-    if access.empty_first && !pipe && !is_emptied(files, name) {
-        return Making::Failed;
-    }
-    match open_now(files, access, name) {
-        Ok(opened) => ends_of(opened, part),
+    match open_asked(calls, access, name) {
+        Ok(file) => ends_of(calls, access, name, file, part),
         Err(_) => Making::Failed,
     }
 }
 
-fn is_pipe<R: Files>(files: &R, name: &str) -> bool {
-    match files.metadata(name) {
-        Ok(found) => found.file_type().is_fifo(),
-        Err(_) => false,
+/// The entry of this name, where it is a named pipe.
+fn pipe_at<C: FileCalls>(calls: &C, name: &str) -> Option<PipeEntry> {
+    match calls.entry(name) {
+        Ok(found) if found.file_type().is_fifo() => Some(PipeEntry {
+            device: found.dev(),
+            inode: found.ino(),
+        }),
+        _ => None,
     }
 }
 
 /// Makes a regular file where nothing is there.
-fn make_missing<R: Files<File = File>>(files: &R, name: &str) {
+fn make_missing<C: FileCalls>(calls: &C, name: &str) {
     let access = Access {
         create: true,
         create_new: true,
         ..Access::plain(false, true)
     };
-    let _ = open_now(files, access, name);
-}
-
-/// Empties the file. True also where nothing is there.
-fn is_emptied<R: Files<File = File>>(files: &R, name: &str) -> bool {
-    let access = Access {
-        truncate: true,
-        ..Access::plain(false, true)
-    };
-    match open_now(files, access, name) {
-        Ok(_) => true,
-        Err(error) => error.kind() == ErrorKind::NotFound,
-    }
+    let _ = open_asked(calls, access, name);
 }
 
 /// The ends of an open file. Both have one position in the file.
-fn ends_of(opened: Opened, part: Part) -> Making<FileEnds>
-    ensures { OnMade result (AreOpened part opened.access) }
+fn ends_of<C: FileCalls>(
+    calls: &C,
+    access: Access,
+    name: &str,
+    file: File,
+    part: Part,
+) -> Making<FileEnds>
+    requires { IsAsked (C.opens calls.now) (C.empties calls.now) access name.now file }
+    ensures { OnMade result (AreOpened (C.opens calls.now) (C.empties calls.now) (C.copies calls.now) part access name.now) }
 {
     match part {
-        Part::Reading => Making::Made(FileEnds::Reading(opened)),
-        Part::Writing => Making::Made(FileEnds::Writing(opened)),
-        Part::Both => both_ends(opened),
+        Part::Reading => Making::Made(FileEnds::Reading(file)),
+        Part::Writing => Making::Made(FileEnds::Writing(file)),
+        Part::Both => match calls.copy_of(&file) {
+            Ok(copy) => Making::Made(FileEnds::Both(copy, file)),
+            Err(_) => Making::Failed,
+        },
     }
-}
-
-/// The two ends of an open file.
-fn both_ends(opened: Opened) -> Making<FileEnds>
-    ensures { OnMade result (AreOpened parts.Both opened.access) }
-{
-    let Ok(file) = opened.file.try_clone() else {
-        return Making::Failed;
-    };
-    let copy = Opened {
-        file,
-        access: opened.access,
-    };
-    Making::Made(FileEnds::Both(copy, opened))
 }

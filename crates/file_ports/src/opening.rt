@@ -1,26 +1,74 @@
-// One opening of a file by the system.
-ghost use Rattle.std.specs.Prelude.{◌≡◌, IfOk};
+// The calls on the file system by which files are opened.
+ghost use Rattle.std.specs.Prelude.{◌≡◌, ℕ, List, ⊤, IfOk, OnOk};
+ghost use Rattle.std.specs.declared.fs.File.{File};
+ghost use Rattle.std.specs.declared.fs.options.OpenOptions.{OpenOptions};
+ghost use Rattle.file_ports.specs.Opened.{IsAsked};
 
 use crate::access::Access;
-use std::fs::File;
+use std::fs::{File, Metadata, OpenOptions};
 use std::io;
-use std::rt::Files;
+use std::rt::{Files, HostRuntime};
 
-/// A file, and how it was opened.
-#[derive(Drop)]
-pub struct Opened {
-    pub file: File,
-    pub access: Access,
+/// The file system, as far as files are opened in it.
+pub trait FileCalls {
+    // the file came of an opening of this name by these options
+    ghost opens: { Self → OpenOptions → List ℕ → File → Type 0 } = { λ _ _ _ _. ⊤ };
+    // the file was emptied, unless it isn't a regular one
+    ghost empties: { Self → File → Type 0 } = { λ _ _. ⊤ };
+    // the second is another descriptor of the first
+    ghost copies: { Self → File → File → Type 0 } = { λ _ _ _. ⊤ };
+
+    /// Opens the file of this name (open(2)).
+    fn open_by(&self, options: &OpenOptions, name: &str) -> io::Result<File>
+        ensures { IfOk result (opens self.now options.now name.now) };
+
+    /// Empties a regular file, and leaves any other as it is (ftruncate(2)).
+    fn empty(&self, file: &File) -> io::Result<()>
+        ensures { OnOk result (empties self.now file.now) };
+
+    /// Another descriptor of the open file (dup(2)).
+    fn copy_of(&self, file: &File) -> io::Result<File>
+        ensures { IfOk result (copies self.now file.now) };
+
+    /// What the entry of this name is (stat(2)).
+    fn entry(&self, name: &str) -> io::Result<Metadata>;
+
+    /// Removes the entry of this name (unlink(2)).
+    fn remove(&self, name: &str) -> io::Result<()>;
 }
 
-/// Opens the file of this name. All openings of files are made here.
-pub(crate) fn open_now<R: Files<File = File>>(
-    files: &R,
-    access: Access,
-    name: &str,
-) -> io::Result<Opened>
-    ensures { IfOk result (λ opened. opened.access ≡ access) }
+impl FileCalls for HostRuntime {
+    fn open_by(&self, options: &OpenOptions, name: &str) -> io::Result<File> {
+        self.open_file(options, name)
+    }
+
+    fn empty(&self, file: &File) -> io::Result<()> {
+        if !file.metadata()?.file_type().is_file() {
+            return Ok(());
+        }
+        file.set_len(0)
+    }
+
+    fn copy_of(&self, file: &File) -> io::Result<File> {
+        file.try_clone()
+    }
+
+    fn entry(&self, name: &str) -> io::Result<Metadata> {
+        self.metadata(name)
+    }
+
+    fn remove(&self, name: &str) -> io::Result<()> {
+        self.remove_file(name)
+    }
+}
+
+/// Opens the file of this name as it is asked.
+pub(crate) fn open_asked<C: FileCalls>(calls: &C, access: Access, name: &str) -> io::Result<File>
+    ensures { IfOk result (IsAsked (C.opens calls.now) (C.empties calls.now) access name.now) }
 {
-    let file = files.open_file(&access.options(), name)?;
-    Ok(Opened { file, access })
+    let file = calls.open_by(&access.options(), name)?;
+    if access.empty {
+        calls.empty(&file)?;
+    }
+    Ok(file)
 }

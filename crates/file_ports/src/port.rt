@@ -4,15 +4,15 @@ ghost use Rattle.port_trait.specs.Made.{IsAtOnce};
 ghost use Rattle.port_trait.specs.declared.makers.Making.TheVariants as makings;
 ghost use Rattle.socket_ports.specs.Accepting.{IsFresh};
 ghost use Rattle.file_ports.specs.Halves.{AreOf};
-ghost use Rattle.file_ports.specs.Opened.{file_named, AreOpened, OnMade};
+ghost use Rattle.file_ports.specs.Opened.{file_named, AreEndsOf, OnMade};
 ghost use Rattle.file_ports.specs.Streams.{halves_of};
-ghost use Rattle.file_ports.specs.declared.access.Access.{Access};
 
 use crate::halves::Halves;
+use crate::input::FileInput;
 use crate::open::{FileEnds, OpenedFile, open_file};
+use crate::pipes::PipeOpenings;
 use crate::stream::FileStream;
 use crate::waiting::WaitingPipe;
-use mio::Registry;
 use port_trait::Making;
 use relay_model::{Part, Single};
 use socket_ports::{Removal, SocketPort};
@@ -24,14 +24,14 @@ use std::thread::Threads;
 /// The port of a file, which takes the entry with it where that is asked for.
 pub type FilePort = SocketPort<FileStream, Option<Removal>>;
 
-/// Opens the file of this address for this use, as `open_file` does, and has the registry report it under `key`. A named
-/// pipe that is used one way is opened by a thread. `system` opens files, also where `rt` starts threads, since only a
-/// known runtime may go to one.
+/// Opens the file of this address for this use, as `open_file` does, and has the registry of the openings report it under
+/// `key`. A named pipe that is used one way is opened by a thread. `system` opens files, also where `rt` starts threads,
+/// since only a known runtime may go to one.
 pub fn make_file<R>(
     rt: &R,
     system: HostRuntime,
     alloc: Global,
-    registry: &Registry,
+    openings: &mut PipeOpenings,
     key: usize,
     single: &Single,
     part: Part,
@@ -48,7 +48,7 @@ where
         Making::Later(_) | Making::Failed => return Making::Failed,
         Making::Memory => return Making::Memory,
     };
-    match stream_of(rt, system, alloc, registry, key, ends, part) {
+    match stream_of(rt, system, openings, key, single, part, ends) {
         Making::Made(stream) => Making::Made(SocketPort::new(stream, removal)),
         Making::Later(_) | Making::Failed => Making::Failed,
         Making::Memory => Making::Memory,
@@ -59,25 +59,28 @@ where
 fn stream_of<R>(
     rt: &R,
     system: HostRuntime,
-    alloc: Global,
-    registry: &Registry,
+    openings: &mut PipeOpenings,
     key: usize,
-    ends: FileEnds,
+    single: &Single,
     part: Part,
+    ends: FileEnds,
 ) -> Making<FileStream>
 where
     R: Net + Threads,
-    requires { (access : Access) × AreOpened part access ends }
+    requires { AreEndsOf single.now part ends }
     ensures { OnMade result (λ stream. AreOf part (halves_of stream)) }
 {
+    let registry = openings.registry();
     let halves = match ends {
-        FileEnds::Reading(input) => Halves::enrolled(registry, key, Some(input.file), None),
-        FileEnds::Writing(output) => Halves::enrolled(registry, key, None, Some(output.file)),
-        FileEnds::Both(input, output) => {
-            Halves::enrolled(registry, key, Some(input.file), Some(output.file))
+        FileEnds::Reading(file) => {
+            Halves::enrolled(registry, key, Some(FileInput::of(file)), None)
         }
-        FileEnds::Waiting(access, name) => {
-            return match WaitingPipe::of(rt, system, alloc, registry, key, part, access, name) {
+        FileEnds::Writing(file) => Halves::enrolled(registry, key, None, Some(file)),
+        FileEnds::Both(input, output) => {
+            Halves::enrolled(registry, key, Some(FileInput::of(input)), Some(output))
+        }
+        FileEnds::Waiting(pipe) => {
+            return match WaitingPipe::of(rt, system, openings, key, single, part, pipe) {
                 Making::Made(pipe) => Making::Made(FileStream::Waiting(pipe)),
                 Making::Later(_) | Making::Failed => Making::Failed,
                 Making::Memory => Making::Memory,

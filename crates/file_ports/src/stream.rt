@@ -10,6 +10,7 @@ ghost use Rattle.file_ports.specs.Halves.{halves_hint};
 ghost use Rattle.file_ports.specs.Streams.{halves_of, is_open};
 
 use crate::halves::Halves;
+use crate::input::FileInput;
 use crate::waiting::{Progress, WaitingPipe};
 use port_trait::{Got, Hint, Settled, Shutting, Took};
 use relay_model::Shut;
@@ -20,7 +21,7 @@ use std::fs::File;
 /// and no room to write; an opening that fails is the fault of the half that asks.
 #[derive(Drop)]
 pub enum FileStream {
-    Open(Halves<File, File>),
+    Open(Halves<FileInput<File>, File>),
     Waiting(WaitingPipe),
 }
 
@@ -102,7 +103,7 @@ impl Socket for FileStream {
         Took::Failed
     }
 
-    /// Closes what is written at `Down` and `Close`. A pipe that waits for its other end to read does so first.
+    /// Closes what is written at `Down` and `Close`. A pipe that waits for its other end does so where that comes.
     fn finish(&mut self, how: Shut) -> Shutting
         ensures untouched { finishes how ≡ false → result ≡ shuts.Done }
         ensures done { is_open self.old ≡ true → result ≡ shuts.Done }

@@ -1,57 +1,89 @@
-// A named pipe whose opening waits for its other end.
-ghost use Rattle.std.specs.Prelude.{◌≡◌, ◌||◌, true, false, is_some, IfSome};
+// The port's side of a named pipe whose opening waits for its other end.
+ghost use Rattle.std.specs.Prelude.{◌≡◌, ◌||◌, true, false, IfSome};
 ghost use Rattle.port_trait.specs.Made.{IsAtOnce};
 ghost use Rattle.port_trait.specs.Streams.{finishes};
 ghost use Rattle.port_trait.specs.declared.answers.Shutting.TheVariants as shuts;
 ghost use Rattle.file_ports.specs.Halves.{waiting_halves, halves_hint};
-ghost use Rattle.file_ports.specs.Opened.{OnMade};
+ghost use Rattle.file_ports.specs.Opened.{OnMade, IsPipeOf};
 ghost use Rattle.file_ports.specs.Streams.{OnOpened};
+ghost use Rattle.file_ports.specs.Waiting.{shutting_after};
 
 use crate::access::Access;
 use crate::halves::Halves;
-use crate::opening::open_now;
+use crate::input::FileInput;
+use crate::open::NamedPipe;
+use crate::opening::FileCalls;
+use crate::pipes::{Outcome, PipeOpenings, Spot};
 use mio::net::UnixStream;
 use mio::{Interest, Registry, Token};
 use port_trait::{Hint, Making, Shutting};
-use relay_model::{Part, Shut};
+use relay_model::{NoMemory, Part, Shut, Single};
 use socket_kinds::Socket;
 use std::alloc::Global;
 use std::fs::File;
-use std::io::Read;
 use std::marker::Model;
+use std::mem;
 use std::net::Net;
-use std::os::fd::AsRawFd;
+use std::rc::Rc;
 use std::rt::HostRuntime;
-use std::sync::{Arc, Mutex};
 use std::thread::Threads;
-use std::{mem, thread};
-
-/// What the thread came to.
-#[derive(Drop)]
-enum Opening {
-    UnderWay,
-    Opened(File),
-    Refused,
-}
 
 /// What the opening of a pipe has come to.
 pub(crate) enum Progress {
     NotYet,
-    Open(Halves<File, File>),
+    Open(Halves<FileInput<File>, File>),
     Refused,
 }
 
-/// A named pipe that a thread of its own opens, since that waits for the other end (fifo(7)). A thread whose pipe was let
-/// go before closes what it opened.
+/// A named pipe that waits for its other end. One that is let go before leaves its line, and nothing waits for that.
 #[derive(Drop)]
 pub struct WaitingPipe {
     part: Part,
     shut: bool,
-    opening: Arc<Mutex<Opening>, Global>,
-    registry: Registry,
+    // none once nothing more is to be written
+    spot: Option<Spot>,
+    registry: Rc<Registry, Global>,
     key: usize,
-    // the thread closes the other end of this when it is done, which the registry reports
+    // its other end is closed once the spot was told, which the registry reports
     notice: UnixStream,
+    // where the entry goes with the port
+    parting: Option<Parting>,
+}
+
+/// Lets go who waits at the entry of a pipe that is about to be removed, where nobody else could find it: an opening for
+/// both ways waits for nobody, and is another end to all who do (fifo(7)).
+struct Parting {
+    system: HostRuntime,
+    name: String,
+}
+
+impl Parting {
+    /// Nobody waits at the entry.
+    fn leave_out(self) {
+        let Parting { system: _, name } = self;
+        drop(name);
+    }
+}
+
+impl Drop for Parting {
+    fn drop(self) {
+        let Parting { system, name } = self;
+        let _ = system.open_by(&Access::plain(true, true).options(), name.as_str());
+    }
+}
+
+/// The parting of an entry that goes with its port.
+fn parting_of(
+    system: HostRuntime,
+    alloc: Global,
+    single: &Single,
+    name: &str,
+) -> Result<Option<Parting>, NoMemory> {
+    if !single.options.entry.unlink_close {
+        return Ok(None);
+    }
+    let name = String::from_str(alloc, name)?;
+    Ok(Some(Parting { system, name }))
 }
 
 impl Model for WaitingPipe {
@@ -63,26 +95,30 @@ impl Model for WaitingPipe {
 }
 
 impl WaitingPipe {
-    /// Has a thread open the pipe of this name, by `system`: only a known runtime may go to a thread. What it came to is
-    /// reported under `key`. Never `Later`.
+    /// Lines up for the pipe that the address names. What its opening came to is reported under `key`. Never `Later`.
     pub(crate) fn of<R>(
         rt: &R,
         system: HostRuntime,
-        alloc: Global,
-        registry: &Registry,
+        openings: &mut PipeOpenings,
         key: usize,
+        single: &Single,
         part: Part,
-        access: Access,
-        name: String,
+        pipe: NamedPipe,
     ) -> Making<WaitingPipe>
     where
         R: Net + Threads,
+        requires { IsPipeOf single.now part pipe }
         ensures at_once { IsAtOnce result }
         ensures halves { OnMade result (λ pipe. pipe ≡ record { part = part; shut = false }) }
     {
-        let (Ok(registry), Ok((mut notice, done))) = (registry.try_clone(), UnixStream::pair(rt))
-        else {
+        let Ok((mut notice, done)) = UnixStream::pair(rt) else {
             return Making::Failed;
+        };
+        let Some(registry) = openings.share_registry() else {
+            return Making::Memory;
+        };
+        let Ok(parting) = parting_of(system, openings.alloc(), single, pipe.name.as_str()) else {
+            return Making::Memory;
         };
         if registry
             .register(&mut notice, Token(key), Interest::READABLE)
@@ -90,62 +126,60 @@ impl WaitingPipe {
         {
             return Making::Failed;
         }
-        let Ok(opening) = Arc::new(alloc, Mutex::new(Opening::UnderWay)) else {
-            return Making::Memory;
-        };
-        let Ok(told) = Arc::try_clone(&opening) else {
-            return Making::Memory;
-        };
-        if !launch(rt, system, access, name, told, done) {
-            return Making::Failed;
+        match openings.line_up(rt, system, pipe, done) {
+            Making::Made(spot) => Making::Made(WaitingPipe {
+                part,
+                shut: false,
+                spot: Some(spot),
+                registry,
+                key,
+                notice,
+                parting,
+            }),
+            Making::Later(_) | Making::Failed => Making::Failed,
+            Making::Memory => Making::Memory,
         }
-        Making::Made(WaitingPipe {
-            part,
-            shut: false,
-            opening,
-            registry,
-            key,
-            notice,
-        })
     }
 
     /// What the opening has come to. `Open` comes once. An entry that is no pipe any more is refused, and so is one whose
     /// half was shut.
-    pub(crate) fn ask(&self) -> Progress
-        ensures { OnOpened result (λ halves. halves ≡ waiting_halves self.now) }
+    pub(crate) fn ask(&mut self) -> Progress
+        ensures opened { OnOpened result (λ halves. halves ≡ waiting_halves self.old) }
+        ensures kept { self.new ≡ self.old }
     {
-        match self.take() {
-            Opening::UnderWay => Progress::NotYet,
-            Opening::Opened(file) => match self.halves_of(file) {
-                Some(halves) => Progress::Open(halves),
-                None => Progress::Refused,
-            },
-            Opening::Refused => Progress::Refused,
-        }
-    }
-
-    /// What the thread left here. An open pipe is taken away.
-    fn take(&self) -> Opening {
-        let Some(mut opening) = self.opening.try_lock() else {
-            return Opening::UnderWay;
+        let Some(spot) = &self.spot else {
+            return Progress::Refused;
         };
-        let found = mem::replace(&mut *opening, Opening::Refused);
-        if let Opening::UnderWay = found {
-            *opening = Opening::UnderWay;
+        match spot.take() {
+            Outcome::UnderWay => Progress::NotYet,
+            Outcome::Opened(file) => self.opened(file),
+            Outcome::Refused => Progress::Refused,
         }
-        found
     }
 
-    fn halves_of(&self, file: File) -> Option<Halves<File, File>>
+    /// The halves of the open pipe.
+    fn opened(&mut self, file: File) -> Progress
+        ensures opened { OnOpened result (λ halves. halves ≡ waiting_halves self.old) }
+        ensures kept { self.new ≡ self.old }
+    {
+        if let Some(parting) = mem::take(&mut self.parting) {
+            parting.leave_out();
+        }
+        match self.halves_of(file) {
+            Some(halves) => Progress::Open(halves),
+            None => Progress::Refused,
+        }
+    }
+
+    fn halves_of(&self, file: File) -> Option<Halves<FileInput<File>, File>>
         ensures { IfSome result (λ halves. halves ≡ waiting_halves self.now) }
     {
+        let (registry, key) = (&*self.registry, self.key);
         let halves = match (self.part, self.shut) {
             (Part::Reading, false) => {
-                Halves::enrolled(&self.registry, self.key, Some(file), None)?
+                Halves::enrolled(registry, key, Some(FileInput::of(file)), None)?
             }
-            (Part::Writing, false) => {
-                Halves::enrolled(&self.registry, self.key, None, Some(file))?
-            }
+            (Part::Writing, false) => Halves::enrolled(registry, key, None, Some(file))?,
             _ => return None,
         };
         if halves.is_always_ready() {
@@ -179,8 +213,8 @@ impl WaitingPipe {
         Hint::none()
     }
 
-    /// Nothing more will be written from `Down` and `Close` on. What is written waits for the other end first, so that this
-    /// sees the end; where the pipe can't be opened it fails.
+    /// Nothing more will be written from `Down` and `Close` on. A reader that comes later sees an end, as long as the
+    /// program runs; where the pipe couldn't be opened this fails.
     pub(crate) fn finish(&mut self, how: Shut) -> Shutting
         ensures untouched { finishes how ≡ false → result ≡ shuts.Done }
         ensures closed { self.new ≡ record self.old { shut = self.old.shut || finishes how } }
@@ -199,53 +233,19 @@ impl WaitingPipe {
         if !waits {
             return Shutting::Done;
         }
-        self.await_thread();
-        match self.take() {
-            Opening::UnderWay | Opening::Opened(_) => Shutting::Done,
-            Opening::Refused => Shutting::Failed,
-        }
-    }
-
-    /// Waits until the thread has closed its end of the notice.
-    fn await_thread(&mut self)
-        ensures { self.new ≡ self.old }
-    {
-        if os::set_nonblocking(self.notice.as_raw_fd(), false) == 0 {
-            let _ = self.notice.read(&mut [0u8; 1]);
+        match mem::take(&mut self.spot) {
+            Some(spot) => shutting_after(&spot.take()),
+            None => Shutting::Done,
         }
     }
 }
 
-/// Starts the thread that opens the pipe, tells what that came to, and closes `done`.
-fn launch<R: Threads>(
-    rt: &R,
-    system: HostRuntime,
-    access: Access,
-    name: String,
-    told: Arc<Mutex<Opening>, Global>,
-    done: UnixStream,
-) -> bool {
-    let work = move || {
-        tell(&told, open_pipe(&system, access, name));
-        drop(done);
-    };
-    thread::spawn(rt, work).is_ok()
-}
-
-/// Leaves what the opening came to. The port holds the lock for a moment at most.
-fn tell(told: &Mutex<Opening>, opened: Opening) {
-    for _ in 0..u64::MAX {
-        if let Some(mut opening) = told.try_lock() {
-            *opening = opened;
-            return;
-        }
-        thread::yield_now();
-    }
-}
-
-fn open_pipe(system: &HostRuntime, access: Access, name: String) -> Opening {
-    match open_now(system, access, name.as_str()) {
-        Ok(opened) => Opening::Opened(opened.file),
-        Err(_) => Opening::Refused,
+/// How the end is passed on to a pipe whose opening came to this.
+fn shutting_after(outcome: &Outcome) -> Shutting
+    ensures { result ≡ shutting_after outcome.now }
+{
+    match outcome {
+        Outcome::UnderWay | Outcome::Opened(_) => Shutting::Done,
+        Outcome::Refused => Shutting::Failed,
     }
 }

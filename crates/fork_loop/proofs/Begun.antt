@@ -45,6 +45,7 @@ begun c n start crew forks door eu ec em ea eb es rows et free = record {
       later = omega arith;
       blamed = λ h. cc;
       waited = omega arith;
+      few_waits = omega arith;
       later_stops = omega arith;
       stopped = λ h. cc;
       clock = omega arith;

@@ -90,7 +90,7 @@ second : (a b : Bool) → (a && b) ≡ true → b ≡ true
 second true b e = e
 second false b e = absurd (false≢true e)
 
-unclosed_holds : (c : Config) (n : ℕ) (past : List Act) (s : ℕ) (x : Session) → has_fork c ≡ true → Stands c n past s x → closed_why c past s ≡ None → holds c past s ≡ true
+pub unclosed_holds : (c : Config) (n : ℕ) (past : List Act) (s : ℕ) (x : Session) → has_fork c ≡ true → Stands c n past s x → closed_why c past s ≡ None → holds c past s ≡ true
 unclosed_holds c n past s x fork st u = let g = st.fields.ground in second (nat_lt s (admitted c past)) (holds c past s) (rw fork at (lives_at_home c past s g.begun (λ f. g.home_held f u)))
 
 closed_by_child : (c : Config) (past : List Act) (p : Place) (s : ℕ) → p.session ≡ s → is_some (closed_why c past p.session) ≡ true → closed_why c past s ≡ None → ⊥

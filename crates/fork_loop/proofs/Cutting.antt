@@ -26,8 +26,8 @@ use Rattle.fork_loop.specs.declared.crews.Crew.{Crew}
 use Rattle.fork_loop.specs.declared.crews.Row.{Row}
 use Rattle.fork_loop.specs.Rows.{Has, RowIs, UpRow, SleepsIfLate}
 use Rattle.fork_loop.specs.Courses.{Unsaid, Course, HereAt, SomewhereAt, Beside, Takes, TakesNone, NoWork, SameRest, SameButWork, timer_of}
-use Rattle.fork_loop.specs.Endings.{MayLeave, MayLeaveThen, MayLeaveRow, MayEnd, RunsOut, CutRow, CutsRow, RowRan, RowEnds, RowRuns, AllQueued, FailedRow, FailedAt, Failed, SomeFailed, EndsRows, EndingRow, Ending, SomeEnding, Once, WorkLives}
-use Rattle.fork_loop.specs.Paid.{IsBusy, LedOn, MayEndAfter, EndingPaid, EndsPaid}
+use Rattle.fork_loop.specs.Endings.{MayLeave, MayLeaveThen, MayLeaveRow, MayEnd, RunsOut, CutRow, CutsRow, RowRan, RowEnds, RowRuns, AllQueued, FailedRow, FailedAt, Failed, SomeFailed, EndsRows, EndingRow, Ending, SomeEnding, Once, WorkLives, MayEndAfter}
+use Rattle.fork_loop.specs.Paid.{IsBusy, LedOn, EndingPaid, EndsPaid}
 use Rattle.session_work.proofs.Ended.{ended as ended_must}
 use Rattle.fork_loop.proofs.Lists.{has_none, has_rest}
 use Rattle.fork_loop.proofs.Counting.{counted_kept}
@@ -287,21 +287,25 @@ ends_rows c from now before mid after old new (Some why) same queued p rest = λ
 
 pub ends_paid : (c : Config) (from now : Seen) (before mid after : Crew) (old new : ℕ) (why : Option Why) → SameButWork before mid → AllQueued mid → EndingPaid c from now mid after old new why → EndsPaid c from now before after old new why
 ends_paid c from now before mid after old new None same queued p = λ n start past f. p.0 n start (acts.AcceptFailed program_door ∷ past) (failed_ending c n start from past before mid f same queued)
-ends_paid c from now before mid after old new (Some why) same queued p = λ n start past f.
-    let l = p n start (acts.AcceptFailed program_door ∷ past) (failed_ending c n start from past before mid f same queued) in
-    record { made = l.made; holds = subst (Run c n start now) l.holds.1 l.holds.0.frame.run; few = l.few }
+ends_paid c from now before mid after old new (Some why) same queued p = λ n start past f. p n start (acts.AcceptFailed program_door ∷ past) (failed_ending c n start from past before mid f same queued)
 
 -- no memory for the list of work
 failed_leaves : (c : Config) (n : ℕ) (past : List Act) (s : ℕ) (timer : Option ℕ) (row : Option Row) → FailedAt c n past s timer row → MayLeaveRow c n past s whys.Memory row
 failed_leaves c n past s timer None r = r.0
 failed_leaves c n past s timer (Some row) r = row_may c n past s whys.Memory row (inl refl) r
 
+pub ends_short_after : (c : Config) (n : ℕ) (start now : Seen) (past : List Act) (before after : Crew) → Failed c n start now past before → SameButWork before after → MayEndAfter c n start now whys.Memory after (acts.AcceptFailed program_door ∷ past)
+ends_short_after c n start now past before after f same = (
+  record {
+    past = acts.AcceptFailed program_door ∷ past;
+    frame = frame_rest c n start now (acts.AcceptFailed program_door ∷ past) before after f.frame same.same;
+    all = refl;
+    ends = inl refl;
+    owes = inr refl;
+    rows = λ s. failed_leaves c n (acts.AcceptFailed program_door ∷ past) s (timer_of after s) (row_of after.table s) (failed_then c n (acts.AcceptFailed program_door ∷ past) s before after same (f.rows s));
+  },
+  refl,
+)
+
 pub ends_short : (c : Config) (n : ℕ) (start now : Seen) (past : List Act) (before after : Crew) → Failed c n start now past before → SameButWork before after → MayEnd c n start now whys.Memory after
-ends_short c n start now past before after f same = record {
-  past = acts.AcceptFailed program_door ∷ past;
-  frame = frame_rest c n start now (acts.AcceptFailed program_door ∷ past) before after f.frame same.same;
-  all = refl;
-  ends = inl refl;
-  owes = inr refl;
-  rows = λ s. failed_leaves c n (acts.AcceptFailed program_door ∷ past) s (timer_of after s) (row_of after.table s) (failed_then c n (acts.AcceptFailed program_door ∷ past) s before after same (f.rows s));
-}
+ends_short c n start now past before after f same = (ends_short_after c n start now past before after f same).0

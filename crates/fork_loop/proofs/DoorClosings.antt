@@ -1,5 +1,5 @@
 -- What the closings of the program door make of the run that is ended.
-use Rattle.std.proofs.Common.{◌≡◌, refl, sym, ap, subst, ◌∙◌, ℕ, ◌≤◌, ◌⊎◌, inl, inr, Bool, true, false, cond, ◌||◌, List, ◌∷◌, Some, None, is_none}
+use Rattle.std.proofs.Common.{◌≡◌, refl, sym, ap, subst, ◌∙◌, ℕ, ◌≤◌, ◌⊎◌, inl, inr, Bool, true, false, cond, ◌||◌, List, ◌∷◌, Some, None, is_none, [], ◌++◌, append_assoc}
 use Rattle.std.proofs.lemmas.Bool.{false≢true, true≢false, false_from_ne_true}
 use Rattle.relay_model.specs.declared.commands.Config.{Config}
 use Rattle.relay_model.specs.declared.places.Place.{Place}
@@ -187,8 +187,24 @@ nothing_after c past why q a e = go (first_tells c past q e)
     go (inl k) = absurd (false≢true (sym a ∙ k.0))
     go (inr k) = subst (λ (p : Place). first_held c (acts.Closed p why ∷ past) ≡ None) (sym k.2) (door_closed c past why a)
 
-pub two_closed : (c : Config) (n : ℕ) (start mid new : Seen) (past : List Act) (why : Why) (one two : Crew) → (first : HoldsLess c n start mid past why one) → HoldsLess c n start new first.since why two → Empty c n start new why two
-two_closed c n start mid new past why one two first second = record { past = second.since; vacated = second.vacated; no_door = go first.closed second.closed }
+-- what a closing at most added
+less_newer : (c : Config) (n : ℕ) (start now : Seen) (past : List Act) (why : Why) (crew : Crew) → (h : HoldsLess c n start now past why crew) → (newer : List Act) × (h.since ≡ newer ++ past)
+less_newer c n start now past why crew h = go h.closed
+  where
+    go : ((first_held c past ≡ None) × (h.since ≡ past)) ⊎ ((q : Place) × (first_held c past ≡ Some q) × (h.since ≡ acts.Closed q why ∷ past)) → (newer : List Act) × (h.since ≡ newer ++ past)
+    go (inl k) = ([], k.1)
+    go (inr k) = (acts.Closed k.0 why ∷ [], k.2)
+
+pub two_closed : (c : Config) (n : ℕ) (start mid new : Seen) (past : List Act) (why : Why) (one two : Crew) → (first : HoldsLess c n start mid past why one) → HoldsLess c n start new first.since why two → Empty c n start new past why two
+two_closed c n start mid new past why one two first second =
+    let a = less_newer c n start mid past why one first in
+    let b = less_newer c n start new first.since why two second in
+    let e : second.since ≡ (b.0 ++ a.0) ++ past = b.1 ∙ ap (λ (xs : List Act). b.0 ++ xs) a.1 ∙ sym (append_assoc b.0 a.0 past) in
+    record {
+      made = b.0 ++ a.0;
+      vacated = subst (λ (xs : List Act). Vacated c n start new xs why two) e second.vacated;
+      no_door = sym (ap (first_held c) e) ∙ go first.closed second.closed;
+    }
   where
     at : (since : List Act) → second.since ≡ since → first_held c since ≡ None → first_held c second.since ≡ None
     at since e h = ap (first_held c) e ∙ h

@@ -1,5 +1,5 @@
 -- Acts of the door, and turns, that pay for looks at sessions.
-use Rattle.std.proofs.Common.{◌≡◌, ℕ, ◌+◌, ◌≤◌, Bool, List, [], ◌∷◌, ◌++◌, length, Option, Some, None, arith}
+use Rattle.std.proofs.Common.{◌≡◌, refl, ℕ, ◌+◌, ◌≤◌, Bool, List, [], ◌∷◌, ◌++◌, length, Option, Some, None, arith}
 use Rattle.relay_model.specs.declared.commands.Config.{Config}
 use Rattle.relay_model.specs.declared.places.Place.{Place}
 use Rattle.relay_model.specs.declared.acts.Peer.{Peer}
@@ -12,21 +12,19 @@ use Rattle.program_door.specs.declared.wishes.DoorWish.TheVariants as wishes
 use Rattle.program_door.specs.Wishes.{Wished}
 use Rattle.fork_table.specs.Tables.{live_in}
 use Rattle.session_driver.specs.Seen.{Seen}
-use Rattle.session_runs.specs.Runs.{Run}
-use Rattle.session_runs.proofs.Going.{idle_run}
-use Rattle.program_door.specs.declared.doors.Door.{Door}
-use Rattle.door_driver.specs.Steps.{DoorFor, DoorActs, DoorIdles, AdmitsNone, Admits}
+use Rattle.relay_model.specs.declared.acts.Why.TheVariants as whys
+use Rattle.door_driver.specs.Steps.{DoorFor, DoorActs, AdmitsNone, Admits}
 use Rattle.fork_loop.specs.declared.crews.Crew.{Crew}
 use Rattle.fork_loop.specs.declared.crews.Row.{Row}
 use Rattle.fork_loop.specs.declared.asked.Asked.{Asked}
 use Rattle.fork_loop.specs.declared.asked.Asked.TheVariants as asks
 use Rattle.fork_loop.specs.Asking.{SameButNext}
 use Rattle.fork_loop.specs.Courses.{Course, NoWork}
-use Rattle.fork_loop.specs.Endings.{RowRuns}
+use Rattle.fork_loop.specs.Endings.{MayEndAfter, RowRuns}
 use Rattle.fork_loop.specs.Paid.{LedOn, AskPaid, AskedPaid, AskedTo, EndsPaid}
-use Rattle.fork_loop.proofs.DoorSteps.{BornAs, KeptBack, OneMore, born_on, door_course, door_failed, door_unmoved, door_for, next_taken}
+use Rattle.fork_loop.proofs.DoorSteps.{BornAs, KeptBack, OneMore, born_on, door_course, door_failed, door_unmoved, door_for, memory_ends_after, next_taken}
 use Rattle.fork_loop.proofs.Paying.{led_after, led_itself, led_ran, led_then}
-use Rattle.fork_loop.proofs.RowRuns.{here_of, ran_course}
+use Rattle.fork_loop.proofs.RowRuns.{here_of, ran_course, ran_ends_after}
 
 -- ---- one call of the door
 
@@ -48,8 +46,8 @@ pub ended_admitted : (c : Config) (old mid_seen new : Seen) (live number ticks m
 ended_admitted c old mid_seen new live number ticks more why before mid after place peer row e a admits born grown same run few = λ n start past on.
     let at = born_on c n start old mid_seen past live number before mid place peer row e on a admits born grown same in
     let r = run.0 n start (acts.Accepted place peer ∷ past) (here_of c n start mid_seen (acts.Accepted place peer ∷ past) number mid at) in
-    led_after (acts.Accepted place peer) past (Run c n start new) 1 2 ticks more (omega arith)
-    (led_ran c number (acts.Accepted place peer ∷ past) r.since (Run c n start new) 1 ticks more r.only.ran r.frame.run few)
+    led_after (acts.Accepted place peer) past (MayEndAfter c n start new why after) 1 2 ticks more (omega arith)
+    (led_ran c number (acts.Accepted place peer ∷ past) r.since (MayEndAfter c n start new why after) 1 ticks more r.only.ran (ran_ends_after c n start mid_seen new (acts.Accepted place peer ∷ past) number why mid after at r run.1) few)
 
 pub paid_failed : (c : Config) (old mid_seen new : Seen) (live ticks more : ℕ) (before mid after : Crew) → live ≡ live_in before.table → NoWork before → DoorActs c (λ m p. DoorFor c m p before.clock live before.door) old mid_seen before.door mid.door (acts.AcceptFailed program_door) → KeptBack c before mid → EndsPaid c mid_seen new mid after ticks more None → AskPaid c old new before after ticks more None
 paid_failed c old mid_seen new live ticks more before mid after e idle a kept run = λ n start past on.
@@ -57,10 +55,10 @@ paid_failed c old mid_seen new live ticks more before mid after e idle a kept ru
 
 pub ended_failed : (c : Config) (old mid_seen new : Seen) (live ticks more : ℕ) (why : Why) (before mid after : Crew) → live ≡ live_in before.table → NoWork before → DoorActs c (λ m p. DoorFor c m p before.clock live before.door) old mid_seen before.door mid.door (acts.AcceptFailed program_door) → KeptBack c before mid → EndsPaid c mid_seen new mid after ticks more (Some why) → AskPaid c old new before after ticks more (Some (asks.Ends why))
 ended_failed c old mid_seen new live ticks more why before mid after e idle a kept run = λ n start past on.
-    led_after (acts.AcceptFailed program_door) past (Run c n start new) 2 2 ticks more (omega arith) (run n start past (door_failed c n start old mid_seen past live before mid e on idle a kept))
+    led_after (acts.AcceptFailed program_door) past (MayEndAfter c n start new why after) 2 2 ticks more (omega arith) (run n start past (door_failed c n start old mid_seen past live before mid e on idle a kept))
 
-pub paid_idled : (c : Config) (n : ℕ) (start old new : Seen) (past : List Act) (ticks : ℕ) (before : Crew) (after : Door) → Course c n start old past before → DoorIdles old new before.door after → LedOn past (Run c n start new) 2 ticks ticks
-paid_idled c n start old new past ticks before after on d = led_itself past (Run c n start new) 2 ticks (idle_run c n start old new past on.frame.run d.did d.rose d.waitless)
+pub paid_idled : (c : Config) (n : ℕ) (start new : Seen) (past : List Act) (ticks : ℕ) (after : Crew) → Course c n start new past after → LedOn past (AskedTo c n start new after (asks.Ends whys.Memory)) 2 ticks ticks
+paid_idled c n start new past ticks after on = led_itself past (AskedTo c n start new after (asks.Ends whys.Memory)) 2 ticks (memory_ends_after c n start new past after on)
 
 pub paid_waiting : (c : Config) (old new : Seen) (live ticks : ℕ) (before after : Crew) (until : Option ℕ) → live ≡ live_in before.table → new ≡ old → after.door ≡ before.door → ((m : ℕ) (p : List Act) → DoorFor c m p before.clock live before.door → Wished c p (wishes.Sleep until)) → KeptBack c before after → AskPaid c old new before after ticks ticks (Some (asks.Waits until))
 paid_waiting c old new live ticks before after until e same door wished kept = λ n start past on.
@@ -76,8 +74,8 @@ paid_before c old new ticks more before mid after None same p = λ n start past 
 paid_before c old new ticks more before mid after (Some asked) same p = λ n start past on. p n start past (next_taken c n start old past before mid on same)
 
 -- no memory for it
-pub paid_short : (c : Config) (now : Seen) (ticks : ℕ) (why : Why) (before after : Crew) → SameButNext before after → AskPaid c now now before after ticks ticks (Some (asks.Ends why))
-paid_short c now ticks why before after same = λ n start past on. led_itself past (Run c n start now) 2 ticks (next_taken c n start now past before after on same).frame.run
+pub paid_short : (c : Config) (now : Seen) (ticks : ℕ) (before after : Crew) → SameButNext before after → AskPaid c now now before after ticks ticks (Some (asks.Ends whys.Memory))
+paid_short c now ticks before after same = λ n start past on. led_itself past (MayEndAfter c n start now whys.Memory after) 2 ticks (memory_ends_after c n start now past after (next_taken c n start now past before after on same))
 
 -- ---- all calls of the door
 

@@ -46,7 +46,7 @@ use Rattle.fork_loop.specs.declared.crews.Crew.{Crew}
 use Rattle.fork_loop.specs.declared.crews.Row.{Row}
 use Rattle.fork_loop.specs.Rows.{RowIs, UpRow}
 use Rattle.fork_loop.specs.Courses.{RowOf, NextIs, Counts, Unsaid, Frame, Course, CourseAt, Somewhere, SomewhereAt, Onward, Keeps, NoWork, SameLists, timer_of}
-use Rattle.fork_loop.specs.Endings.{MayLeave, MayLeaveRow, MayEnd, RunsOut, RowRuns, FailedAt, Failed, SomeFailed, EndsRows}
+use Rattle.fork_loop.specs.Endings.{MayLeave, MayLeaveRow, MayEnd, RunsOut, RowRuns, FailedAt, Failed, SomeFailed, EndsRows, MayEndAfter}
 use Rattle.fork_loop.specs.declared.asked.Asked.{Asked}
 use Rattle.fork_loop.specs.declared.asked.Asked.TheVariants as asks
 use Rattle.fork_loop.specs.Asking.{SameButNext, TakesNext, AskedIs, GoesOn}
@@ -225,21 +225,27 @@ idle_but_next before after same h = idle_as before after same.lists h
 
 -- ---- the run may be ended
 
-pub course_may_end : (c : Config) (n : ℕ) (start now : Seen) (past : List Act) (why : Why) (crew : Crew) → ends_all why ≡ true → RunsOut c n past why → Course c n start now past crew → MayEnd c n start now why crew
-course_may_end c n start now past why crew all ends on = record {
-  past = past;
-  frame = on.frame;
-  all = all;
-  ends = ends;
-  owes = inl on.unowed;
-  rows = λ s. up_may c n past s why (timer_of crew s) (row_of crew.table s) ends (row_up c n past s crew.work.items (timer_of crew s) (row_of crew.table s) (on.rows s));
-}
+pub course_may_end_after : (c : Config) (n : ℕ) (start now : Seen) (past : List Act) (why : Why) (crew : Crew) → ends_all why ≡ true → RunsOut c n past why → Course c n start now past crew → MayEndAfter c n start now why crew past
+course_may_end_after c n start now past why crew all ends on = (
+  record {
+    past = past;
+    frame = on.frame;
+    all = all;
+    ends = ends;
+    owes = inl on.unowed;
+    rows = λ s. up_may c n past s why (timer_of crew s) (row_of crew.table s) ends (row_up c n past s crew.work.items (timer_of crew s) (row_of crew.table s) (on.rows s));
+  },
+  refl,
+)
 
 pub memory_rows : (c : Config) (n : ℕ) (start now : Seen) (past : List Act) (crew : Crew) → Course c n start now past crew → (s : ℕ) → MayLeaveRow c n past s whys.Memory (row_of crew.table s)
 memory_rows c n start now past crew on s = up_may c n past s whys.Memory (timer_of crew s) (row_of crew.table s) (inl refl) (row_up c n past s crew.work.items (timer_of crew s) (row_of crew.table s) (on.rows s))
 
+pub memory_ends_after : (c : Config) (n : ℕ) (start now : Seen) (past : List Act) (crew : Crew) → Course c n start now past crew → MayEndAfter c n start now whys.Memory crew past
+memory_ends_after c n start now past crew on = course_may_end_after c n start now past whys.Memory crew refl (inl refl) on
+
 pub memory_ends : (c : Config) (n : ℕ) (start now : Seen) (past : List Act) (crew : Crew) → Course c n start now past crew → MayEnd c n start now whys.Memory crew
-memory_ends c n start now past crew on = course_may_end c n start now past whys.Memory crew refl (inl refl) on
+memory_ends c n start now past crew on = (memory_ends_after c n start now past crew on).0
 
 -- ---- a peer of the next session
 

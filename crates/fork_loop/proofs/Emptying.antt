@@ -1,7 +1,7 @@
 -- What the closings of one session leave of all others, and what comes of a row.
-use Rattle.std.proofs.Common.{◌≡◌, ◌≢◌, refl, sym, subst, ◌∙◌, ℕ, ◌+◌, ◌<◌, ◌⊎◌, inl, inr, Bool, true, false, cond, List, [], ◌∷◌, Option, Some, None, arith}
+use Rattle.std.proofs.Common.{◌≡◌, ◌≢◌, refl, sym, subst, ◌∙◌, ℕ, ◌+◌, ◌<◌, ◌⊎◌, inl, inr, Bool, true, false, cond, List, [], ◌∷◌, Option, Some, None, arith, ap, ◌≤◌, length, ◌++◌, append_assoc, length-append, is_some}
 use Rattle.std.specs.List.{list_any}
-use Rattle.std.proofs.lemmas.Bool.{cases_eq, or_parts, or_from}
+use Rattle.std.proofs.lemmas.Bool.{cases_eq, or_parts, or_from, false≢true}
 use Rattle.relay_model.specs.declared.commands.Config.{Config}
 use Rattle.relay_model.specs.declared.places.Place.{Place}
 use Rattle.relay_model.specs.declared.acts.Act.{Act}
@@ -24,11 +24,12 @@ use Rattle.session_crew.specs.Crews.{Leaver, MaySay}
 use Rattle.session_crew.proofs.Members.{closings_leave, acts_leave}
 use Rattle.fork_loop.specs.declared.crews.Crew.{Crew}
 use Rattle.fork_loop.specs.declared.crews.Row.{Row}
-use Rattle.fork_loop.specs.Courses.{OthersStay}
+use Rattle.fork_loop.specs.Courses.{Counts, OthersStay}
 use Rattle.fork_loop.specs.Endings.{LeavesRow}
 use Rattle.fork_loop.specs.Waited.{Exit, LeavingAt}
-use Rattle.fork_loop.specs.Closings.{Leaves, SomeLeaves, LeftBy, stayed, closed, acted, LeavesOn, IsOver, SomeLeaving, KeepsLeaving, EmptiesRow, RowLeaves}
-use Rattle.fork_loop.proofs.Closings.{may_on, may_still}
+use Rattle.fork_loop.specs.Closings.{AllLeft, Emptied, Leaves, SomeLeaves, LeftBy, stayed, closed, acted, LeavesOn, IsOver, SomeLeaving, EmptiesRow, RowLeaves}
+use Rattle.fork_loop.proofs.Closings.{may_on, may_still, unclosed_holds}
+use Rattle.fork_loop.proofs.LivingRows.{EachTo, SameFrom, each_first, each_next}
 use Rattle.fork_loop.proofs.Loops.{RowsTo, rows_first, rows_next}
 use Rattle.fork_loop.proofs.Others.{act_leaves, foreign_to}
 
@@ -101,16 +102,42 @@ pub record SameBut (t : ℕ) (before after : Crew) : Type 0 where
 over_holds : (c : Config) (n : ℕ) (past : List Act) (t : ℕ) (x : Session) → Stands c n past t x → IsOver x → holds c past t ≡ false
 over_holds c n past t x st over = (subst (Wished c n past t) over.1 st.allowed.0).nothing_held
 
+-- the session of this number has closed all by these acts
+record HasEmptied (c : Config) (n : ℕ) (start now : Seen) (before : List Act) (t : ℕ) (why : Why) (was : Option Row) (crew : Crew) (made since : List Act) : Type 0 where
+  acted : is_some was ≡ true → 1 ≤ length made
+  exit : Exit c n start now since why crew.door
+  counts : Counts c since crew.table
+  made_is : turns since ≡ crew.made
+  rows : (s : ℕ) → s ≢ t → LeavesRow c n since s why (row_of crew.table s)
+  empty : t < admitted c since → holds c since t ≡ false
+
+has_emptied : (c : Config) (n : ℕ) (start now : Seen) (before : List Act) (t : ℕ) (why : Why) (was : Option Row) (crew : Crew) (made : List Act) → HasEmptied c n start now before t why was crew made (made ++ before) → Emptied c n start now before t why was crew
+has_emptied c n start now before t why was crew made h = record { made = made; acted = h.acted; exit = h.exit; counts = h.counts; made_is = h.made_is; rows = h.rows; empty = h.empty }
+
+-- what came since
+left_newer : (c : Config) (t : ℕ) (why : Why) (past since : List Act) → LeftBy c t why past since → (newer : List Act) × (since ≡ newer ++ past)
+left_newer c t why past all stayed = ([], refl)
+left_newer c t why past all (closed q since here l) = let r = left_newer c t why past since l in (Closed q why ∷ r.0, ap (λ (xs : List Act). Closed q why ∷ xs) r.1)
+left_newer c t why past all (acted act since here k said l) = let r = left_newer c t why past since l in (act ∷ r.0, ap (λ (xs : List Act). act ∷ xs) r.1)
+
+-- a session of which nothing was closed holds something, and holds nothing once it has closed all
+some_act : (c : Config) (past since newer : List Act) (t : ℕ) → since ≡ newer ++ past → holds c past t ≡ true → holds c since t ≡ false → 1 ≤ length newer
+some_act c past since [] t e h f = absurd (false≢true (sym f ∙ (ap (λ (xs : List Act). holds c xs t) e ∙ h)))
+some_act c past since (act ∷ newer) t e h f = omega arith
+
 pub row_emptied : (c : Config) (old new : Seen) (t : ℕ) (why : Why) (before after : Crew) (x : Row) (y : Session) → row_of before.table t ≡ Some x → LeavesOn c old new why x.member.session y before.door after.door → IsOver y → SameBut t before after → EmptiesRow c old new t why before after
 row_emptied c old new t why before after x y had run over same = record {
   emptied = λ n start past l.
       let at = leaves_at c n start old past t why before x l had in
+      let one : Leaver c n past t why x.member.session = subst (LeavesRow c n past t why) had (l.rows t) in
       let o = run n start past t at in
       let e = numbers_are c past l.exit.fork in
       let b = at.stands.fields.ground.begun in
       let r = left_others c n t why past o.since l.exit.fork o.leaves.exit.run.legal (omega (arith, b, e)) l.exit.may o.left in
-      record {
-        past = o.since;
+      let k = left_newer c t why past o.since o.left in
+      let none = over_holds c n o.since t y o.leaves.stands over in
+      has_emptied c n start new past t why (row_of before.table t) after k.0 (subst (λ (xs : List Act). HasEmptied c n start new past t why (row_of before.table t) after k.0 xs) k.1 (record {
+        acted = λ _. some_act c past o.since k.0 t k.1 (unclosed_holds c n past t x.member.session l.exit.fork one.stands one.unclosed) none;
         exit = o.leaves.exit;
         counts = record {
           admitted_is = same.admitted_same ∙ l.counts.admitted_is ∙ sym r.admitted_same;
@@ -119,8 +146,8 @@ row_emptied c old new t why before after x y had run over same = record {
         };
         made_is = r.turns_same ∙ l.made_is ∙ sym same.made_same;
         rows = λ s apart. subst (LeavesRow c n o.since s why) (sym (same.others s apart)) (r.rows s (row_of before.table s) apart (l.rows s));
-        empty = λ _. over_holds c n o.since t y o.leaves.stands over;
-      };
+        empty = λ _. none;
+      }));
   others = same.others;
 }
 
@@ -128,7 +155,8 @@ row_emptied c old new t why before after x y had run over same = record {
 pub no_row_emptied : (c : Config) (now : Seen) (t : ℕ) (why : Why) (before after : Crew) → row_of before.table t ≡ None → after.door ≡ before.door → SameBut t before after → EmptiesRow c now now t why before after
 no_row_emptied c now t why before after none door same = record {
   emptied = λ n start past l. record {
-    past = past;
+    made = [];
+    acted = λ h. absurd (false≢true (sym (ap is_some none) ∙ h));
     exit = subst (λ (d : Door). Exit c n start now past why d) (sym door) l.exit;
     counts = record { admitted_is = same.admitted_same ∙ l.counts.admitted_is; children_is = same.bounds_same.0 ∙ l.counts.children_is; stop_is = same.bounds_same.1 ∙ l.counts.stop_is };
     made_is = l.made_is ∙ sym same.made_same;
@@ -143,13 +171,15 @@ pub row_gone : (c : Config) (old new : Seen) (t : ℕ) (why : Why) (before mid a
 row_gone c old new t why before mid after e door same gone = record {
   keeps = λ n start past l.
       let m = e.emptied n start past l in
+      let since = m.made ++ past in
       record {
-        past = m.past;
+        made = m.made;
+        acted = m.acted;
         leaving = record {
-          exit = subst (λ (d : Door). Exit c n start new m.past why d) (sym door) m.exit;
+          exit = subst (λ (d : Door). Exit c n start new since why d) (sym door) m.exit;
           counts = record { admitted_is = same.admitted_same ∙ m.counts.admitted_is; children_is = same.bounds_same.0 ∙ m.counts.children_is; stop_is = same.bounds_same.1 ∙ m.counts.stop_is };
           made_is = m.made_is ∙ sym same.made_same;
-          rows = λ s. each n m.past s (subst (LeavesRow c n m.past t why) (sym gone) m.empty) (λ apart. subst (LeavesRow c n m.past s why) (sym (same.others s apart)) (m.rows s apart)) (cases_eq s t);
+          rows = λ s. each n since s (subst (LeavesRow c n since t why) (sym gone) m.empty) (λ apart. subst (LeavesRow c n since s why) (sym (same.others s apart)) (m.rows s apart)) (cases_eq s t);
         };
       };
   gone = gone;
@@ -171,11 +201,36 @@ gone_first crew first f = rows_first IsGone (λ s. refl) crew first f
 pub gone_next : (t : ℕ) (before mid after : Crew) (next : Option ℕ) → RowsTo IsGone (Some t) before mid → row_of after.table t ≡ None → OthersStay t mid after → IsFirstLive after.table (t + 1) next → RowsTo IsGone next before after
 gone_next t before mid after next done gone others first = rows_next IsGone (λ s. refl) t before mid after next done gone others first
 
-pub leaving_then : (c : Config) (old mid new : Seen) (why : Why) (one two three : Crew) → KeepsLeaving c old mid why one two → KeepsLeaving c mid new why two three → KeepsLeaving c old new why one three
-leaving_then c old mid new why one two three f g = λ n start past l. let a = f n start past l in g n start a.past a.leaving
+-- the sessions before the next row have closed all, each by an act of its own at least, and no look came without one
+pub record LeftSoFar (c : Config) (n : ℕ) (start now : Seen) (before : List Act) (why : Why) (first crew : Crew) (next : Option ℕ) (old new : ℕ) : Type 0 where
+  pub made : List Act
+  pub leaving : LeavingAt c n start now (made ++ before) why crew
+  pub each : EachTo first next (length made)
+  pub few : new ≤ old + length made
 
-pub leaving_first : (c : Config) (now : Seen) (why : Why) (crew : Crew) → KeepsLeaving c now now why crew crew
-leaving_first c now why crew = λ n start past l. record { past = past; leaving = l }
+-- so of each run
+abbrev pub LeaveSoFar : Config → Seen → Seen → Why → Crew → Crew → Option ℕ → ℕ → ℕ → Type 0
+LeaveSoFar c old new why first crew next ticks more = (n : ℕ) (start : Seen) (past : List Act) → LeavingAt c n start old past why first → LeftSoFar c n start new past why first crew next ticks more
 
-pub some_leaving_on : (c : Config) (old new : Seen) (why : Why) (before after : Crew) → SomeLeaving c old why before → KeepsLeaving c old new why before after → SomeLeaving c new why after
-some_leaving_on c old new why before after at k = let o = k at.n at.start at.past at.leaving in record { n = at.n; start = at.start; past = o.past; leaving = o.leaving }
+pub leave_first : (c : Config) (now : Seen) (why : Why) (crew : Crew) (first : Option ℕ) (ticks : ℕ) → IsFirstLive crew.table 0 first → LeaveSoFar c now now why crew crew first ticks ticks
+leave_first c now why crew first ticks f = λ n start past l. record { made = []; leaving = l; each = each_first crew first f; few = omega arith }
+
+pub leave_next : (c : Config) (old mid new : Seen) (why : Why) (k : ℕ) (one two three : Crew) (next : Option ℕ) (ticks more last : ℕ) → LeaveSoFar c old mid why one two (Some k) ticks more → SameFrom k one two → RowLeaves c mid new k why two three → last ≤ more + 1 → IsFirstLive three.table (k + 1) next → LeaveSoFar c old new why one three next ticks last
+leave_next c old mid new why k one two three next ticks more last f same r l first = λ n start past on.
+    let a = f n start past on in
+    let b = r.keeps n start (a.made ++ past) a.leaving in
+    let some : is_some (row_of two.table k) ≡ true = ap is_some (same k (omega arith)) ∙ a.each.1 in
+    let acts = b.acted some in
+    let s = length-append b.made a.made in
+    record {
+      made = b.made ++ a.made;
+      leaving = subst (λ (xs : List Act). LeavingAt c n start new xs why three) (sym (append_assoc b.made a.made past)) b.leaving;
+      each = each_next k one two three next (length a.made) (length (b.made ++ a.made)) a.each same r.others (omega (arith, acts, s)) first;
+      few = (let x = a.few in omega (arith, x, l, acts, s));
+    }
+
+pub leave_all : (c : Config) (old new : Seen) (why : Why) (first crew : Crew) (ticks more : ℕ) → LeaveSoFar c old new why first crew None ticks more → (n : ℕ) (start : Seen) (past : List Act) → LeavingAt c n start old past why first → AllLeft c n start new past why first crew ticks more
+leave_all c old new why first crew ticks more f n start past on = let a = f n start past on in record { made = a.made; leaving = a.leaving; each = a.each; few = a.few }
+
+pub some_leaving_on : (c : Config) (old new : Seen) (why : Why) (first crew : Crew) (next : Option ℕ) (ticks more : ℕ) → SomeLeaving c old why first → LeaveSoFar c old new why first crew next ticks more → SomeLeaving c new why crew
+some_leaving_on c old new why first crew next ticks more at f = let o = f at.n at.start at.past at.leaving in record { n = at.n; start = at.start; past = o.made ++ at.past; leaving = o.leaving }

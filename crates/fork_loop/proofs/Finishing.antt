@@ -1,5 +1,5 @@
 -- The answer of a run, against the history that it leaves.
-use Rattle.std.proofs.Common.{◌≡◌, refl, sym, ap, subst, ◌∙◌, ℕ, suc, ◌-◌, ◌^◌, ◌<◌, min, ◌⊎◌, inl, inr, Bool, true, false, cond, List, [], ◌∷◌, length, Option, Some, None, arith}
+use Rattle.std.proofs.Common.{◌≡◌, refl, sym, ap, subst, ◌∙◌, ℕ, suc, ◌-◌, ◌^◌, ◌<◌, min, ◌⊎◌, inl, inr, Bool, true, false, cond, List, [], ◌∷◌, length, Option, Some, None, arith, ◌++◌}
 use Rattle.std.proofs.lemmas.Bool.{false≢true, or_right}
 use Rattle.relay_model.specs.declared.commands.Config.{Config}
 use Rattle.relay_model.specs.declared.places.Place.{Place}
@@ -9,6 +9,7 @@ use Rattle.relay_model.specs.declared.acts.Why.{Why}
 use Rattle.relay_model.specs.declared.acts.Why.TheVariants as whys
 use Rattle.relay_model.specs.Choices.{only_if, first_some}
 use Rattle.relay_model.specs.Configs.{has_fork, program_door}
+use Rattle.relay_model.specs.Journals.{Asking}
 use Rattle.relay_model.specs.History.{turns, held, failures, accept_failed, memory_said, stop_said}
 use Rattle.relay_model.specs.Sessions.{admitted, holds, door_options}
 use Rattle.relay_model.specs.Openings.{out_of_tries}
@@ -25,12 +26,15 @@ use Rattle.exit_status.specs.declared.outcomes.Outcome.{Outcome}
 use Rattle.exit_status.specs.declared.outcomes.Outcome.TheVariants as outcomes
 use Rattle.exit_status.specs.declared.outcomes.EndWhy.TheVariants as ends
 use Rattle.exit_status.specs.Outcomes.{IsOutcome}
+use Rattle.event_loop.specs.Answers.{outcome_for}
+use Rattle.event_loop.specs.Courses.{IsOwn, OnlyOwn}
+use Rattle.event_loop.specs.Ended.{Ended, Happened}
 use Rattle.event_loop.specs.Headline.{is_failure, is_relayed}
 use Rattle.session_driver.specs.Seen.{Seen}
 use Rattle.session_crew.specs.Crews.{IsSaid, MaySay}
 use Rattle.session_crew.specs.Wholes.{told_by_door}
 use Rattle.session_crew.proofs.Ends.{told_outcome}
-use Rattle.session_runs.specs.Runs.{Run}
+use Rattle.session_runs.specs.Runs.{IsCommands, OnlyCommands, Run}
 use Rattle.fork_loop.specs.declared.crews.Crew.{Crew}
 use Rattle.fork_loop.specs.Asking.{DoorIsOver}
 use Rattle.fork_loop.specs.Rows.{RowIs}
@@ -38,7 +42,7 @@ use Rattle.fork_loop.specs.Courses.{RowOf, timer_of}
 use Rattle.fork_loop.specs.Endings.{RunsOut}
 use Rattle.fork_loop.specs.Turned.{NoneLives}
 use Rattle.fork_loop.specs.Waited.{StopsAt}
-use Rattle.fork_loop.specs.Vacated.{Empty, Ended, ended_by, ended_for}
+use Rattle.fork_loop.specs.Vacated.{Empty, over_for}
 use Rattle.fork_loop.proofs.DoorClosings.{none_tells}
 use Rattle.fork_loop.proofs.Freeing.{all_free, nothing_held}
 
@@ -49,8 +53,36 @@ pub record Answers (c : Config) (n : ℕ) (past : List Act) (answer : Outcome) :
   pub failed : is_failure answer ≡ true → is_blamed past ≡ true
   pub stopped : (t : ℕ) → answer ≡ outcomes.Stopped t → (t ≡ turns past) × ((stop_turned past ≡ true) ⊎ (turns past ≡ n))
 
-ended_with : (c : Config) (n : ℕ) (start now : Seen) (past : List Act) (answer : Outcome) → has_fork c ≡ true → Run c n start now past → ((p : Place) → held past p ≡ false) → Answers c n past answer → Ended c n start now answer
-ended_with c n start now past answer fork run free a = record { past = past; fork = fork; run = run; free = free; outcome_is = a.outcome_is; relayed = a.relayed; failed = a.failed; stopped = a.stopped }
+-- what was asked for is the command's own
+one_own : (c : Config) (p : Place) → has_fork c ≡ true → IsCommands c p → IsOwn c p
+one_own c p fork (inl k) = inl (k.0, k.1, λ e. absurd (false≢true (sym e ∙ fork)))
+one_own c p fork (inr k) = inr (k, fork)
+
+all_own : (c : Config) (pairs : List Asking) → has_fork c ≡ true → OnlyCommands c pairs → OnlyOwn c pairs
+all_own c [] fork h = tt
+all_own c (pair ∷ pairs) fork h = (one_own c pair.0 fork h.0, h.1, all_own c pairs fork h.2)
+
+-- a run of all sessions as a run of any command
+pub happened : (c : Config) (n : ℕ) (start now : Seen) (past : List Act) → has_fork c ≡ true → Run c n start now past → Happened c n start now past
+happened c n start now past fork run = record {
+  legal = run.legal;
+  pairs = run.pairs;
+  own = all_own c run.pairs fork run.asked;
+  told = run.told;
+  holds = run.holds;
+  later = run.later;
+  blamed = run.blamed;
+  waited = run.waited;
+  few_waits = run.few_waits;
+  later_stops = run.later_stops;
+  stopped = run.stopped;
+}
+
+ended_with : (c : Config) (n : ℕ) (start now : Seen) (past : List Act) (answer : Outcome) → has_fork c ≡ true → Run c n start now past → ((p : Place) → held past p ≡ false) → Answers c n past answer → Ended c n start now past answer
+ended_with c n start now past answer fork run free a = record {
+  happened = happened c n start now past fork run;
+  ends = record { free = free; outcome_is = a.outcome_is; relayed = a.relayed; failed = a.failed; stopped = a.stopped };
+}
 
 for_memory : (c : Config) (n : ℕ) (past : List Act) → Answers c n past outcomes.Memory
 for_memory c n past = record { outcome_is = inr refl; relayed = refl; failed = λ e. absurd (false≢true e); stopped = λ t e. cc }
@@ -77,18 +109,19 @@ for_stop c n past made none turned ends stops = record {
     go (inr (inl k)) = let x : ⊥ = cc in absurd x
     go (inr (inr k)) = inr (none, k.1, k.2, ap outcomes.Stopped (sym turned ∙ k.1))
 
-answer_for : (c : Config) (n : ℕ) (past : List Act) (made : ℕ) (why : Why) → MaySay why past → holds_something c past ≡ false → turns past ≡ made → IsSaid why past ⊎ RunsOut c n past why → StopsAt n why past → Answers c n past (ended_for why made)
+answer_for : (c : Config) (n : ℕ) (past : List Act) (made : ℕ) (why : Why) → MaySay why past → holds_something c past ≡ false → turns past ≡ made → IsSaid why past ⊎ RunsOut c n past why → StopsAt n why past → Answers c n past (outcome_for why None None None made)
 answer_for c n past made whys.Memory may none turned ends stops = for_memory c n past
 answer_for c n past made whys.Stopped may none turned ends stops = for_stop c n past made none turned ends stops
 answer_for c n past made why may none turned ends stops = absurd may
 
-pub ended_empty : (c : Config) (n : ℕ) (start now : Seen) (why : Why) (crew : Crew) → Empty c n start now why crew → Ended c n start now (ended_for why crew.made)
-ended_empty c n start now why crew e =
+pub ended_empty : (c : Config) (n : ℕ) (start now : Seen) (before : List Act) (why : Why) (crew : Crew) → (e : Empty c n start now before why crew) → Ended c n start now (e.made ++ before) (outcome_for why None None None crew.made)
+ended_empty c n start now before why crew e =
     let v = e.vacated in
     let o = v.exit in
-    let k = none_tells c e.past e.no_door in
-    let free = all_free c n e.past o.fork o.run.legal v.none k.0 k.1 in
-    ended_with c n start now e.past (ended_for why crew.made) o.fork o.run free (answer_for c n e.past crew.made why o.may (nothing_held c e.past free) v.made_is o.ends o.stops)
+    let past = e.made ++ before in
+    let k = none_tells c past e.no_door in
+    let free = all_free c n past o.fork o.run.legal v.none k.0 k.1 in
+    ended_with c n start now past (outcome_for why None None None crew.made) o.fork o.run free (answer_for c n past crew.made why o.may (nothing_held c past free) v.made_is o.ends o.stops)
 
 -- ---- who is to blame
 
@@ -144,19 +177,19 @@ for_accept c n past failed told = record {
   stopped = λ t e. cc;
 }
 
-answer_by : (c : Config) (n : ℕ) (past : List Act) (cause : Option Why) (listening : Option ℕ) → Legal c n past → cause ≡ door_cause past → Spends (door_options c).tries.retry (door_options c).tries.forever (failures past program_door) listening → ((answer : whole.Outcome) → told_by_door c past (door_cause past) answer → outcome c past ≡ Some answer) → Answers c n past (ended_by cause listening)
-answer_by c n past None None legal e spends told = for_served c n past spends (λ answer h. told answer (subst (λ (k : Option Why). told_by_door c past k answer) e h))
-answer_by c n past None (Some attempts) legal e spends told = for_listening c n past attempts legal spends (λ answer h. told answer (subst (λ (k : Option Why). told_by_door c past k answer) e h))
-answer_by c n past (Some whys.AcceptFailed) listening legal e spends told = for_accept c n past (accept_said (memory_said past) (stop_said past) (accept_failed past program_door) (sym e)) (told whole.AcceptFailed (subst (λ (k : Option Why). told_by_door c past k whole.AcceptFailed) e refl))
-answer_by c n past (Some why) listening legal e spends told = for_memory c n past
+answer_by : (c : Config) (n : ℕ) (past : List Act) (cause : Option Why) (listening : Option ℕ) (made : ℕ) → Legal c n past → cause ≡ door_cause past → Spends (door_options c).tries.retry (door_options c).tries.forever (failures past program_door) listening → ((answer : whole.Outcome) → told_by_door c past (door_cause past) answer → outcome c past ≡ Some answer) → Answers c n past (outcome_for (over_for cause listening) listening None None made)
+answer_by c n past None None made legal e spends told = for_served c n past spends (λ answer h. told answer (subst (λ (k : Option Why). told_by_door c past k answer) e h))
+answer_by c n past None (Some attempts) made legal e spends told = for_listening c n past attempts legal spends (λ answer h. told answer (subst (λ (k : Option Why). told_by_door c past k answer) e h))
+answer_by c n past (Some whys.AcceptFailed) listening made legal e spends told = for_accept c n past (accept_said (memory_said past) (stop_said past) (accept_failed past program_door) (sym e)) (told whole.AcceptFailed (subst (λ (k : Option Why). told_by_door c past k whole.AcceptFailed) e refl))
+answer_by c n past (Some why) listening made legal e spends told = for_memory c n past
 
 none_of_rows : (c : Config) (n : ℕ) (past : List Act) (s : ℕ) (crew : Crew) → NoneLives crew → RowOf c n past crew s → s < admitted c past → holds c past s ≡ false
 none_of_rows c n past s crew none r = (subst (RowIs c n past s crew.work.items (timer_of crew s)) (none s) r).0
 
-pub ended_over : (c : Config) (n : ℕ) (start now : Seen) (crew : Crew) (cause : Option Why) (listening : Option ℕ) → (over : DoorIsOver c n start now crew) → NoneLives crew → cause ≡ door_cause over.past → Spends (door_options c).tries.retry (door_options c).tries.forever (failures over.past program_door) listening → Ended c n start now (ended_by cause listening)
-ended_over c n start now crew cause listening over none e spends =
+pub ended_over : (c : Config) (n : ℕ) (start now : Seen) (crew : Crew) (cause : Option Why) (listening : Option ℕ) (made : ℕ) → (over : DoorIsOver c n start now crew) → NoneLives crew → cause ≡ door_cause over.past → Spends (door_options c).tries.retry (door_options c).tries.forever (failures over.past program_door) listening → Ended c n start now over.past (outcome_for (over_for cause listening) listening None None made)
+ended_over c n start now crew cause listening made over none e spends =
     let f = over.course.frame in
     let done : IsDone c over.past = over.wished in
     let gone : (s : ℕ) → s < admitted c over.past → holds c over.past s ≡ false = λ s. none_of_rows c n over.past s crew none (over.course.rows s) in
     let free = all_free c n over.past f.fork f.run.legal gone done.sleeps.no_peer done.no_door in
-    ended_with c n start now over.past (ended_by cause listening) f.fork f.run free (answer_by c n over.past cause listening f.run.legal e spends (λ answer h. told_outcome c n over.past answer f.run.legal f.fork done gone h))
+    ended_with c n start now over.past (outcome_for (over_for cause listening) listening None None made) f.fork f.run free (answer_by c n over.past cause listening made f.run.legal e spends (λ answer h. told_outcome c n over.past answer f.run.legal f.fork done gone h))

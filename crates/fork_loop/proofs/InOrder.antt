@@ -13,6 +13,7 @@ use Rattle.relay_model.specs.Rest.{SessionRests}
 use Rattle.relay_core.specs.Timers.{session_until}
 use Rattle.program_door.specs.Wishes.{GoesOn}
 use Rattle.fork_loop.specs.declared.turned.RunEnd.{RunEnd}
+use Rattle.fork_loop.specs.declared.turned.RunEnd.TheVariants as ends
 use Rattle.fork_loop.specs.Turned.{Rested, Further, GoesRound, Within}
 use Rattle.program_door.proofs.Moves.{numbers_are}
 use Rattle.session_sleep.specs.Sleeps.{RestsUntil}
@@ -28,15 +29,15 @@ use Rattle.fork_loop.specs.declared.crews.Row.{Row}
 use Rattle.fork_loop.specs.Rows.{Has, UpRow, RowIs}
 use Rattle.fork_loop.specs.Turns.{names_own}
 use Rattle.fork_loop.specs.Looks.{AddsParts, CameForCause, HasCome, LeftByTurn, NoneDue, WaitsNoLonger, WasDue}
-use Rattle.fork_loop.specs.Courses.{Course, Onward, SameLists, Somewhere, Keeps, NoWork, timer_of}
+use Rattle.fork_loop.specs.Courses.{Course, SameLists, Somewhere, Keeps, NoWork, timer_of}
 use Rattle.fork_loop.specs.Asking.{DoorWaits, DoorIsOver}
-use Rattle.fork_loop.specs.Endings.{MayEnd}
+use Rattle.fork_loop.specs.Endings.{MayEnd, MayEndAfter}
 use Rattle.fork_loop.specs.Waited.{InOrder}
 use Rattle.fork_loop.specs.Waits.{WaitsFor, IsLeast}
 use Rattle.fork_loop.proofs.Looking.{none_then}
 use Rattle.fork_loop.proofs.Lists.{has_none}
 use Rattle.fork_loop.proofs.RowLaws.{row_up, same_timer}
-use Rattle.fork_loop.proofs.DoorSteps.{course_may_end}
+use Rattle.fork_loop.proofs.DoorSteps.{course_may_end_after}
 
 -- what one session waits for, if it has begun
 pub record RowRests (c : Config) (past : List Act) (s : ℕ) (timer : Option ℕ) : Type 0 where
@@ -151,12 +152,15 @@ turns_within c n [] l = omega (arith)
 turns_within c n (acts.Turn until at ready stop ∷ past) l = let x = l.0.1.turns_left in omega (arith, x)
 turns_within c n (act ∷ past) l = turns_within c n past l.1
 
-pub limit_ends : (c : Config) (n : ℕ) (start now : Seen) (past : List Act) (crew : Crew) (until : Option ℕ) → Course c n start now past crew → InOrder c past until → n ≤ crew.made → MayEnd c n start now whys.Stopped crew
-limit_ends c n start now past crew until on order used =
+pub limit_ends_after : (c : Config) (n : ℕ) (start now : Seen) (past : List Act) (crew : Crew) (until : Option ℕ) → Course c n start now past crew → InOrder c past until → n ≤ crew.made → MayEndAfter c n start now whys.Stopped crew past
+limit_ends_after c n start now past crew until on order used =
     let e = on.frame.made_is in
     let within = turns_within c n past on.frame.run.legal in
     let all_used : turns past ≡ n = omega (arith, e, within, used) in
-    course_may_end c n start now past whys.Stopped crew refl (inr (refl, all_used, order.rests)) on
+    course_may_end_after c n start now past whys.Stopped crew refl (inr (refl, all_used, order.rests)) on
+
+pub limit_ends : (c : Config) (n : ℕ) (start now : Seen) (past : List Act) (crew : Crew) (until : Option ℕ) → Course c n start now past crew → InOrder c past until → n ≤ crew.made → MayEnd c n start now whys.Stopped crew
+limit_ends c n start now past crew until on order used = (limit_ends_after c n start now past crew until on order used).0
 
 -- ---- one more turn
 
@@ -165,7 +169,10 @@ further_made n before mid after m r = let few = r.0 in (omega (arith, m, few), r
 
 pub further_then : (n : ℕ) (before mid after : Crew) (end : Option RunEnd) → mid.made ≡ before.made → Further n mid after end → Further n before after end
 further_then n before mid after None m r = further_made n before mid after m r
-further_then n before mid after (Some end) m r = r
+further_then n before mid after (Some ends.Over) m r = r ∙ m
+further_then n before mid after (Some (ends.Ends why)) m r = r ∙ m
+further_then n before mid after (Some ends.Stops) m r = further_made n before mid after m r
+further_then n before mid after (Some ends.Short) m r = further_made n before mid after m r
 
 -- ---- after the door's calls
 
@@ -175,16 +182,10 @@ door_waits c old mid new one two three first at k w = let o = k at.n at.start at
 pub door_over : (c : Config) (old mid new : Seen) (one two three : Crew) → Somewhere c old one → Keeps c old mid one two → ((n : ℕ) (start : Seen) (past : List Act) → Course c n start mid past two → DoorIsOver c n start new three) → Somewhere c new three
 door_over c old mid new one two three at k w = let o = k at.n at.start at.past at.course in let d = w at.n at.start o.past o.course in record { n = at.n; start = at.start; past = d.past; course = d.course }
 
--- ---- until the loop ends
+-- ---- where the next call begins
 
 pub some_within : (c : Config) (n : ℕ) (now : Seen) (crew : Crew) → Within c n now crew → Somewhere c now crew
 some_within c n now crew w = record { n = n; start = w.start; past = w.past; course = w.course }
 
 pub within_round : (c : Config) (n : ℕ) (start now : Seen) (crew : Crew) → GoesRound c n start now crew → Within c n now crew
 within_round c n start now crew r = record { start = start; past = acts.Turn r.until r.turned.at r.turned.ready false ∷ r.past; course = r.turned.course; begins = r.turned.begins }
-
-pub round_on : (c : Config) (n : ℕ) (start now : Seen) (crew : Crew) → GoesRound c n start now crew → Onward c n start now crew
-round_on c n start now crew r = record { past = acts.Turn r.until r.turned.at r.turned.ready false ∷ r.past; course = r.turned.course }
-
-pub fewer_left : (n a b : ℕ) → (a < n) × (b ≡ suc a) → n - b < n - a
-fewer_left n a b r = let few = r.0 in let e = r.1 in omega (arith, few, e)

@@ -15,7 +15,7 @@ use Rattle.fork_loop.specs.declared.crews.Crew.{Crew}
 use Rattle.fork_loop.specs.Courses.{AllSleepIfLate, OwesFor}
 use Rattle.fork_loop.specs.Endings.{MayEnd, CutsRows, RunsOut}
 use Rattle.fork_loop.proofs.Spreading.{cut_leaves, sleeps_late}
-use Rattle.fork_loop.specs.Waited.{Leaving, OwesAtExit, StopsAt}
+use Rattle.fork_loop.specs.Waited.{LeavingAt, OwesAtExit, StopsAt}
 
 may_say : (why : Why) (past : List Act) → ends_all why ≡ true → memory_said past ≡ false → MaySay why past
 may_say whys.Memory past e m = tt
@@ -31,26 +31,23 @@ owes_at : (c : Config) (past : List Act) (why : Why) → memory_said past ≡ fa
 owes_at c past why m (inl e) = inl e
 owes_at c past why m (inr k) = inr (k, m)
 
-pub leaving : (c : Config) (n : ℕ) (start now : Seen) (why : Why) (before after : Crew) → MayEnd c n start now why before → CutsRows why before after → Leaving c n start now why after
-leaving c n start now why before after end cuts =
+pub leaving_at : (c : Config) (n : ℕ) (start now : Seen) (why : Why) (before after : Crew) → (end : MayEnd c n start now why before) → CutsRows why before after → LeavingAt c n start now end.past why after
+leaving_at c n start now why before after end cuts =
     let f = end.frame in
     let same = cuts.same in
     record {
-      past = end.past;
-      leaving = record {
-        exit = record {
-          fork = f.fork;
-          run = f.run;
-          stands = subst (DoorStands c end.past) (sym same.door_same) f.door;
-          may = may_say why end.past end.all f.unsaid.remembered;
-          ends = inr end.ends;
-          stops = stops_at c n end.past why end.ends;
-          owes = owes_at c end.past why f.unsaid.remembered end.owes;
-        };
-        counts = record { admitted_is = same.admitted_same ∙ f.counts.admitted_is; children_is = same.bounds_same.0 ∙ f.counts.children_is; stop_is = same.bounds_same.1 ∙ f.counts.stop_is };
-        made_is = f.made_is ∙ sym same.made_same;
-        rows = λ s. cut_leaves c n end.past before.made before.clock why s (row_of before.table s) (row_of after.table s) f.made_is (sym f.clock_is) (cuts.rows s) (end.rows s);
+      exit = record {
+        fork = f.fork;
+        run = f.run;
+        stands = subst (DoorStands c end.past) (sym same.door_same) f.door;
+        may = may_say why end.past end.all f.unsaid.remembered;
+        ends = inr end.ends;
+        stops = stops_at c n end.past why end.ends;
+        owes = owes_at c end.past why f.unsaid.remembered end.owes;
       };
+      counts = record { admitted_is = same.admitted_same ∙ f.counts.admitted_is; children_is = same.bounds_same.0 ∙ f.counts.children_is; stop_is = same.bounds_same.1 ∙ f.counts.stop_is };
+      made_is = f.made_is ∙ sym same.made_same;
+      rows = λ s. cut_leaves c n end.past before.made before.clock why s (row_of before.table s) (row_of after.table s) f.made_is (sym f.clock_is) (cuts.rows s) (end.rows s);
     }
 
 pub all_sleep : (c : Config) (n : ℕ) (start now : Seen) (why : Why) (crew : Crew) → MayEnd c n start now why crew → AllSleepIfLate crew

@@ -19,14 +19,14 @@ use Rattle.session_work.specs.Works.{MustAct}
 use Rattle.fork_loop.specs.declared.crews.Crew.{Crew}
 use Rattle.fork_loop.specs.Rows.{Has, RowIs}
 use Rattle.fork_loop.specs.Courses.{Course, CourseAt, Takes, TakesNone, timer_of}
-use Rattle.fork_loop.specs.Endings.{Once, RowRan, RowRuns}
+use Rattle.fork_loop.specs.Endings.{MayEndAfter, Once, RowRan, RowRuns}
 use Rattle.fork_loop.specs.Looks.{BeginsCall, IsTimely, LeftByTurn, LooksPaid, WasDue, all_named, last_named}
 use Rattle.fork_loop.specs.Paid.{IsBusy, Paid, LedOn}
 use Rattle.session_work.proofs.Stays.{stays as must_stays}
 use Rattle.session_work.proofs.Waited.{waited as waited_now}
 use Rattle.fork_loop.proofs.InOrder.{row_rests}
 use Rattle.fork_loop.proofs.Others.{foreign_to}
-use Rattle.fork_loop.proofs.RowRuns.{here_of, none_taken, ran_course, taken_at}
+use Rattle.fork_loop.proofs.RowRuns.{here_of, none_taken, ran_course, ran_ends_after, taken_at}
 
 -- ---- acts, and those before them
 
@@ -162,13 +162,15 @@ rows_next c n start mid new past k old ticks more s two three four r takes run f
     go (inr (inr (j, m, p))) = with_newer newer.0 newer.1 (j + 1) (paid_on c s (r.made ++ past) ran.since three.work.items j ran.only.ran p) (omega (arith, few, m))
 
 -- one of them ends the run
-pub rows_end : (c : Config) (n : ℕ) (start mid new : Seen) (past : List Act) (k old ticks more s : ℕ) (why : Why) (two three four : Crew) → (r : RowsOn c n start mid past k old ticks two) → Takes s two three → RowRuns c mid new s three four (Some why) → more ≤ ticks + 1 → LedOn past (Run c n start new) (k + 2) old more
+pub rows_end : (c : Config) (n : ℕ) (start mid new : Seen) (past : List Act) (k old ticks more s : ℕ) (why : Why) (two three four : Crew) → (r : RowsOn c n start mid past k old ticks two) → Takes s two three → RowRuns c mid new s three four (Some why) → more ≤ ticks + 1 → LedOn past (MayEndAfter c n start new why four) (k + 2) old more
 rows_end c n start mid new past k old ticks more s why two three four r takes run few =
-    let ran = run.0 n start (r.made ++ past) (here_of c n start mid (r.made ++ past) s three (taken_at c n start mid (r.made ++ past) s two three r.course takes)) in
+    let so_far = r.made ++ past in
+    let at = taken_at c n start mid so_far s two three r.course takes in
+    let ran = run.0 n start so_far (here_of c n start mid so_far s three at) in
     let x = r.few in
-    led_then past (λ since. Course c n start mid since two) (Run c n start new) k 2 (k + 2) old ticks more (omega arith)
+    led_then past (λ since. Course c n start mid since two) (MayEndAfter c n start new why four) k 2 (k + 2) old ticks more (omega arith)
     (record { made = r.made; holds = r.course; few = omega (arith, x) })
-    (led_ran c s (r.made ++ past) ran.since (Run c n start new) 2 ticks more ran.only.ran ran.frame.run (omega (arith, few)))
+    (led_ran c s so_far ran.since (MayEndAfter c n start new why four) 2 ticks more ran.only.ran (ran_ends_after c n start mid new so_far s why three four at ran run.1) (omega (arith, few)))
 
 -- none is left
 pub rows_done : (c : Config) (n : ℕ) (start now : Seen) (past : List Act) (k old new : ℕ) (two three : Crew) → RowsOn c n start now past k old new two → TakesNone two three → LedOn past (λ since. Course c n start now since three) k old new
@@ -203,5 +205,5 @@ call_paid c (Turn until at ready false ∷ past) work begins timely = left_paid 
 call_paid c (Turn until at ready true ∷ past) work begins timely = absurd begins
 call_paid c (act ∷ past) work begins timely = absurd begins
 
-pub looks_paid : (c : Config) (n : ℕ) (start now : Seen) (past : List Act) (more old new : ℕ) → more ≤ 2 * last_named past + 2 → LedOn past (Run c n start now) more old new → LooksPaid c n start now past old new
-looks_paid c n start now past more old new l a = record { made = a.made; run = a.holds; few = (let x = a.few in omega (arith, x, l)) }
+pub looks_paid : (past : List Act) (Q : List Act → Type 0) (more old new : ℕ) → more ≤ 2 * last_named past + 2 → LedOn past Q more old new → LooksPaid past Q old new
+looks_paid past Q more old new l a = record { made = a.made; holds = a.holds; few = (let x = a.few in omega (arith, x, l)) }

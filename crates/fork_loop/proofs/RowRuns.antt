@@ -30,7 +30,7 @@ use Rattle.session_runs.specs.Pauses.{Spreads, ends_all}
 use Rattle.fork_loop.specs.declared.crews.Row.{Row}
 use Rattle.fork_loop.specs.Rows.{Sleeping, Rouses, Roused, RowIs, UpRow}
 use Rattle.fork_loop.specs.Courses.{RowOf, NextIs, OwesFor, Frame, Course, CourseAt, HereAt, Beside, Somewhere, SomewhereAt, Keeps, HasRow, DrainsTo, SetsTimer, Takes, TakesNone, Retires, Settles, SameRest, SameLists, timer_of}
-use Rattle.fork_loop.specs.Endings.{MayLeaveRow, MayEnd, RunsOut, OnlyActs, RowRan, RowEnds, RowRuns}
+use Rattle.fork_loop.specs.Endings.{MayLeaveRow, MayEnd, RunsOut, OnlyActs, RowRan, RowEnds, RowRuns, MayEndAfter}
 use Rattle.fork_loop.proofs.Lists.{has_rest}
 use Rattle.fork_loop.proofs.Others.{Leave, ran_leaves}
 use Rattle.fork_loop.proofs.RowLaws.{row_up, row_as, row_listed, row_work, same_timer, same_work, up_listed, roused_awake}
@@ -97,8 +97,8 @@ with_row c n since t after here others s = go (cases_eq s t)
     go (inr apart) = others s apart
 
 -- the run may be ended where one row may, and all others are as they are
-pub may_end_at : (c : Config) (n : ℕ) (start now : Seen) (past : List Act) (t : ℕ) (why : Why) (crew : Crew) → Frame c n start now past crew → ends_all why ≡ true → RunsOut c n past why → OwesFor c past why → MayLeaveRow c n past t why (row_of crew.table t) → ((s : ℕ) → s ≢ t → RowOf c n past crew s) → MayEnd c n start now why crew
-may_end_at c n start now past t why crew frame all ends owes here others = record { past = past; frame = frame; all = all; ends = ends; owes = owes; rows = λ s. go s (cases_eq s t) }
+pub may_end_after : (c : Config) (n : ℕ) (start now : Seen) (past : List Act) (t : ℕ) (why : Why) (crew : Crew) → Frame c n start now past crew → ends_all why ≡ true → RunsOut c n past why → OwesFor c past why → MayLeaveRow c n past t why (row_of crew.table t) → ((s : ℕ) → s ≢ t → RowOf c n past crew s) → MayEndAfter c n start now why crew past
+may_end_after c n start now past t why crew frame all ends owes here others = (record { past = past; frame = frame; all = all; ends = ends; owes = owes; rows = λ s. go s (cases_eq s t) }, refl)
   where
     go : (s : ℕ) → (s ≡ t) ⊎ (s ≡ t → ⊥) → MayLeaveRow c n past s why (row_of crew.table s)
     go s (inl e) = subst (λ (k : ℕ). MayLeaveRow c n past k why (row_of crew.table k)) (sym e) here
@@ -286,10 +286,13 @@ ran_course c n start old new past t before after on r b = record {
       (others_on c n past r.since t before after (only_leaves c n t past r.since on.frame.fork r.frame.run.legal r.only) on.rows b);
 }
 
-pub ran_ends : (c : Config) (n : ℕ) (start old new : Seen) (past : List Act) (t : ℕ) (why : Why) (before after : Crew) → CourseAt c n start old past t before → RowEnds c n start new past t why after → Beside t before after → MayEnd c n start new why after
-ran_ends c n start old new past t why before after on r b =
-    may_end_at c n start new r.since t why after r.frame r.all r.ends r.owes r.row
+pub ran_ends_after : (c : Config) (n : ℕ) (start old new : Seen) (past : List Act) (t : ℕ) (why : Why) (before after : Crew) → CourseAt c n start old past t before → (r : RowEnds c n start new past t why after) → Beside t before after → MayEndAfter c n start new why after r.since
+ran_ends_after c n start old new past t why before after on r b =
+    may_end_after c n start new r.since t why after r.frame r.all r.ends r.owes r.row
     (others_on c n past r.since t before after (only_leaves c n t past r.since on.frame.fork r.frame.run.legal r.only) on.rows b)
+
+pub ran_ends : (c : Config) (n : ℕ) (start old new : Seen) (past : List Act) (t : ℕ) (why : Why) (before after : Crew) → CourseAt c n start old past t before → RowEnds c n start new past t why after → Beside t before after → MayEnd c n start new why after
+ran_ends c n start old new past t why before after on r b = (ran_ends_after c n start old new past t why before after on r b).0
 
 -- ---- a row that is taken out of the list of work
 

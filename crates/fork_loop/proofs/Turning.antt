@@ -39,7 +39,7 @@ use Rattle.fork_loop.specs.Rows.{Has, Rouses, UpRow, RowIs}
 use Rattle.fork_loop.specs.Courses.{RowOf, NextIs, Counts, Frame, Course, Somewhere, NoWork, SameLists, timer_of}
 use Rattle.fork_loop.specs.Endings.{LeavesRow, MayEnd}
 use Rattle.fork_loop.specs.Turns.{HearsTurn, HearsRow, DoorHearsTurn, AllHeard, AsleepRow, AllAsleep, UnheardRow, AllUnheard, NamedRow, HearsNamed, Queued, TakesTurn, names_own}
-use Rattle.fork_loop.specs.Waited.{Exit, Leaving, InOrder, SleepsRow, Stopping}
+use Rattle.fork_loop.specs.Waited.{ShortAt, Exit, LeavingAt, InOrder, SleepsRow, Stopping}
 use Rattle.fork_loop.proofs.Lists.{has_none}
 use Rattle.fork_loop.proofs.Counting.{counted_by}
 use Rattle.fork_loop.proofs.RowLaws.{awake_rouses, due_rouses, row_listed}
@@ -88,6 +88,7 @@ turned_run c n start old new past until at ready stop on t few order = record {
   later = (let a = on.later in let b = t.later in omega (arith, a, b));
   blamed = λ h. risen_kept start.faults old.faults new.faults t.later (on.blamed h);
   waited = (let a = on.waited in let b = t.counts.waits_is in omega (arith, a, b));
+  few_waits = (let a = on.few_waits in let b = t.counts.waits_is in omega (arith, a, b));
   later_stops = (let a = on.later_stops in let b = t.counts.stops_is.later in omega (arith, a, b));
   stopped = or_stop stop (stop_turned past) (λ h. risen_later start.stops old.stops new.stops on.later_stops (t.counts.stops_is.rose h)) (λ h. risen_kept start.stops old.stops new.stops t.counts.stops_is.later (on.stopped h));
   clock = (let a = t.counts.clock_is in omega (arith, a));
@@ -236,7 +237,7 @@ goes_on c n start old new past until at before mid after w h q = record {
 }
 
 -- no memory for the list of work
-pub goes_short : (c : Config) (n : ℕ) (start old new : Seen) (past : List Act) (until : Option ℕ) (at : ℕ) (before mid after : Crew) → Waits c n start old new past until at false before mid → HearsNamed c mid after → MayEnd c n start new whys.Memory after
+goes_short : (c : Config) (n : ℕ) (start old new : Seen) (past : List Act) (until : Option ℕ) (at : ℕ) (before mid after : Crew) → Waits c n start old new past until at false before mid → HearsNamed c mid after → MayEnd c n start new whys.Memory after
 goes_short c n start old new past until at before mid after w h = record {
   past = Turn until at (copied_list mid.ready) false ∷ past;
   frame = frame_rest c n start new (Turn until at (copied_list mid.ready) false ∷ past) mid after (frame_turned c n start old new past until at before mid w) h.same;
@@ -293,8 +294,9 @@ pub when_going : (c : Config) (n : ℕ) (start old new : Seen) (past : List Act)
 when_going c n start old new past until at false before mid after e w h q = goes_on c n start old new past until at before mid after w h q
 when_going c n start old new past until at true before mid after e w h q = absurd (true≢false e)
 
-pub when_short : (c : Config) (n : ℕ) (start old new : Seen) (past : List Act) (until : Option ℕ) (at : ℕ) (stop : Bool) (before mid after : Crew) → stop ≡ false → Waits c n start old new past until at stop before mid → HearsNamed c mid after → MayEnd c n start new whys.Memory after
-when_short c n start old new past until at false before mid after e w h = goes_short c n start old new past until at before mid after w h
+pub when_short : (c : Config) (n : ℕ) (start old new : Seen) (past : List Act) (until : Option ℕ) (at : ℕ) (stop : Bool) (before mid after : Crew) → stop ≡ false → Waits c n start old new past until at stop before mid → HearsNamed c mid after → ShortAt c n start new after
+unfolding goes_short
+when_short c n start old new past until at false before mid after e w h = record { past = past; until = until; at = at; ready = copied_list mid.ready; ends = goes_short c n start old new past until at before mid after w h; last = refl }
 when_short c n start old new past until at true before mid after e w h = absurd (true≢false e)
 
 pub when_stopped : (c : Config) (n : ℕ) (start old new : Seen) (past : List Act) (until : Option ℕ) (at : ℕ) (stop : Bool) (before mid : Crew) → stop ≡ true → Waits c n start old new past until at stop before mid → Stopping c n start new mid
@@ -328,18 +330,15 @@ row_stopped c n past s made until at ready (Some old) (Some new) m r h =
 row_stopped c n past s made until at ready None (Some y) m r h = absurd h
 row_stopped c n past s made until at ready (Some x) None m r h = absurd h
 
-pub stopped_all : (c : Config) (n : ℕ) (start now : Seen) (before after : Crew) → Stopping c n start now before → AllHeard before after → Leaving c n start now whys.Stopped after
+pub stopped_all : (c : Config) (n : ℕ) (start now : Seen) (before after : Crew) → (st : Stopping c n start now before) → AllHeard before after → LeavingAt c n start now (Turn st.until before.clock (copied_list before.ready) true ∷ st.past) whys.Stopped after
 stopped_all c n start now before after st h =
     let t = st.stopping in
     let same = h.same.same in
     record {
-      past = Turn st.until before.clock (copied_list before.ready) true ∷ st.past;
-      leaving = record {
-        exit = subst (λ (d : Door). Exit c n start now (Turn st.until before.clock (copied_list before.ready) true ∷ st.past) whys.Stopped d) (sym same.door_same) t.exit;
-        counts = record { admitted_is = same.admitted_same ∙ t.counts.admitted_is; children_is = same.bounds_same.0 ∙ t.counts.children_is; stop_is = same.bounds_same.1 ∙ t.counts.stop_is };
-        made_is = t.made_is ∙ sym same.made_same;
-        rows = λ s. row_stopped c n st.past s before.made st.until before.clock before.ready (row_of before.table s) (row_of after.table s) t.unsaid.remembered (t.rows s) (h.rows s);
-      };
+      exit = subst (λ (d : Door). Exit c n start now (Turn st.until before.clock (copied_list before.ready) true ∷ st.past) whys.Stopped d) (sym same.door_same) t.exit;
+      counts = record { admitted_is = same.admitted_same ∙ t.counts.admitted_is; children_is = same.bounds_same.0 ∙ t.counts.children_is; stop_is = same.bounds_same.1 ∙ t.counts.stop_is };
+      made_is = t.made_is ∙ sym same.made_same;
+      rows = λ s. row_stopped c n st.past s before.made st.until before.clock before.ready (row_of before.table s) (row_of after.table s) t.unsaid.remembered (t.rows s) (h.rows s);
     }
 
 asleep_row : (c : Config) (n : ℕ) (past : List Act) (s : ℕ) (row : Option Row) → SleepsRow c n past s row → AsleepRow row

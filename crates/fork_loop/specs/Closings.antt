@@ -1,5 +1,5 @@
 -- How all that is held is closed, once each session was cut.
-use Rattle.std.specs.Prelude.{◌≡◌, ◌≢◌, ◌⊎◌, ℕ, ◌<◌, Bool, true, false, List, ◌∷◌, Some, None}
+use Rattle.std.specs.Prelude.{◌≡◌, ◌≢◌, ◌⊎◌, ℕ, ◌+◌, ◌<◌, ◌≤◌, Bool, true, false, List, ◌∷◌, ◌++◌, length, Option, Some, None, is_some}
 use Rattle.relay_model.specs.declared.places.Place.{Place}
 use Rattle.relay_model.specs.declared.commands.Config.{Config}
 use Rattle.relay_model.specs.declared.acts.Act.{Act}
@@ -8,6 +8,7 @@ use Rattle.relay_model.specs.declared.acts.Why.{Why}
 use Rattle.relay_model.specs.History.{turns}
 use Rattle.relay_model.specs.Sessions.{admitted, holds}
 use Rattle.relay_model.specs.Cause.{closed_why}
+use Rattle.relay_model.specs.Choices.{count}
 use Rattle.relay_model.specs.Frames.{is_common}
 use Rattle.relay_core.specs.declared.sessions.Session.{Session}
 use Rattle.relay_core.specs.declared.wishes.Wish.{Wish}
@@ -19,10 +20,11 @@ use Rattle.session_driver.specs.Seen.{Seen}
 use Rattle.session_driver.specs.Steps.{IsActOf}
 use Rattle.session_crew.specs.Crews.{IsSaid}
 use Rattle.fork_loop.specs.declared.crews.Crew.{Crew}
+use Rattle.fork_loop.specs.declared.crews.Row.{Row}
 use Rattle.fork_loop.specs.Courses.{Counts, OthersStay}
 use Rattle.fork_loop.specs.Endings.{LeavesRow}
 use Rattle.fork_loop.specs.Turned.{NoneLives}
-use Rattle.fork_loop.specs.Waited.{Exit, LeavingAt, Leaving}
+use Rattle.fork_loop.specs.Waited.{Exit, LeavingAt}
 
 -- the wish is a closing
 abbrev pub closes : Wish → Bool
@@ -74,31 +76,49 @@ pub record SomeLeaving (c : Config) (now : Seen) (why : Why) (crew : Crew) : Typ
   pub past : List Act
   pub leaving : LeavingAt c n start now past why crew
 
--- what a call keeps, for every run whose sessions were cut
-abbrev pub KeepsLeaving : Config → Seen → Seen → Why → Crew → Crew → Type 0
-KeepsLeaving c old new why before after = (n : ℕ) (start : Seen) (past : List Act) → LeavingAt c n start old past why before → Leaving c n start new why after
-
--- the session of this number has closed all, if it lived, and its row still stands
-pub record Emptied (c : Config) (n : ℕ) (start now : Seen) (t : ℕ) (why : Why) (crew : Crew) : Type 0 where
-  pub past : List Act
-  pub exit : Exit c n start now past why crew.door
-  pub counts : Counts c past crew.table
-  pub made_is : turns past ≡ crew.made
-  pub rows : (s : ℕ) → s ≢ t → LeavesRow c n past s why (row_of crew.table s)
-  pub empty : t < admitted c past → holds c past t ≡ false
+-- the session of this number has closed all, if it lived, by at least one act, and its row still stands
+pub record Emptied (c : Config) (n : ℕ) (start now : Seen) (before : List Act) (t : ℕ) (why : Why) (was : Option Row) (crew : Crew) : Type 0 where
+  pub made : List Act
+  pub acted : is_some was ≡ true → 1 ≤ length made
+  pub exit : Exit c n start now (made ++ before) why crew.door
+  pub counts : Counts c (made ++ before) crew.table
+  pub made_is : turns (made ++ before) ≡ crew.made
+  pub rows : (s : ℕ) → s ≢ t → LeavesRow c n (made ++ before) s why (row_of crew.table s)
+  pub empty : t < admitted c (made ++ before) → holds c (made ++ before) t ≡ false
 
 -- so of each run, and no other row changed
 pub record EmptiesRow (c : Config) (old new : Seen) (t : ℕ) (why : Why) (before after : Crew) : Type 0 where
-  pub emptied : (n : ℕ) (start : Seen) (past : List Act) → LeavingAt c n start old past why before → Emptied c n start new t why after
+  pub emptied : (n : ℕ) (start : Seen) (past : List Act) → LeavingAt c n start old past why before → Emptied c n start new past t why (row_of before.table t) after
   pub others : OthersStay t before after
 
--- it is gone
+-- its row is gone too
+pub record LeftAfter (c : Config) (n : ℕ) (start now : Seen) (before : List Act) (why : Why) (was : Option Row) (crew : Crew) : Type 0 where
+  pub made : List Act
+  pub acted : is_some was ≡ true → 1 ≤ length made
+  pub leaving : LeavingAt c n start now (made ++ before) why crew
+
+-- so of each run
 pub record RowLeaves (c : Config) (old new : Seen) (t : ℕ) (why : Why) (before after : Crew) : Type 0 where
-  pub keeps : KeepsLeaving c old new why before after
+  pub keeps : (n : ℕ) (start : Seen) (past : List Act) → LeavingAt c n start old past why before → LeftAfter c n start new past why (row_of before.table t) after
   pub gone : row_of after.table t ≡ None
   pub others : OthersStay t before after
 
--- all are
-pub record RowsLeave (c : Config) (old new : Seen) (why : Why) (before after : Crew) : Type 0 where
-  pub keeps : KeepsLeaving c old new why before after
+-- how many of the numbers below this one have a session
+abbrev pub rows_below : Crew → ℕ → ℕ
+rows_below crew k = count (λ s. is_some (row_of crew.table s)) k
+
+-- there was no more than one look at each session
+abbrev pub LooksAtRows : Crew → ℕ → ℕ → Type 0
+LooksAtRows crew old new = (k : ℕ) × (new ≤ old + rows_below crew k)
+
+-- each session has closed all, by an act of its own at least, and no look came without one
+pub record AllLeft (c : Config) (n : ℕ) (start now : Seen) (before : List Act) (why : Why) (first crew : Crew) (old new : ℕ) : Type 0 where
+  pub made : List Act
+  pub leaving : LeavingAt c n start now (made ++ before) why crew
+  pub each : (k : ℕ) → rows_below first k ≤ length made
+  pub few : new ≤ old + length made
+
+-- so of each run, and no row is left
+pub record RowsLeave (c : Config) (old new : Seen) (why : Why) (before after : Crew) (ticks more : ℕ) : Type 0 where
+  pub keeps : (n : ℕ) (start : Seen) (past : List Act) → LeavingAt c n start old past why before → AllLeft c n start new past why before after ticks more
   pub none : NoneLives after

@@ -58,6 +58,10 @@ pub record MayEnd (c : Config) (n : ℕ) (start now : Seen) (why : Why) (crew : 
   pub owes : OwesFor c past why
   pub rows : (s : ℕ) → MayLeaveRow c n past s why (row_of crew.table s)
 
+-- so after these acts
+abbrev pub MayEndAfter : Config → ℕ → Seen → Seen → Why → Crew → List Act → Type 0
+MayEndAfter c n start now why crew since = (m : MayEnd c n start now why crew) × (m.past ≡ since)
+
 -- after so many turns, of which the last came at this moment, a session that may be cut is, and no row comes or goes
 abbrev pub CutRow : ℕ → ℕ → Why → ℕ → Option Row → Option Row → Type 0
 CutRow made at why s None None = Unit {0}

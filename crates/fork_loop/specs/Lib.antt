@@ -3,7 +3,6 @@ pub mod Births
 pub mod Closings
 pub mod Courses
 pub mod Endings
-pub mod Left
 pub mod Looks
 pub mod Paid
 pub mod Rows

@@ -10,8 +10,6 @@ use Rattle.relay_model.specs.History.{now as moment}
 use Rattle.relay_model.specs.Sessions.{numbers}
 use Rattle.relay_core.specs.Timers.{session_until}
 use Rattle.session_sleep.specs.Sleeps.{IsBefore}
-use Rattle.session_driver.specs.Seen.{Seen}
-use Rattle.session_runs.specs.Runs.{Run}
 use Rattle.fork_loop.specs.Rows.{Has}
 use Rattle.fork_loop.specs.Courses.{timer_of}
 use Rattle.fork_loop.specs.Endings.{Once}
@@ -116,9 +114,9 @@ IsTimely [] = Unit {0}
 IsTimely (Turn until at ready stop ∷ past) = IsBefore at until ⊎ (at ≡ moment past)
 IsTimely (act ∷ past) = IsTimely past
 
--- the run has led on to here by the acts of the call, and the looks are at most twice as many as these acts, the entries of
+-- the acts of the call led on to where this holds, and the looks are at most twice as many as these acts, the entries of
 -- the last turn before them and of the turn among them, and one
-pub record LooksPaid (c : Config) (n : ℕ) (start now : Seen) (past : List Act) (old new : ℕ) : Type 0 where
+pub record LooksPaid (past : List Act) (Holds : List Act → Type 0) (old new : ℕ) : Type 0 where
   pub made : List Act
-  pub run : Run c n start now (made ++ past)
+  pub holds : Holds (made ++ past)
   pub few : new ≤ old + 2 * (length made + (last_named past + all_named made) + 1)

@@ -4,6 +4,7 @@ use Rattle.relay_model.specs.declared.commands.Config.{Config}
 use Rattle.relay_model.specs.declared.acts.Act.{Act}
 use Rattle.relay_model.specs.declared.acts.Act.TheVariants.{AcceptFailed}
 use Rattle.relay_model.specs.declared.acts.Why.{Why}
+use Rattle.relay_model.specs.declared.acts.Why.TheVariants as whys
 use Rattle.relay_model.specs.Configs.{program_door}
 use Rattle.relay_model.specs.Sessions.{numbers}
 use Rattle.program_door.specs.declared.wishes.DoorWish.TheVariants as wishes
@@ -16,9 +17,12 @@ use Rattle.fork_loop.specs.declared.asked.Asked.{Asked}
 use Rattle.fork_loop.specs.declared.asked.Asked.TheVariants as asks
 use Rattle.fork_loop.specs.Rows.{Has}
 use Rattle.fork_loop.specs.Courses.{Course, NoWork}
-use Rattle.fork_loop.specs.Endings.{Ending, Failed, MayEnd}
+use Rattle.fork_loop.specs.Endings.{Ending, Failed, MayEndAfter}
 use Rattle.fork_loop.specs.Looks.{WaitsNoLonger, all_named}
-use Rattle.fork_loop.specs.Turned.{Rested}
+use Rattle.fork_loop.specs.declared.turned.RunEnd.{RunEnd}
+use Rattle.fork_loop.specs.declared.waited.Waited.{Waited}
+use Rattle.fork_loop.specs.declared.waited.Waited.TheVariants as waits
+use Rattle.fork_loop.specs.Turned.{ComesTo, Rested}
 use Rattle.fork_loop.specs.Waited.{InOrder}
 
 -- a session that has begun and has to act
@@ -42,11 +46,7 @@ pub record LedOn (past : List Act) (Holds : List Act → Type 0) (more old new :
 -- the sessions that have work
 abbrev pub RowsPaid : Config → Seen → Seen → Crew → Crew → ℕ → ℕ → Option Why → Type 0
 RowsPaid c from to before after old new None = (n : ℕ) (start : Seen) (past : List Act) (k : ℕ) → Course c n start from past before → Paid c past before.work.items k → LedOn past (λ since. Course c n start to since after) k old new
-RowsPaid c from to before after old new (Some why) = (n : ℕ) (start : Seen) (past : List Act) (k : ℕ) → Course c n start from past before → Paid c past before.work.items k → LedOn past (Run c n start to) (k + 2) old new
-
--- the run may be ended after these acts
-abbrev pub MayEndAfter : Config → ℕ → Seen → Seen → Why → Crew → List Act → Type 0
-MayEndAfter c n start now why crew since = (m : MayEnd c n start now why crew) × (m.past ≡ since)
+RowsPaid c from to before after old new (Some why) = (n : ℕ) (start : Seen) (past : List Act) (k : ℕ) → Course c n start from past before → Paid c past before.work.items k → LedOn past (MayEndAfter c n start to why after) (k + 2) old new
 
 -- the sessions that are cut for a failed accepting, one after another
 abbrev pub EndingPaid : Config → Seen → Seen → Crew → Crew → ℕ → ℕ → Option Why → Type 0
@@ -56,13 +56,13 @@ EndingPaid c from to before after old new (Some why) = (n : ℕ) (start : Seen) 
 -- the same from the failed accepting on
 abbrev pub EndsPaid : Config → Seen → Seen → Crew → Crew → ℕ → ℕ → Option Why → Type 0
 EndsPaid c from to before after old new None = (n : ℕ) (start : Seen) (past : List Act) → Failed c n start from past before → LedOn (AcceptFailed program_door ∷ past) (λ since. Course c n start to since after) 0 old new
-EndsPaid c from to before after old new (Some why) = (n : ℕ) (start : Seen) (past : List Act) → Failed c n start from past before → LedOn (AcceptFailed program_door ∷ past) (Run c n start to) 2 old new
+EndsPaid c from to before after old new (Some why) = (n : ℕ) (start : Seen) (past : List Act) → Failed c n start from past before → LedOn (AcceptFailed program_door ∷ past) (MayEndAfter c n start to why after) 2 old new
 
 -- what the door came to
 abbrev pub AskedTo : Config → ℕ → Seen → Seen → Crew → Asked → List Act → Type 0
 AskedTo c n start now crew (asks.Waits until) since = Course c n start now since crew × Wished c since (wishes.Sleep until)
 AskedTo c n start now crew asks.Over since = Course c n start now since crew × Wished c since wishes.Done
-AskedTo c n start now crew (asks.Ends why) since = Run c n start now since
+AskedTo c n start now crew (asks.Ends why) since = MayEndAfter c n start now why crew since
 
 -- its calls, and those of the sessions that its peers bring
 abbrev pub AskedPaid : Config → Seen → Seen → Crew → Crew → ℕ → ℕ → Asked → Type 0
@@ -73,10 +73,17 @@ abbrev pub AskPaid : Config → Seen → Seen → Crew → Crew → ℕ → ℕ 
 AskPaid c from to before after old new None = (n : ℕ) (start : Seen) (past : List Act) → Course c n start from past before → LedOn past (λ since. Course c n start to since after) 0 old new
 AskPaid c from to before after old new (Some asked) = AskedPaid c from to before after old new asked
 
+-- what a wait came to
+abbrev pub WaitedTo : Config → ℕ → Seen → Seen → Crew → Waited → List Act → Type 0
+WaitedTo c n start now crew waits.Goes since = Run c n start now since
+WaitedTo c n start now crew waits.Stops since = Run c n start now since
+WaitedTo c n start now crew waits.Short since = Run c n start now since
+WaitedTo c n start now crew waits.Memory since = MayEndAfter c n start now whys.Memory crew since
+
 -- a wait
-abbrev pub WaitPaid : Config → ℕ → Option ℕ → Seen → Seen → Crew → Crew → ℕ → ℕ → Type 0
-WaitPaid c n until from to before after old new = (start : Seen) (past : List Act) → Course c n start from past before → InOrder c past until → WaitsNoLonger until before → LedOn past (Run c n start to) 0 old new
+abbrev pub WaitPaid : Config → ℕ → Option ℕ → Seen → Seen → Crew → Crew → ℕ → ℕ → Waited → Type 0
+WaitPaid c n until from to before after old new waited = (start : Seen) (past : List Act) → Course c n start from past before → InOrder c past until → WaitsNoLonger until before → LedOn past (WaitedTo c n start to after waited) 0 old new
 
 -- the same, where the door waits until this moment
-abbrev pub WaitForPaid : Config → ℕ → Option ℕ → Seen → Seen → Crew → Crew → ℕ → ℕ → Type 0
-WaitForPaid c n first from to before after old new = (start : Seen) (past : List Act) → Course c n start from past before → Rested c past first before → LedOn past (Run c n start to) 0 old new
+abbrev pub WaitForPaid : Config → ℕ → Option ℕ → Seen → Seen → Crew → Crew → ℕ → ℕ → Option RunEnd → Type 0
+WaitForPaid c n first from to before after old new end = (start : Seen) (past : List Act) → Course c n start from past before → Rested c past first before → LedOn past (ComesTo c n start to after end) 0 old new

@@ -9,10 +9,11 @@ use Rattle.fork_loop.specs.declared.crews.Crew.{Crew}
 use Rattle.fork_loop.specs.declared.turned.RunEnd.{RunEnd}
 use Rattle.fork_loop.specs.declared.turned.RunEnd.TheVariants as ends
 use Rattle.fork_loop.specs.Asking.{DoorIsOver}
-use Rattle.fork_loop.specs.Courses.{Course, Onward}
-use Rattle.fork_loop.specs.Endings.{MayEnd}
+use Rattle.fork_loop.specs.Courses.{Course}
+use Rattle.session_runs.specs.Runs.{Run}
+use Rattle.fork_loop.specs.Endings.{MayEnd, MayEndAfter}
 use Rattle.fork_loop.specs.Looks.{BeginsCall, IsTimely, LooksPaid}
-use Rattle.fork_loop.specs.Waited.{Stopping, TurnedOn}
+use Rattle.fork_loop.specs.Waited.{ShortAt, Stopping, TurnedOn}
 
 -- no session lives
 abbrev pub NoneLives : Crew → Type 0
@@ -35,11 +36,15 @@ RunIs c n start new after None = GoesRound c n start new after
 RunIs c n start new after (Some ends.Over) = DoorIsOver c n start new after × NoneLives after
 RunIs c n start new after (Some (ends.Ends why)) = MayEnd c n start new why after
 RunIs c n start new after (Some ends.Stops) = Stopping c n start new after
+RunIs c n start new after (Some ends.Short) = ShortAt c n start new after
 
--- a turn that goes on was one more of at most n
+-- a call that goes on or ends after its wait was one more of at most n turns, and any other made none
 abbrev pub Further : ℕ → Crew → Crew → Option RunEnd → Type 0
 Further n before after None = (before.made < n) × (after.made ≡ suc before.made)
-Further n before after end = Unit {0}
+Further n before after (Some ends.Over) = after.made ≡ before.made
+Further n before after (Some (ends.Ends why)) = after.made ≡ before.made
+Further n before after (Some ends.Stops) = (before.made < n) × (after.made ≡ suc before.made)
+Further n before after (Some ends.Short) = (before.made < n) × (after.made ≡ suc before.made)
 
 -- so of each that led to the beginning
 abbrev pub EndsRun : Config → ℕ → Seen → Seen → Crew → Crew → Option RunEnd → Type 0
@@ -63,12 +68,14 @@ pub record Within (c : Config) (n : ℕ) (now : Seen) (crew : Crew) : Type 0 whe
   pub course : Course c n start now past crew
   pub begins : BeginsCall c past crew.work.items
 
+-- the run that goes on, or where it is to be ended
+abbrev pub ComesTo : Config → ℕ → Seen → Seen → Crew → Option RunEnd → List Act → Type 0
+ComesTo c n start now crew None since = Run c n start now since
+ComesTo c n start now crew (Some ends.Over) since = (over : DoorIsOver c n start now crew) × (over.past ≡ since)
+ComesTo c n start now crew (Some (ends.Ends why)) since = MayEndAfter c n start now why crew since
+ComesTo c n start now crew (Some ends.Stops) since = Run c n start now since
+ComesTo c n start now crew (Some ends.Short) since = Run c n start now since
+
 -- of each such run the call pays for its looks, unless the last wait lasted up to its end
-abbrev pub LooksBounded : Config → ℕ → Seen → Seen → Crew → Crew → ℕ → ℕ → Type 0
-LooksBounded c n from to before after old new = (at : Within c n from before) → IsTimely at.past → LooksPaid c n at.start to at.past old new
-
--- ---- the loop until it ends
-
--- each goes on from here to there
-abbrev pub KeepsTo : Config → ℕ → Seen → Seen → Crew → Crew → Type 0
-KeepsTo c n old new before after = (start : Seen) (past : List Act) → Course c n start old past before → Onward c n start new after
+abbrev pub LooksBounded : Config → ℕ → Seen → Seen → Crew → Crew → ℕ → ℕ → Option RunEnd → Type 0
+LooksBounded c n from to before after old new end = (at : Within c n from before) → IsTimely at.past → LooksPaid at.past (ComesTo c n at.start to after end) old new

@@ -1,27 +1,25 @@
 -- What is left of a run once no session lives and the door closes what it holds.
-use Rattle.std.specs.Prelude.{◌≡◌, ◌⊎◌, ℕ, ◌<◌, true, false, List, ◌∷◌, Option, Some, None}
+use Rattle.std.specs.Prelude.{◌≡◌, ◌⊎◌, ℕ, ◌+◌, ◌*◌, ◌<◌, ◌≤◌, true, false, List, ◌∷◌, ◌++◌, length, Option, Some, None}
 use Rattle.relay_model.specs.declared.places.Place.{Place}
 use Rattle.relay_model.specs.declared.commands.Config.{Config}
 use Rattle.relay_model.specs.declared.acts.Act.{Act}
-use Rattle.relay_model.specs.declared.acts.Act.TheVariants.{Closed}
+use Rattle.relay_model.specs.declared.acts.Act.TheVariants.{Closed, Turn}
+use Rattle.relay_model.specs.Readiness.{copied_list}
 use Rattle.relay_model.specs.declared.acts.Why.{Why}
 use Rattle.relay_model.specs.declared.acts.Why.TheVariants as whys
-use Rattle.relay_model.specs.Configs.{has_fork}
 use Rattle.relay_model.specs.History.{turns, held}
 use Rattle.relay_model.specs.Sessions.{admitted, holds}
-use Rattle.relay_core.specs.Blames.{is_blamed}
-use Rattle.relay_core.specs.Told.{stop_turned}
 use Rattle.program_door.specs.Turns.{first_held}
 use Rattle.exit_status.specs.declared.outcomes.Outcome.{Outcome}
-use Rattle.exit_status.specs.declared.outcomes.Outcome.TheVariants as outcomes
-use Rattle.exit_status.specs.declared.outcomes.EndWhy.TheVariants as ends
-use Rattle.exit_status.specs.Outcomes.{IsOutcome}
-use Rattle.event_loop.specs.Headline.{is_failure, is_relayed}
 use Rattle.session_driver.specs.Seen.{Seen}
-use Rattle.session_runs.specs.Runs.{Run}
 use Rattle.fork_loop.specs.declared.crews.Crew.{Crew}
-use Rattle.fork_loop.specs.Courses.{Course}
-use Rattle.fork_loop.specs.Waited.{Exit}
+use Rattle.fork_loop.specs.declared.turned.RunEnd.{RunEnd}
+use Rattle.fork_loop.specs.declared.turned.RunEnd.TheVariants as ends
+use Rattle.fork_loop.specs.Closings.{rows_below}
+use Rattle.event_loop.specs.Ended.{Ended}
+use Rattle.fork_loop.specs.Asking.{DoorIsOver}
+use Rattle.fork_loop.specs.Turned.{NoneLives, RunIs}
+use Rattle.fork_loop.specs.Waited.{Exit, Leaving}
 
 -- ---- the closings of the door
 
@@ -50,45 +48,68 @@ abbrev pub ClosesFirst : Seen → Seen → Why → Crew → Crew → Type 0
 ClosesFirst old new why before after = (c : Config) (n : ℕ) (start : Seen) (past : List Act) → Vacated c n start old past why before → HoldsLess c n start new past why after
 
 -- nothing is held any more
-pub record Empty (c : Config) (n : ℕ) (start now : Seen) (why : Why) (crew : Crew) : Type 0 where
-  pub past : List Act
-  pub vacated : Vacated c n start now past why crew
-  pub no_door : first_held c past ≡ None
+pub record Empty (c : Config) (n : ℕ) (start now : Seen) (before : List Act) (why : Why) (crew : Crew) : Type 0 where
+  pub made : List Act
+  pub vacated : Vacated c n start now (made ++ before) why crew
+  pub no_door : first_held c (made ++ before) ≡ None
 
 -- so of each run
 abbrev pub ClosesDoor : Seen → Seen → Why → Crew → Crew → Type 0
-ClosesDoor old new why before after = (c : Config) (n : ℕ) (start : Seen) (past : List Act) → Vacated c n start old past why before → Empty c n start new why after
+ClosesDoor old new why before after = (c : Config) (n : ℕ) (start : Seen) (past : List Act) → Vacated c n start old past why before → Empty c n start new past why after
 
 -- ---- the answer
 
--- the outcome of a run that was ended for a stop or want of memory, after so many turns
-abbrev pub ended_for : Why → ℕ → Outcome
-ended_for whys.Stopped made = outcomes.Stopped made
-ended_for why made = outcomes.Memory
+-- why a run is over whose door listens no more: what ended the door's calls, if anything, or that no try is left
+abbrev pub over_for : Option Why → Option ℕ → Why
+over_for None None = whys.Served
+over_for None (Some attempts) = whys.ListenFailed
+over_for (Some whys.AcceptFailed) listening = whys.AcceptFailed
+over_for (Some why) listening = whys.Memory
 
--- the outcome of a door that listens no more, after so many failures if no try is left
-abbrev pub unlistened : Option ℕ → Outcome
-unlistened (Some attempts) = outcomes.ListenFailed attempts
-unlistened None = outcomes.Ended ends.Served
+-- the answer of a run whose door is over
+abbrev pub TellsOver : Crew → Outcome → Type 0
+TellsOver crew answer =
+    (c : Config) (n : ℕ) (start now : Seen) → (over : DoorIsOver c n start now crew) → NoneLives crew → Ended c n start now over.past answer
 
--- the outcome where the door is over, by what ended its calls
-abbrev pub ended_by : Option Why → Option ℕ → Outcome
-ended_by None listening = unlistened listening
-ended_by (Some whys.AcceptFailed) listening = outcomes.AcceptFailed
-ended_by (Some why) listening = outcomes.Memory
+-- the acts of a run that led to an end
+abbrev pub acts_to : (c : Config) (n : ℕ) (start now : Seen) (crew : Crew) (end : RunEnd) → RunIs c n start now crew (Some end) → List Act
+acts_to c n start now crew ends.Over is = is.0.past
+acts_to c n start now crew (ends.Ends why) is = is.past
+acts_to c n start now crew ends.Stops is = Turn is.until crew.clock (copied_list crew.ready) true ∷ is.past
+acts_to c n start now crew ends.Short is = is.ends.past
 
--- a run has ended: nothing is held, and the answer is its outcome or tells of want of memory; a failure has an act that
--- is to blame for it, and a stop was told by a turn or the turns are used up
-pub record Ended (c : Config) (n : ℕ) (start now : Seen) (answer : Outcome) : Type 0 where
-  pub past : List Act
-  pub fork : has_fork c ≡ true
-  pub run : Run c n start now past
-  pub free : (p : Place) → held past p ≡ false
-  pub outcome_is : IsOutcome c n past answer ⊎ (answer ≡ outcomes.Memory)
-  pub relayed : is_relayed answer ≡ true
-  pub failed : is_failure answer ≡ true → is_blamed past ≡ true
-  pub stopped : (t : ℕ) → answer ≡ outcomes.Stopped t → (t ≡ turns past) × ((stop_turned past ≡ true) ⊎ (turns past ≡ n))
+-- a run has ended with this answer, after so many turns; these acts came last, and the looks are no more than twice as many
+pub record EndedAt (c : Config) (n : ℕ) (start now : Seen) (before : List Act) (turned : ℕ) (answer : Outcome) (old new : ℕ) : Type 0 where
+  pub made : List Act
+  pub ended : Ended c n start now (made ++ before) answer
+  pub turned_is : turns (made ++ before) ≡ turned
+  pub few : new ≤ old + 2 * length made
 
--- so of each run that led to the beginning
-abbrev pub Ends : Config → ℕ → Seen → Seen → Crew → Outcome → Type 0
-Ends c n old new before answer = (start : Seen) (past : List Act) → Course c n start old past before → Ended c n start new answer
+-- some run led to such an end
+pub record SomeEnd (c : Config) (now : Seen) (end : RunEnd) (crew : Crew) : Type 0 where
+  pub n : ℕ
+  pub start : Seen
+  pub end_is : RunIs c n start now crew (Some end)
+
+-- each run that led to it has ended so, with no further turn
+abbrev pub EndsFor : Config → RunEnd → Seen → Seen → Crew → Outcome → ℕ → ℕ → Type 0
+EndsFor c end from to before answer old new =
+    (n : ℕ) (start : Seen) (is : RunIs c n start from before (Some end)) → EndedAt c n start to (acts_to c n start from before end is) before.made answer old new
+
+-- some run led here, and each of its sessions was cut for this reason
+pub record SomeLeft (c : Config) (now : Seen) (why : Why) (crew : Crew) : Type 0 where
+  pub n : ℕ
+  pub start : Seen
+  pub left : Leaving c n start now why crew
+
+-- a run whose sessions were cut has ended so; each of them made an act at least, and no look came without one
+pub record LeftAt (c : Config) (n : ℕ) (start now : Seen) (before : List Act) (first : Crew) (answer : Outcome) (old new : ℕ) : Type 0 where
+  pub made : List Act
+  pub ended : Ended c n start now (made ++ before) answer
+  pub turned_is : turns (made ++ before) ≡ first.made
+  pub each : (k : ℕ) → rows_below first k ≤ length made
+  pub few : new ≤ old + length made
+
+-- so of each that was cut for this reason
+abbrev pub EndsLeaving : Config → Why → Seen → Seen → Crew → Outcome → ℕ → ℕ → Type 0
+EndsLeaving c why from to before answer old new = (n : ℕ) (start : Seen) (left : Leaving c n start from why before) → LeftAt c n start to left.past before answer old new

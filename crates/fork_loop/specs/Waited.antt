@@ -94,8 +94,18 @@ pub record TurnedOn (c : Config) (n : ℕ) (start now : Seen) (past : List Act) 
   pub few : IsBefore at until → length crew.work.items ≤ length ready.entries
   pub begins : BeginsCall c (Turn until at ready false ∷ past) crew.work.items
 
+-- a turn came after some acts, and there was no memory for the list of work; the run may be ended for that
+pub record ShortAt (c : Config) (n : ℕ) (start now : Seen) (crew : Crew) : Type 0 where
+  pub past : List Act
+  pub until : Option ℕ
+  pub at : ℕ
+  pub ready : Listed
+  pub ends : MayEnd c n start now whys.Memory crew
+  pub last : ends.past ≡ Turn until at ready false ∷ past
+
 -- where it was, the run goes on after the turn, or is stopped by it
 abbrev pub WaitedIs : Config → ℕ → Option ℕ → Seen → Seen → Crew → Crew → Waited → Type 0
 WaitedIs c n until old new before after waits.Goes = ((start : Seen) (past : List Act) → Course c n start old past before → InOrder c past until → WaitsNoLonger until before → TurnedOn c n start new past until after) × (after.made ≡ suc before.made)
-WaitedIs c n until old new before after waits.Stops = (start : Seen) (past : List Act) → Course c n start old past before → InOrder c past until → Stopping c n start new after
-WaitedIs c n until old new before after waits.Memory = (start : Seen) (past : List Act) → Course c n start old past before → InOrder c past until → MayEnd c n start new whys.Memory after
+WaitedIs c n until old new before after waits.Stops = ((start : Seen) (past : List Act) → Course c n start old past before → InOrder c past until → Stopping c n start new after) × (after.made ≡ suc before.made)
+WaitedIs c n until old new before after waits.Short = ((start : Seen) (past : List Act) → Course c n start old past before → InOrder c past until → ShortAt c n start new after) × (after.made ≡ suc before.made)
+WaitedIs c n until old new before after waits.Memory = ((start : Seen) (past : List Act) → Course c n start old past before → InOrder c past until → MayEnd c n start new whys.Memory after) × (after.made ≡ before.made)

@@ -47,6 +47,7 @@ impl Crew {
         requires course { Somewhere config.now (seen W.told W.held W.faults W.waits W.stops W.clock world.old) self.old }
         requires idle { NoWork self.old }
         ensures asks { AskedIs config.now (seen W.told W.held W.faults W.waits W.stops W.clock world.old) (seen W.told W.held W.faults W.waits W.stops W.clock world.new) self.old self.new result }
+        ensures made { self.new.made ≡ self.old.made }
         ensures looks { LooksFew 0 steps.old.ticks steps.new.ticks self.old self.new }
         ensures paid { AskedPaid config.now (seen W.told W.held W.faults W.waits W.stops W.clock world.old) (seen W.told W.held W.faults W.waits W.stops W.clock world.new) self.old self.new steps.old.ticks steps.new.ticks result }
     {
@@ -69,6 +70,7 @@ impl Crew {
         requires course { Somewhere config.now (seen W.told W.held W.faults W.waits W.stops W.clock world.old) self.old }
         requires idle { NoWork self.old }
         ensures asks { GoesOn config.now (seen W.told W.held W.faults W.waits W.stops W.clock world.old) (seen W.told W.held W.faults W.waits W.stops W.clock world.new) self.old self.new result }
+        ensures made { self.new.made ≡ self.old.made }
         ensures looks { LooksFew 0 steps.old.ticks steps.new.ticks self.old self.new }
         ensures paid { AskPaid config.now (seen W.told W.held W.faults W.waits W.stops W.clock world.old) (seen W.told W.held W.faults W.waits W.stops W.clock world.new) self.old self.new steps.old.ticks steps.new.ticks result }
     {
@@ -93,6 +95,7 @@ impl Crew {
         requires taken { self.old.unborn ≡ None }
         requires next { (past : List Act) → self.old.table.admitted ≡ admitted config.now past → IsUnborn config.now (admitted config.now past) unborn }
         ensures asks { GoesOn config.now (seen W.told W.held W.faults W.waits W.stops W.clock world.old) (seen W.told W.held W.faults W.waits W.stops W.clock world.new) self.old self.new result }
+        ensures made { self.new.made ≡ self.old.made }
         ensures looks { LooksFew 0 steps.old.ticks steps.new.ticks self.old self.new }
         ensures paid { AskPaid config.now (seen W.told W.held W.faults W.waits W.stops W.clock world.old) (seen W.told W.held W.faults W.waits W.stops W.clock world.new) self.old self.new steps.old.ticks steps.new.ticks result }
     {

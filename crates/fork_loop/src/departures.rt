@@ -1,4 +1,5 @@
 // The closings of all sessions that were cut.
+ghost use Rattle.std.specs.Prelude.{◌≡◌, ◌≤◌, ◌+◌};
 ghost use Rattle.session_driver.specs.Seen.{seen};
 
 use crate::crews::Crew;
@@ -20,7 +21,8 @@ impl Crew {
         steps: &mut Steps<L>,
     )
         requires { SomeLeaving config.now (seen W.told W.held W.faults W.waits W.stops W.clock world.old) why self.old }
-        ensures { RowsLeave config.now (seen W.told W.held W.faults W.waits W.stops W.clock world.old) (seen W.told W.held W.faults W.waits W.stops W.clock world.new) why self.old self.new }
+        ensures leave { RowsLeave config.now (seen W.told W.held W.faults W.waits W.stops W.clock world.old) (seen W.told W.held W.faults W.waits W.stops W.clock world.new) why self.old self.new steps.old.ticks steps.new.ticks }
+        ensures made { self.new.made ≡ self.old.made }
     {
         let mut next = self.table.first_from(0);
         while let Some(number) = next {
@@ -38,7 +40,9 @@ impl Crew {
         steps: &mut Steps<L>,
     )
         requires { SomeLeaving config.now (seen W.told W.held W.faults W.waits W.stops W.clock world.old) why self.old }
-        ensures { RowLeaves config.now (seen W.told W.held W.faults W.waits W.stops W.clock world.old) (seen W.told W.held W.faults W.waits W.stops W.clock world.new) number why self.old self.new }
+        ensures leaves { RowLeaves config.now (seen W.told W.held W.faults W.waits W.stops W.clock world.old) (seen W.told W.held W.faults W.waits W.stops W.clock world.new) number why self.old self.new }
+        ensures looks { steps.new.ticks ≤ steps.old.ticks + 1 }
+        ensures made { self.new.made ≡ self.old.made }
     {
         self.empty_row(number, world, config, why, steps);
         self.table.retire(number);
@@ -53,7 +57,9 @@ impl Crew {
         steps: &mut Steps<L>,
     )
         requires { SomeLeaving config.now (seen W.told W.held W.faults W.waits W.stops W.clock world.old) why self.old }
-        ensures { EmptiesRow config.now (seen W.told W.held W.faults W.waits W.stops W.clock world.old) (seen W.told W.held W.faults W.waits W.stops W.clock world.new) number why self.old self.new }
+        ensures empties { EmptiesRow config.now (seen W.told W.held W.faults W.waits W.stops W.clock world.old) (seen W.told W.held W.faults W.waits W.stops W.clock world.new) number why self.old self.new }
+        ensures looks { steps.new.ticks ≤ steps.old.ticks + 1 }
+        ensures made { self.new.made ≡ self.old.made }
     {
         if let Some(row) = self.table.session_mut(number, steps) {
             let scratch = self.scratch.as_mut_slice();

@@ -1,40 +1,70 @@
-// A run up to its answer.
-ghost use Rattle.relay_model.specs.Configs.{Fit};
+// The end of a run: all that is still held is closed.
 ghost use Rattle.session_driver.specs.Seen.{seen};
 
 use crate::crews::Crew;
-use crate::outcomes::{ended_by, ended_for};
+use crate::outcomes::over_for;
+use crate::turned::RunEnd;
+use event_loop::outcome_for;
 use exit_status::Outcome;
 use fork_table::Steps;
-use relay_model::Config;
-use std::alloc::Global;
+use relay_model::{Config, Why};
 use std::sync::ledger::Ledger;
 use world_trait::World;
 
 impl Crew {
-    ghost use Rattle.fork_loop.specs.Turned.{Within};
-    ghost use Rattle.fork_loop.specs.Vacated.{Ends};
+    ghost use Rattle.fork_loop.specs.Vacated.{EndsFor, EndsLeaving, SomeEnd, SomeLeft, TellsOver};
 
-    /// Takes turns, at most `turns`, closes all that is still held, and answers how the run ended.
-    pub fn finish<W: World, L: Ledger>(
+    /// Ends the run for this: closes all that is still held, and answers how it ended. It makes no wait, and looks at sessions
+    /// twice at most for each act that it makes.
+    pub fn end<W: World, L: Ledger>(
         &mut self,
-        alloc: Global,
         world: &mut W,
         config: &Config,
-        turns: u64,
+        end: RunEnd,
         steps: &mut Steps<L>,
     ) -> Outcome
-        requires fit { Fit config.now }
-        requires course { Within config.now turns (seen W.told W.held W.faults W.waits W.stops W.clock world.old) self.old }
-        ensures { Ends config.now turns (seen W.told W.held W.faults W.waits W.stops W.clock world.old) (seen W.told W.held W.faults W.waits W.stops W.clock world.new) self.old result }
+        requires { SomeEnd config.now (seen W.told W.held W.faults W.waits W.stops W.clock world.old) end self.old }
+        ensures { EndsFor config.now end (seen W.told W.held W.faults W.waits W.stops W.clock world.old) (seen W.told W.held W.faults W.waits W.stops W.clock world.new) self.old result steps.old.ticks steps.new.ticks }
     {
-        match self.run_out(alloc, world, config, turns, steps) {
-            None => ended_by(self.door.cause(), self.door.failed_listening()),
-            Some(why) => {
-                self.close_rows(world, config, why, steps);
-                self.close_door(world, why);
-                ended_for(why, self.made)
+        match end {
+            RunEnd::Over => self.outcome_over(),
+            RunEnd::Ends(why) => {
+                self.cut_rows(why, steps);
+                self.leave(world, config, why, steps)
+            }
+            RunEnd::Short => {
+                self.cut_rows(Why::Memory, steps);
+                self.leave(world, config, Why::Memory, steps)
+            }
+            RunEnd::Stops => {
+                self.stop_all(steps);
+                self.leave(world, config, Why::Stopped, steps)
             }
         }
+    }
+
+    /// Closes all that is held, once each session was cut for this reason.
+    fn leave<W: World, L: Ledger>(
+        &mut self,
+        world: &mut W,
+        config: &Config,
+        why: Why,
+        steps: &mut Steps<L>,
+    ) -> Outcome
+        requires { SomeLeft config.now (seen W.told W.held W.faults W.waits W.stops W.clock world.old) why self.old }
+        ensures { EndsLeaving config.now why (seen W.told W.held W.faults W.waits W.stops W.clock world.old) (seen W.told W.held W.faults W.waits W.stops W.clock world.new) self.old result steps.old.ticks steps.new.ticks }
+    {
+        self.close_rows(world, config, why, steps);
+        self.close_door(world, why);
+        outcome_for(why, None, None, None, self.made)
+    }
+
+    /// The outcome of a run whose door is over, while no session lives.
+    fn outcome_over(&self) -> Outcome
+        ensures { TellsOver self.now result }
+    {
+        let listening = self.door.failed_listening();
+        let why = over_for(self.door.cause(), listening);
+        outcome_for(why, listening, None, None, self.made)
     }
 }

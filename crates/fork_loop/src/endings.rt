@@ -11,12 +11,14 @@ use std::sync::ledger::Ledger;
 
 impl Crew {
     ghost use Rattle.fork_loop.specs.Courses.{AllSleepIfLate, NoWork, SameButWork};
+    ghost use Rattle.fork_loop.specs.Closings.{LooksAtRows};
     ghost use Rattle.fork_loop.specs.Endings.{CutsRow, CutsRows, AllQueued, WorkLives};
 
     /// Cuts each session for this reason, once it has heard the last turn.
     pub fn cut_rows<L: Ledger>(&mut self, why: Why, steps: &mut Steps<L>)
         requires { AllSleepIfLate self.old }
-        ensures { CutsRows why self.old self.new }
+        ensures cuts { CutsRows why self.old self.new }
+        ensures looks { LooksAtRows self.old steps.old.ticks steps.new.ticks }
     {
         let mut next = self.table.first_from(0);
         while let Some(number) = next {

@@ -8,10 +8,7 @@ mod departures;
 mod ended;
 mod endings;
 mod leaving;
-mod left;
 mod outcomes;
-mod ran;
-mod relays;
 mod rows;
 mod turned;
 mod turns;
@@ -20,5 +17,4 @@ mod waited;
 mod waits;
 
 pub use crews::Crew;
-pub use relays::relay;
 pub use turned::RunEnd;

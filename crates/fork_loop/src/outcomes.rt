@@ -1,37 +1,20 @@
-// The answer of a run.
+// Why a run is over.
 ghost use Rattle.std.specs.Prelude.{◌≡◌};
-ghost use Rattle.fork_loop.specs.Vacated.{ended_by, ended_for, unlistened};
+ghost use Rattle.fork_loop.specs.Vacated.{over_for as over_by};
 
-use exit_status::{EndWhy, Outcome};
 use relay_model::Why;
 
-/// The outcome of a run that was ended for this reason, a stop or want of memory, after so many turns.
-pub fn ended_for(why: Why, made: u64) -> Outcome
-    ensures { result ≡ ended_for why made }
-{
-    match why {
-        Why::Stopped => Outcome::Stopped { turns: made },
-        _ => Outcome::Memory,
-    }
-}
-
-/// The outcome of a run whose door is over: what ended its calls, if anything, and how many listenings failed, if no try
-/// is left.
-pub fn ended_by(cause: Option<Why>, listening: Option<u64>) -> Outcome
-    ensures { result ≡ ended_by cause listening }
+/// Why a run is over whose door listens no more: what ended the door's calls, if anything, or how many listenings failed,
+/// if no try is left.
+pub fn over_for(cause: Option<Why>, listening: Option<u64>) -> Why
+    ensures { result ≡ over_by cause listening }
 {
     match cause {
-        None => unlistened(listening),
-        Some(Why::AcceptFailed) => Outcome::AcceptFailed,
-        Some(_) => Outcome::Memory,
-    }
-}
-
-fn unlistened(listening: Option<u64>) -> Outcome
-    ensures { result ≡ unlistened listening }
-{
-    match listening {
-        Some(attempts) => Outcome::ListenFailed { attempts },
-        None => Outcome::Ended(EndWhy::Served),
+        None => match listening {
+            Some(_attempts) => Why::ListenFailed,
+            None => Why::Served,
+        },
+        Some(Why::AcceptFailed) => Why::AcceptFailed,
+        Some(_) => Why::Memory,
     }
 }

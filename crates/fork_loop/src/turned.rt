@@ -21,6 +21,8 @@ pub enum RunEnd {
     Ends(Why),
     /// The turn says stop, which no session has heard yet.
     Stops,
+    /// The turn came, and there was no memory for the list of work after it.
+    Short,
 }
 
 impl Crew {
@@ -44,7 +46,7 @@ impl Crew {
         requires fit { Fit config.now }
         requires course { Within config.now turns (seen W.told W.held W.faults W.waits W.stops W.clock world.old) self.old }
         ensures turns { TurnIs config.now turns (seen W.told W.held W.faults W.waits W.stops W.clock world.old) (seen W.told W.held W.faults W.waits W.stops W.clock world.new) self.old self.new result }
-        ensures looks { LooksBounded config.now turns (seen W.told W.held W.faults W.waits W.stops W.clock world.old) (seen W.told W.held W.faults W.waits W.stops W.clock world.new) self.old self.new steps.old.ticks steps.new.ticks }
+        ensures looks { LooksBounded config.now turns (seen W.told W.held W.faults W.waits W.stops W.clock world.old) (seen W.told W.held W.faults W.waits W.stops W.clock world.new) self.old self.new steps.old.ticks steps.new.ticks result }
         ensures few { LooksFew (length self.old.work.items + length self.new.ready.entries) steps.old.ticks steps.new.ticks self.old self.new }
     {
         if let Some(why) = self.run_rows(world, config, steps) {
@@ -73,13 +75,14 @@ impl Crew {
         requires idle { NoWork self.old }
         ensures waits { WaitsForAll config.now turns first (seen W.told W.held W.faults W.waits W.stops W.clock world.old) (seen W.told W.held W.faults W.waits W.stops W.clock world.new) self.old self.new result }
         ensures looks { LooksFew (length self.new.ready.entries) steps.old.ticks steps.new.ticks self.old self.new }
-        ensures paid { WaitForPaid config.now turns first (seen W.told W.held W.faults W.waits W.stops W.clock world.old) (seen W.told W.held W.faults W.waits W.stops W.clock world.new) self.old self.new steps.old.ticks steps.new.ticks }
+        ensures paid { WaitForPaid config.now turns first (seen W.told W.held W.faults W.waits W.stops W.clock world.old) (seen W.told W.held W.faults W.waits W.stops W.clock world.new) self.old self.new steps.old.ticks steps.new.ticks result }
     {
         let until = self.least_until(first);
         if self.made < turns {
             match self.wait(world, config, until, turns, steps) {
                 Waited::Goes => None,
                 Waited::Stops => Some(RunEnd::Stops),
+                Waited::Short => Some(RunEnd::Short),
                 Waited::Memory => Some(RunEnd::Ends(Why::Memory)),
             }
         } else {

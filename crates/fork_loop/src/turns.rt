@@ -21,6 +21,7 @@ use relay_model::{Config, NoMemory, ReadyList, Why};
 use std::sync::ledger::Ledger;
 
 impl Crew {
+    ghost use Rattle.fork_loop.specs.Closings.{LooksAtRows};
     ghost use Rattle.fork_loop.specs.Turns.{RowHeard, AllHeard, AsleepRow, AllAsleep, AllUnheard, NamedHeard, RowHearsOnce, Queues, QueuesDue};
     ghost use Rattle.fork_loop.specs.Courses.{SameButWork, SameButLists};
     ghost use Rattle.fork_loop.specs.Looks.{AddsDue, CameByName, CameInTime, OnlyNamedCame, WorksFew};
@@ -28,7 +29,8 @@ impl Crew {
     /// Has each session hear the last turn, which says stop.
     pub fn stop_all<L: Ledger>(&mut self, steps: &mut Steps<L>)
         requires { AllAsleep self.old }
-        ensures { AllHeard self.old self.new }
+        ensures heard { AllHeard self.old self.new }
+        ensures looks { LooksAtRows self.old steps.old.ticks steps.new.ticks }
     {
         let mut next = self.table.first_from(0);
         while let Some(number) = next {
@@ -39,7 +41,8 @@ impl Crew {
 
     fn stop_row<L: Ledger>(&mut self, number: u32, steps: &mut Steps<L>)
         requires { AsleepRow (row_of self.old.table number) }
-        ensures { RowHeard number self.old self.new }
+        ensures heard { RowHeard number self.old self.new }
+        ensures looks { steps.new.ticks ≤ steps.old.ticks + 1 }
     {
         if let Some(row) = self.table.session_mut(number, steps) {
             hear_turn(&mut row.member.session, self.clock, &self.ready, true);

@@ -1,4 +1,5 @@
 // The closings of the program door, once no session lives.
+ghost use Rattle.std.specs.Prelude.{◌≡◌};
 ghost use Rattle.session_driver.specs.Seen.{seen};
 
 use crate::crews::Crew;
@@ -11,7 +12,8 @@ impl Crew {
     /// Closes the place of a refused peer and then the door, as far as they are held.
     pub fn close_door<W: World>(&mut self, world: &mut W, why: Why)
         requires { SomeVacated (seen W.told W.held W.faults W.waits W.stops W.clock world.old) why self.old }
-        ensures { ClosesDoor (seen W.told W.held W.faults W.waits W.stops W.clock world.old) (seen W.told W.held W.faults W.waits W.stops W.clock world.new) why self.old self.new }
+        ensures closes { ClosesDoor (seen W.told W.held W.faults W.waits W.stops W.clock world.old) (seen W.told W.held W.faults W.waits W.stops W.clock world.new) why self.old self.new }
+        ensures made { self.new.made ≡ self.old.made }
     {
         self.close_first(world, why);
         self.close_first(world, why);
@@ -20,7 +22,8 @@ impl Crew {
     /// Closes what is to be closed first of what the door holds, if it holds anything.
     fn close_first<W: World>(&mut self, world: &mut W, why: Why)
         requires { SomeVacated (seen W.told W.held W.faults W.waits W.stops W.clock world.old) why self.old }
-        ensures { ClosesFirst (seen W.told W.held W.faults W.waits W.stops W.clock world.old) (seen W.told W.held W.faults W.waits W.stops W.clock world.new) why self.old self.new }
+        ensures closes { ClosesFirst (seen W.told W.held W.faults W.waits W.stops W.clock world.old) (seen W.told W.held W.faults W.waits W.stops W.clock world.new) why self.old self.new }
+        ensures made { self.new.made ≡ self.old.made }
     {
         if let Some(thing) = self.door.held() {
             world.close(thing, why);

@@ -15,7 +15,9 @@ pub enum Waited {
     Goes,
     /// The turn says stop, which no session has heard yet.
     Stops,
-    /// There was no memory for the turn, or for the list of work after it.
+    /// The turn came, and there was no memory for the list of work after it.
+    Short,
+    /// There was no memory for the turn.
     Memory,
 }
 
@@ -42,7 +44,7 @@ impl Crew {
         ensures waits { WaitedIs config.now turns until (seen W.told W.held W.faults W.waits W.stops W.clock world.old) (seen W.told W.held W.faults W.waits W.stops W.clock world.new) self.old self.new result }
         ensures looks { LooksFew (length self.new.ready.entries) steps.old.ticks steps.new.ticks self.old self.new }
         ensures few { WorksFew (length self.new.ready.entries) self.old self.new }
-        ensures paid { WaitPaid config.now turns until (seen W.told W.held W.faults W.waits W.stops W.clock world.old) (seen W.told W.held W.faults W.waits W.stops W.clock world.new) self.old self.new steps.old.ticks steps.new.ticks }
+        ensures paid { WaitPaid config.now turns until (seen W.told W.held W.faults W.waits W.stops W.clock world.old) (seen W.told W.held W.faults W.waits W.stops W.clock world.new) self.old self.new steps.old.ticks steps.new.ticks result }
     {
         match world.wait(until, &mut self.ready) {
             Turned::Turned { at, stop } => {
@@ -52,7 +54,7 @@ impl Crew {
                 } else {
                     match self.hear_turn(config, steps) {
                         Ok(()) => Waited::Goes,
-                        Err(NoMemory) => Waited::Memory,
+                        Err(NoMemory) => Waited::Short,
                     }
                 }
             }

@@ -137,6 +137,7 @@ generated n n' kept reads answer summary headline remembered gives e =
       legal = headline.legal;
       free = headline.free;
       answer_is = ended headline.outcome_is;
+      remembered = remembered;
       given = λ p. (left_of reads p, sym (here.given p));
       summary_is = is;
       few = rw is (count-most (was_finished acts) (admitted load_command acts) 50 (begun_few acts headline.legal));

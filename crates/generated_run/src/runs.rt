@@ -10,7 +10,7 @@ use crate::commands::load_command;
 use crate::numbered_worlds::NumberedWorld;
 use crate::summaries::Summary;
 use exit_status::Outcome;
-use fork_loop::relay;
+use relay_loop::relay;
 use relay_model::{Config, NoMemory};
 use std::alloc::Global;
 use world_trait::World;

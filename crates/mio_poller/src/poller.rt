@@ -1,28 +1,23 @@
 // The poller over the system's readiness, and what wakes it.
-ghost use Rattle.std.specs.Prelude.{◌≡◌, ◌≤◌, ◌-◌, ◌*◌, ◌/◌, ◌^◌, ◌<◌, ◌++◌, ◌∷◌, [], length, min, false, option_map, IfOk};
+ghost use Rattle.std.specs.Prelude.{◌≡◌, ◌≤◌, ◌-◌, ◌*◌, ◌/◌, ◌^◌, ◌<◌, ◌++◌, ◌∷◌, [], length, min, false, Some, None, option_map, IfOk};
 ghost use Rattle.std.specs.Duration.{as_nanos};
-ghost use Rattle.mio.specs.Events.{capacity as events_capacity};
 ghost use Rattle.port_trait.specs.Made.{IsAtOnce};
-ghost use Rattle.mio_poller.specs.Pollers.{named, event_keys, watch_key};
+ghost use Rattle.mio_poller.specs.Pollers.{named, event_keys, watch_key, later_moment, IfMade, IsMoment, WaitsOnce};
 
+use crate::reserved::WAKE;
+use crate::system::{Lack, Readiness, System};
 use crate::watches::{Watch, Watches};
 use mio::event::Event;
-use mio::{Events, Poll, Registry, Token, Waker};
+use mio::{Registry, Token, Waker};
 use port_trait::{KeyList, Making, Polled, Poller, Wake};
 use relay_model::{Half, NoMemory};
 use std::alloc::Global;
+use std::io;
 use std::marker::Model;
 use std::net::Net;
 use std::sync::Arc;
 use std::sync::atomic::{AtomicU64, Ordering};
-use std::time::{Clock, Duration, Instant};
-
-/// The key of the wake, which no port may have.
-const WAKE: Token = Token(usize::MAX);
-
-/// The events of one poll. Each may name both halves of a port, so they fit a list of keys. What doesn't fit
-/// stays for the next poll.
-const MOST_EVENTS: usize = KeyList::MOST / 2;
+use std::time::{Clock, Duration};
 
 /// Ends the poller's sleep. Between two polls it writes at most once to the system's counter (eventfd(2)).
 #[derive(Drop)]
@@ -66,44 +61,42 @@ impl Wake for MioWake {
     }
 }
 
-/// Waits for sockets and wakes (epoll(7), edge-triggered). A poll that the system refuses names nothing.
+/// Waits for sockets and wakes, as this system tells them.
 #[derive(Drop)]
-pub struct MioPoller<R> {
-    rt: R,
-    poll: Poll,
-    events: Events,
+pub struct SystemPoller<S> {
+    system: S,
     bell: Arc<Bell, Global>,
     watches: Watches,
-    start: Instant,
     at: u64,
     asked: Option<u64>,
-    ghost room: { events_capacity events ≡ 128 },
 }
 
-impl<R> Model for MioPoller<R> {
-    ghost use Rattle.mio.specs.Events.{items};
+/// Waits for sockets and wakes (epoll(7), edge-triggered). A poll that the system refuses names nothing.
+pub type MioPoller<R> = SystemPoller<System<R>>;
+
+impl<S> Model for SystemPoller<S> {
     ghost use Rattle.mio_poller.specs.Pollers.{PollerState};
 
-    ghost Value = { PollerState };
+    ghost Value = { PollerState S };
 
-    ghost view = { λ poller. record { clock = poller.at; asked = poller.asked; seen = items poller.events } };
+    ghost view = { λ poller. record { system = poller.system; clock = poller.at; asked = poller.asked } };
 }
 
-impl<R: Net + Clock + Drop> MioPoller<R> {
+impl<R: Net + Clock + Drop> SystemPoller<System<R>> {
     /// A poller of no sockets, whose clock begins now. Never `Later`.
-    pub fn new(rt: R, alloc: Global) -> Making<MioPoller<R>>
-        ensures { IsAtOnce result }
+    pub fn new(rt: R, alloc: Global) -> Making<SystemPoller<System<R>>>
+        ensures at_once { IsAtOnce result }
+        ensures fresh { IfMade result (λ poller. poller ≡ record { system = []; clock = 0; asked = None }) }
     {
-        let (Ok(start), Ok(poll)) = (Instant::now(&rt), Poll::new(&rt)) else {
+        let system = match System::new(rt, alloc) {
+            Ok(system) => system,
+            Err(Lack::Refused) => return Making::Failed,
+            Err(Lack::Memory) => return Making::Memory,
+        };
+        let Ok(waker) = Waker::new(system.registry(), Token(WAKE)) else {
             return Making::Failed;
         };
-        let Ok(waker) = Waker::new(poll.registry(), WAKE) else {
-            return Making::Failed;
-        };
-        let (Ok(events), Ok(watches)) = (
-            Events::with_capacity(alloc, MOST_EVENTS),
-            Watches::new(alloc),
-        ) else {
+        let Ok(watches) = Watches::new(alloc) else {
             return Making::Memory;
         };
         match Arc::new(
@@ -113,13 +106,10 @@ impl<R: Net + Clock + Drop> MioPoller<R> {
                 rung: AtomicU64::new(0),
             },
         ) {
-            Ok(bell) => Making::Made(MioPoller {
-                rt,
-                poll,
-                events,
+            Ok(bell) => Making::Made(SystemPoller {
+                system,
                 bell,
                 watches,
-                start,
                 at: 0,
                 asked: None,
             }),
@@ -146,48 +136,65 @@ impl<R: Net + Clock + Drop> MioPoller<R> {
 
     /// Where the sockets are registered that it waits for.
     pub fn registry(&self) -> &Registry {
-        self.poll.registry()
-    }
-
-    /// Milliseconds since its clock began, or the last moment where the system's clock can't be read.
-    fn moment(&self) -> u64
-        ensures { self.now.clock ≤ result }
-    {
-        match self.start.elapsed(&self.rt) {
-            Ok(elapsed) => self.at.max(whole_millis(elapsed)),
-            Err(_) => self.at,
-        }
+        self.system.registry()
     }
 }
 
-impl<R: Net + Clock + Drop> Poller for MioPoller<R> {
+impl<S: Readiness> Poller for SystemPoller<S> {
+    ghost named = { λ poller. Some (named (S.seen poller.system)) };
+
+    ghost stopped = { λ _. Some false };
+
     ghost stops = { λ _. 0 };
 
     ghost clock = { λ poller. poller.clock };
 
     ghost asked = { λ poller. poller.asked };
 
-    /// Sleeps until the moment, a socket or a wake, and names the halves that the system found ready, at most 256.
+    /// Waits once, until the moment, a socket or a wake, and names the halves that the system found ready, at most
+    /// 256.
     fn poll(&mut self, until: Option<u64>, ready: &mut KeyList) -> Polled
         requires { 256 ≤ ready.old.room }
         ensures answer { result ≡ record { at = self.new.clock; stop = false } }
         ensures asked { self.new.asked ≡ until }
         ensures clock { self.old.clock ≤ self.new.clock }
-        ensures ready { ready.new ≡ record ready.old { entries = named self.new.seen } }
+        ensures waits { WaitsOnce S.tells S.waits self.old.clock until self.old.system self.new.system }
+        ensures at { IsMoment S.tells self.old.clock self.new.system self.new.clock }
+        ensures ready { ready.new ≡ record ready.old { entries = named (S.seen self.new.system) } }
     {
         ready.clear();
         self.asked = until;
-        let left = time_left(self.moment(), until);
-        // one that is refused has no events
-        let _ = self.poll.poll(&mut self.events, left);
+        self.at = wait_once(&mut self.system, self.at, until);
         self.bell.hear();
-        self.watches.hear(self.events.iter().as_slice());
-        name_events(self.events.iter().as_slice(), ready);
-        self.at = self.moment();
+        let events = self.system.events();
+        self.watches.hear(events);
+        name_events(events, ready);
         Polled {
             at: self.at,
             stop: false,
         }
+    }
+}
+
+/// Waits at most until the moment, and answers the moment at which it returned.
+pub(crate) fn wait_once<S: Readiness>(system: &mut S, last: u64, until: Option<u64>) -> u64
+    ensures waits { WaitsOnce S.tells S.waits last until system.old system.new }
+    ensures at { IsMoment S.tells last system.new result }
+    ensures grows { last ≤ result }
+{
+    let now = moment_after(last, &system.elapsed());
+    // one that is refused names nothing
+    let _ = system.wait(time_left(now, until));
+    moment_after(last, &system.elapsed())
+}
+
+/// The moment that is told after this one, where the system's clock answered so.
+fn moment_after(last: u64, elapsed: &io::Result<Duration>) -> u64
+    ensures { result ≡ later_moment last elapsed.now }
+{
+    match elapsed {
+        Ok(elapsed) => last.max(whole_millis(*elapsed)),
+        Err(_) => last,
     }
 }
 
@@ -223,7 +230,7 @@ fn name_event(event: &Event, ready: &mut KeyList)
     requires fits { length ready.old.entries < 255 }
     ensures { ready.new ≡ record ready.old { entries = ready.old.entries ++ event_keys event.now } }
 {
-    if event.token() == WAKE {
+    if event.token() == Token(WAKE) {
         return;
     }
     let key = event.token().0;

@@ -2,6 +2,7 @@
 ghost use Rattle.std.specs.Prelude.{◌≡◌, ◌-◌, ◌^◌, IfOk};
 ghost use Rattle.mio_poller.specs.Pollers.{watch_key};
 
+use crate::reserved::{INPUT, OUTPUT};
 use mio::Token;
 use mio::event::Event;
 use relay_model::{Half, NoMemory};
@@ -9,11 +10,6 @@ use std::alloc::Global;
 use std::marker::Model;
 use std::sync::Arc;
 use std::sync::atomic::{AtomicBool, Ordering};
-
-/// The keys of the watched descriptors, which no port may have.
-const INPUT: Token = Token(usize::MAX - 1);
-
-const OUTPUT: Token = Token(usize::MAX - 2);
 
 /// Whether a poll has told of a descriptor since its last call that would have waited. It is registered under the key
 /// of its watch.
@@ -88,8 +84,8 @@ pub(crate) struct Watches {
 impl Watches {
     pub(crate) fn new(alloc: Global) -> Result<Watches, NoMemory> {
         Ok(Watches {
-            input: Watch::new(alloc, INPUT)?,
-            output: Watch::new(alloc, OUTPUT)?,
+            input: Watch::new(alloc, Token(INPUT))?,
+            output: Watch::new(alloc, Token(OUTPUT))?,
         })
     }
 

@@ -1,6 +1,6 @@
 -- What contracts see of a table of peers, and what its calls do.
-use Rattle.std.specs.Prelude.{◌≡◌, ◌≢◌, ℕ, ◌+◌, ◌-◌, ◌^◌, ◌<◌, ◌≤◌, Bool, true, false, List, [], ◌∷◌, ◌++◌, length, set, take, min, slice_index_or, Option, None, Some, if◌then◌else◌}
-use Rattle.std.specs.List.{remove}
+use Rattle.std.specs.Prelude.{◌≡◌, ◌≢◌, ℕ, ◌+◌, ◌-◌, ◌^◌, ◌<◌, ◌≤◌, Bool, true, false, ◌==◌, ◌&&◌, not, List, [], ◌∷◌, ◌++◌, length, set, take, min, slice_index_or, Option, None, Some, if◌then◌else◌}
+use Rattle.std.specs.List.{list_any, remove}
 use Rattle.relay_model.specs.declared.acts.Peer.{Peer}
 use Rattle.relay_model.specs.declared.acts.Peer.TheVariants as peers
 use Rattle.peer_demux.specs.declared.answers.Mode.{Mode}
@@ -13,18 +13,20 @@ use Rattle.peer_demux.specs.declared.answers.Taken.{Taken}
 use Rattle.peer_demux.specs.declared.answers.Taken.TheVariants as takes
 use Rattle.peer_demux.specs.Rows.{RowState, GivesPart, fresh_row, is_full}
 
--- its live rows in the order of their numbers, how many rows were made, the number below which the live rows were
--- handed out, and how many packets were dropped
+-- its live rows in the order of their numbers, the numbers of those that call: a packet came while they held none, and
+-- nobody was told; how many rows were made, the number below which the live rows were handed out, and how many packets
+-- were dropped
 pub record TableState : Type 0 where
   pub mode : Mode
   pub rows : List RowState
+  pub calling : List ℕ
   pub made : ℕ
   pub handed : ℕ
   pub lost : ℕ
 
 -- a table that has seen no packet
 abbrev pub fresh_table : Mode → TableState
-fresh_table mode = record { mode = mode; rows = []; made = 0; handed = 0; lost = 0 }
+fresh_table mode = record { mode = mode; rows = []; calling = []; made = 0; handed = 0; lost = 0 }
 
 -- a count of 64 bits, which stays at its last value
 abbrev pub risen : ℕ → ℕ
@@ -78,10 +80,14 @@ pub record Opens (before now : TableState) (from : Peer) (bytes : List ℕ) (num
   pub next : number ≡ before.made
   pub left : now ≡ record before { rows = before.rows ++ fresh_row number from bytes ∷ []; made = before.made + 1 }
 
+-- the row of this number calls, once, where it held no packet
+abbrev pub with_call : List ℕ → ℕ → Bool → List ℕ
+with_call calling number silent = if silent && not (list_any (λ n. n == number) calling) then calling ++ number ∷ [] else calling
+
 -- the table with one packet more at the row at this place
 abbrev pub with_packet : TableState → ℕ → List ℕ → TableState
 with_packet table place bytes =
-    record table { rows = set table.rows place (record (row_at table.rows place) { packets = (row_at table.rows place).packets ++ bytes ∷ [] }) }
+    record table { calling = with_call table.calling (row_at table.rows place).number (length (row_at table.rows place).packets == 0); rows = set table.rows place (record (row_at table.rows place) { packets = (row_at table.rows place).packets ++ bytes ∷ [] }) }
 
 -- the row of the sender has the packet behind all others
 pub record Queues (before now : TableState) (from : Peer) (bytes : List ℕ) (number place : ℕ) : Type 0 where
@@ -169,3 +175,8 @@ pub record Keeps (before now : TableState) (count : ℕ) : Type 0 where
 -- the rows that weren't handed out are gone, and all others are as before
 abbrev pub IsTrimmed : TableState → TableState → Type 0
 IsTrimmed before now = (count : ℕ) × Keeps before now count
+
+-- no row calls, or the first that does is told of
+abbrev pub IsNextCall : TableState → TableState → Option ℕ → Type 0
+IsNextCall before now None = (before.calling ≡ []) × (now ≡ before)
+IsNextCall before now (Some number) = (before.calling ≡ number ∷ now.calling) × (now ≡ record before { calling = now.calling })

@@ -1,9 +1,9 @@
 // One socket for the sessions of many peers.
-ghost use Rattle.std.specs.Prelude.{◌≡◌, ◌<◌, ◌≤◌, ◌↔◌, List, ℕ, length, true, false, IfOk, IsTrue, not};
+ghost use Rattle.std.specs.Prelude.{◌≡◌, ◌<◌, ◌≤◌, ◌↔◌, nat_lt, List, ℕ, length, true, false, IfOk, IsTrue, not};
 ghost use Rattle.relay_model.specs.Conversions.{longest_packet};
 ghost use Rattle.peer_demux.specs.Hubs.{AcceptsRow, Drains, ReadsRow, Takes, TakesOne, accept_failed, fresh_hub, got_of, read_failed};
 ghost use Rattle.peer_demux.specs.Links.{Packet, Sends, has_failed, has_packet, has_stalled, send_failed, send_stalled};
-ghost use Rattle.peer_demux.specs.Tables.{HasNew, IsDropped, IsLive, IsTrimmed, Stands, TableState, risen_if, row_at};
+ghost use Rattle.peer_demux.specs.Tables.{HasNew, IsDropped, IsLive, IsNextCall, IsTrimmed, Stands, TableState, risen_if, row_at};
 
 use crate::answers::{Mode, Taken};
 use crate::links::{Link, Received};
@@ -71,6 +71,18 @@ impl<L: Link> Hub<L> {
         if !self.fill() {
             return Got::Failed;
         }
+        self.take_row(row, into)
+    }
+
+    /// Takes what the live row holds, and asks no socket.
+    pub fn take_row(&mut self, row: u32, into: &mut [u8]) -> Got
+        requires live { IsLive self.old.table.rows row }
+        requires room { 0 < length into.old }
+        ensures taken { ReadsRow self.old.table self.new.table row into.new result }
+        ensures well { read_failed result ≡ false }
+        ensures link { self.new.link ≡ self.old.link }
+        ensures left_off { self.new.left_off ≡ self.old.left_off }
+    {
         got_of(self.table.take(row, into))
     }
 
@@ -85,6 +97,16 @@ impl<L: Link> Hub<L> {
         if !self.fill() {
             return RowPeer::Failed;
         }
+        self.next_row()
+    }
+
+    /// Hands out the first row that wasn't, and asks no socket.
+    pub fn next_row(&mut self) -> RowPeer
+        ensures taken { AcceptsRow self.old.table self.new.table result }
+        ensures well { accept_failed result ≡ false }
+        ensures link { self.new.link ≡ self.old.link }
+        ensures left_off { self.new.left_off ≡ self.old.left_off }
+    {
         match self.table.next_new() {
             Some((row, from)) => RowPeer::New { row, from },
             None => RowPeer::NoPeer,
@@ -151,6 +173,23 @@ impl<L: Link> Hub<L> {
         ensures left_off { self.new.left_off ≡ self.old.left_off }
     {
         self.table.drop_new();
+    }
+
+    /// Takes out the row that calls longest: a packet came while it held none, and it wasn't taken out since. It may be
+    /// live no more.
+    pub fn next_call(&mut self) -> Option<u32>
+        ensures call { IsNextCall self.old.table self.new.table result }
+        ensures link { self.new.link ≡ self.old.link }
+        ensures left_off { self.new.left_off ≡ self.old.left_off }
+    {
+        self.table.next_call()
+    }
+
+    /// Whether a row calls.
+    pub fn has_call(&self) -> bool
+        ensures { result ≡ nat_lt 0 (length self.now.table.calling) }
+    {
+        self.table.has_call()
     }
 
     /// The socket.

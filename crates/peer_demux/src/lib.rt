@@ -6,6 +6,7 @@ mod hubs;
 mod links;
 mod mem_link;
 mod rows;
+mod senders;
 mod tables;
 
 pub use answers::{Lost, Mode, Put, Taken};

@@ -1,15 +1,19 @@
 // The rows of all senders.
-ghost use Rattle.std.specs.Prelude.{◌≡◌, ◌≢◌, ℕ, ◌<◌, ◌≤◌, ◌↔◌, ◌+◌, length, true, false, IfSome, IfNone, IsTrue};
+ghost use Rattle.std.specs.Prelude.{◌≡◌, ◌≢◌, ℕ, ◌<◌, ◌≤◌, ◌↔◌, ◌+◌, nat_lt, length, true, false, IfSome, IfNone, IsTrue, OnOk, OnErr};
+ghost use Rattle.std.specs.VecDeque.{deque_len, deque_capacity};
 ghost use Rattle.relay_model.specs.Conversions.{longest_packet};
 ghost use Rattle.relay_model.specs.declared.acts.Peer.{Peer};
 ghost use Rattle.peer_demux.specs.declared.answers.Mode.TheVariants as modes;
 ghost use Rattle.peer_demux.specs.declared.answers.Put.TheVariants as puts;
-ghost use Rattle.peer_demux.specs.Tables.{fresh_table, HasNew, IsTrimmed, row_at, IsLive, IsRising, IsLoss, IsUnknown, GivesOne, IsPut, IsNext, IsTaken, IsDropped, Stands, nothing_of, risen};
+ghost use Rattle.peer_demux.specs.Tables.{fresh_table, HasNew, IsTrimmed, row_at, IsLive, IsRising, IsLoss, IsUnknown, GivesOne, IsPut, IsNext, IsTaken, IsDropped, IsNextCall, Stands, nothing_of, risen, with_call, with_packet};
+ghost use Rattle.peer_demux.specs.Rows.{is_full};
 
 use crate::answers::{Lost, Mode, Put, Taken};
 use crate::rows::Row;
-use relay_model::Peer;
+use crate::senders::Senders;
+use relay_model::{NoMemory, Peer};
 use std::alloc::Global;
+use std::collections::VecDeque;
 use std::marker::Model;
 
 /// How many rows are live at most.
@@ -22,6 +26,8 @@ pub struct Demux {
     alloc: Global,
     mode: Mode,
     rows: Vec<Row>,
+    senders: Senders,
+    calling: VecDeque<u32>,
     made: u32,
     handed: u32,
     lost: u64,
@@ -32,7 +38,7 @@ impl Model for Demux {
 
     ghost Value = { TableState };
 
-    ghost view = { λ table. record { mode = table.mode; rows = table.rows.items; made = table.made; handed = table.handed; lost = table.lost } };
+    ghost view = { λ table. record { mode = table.mode; rows = table.rows.items; calling = table.calling.items; made = table.made; handed = table.handed; lost = table.lost } };
 
     ghost invariant = { λ table. IsTable table.rows.items table.made };
 }
@@ -46,6 +52,8 @@ impl Demux {
             alloc,
             mode,
             rows: Vec::new(alloc),
+            senders: Senders::new(alloc),
+            calling: VecDeque::new(alloc),
             made: 0,
             handed: 0,
             lost: 0,
@@ -127,6 +135,7 @@ impl Demux {
         ensures { IsDropped self.old self.new row }
     {
         let place = place_of(&self.rows, row);
+        self.senders.forget(self.rows[place].peer());
         self.rows.remove(place);
     }
 
@@ -145,6 +154,21 @@ impl Demux {
         self.rows.truncate(count);
     }
 
+    /// Takes out the row that calls longest: a packet came while it held none, and it wasn't taken out since. It may be
+    /// live no more.
+    pub fn next_call(&mut self) -> Option<u32>
+        ensures { IsNextCall self.old self.new result }
+    {
+        self.calling.pop_front()
+    }
+
+    /// Whether a row calls.
+    pub fn has_call(&self) -> bool
+        ensures { result ≡ nat_lt 0 (length self.now.calling) }
+    {
+        !self.calling.is_empty()
+    }
+
     /// How many packets were dropped. The count stays at its last value.
     pub fn lost(&self) -> u64
         ensures { result ≡ self.now.lost }
@@ -158,8 +182,23 @@ impl Demux {
         ensures none { IfNone result (IsUnknown self.now from) }
     {
         match self.mode {
-            Mode::ByPeer => place_of_peer(&self.rows, from),
+            Mode::ByPeer => match self.noted_place(from) {
+                Some(place) => Some(place),
+                None => place_of_peer(&self.rows, from),
+            },
             Mode::ByPacket => None,
+        }
+    }
+
+    /// Where the row stands that was noted for the sender, if it is that sender's.
+    fn noted_place(&self, from: Peer) -> Option<usize>
+        ensures found { IfSome result (λ place. (place < length self.now.rows) × ((row_at self.now.rows place).peer ≡ from)) }
+    {
+        let place = place_of(&self.rows, self.senders.number(from)?);
+        if place < self.rows.len() && self.rows[place].peer() == from {
+            Some(place)
+        } else {
+            None
         }
     }
 
@@ -169,15 +208,29 @@ impl Demux {
         requires within { place < length self.old.rows }
         ensures { IsPut self.old self.new (row_at self.old.rows place).peer bytes.now result }
     {
-        let row = &mut self.rows[place];
-        let number = row.number();
-        if row.is_full(bytes.len()) {
+        let number = self.rows[place].number();
+        if self.rows[place].is_full(bytes.len()) {
             return self.lose(Lost::RowFull { row: number });
         }
-        match row.append(self.alloc, bytes) {
+        match self.append(place, bytes) {
             Ok(()) => Put::Queued { row: number },
-            Err(_) => self.lose(Lost::Memory),
+            Err(NoMemory) => self.lose(Lost::Memory),
         }
+    }
+
+    /// Appends the packet to the row at this place, which calls where it held none. Without memory nothing changes.
+    fn append(&mut self, place: usize, bytes: &[u8]) -> Result<(), NoMemory>
+        requires within { place < length self.old.rows }
+        requires room { is_full (row_at self.old.rows place) (length bytes.now) ≡ false }
+        ensures ok { OnOk result (self.new ≡ with_packet self.old place bytes.now) }
+        ensures err { OnErr result (self.new ≡ self.old) }
+    {
+        self.calling.reserve(1)?;
+        let row = &mut self.rows[place];
+        let (number, silent) = (row.number(), !row.has_packets());
+        row.append(self.alloc, bytes)?;
+        call(&mut self.calling, number, silent);
+        Ok(())
     }
 
     /// Makes a row of the packet.
@@ -198,6 +251,7 @@ impl Demux {
         if self.rows.push(row).is_err() {
             return self.lose(Lost::Memory);
         }
+        note_sender(&mut self.senders, self.mode, from, number);
         self.made += 1;
         Put::New { row: number }
     }
@@ -218,6 +272,24 @@ impl Demux {
     {
         self.lost = self.lost.saturating_add(1);
         Put::Dropped { why }
+    }
+}
+
+/// Notes the number of the sender's row, in a table that sorts by senders.
+fn note_sender(senders: &mut Senders, mode: Mode, from: Peer, number: u32) {
+    match mode {
+        Mode::ByPeer => senders.note(from, number),
+        Mode::ByPacket => {}
+    }
+}
+
+/// Has the row of this number call, once, if it held no packet.
+fn call(calling: &mut VecDeque<u32>, number: u32, silent: bool)
+    requires { deque_len calling.old < deque_capacity calling.old }
+    ensures { calling.new.items ≡ with_call calling.old.items number silent }
+{
+    if silent && !calling.contains(&number) {
+        calling.push_back_reserved(number);
     }
 }
 

@@ -14,7 +14,7 @@ use Rattle.peer_demux.specs.declared.answers.Taken.TheVariants as takes
 use Rattle.peer_demux.specs.Rows.{GivesPart, RowState, after_giving, first_packet, fresh_row}
 use Rattle.peer_demux.specs.Tables.{GivesAt, GivesTaken, IsRising, IsTable, Stands, TableState, no_row, row_at}
 use Rattle.peer_demux.proofs.Places.{set_table}
-use Rattle.peer_laws.specs.Stories.{Step, Came, HandedOut, Gave, LetGo, TurnedAway, IsStep, Leads, IsKept, NothingIsLost, arrived, came_by, taken, taken_by}
+use Rattle.peer_laws.specs.Stories.{Step, Came, HandedOut, Gave, LetGo, TurnedAway, Told, IsStep, Leads, IsKept, NothingIsLost, arrived, came_by, taken, taken_by}
 
 -- ---- what is known of all rows after some calls
 
@@ -349,6 +349,10 @@ step_inv steps before now (LetGo number) inv is =
     subst (λ (t : TableState). Inv (LetGo number ∷ steps) t.rows t.made) (sym is.2) (stay_inv steps before.rows (remove before.rows is.0) before.made (LetGo number) (λ n. refl) (λ n. refl) (others_stay before.rows is.0 is.1.within) (none_past (remove before.rows is.0)) inv)
 step_inv steps before now TurnedAway inv is =
     subst (λ (t : TableState). Inv (TurnedAway ∷ steps) t.rows t.made) (sym is.1.left) (stay_inv steps before.rows (take is.0 before.rows) before.made TurnedAway (λ n. refl) (λ n. refl) (front_stays before.rows is.0) (none_past (take is.0 before.rows)) inv)
+step_inv steps before now (Told None) inv is =
+    subst (λ (t : TableState). Inv (Told None ∷ steps) t.rows t.made) (sym is.1) (quiet_all steps before.rows before.made (Told None) (λ n. refl) (λ n. refl) inv)
+step_inv steps before now (Told (Some number)) inv is =
+    subst (λ (t : TableState). Inv (Told (Some number) ∷ steps) t.rows t.made) (sym is.1) (quiet_all steps before.rows before.made (Told (Some number)) (λ n. refl) (λ n. refl) inv)
 
 fresh_inv : Inv [] [] 0
 fresh_inv = record {

@@ -14,7 +14,7 @@ use Rattle.peer_demux.specs.Rows.{RowState, after_giving, first_packet, fresh_ro
 use Rattle.peer_demux.specs.Tables.{GivesAt, GivesTaken, IsTable, IsUnknown, Stands, TableState, row_at}
 use Rattle.peer_demux.proofs.Places.{same_number}
 use Rattle.std.proofs.Common.{true, false, cond, ltb, drop}
-use Rattle.peer_laws.specs.Stories.{Step, Came, HandedOut, Gave, LetGo, TurnedAway, IsStep, Leads, IsFrom, AllFrom, PacketsAreTheSenders, OneRowASender}
+use Rattle.peer_laws.specs.Stories.{Step, Came, HandedOut, Gave, LetGo, TurnedAway, Told, IsStep, Leads, IsFrom, AllFrom, PacketsAreTheSenders, OneRowASender}
 use Rattle.peer_laws.proofs.Kept.{in_order, once, push_below, push_here, shift, shift_row, shift_within, taken_front}
 
 -- ---- where each row comes from
@@ -139,6 +139,12 @@ origin before now (LetGo number) q is within =
 origin before now TurnedAway q is within =
     let left = ap (λ (t : TableState). t.rows) is.1.left in
     inl (subst (λ (rows : List RowState). (p : ℕ) × Was before.rows rows q p) (sym left) (was_front before.rows is.0 q (subst (λ (rows : List RowState). q < length rows) left within)))
+origin before now (Told None) q is within =
+    let left = ap (λ (t : TableState). t.rows) is.1 in
+    inl (subst (λ (rows : List RowState). (p : ℕ) × Was before.rows rows q p) (sym left) (was_there before.rows q (subst (λ (rows : List RowState). q < length rows) left within)))
+origin before now (Told (Some number)) q is within =
+    let left = ap (λ (t : TableState). t.rows) is.1 in
+    inl (subst (λ (rows : List RowState). (p : ℕ) × Was before.rows rows q p) (sym left) (was_there before.rows q (subst (λ (rows : List RowState). q < length rows) left within)))
 
 -- ---- what a call puts into a row
 
@@ -162,6 +168,8 @@ goes before now (HandedOut (Some (number, peer))) is = record { made = (let e = 
 goes before now (Gave number into taken) is = taken_goes before now into is.0 taken is.2
 goes before now (LetGo number) is = record { made = (let e = ap (λ (t : TableState). t.made) is.2 in omega (arith, e)); mode = ap (λ (t : TableState). t.mode) is.2 }
 goes before now TurnedAway is = record { made = (let e = ap (λ (t : TableState). t.made) is.1.left in omega (arith, e)); mode = ap (λ (t : TableState). t.mode) is.1.left }
+goes before now (Told None) is = record { made = (let e = ap (λ (t : TableState). t.made) is.1 in omega (arith, e)); mode = ap (λ (t : TableState). t.mode) is.1 }
+goes before now (Told (Some number)) is = record { made = (let e = ap (λ (t : TableState). t.made) is.1 in omega (arith, e)); mode = ap (λ (t : TableState). t.mode) is.1 }
 
 -- a packet that a call puts into a row that stands is of its sender
 puts_own : (before now : TableState) (step : Step) (number place : ℕ) → IsTable before.rows before.made → IsStep before now step → Stands before.rows number place → IsFrom number (row_at before.rows place).peer step
@@ -174,6 +182,7 @@ puts_own before now (HandedOut found) number place order is stands = tt
 puts_own before now (Gave row into taken) number place order is stands = tt
 puts_own before now (LetGo row) number place order is stands = tt
 puts_own before now TurnedAway number place order is stands = tt
+puts_own before now (Told found) number place order is stands = tt
 
 -- no call puts a packet into a row that isn't made yet
 puts_none : (before now : TableState) (step : Step) (number : ℕ) (peer : Peer) → IsTable before.rows before.made → IsStep before now step → now.made ≤ number → IsFrom number peer step
@@ -187,6 +196,7 @@ puts_none before now (HandedOut found) number peer order is le = tt
 puts_none before now (Gave row into taken) number peer order is le = tt
 puts_none before now (LetGo row) number peer order is le = tt
 puts_none before now TurnedAway number peer order is le = tt
+puts_none before now (Told found) number peer order is le = tt
 
 -- ---- after any calls
 

@@ -1,6 +1,6 @@
 -- The calls of a table of senders one after another, and what they say of one row.
-use Rattle.std.specs.Prelude.{◌≡◌, ℕ, ◌==◌, ◌<◌, List, [], ◌∷◌, ◌++◌, length, take, Option, if◌then◌else◌}
-use Rattle.std.specs.List.{concat}
+use Rattle.std.specs.Prelude.{◌≡◌, ℕ, ◌==◌, ◌<◌, Bool, true, false, not, ◌||◌, ◌&&◌, List, [], ◌∷◌, ◌++◌, length, take, Option, None, Some, if◌then◌else◌}
+use Rattle.std.specs.List.{concat, list_any}
 use Rattle.relay_model.specs.declared.acts.Peer.{Peer}
 use Rattle.peer_demux.specs.declared.answers.Mode.{Mode}
 use Rattle.peer_demux.specs.declared.answers.Mode.TheVariants as modes
@@ -9,7 +9,7 @@ use Rattle.peer_demux.specs.declared.answers.Put.TheVariants as puts
 use Rattle.peer_demux.specs.declared.answers.Taken.{Taken}
 use Rattle.peer_demux.specs.declared.answers.Taken.TheVariants as takes
 use Rattle.peer_demux.specs.Rows.{RowState, first_packet}
-use Rattle.peer_demux.specs.Tables.{TableState, IsDropped, IsNext, IsPut, IsTaken, IsTrimmed, Stands, fresh_table, row_at}
+use Rattle.peer_demux.specs.Tables.{TableState, IsDropped, IsNext, IsNextCall, IsPut, IsTaken, IsTrimmed, Stands, fresh_table, row_at}
 
 -- a call with its answer; a taking has the buffer that it left
 pub data Step : Type 0 where
@@ -18,6 +18,7 @@ pub data Step : Type 0 where
   Gave : ℕ → List ℕ → Taken → Step
   LetGo : ℕ → Step
   TurnedAway : Step
+  Told : Option ℕ → Step
 
 -- the call makes this of the table
 abbrev pub IsStep : TableState → TableState → Step → Type 0
@@ -26,6 +27,7 @@ IsStep before now (HandedOut found) = IsNext before now found
 IsStep before now (Gave number into taken) = IsTaken before now number into taken
 IsStep before now (LetGo number) = IsDropped before now number
 IsStep before now TurnedAway = IsTrimmed before now
+IsStep before now (Told found) = IsNextCall before now found
 
 -- these calls, the newest first, make this of a fresh table
 abbrev pub Leads : Mode → List Step → TableState → Type 0
@@ -41,6 +43,7 @@ came_by number (HandedOut found) = []
 came_by number (Gave row into taken) = []
 came_by number (LetGo row) = []
 came_by number TurnedAway = []
+came_by number (Told found) = []
 
 -- the bytes that a call took of the row of this number
 abbrev pub taken_by : ℕ → Step → List ℕ
@@ -52,6 +55,7 @@ taken_by number (Gave row into takes.NotYet) = []
 taken_by number (Gave row into takes.End) = []
 taken_by number (LetGo row) = []
 taken_by number TurnedAway = []
+taken_by number (Told found) = []
 
 -- the packets that arrived at the row of this number, the oldest first
 abbrev pub arrived : ℕ → List Step → List (List ℕ)
@@ -81,6 +85,7 @@ IsFrom number peer (HandedOut found) = Unit {0}
 IsFrom number peer (Gave row into taken) = Unit {0}
 IsFrom number peer (LetGo row) = Unit {0}
 IsFrom number peer TurnedAway = Unit {0}
+IsFrom number peer (Told found) = Unit {0}
 
 -- all that was put into it did
 abbrev pub AllFrom : ℕ → Peer → List Step → Type 0
@@ -94,3 +99,27 @@ PacketsAreTheSenders = (mode : Mode) (steps : List Step) (table : TableState) �
 -- in a table by senders no two live rows have the same one
 abbrev pub OneRowASender : Type 0
 OneRowASender = (steps : List Step) (table : TableState) → Leads modes.ByPeer steps table → (p q : ℕ) → p < length table.rows → q < length table.rows → (row_at table.rows p).peer ≡ (row_at table.rows q).peer → p ≡ q
+
+-- the call tells that the row of this number has something, or that it has nothing
+abbrev pub wakes : ℕ → Step → Bool → Bool
+wakes number (Came from bytes (puts.New row)) before = (row == number) || before
+wakes number (Came from bytes (puts.Queued row)) before = before
+wakes number (Came from bytes (puts.Dropped why)) before = before
+wakes number (HandedOut found) before = before
+wakes number (Gave row into (takes.Bytes count)) before = before
+wakes number (Gave row into takes.Empty) before = before
+wakes number (Gave row into takes.End) before = before
+wakes number (Gave row into takes.NotYet) before = not (row == number) && before
+wakes number (LetGo row) before = before
+wakes number TurnedAway before = before
+wakes number (Told None) before = before
+wakes number (Told (Some row)) before = (row == number) || before
+
+-- whoever takes from the row of this number knows that it may have something: that was the last that the calls told
+abbrev pub is_awake : ℕ → List Step → Bool
+is_awake number [] = false
+is_awake number (step ∷ steps) = wakes number step (is_awake number steps)
+
+-- after any calls a live row that holds packets calls, unless whoever takes from it knows
+abbrev pub NobodyWaitsInVain : Type 0
+NobodyWaitsInVain = (mode : Mode) (steps : List Step) (table : TableState) → Leads mode steps table → (number place : ℕ) → Stands table.rows number place → is_awake number steps ≡ false → 0 < length (row_at table.rows place).packets → list_any (λ n. n == number) table.calling ≡ true

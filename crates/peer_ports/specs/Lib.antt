@@ -1,2 +1,4 @@
+pub mod Crowds
 pub mod Links
+pub mod Pollers
 pub mod Ports

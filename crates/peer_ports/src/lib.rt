@@ -2,8 +2,12 @@
 #![tactic(auto)]
 
 mod crowd;
+mod crowds;
+mod poller;
 mod port;
 mod seat;
 mod socket;
 
+pub use crowds::Gathering;
+pub use poller::PeerPoller;
 pub use port::PeerPort;

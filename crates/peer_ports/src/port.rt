@@ -1,16 +1,18 @@
 // The port of a door of datagrams, and of each peer that was accepted at it.
-ghost use Rattle.std.specs.Prelude.{◌≡◌, ◌<◌, ◌≤◌, ◌++◌, true, false, length, take, None};
+ghost use Rattle.std.specs.Prelude.{◌≡◌, ◌≢◌, ◌<◌, ◌≤◌, ◌++◌, true, false, length, take, None};
 ghost use Rattle.port_trait.specs.Counting.{Tallied};
 ghost use Rattle.port_trait.specs.Made.{IsAtOnce};
-ghost use Rattle.port_trait.specs.Hinting.{all_hints};
+ghost use Rattle.port_trait.specs.Hinting.{IsWithin};
 ghost use Rattle.port_trait.specs.Meanings.{Gives, Accepts, AcceptsWhole, AcceptsAll, is_end, read_event, write_event, shut_event};
 ghost use Rattle.port_trait.specs.declared.answers.Begun.TheVariants as begins;
 ghost use Rattle.port_trait.specs.declared.answers.Settled.TheVariants as settles;
 ghost use Rattle.port_trait.specs.declared.answers.PortReap.TheVariants as reaps;
 ghost use Rattle.port_trait.specs.declared.answers.Joining.TheVariants as joining;
-ghost use Rattle.socket_kinds.specs.Accepting.{OnPort, OnPeer};
-ghost use Rattle.peer_ports.specs.Ports.{fresh_port};
+ghost use Rattle.relay_model.specs.declared.acts.Peer.TheVariants as peers;
+ghost use Rattle.socket_kinds.specs.Accepting.{OnCame, OnPort, OnPeer};
+ghost use Rattle.peer_ports.specs.Ports.{blocked_hint, fresh_port};
 
+use crate::crowds::Gathering;
 use crate::seat::Seat;
 use answer_counts::{count_reading, count_writing};
 use mio::Registry;
@@ -31,8 +33,6 @@ const ASKS: u8 = 2;
 #[derive(Drop)]
 pub struct PeerPort {
     seat: Seat,
-    // the round in which this was asked last
-    round: u64,
     // how often this was asked since a write found no room; None where none did
     blocked: Option<u8>,
     counts: Counts,
@@ -41,11 +41,12 @@ pub struct PeerPort {
 }
 
 impl Model for PeerPort {
+    ghost use Rattle.std.specs.Prelude.{is_some};
     ghost use Rattle.peer_ports.specs.Ports.{PeerState};
 
     ghost Value = { PeerState };
 
-    ghost view = { λ port. record { counts = port.counts; begun = port.begun; ended = port.ended } };
+    ghost view = { λ port. record { counts = port.counts; begun = port.begun; ended = port.ended; blocked = is_some port.blocked } };
 }
 
 impl PeerPort {
@@ -54,7 +55,6 @@ impl PeerPort {
     {
         PeerPort {
             seat,
-            round: 0,
             blocked: None,
             counts: Counts::new(),
             begun: false,
@@ -62,25 +62,32 @@ impl PeerPort {
         }
     }
 
-    /// The door of this socket, whose calls don't wait. The registry reports the socket under a key that no port has.
-    /// Never `Later`.
-    pub fn door(alloc: Global, registry: &Registry, socket: UdpSocket) -> Making<PeerPort>
+    /// The door of this socket, whose calls don't wait. The registry reports the socket under a key that no port has, and
+    /// the gathering names the door by this key. Never `Later`.
+    pub fn door(
+        alloc: Global,
+        registry: &Registry,
+        gathering: &Gathering,
+        key: usize,
+        socket: UdpSocket,
+    ) -> Making<PeerPort>
         ensures at_once { IsAtOnce result }
         ensures fresh { OnPort (λ port. port ≡ fresh_port) result }
     {
-        match Seat::door(alloc, registry, socket) {
+        match Seat::door(alloc, registry, gathering, key, socket) {
             Making::Made(seat) => Making::Made(PeerPort::at(seat)),
             Making::Later(_) | Making::Failed => Making::Failed,
             Making::Memory => Making::Memory,
         }
     }
 
-    /// Takes the next peer at the door. A peer is no door, and answers `Failed`.
-    pub fn accept(&mut self) -> MadePeer<PeerPort>
+    /// Takes the next peer at the door, whose port has this key. A peer is no door, and answers `Failed`.
+    pub fn accept(&mut self, key: usize) -> MadePeer<PeerPort>
+        ensures addressed { OnCame (λ peer. peer ≢ peers.Local) result }
         ensures fresh { OnPeer (λ port. port ≡ fresh_port) result }
         ensures kept { self.new ≡ self.old }
     {
-        match self.seat.accept() {
+        match self.seat.accept(key) {
             MadePeer::Came(seat, peer) => MadePeer::Came(PeerPort::at(seat), peer),
             MadePeer::NoPeer => MadePeer::NoPeer,
             MadePeer::Failed => MadePeer::Failed,
@@ -102,7 +109,8 @@ impl PeerPort {
 
     /// Whether there may be room again, after one look more.
     fn may_write(&mut self) -> bool
-        ensures { self.new ≡ self.old }
+        ensures kept { self.new ≡ self.old }
+        ensures blocked { result ≡ true → self.old.blocked ≡ true }
     {
         let Some(asks) = self.blocked else {
             return false;
@@ -114,6 +122,8 @@ impl PeerPort {
 }
 
 impl Port for PeerPort {
+    ghost hinting = { blocked_hint };
+
     ghost counts = { λ port. port.counts };
 
     ghost begun = { λ port. port.begun };
@@ -209,20 +219,26 @@ impl Port for PeerPort {
         }
     }
 
-    /// What is held for it, or may be; room, where a write found none and a wait has ended since.
+    /// Room, where a write found none and a wait has ended since. What came is told by the poller.
     fn hint(&mut self) -> Hint
         ensures kept { self.new ≡ self.old }
+        ensures blocked { IsWithin (blocked_hint self.old) result }
     {
-        let (round, readable) = self.seat.look(self.round);
-        self.round = round;
         let writable = self.may_write();
-        Hint { readable, writable }
+        Hint {
+            readable: false,
+            writable,
+        }
     }
 
+    /// A port whose write found no room.
     fn may_hint(&self) -> Hint
-        ensures { result ≡ all_hints }
+        ensures { result ≡ blocked_hint self.now }
     {
-        Hint::all()
+        Hint {
+            readable: false,
+            writable: self.blocked.is_some(),
+        }
     }
 
     fn has_child(&self) -> bool

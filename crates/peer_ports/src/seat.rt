@@ -1,17 +1,21 @@
 // A port's part in what a door and its peers share.
-ghost use Rattle.std.specs.Prelude.{◌≡◌, ◌<◌, ◌≤◌, length, None};
+ghost use Rattle.std.specs.Prelude.{◌≡◌, ◌≢◌, ◌<◌, ◌≤◌, length, None, IfOk};
+ghost use Rattle.relay_model.specs.declared.acts.Peer.TheVariants as peers;
+ghost use Rattle.socket_kinds.specs.Accepting.{OnCame};
+ghost use Rattle.peer_ports.specs.Crowds.{IsKnown};
 ghost use Rattle.relay_model.specs.Conversions.{longest_packet};
 ghost use Rattle.port_trait.specs.Meanings.{Gives, AcceptsWhole};
 ghost use Rattle.port_trait.specs.Made.{IsAtOnce};
 
 use crate::crowd::Crowd;
+use crate::crowds::Gathering;
 use crate::socket::UdpLink;
 use mio::Registry;
 use peer_demux::{Hub, Mode, RowPeer};
-use port_trait::{Got, Hint, MadePeer, Making, Took};
+use port_trait::{Got, MadePeer, Making, Took};
+use relay_model::NoMemory;
 use std::alloc::Global;
 use std::net::UdpSocket;
-use std::sync::{Arc, Mutex};
 
 /// Whose part it is.
 #[derive(Clone, Copy)]
@@ -21,58 +25,75 @@ enum Role {
     Peer(u32),
 }
 
-/// A door, or a peer that was accepted at it. What they share is let go with the last of them. The loop alone calls
-/// them, so the lock is always free.
+/// A door, or a peer that was accepted at it. What they share is let go with the last of them.
 pub(crate) struct Seat {
-    crowd: Arc<Mutex<Crowd>, Global>,
+    gathering: Gathering,
+    place: usize,
     role: Role,
 }
 
 impl Seat {
     /// The door of this socket, whose calls don't wait. Never `Later`.
-    pub(crate) fn door(alloc: Global, registry: &Registry, socket: UdpSocket) -> Making<Seat>
+    pub(crate) fn door(
+        alloc: Global,
+        registry: &Registry,
+        gathering: &Gathering,
+        key: usize,
+        socket: UdpSocket,
+    ) -> Making<Seat>
         ensures { IsAtOnce result }
     {
         let Some(link) = UdpLink::enroll(registry, socket) else {
             return Making::Failed;
         };
-        let Ok(hub) = Hub::new(alloc, link, Mode::ByPeer) else {
+        let (Ok(hub), Ok(gathering)) = (Hub::new(alloc, link, Mode::ByPeer), gathering.share())
+        else {
             return Making::Memory;
         };
-        match Arc::new(alloc, Mutex::new(Crowd::new(hub))) {
-            Ok(crowd) => Making::Made(Seat {
-                crowd,
+        match gathering.add(Crowd::new(alloc, hub, key)) {
+            Ok(place) => Making::Made(Seat {
+                gathering,
+                place,
                 role: Role::Door,
             }),
-            Err(_) => Making::Memory,
+            Err(NoMemory) => Making::Memory,
         }
     }
 
-    /// Takes the next peer at the door.
-    pub(crate) fn accept(&self) -> MadePeer<Seat> {
+    /// Takes the next peer at the door, whose port has this key.
+    pub(crate) fn accept(&self, key: usize) -> MadePeer<Seat>
+        ensures { OnCame (λ peer. peer ≢ peers.Local) result }
+    {
         let Role::Door = self.role else {
             return MadePeer::Failed;
         };
-        let Ok(crowd) = Arc::try_clone(&self.crowd) else {
+        let Ok(gathering) = self.gathering.share() else {
             return MadePeer::Memory;
         };
-        match self.next_peer() {
-            RowPeer::New { row, from } => MadePeer::Came(
+        match self.next_peer(key) {
+            Ok(RowPeer::New { row, from }) => MadePeer::Came(
                 Seat {
-                    crowd,
+                    gathering,
+                    place: self.place,
                     role: Role::Peer(row),
                 },
                 from,
             ),
-            RowPeer::NoPeer => MadePeer::NoPeer,
-            RowPeer::Failed => MadePeer::Failed,
+            Ok(RowPeer::NoPeer) => MadePeer::NoPeer,
+            Ok(RowPeer::Failed) => MadePeer::Failed,
+            Err(NoMemory) => MadePeer::Memory,
         }
     }
 
-    fn next_peer(&self) -> RowPeer {
-        match self.crowd.try_lock() {
-            Some(mut crowd) => crowd.accept(),
-            None => RowPeer::NoPeer,
+    fn next_peer(&self, key: usize) -> Result<RowPeer, NoMemory>
+        ensures { IfOk result IsKnown }
+    {
+        let Some(mut crowds) = self.gathering.crowds().try_lock() else {
+            return Ok(RowPeer::NoPeer);
+        };
+        match crowds.at(self.place) {
+            Some(crowd) => crowd.accept(key),
+            None => Ok(RowPeer::Failed),
         }
     }
 
@@ -81,10 +102,15 @@ impl Seat {
         requires { 0 < length into.old }
         ensures { Gives None None into.new result }
     {
-        match (self.role, self.crowd.try_lock()) {
-            (Role::Peer(row), Some(mut crowd)) => crowd.read(row, into),
-            (Role::Peer(_), None) => Got::NotYet,
-            (Role::Door, _) => Got::Failed,
+        let Role::Peer(row) = self.role else {
+            return Got::Failed;
+        };
+        let Some(mut crowds) = self.gathering.crowds().try_lock() else {
+            return Got::NotYet;
+        };
+        match crowds.at(self.place) {
+            Some(crowd) => crowd.read(row, into),
+            None => Got::Failed,
         }
     }
 
@@ -93,35 +119,34 @@ impl Seat {
         requires { length bytes.now ≤ longest_packet }
         ensures { AcceptsWhole None None bytes.now result }
     {
-        match (self.role, self.crowd.try_lock()) {
-            (Role::Peer(row), Some(mut crowd)) => crowd.send(row, bytes),
-            (Role::Peer(_), None) => Took::NotYet,
-            (Role::Door, _) => Took::Failed,
-        }
-    }
-
-    /// Whether there is something to read or to accept, after a look at the socket where a round begins. `seen` is the
-    /// round of the last look, and the answer's first the one of this.
-    pub(crate) fn look(&self, seen: u64) -> (u64, bool) {
-        let Some(mut crowd) = self.crowd.try_lock() else {
-            return (seen, true);
+        let Role::Peer(row) = self.role else {
+            return Took::Failed;
         };
-        let round = crowd.look(seen);
-        match self.role {
-            Role::Door => (round, crowd.may_accept()),
-            Role::Peer(row) => (round, crowd.may_read(row)),
+        let Some(mut crowds) = self.gathering.crowds().try_lock() else {
+            return Took::NotYet;
+        };
+        match crowds.at(self.place) {
+            Some(crowd) => crowd.send(row, bytes),
+            None => Took::Failed,
         }
     }
 }
 
 impl Drop for Seat {
     fn drop(self) {
-        let Seat { crowd, role } = self;
-        if let Some(mut crowd) = crowd.try_lock() {
-            match role {
-                Role::Door => crowd.close(),
-                Role::Peer(row) => crowd.leave(row),
+        let Seat {
+            gathering,
+            place,
+            role,
+        } = self;
+        if let Some(mut crowds) = gathering.crowds().try_lock() {
+            if let Some(crowd) = crowds.at(place) {
+                match role {
+                    Role::Door => crowd.close(),
+                    Role::Peer(row) => crowd.leave(row),
+                }
             }
+            crowds.clear(place);
         }
     }
 }

@@ -6,6 +6,8 @@ ghost use Rattle.place_report.specs.Naming.{Adds, parameters};
 
 use crate::pages::Page;
 use relay_model::{Family, NoMemory, Target, Text, Texts};
+use std::net::Ipv4Addr;
+use std::str;
 
 /// Words that name nothing.
 fn say_plain(page: &mut Page, words: &str) -> Result<(), NoMemory>
@@ -93,9 +95,26 @@ fn say_program(page: &mut Page, words: &Texts) -> Result<(), NoMemory>
     Ok(())
 }
 
-/// Which of a host's addresses is taken.
-fn chosen_address(family: Family) -> &'static str {
+/// The family of a host: that of its kind, or of the address that it is; none where it is a name of any family.
+fn family_of(family: Family, host: &Text) -> Family {
     match family {
+        Family::Any if host.as_slice().first() == Some(&b'[') => Family::V6,
+        Family::Any if is_ipv4(host) => Family::V4,
+        family => family,
+    }
+}
+
+/// Whether the host is an IPv4 address in numbers.
+fn is_ipv4(host: &Text) -> bool {
+    match str::from_utf8(host.as_slice()) {
+        Ok(host) => host.parse::<Ipv4Addr>().is_ok(),
+        Err(_) => false,
+    }
+}
+
+/// Which of a host's addresses is taken.
+fn chosen_address(family: Family, host: &Text) -> &'static str {
+    match family_of(family, host) {
         Family::Any => ", over IPv4 where it has such an address, else over IPv6",
         Family::V4 => ", over IPv4",
         Family::V6 => ", over IPv6",
@@ -128,7 +147,7 @@ pub(crate) fn say_kind(page: &mut Page, target: &Target) -> Result<(), NoMemory>
             "a TCP connection to ",
             host,
             *port,
-            chosen_address(*family),
+            chosen_address(*family, host),
         ),
         Target::TcpListen { port, .. } => {
             say_port(
@@ -143,7 +162,7 @@ pub(crate) fn say_kind(page: &mut Page, target: &Target) -> Result<(), NoMemory>
             "UDP datagrams to and from ",
             host,
             *port,
-            chosen_address(*family),
+            chosen_address(*family, host),
         ),
         Target::UdpListen { port, .. } => say_port(
             page,
@@ -168,7 +187,7 @@ pub(crate) fn say_kind(page: &mut Page, target: &Target) -> Result<(), NoMemory>
             "UDP datagrams to ",
             host,
             *port,
-            chosen_address(*family),
+            chosen_address(*family, host),
         ),
         Target::UnixConnect(name) => say_name(page, "a connection to the Unix socket ", name, ""),
         Target::UnixListen(name) => {

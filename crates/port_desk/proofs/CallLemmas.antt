@@ -1,6 +1,6 @@
 -- What the answer of a desk says, from what the port did.
-use Rattle.std.proofs.Common.{◌≡◌, ℕ, List, Option, None, Some, IfSome}
-use Rattle.slab.specs.Slab.{Slab, get}
+use Rattle.std.proofs.Common.{◌≡◌, refl, ℕ, false, List, Option, None, Some, IfSome}
+use Rattle.slab.specs.Slab.{get}
 use Rattle.relay_model.specs.declared.places.Place.{Place}
 use Rattle.relay_model.specs.declared.acts.Act.{Act}
 use Rattle.relay_model.specs.declared.acts.Shut.{Shut}
@@ -15,10 +15,15 @@ use Rattle.port_trait.specs.declared.answers.Shutting.TheVariants as shuttings
 use Rattle.world_trait.specs.Answers.{Answered, AnsweredAsking, ReadFits, WriteFits, read_act, send_act, write_act}
 use Rattle.desk_ports.specs.declared.bases.Base.{Base}
 use Rattle.port_desk.specs.Calls.{ReadsSo, WritesSo, SendsSo, ShutsSo}
-use Rattle.desk_ports.specs.Harbors.{AtErrors, AtInput, AtMade, AtOutput, MadeCall, Pier, Input, Output, Errors, Made}
+use Rattle.desk_ports.specs.Harbors.{CalledAt, EndsAt, Pier, Input, Output, Errors, Made}
+use Rattle.desk_ports.specs.declared.harbor.Harbor.{Harbor}
+use Rattle.desk_ports.proofs.CalledLemmas.{called_map}
 use Rattle.desk_ports.specs.Answers.{GotFits, TookFits}
 use Rattle.desk_ports.specs.Ports.{BerthSeen, PortSeen, Reads, Sends, Shuts, Writes}
-use Rattle.desk_places.specs.Changes.{HeldAfter, shut_answer}
+use Rattle.port_trait.specs.Streams.{finishes}
+use Rattle.world_trait.specs.declared.answers.OpenAnswer.TheVariants as opens
+use Rattle.desk_places.specs.Changes.{HeldAfter, SettledAt, shut_answer}
+use Rattle.port_desk.specs.Desks.{shut_ends}
 use Rattle.port_desk.specs.Records.{Tells, TellsAsking, read_answer, send_answer, write_answer}
 use Rattle.desk_places.specs.Stations.{SameHold}
 
@@ -39,58 +44,41 @@ sends_so (tooks.Took n) bytes before now call = (n, call)
 sends_so tooks.NotYet bytes before now call = call
 sends_so tooks.Failed bytes before now call = call
 
-pub shuts_so : (how : Shut) (answer : Shutting) (before now : PortSeen) → Shuts before now how answer → ShutsSo how (shut_answer answer) before now
-shuts_so how shuttings.Done before now call = call
-shuts_so how shuttings.Failed before now call = call
+-- a call at the pier of a base, as the desk answers it
+pub called_so : {T I O E : Type 0} (slot : Option Base) (pier : Base → Pier) (before now : Harbor T I O E) (C D : PortSeen → PortSeen → Type 0) → ((o n : PortSeen) → C o n → D o n) → IfSome slot (λ base. CalledAt (pier base) before now C) → IfSome slot (λ base. CalledAt (pier base) before now D)
+called_so None pier before now C D f h = tt
+called_so (Some base) pier before now C D f h = called_map false (pier base) before now C D f h
 
--- a fact of the call, where it was made on this port
-input_step : (pier : Pier) (A B E : Type 0) → (A → B) → AtInput pier A E → AtInput pier B E
-input_step Input A B E f h = f h
-input_step Output A B E f h = h
-input_step Errors A B E f h = h
-input_step (Made key) A B E f h = h
+same_slot : (slot : Option BerthSeen) → IfSome slot (λ o. IfSome slot (λ n. (n.place ≡ o.place) × (n.port ≡ o.port)))
+same_slot None = tt
+same_slot (Some berth) = (refl, refl)
 
-output_step : (pier : Pier) (A B E : Type 0) → (A → B) → AtOutput pier A E → AtOutput pier B E
-output_step Input A B E f h = h
-output_step Output A B E f h = f h
-output_step Errors A B E f h = h
-output_step (Made key) A B E f h = h
+not_called_at : {T I O E : Type 0} (pier : Pier) (harbor : Harbor T I O E) → CalledAt pier harbor harbor (λ o n. n ≡ o)
+not_called_at Input harbor = (record { call = refl; begun = refl; finished = refl }, refl, refl, refl)
+not_called_at Output harbor = (refl, record { call = refl; begun = refl; finished = refl }, refl, refl)
+not_called_at Errors harbor = (refl, refl, record { call = refl; begun = refl; finished = refl }, refl)
+not_called_at (Made key) harbor = (refl, refl, refl, record { call = same_slot (get harbor.made key); stands = refl; others = λ other away. refl })
 
-errors_step : (pier : Pier) (A B E : Type 0) → (A → B) → AtErrors pier A E → AtErrors pier B E
-errors_step Input A B E f h = h
-errors_step Output A B E f h = h
-errors_step Errors A B E f h = f h
-errors_step (Made key) A B E f h = h
+-- a desk without memory made no call
+pub not_called : {T I O E : Type 0} (slot : Option Base) (pier : Base → Pier) (harbor : Harbor T I O E) → IfSome slot (λ base. CalledAt (pier base) harbor harbor (λ o n. n ≡ o))
+not_called None pier harbor = tt
+not_called (Some base) pier harbor = not_called_at (pier base) harbor
 
-call_step : (old new : Option BerthSeen) (C D : PortSeen → PortSeen → Type 0) → ((o n : PortSeen) → C o n → D o n) → IfSome old (λ o. IfSome new (λ n. (n.place ≡ o.place) × C o.port n.port)) → IfSome old (λ o. IfSome new (λ n. (n.place ≡ o.place) × D o.port n.port))
-call_step None new C D f h = tt
-call_step (Some o) None C D f h = tt
-call_step (Some o) (Some n) C D f h = (h.0, f o.port n.port h.1)
+-- a shut at the pier of a base, as the desk answers it
+pub shut_so : {T I O E : Type 0} (slot : Option Base) (pier : Base → Pier) (before now : Harbor T I O E) (how : Shut) (answer : Shutting) → IfSome slot (λ base. EndsAt (finishes how) (pier base) before now (λ o n. Shuts o n how answer)) → IfSome slot (λ base. EndsAt (shut_ends how (shut_answer answer)) (pier base) before now (ShutsSo how (shut_answer answer)))
+shut_so slot pier before now how shuttings.Done h = h
+shut_so slot pier before now how shuttings.Failed h = h
 
-pub call_map : (made made' : Slab BerthSeen) (key : ℕ) (C D : PortSeen → PortSeen → Type 0) → ((o n : PortSeen) → C o n → D o n) → MadeCall made made' key C → MadeCall made made' key D
-call_map made made' key C D f h = record { call = call_step (get made key) (get made' key) C D f h.call; stands = h.stands; others = h.others }
+unsettled_at : {T X I O E : Type 0} (tells : T → PortSeen) (pier : Pier) (harbor : Harbor X I O E) (parents : List BerthSeen) → SettledAt tells pier harbor harbor parents parents opens.Memory
+unsettled_at tells Input harbor parents = (record { call = refl; begun = refl; finished = refl }, refl, refl, refl, refl)
+unsettled_at tells Output harbor parents = (refl, record { call = refl; begun = refl; finished = refl }, refl, refl, refl)
+unsettled_at tells Errors harbor parents = (refl, refl, record { call = refl; begun = refl; finished = refl }, refl, refl)
+unsettled_at tells (Made key) harbor parents = (refl, refl, refl, (refl, refl))
 
-made_step : (pier : Pier) (made made' : Slab BerthSeen) (C D : PortSeen → PortSeen → Type 0) (E : Type 0) → ((o n : PortSeen) → C o n → D o n) → AtMade pier (λ key. MadeCall made made' key C) E → AtMade pier (λ key. MadeCall made made' key D) E
-made_step Input made made' C D E f h = h
-made_step Output made made' C D E f h = h
-made_step Errors made made' C D E f h = h
-made_step (Made key) made made' C D E f h = call_map made made' key C D f h
-
-pub input_map : (slot : Option Base) (pier : Base → Pier) (A B E : Type 0) → (A → B) → IfSome slot (λ base. AtInput (pier base) A E) → IfSome slot (λ base. AtInput (pier base) B E)
-input_map None pier A B E f h = tt
-input_map (Some base) pier A B E f h = input_step (pier base) A B E f h
-
-pub output_map : (slot : Option Base) (pier : Base → Pier) (A B E : Type 0) → (A → B) → IfSome slot (λ base. AtOutput (pier base) A E) → IfSome slot (λ base. AtOutput (pier base) B E)
-output_map None pier A B E f h = tt
-output_map (Some base) pier A B E f h = output_step (pier base) A B E f h
-
-pub errors_map : (slot : Option Base) (pier : Base → Pier) (A B E : Type 0) → (A → B) → IfSome slot (λ base. AtErrors (pier base) A E) → IfSome slot (λ base. AtErrors (pier base) B E)
-errors_map None pier A B E f h = tt
-errors_map (Some base) pier A B E f h = errors_step (pier base) A B E f h
-
-pub made_map : (slot : Option Base) (pier : Base → Pier) (made made' : Slab BerthSeen) (C D : PortSeen → PortSeen → Type 0) (E : Type 0) → ((o n : PortSeen) → C o n → D o n) → IfSome slot (λ base. AtMade (pier base) (λ key. MadeCall made made' key C) E) → IfSome slot (λ base. AtMade (pier base) (λ key. MadeCall made made' key D) E)
-made_map None pier made made' C D E f h = tt
-made_map (Some base) pier made made' C D E f h = made_step (pier base) made made' C D E f h
+-- a settling without memory made none
+pub unsettled : {T X I O E : Type 0} (tells : T → PortSeen) (slot : Option Base) (pier : Base → Pier) (harbor : Harbor X I O E) (parents : List BerthSeen) → IfSome slot (λ base. SettledAt tells (pier base) harbor harbor parents parents opens.Memory)
+unsettled tells None pier harbor parents = tt
+unsettled tells (Some base) pier harbor parents = unsettled_at tells (pier base) harbor parents
 
 pub read_fits : (got : Got) (room : ℕ) → GotFits room got → ReadFits room (read_answer got)
 read_fits (gots.Bytes n) room fits = fits

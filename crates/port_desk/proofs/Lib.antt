@@ -1,2 +1,4 @@
 pub mod CallLemmas
+pub mod OpenLemmas
 pub mod PollLemmas
+pub mod RowLemmas

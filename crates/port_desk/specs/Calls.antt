@@ -1,7 +1,14 @@
 -- The one call on a port that stands behind an answer of a desk. After `Memory` none was made.
-use Rattle.std.specs.Prelude.{◌≡◌, ℕ, List, ⊤}
+use Rattle.std.specs.Prelude.{◌≡◌, ◌≤◌, ◌&&◌, ◌⊎◌, ℕ, Bool, not, List, Option, None, Some, IfSome, ⊤}
+use Rattle.port_trait.specs.Counting.{Counted}
+use Rattle.relay_model.specs.Readiness.{names}
 use Rattle.relay_model.specs.declared.acts.Shut.{Shut}
-use Rattle.desk_ports.specs.Ports.{PortSeen, Reads, Writes, Sends, Shuts}
+use Rattle.relay_model.specs.declared.places.Half.{Half}
+use Rattle.relay_model.specs.declared.places.Place.{Place}
+use Rattle.relay_model.specs.declared.readiness.ReadyAt.{ReadyAt}
+use Rattle.desk_places.specs.Marks.{SameMarks}
+use Rattle.desk_ports.specs.Harbors.{StreamNotes}
+use Rattle.desk_ports.specs.Ports.{PortSeen, StreamSeen, Reads, Writes, Sends, Shuts}
 use Rattle.port_trait.specs.declared.answers.Got.TheVariants as gots
 use Rattle.port_trait.specs.declared.answers.Took.TheVariants as tooks
 use Rattle.port_trait.specs.declared.answers.Shutting.TheVariants as shuttings
@@ -15,6 +22,8 @@ use Rattle.world_trait.specs.declared.answers.SendAnswer.{SendAnswer}
 use Rattle.world_trait.specs.declared.answers.SendAnswer.TheVariants as sends
 use Rattle.world_trait.specs.declared.answers.ShutAnswer.{ShutAnswer}
 use Rattle.world_trait.specs.declared.answers.ShutAnswer.TheVariants as shuts
+use Rattle.world_trait.specs.declared.answers.NoteAnswer.{NoteAnswer}
+use Rattle.world_trait.specs.declared.answers.NoteAnswer.TheVariants as notes
 
 -- a read of the desk is one of the port
 abbrev pub ReadsSo : List ℕ → ReadAnswer → PortSeen → PortSeen → Type 0
@@ -44,6 +53,27 @@ abbrev pub ShutsSo : Shut → ShutAnswer → PortSeen → PortSeen → Type 0
 ShutsSo how shuts.Done before now = Shuts before now how shuttings.Done
 ShutsSo how shuts.Failed before now = Shuts before now how shuttings.Failed
 ShutsSo how shuts.Memory before now = now ≡ before
+
+-- a note of the desk is one on standard error; without memory it may not have been begun
+abbrev pub NotesAs : NoteAnswer → StreamSeen → StreamSeen → List ℕ → Type 0
+NotesAs notes.Noted before now text = (n : ℕ) × StreamNotes before now text (Some (tooks.Took n))
+NotesAs notes.Failed before now text = StreamNotes before now text (Some tooks.Failed)
+NotesAs notes.Memory before now text = (now ≡ before) ⊎ StreamNotes before now text None
+
+-- a wait says stop exactly where the poller's last poll did, where the poller tells that
+abbrev pub SaysStop : Option Bool → Turned → Type 0
+SaysStop told (turns.Turned at stop) = IfSome told (λ said. stop ≡ said)
+SaysStop told turns.Memory = ⊤
+
+-- a wait that says stop does so only where the poller has said it in this call
+abbrev pub StopsAs : ℕ → ℕ → Turned → Type 0
+StopsAs before now (turns.Turned at stop) = Counted stop before now
+StopsAs before now turns.Memory = before ≤ now
+
+-- a turn arms the halves that it names, and one that wants memory none
+abbrev pub TurnMarks : Turned → List ReadyAt → (Place → Half → Bool) → (Place → Half → Bool) → Type 0
+TurnMarks (turns.Turned at stop) ready before after = (p : Place) (half : Half) → after p half ≡ (before p half && not (names ready p half))
+TurnMarks turns.Memory ready before after = SameMarks before after
 
 -- a fact of a wait that came to its end
 abbrev pub OnTurned : Turned → Type 0 → Type 0

@@ -1,3 +1,4 @@
 pub mod Calls
 pub mod Clocks
+pub mod Desks
 pub mod Records

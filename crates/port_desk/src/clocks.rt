@@ -1,5 +1,6 @@
 // A poller beside the moment of the last turn, which it never falls behind.
 ghost use Rattle.std.specs.Prelude.{◌≡◌, ◌≤◌, IfOk, IfSome};
+ghost use Rattle.port_trait.specs.Counting.{Counted};
 
 use port_trait::{KeyList, Polled, Poller};
 use relay_model::NoMemory;
@@ -20,7 +21,7 @@ impl<P: Poller + Drop> Model for Clock<P> {
 
     ghost Value = { ClockSeen };
 
-    ghost view = { λ c. record { last = c.last; reached = P.clock c.poller; asked = P.asked c.poller; keys = c.keys.entries; named = P.named c.poller } };
+    ghost view = { λ c. record { last = c.last; reached = P.clock c.poller; stops = P.stops c.poller; asked = P.asked c.poller; keys = c.keys.entries; named = P.named c.poller; stopped = P.stopped c.poller } };
 
     ghost invariant = { λ c. (c.last ≤ P.clock c.poller) × (256 ≤ c.keys.room) };
 }
@@ -57,7 +58,9 @@ impl<P: Poller + Drop> Clock<P> {
         ensures asked { self.new.asked ≡ until }
         ensures at { result.at ≡ self.new.reached }
         ensures later { self.old.last ≤ result.at }
+        ensures stops { Counted result.stop self.old.stops self.new.stops }
         ensures named { IfSome self.new.named (λ entries. entries ≡ self.new.keys) }
+        ensures stopped { IfSome self.new.stopped (λ told. told ≡ result.stop) }
     {
         self.poller.poll(until, &mut self.keys)
     }
@@ -66,7 +69,7 @@ impl<P: Poller + Drop> Clock<P> {
     pub fn turn(&mut self, at: u64)
         requires { at ≤ self.old.reached }
         ensures last { self.new.last ≡ at }
-        ensures same { (self.new.reached ≡ self.old.reached) × (self.new.asked ≡ self.old.asked) × (self.new.keys ≡ self.old.keys) × (self.new.named ≡ self.old.named) }
+        ensures same { (self.new.reached ≡ self.old.reached) × (self.new.stops ≡ self.old.stops) × (self.new.asked ≡ self.old.asked) × (self.new.keys ≡ self.old.keys) × (self.new.named ≡ self.old.named) × (self.new.stopped ≡ self.old.stopped) }
     {
         self.last = at;
     }

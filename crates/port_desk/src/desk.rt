@@ -8,13 +8,14 @@ ghost use Rattle.world_trait.specs.Recordings.{HasAskingRoom, HasRoom, KeepsNoth
 ghost use Rattle.world_trait.specs.Runs.{IsFresh};
 ghost use Rattle.relay_model.specs.Holding.{Free};
 ghost use Rattle.relay_model.specs.declared.places.Place.{Place};
+ghost use Rattle.port_trait.specs.Counting.{Counted};
 ghost use Rattle.port_trait.specs.Meanings.{Behind};
 ghost use Rattle.desk_ports.specs.Endings.{EndsSo, OnJoinedBack, handed, is_left};
 ghost use Rattle.desk_ports.specs.Ports.{seen};
-ghost use Rattle.desk_ports.specs.Harbors.{hint_told};
+ghost use Rattle.desk_ports.specs.Harbors.{SameStreams};
 ghost use Rattle.desk_places.specs.Footing.{HasBerth, IsSound};
 ghost use Rattle.desk_places.specs.Stations.{hold_at};
-ghost use Rattle.desk_naming.specs.Naming.{NamesHinting, NamesKeyed, PollsUntil};
+ghost use Rattle.desk_naming.specs.Naming.{NamesHinting, NamesKeyed, NamesOnly, PollsUntil, WaitsIdle, told_by as hints_told};
 
 use crate::clocks::Clock;
 use crate::endings::{Backs, Counts, Ended};
@@ -149,6 +150,7 @@ impl<M: Maker + Drop, P: Poller + Drop, I: Port, O: Port, E: Port> Desk<M, P, I,
         ensures streams { (self.new.ports.harbor.input ≡ self.old.ports.harbor.input) × (self.new.ports.harbor.output ≡ self.old.ports.harbor.output) × (self.new.ports.harbor.errors ≡ self.old.ports.harbor.errors) }
         ensures made { SameValues self.old.ports.harbor.made self.new.ports.harbor.made }
         ensures maker { self.new.ports.maker ≡ self.old.ports.maker }
+        ensures parents { self.new.ports.parents.items ≡ self.old.ports.parents.items }
         ensures waits { self.new.waits ≡ self.old.waits }
         ensures stops { self.new.stops ≡ self.old.stops }
         ensures clock { self.new.clock ≡ self.old.clock }
@@ -172,6 +174,7 @@ impl<M: Maker + Drop, P: Poller + Drop, I: Port, O: Port, E: Port> Desk<M, P, I,
         ensures streams { (self.new.ports.harbor.input ≡ self.old.ports.harbor.input) × (self.new.ports.harbor.output ≡ self.old.ports.harbor.output) × (self.new.ports.harbor.errors ≡ self.old.ports.harbor.errors) }
         ensures made { SameValues self.old.ports.harbor.made self.new.ports.harbor.made }
         ensures maker { self.new.ports.maker ≡ self.old.ports.maker }
+        ensures parents { self.new.ports.parents.items ≡ self.old.ports.parents.items }
         ensures waits { self.new.waits ≡ self.old.waits }
         ensures stops { self.new.stops ≡ self.old.stops }
         ensures clock { self.new.clock ≡ self.old.clock }
@@ -187,23 +190,13 @@ impl<M: Maker + Drop, P: Poller + Drop, I: Port, O: Port, E: Port> Desk<M, P, I,
         requires empty { ready.old.entries ≡ [] }
         ensures room { ready.new.room ≡ ready.old.room }
         ensures named { NamesHeld (hold_at self.new.log.stations.entries) ready.new.entries }
-        ensures hinted { NamesHinting (hint_told
-            self.old.ports.harbor.input.port.hints
-            self.old.ports.harbor.output.port.hints
-            self.old.ports.harbor.errors.port.hints
-            self.old.ports.harbor.made) self.old.log.stations.entries ready.new.entries }
-        ensures until { PollsUntil (hint_told
-            self.old.ports.harbor.input.port.hints
-            self.old.ports.harbor.output.port.hints
-            self.old.ports.harbor.errors.port.hints
-            self.old.ports.harbor.made) self.old.log.stations.entries ready.new.entries self.old.clock.last until self.new.clock.asked }
-        ensures keyed { IfSome self.new.clock.named (λ entries. NamesKeyed entries self.old.log.stations.entries ready.new.entries) }
-        ensures input { self.new.ports.harbor.input.port
-            ≡ self.old.ports.harbor.input.port }
-        ensures output { self.new.ports.harbor.output.port
-            ≡ self.old.ports.harbor.output.port }
-        ensures errors { self.new.ports.harbor.errors.port
-            ≡ self.old.ports.harbor.errors.port }
+        ensures hinted { NamesHinting (hints_told self.old.ports.harbor) self.old.log.stations.entries ready.new.entries }
+        ensures until { PollsUntil (hints_told self.old.ports.harbor) self.old.log.stations.entries ready.new.entries self.old.clock.last until self.new.clock.asked }
+        ensures idle { WaitsIdle (hints_told self.old.ports.harbor) self.old.log.stations.entries until self.new.clock.asked }
+        ensures only { NamesOnly self.new.clock.keys (hints_told self.old.ports.harbor) self.old.log.stations.entries ready.new.entries }
+        ensures keys { IfSome self.new.clock.named (λ entries. entries ≡ self.new.clock.keys) }
+        ensures keyed { NamesKeyed self.new.clock.keys self.old.log.stations.entries ready.new.entries }
+        ensures streams { SameStreams self.old.ports.harbor self.new.ports.harbor }
         ensures made { SameValues self.old.ports.harbor.made self.new.ports.harbor.made }
         ensures maker { self.new.ports.maker ≡ self.old.ports.maker }
         ensures parents { self.new.ports.parents ≡ self.old.ports.parents }
@@ -213,6 +206,8 @@ impl<M: Maker + Drop, P: Poller + Drop, I: Port, O: Port, E: Port> Desk<M, P, I,
         ensures last { self.new.clock.last ≡ self.old.clock.last }
         ensures at { result.at ≡ self.new.clock.reached }
         ensures later { self.old.clock.last ≤ result.at }
+        ensures stop { Counted result.stop self.old.clock.stops self.new.clock.stops }
+        ensures stopped { IfSome self.new.clock.stopped (λ told. told ≡ result.stop) }
     {
         let log = &self.log;
         name_hinting(&mut self.ports, &log.stations, ready);

@@ -21,7 +21,8 @@ pub struct Counts {
 }
 
 impl Counts {
-    pub fn new(faults: u64, waits: u64, stops: u64) -> Counts
+    /// Only the end of a desk makes counts.
+    pub(crate) fn new(faults: u64, waits: u64, stops: u64) -> Counts
         ensures { result ≡ record { faults = faults; waits = waits; stops = stops } }
     {
         Counts {

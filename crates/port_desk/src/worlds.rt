@@ -1,22 +1,23 @@
 // The calls of the relay on a desk.
-ghost use Rattle.std.specs.Prelude.{◌≡◌, ◌≤◌, ◌<◌, ◌&&◌, ℕ, None, Some, true, false, not, find, length, option_map, ◌⊎◌, IfSome, IfNone};
-ghost use Rattle.slab.specs.Slab.{get};
+ghost use Rattle.std.specs.Prelude.{◌≡◌, ◌≤◌, ◌<◌, ◌&&◌, ℕ, None, Some, true, false, find, length, option_map, ◌⊎◌, IfSome, IfNone, MatchOption};
+ghost use Rattle.slab.specs.Slab.{SameValues, get};
 ghost use Rattle.relay_model.specs.Conversions.{longest_packet};
 ghost use Rattle.relay_model.specs.declared.places.Place.{Place};
-ghost use Rattle.relay_model.specs.declared.places.Half.{Half};
+ghost use Rattle.relay_model.specs.declared.places.Half.TheVariants.{ToRead, ToWrite};
 ghost use Rattle.relay_model.specs.Holding.{Free, Open, Settling, is_free, is_open};
 ghost use Rattle.relay_model.specs.Places.{same_place};
-ghost use Rattle.relay_model.specs.Readiness.{names};
 ghost use Rattle.world_trait.specs.Answers.{Answered, AnsweredAsking, OnlyHeldNamed, NotReaped, OnlyWhereTold, ReadFits, Rose, WaitCounts, WriteFits, accept_act, close_act, is_accept_fault, is_listen_fault, is_note_fault, is_open_fault, is_read_fault, is_send_fault, is_shut_fault, is_write_fault, listen_act, note_act, open_act, read_act, reap_act, send_act, shut_act, wait_act, wants_read_memory, wants_send_memory, wants_shut_memory, wants_turn_memory, wants_write_memory, write_act};
 ghost use Rattle.port_trait.specs.Streams.{finishes};
 ghost use Rattle.desk_places.specs.Bases.{AcceptsOn, Leaves, ListensOn, OpensOn, SameBases, SettlesOn};
-ghost use Rattle.port_desk.specs.Calls.{OnShut, OnTurned, ReadsSo, SendsSo, ShutsSo, WritesSo};
+ghost use Rattle.port_desk.specs.Calls.{NotesAs, OnShut, OnTurned, ReadsSo, SaysStop, SendsSo, ShutsSo, StopsAs, TurnMarks, WritesSo};
+ghost use Rattle.port_desk.specs.Desks.{Calls, Did, Ends, Faults, Marked, read_mark, row_of, send_mark, shut_ends, write_mark};
 ghost use Rattle.desk_places.specs.Causes.{AcceptCause, ListenCause, OpenAsks, OpenCause, StandardCause};
 ghost use Rattle.port_trait.specs.Counting.{Rose as Rises};
 ghost use Rattle.desk_ports.specs.Bases.{standard_of};
-ghost use Rattle.desk_ports.specs.Harbors.{AtErrors, AtInput, AtMade, AtOutput, MadeCall, giving_pier, hint_told, taking_pier};
-ghost use Rattle.desk_places.specs.Changes.{LeavesParent, ReapsAnswered, SettlesMade, SettlesSo, is_finished, joined_answer, made_at};
-ghost use Rattle.desk_naming.specs.Naming.{NamesHinting, NamesKeyed, PollsUntil};
+ghost use Rattle.desk_ports.specs.Harbors.{AtMade, SameStreams, giving_pier, taking_pier};
+ghost use Rattle.desk_places.specs.Changes.{AcceptsMade, LeavesParent, ListensMade, OpensAt, OpensMade, ReapsAnswered, ReapsOut, SettledAt, is_finished, joined_answer, made_at};
+ghost use Rattle.desk_places.specs.Marks.{AcceptMarks, ListenMarks, MarksPlace, OpenMarks, SameMarks, SettleMarks};
+ghost use Rattle.desk_naming.specs.Naming.{NamesHinting, NamesKeyed, NamesOnly, PollsUntil, WaitsIdle, told_by};
 ghost use Rattle.desk_ports.specs.Ports.{MovesNothing, seen};
 ghost use Rattle.port_desk.specs.Records.{CountsOnce, CountsStop, NotedSo};
 ghost use Rattle.desk_places.specs.Stations.{SetsStation, base_at, hold_at, is_disarmed, shut_down, station_at};
@@ -55,28 +56,18 @@ impl<M: Maker + Drop, P: Poller + Drop, I: Port, O: Port, E: Port> World for Des
         ensures faults { self.old.log.faults ≤ self.new.log.faults }
         ensures named { OnlyHeldNamed (hold_at self.new.log.stations.entries) ready.new.entries result }
         ensures memory { OnlyWhereTold self.old.log.recording.told (wants_turn_memory result) }
-        ensures keyed { OnTurned result (IfSome self.new.clock.named (λ entries. NamesKeyed entries self.old.log.stations.entries ready.new.entries)) }
-        ensures hinted { OnTurned result (NamesHinting
-            (hint_told
-            self.old.ports.harbor.input.port.hints
-            self.old.ports.harbor.output.port.hints
-            self.old.ports.harbor.errors.port.hints
-            self.old.ports.harbor.made)
-            self.old.log.stations.entries ready.new.entries) }
-        ensures until { OnTurned result (PollsUntil
-            (hint_told
-            self.old.ports.harbor.input.port.hints
-            self.old.ports.harbor.output.port.hints
-            self.old.ports.harbor.errors.port.hints
-            self.old.ports.harbor.made)
-            self.old.log.stations.entries ready.new.entries self.old.clock.last until self.new.clock.asked) }
-        ensures armed { OnTurned result ((p : Place) (half : Half) → is_disarmed self.new.log.stations.entries p half ≡ (is_disarmed self.old.log.stations.entries p half && not (names ready.new.entries p half))) }
-        ensures input { self.new.ports.harbor.input.port
-            ≡ self.old.ports.harbor.input.port }
-        ensures output { self.new.ports.harbor.output.port
-            ≡ self.old.ports.harbor.output.port }
-        ensures errors { self.new.ports.harbor.errors.port
-            ≡ self.old.ports.harbor.errors.port }
+        ensures keys { OnTurned result (IfSome self.new.clock.named (λ entries. entries ≡ self.new.clock.keys)) }
+        ensures keyed { OnTurned result (NamesKeyed self.new.clock.keys self.old.log.stations.entries ready.new.entries) }
+        ensures hinted { OnTurned result (NamesHinting (told_by self.old.ports.harbor) self.old.log.stations.entries ready.new.entries) }
+        ensures only { OnTurned result (NamesOnly self.new.clock.keys (told_by self.old.ports.harbor) self.old.log.stations.entries ready.new.entries) }
+        ensures until { OnTurned result (PollsUntil (told_by self.old.ports.harbor) self.old.log.stations.entries ready.new.entries self.old.clock.last until self.new.clock.asked) }
+        ensures idle { OnTurned result (WaitsIdle (told_by self.old.ports.harbor) self.old.log.stations.entries until self.new.clock.asked) }
+        ensures armed { TurnMarks result ready.new.entries (is_disarmed self.old.log.stations.entries) (is_disarmed self.new.log.stations.entries) }
+        ensures streams { SameStreams self.old.ports.harbor self.new.ports.harbor }
+        ensures made { SameValues self.old.ports.harbor.made self.new.ports.harbor.made }
+        ensures rest { (self.new.ports.maker ≡ self.old.ports.maker) × (self.new.ports.parents.items ≡ self.old.ports.parents.items) }
+        ensures stopping { SaysStop self.new.clock.stopped result }
+        ensures said { StopsAs self.old.clock.stops self.new.clock.stops result }
         ensures poller { OnTurned result (self.new.clock.last ≡ self.new.clock.reached) }
         ensures bases { SameBases (base_at self.old.log.stations.entries) (base_at self.new.log.stations.entries) }
     {
@@ -115,7 +106,12 @@ impl<M: Maker + Drop, P: Poller + Drop, I: Port, O: Port, E: Port> World for Des
             ⊎ (Rises self.old.ports.harbor.output.port.counts.faults self.new.ports.harbor.output.port.counts.faults
             ⊎ Rises self.old.ports.harbor.errors.port.counts.faults self.new.ports.harbor.errors.port.counts.faults)) result) }
         ensures asked { IfNone (standard_of place single.now.target) (OpenAsks place single.now behind (M.asked self.new.ports.maker) result) }
-        ensures made { IfNone (standard_of place single.now.target) (OpenCause (M.faults self.old.ports.maker) (M.faults self.new.ports.maker) (M.stalls self.old.ports.maker) (M.stalls self.new.ports.maker) result) }
+        ensures made { IfNone (standard_of place single.now.target) (OpenCause (seen M.Made.gave M.Made.took M.Made.shuts M.Made.hints M.Made.hinting M.Made.counts M.Made.ended M.Made.joins M.Made.child) (M.faults self.old.ports.maker) (M.faults self.new.ports.maker) (M.stalls self.old.ports.maker) (M.stalls self.new.ports.maker) result) }
+        ensures begun { IfSome (standard_of place single.now.target) (λ base. OpensAt base self.old.ports.harbor self.new.ports.harbor result) }
+        ensures streams { IfNone (standard_of place single.now.target) (SameStreams self.old.ports.harbor self.new.ports.harbor) }
+        ensures ports { MatchOption (standard_of place single.now.target) (OpensMade (seen M.Made.gave M.Made.took M.Made.shuts M.Made.hints M.Made.hinting M.Made.counts M.Made.ended M.Made.joins M.Made.child) place (base_at self.new.log.stations.entries place) result self.old.ports.harbor.made self.new.ports.harbor.made) (λ base. SameValues self.old.ports.harbor.made self.new.ports.harbor.made) }
+        ensures parents { self.new.ports.parents.items ≡ self.old.ports.parents.items }
+        ensures marks { OpenMarks place result (is_disarmed self.old.log.stations.entries) (is_disarmed self.new.log.stations.entries) }
         ensures bases { OpensOn (standard_of place single.now.target) place (base_at self.old.log.stations.entries) (base_at self.new.log.stations.entries) result }
     {
         let Ok(copied) = self.prepare_opening(single) else {
@@ -137,18 +133,9 @@ impl<M: Maker + Drop, P: Poller + Drop, I: Port, O: Port, E: Port> World for Des
         ensures stops { self.old.stops ≤ self.new.stops }
         ensures unstopped { self.new.stops ≡ self.old.stops }
         ensures clock { self.new.clock.last ≡ self.old.clock.last }
-        ensures input { IfSome (base_at self.old.log.stations.entries place) (λ base. AtInput (giving_pier base)
-            (SettlesSo self.old.ports.harbor.input.port self.new.ports.harbor.input.port result)
-            (self.new.ports.harbor.input ≡ self.old.ports.harbor.input)) }
-        ensures output { IfSome (base_at self.old.log.stations.entries place) (λ base. AtOutput (giving_pier base)
-            (SettlesSo self.old.ports.harbor.output.port self.new.ports.harbor.output.port result)
-            (self.new.ports.harbor.output ≡ self.old.ports.harbor.output)) }
-        ensures errors { IfSome (base_at self.old.log.stations.entries place) (λ base. AtErrors (giving_pier base)
-            (SettlesSo self.old.ports.harbor.errors.port self.new.ports.harbor.errors.port result)
-            (self.new.ports.harbor.errors ≡ self.old.ports.harbor.errors)) }
-        ensures made { IfSome (base_at self.old.log.stations.entries place) (λ base. AtMade (giving_pier base)
-            (λ key. SettlesMade self.old.ports.harbor.made self.new.ports.harbor.made key result)
-            (self.new.ports.harbor.made ≡ self.old.ports.harbor.made)) }
+        ensures call { IfSome (base_at self.old.log.stations.entries place) (λ base. SettledAt (seen M.Made.gave M.Made.took M.Made.shuts M.Made.hints M.Made.hinting M.Made.counts M.Made.ended M.Made.joins M.Made.child) (giving_pier base) self.old.ports.harbor self.new.ports.harbor self.old.ports.parents.items self.new.ports.parents.items result) }
+        ensures maker { self.new.ports.maker ≡ self.old.ports.maker }
+        ensures marks { SettleMarks place result (is_disarmed self.old.log.stations.entries) (is_disarmed self.new.log.stations.entries) }
         ensures bases { SettlesOn place (base_at self.old.log.stations.entries) (base_at self.new.log.stations.entries) result }
     {
         let Ok(()) = self.log.reserve(1) else {
@@ -169,7 +156,10 @@ impl<M: Maker + Drop, P: Poller + Drop, I: Port, O: Port, E: Port> World for Des
         ensures unstopped { self.new.stops ≡ self.old.stops }
         ensures clock { self.new.clock.last ≡ self.old.clock.last }
         ensures streams { (self.new.ports.harbor.input ≡ self.old.ports.harbor.input) × (self.new.ports.harbor.output ≡ self.old.ports.harbor.output) × (self.new.ports.harbor.errors ≡ self.old.ports.harbor.errors) }
-        ensures made { ListenCause (M.faults self.old.ports.maker) (M.faults self.new.ports.maker) result }
+        ensures made { ListenCause (seen M.Made.gave M.Made.took M.Made.shuts M.Made.hints M.Made.hinting M.Made.counts M.Made.ended M.Made.joins M.Made.child) (M.faults self.old.ports.maker) (M.faults self.new.ports.maker) result }
+        ensures ports { ListensMade (seen M.Made.gave M.Made.took M.Made.shuts M.Made.hints M.Made.hinting M.Made.counts M.Made.ended M.Made.joins M.Made.child) door (base_at self.new.log.stations.entries door) result self.old.ports.harbor.made self.new.ports.harbor.made }
+        ensures parents { self.new.ports.parents.items ≡ self.old.ports.parents.items }
+        ensures marks { ListenMarks door result (is_disarmed self.old.log.stations.entries) (is_disarmed self.new.log.stations.entries) }
         ensures bases { ListensOn door (base_at self.old.log.stations.entries) (base_at self.new.log.stations.entries) result }
     {
         let Ok(copied) = self.prepare_opening(single) else {
@@ -191,7 +181,12 @@ impl<M: Maker + Drop, P: Poller + Drop, I: Port, O: Port, E: Port> World for Des
         ensures unstopped { self.new.stops ≡ self.old.stops }
         ensures clock { self.new.clock.last ≡ self.old.clock.last }
         ensures streams { (self.new.ports.harbor.input ≡ self.old.ports.harbor.input) × (self.new.ports.harbor.output ≡ self.old.ports.harbor.output) × (self.new.ports.harbor.errors ≡ self.old.ports.harbor.errors) }
-        ensures made { AcceptCause (M.faults self.old.ports.maker) (M.faults self.new.ports.maker) (M.stalls self.old.ports.maker) (M.stalls self.new.ports.maker) (M.came self.new.ports.maker) result }
+        ensures made { AcceptCause (seen M.Made.gave M.Made.took M.Made.shuts M.Made.hints M.Made.hinting M.Made.counts M.Made.ended M.Made.joins M.Made.child) (M.faults self.old.ports.maker) (M.faults self.new.ports.maker) (M.stalls self.old.ports.maker) (M.stalls self.new.ports.maker) (M.came self.new.ports.maker) result }
+        ensures ports { IfSome (base_at self.old.log.stations.entries door) (λ base. AtMade (giving_pier base)
+            (λ key. AcceptsMade (seen M.Made.gave M.Made.took M.Made.shuts M.Made.hints M.Made.hinting M.Made.counts M.Made.ended M.Made.joins M.Made.child) key place (base_at self.new.log.stations.entries place) result self.old.ports.harbor.made self.new.ports.harbor.made)
+            (SameValues self.old.ports.harbor.made self.new.ports.harbor.made)) }
+        ensures parents { self.new.ports.parents.items ≡ self.old.ports.parents.items }
+        ensures marks { AcceptMarks door place result (is_disarmed self.old.log.stations.entries) (is_disarmed self.new.log.stations.entries) }
         ensures bases { AcceptsOn place (base_at self.old.log.stations.entries) (base_at self.new.log.stations.entries) result }
     {
         let Ok(()) = self.prepare_port() else {
@@ -206,33 +201,13 @@ impl<M: Maker + Drop, P: Poller + Drop, I: Port, O: Port, E: Port> World for Des
         requires open { is_open (hold_at self.old.log.stations.entries place) ≡ true }
         requires room { 0 < length into.old }
         ensures fits { ReadFits (length into.old) result }
-        ensures act { Answered self.old.log.recording.told self.new.log.recording.told (hold_at self.old.log.stations.entries) (hold_at self.new.log.stations.entries) (read_act place into.new result) }
-        ensures cause { Rose self.old.log.faults self.new.log.faults (is_read_fault result) }
-        ensures exact { CountsOnce self.old.log.faults self.new.log.faults (is_read_fault result) }
-        ensures waits { self.new.waits ≡ self.old.waits }
-        ensures stops { self.old.stops ≤ self.new.stops }
-        ensures unstopped { self.new.stops ≡ self.old.stops }
-        ensures clock { self.new.clock.last ≡ self.old.clock.last }
+        ensures act { Did (read_act place into.new result) self.old.log self.new.log }
+        ensures faults { Faults (is_read_fault result) self.old.log self.new.log }
         ensures memory { OnlyWhereTold self.old.log.recording.told (wants_read_memory result) }
-        ensures input { IfSome (base_at self.old.log.stations.entries place) (λ base. AtInput (giving_pier base)
-            (ReadsSo into.new result
-            self.old.ports.harbor.input.port
-            self.new.ports.harbor.input.port)
-            (self.new.ports.harbor.input ≡ self.old.ports.harbor.input)) }
-        ensures output { IfSome (base_at self.old.log.stations.entries place) (λ base. AtOutput (giving_pier base)
-            (ReadsSo into.new result
-            self.old.ports.harbor.output.port
-            self.new.ports.harbor.output.port)
-            (self.new.ports.harbor.output ≡ self.old.ports.harbor.output)) }
-        ensures errors { IfSome (base_at self.old.log.stations.entries place) (λ base. AtErrors (giving_pier base)
-            (ReadsSo into.new result
-            self.old.ports.harbor.errors.port
-            self.new.ports.harbor.errors.port)
-            (self.new.ports.harbor.errors ≡ self.old.ports.harbor.errors)) }
-        ensures made { IfSome (base_at self.old.log.stations.entries place) (λ base. AtMade (giving_pier base)
-            (λ key. MadeCall self.old.ports.harbor.made self.new.ports.harbor.made key (λ old new. ReadsSo into.new result old new))
-            (self.new.ports.harbor.made ≡ self.old.ports.harbor.made)) }
-        ensures bases { SameBases (base_at self.old.log.stations.entries) (base_at self.new.log.stations.entries) }
+        ensures turns { (self.new.waits ≡ self.old.waits) × (self.new.stops ≡ self.old.stops) × (self.new.clock ≡ self.old.clock) }
+        ensures call { Calls giving_pier place self.old.log self.old.ports self.new.ports (ReadsSo into.new result) }
+        ensures rest { (self.new.ports.maker ≡ self.old.ports.maker) × (self.new.ports.parents.items ≡ self.old.ports.parents.items) }
+        ensures row { Marked place ToRead (read_mark result) (row_of self.old.log) (row_of self.new.log) }
     {
         let Ok(copied) = self.log.prepare(into) else {
             return ReadAnswer::Memory;
@@ -245,33 +220,13 @@ impl<M: Maker + Drop, P: Poller + Drop, I: Port, O: Port, E: Port> World for Des
         requires open { hold_at self.old.log.stations.entries place ≡ Open }
         requires some { 0 < length bytes.now }
         ensures fits { WriteFits (length bytes.now) result }
-        ensures act { Answered self.old.log.recording.told self.new.log.recording.told (hold_at self.old.log.stations.entries) (hold_at self.new.log.stations.entries) (write_act place bytes.now result) }
-        ensures cause { Rose self.old.log.faults self.new.log.faults (is_write_fault result) }
-        ensures exact { CountsOnce self.old.log.faults self.new.log.faults (is_write_fault result) }
-        ensures waits { self.new.waits ≡ self.old.waits }
-        ensures stops { self.old.stops ≤ self.new.stops }
-        ensures unstopped { self.new.stops ≡ self.old.stops }
-        ensures clock { self.new.clock.last ≡ self.old.clock.last }
+        ensures act { Did (write_act place bytes.now result) self.old.log self.new.log }
+        ensures faults { Faults (is_write_fault result) self.old.log self.new.log }
         ensures memory { OnlyWhereTold self.old.log.recording.told (wants_write_memory result) }
-        ensures input { IfSome (base_at self.old.log.stations.entries place) (λ base. AtInput (taking_pier base)
-            (WritesSo bytes.now result
-            self.old.ports.harbor.input.port
-            self.new.ports.harbor.input.port)
-            (self.new.ports.harbor.input ≡ self.old.ports.harbor.input)) }
-        ensures output { IfSome (base_at self.old.log.stations.entries place) (λ base. AtOutput (taking_pier base)
-            (WritesSo bytes.now result
-            self.old.ports.harbor.output.port
-            self.new.ports.harbor.output.port)
-            (self.new.ports.harbor.output ≡ self.old.ports.harbor.output)) }
-        ensures errors { IfSome (base_at self.old.log.stations.entries place) (λ base. AtErrors (taking_pier base)
-            (WritesSo bytes.now result
-            self.old.ports.harbor.errors.port
-            self.new.ports.harbor.errors.port)
-            (self.new.ports.harbor.errors ≡ self.old.ports.harbor.errors)) }
-        ensures made { IfSome (base_at self.old.log.stations.entries place) (λ base. AtMade (taking_pier base)
-            (λ key. MadeCall self.old.ports.harbor.made self.new.ports.harbor.made key (λ old new. WritesSo bytes.now result old new))
-            (self.new.ports.harbor.made ≡ self.old.ports.harbor.made)) }
-        ensures bases { SameBases (base_at self.old.log.stations.entries) (base_at self.new.log.stations.entries) }
+        ensures turns { (self.new.waits ≡ self.old.waits) × (self.new.stops ≡ self.old.stops) × (self.new.clock ≡ self.old.clock) }
+        ensures call { Calls taking_pier place self.old.log self.old.ports self.new.ports (WritesSo bytes.now result) }
+        ensures rest { (self.new.ports.maker ≡ self.old.ports.maker) × (self.new.ports.parents.items ≡ self.old.ports.parents.items) }
+        ensures row { Marked place ToWrite (write_mark result) (row_of self.old.log) (row_of self.new.log) }
     {
         let Ok(copied) = self.log.prepare(bytes) else {
             return WriteAnswer::Memory;
@@ -284,33 +239,13 @@ impl<M: Maker + Drop, P: Poller + Drop, I: Port, O: Port, E: Port> World for Des
         requires open { hold_at self.old.log.stations.entries place ≡ Open }
         requires some { 0 < length bytes.now }
         requires packet { length bytes.now ≤ longest_packet }
-        ensures act { Answered self.old.log.recording.told self.new.log.recording.told (hold_at self.old.log.stations.entries) (hold_at self.new.log.stations.entries) (send_act place bytes.now result) }
-        ensures cause { Rose self.old.log.faults self.new.log.faults (is_send_fault result) }
-        ensures exact { CountsOnce self.old.log.faults self.new.log.faults (is_send_fault result) }
-        ensures waits { self.new.waits ≡ self.old.waits }
-        ensures stops { self.old.stops ≤ self.new.stops }
-        ensures unstopped { self.new.stops ≡ self.old.stops }
-        ensures clock { self.new.clock.last ≡ self.old.clock.last }
+        ensures act { Did (send_act place bytes.now result) self.old.log self.new.log }
+        ensures faults { Faults (is_send_fault result) self.old.log self.new.log }
         ensures memory { OnlyWhereTold self.old.log.recording.told (wants_send_memory result) }
-        ensures input { IfSome (base_at self.old.log.stations.entries place) (λ base. AtInput (taking_pier base)
-            (SendsSo bytes.now result
-            self.old.ports.harbor.input.port
-            self.new.ports.harbor.input.port)
-            (self.new.ports.harbor.input ≡ self.old.ports.harbor.input)) }
-        ensures output { IfSome (base_at self.old.log.stations.entries place) (λ base. AtOutput (taking_pier base)
-            (SendsSo bytes.now result
-            self.old.ports.harbor.output.port
-            self.new.ports.harbor.output.port)
-            (self.new.ports.harbor.output ≡ self.old.ports.harbor.output)) }
-        ensures errors { IfSome (base_at self.old.log.stations.entries place) (λ base. AtErrors (taking_pier base)
-            (SendsSo bytes.now result
-            self.old.ports.harbor.errors.port
-            self.new.ports.harbor.errors.port)
-            (self.new.ports.harbor.errors ≡ self.old.ports.harbor.errors)) }
-        ensures made { IfSome (base_at self.old.log.stations.entries place) (λ base. AtMade (taking_pier base)
-            (λ key. MadeCall self.old.ports.harbor.made self.new.ports.harbor.made key (λ old new. SendsSo bytes.now result old new))
-            (self.new.ports.harbor.made ≡ self.old.ports.harbor.made)) }
-        ensures bases { SameBases (base_at self.old.log.stations.entries) (base_at self.new.log.stations.entries) }
+        ensures turns { (self.new.waits ≡ self.old.waits) × (self.new.stops ≡ self.old.stops) × (self.new.clock ≡ self.old.clock) }
+        ensures call { Calls taking_pier place self.old.log self.old.ports self.new.ports (SendsSo bytes.now result) }
+        ensures rest { (self.new.ports.maker ≡ self.old.ports.maker) × (self.new.ports.parents.items ≡ self.old.ports.parents.items) }
+        ensures row { Marked place ToWrite (send_mark result) (row_of self.old.log) (row_of self.new.log) }
     {
         let Ok(copied) = self.log.prepare(bytes) else {
             return SendAnswer::Memory;
@@ -329,25 +264,10 @@ impl<M: Maker + Drop, P: Poller + Drop, I: Port, O: Port, E: Port> World for Des
         ensures unstopped { self.new.stops ≡ self.old.stops }
         ensures clock { self.new.clock.last ≡ self.old.clock.last }
         ensures memory { OnlyWhereTold self.old.log.recording.told (wants_shut_memory result) }
-        ensures input { IfSome (base_at self.old.log.stations.entries place) (λ base. AtInput (taking_pier base)
-            (ShutsSo how result
-            self.old.ports.harbor.input.port
-            self.new.ports.harbor.input.port)
-            (self.new.ports.harbor.input ≡ self.old.ports.harbor.input)) }
-        ensures output { IfSome (base_at self.old.log.stations.entries place) (λ base. AtOutput (taking_pier base)
-            (ShutsSo how result
-            self.old.ports.harbor.output.port
-            self.new.ports.harbor.output.port)
-            (self.new.ports.harbor.output ≡ self.old.ports.harbor.output)) }
-        ensures errors { IfSome (base_at self.old.log.stations.entries place) (λ base. AtErrors (taking_pier base)
-            (ShutsSo how result
-            self.old.ports.harbor.errors.port
-            self.new.ports.harbor.errors.port)
-            (self.new.ports.harbor.errors ≡ self.old.ports.harbor.errors)) }
-        ensures made { IfSome (base_at self.old.log.stations.entries place) (λ base. AtMade (taking_pier base)
-            (λ key. MadeCall self.old.ports.harbor.made self.new.ports.harbor.made key (λ old new. ShutsSo how result old new))
-            (self.new.ports.harbor.made ≡ self.old.ports.harbor.made)) }
+        ensures call { Ends (shut_ends how result) taking_pier place self.old.log self.old.ports self.new.ports (ShutsSo how result) }
+        ensures rest { (self.new.ports.maker ≡ self.old.ports.maker) × (self.new.ports.parents.items ≡ self.old.ports.parents.items) }
         ensures station { OnShut result (SetsStation place (option_map (shut_down (finishes how)) (station_at self.old.log.stations.entries place)) (station_at self.old.log.stations.entries) (station_at self.new.log.stations.entries)) }
+        ensures marks { SameMarks (is_disarmed self.old.log.stations.entries) (is_disarmed self.new.log.stations.entries) }
         ensures bases { SameBases (base_at self.old.log.stations.entries) (base_at self.new.log.stations.entries) }
     {
         let Ok(()) = self.log.reserve(1) else {
@@ -370,8 +290,10 @@ impl<M: Maker + Drop, P: Poller + Drop, I: Port, O: Port, E: Port> World for Des
         ensures streams { (self.new.ports.harbor.input ≡ self.old.ports.harbor.input) × (self.new.ports.harbor.output ≡ self.old.ports.harbor.output) × (self.new.ports.harbor.errors ≡ self.old.ports.harbor.errors) }
         ensures joined { IfSome (station_at self.old.log.stations.entries place) (λ s. self.new.joined ≡ joined_answer (s.finished && is_finished why) (made_at self.old.ports.harbor.made s.base)) }
         ensures parents { IfSome (station_at self.old.log.stations.entries place) (λ s. LeavesParent (s.finished && is_finished why) (made_at self.old.ports.harbor.made s.base) self.old.ports.parents.items self.new.ports.parents.items) }
+        ensures maker { self.new.ports.maker ≡ self.old.ports.maker }
         ensures gone { (key : ℕ) → base_at self.old.log.stations.entries place ≡ Some (bases.Made key) → get self.new.ports.harbor.made key ≡ None }
         ensures others { (key : ℕ) → (base_at self.old.log.stations.entries place ≡ Some (bases.Made key) → ⊥) → get self.new.ports.harbor.made key ≡ get self.old.ports.harbor.made key }
+        ensures marks { MarksPlace place false (is_disarmed self.old.log.stations.entries) (is_disarmed self.new.log.stations.entries) }
         ensures bases { Leaves place (base_at self.old.log.stations.entries) (base_at self.new.log.stations.entries) }
     {
         self.joined = self.ports.close(&mut self.log.stations, place, why);
@@ -392,11 +314,14 @@ impl<M: Maker + Drop, P: Poller + Drop, I: Port, O: Port, E: Port> World for Des
             self.old.ports.harbor.errors.port.took
             self.new.ports.harbor.errors.port.took
             text.now }
+        ensures call { NotesAs result self.old.ports.harbor.errors self.new.ports.harbor.errors text.now }
+        ensures rest { (self.new.ports.maker ≡ self.old.ports.maker) × (self.new.ports.parents.items ≡ self.old.ports.parents.items) }
         ensures unshut { self.new.ports.harbor.errors.port.shuts
             ≡ self.old.ports.harbor.errors.port.shuts }
         ensures errors { is_note_fault result ≡ true → Rises
             self.old.ports.harbor.errors.port.counts.faults
             self.new.ports.harbor.errors.port.counts.faults }
+        ensures marks { SameMarks (is_disarmed self.old.log.stations.entries) (is_disarmed self.new.log.stations.entries) }
         ensures bases { SameBases (base_at self.old.log.stations.entries) (base_at self.new.log.stations.entries) }
     {
         let Ok(copied) = self.log.prepare(text) else {
@@ -429,6 +354,8 @@ impl<M: Maker + Drop, P: Poller + Drop, I: Port, O: Port, E: Port> World for Des
         ensures clock { self.new.clock.last ≡ self.old.clock.last }
         ensures ports { (self.new.ports.harbor ≡ self.old.ports.harbor) × (self.new.ports.maker ≡ self.old.ports.maker) }
         ensures reaped { ReapsAnswered (find (λ b. same_place b.place place) self.old.ports.parents.items) result }
+        ensures parents { ReapsOut place result self.old.ports.parents.items self.new.ports.parents.items }
+        ensures marks { SameMarks (is_disarmed self.old.log.stations.entries) (is_disarmed self.new.log.stations.entries) }
         ensures bases { SameBases (base_at self.old.log.stations.entries) (base_at self.new.log.stations.entries) }
     {
         let Ok(()) = self.log.reserve(1) else {

@@ -1,7 +1,7 @@
 // The files of rows.
 use crate::calls::{PATIENCE, make_calls};
 use case_rows::{Answered, Answers, Inputs, RowFault};
-use file_ports::make_file;
+use file_ports::{PipeOpenings, make_file};
 use mio::Poll;
 use port_trait::Making;
 use relay_model::{Options, Part, Single, Target, Text};
@@ -26,7 +26,12 @@ where
     let Ok(poll) = Poll::new(rt) else {
         return answers.word("no-poll");
     };
-    match make_file(rt, system, alloc, poll.registry(), 0, &single, part) {
+    let mut openings = match PipeOpenings::new(alloc, poll.registry()) {
+        Making::Made(openings) => openings,
+        Making::Later(_) | Making::Failed => return answers.word("no-poll"),
+        Making::Memory => return Err(RowFault::NoMemory),
+    };
+    match make_file(rt, system, alloc, &mut openings, 0, &single, part) {
         Making::Made(mut port) => {
             answers.word("made")?;
             make_calls(alloc, &mut port, None, PATIENCE, inputs, answers)

@@ -121,6 +121,7 @@ fn call_table(alloc: Global, table: &mut Demux, step: &str, answers: &mut Answer
             table.drop_row(row);
             answers.word("dropped")
         }
+        ("call", _) => say_call(table.next_call(), answers),
         ("lost", _) => answers.number(table.lost()),
         _ => Err(RowFault::NoRow),
     }
@@ -194,6 +195,7 @@ fn call_hub(alloc: Global, hub: &mut Hub<MemLink>, step: &str, answers: &mut Ans
         }
         ("new", _) => answers.truth(hub.has_new()),
         ("more", _) => answers.truth(hub.left_off()),
+        ("call", _) => say_call(hub.next_call(), answers),
         ("lost", _) => answers.number(hub.lost()),
         _ => Err(RowFault::NoRow),
     }
@@ -223,6 +225,13 @@ fn say_put(put: Put, answers: &mut Answers) -> Answered {
             Lost::Numbers => answers.word("numbers"),
             Lost::Memory => answers.word("memory"),
         },
+    }
+}
+
+fn say_call(row: Option<u32>, answers: &mut Answers) -> Answered {
+    match row {
+        Some(row) => answers.number(u64::from(row)),
+        None => answers.word("none"),
     }
 }
 

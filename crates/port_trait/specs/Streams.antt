@@ -1,6 +1,7 @@
 -- What the calls of a source do to what it has left, and those of a sink to what it took. Contents that
 -- aren't told are None before and after.
 use Rattle.std.specs.Prelude.{◌≡◌, ℕ, ◌≤◌, Bool, true, false, List, [], ◌++◌, length, take, Option, option_map, IfSome}
+use Rattle.std.specs.Io.KnownBytes.{Keeps, Consumes, Appends, IsAtEnd}
 use Rattle.port_trait.specs.declared.answers.SourceGot.{SourceGot}
 use Rattle.port_trait.specs.declared.answers.SourceGot.TheVariants as gives
 use Rattle.port_trait.specs.declared.answers.SinkTook.{SinkTook}
@@ -43,6 +44,17 @@ SinkTakes before now bytes takes.Failed = now ≡ before
 abbrev pub sink_failed : SinkTook → Bool
 sink_failed (takes.Took n) = false
 sink_failed takes.Failed = true
+
+-- what a reader of std has left after a source over it answered so; where it isn't known, nothing is said
+abbrev pub ReaderGives : Option (List ℕ) → Option (List ℕ) → List ℕ → SourceGot → Type 0
+ReaderGives before now into (gives.Bytes n) = Consumes before now (take n into)
+ReaderGives before now into gives.End = Keeps before now × IsAtEnd now
+ReaderGives before now into gives.Failed = Keeps before now
+
+-- what a writer of std holds after a sink over it answered so; where it isn't known, nothing is said
+abbrev pub WriterTakes : Option (List ℕ) → Option (List ℕ) → List ℕ → SinkTook → Type 0
+WriterTakes before now bytes (takes.Took n) = Appends before now (take n bytes)
+WriterTakes before now bytes takes.Failed = Keeps before now
 
 -- the answer of a source that stands behind this answer of a port
 abbrev pub as_source_answer : Got → SourceGot

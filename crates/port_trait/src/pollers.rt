@@ -1,5 +1,5 @@
 // Pollers wait until something is ready or a moment has come.
-ghost use Rattle.std.specs.Prelude.{◌≡◌, ◌≤◌, ℕ, List, Option, None, IfSome};
+ghost use Rattle.std.specs.Prelude.{◌≡◌, ◌≤◌, ℕ, Bool, List, Option, None, IfSome};
 ghost use Rattle.port_trait.specs.Counting.{Counted};
 ghost use Rattle.relay_model.specs.declared.places.Half.{Half};
 
@@ -17,6 +17,9 @@ pub trait Poller {
     // the entries that the last poll left, empty before the first
     ghost named: { Self → Option (List (ℕ × Half)) } = { λ _. None };
 
+    // whether the last poll said stop
+    ghost stopped: { Self → Option Bool } = { λ _. None };
+
     ghost stops: { Self → ℕ };
     // the moment of the last poll, and the one until which it was asked to wait at most
     ghost clock: { Self → ℕ };
@@ -29,6 +32,7 @@ pub trait Poller {
         ensures asked { asked self.new ≡ until }
         ensures room { ready.new.room ≡ ready.old.room }
         ensures named { IfSome (named self.new) (λ entries. entries ≡ ready.new.entries) }
+        ensures stopped { IfSome (stopped self.new) (λ told. told ≡ result.stop) }
         ensures at { (clock self.old ≤ clock self.new) × (result.at ≡ clock self.new) }
         ensures stops { Counted result.stop (stops self.old) (stops self.new) };
 }

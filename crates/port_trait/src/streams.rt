@@ -1,7 +1,8 @@
 // Sources give bytes and sinks take them; both may block.
 ghost use Rattle.std.specs.Prelude.{◌≡◌, ◌<◌, ℕ, Bool, true, false, not, List, length, Option, None, min, take};
 ghost use Rattle.port_trait.specs.Counting.{Counted};
-ghost use Rattle.port_trait.specs.Streams.{SourceGives, SinkTakes, source_failed, source_ended, sink_failed};
+ghost use Rattle.port_trait.specs.Streams.{SourceGives, SinkTakes, source_failed, source_ended, sink_failed, ReaderGives, WriterTakes};
+ghost use Rattle.std.specs.Io.KnownBytes.{Keeps};
 
 use crate::answers::{SinkTook, SourceGot};
 use std::io::{Read, Write};
@@ -10,6 +11,8 @@ use std::io::{Read, Write};
 pub trait Source {
     // what it still has
     ghost left: { Self → Option (List ℕ) } = { λ _. None };
+    // what the reader of std beneath has left, where that is known
+    ghost rest: { Self → Option (List ℕ) } = { λ _. None };
 
     ghost faults: { Self → ℕ };
 
@@ -19,6 +22,7 @@ pub trait Source {
     fn read(&mut self, into: &mut [u8]) -> SourceGot
         requires { 0 < length into.old }
         ensures gives { SourceGives (left self.old) (left self.new) into.new result }
+        ensures rest { ReaderGives (rest self.old) (rest self.new) into.new result }
         ensures faults { Counted (source_failed result) (faults self.old) (faults self.new) }
         ensures ends { Counted (source_ended result) (ends self.old) (ends self.new) };
 }
@@ -27,6 +31,8 @@ pub trait Source {
 pub trait Sink {
     // what it took
     ghost took: { Self → Option (List ℕ) } = { λ _. None };
+    // what the writer of std beneath holds, where that is known
+    ghost holds: { Self → Option (List ℕ) } = { λ _. None };
 
     ghost faults: { Self → ℕ };
     // whether the last call on it was a `finish` that answered true
@@ -36,12 +42,14 @@ pub trait Sink {
     fn write(&mut self, bytes: &[u8]) -> SinkTook
         requires { 0 < length bytes.now }
         ensures takes { SinkTakes (took self.old) (took self.new) bytes.now result }
+        ensures holds { WriterTakes (holds self.old) (holds self.new) bytes.now result }
         ensures faults { Counted (sink_failed result) (faults self.old) (faults self.new) }
         ensures finished { finished self.new ≡ false };
 
     /// Nothing more will be written. False is a fault.
     fn finish(&mut self) -> bool
         ensures kept { took self.new ≡ took self.old }
+        ensures held { Keeps (holds self.old) (holds self.new) }
         ensures faults { Counted (not result) (faults self.old) (faults self.new) }
         ensures finished { finished self.new ≡ result };
 }
@@ -66,6 +74,8 @@ impl<R: Read> StdSource<R> {
 }
 
 impl<R: Read> Source for StdSource<R> {
+    ghost rest = { λ source. R.remaining source.reader };
+
     ghost faults = { λ source. source.faults };
 
     ghost ends = { λ source. source.ends };
@@ -105,6 +115,8 @@ impl<W: Write> StdSink<W> {
 }
 
 impl<W: Write> Sink for StdSink<W> {
+    ghost holds = { λ sink. W.contents sink.writer };
+
     ghost faults = { λ sink. sink.faults };
 
     ghost finished = { λ sink. sink.finished };

@@ -6,8 +6,9 @@ use Rattle.relay_model.specs.declared.commands.Target.TheVariants as targets
 use Rattle.relay_model.specs.Configs.{listens}
 use Rattle.file_ports.specs.Opened.{file_named}
 use Rattle.child_ports.specs.Programs.{runs_program}
-use Rattle.socket_kinds.specs.Kinds.{Listening, is_door, sort_of}
+use Rattle.socket_kinds.specs.Kinds.{Listening}
 use Rattle.socket_maker.specs.Makings.{opened_sort}
+use Rattle.socket_maker.specs.Ports.{is_door_port, sort_at}
 use Rattle.real_maker.specs.declared.ports.RealPort.{RealPort}
 use Rattle.real_maker.specs.declared.ports.RealPort.TheVariants as ports
 
@@ -33,7 +34,7 @@ gathers_senders single = takes_datagrams single.target && single.options.session
 -- the port is of the kind that is opened for such an address
 abbrev pub IsOpenedFor : Target → RealPort → Type 0
 IsOpenedFor target (ports.Echo port) = target ≡ targets.Echo
-IsOpenedFor target (ports.Socket port) = opened_sort target ≡ Some (sort_of port.socket)
+IsOpenedFor target (ports.Socket port) = opened_sort target ≡ Some (sort_at port)
 IsOpenedFor target (ports.File port) = is_some (file_named target) ≡ true
 IsOpenedFor target (ports.Child port) = runs_program target ≡ true
 IsOpenedFor target (ports.Socks port) = is_socks target ≡ true
@@ -42,12 +43,12 @@ IsOpenedFor target (ports.Peer port) = ⊥
 
 -- the port is the door of such an address
 abbrev pub IsDoorFor : Single → RealPort → Type 0
-IsDoorFor single (ports.Socket port) = (listens single.target ≡ true) × (gathers_senders single ≡ false) × (sort_of port.socket ≡ Listening)
+IsDoorFor single (ports.Socket port) = (listens single.target ≡ true) × (gathers_senders single ≡ false) × (sort_at port ≡ Listening)
 IsDoorFor single (ports.Peer port) = gathers_senders single ≡ true
 IsDoorFor single _ = ⊥
 
 -- the port is a peer's, of the kind that comes at such a door
 abbrev pub ComesAt : RealPort → RealPort → Type 0
-ComesAt (ports.Socket door) (ports.Socket port) = (is_door door.socket ≡ true) × (is_door port.socket ≡ false)
+ComesAt (ports.Socket door) (ports.Socket port) = (is_door_port door ≡ true) × (is_door_port port ≡ false)
 ComesAt (ports.Peer door) (ports.Peer port) = Unit {0}
 ComesAt _ _ = ⊥

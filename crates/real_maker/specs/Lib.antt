@@ -1,3 +1,10 @@
+pub mod Asking
+pub mod Gates
 pub mod Kinds
+pub mod Made
 pub mod Makers
 pub mod Ports
+pub mod Reserves
+pub mod Socks
+pub mod SocksStages
+pub mod Wanting

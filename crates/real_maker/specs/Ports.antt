@@ -5,14 +5,14 @@ use Rattle.file_ports.specs.Echoes.{EchoState}
 use Rattle.file_ports.specs.Halves.{HalvesState}
 use Rattle.file_ports.specs.declared.stream.FileStream.{FileStream}
 use Rattle.tunnel_port.specs.Tunnels.{TunnelState}
-use Rattle.socks_port.specs.Replies.{SocksState}
+use Rattle.real_maker.specs.SocksStages.{OpeningState}
 use Rattle.connect_port.specs.Replies.{ConnectState}
 use Rattle.peer_ports.specs.Ports.{PeerState}
 use Rattle.socket_ports.specs.Sockets.{PortState}
-use Rattle.socket_kinds.specs.declared.any_socket.AnySocket.{AnySocket}
+use Rattle.socket_maker.specs.declared.port.HostPort.{HostPort}
 
 -- what the port that it is tells
-abbrev pub of_port : {T : Type 0} → (EchoState → T) → (PortState AnySocket → T) → (PortState FileStream → T) → (PortState HalvesState → T) → (TunnelState (PortState AnySocket) SocksState → T) → (TunnelState (PortState AnySocket) ConnectState → T) → (PeerState → T) → RealPort → T
+abbrev pub of_port : {T : Type 0} → (EchoState → T) → (HostPort → T) → (PortState FileStream → T) → (PortState HalvesState → T) → (OpeningState → T) → (TunnelState HostPort ConnectState → T) → (PeerState → T) → RealPort → T
 of_port echo socket file child socks proxy peer (ports.Echo port) = echo port
 of_port echo socket file child socks proxy peer (ports.Socket port) = socket port
 of_port echo socket file child socks proxy peer (ports.File port) = file port

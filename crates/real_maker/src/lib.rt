@@ -2,11 +2,16 @@
 #![tactic(auto)]
 
 mod kinds;
+mod made;
 mod maker;
 mod opening;
 mod ports;
 mod proxied;
+mod reserve;
+mod socks;
 
+pub use made::MadePort;
 pub use maker::RealMaker;
 pub use opening::OfSocket;
 pub use ports::RealPort;
+pub use socks::{AskedLater, SocksOpening, SocksStage};

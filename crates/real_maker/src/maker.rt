@@ -1,5 +1,5 @@
 // The maker of every address that isn't a standard stream.
-ghost use Rattle.std.specs.Prelude.{◌≡◌, true, false, None, Some, IfSome, is_some};
+ghost use Rattle.std.specs.Prelude.{◌≡◌, ◌≢◌, ◌<◌, ◌+◌, true, false, None, Some, IfSome, IfOk, is_some};
 ghost use Rattle.relay_model.specs.declared.commands.Single.{Single};
 ghost use Rattle.relay_model.specs.declared.commands.Target.{Target};
 ghost use Rattle.relay_model.specs.Configs.{listens};
@@ -8,33 +8,38 @@ ghost use Rattle.port_trait.specs.Made.{making_failed, making_stalled, IsAtOnce,
 ghost use Rattle.port_trait.specs.declared.makers.Making.TheVariants as makings;
 ghost use Rattle.port_trait.specs.declared.makers.MadePeer.TheVariants as peers;
 ghost use Rattle.socket_kinds.specs.Accepting.{OnPort, OnPeer};
-ghost use Rattle.socket_kinds.specs.Kinds.{Listening, is_door};
-ghost use Rattle.socket_kinds.specs.declared.any_socket.AnySocket.{AnySocket};
-ghost use Rattle.socket_ports.specs.Sockets.{PortState};
-ghost use Rattle.socket_maker.specs.Makings.{opened_sort, port_sort};
+ghost use Rattle.socket_kinds.specs.Kinds.{Listening};
+ghost use Rattle.socket_maker.specs.Makings.{opened_sort};
+ghost use Rattle.socket_maker.specs.Ports.{is_door_port, port_sort};
+ghost use Rattle.socket_maker.specs.declared.port.HostPort.{HostPort};
 ghost use Rattle.peer_ports.specs.Ports.{PeerState};
 ghost use Rattle.file_ports.specs.Opened.{OnMade};
-ghost use Rattle.real_maker.specs.Makers.{risen, risen_if};
+ghost use Rattle.real_maker.specs.Made.{lacking_of, is_shared};
+ghost use Rattle.real_maker.specs.Makers.{risen, risen_if, IsFreshMaker, SameBooks};
+ghost use Rattle.real_maker.specs.Asking.{Asks};
 ghost use Rattle.real_maker.specs.Kinds.{IsOpenedFor, IsDoorFor, ComesAt, gathers_senders};
 ghost use Rattle.real_maker.specs.declared.ports.RealPort.TheVariants as ports;
 
 use crate::kinds::{Kind, kind_of};
+use crate::made::{Gate, Hints, MadePort, made_port};
 use crate::opening::{OfSocket, make_echo};
 use crate::ports::RealPort;
 use crate::proxied::{Through, through_proxy, through_socks};
+use crate::reserve::Reserve;
 use child_ports::{Nursery, make_child};
-use file_ports::make_file;
-use mio::Registry;
+use file_ports::{PipeOpenings, make_file};
+use mio::{Poll, Registry};
 use mio_poller::MioPoller;
-use peer_ports::PeerPort;
+use peer_ports::{Gathering, PeerPoller, PeerPort};
 use port_trait::{MadePeer, Maker, Making, Port};
-use relay_model::{Family, Part, Peer, Place, Single, Target};
-use socket_maker::{SocketMaker, bind_udp, door_address};
+use relay_model::{NoMemory, Part, Peer, Place, Single, Target};
+use socket_maker::{SocketMaker, bind_door, door_address};
 use std::alloc::Global;
 use std::fs::Files;
 use std::marker::Model;
-use std::net::{Net, SocketAddr};
+use std::net::Net;
 use std::process::SystemProcess;
+use std::rc::Rc;
 use std::rt::HostRuntime;
 use std::thread::Threads;
 use std::time::Clock;
@@ -45,9 +50,13 @@ pub struct RealMaker<R> {
     rt: R,
     system: HostRuntime,
     alloc: Global,
-    registry: Registry,
-    sockets: SocketMaker<R>,
+    registry: Rc<Registry, Global>,
+    gathering: Gathering,
+    // none where no poller reports what is made
+    sockets: Option<SocketMaker<R>>,
+    reserve: Reserve,
     nursery: Nursery<SystemProcess>,
+    openings: PipeOpenings,
     faults: u64,
     stalls: u64,
     came: Option<Peer>,
@@ -58,7 +67,7 @@ impl<R> Model for RealMaker<R> {
 
     ghost Value = { MakerState };
 
-    ghost view = { λ maker. record { faults = maker.faults; stalls = maker.stalls; came = maker.came } };
+    ghost view = { λ maker. record { faults = maker.faults; stalls = maker.stalls; came = maker.came; reserve = maker.reserve } };
 }
 
 impl<R> RealMaker<R>
@@ -66,37 +75,104 @@ where
     R: Files + Net + Clock + Threads + Copy + Drop,
 {
     /// Its ports are registered with this poller. Files and programs are the system's: only a known runtime may go to a
-    /// thread that opens a file. Never `Later`.
+    /// thread that opens a file or looks a name up. Never `Later`.
     pub fn on(
         rt: R,
         system: HostRuntime,
         alloc: Global,
-        poller: &MioPoller<R>,
+        poller: &PeerPoller<MioPoller<R>>,
     ) -> Making<RealMaker<R>>
         ensures at_once { IsAtOnce result }
-        ensures fresh { OnMade result (λ maker. maker ≡ record { faults = 0; stalls = 0; came = None }) }
+        ensures fresh { OnMade result IsFreshMaker }
     {
-        let Ok(registry) = poller.registry().try_clone() else {
-            return Making::Failed;
-        };
-        let Ok(nursery) = Nursery::new(alloc) else {
+        let beneath = poller.beneath();
+        let Ok(gathering) = poller.gathering() else {
             return Making::Memory;
         };
-        match SocketMaker::on(rt, alloc, poller) {
-            Making::Made(sockets) => Making::Made(RealMaker {
-                rt,
-                system,
-                alloc,
-                registry,
-                sockets,
-                nursery,
-                faults: 0,
-                stalls: 0,
-                came: None,
-            }),
-            Making::Later(_) | Making::Failed => Making::Failed,
-            Making::Memory => Making::Memory,
+        let sockets = match SocketMaker::on(rt, system, alloc, beneath) {
+            Making::Made(sockets) => sockets,
+            Making::Later(_) | Making::Failed => return Making::Failed,
+            Making::Memory => return Making::Memory,
+        };
+        RealMaker::of(
+            rt,
+            system,
+            alloc,
+            beneath.registry(),
+            gathering,
+            Some(sockets),
+        )
+    }
+
+    /// No poller reports its ports: sockets answer `Failed`, which is counted, and files and programs may always be ready.
+    /// Never `Later`.
+    pub fn new(rt: R, system: HostRuntime, alloc: Global) -> Making<RealMaker<R>>
+        ensures at_once { IsAtOnce result }
+        ensures fresh { OnMade result IsFreshMaker }
+    {
+        let Ok(gathering) = Gathering::new(alloc) else {
+            return Making::Memory;
+        };
+        match Poll::new(&rt) {
+            Ok(unheard) => { RealMaker::of(rt, system, alloc, unheard.registry(), gathering, None) }
+            Err(_) => Making::Failed,
         }
+    }
+
+    /// Its ports are registered here.
+    fn of(
+        rt: R,
+        system: HostRuntime,
+        alloc: Global,
+        registry: &Registry,
+        gathering: Gathering,
+        sockets: Option<SocketMaker<R>>,
+    ) -> Making<RealMaker<R>>
+        ensures at_once { IsAtOnce result }
+        ensures fresh { OnMade result IsFreshMaker }
+    {
+        let Ok(registry) = registry.try_clone() else {
+            return Making::Failed;
+        };
+        let openings = match PipeOpenings::new(alloc, &registry) {
+            Making::Made(openings) => openings,
+            Making::Later(_) | Making::Failed => return Making::Failed,
+            Making::Memory => return Making::Memory,
+        };
+        match RealMaker::with(rt, system, alloc, registry, gathering, openings, sockets) {
+            Ok(maker) => Making::Made(maker),
+            Err(NoMemory) => Making::Memory,
+        }
+    }
+
+    fn with(
+        rt: R,
+        system: HostRuntime,
+        alloc: Global,
+        registry: Registry,
+        gathering: Gathering,
+        openings: PipeOpenings,
+        sockets: Option<SocketMaker<R>>,
+    ) -> Result<RealMaker<R>, NoMemory>
+        ensures { IfOk result IsFreshMaker }
+    {
+        let nursery = Nursery::new(alloc)?;
+        let registry = Rc::new(alloc, registry)?;
+        let reserve = Reserve::of(alloc, registry.clone()?);
+        Ok(RealMaker {
+            rt,
+            system,
+            alloc,
+            registry,
+            gathering,
+            sockets,
+            reserve,
+            nursery,
+            openings,
+            faults: 0,
+            stalls: 0,
+            came: None,
+        })
     }
 
     fn count_fault(&mut self)
@@ -128,8 +204,28 @@ where
         }
     }
 
-    /// Opens the address, without counting. Programs that are left are asked for their ends first.
+    /// Opens the address, without counting. Where that fails for want of descriptors, those in reserve are given up, and it
+    /// is tried once more.
     fn open(
+        &mut self,
+        key: usize,
+        place: Place,
+        single: &Single,
+        behind: Option<Peer>,
+    ) -> Making<RealPort>
+        ensures same { SameBooks self.old self.new }
+        ensures kind { OnPort (IsOpenedFor single.now.target) result }
+    {
+        match self.open_once(key, place, single, behind) {
+            Making::Failed if self.reserve.gives_up() => {
+                self.open_once(key, place, single, behind)
+            }
+            making => making,
+        }
+    }
+
+    /// Opens the address, without counting. Programs that are left are asked for their ends first.
+    fn open_once(
         &mut self,
         key: usize,
         place: Place,
@@ -142,7 +238,7 @@ where
         self.nursery.ask_all();
         match kind_of(&self.system, single) {
             Kind::Echo => make_echo(self.alloc),
-            Kind::Socket => of_socket(self.sockets.make(key, place, single, None)),
+            Kind::Socket => self.open_socket(key, place, single),
             Kind::File => self.open_file(key, place.part, single),
             Kind::Child => self.start_program(key, place.part, single, behind),
             Kind::Proxied => self.connect_through(key, single),
@@ -150,11 +246,23 @@ where
         }
     }
 
-    fn open_file(&self, key: usize, part: Part, single: &Single) -> Making<RealPort>
-        ensures { OnPort (IsOpenedFor single.now.target) result }
+    fn open_socket(&mut self, key: usize, place: Place, single: &Single) -> Making<RealPort>
+        ensures same { self.new ≡ self.old }
+        ensures kind { OnPort (IsOpenedFor single.now.target) result }
+    {
+        let Some(sockets) = &mut self.sockets else {
+            return Making::Failed;
+        };
+        of_socket(sockets.make(key, place, single, None))
+    }
+
+    fn open_file(&mut self, key: usize, part: Part, single: &Single) -> Making<RealPort>
+        ensures same { self.new ≡ self.old }
+        ensures kind { OnPort (IsOpenedFor single.now.target) result }
     {
         let (system, alloc) = (self.system, self.alloc);
-        match make_file(&self.rt, system, alloc, &self.registry, key, single, part) {
+        let openings = &mut self.openings;
+        match make_file(&self.rt, system, alloc, openings, key, single, part) {
             Making::Made(port) => Making::Made(RealPort::File(port)),
             Making::Later(_) | Making::Failed => Making::Failed,
             Making::Memory => Making::Memory,
@@ -188,10 +296,15 @@ where
         }
     }
 
-    fn connect_through(&self, key: usize, single: &Single) -> Making<RealPort>
-        ensures { OnPort (IsOpenedFor single.now.target) result }
+    fn connect_through(&mut self, key: usize, single: &Single) -> Making<RealPort>
+        ensures same { self.new ≡ self.old }
+        ensures kind { OnPort (IsOpenedFor single.now.target) result }
+        ensures asks { OnPort (Asks single.now.target single.now.options) result }
     {
-        let (rt, registry, options) = (&self.rt, &self.registry, &single.options);
+        let (alloc, options) = (self.alloc, &single.options);
+        let Some(sockets) = &mut self.sockets else {
+            return Making::Failed;
+        };
         match &single.target {
             Target::Socks {
                 named,
@@ -204,7 +317,7 @@ where
                     host,
                     port: *port,
                 };
-                through_socks(rt, registry, key, *named, through, options)
+                through_socks(sockets, key, *named, through, options)
             }
             Target::Proxy { server, host, port } => {
                 let through = Through {
@@ -212,7 +325,7 @@ where
                     host,
                     port: *port,
                 };
-                through_proxy(rt, self.alloc, registry, key, through, options)
+                through_proxy(alloc, sockets, key, through, options)
             }
             _ => Making::Failed,
         }
@@ -224,55 +337,164 @@ where
         ensures same { self.new ≡ self.old }
         ensures kind { OnPort (IsDoorFor single.now) result }
     {
-        match gathering(single) {
-            Some((family, port)) => {
-                self.gather(door_address(single.options.socket.bind, family, port))
-            }
-            None => of_socket(self.sockets.listen(key, single)),
+        let Some(sockets) = &mut self.sockets else {
+            return Making::Failed;
+        };
+        if gathers(single) {
+            self.gather(key, single)
+        } else {
+            of_socket(sockets.listen(key, single))
         }
     }
 
-    /// The door of datagrams at this address.
-    fn gather(&self, addr: Option<SocketAddr>) -> Making<RealPort>
+    /// The door of datagrams of this address.
+    fn gather(&self, key: usize, single: &Single) -> Making<RealPort>
         ensures at_once { IsAtOnce result }
-        ensures kind { (single : Single) → gathers_senders single ≡ true → OnPort (IsDoorFor single) result }
+        ensures kind { gathers_senders single.now ≡ true → OnPort (IsDoorFor single.now) result }
     {
-        let Some(addr) = addr else {
+        let Some(at) = door_address(single) else {
             return Making::Failed;
         };
-        let Some(socket) = bind_udp(&self.rt, addr) else {
+        let Some(socket) = bind_door(&self.rt, single, at) else {
             return Making::Failed;
         };
-        match PeerPort::door(self.alloc, &self.registry, socket) {
+        match PeerPort::door(self.alloc, &self.registry, &self.gathering, key, socket) {
             Making::Made(port) => Making::Made(RealPort::Peer(port)),
             Making::Later(_) | Making::Failed => Making::Failed,
             Making::Memory => Making::Memory,
         }
     }
 
-    /// Takes a peer at the door of a socket, without counting.
-    fn take_peer(&mut self, door: &mut RealPort, key: usize) -> MadePeer<RealPort>
+    /// Takes a peer at the door, without counting. A door whose peers have sessions takes one only while all descriptors
+    /// that are kept for a peer are held, and gives one of them up for its connection.
+    fn take_peer(&mut self, door: &mut MadePort, key: usize) -> MadePeer<RealPort>
+        ensures same { SameBooks self.old self.new }
+        ensures kind { OnPeer (ComesAt door.old.port) result }
+        ensures door { (⟦<RealPort as Port>⟧.gave door.new.port ≡ ⟦<RealPort as Port>⟧.gave door.old.port) × (⟦<RealPort as Port>⟧.took door.new.port ≡ ⟦<RealPort as Port>⟧.took door.old.port) × (⟦<RealPort as Port>⟧.shuts door.new.port ≡ ⟦<RealPort as Port>⟧.shuts door.old.port) }
+        ensures kept { result ≢ peers.NoPeer → is_shared door.old.hints ≡ true → self.new.reserve.held + 1 ≡ self.new.reserve.wanted }
+        ensures lacking { 0 < lacking_of door.new.hints → result ≡ peers.NoPeer }
+    {
+        if !self.admits(door) {
+            return MadePeer::NoPeer;
+        }
+        let peer = self.accept_at(&mut door.port, key);
+        door.remember(&peer);
+        peer
+    }
+
+    /// Whether all descriptors that are kept for a peer are held, where the door is shared. Then one of them is given up.
+    fn admits(&mut self, door: &mut MadePort) -> bool
+        ensures same { SameBooks self.old self.new }
+        ensures port { door.new.port ≡ door.old.port }
+        ensures shared { is_shared door.new.hints ≡ is_shared door.old.hints }
+        ensures kept { result ≡ true → is_shared door.old.hints ≡ true → self.new.reserve.held + 1 ≡ self.new.reserve.wanted }
+    {
+        if !door.is_shared() {
+            return true;
+        }
+        let lacking = self.reserve.admit();
+        if lacking > 0 {
+            door.lack(lacking);
+            return false;
+        }
+        true
+    }
+
+    /// Accepts at the door of a socket.
+    fn accept_at(&mut self, door: &mut RealPort, key: usize) -> MadePeer<RealPort>
         ensures same { self.new ≡ self.old }
         ensures kind { OnPeer (ComesAt door.old) result }
-        ensures door { (⟦<RealPort as Port>⟧.gave door.new ≡ ⟦<RealPort as Port>⟧.gave door.old) × (⟦<RealPort as Port>⟧.took door.new ≡ ⟦<RealPort as Port>⟧.took door.old) }
+        ensures door { (⟦<RealPort as Port>⟧.gave door.new ≡ ⟦<RealPort as Port>⟧.gave door.old) × (⟦<RealPort as Port>⟧.took door.new ≡ ⟦<RealPort as Port>⟧.took door.old) × (⟦<RealPort as Port>⟧.shuts door.new ≡ ⟦<RealPort as Port>⟧.shuts door.old) }
     {
         match door {
-            RealPort::Socket(socket) => peer_of(self.sockets.accept(socket, key)),
-            RealPort::Peer(door) => gathered(door.accept()),
+            RealPort::Socket(socket) => peer_of(self.accept_socket(socket, key)),
+            RealPort::Peer(door) => gathered(door.accept(key)),
             _ => MadePeer::Failed,
         }
     }
+
+    fn accept_socket(&mut self, socket: &mut OfSocket, key: usize) -> MadePeer<OfSocket>
+        ensures same { self.new ≡ self.old }
+        ensures no_door { is_door_port socket.old ≡ false → result ≡ peers.Failed }
+        ensures sort { OnPeer (λ port. is_door_port port ≡ false) result }
+        ensures door { (⟦<OfSocket as Port>⟧.gave socket.new ≡ ⟦<OfSocket as Port>⟧.gave socket.old) × (⟦<OfSocket as Port>⟧.took socket.new ≡ ⟦<OfSocket as Port>⟧.took socket.old) × (⟦<OfSocket as Port>⟧.shuts socket.new ≡ ⟦<OfSocket as Port>⟧.shuts socket.old) }
+    {
+        let Some(sockets) = &mut self.sockets else {
+            return MadePeer::Failed;
+        };
+        sockets.accept(socket, key)
+    }
+
+    /// The made port of what was opened. One that is under way gets a descriptor of those in reserve.
+    fn made_opening(&mut self, making: Making<RealPort>) -> Making<MadePort>
+        ensures same { SameBooks self.old self.new }
+        ensures failed { making_failed result ≡ making_failed making }
+        ensures stalled { making_stalled result ≡ making_stalled making }
+        ensures opened { (target : Target) → OnPort (IsOpenedFor target) making → OnPort (λ made. IsOpenedFor target made.port) result }
+    {
+        let spare = self.spare_for(&making);
+        made_port(making, self.opened_hints(), spare)
+    }
+
+    /// A descriptor for what is under way, of those in reserve.
+    fn spare_for(&mut self, making: &Making<RealPort>) -> Option<Registry>
+        ensures same { SameBooks self.old self.new }
+    {
+        match making {
+            Making::Later(_) => self.reserve.give_one(),
+            Making::Made(_) | Making::Failed | Making::Memory => None,
+        }
+    }
+
+    /// Where the hints of what is opened come from.
+    fn opened_hints(&self) -> Hints {
+        match &self.sockets {
+            Some(_) => Hints::Own,
+            None => Hints::Always,
+        }
+    }
+
+    /// The made port of a door.
+    fn made_door(&mut self, making: Making<RealPort>, shared: bool) -> Making<MadePort>
+        ensures same { SameBooks self.old self.new }
+        ensures failed { making_failed result ≡ making_failed making }
+        ensures at_once { IsAtOnce result }
+        ensures door { (single : Single) → OnPort (IsDoorFor single) making → OnPort (λ made. IsDoorFor single made.port) result }
+        ensures shared { OnPort (λ made. is_shared made.hints ≡ shared) result }
+    {
+        match making {
+            Making::Made(port) => self.door_of(port, shared),
+            Making::Later(port) => self.door_of(port, shared),
+            Making::Failed => Making::Failed,
+            Making::Memory => Making::Memory,
+        }
+    }
+
+    /// The door of this port. From now on no more descriptors are kept for each of its peers than can be had now.
+    fn door_of(&mut self, port: RealPort, shared: bool) -> Making<MadePort>
+        ensures same { SameBooks self.old self.new }
+        ensures failed { making_failed result ≡ false }
+        ensures at_once { IsAtOnce result }
+        ensures door { (single : Single) → IsDoorFor single port → OnPort (λ made. IsDoorFor single made.port) result }
+        ensures shared { OnPort (λ made. is_shared made.hints ≡ shared) result }
+    {
+        let Ok(registry) = self.registry.clone() else {
+            return Making::Memory;
+        };
+        if shared {
+            self.reserve.fit();
+        }
+        Making::Made(MadePort::door(port, Gate::new(self.alloc, registry, shared)))
+    }
 }
 
-/// The family and the port of a door of datagrams each of whose senders has a session; none for another address.
-fn gathering(single: &Single) -> Option<(Family, u16)>
-    ensures { is_some result ≡ gathers_senders single.now }
+/// Whether its door takes datagrams, each of whose senders has a session.
+fn gathers(single: &Single) -> bool
+    ensures { result ≡ gathers_senders single.now }
 {
     match &single.target {
-        Target::UdpListen { family, port } if single.options.sessions.fork => {
-            Some((*family, *port))
-        }
-        _ => None,
+        Target::UdpListen { .. } => single.options.sessions.fork,
+        _ => false,
     }
 }
 
@@ -293,7 +515,7 @@ fn of_socket(making: Making<OfSocket>) -> Making<RealPort>
 
 /// A peer's socket as a port of any kind.
 fn peer_of(peer: MadePeer<OfSocket>) -> MadePeer<RealPort>
-    ensures { (door : PortState AnySocket) → (is_door door.socket ≡ false → peer ≡ peers.Failed) → OnPeer (λ port. is_door port.socket ≡ false) peer → OnPeer (ComesAt (ports.Socket door)) result }
+    ensures { (door : HostPort) → (is_door_port door ≡ false → peer ≡ peers.Failed) → OnPeer (λ port. is_door_port port ≡ false) peer → OnPeer (ComesAt (ports.Socket door)) result }
 {
     match peer {
         MadePeer::Came(port, peer) => MadePeer::Came(RealPort::Socket(port), peer),
@@ -319,7 +541,7 @@ impl<R> Maker for RealMaker<R>
 where
     R: Files + Net + Clock + Threads + Copy + Drop,
 {
-    type Made = RealPort;
+    type Made = MadePort;
 
     ghost faults = { λ maker. maker.faults };
 
@@ -333,32 +555,38 @@ where
         place: Place,
         single: &Single,
         behind: Option<Peer>,
-    ) -> Making<RealPort>
-        ensures kind { OnPort (IsOpenedFor single.now.target) result }
+    ) -> Making<MadePort>
+        ensures kind { OnPort (λ made. IsOpenedFor single.now.target made.port) result }
         ensures came { self.new.came ≡ self.old.came }
         ensures faults { Counted (making_failed result) self.old.faults self.new.faults }
         ensures stalls { Counted (making_stalled result) self.old.stalls self.new.stalls }
     {
-        let making = self.open(key, place, single, behind);
+        let opened = self.open(key, place, single, behind);
+        let making = self.made_opening(opened);
         self.count_making(&making);
         making
     }
 
-    fn listen(&mut self, key: usize, single: &Single) -> Making<RealPort>
-        ensures kind { OnPort (IsDoorFor single.now) result }
+    fn listen(&mut self, key: usize, single: &Single) -> Making<MadePort>
+        ensures kind { OnPort (λ made. IsDoorFor single.now made.port) result }
+        ensures shared { OnPort (λ made. is_shared made.hints ≡ single.now.options.sessions.fork) result }
         ensures at_once { IsAtOnce result }
         ensures came { self.new.came ≡ self.old.came }
         ensures faults { Counted (making_failed result) self.old.faults self.new.faults }
         ensures stalls { Counted (making_stalled result) self.old.stalls self.new.stalls }
     {
-        let making = self.open_door(key, single);
+        let opened = self.open_door(key, single);
+        let making = self.made_door(opened, single.options.sessions.fork);
         self.count_making(&making);
         making
     }
 
-    fn accept(&mut self, door: &mut RealPort, key: usize) -> MadePeer<RealPort>
-        ensures kind { OnPeer (ComesAt door.old) result }
-        ensures door { (⟦<RealPort as Port>⟧.gave door.new ≡ ⟦<RealPort as Port>⟧.gave door.old) × (⟦<RealPort as Port>⟧.took door.new ≡ ⟦<RealPort as Port>⟧.took door.old) }
+    fn accept(&mut self, door: &mut MadePort, key: usize) -> MadePeer<MadePort>
+        ensures kind { OnPeer (λ made. ComesAt door.old.port made.port) result }
+        ensures door { (⟦<MadePort as Port>⟧.gave door.new ≡ ⟦<MadePort as Port>⟧.gave door.old) × (⟦<MadePort as Port>⟧.took door.new ≡ ⟦<MadePort as Port>⟧.took door.old) }
+        ensures unshut { ⟦<MadePort as Port>⟧.shuts door.new ≡ ⟦<MadePort as Port>⟧.shuts door.old }
+        ensures kept { result ≢ peers.NoPeer → is_shared door.old.hints ≡ true → self.new.reserve.held + 1 ≡ self.new.reserve.wanted }
+        ensures lacking { 0 < lacking_of door.new.hints → result ≡ peers.NoPeer }
         ensures came { self.new.came ≡ came_after self.old.came result }
         ensures faults { Counted (peer_failed result) self.old.faults self.new.faults }
         ensures stalls { Counted (peer_stalled result) self.old.stalls self.new.stalls }
@@ -366,7 +594,7 @@ where
         match self.take_peer(door, key) {
             MadePeer::Came(port, peer) => {
                 self.came = Some(peer);
-                MadePeer::Came(port, peer)
+                MadePeer::Came(MadePort::of_peer(port), peer)
             }
             MadePeer::NoPeer => {
                 self.count_stall();

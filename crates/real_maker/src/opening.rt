@@ -7,15 +7,14 @@ use crate::ports::RealPort;
 use file_ports::EchoPort;
 use port_trait::Making;
 use relay_model::NoMemory;
-use socket_kinds::AnySocket;
-use socket_ports::{Removal, SocketPort};
+use socket_maker::HostPort;
 use std::alloc::Global;
 
 /// How many bytes an echo pipe holds.
 const ECHO_BYTES: usize = 65_536;
 
-/// The port of a socket.
-pub type OfSocket = SocketPort<AnySocket, Option<Removal>>;
+/// The port of a socket, also while its host is looked up.
+pub type OfSocket = HostPort;
 
 /// An echo pipe.
 pub(crate) fn make_echo(alloc: Global) -> Making<RealPort>

@@ -1,21 +1,25 @@
 // Connections through a proxy.
-ghost use Rattle.std.specs.Prelude.{◌≡◌, true};
+ghost use Rattle.std.specs.Prelude.{◌≡◌, ℕ, Bool, List, true, IfSome};
 ghost use Rattle.relay_model.specs.declared.commands.Target.{Target};
 ghost use Rattle.socket_kinds.specs.Accepting.{OnPort};
+ghost use Rattle.real_maker.specs.Asking.{IsRequestTo, AsksAt, AsksSocks, AsksProxy};
+ghost use Rattle.real_maker.specs.Wanting.{IsWantedLater, IsWantedOf};
 ghost use Rattle.real_maker.specs.Kinds.{IsOpenedFor, is_proxy, is_socks};
 
+use crate::opening::OfSocket;
 use crate::ports::RealPort;
+use crate::socks::{AskedLater, MOST, SocksOpening, SocksStage, request_to};
 use connect_port::ConnectPort;
-use mio::Registry;
+use host_lookup::{Lookup, Written, written_host};
 use port_trait::Making;
-use relay_model::{Family, Options, Text};
-use socket_maker::{connect_host, look_up};
-use socks_port::{Request, SocksPort, request4, request4a};
+use relay_model::{Options, Text};
+use socket_maker::SocketMaker;
+use socks_port::{Request, SocksPort, request4a};
 use std::alloc::Global;
-use std::net::{Net, SocketAddr};
-
-/// The most bytes of a user and of a host that a proxy is told.
-const MOST: usize = 255;
+use std::fs::Files;
+use std::net::{IpAddr, Net};
+use std::thread::Threads;
+use std::time::Clock;
 
 /// The proxy's host, and the host and port that it is asked for.
 #[derive(Clone, Copy)]
@@ -26,71 +30,130 @@ pub(crate) struct Through<'a> {
 }
 
 /// Begins to connect to a host through a SOCKS server (socat(1), `SOCKS4` and `SOCKS4A`), which looks the host up where
-/// that is `named`.
-pub(crate) fn through_socks<R: Net>(
-    rt: &R,
-    registry: &Registry,
+/// that is `named`. Otherwise a host that is a name is looked up here, beside the loop.
+pub(crate) fn through_socks<R>(
+    sockets: &mut SocketMaker<R>,
     key: usize,
     named: bool,
     through: Through<'_>,
     options: &Options,
 ) -> Making<RealPort>
-    ensures { (target : Target) → is_socks target ≡ true → OnPort (IsOpenedFor target) result }
+where
+    R: Net + Clock + Files + Threads + Copy + Drop,
+    ensures kind { (target : Target) → is_socks target ≡ true → OnPort (IsOpenedFor target) result }
+    ensures asks { OnPort (AsksSocks named through.entry.host.now through.entry.port options.now.proxy.socksuser) result }
 {
     let Through { server, host, port } = through;
-    let Some(request) = request_of(rt, named, host, port, options.proxy.socksuser.as_slice()) else {
-        return Making::Failed;
+    let user = &options.proxy.socksuser;
+    let wanted = match wanted_of(sockets, named, host, port, user) {
+        Making::Made(wanted) => wanted,
+        Making::Later(_) | Making::Failed => return Making::Failed,
+        Making::Memory => return Making::Memory,
     };
-    match connect_host(
-        rt,
-        registry,
-        key,
-        server,
-        options.proxy.socksport,
-        options.socket.nodelay,
-    ) {
-        Making::Made(port) => Making::Later(RealPort::Socks(SocksPort::new(port, request))),
-        Making::Later(port) => Making::Later(RealPort::Socks(SocksPort::new(port, request))),
-        Making::Failed => Making::Failed,
+    let inner = match sockets.connect(key, server, options.proxy.socksport, options.socket) {
+        Making::Made(inner) => inner,
+        Making::Later(inner) => inner,
+        Making::Failed => return Making::Failed,
+        Making::Memory => return Making::Memory,
+    };
+    Making::Later(RealPort::Socks(SocksOpening::new(stage_of(inner, wanted))))
+}
+
+/// What a server is to be asked for.
+#[derive(Drop)]
+enum Wanted {
+    Now(Request),
+    Once(Lookup, u16, Text),
+}
+
+/// The request to the server, or what it will be made of. It answers `Failed` where a text is too long, where the host
+/// can't be found, and where no lookup can be begun.
+fn wanted_of<R>(
+    sockets: &mut SocketMaker<R>,
+    named: bool,
+    host: &Text,
+    port: u16,
+    user: &Text,
+) -> Making<Wanted>
+where
+    R: Net + Clock + Files + Threads + Copy + Drop,
+    ensures { OnPort (IsWantedOf named host.now port user.now) result }
+{
+    if user.len() > MOST || host.len() > MOST {
+        return Making::Failed;
+    }
+    if named {
+        return Making::Made(Wanted::Now(request4a(host.as_slice(), port, user.as_slice())));
+    }
+    match written_host(host) {
+        Written::Address(IpAddr::V4(ip)) => requested(request_to(
+            ip.octets(),
+            port,
+            user.as_slice(),
+        )),
+        Written::Address(IpAddr::V6(_)) | Written::Unnamed => Making::Failed,
+        Written::Name(name) => wanted_once(sockets, name, port, user),
+    }
+}
+
+fn requested(request: Option<Request>) -> Making<Wanted>
+    ensures { (port : ℕ) (user : List ℕ) → IfSome request (IsRequestTo port user) → OnPort (IsWantedLater port user) result }
+{
+    match request {
+        Some(request) => Making::Made(Wanted::Now(request)),
+        None => Making::Failed,
+    }
+}
+
+fn wanted_once<R>(
+    sockets: &mut SocketMaker<R>,
+    name: &str,
+    port: u16,
+    user: &Text,
+) -> Making<Wanted>
+where
+    R: Net + Clock + Files + Threads + Copy + Drop,
+    ensures { OnPort (IsWantedLater port user.now) result }
+{
+    let Ok(user) = user.copy() else {
+        return Making::Memory;
+    };
+    match sockets.begin_lookup(name) {
+        Making::Made(lookup) => Making::Made(Wanted::Once(lookup, port, user)),
+        Making::Later(_) | Making::Failed => Making::Failed,
         Making::Memory => Making::Memory,
     }
 }
 
-/// The request to the server. `None` where a text is too long, and where the host isn't found.
-fn request_of<R: Net>(rt: &R, named: bool, host: &Text, port: u16, user: &[u8]) -> Option<Request> {
-    let name = host.as_slice();
-    if user.len() > MOST || name.len() > MOST {
-        return None;
-    }
-    if named {
-        return Some(request4a(name, port, user));
-    }
-    match look_up(rt, Family::V4, host, port)? {
-        SocketAddr::V4(addr) => Some(request4(addr.ip().octets(), port, user)),
-        SocketAddr::V6(_) => None,
+fn stage_of(inner: OfSocket, wanted: Wanted) -> SocksStage
+    ensures { (named : Bool) (host : List ℕ) (port : ℕ) (user : List ℕ) → IsWantedOf named host port user wanted → AsksAt named host port user result }
+{
+    match wanted {
+        Wanted::Now(request) => SocksStage::Talking(SocksPort::new(inner, request)),
+        Wanted::Once(lookup, port, user) => SocksStage::Asking(AskedLater {
+            inner,
+            lookup,
+            port,
+            user,
+        }),
     }
 }
 
 /// Begins to connect to a host through an HTTP proxy (socat(1), `PROXY`).
-pub(crate) fn through_proxy<R: Net>(
-    rt: &R,
+pub(crate) fn through_proxy<R>(
     alloc: Global,
-    registry: &Registry,
+    sockets: &mut SocketMaker<R>,
     key: usize,
     through: Through<'_>,
     options: &Options,
 ) -> Making<RealPort>
-    ensures { (target : Target) → is_proxy target ≡ true → OnPort (IsOpenedFor target) result }
+where
+    R: Net + Clock + Files + Threads + Copy + Drop,
+    ensures kind { (target : Target) → is_proxy target ≡ true → OnPort (IsOpenedFor target) result }
+    ensures asks { OnPort (AsksProxy through.entry.host.now through.entry.port) result }
 {
     let Through { server, host, port } = through;
-    let socket = match connect_host(
-        rt,
-        registry,
-        key,
-        server,
-        options.proxy.proxyport,
-        options.socket.nodelay,
-    ) {
+    let socket = match sockets.connect(key, server, options.proxy.proxyport, options.socket) {
         Making::Made(socket) => socket,
         Making::Later(socket) => socket,
         Making::Failed => return Making::Failed,

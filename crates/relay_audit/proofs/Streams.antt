@@ -2,6 +2,8 @@
 use Rattle.std.proofs.Common.{◌≡◌, ℕ, List, [], ◌++◌, take, drop, append_assoc, append-nil, refl, ap, sym, ◌∙◌}
 use Rattle.std.specs.Prelude.{Option, Some, None, option_map}
 use Rattle.std.proofs.lemmas.List.{take-append-drop}
+use Rattle.std.specs.Io.KnownBytes.{Keeps, Consumes, IsAtEnd}
+use Rattle.std.proofs.KnownBytes.{Consumes-nil, Consumes-trans, Consumes-kept}
 use Rattle.port_trait.specs.Streams.{Loses}
 
 -- no bytes are lost at first
@@ -26,3 +28,15 @@ takes_more (Some held) now all n left taken so_far =
 pub takes_all : (took all : Option (List ℕ)) (left : List ℕ) → left ≡ [] → option_map (λ held. held ++ left) took ≡ all → took ≡ all
 takes_all None all left none so_far = so_far
 takes_all (Some held) all left none so_far = sym (ap Some (ap (λ list. held ++ list) none ∙ append-nil held)) ∙ so_far
+
+-- a reader has lost no bytes at first
+pub consumes_none : (rest : Option (List ℕ)) → Consumes rest rest []
+consumes_none rest = Consumes-nil rest
+
+-- a further piece is lost
+pub consumes_more : (before mid now : Option (List ℕ)) (text piece : List ℕ) → Consumes before mid text → Consumes mid now piece → Consumes before now (text ++ piece)
+consumes_more before mid now text piece lost more = Consumes-trans before mid now text piece lost more
+
+-- nothing more is lost at the end
+pub consumes_kept : (before mid now : Option (List ℕ)) (text : List ℕ) → Consumes before mid text → Keeps mid now → Consumes before now text
+consumes_kept before mid now text lost kept = Consumes-kept before mid now text lost kept

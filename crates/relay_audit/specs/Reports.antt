@@ -2,6 +2,7 @@
 use Rattle.std.specs.Prelude.{◌≡◌, ℕ, ◌<◌, ◌≤◌, ◌++◌, List, [], length, codes, Option, option_map, IfSome}
 use Rattle.std.specs.Fmt.{decimal}
 use Rattle.port_trait.specs.Counting.{Rose}
+use Rattle.std.specs.Io.KnownBytes.{Consumes, Appends, IsAtEnd}
 use Rattle.port_trait.specs.Streams.{Loses}
 use Rattle.relay_model.specs.Dumps.{newline}
 use Rattle.relay_audit.specs.declared.verdicts.Verdict.{Verdict}
@@ -64,10 +65,30 @@ pub record Reported (words : List (List ℕ)) (n : ℕ) (left_before left : Opti
   pub said : took ≡ option_map (λ all. all ++ line_of report) took_before
   pub status_is : status ≡ status_of report
 
+-- the reader beneath is at its end where a text was read to its end
+abbrev pub ReadToEndBeneath : Report → Option (List ℕ) → Type 0
+ReadToEndBeneath TooLong rest = Unit {0}
+ReadToEndBeneath (Found verdict) rest = IsAtEnd rest
+
+-- the same of a reader and a writer of std beneath the source and the sink, where their bytes are known
+pub record ReportedBeneath (words : List (List ℕ)) (n : ℕ) (rest_before rest holds_before holds : Option (List ℕ)) (status : ℕ) : Type 0 where
+  pub text : List ℕ
+  pub report : Report
+  pub gave : Consumes rest_before rest text
+  pub right : IsReportOf words n text report
+  pub ended : ReadToEndBeneath report rest
+  pub said : Appends holds_before holds (line_of report)
+  pub status_is : status ≡ status_of report
+
 -- all of a text was read: its end was met and nothing is left, or more was given than is audited
 pub record HasRead (text : List ℕ) (left_before left : Option (List ℕ)) (ends_before ends : ℕ) : Type 0 where
   pub gave : Loses left_before left text
   pub ended : length text ≤ longest_text → Rose ends_before ends × IfSome left (λ rest. rest ≡ [])
+
+-- the reader beneath lost the text, and is at its end unless more was given than is audited
+pub record HasReadBeneath (text : List ℕ) (rest_before rest : Option (List ℕ)) : Type 0 where
+  pub gave : Consumes rest_before rest text
+  pub ended : length text ≤ longest_text → IsAtEnd rest
 
 -- why a text wasn't read: want of memory has no further cause
 abbrev pub WhyUnread : ℕ → ℕ → Unread → Type 0

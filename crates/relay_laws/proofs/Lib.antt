@@ -5,6 +5,7 @@ pub mod Complete
 pub mod Examples
 pub mod Finality
 pub mod Finishes
+pub mod Ended
 pub mod Least
 pub mod Pieces
 pub mod Served

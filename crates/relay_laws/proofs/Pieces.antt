@@ -2,6 +2,7 @@
 use Rattle.std.proofs.Common.{◌≡◌, refl, sym, ap, ◌∙◌, ℕ, ◌-◌, ◌≤◌, min, Bool, true, false, not, cond, ◌&&◌, ◌==◌, List, [], ◌∷◌, ◌++◌, length, drop, arith, append_assoc, append-nil, length-append, Option}
 use Rattle.std.proofs.lemmas.Bool.{eqb-true, false≢true}
 use Rattle.std.proofs.Math.ListN.{drop_of_length-le}
+use Rattle.std.proofs.Math.Seq.{drop-append_seam}
 use Rattle.std.proofs.lemmas.List.{length-drop, append_cancel_left}
 use Rattle.relay_model.specs.declared.places.Way.{Way}
 use Rattle.relay_model.specs.declared.places.Way.TheVariants.{LeftToRight, RightToLeft}
@@ -15,7 +16,7 @@ use Rattle.relay_model.specs.Conversions.{at_most_left, read_size, packet_size, 
 use Rattle.relay_model.specs.History.{got, put, sent}
 use Rattle.relay_model.specs.Transfers.{due, due_part, due_pieces, is_empty, backlog, greatest_read}
 use Rattle.relay_model.specs.May.{Legal, BeginsWith, KeepsBorders, MayRead, MayWrite}
-use Rattle.relay_laws.specs.Packets.{at_most_one}
+use Rattle.relay_laws.specs.Packets.{at_most_one, pieces}
 use Rattle.legal_steps.proofs.Growth.{due_nil}
 use Rattle.legal_steps.proofs.Permitted.{moved_to, reads_in_room}
 use Rattle.relay_laws.proofs.Written.{written_due}
@@ -108,3 +109,34 @@ packets_due c n (Wrote p bytes ∷ past) s w legal keeps = go (same_place p (out
         begun.1 ∙ ap (λ more. (sent past (output c s w) ++ bytes ∷ []) ++ more) (one.1 ∙ sym (ap at_most_one none))
     go false e h = h
 packets_due c n (act ∷ past) s w legal keeps = packets_due c n past s w legal.1 keeps
+
+-- ---- where what is read is what is due
+
+-- a further piece adds itself
+plain_part : (c : Config) (w : Way) (before bytes : List ℕ) → ((xs : List ℕ) → due c w xs ≡ xs) → due_part c w before bytes ≡ bytes
+plain_part c w before bytes plain = ap (λ xs. drop (length xs) (due c w (before ++ bytes))) (plain before) ∙ ap (drop (length before)) (plain (before ++ bytes)) ∙ drop-append_seam before bytes
+
+some_there : (bytes : List ℕ) → 1 ≤ length bytes → is_empty bytes ≡ false
+some_there [] h = let x : ⊥ = omega (arith, h) in absurd x
+some_there (b ∷ bs) h = refl
+
+plain_pieces : (c : Config) (n : ℕ) (past : List Act) (s : ℕ) (w : Way) → Legal c n past → ((xs : List ℕ) → due c w xs ≡ xs) → pieces past (input c s w) ≡ due_pieces c past s w
+plain_pieces c n [] s w legal plain = refl
+plain_pieces c n (Read p bytes ∷ past) s w legal plain = go (same_place p (input c s w)) refl (plain_pieces c n past s w legal.1 plain)
+  where
+    go : (b : Bool) → same_place p (input c s w) ≡ b → pieces past (input c s w) ≡ due_pieces c past s w → joined b (pieces past (input c s w)) (bytes ∷ []) ≡ joined (b && not (is_empty (due_part c w (got past (input c s w)) bytes))) (due_pieces c past s w) (due_part c w (got past (input c s w)) bytes ∷ [])
+    go true e h =
+        let m = moved_to (λ q. MayRead c past q (length bytes)) p (input c s w) e legal.0.1 in
+        let part = plain_part c w (got past (input c s w)) bytes plain in
+        ap (λ before. before ++ bytes ∷ []) h
+        ∙ sym (ap (λ empty. joined (not empty) (due_pieces c past s w) (bytes ∷ [])) (some_there bytes m.some_bytes))
+        ∙ sym (ap (λ piece. joined (not (is_empty piece)) (due_pieces c past s w) (piece ∷ [])) part)
+    go false e h = h
+plain_pieces c n (act ∷ past) s w legal plain = plain_pieces c n past s w legal.1 plain
+
+pub packets_kept :
+    (c : Config) (n : ℕ) (past : List Act) (s : ℕ) (w : Way) → Legal c n past → keeps_borders c w ≡ true → ((bytes : List ℕ) → due c w bytes ≡ bytes) →
+    pieces past (input c s w) ≡ sent past (output c s w) ++ at_most_one (drop (length (put past (output c s w))) (got past (input c s w)))
+packets_kept c n past s w legal keeps plain =
+    plain_pieces c n past s w legal plain ∙ packets_due c n past s w legal keeps
+    ∙ ap (λ due. sent past (output c s w) ++ at_most_one (drop (length (put past (output c s w))) due)) (plain (got past (input c s w)))

@@ -87,7 +87,7 @@ no_doors_mapped : (s : ℕ) (side : Side) (ps : List Part) → NoDoors (map (pla
 no_doors_mapped s side [] = tt
 no_doors_mapped s side (part ∷ ps) = (refl, no_doors_mapped s side ps)
 
-no_doors : (c : Config) (s : ℕ) → NoDoors (places c s)
+pub no_doors : (c : Config) (s : ℕ) → NoDoors (places c s)
 no_doors c s = no_doors_append (map (place_at s Left) (parts c Left)) (map (place_at s Right) (parts c Right)) (no_doors_mapped s Left (parts c Left)) (no_doors_mapped s Right (parts c Right))
 
 first_unserved : (c : Config) (past : List Act) (ps : List Place) → NoDoors ps → Unserved past (first_call c past ps)

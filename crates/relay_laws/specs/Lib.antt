@@ -1,3 +1,4 @@
 pub mod Examples
+pub mod Holdings
 pub mod Packets
 pub mod Stories

@@ -3,6 +3,10 @@ use Rattle.std.specs.Prelude.{◌≡◌, ℕ, true, List, [], ◌∷◌, ◌++�
 use Rattle.relay_model.specs.declared.places.Way.{Way}
 use Rattle.relay_model.specs.declared.commands.Config.{Config}
 use Rattle.relay_model.specs.declared.acts.Act.{Act}
+use Rattle.relay_model.specs.declared.acts.Act.TheVariants.{Read}
+use Rattle.relay_model.specs.declared.places.Place.{Place}
+use Rattle.relay_model.specs.Places.{same_place}
+use Rattle.relay_model.specs.Choices.{joined}
 use Rattle.relay_model.specs.Configs.{input, output, keeps_borders}
 use Rattle.relay_model.specs.History.{got, put, sent}
 use Rattle.relay_model.specs.Transfers.{due, due_pieces}
@@ -18,3 +22,16 @@ abbrev pub PacketsAreDue : Type 0
 PacketsAreDue =
     (c : Config) (n : ℕ) (past : List Act) (s : ℕ) (w : Way) → Legal c n past → keeps_borders c w ≡ true →
     due_pieces c past s w ≡ sent past (output c s w) ++ at_most_one (drop (length (put past (output c s w))) (due c w (got past (input c s w))))
+
+-- the pieces that were read at the place, in order
+abbrev pub pieces : List Act → Place → List (List ℕ)
+pieces [] p = []
+pieces (Read q bytes ∷ past) p = joined (same_place q p) (pieces past p) (bytes ∷ [])
+pieces (act ∷ past) p = pieces past p
+
+-- where a direction owes just what it reads, each packet that was written is one that was read, whole and in order, and
+-- one at most waits
+abbrev pub PacketsKeepBorders : Type 0
+PacketsKeepBorders =
+    (c : Config) (n : ℕ) (past : List Act) (s : ℕ) (w : Way) → Legal c n past → keeps_borders c w ≡ true → ((bytes : List ℕ) → due c w bytes ≡ bytes) →
+    pieces past (input c s w) ≡ sent past (output c s w) ++ at_most_one (drop (length (put past (output c s w))) (got past (input c s w)))

@@ -1,6 +1,7 @@
 // What holds of every legal list of acts.
 ghost use Rattle.relay_model.specs.Laws.{FinishedIsWhole, PrefixesAreLegal, WrittenIsDue, BacklogIsBounded, EndIsLast, PassedIsWhole, OutputsAgree, UsedIsHeld, ClosedForGood, ClosedIsOver, StandingIsHeld, CallsTell, HeldHasBegun, TestsAreRight, OneTestIsRight};
 ghost use Rattle.relay_laws.specs.Examples.{ExamplesAreJudged};
+ghost use Rattle.relay_laws.specs.Holdings.{HoldingsEndOnce};
 
 /// What stood before some of the last acts of a legal list is legal.
 pub fn prefixes_are_legal()
@@ -41,6 +42,12 @@ pub fn used_is_held()
 /// at most once.
 pub fn closed_is_over()
     ensures { ClosedIsOver }
+{}
+
+/// Each holding of a thing, from its opening, listening or accepting on, was ended by exactly one closing, or by the failure
+/// of an opening that was under way; the one that stands hasn't ended.
+pub fn holdings_end_once()
+    ensures { HoldingsEndOnce }
 {}
 
 /// What was closed for another reason than a refusal is closed for good: nothing happens there any more but that its

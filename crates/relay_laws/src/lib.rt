@@ -17,9 +17,9 @@ pub use frames::{
 };
 pub use histories::{
     backlog_is_bounded, calls_tell, closed_is_for_good, closed_is_over, end_is_last,
-    examples_are_judged, finished_is_whole, held_has_begun, one_test_is_right, outputs_agree,
-    passed_is_whole, prefixes_are_legal, standing_is_held, tests_are_right, used_is_held,
-    written_is_due,
+    examples_are_judged, finished_is_whole, held_has_begun, holdings_end_once, one_test_is_right,
+    outputs_agree, passed_is_whole, prefixes_are_legal, standing_is_held, tests_are_right,
+    used_is_held, written_is_due,
 };
-pub use packets::packets_are_due;
+pub use packets::{packets_are_due, packets_keep_borders};
 pub use waits::{rest_is_of_parts, until_is_least};

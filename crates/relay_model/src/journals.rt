@@ -153,15 +153,65 @@ impl Askings {
 /// What a recorder kept of a run: its acts, and, for contracts alone, what was asked for.
 #[derive(Debug, Drop)]
 pub struct Kept {
-    pub journal: Journal,
-    pub asked: Askings,
+    journal: Journal,
+    asked: Askings,
 }
 
 impl Kept {
+    /// Nothing kept; takes no memory.
+    pub fn new(alloc: Global) -> Kept
+        ensures journal { result.journal.acts ≡ [] }
+        ensures asked { result.asked.pairs ≡ [] }
+    {
+        Kept {
+            journal: Journal::new(alloc),
+            asked: Askings::new(alloc),
+        }
+    }
+
     /// Its acts.
     pub fn journal(&self) -> &Journal
         ensures { result.now ≡ self.now.journal }
     {
         &self.journal
+    }
+
+    /// Makes room for `n` further acts.
+    pub fn reserve(&mut self, n: usize) -> Result<(), NoMemory>
+        ensures room { OnOk result (n ≤ self.new.journal.spare) }
+        ensures kept { self.old.journal.spare ≤ self.new.journal.spare }
+        ensures acts { self.new.journal.acts ≡ self.old.journal.acts }
+        ensures asked { self.new.asked ≡ self.old.asked }
+    {
+        self.journal.reserve(n)
+    }
+
+    /// Makes room for `n` further askings.
+    pub fn reserve_asking(&mut self, n: usize) -> Result<(), NoMemory>
+        ensures room { OnOk result (n ≤ self.new.asked.spare) }
+        ensures pairs { self.new.asked.pairs ≡ self.old.asked.pairs }
+        ensures journal { self.new.journal ≡ self.old.journal }
+    {
+        self.asked.reserve(n)
+    }
+
+    /// Appends the act into the room that was made, and takes no memory.
+    pub fn put(&mut self, act: Act)
+        requires { 0 < self.old.journal.spare }
+        ensures acts { self.new.journal.acts ≡ act ∷ self.old.journal.acts }
+        ensures spare { self.new.journal.spare ≡ self.old.journal.spare - 1 }
+        ensures asked { self.new.asked ≡ self.old.asked }
+    {
+        self.journal.put(act);
+    }
+
+    /// Appends what was asked into the room that was made, and takes no memory.
+    pub fn put_asking(&mut self, place: Place, single: Single)
+        requires { 0 < self.old.asked.spare }
+        ensures pairs { self.new.asked.pairs ≡ self.old.asked.pairs ++ (place, single) ∷ [] }
+        ensures spare { self.new.asked.spare ≡ self.old.asked.spare - 1 }
+        ensures journal { self.new.journal ≡ self.old.journal }
+    {
+        self.asked.put(place, single);
     }
 }

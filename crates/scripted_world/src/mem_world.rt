@@ -13,8 +13,7 @@ ghost use Rattle.world_scripts.specs.Scripts.{OpensSo, empty_script};
 ghost use Rattle.world_scripts.specs.Writes.{HasCount, writing_of};
 
 use relay_model::{
-    Act, Askings, Bytes, ChildEnd, Journal, Kept, NoMemory, Peer, Place, ReadyList, Shut, Single,
-    Why,
+    Act, Bytes, ChildEnd, Journal, Kept, NoMemory, Peer, Place, ReadyList, Shut, Single, Why,
 };
 use std::alloc::Global;
 use world_scripts::{
@@ -49,10 +48,7 @@ impl MemWorld {
     {
         MemWorld {
             script: Script::new(alloc),
-            kept: Kept {
-                journal: Journal::new(alloc),
-                asked: Askings::new(alloc),
-            },
+            kept: Kept::new(alloc),
             held: Holdings::new(alloc),
             faults: 0,
             waits: 0,
@@ -144,7 +140,7 @@ impl MemWorld {
     pub fn journal(&self) -> &Journal
         ensures { option_map (λ history. history.acts) (⟦<MemWorld as World>⟧.told self.now) ≡ Some result.now.acts }
     {
-        &self.kept.journal
+        self.kept.journal()
     }
 }
 
@@ -178,14 +174,14 @@ impl World for MemWorld {
         let at = self.script.moment(until, self.clock);
         let stop = self.script.is_stop(until, at);
         self.script.name_ready(at, ready);
-        let Ok(()) = self.kept.journal.reserve(self.held.len() + 1) else {
+        let Ok(()) = self.kept.reserve(self.held.len() + 1) else {
             return Turned::Memory;
         };
         let Ok(named) = ready.copy() else {
             return Turned::Memory;
         };
         self.script.looked.forget_named(ready);
-        self.kept.journal.put(Act::Turn {
+        self.kept.put(Act::Turn {
             until,
             at,
             ready: named,
@@ -212,10 +208,10 @@ impl World for MemWorld {
         let Ok(asked) = single.copy() else {
             return OpenAnswer::Memory;
         };
-        let Ok(()) = self.kept.journal.reserve(self.held.len() + 2) else {
+        let Ok(()) = self.kept.reserve(self.held.len() + 2) else {
             return OpenAnswer::Memory;
         };
-        let Ok(()) = self.kept.asked.reserve(1) else {
+        let Ok(()) = self.kept.reserve_asking(1) else {
             return OpenAnswer::Memory;
         };
         let Ok(()) = self.held.reserve(1) else {
@@ -226,8 +222,8 @@ impl World for MemWorld {
                 self.script.opens.use_up(place);
                 self.script.looked.forget_place(place);
                 self.held.add(place, Standing::Open);
-                self.kept.journal.put(Act::Opened(place));
-                self.kept.asked.put(place, asked);
+                self.kept.put(Act::Opened(place));
+                self.kept.put_asking(place, asked);
                 OpenAnswer::Opened
             }
             OpenItem::Later => {
@@ -236,16 +232,16 @@ impl World for MemWorld {
                 };
                 self.script.opens.use_up(place);
                 self.held.add(place, Standing::Settling);
-                self.kept.journal.put(Act::OpenLater(place));
-                self.kept.asked.put(place, asked);
+                self.kept.put(Act::OpenLater(place));
+                self.kept.put_asking(place, asked);
                 OpenAnswer::Later
             }
             OpenItem::Fails => {
                 self.script.opens.use_up(place);
                 self.script.looked.forget_place(place);
                 self.faults = self.faults.saturating_add(1);
-                self.kept.journal.put(Act::OpenFailed(place));
-                self.kept.asked.put(place, asked);
+                self.kept.put(Act::OpenFailed(place));
+                self.kept.put_asking(place, asked);
                 OpenAnswer::Failed
             }
         }
@@ -262,7 +258,7 @@ impl World for MemWorld {
         ensures script { OpenScripted self.old.script self.new.script place result }
         ensures counted { RaisesCounts self.old.faults self.new.faults self.old.stops self.new.stops (is_open_fault result) false }
     {
-        let Ok(()) = self.kept.journal.reserve(self.held.len() + 1) else {
+        let Ok(()) = self.kept.reserve(self.held.len() + 1) else {
             return OpenAnswer::Memory;
         };
         match self.script.opening(place) {
@@ -270,7 +266,7 @@ impl World for MemWorld {
                 self.script.opens.use_up(place);
                 self.script.looked.forget_place(place);
                 self.held.change(place, Standing::Open);
-                self.kept.journal.put(Act::Opened(place));
+                self.kept.put(Act::Opened(place));
                 OpenAnswer::Opened
             }
             OpenItem::Later => {
@@ -279,7 +275,7 @@ impl World for MemWorld {
                 };
                 self.script.opens.use_up(place);
                 self.held.change(place, Standing::Settling);
-                self.kept.journal.put(Act::OpenLater(place));
+                self.kept.put(Act::OpenLater(place));
                 OpenAnswer::Later
             }
             OpenItem::Fails => {
@@ -287,7 +283,7 @@ impl World for MemWorld {
                 self.script.looked.forget_place(place);
                 self.held.remove(place);
                 self.faults = self.faults.saturating_add(1);
-                self.kept.journal.put(Act::OpenFailed(place));
+                self.kept.put(Act::OpenFailed(place));
                 OpenAnswer::Failed
             }
         }
@@ -306,10 +302,10 @@ impl World for MemWorld {
         let Ok(asked) = single.copy() else {
             return ListenAnswer::Memory;
         };
-        let Ok(()) = self.kept.journal.reserve(self.held.len() + 2) else {
+        let Ok(()) = self.kept.reserve(self.held.len() + 2) else {
             return ListenAnswer::Memory;
         };
-        let Ok(()) = self.kept.asked.reserve(1) else {
+        let Ok(()) = self.kept.reserve_asking(1) else {
             return ListenAnswer::Memory;
         };
         let Ok(()) = self.held.reserve(1) else {
@@ -320,14 +316,14 @@ impl World for MemWorld {
         match next {
             OpenItem::Opens | OpenItem::Later => {
                 self.held.add(door, Standing::Open);
-                self.kept.journal.put(Act::Listening(door));
-                self.kept.asked.put(door, asked);
+                self.kept.put(Act::Listening(door));
+                self.kept.put_asking(door, asked);
                 ListenAnswer::Listening
             }
             OpenItem::Fails => {
                 self.faults = self.faults.saturating_add(1);
-                self.kept.journal.put(Act::ListenFailed(door));
-                self.kept.asked.put(door, asked);
+                self.kept.put(Act::ListenFailed(door));
+                self.kept.put_asking(door, asked);
                 ListenAnswer::Failed
             }
         }
@@ -344,7 +340,7 @@ impl World for MemWorld {
         ensures script { AcceptScripted self.old.script self.new.script door self.old.clock result }
         ensures counted { RaisesCounts self.old.faults self.new.faults self.old.stops self.new.stops (is_accept_fault result) false }
     {
-        let Ok(()) = self.kept.journal.reserve(self.held.len() + 2) else {
+        let Ok(()) = self.kept.reserve(self.held.len() + 2) else {
             return AcceptAnswer::Memory;
         };
         let Ok(()) = self.held.reserve(1) else {
@@ -355,21 +351,21 @@ impl World for MemWorld {
                 self.script.peers.use_up(door);
                 self.script.looked.forget(door, Watch::Peer);
                 self.held.add(place, Standing::Open);
-                self.kept.journal.put(Act::Accepted(place, peer));
+                self.kept.put(Act::Accepted(place, peer));
                 AcceptAnswer::Accepted(peer)
             }
             Coming::NoPeer => {
                 let Ok(()) = self.script.looked.look_at(door, Watch::Peer) else {
                     return AcceptAnswer::Memory;
                 };
-                self.kept.journal.put(Act::NoPeer(door));
+                self.kept.put(Act::NoPeer(door));
                 AcceptAnswer::NoPeer
             }
             Coming::Fault => {
                 self.script.peers.use_up(door);
                 self.script.looked.forget(door, Watch::Peer);
                 self.faults = self.faults.saturating_add(1);
-                self.kept.journal.put(Act::AcceptFailed(door));
+                self.kept.put(Act::AcceptFailed(door));
                 AcceptAnswer::Failed
             }
         }
@@ -388,7 +384,7 @@ impl World for MemWorld {
         ensures script { ReadScripted self.old.script self.new.script place self.old.clock (length into.old) into.new result }
         ensures counted { RaisesCounts self.old.faults self.new.faults self.old.stops self.new.stops (is_read_fault result) false }
     {
-        let Ok(()) = self.kept.journal.reserve(self.held.len() + 1) else {
+        let Ok(()) = self.kept.reserve(self.held.len() + 1) else {
             return ReadAnswer::Memory;
         };
         match look(&self.script.reads, place, self.clock, into) {
@@ -398,33 +394,33 @@ impl World for MemWorld {
                 };
                 use_bytes(&mut self.script.reads, place, count);
                 self.script.looked.forget(place, Watch::Read);
-                self.kept.journal.put(Act::Read(place, bytes));
+                self.kept.put(Act::Read(place, bytes));
                 ReadAnswer::Bytes(count)
             }
             Given::Empty => {
                 self.script.reads.use_up(place);
                 self.script.looked.forget(place, Watch::Read);
-                self.kept.journal.put(Act::ReadEmpty(place));
+                self.kept.put(Act::ReadEmpty(place));
                 ReadAnswer::Empty
             }
             Given::End => {
                 self.script.reads.use_up(place);
                 self.script.looked.forget(place, Watch::Read);
-                self.kept.journal.put(Act::ReadEnd(place));
+                self.kept.put(Act::ReadEnd(place));
                 ReadAnswer::End
             }
             Given::NotYet => {
                 let Ok(()) = self.script.looked.look_at(place, Watch::Read) else {
                     return ReadAnswer::Memory;
                 };
-                self.kept.journal.put(Act::ReadNotYet(place));
+                self.kept.put(Act::ReadNotYet(place));
                 ReadAnswer::NotYet
             }
             Given::Fault => {
                 self.script.reads.use_up(place);
                 self.script.looked.forget(place, Watch::Read);
                 self.faults = self.faults.saturating_add(1);
-                self.kept.journal.put(Act::ReadFault(place));
+                self.kept.put(Act::ReadFault(place));
                 ReadAnswer::Failed
             }
         }
@@ -443,7 +439,7 @@ impl World for MemWorld {
         ensures script { WriteScripted self.old.script self.new.script place self.old.clock (length bytes.now) result }
         ensures counted { RaisesCounts self.old.faults self.new.faults self.old.stops self.new.stops (is_write_fault result) false }
     {
-        let Ok(()) = self.kept.journal.reserve(self.held.len() + 1) else {
+        let Ok(()) = self.kept.reserve(self.held.len() + 1) else {
             return WriteAnswer::Memory;
         };
         match room(&self.script.writes, place, self.clock, bytes.len()) {
@@ -453,7 +449,7 @@ impl World for MemWorld {
                 };
                 use_write(&mut self.script.writes, place, self.clock);
                 self.script.looked.forget(place, Watch::Write);
-                self.kept.journal.put(Act::Wrote(place, taken));
+                self.kept.put(Act::Wrote(place, taken));
                 WriteAnswer::Took(count)
             }
             Taken::NotYet => {
@@ -461,14 +457,14 @@ impl World for MemWorld {
                     return WriteAnswer::Memory;
                 };
                 use_write(&mut self.script.writes, place, self.clock);
-                self.kept.journal.put(Act::WriteNotYet(place));
+                self.kept.put(Act::WriteNotYet(place));
                 WriteAnswer::NotYet
             }
             Taken::Fault => {
                 use_write(&mut self.script.writes, place, self.clock);
                 self.script.looked.forget(place, Watch::Write);
                 self.faults = self.faults.saturating_add(1);
-                self.kept.journal.put(Act::WriteFault(place));
+                self.kept.put(Act::WriteFault(place));
                 WriteAnswer::Failed
             }
         }
@@ -488,7 +484,7 @@ impl World for MemWorld {
         ensures script { SendScripted self.old.script self.new.script place self.old.clock (length bytes.now) result }
         ensures counted { RaisesCounts self.old.faults self.new.faults self.old.stops self.new.stops (is_send_fault result) false }
     {
-        let Ok(()) = self.kept.journal.reserve(self.held.len() + 1) else {
+        let Ok(()) = self.kept.reserve(self.held.len() + 1) else {
             return SendAnswer::Memory;
         };
         match room(&self.script.writes, place, self.clock, bytes.len()) {
@@ -498,7 +494,7 @@ impl World for MemWorld {
                 };
                 use_write(&mut self.script.writes, place, self.clock);
                 self.script.looked.forget(place, Watch::Write);
-                self.kept.journal.put(Act::Wrote(place, taken));
+                self.kept.put(Act::Wrote(place, taken));
                 SendAnswer::Sent
             }
             Taken::NotYet => {
@@ -506,14 +502,14 @@ impl World for MemWorld {
                     return SendAnswer::Memory;
                 };
                 use_write(&mut self.script.writes, place, self.clock);
-                self.kept.journal.put(Act::WriteNotYet(place));
+                self.kept.put(Act::WriteNotYet(place));
                 SendAnswer::NotYet
             }
             Taken::Fault => {
                 use_write(&mut self.script.writes, place, self.clock);
                 self.script.looked.forget(place, Watch::Write);
                 self.faults = self.faults.saturating_add(1);
-                self.kept.journal.put(Act::WriteFault(place));
+                self.kept.put(Act::WriteFault(place));
                 SendAnswer::Failed
             }
         }
@@ -530,16 +526,16 @@ impl World for MemWorld {
         ensures script { ShutScripted self.old.script self.new.script place result }
         ensures counted { RaisesCounts self.old.faults self.new.faults self.old.stops self.new.stops (is_shut_fault result) false }
     {
-        let Ok(()) = self.kept.journal.reserve(self.held.len() + 1) else {
+        let Ok(()) = self.kept.reserve(self.held.len() + 1) else {
             return ShutAnswer::Memory;
         };
         self.held.change(place, Standing::ShutDown);
         if self.script.shut_faults.has(place) {
             self.faults = self.faults.saturating_add(1);
-            self.kept.journal.put(Act::ShutFault(place, how));
+            self.kept.put(Act::ShutFault(place, how));
             return ShutAnswer::Failed;
         }
-        self.kept.journal.put(Act::Shut(place, how));
+        self.kept.put(Act::Shut(place, how));
         ShutAnswer::Done
     }
 
@@ -555,7 +551,7 @@ impl World for MemWorld {
     {
         self.held.remove(place);
         self.script.looked.forget_place(place);
-        self.kept.journal.put(Act::Closed(place, why));
+        self.kept.put(Act::Closed(place, why));
     }
 
     /// Each note is taken.
@@ -569,13 +565,13 @@ impl World for MemWorld {
         ensures script { self.new.script ≡ self.old.script }
         ensures counted { RaisesCounts self.old.faults self.new.faults self.old.stops self.new.stops (is_note_fault result) false }
     {
-        let Ok(()) = self.kept.journal.reserve(self.held.len() + 1) else {
+        let Ok(()) = self.kept.reserve(self.held.len() + 1) else {
             return NoteAnswer::Memory;
         };
         let Ok(noted) = Bytes::of(self.script.allocator(), text) else {
             return NoteAnswer::Memory;
         };
-        self.kept.journal.put(Act::Note(noted));
+        self.kept.put(Act::Note(noted));
         NoteAnswer::Noted
     }
 
@@ -590,7 +586,7 @@ impl World for MemWorld {
         ensures script { ReapScripted self.old.script self.new.script place result }
         ensures counted { RaisesCounts self.old.faults self.new.faults self.old.stops self.new.stops false false }
     {
-        let Ok(()) = self.kept.journal.reserve(self.held.len() + 1) else {
+        let Ok(()) = self.kept.reserve(self.held.len() + 1) else {
             return ReapAnswer::Memory;
         };
         let next = self.script.end_of(place);
@@ -598,7 +594,7 @@ impl World for MemWorld {
         match next {
             None => ReapAnswer::NoChild,
             Some(end) => {
-                self.kept.journal.put(Act::Reaped(place, end));
+                self.kept.put(Act::Reaped(place, end));
                 ReapAnswer::Reaped(end)
             }
         }

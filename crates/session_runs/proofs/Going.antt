@@ -97,6 +97,7 @@ acted_run c n start old new past act asked failed on did own may untimed no_turn
       later = (let a = on.later in let b = rose.later in omega (arith, a, b));
       blamed = blamed failed refl;
       waited = (let a = on.waited in let b = waitless.waits in let e = no_turn.turns_same past in omega (arith, a, b, e));
+      few_waits = (let a = on.few_waits in let b = waitless.waits in let e = no_turn.turns_same past in omega (arith, a, b, e));
       later_stops = (let a = on.later_stops in let b = waitless.stops in omega (arith, a, b));
       stopped = λ h. risen_kept start.stops old.stops new.stops waitless.stops (on.stopped (sym (no_turn.stops_same past) ∙ h));
       clock = (let a = on.clock in let b = waitless.clock in let e = moment_before act past untimed in omega (arith, a, b, e));
@@ -118,6 +119,7 @@ idle_run c n start old new past on did rose waitless = record {
   later = (let a = on.later in let b = rose.later in omega (arith, a, b));
   blamed = λ h. risen_kept start.faults old.faults new.faults rose.later (on.blamed h);
   waited = (let a = on.waited in let b = waitless.waits in omega (arith, a, b));
+  few_waits = (let a = on.few_waits in let b = waitless.waits in omega (arith, a, b));
   later_stops = (let a = on.later_stops in let b = waitless.stops in omega (arith, a, b));
   stopped = λ h. risen_kept start.stops old.stops new.stops waitless.stops (on.stopped h);
   clock = (let a = on.clock in let b = waitless.clock in omega (arith, a, b));

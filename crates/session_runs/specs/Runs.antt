@@ -50,6 +50,7 @@ pub record Run (c : Config) (n : ℕ) (start now : Seen) (past : List Act) : Typ
   pub blamed : is_blamed past ≡ true → HasRisen start.faults now.faults
   -- the waits, the stops and the clock
   pub waited : min (start.waits + turns past) (2 ^ 64 - 1) ≤ now.waits
+  pub few_waits : now.waits ≤ start.waits + turns past
   pub later_stops : start.stops ≤ now.stops
   pub stopped : stop_turned past ≡ true → HasRisen start.stops now.stops
   pub clock : moment past ≤ now.clock

@@ -1,38 +1,64 @@
-// The program: the standard streams, the maker and the poller, and the run of its arguments over them. It ends with the
-// status of the run.
+// The program: it reads its words, makes what they need, and ends with the status of their run. Words that ask for no relay
+// open nothing, start no thread and wait for nothing.
 #![tactic(auto)]
 
 mod parts;
+mod runs;
 
-use parts::{Lack, carried_out, closed_streams, concluded, lacking, polling, told};
+use blocking_streams::{Blocking, InputSource};
+use journal_file::{Disk, DiskJournal};
+use parts::{Lack, bare_streams, closed_streams, lacking, polling, told};
 use port_desk::Standard;
-use port_trait::{StdSink, StdSource, StdSpawner};
+use port_trait::{StdSink, StdSpawner};
 use program_words::program_words;
+use runs::{answered, asks_for_relay, relayed};
+use socat_top::journal_flag;
 use standard_ports::{FreshErrors, FreshInput, FreshOutput, direct_input, direct_output};
+use std::io::IsTerminal;
 use std::process::ExitCode;
 use thread_rings::{RingReader, RingWriter};
 
 // The rings are made here: only here is the runtime a known one, and so what is made may go to a thread.
 fn main(rt: HostRuntime) -> ExitCode {
-    let _closed = closed_streams(&rt);
     let alloc = rt.alloc();
-    let (Ok(words), Ok((sink, failures))) = (
-        program_words(alloc, &rt),
-        told(alloc, StdSink::new(rt.stdout())),
-    ) else {
-        return lacking(&rt, Lack::Memory);
+    let mut errors = Blocking::new(rt.stderr());
+    let Ok(words) = program_words(alloc, &rt) else {
+        return lacking(&mut errors, Lack::Memory);
+    };
+    let Ok(relays) = asks_for_relay(alloc, words.as_slice()) else {
+        return lacking(&mut errors, Lack::Memory);
+    };
+    let _closed = if relays || journal_flag(words.as_slice()).is_some() {
+        closed_streams(&rt)
+    } else {
+        [None, None, None]
+    };
+    let mut journal = DiskJournal::new(Disk::new(rt));
+    if !relays {
+        let standard = bare_streams(&rt);
+        return match answered(alloc, standard, words.as_slice(), &mut journal, &mut errors) {
+            Ok(status) => ExitCode::from(status),
+            Err(lack) => lacking(&mut errors, lack),
+        };
+    }
+    let Ok((sink, failures)) = told(alloc, StdSink::new(Blocking::new(rt.stdout()))) else {
+        return lacking(&mut errors, Lack::Memory);
     };
     let (poller, (reading, writing, noting)) = match polling(rt, alloc) {
         Ok(polling) => polling,
-        Err(lack) => return lacking(&rt, lack),
+        Err(lack) => return lacking(&mut errors, lack),
     };
     let mut spawner = StdSpawner::new(rt);
     let stdin = match direct_input(rt, alloc, &poller) {
         Some(port) => Ok(FreshInput::direct(port)),
-        None => match RingReader::new(alloc, StdSource::new(rt.stdin()), &mut spawner, reading) {
-            Ok(ring) => Ok(FreshInput::ring(ring)),
-            Err(error) => Err(error),
-        },
+        None => {
+            let input = rt.stdin();
+            let source = InputSource::new(Blocking::new(input), input.is_terminal());
+            match RingReader::new(alloc, source, &mut spawner, reading) {
+                Ok(ring) => Ok(FreshInput::ring(ring)),
+                Err(error) => Err(error),
+            }
+        }
     };
     let stdout = match direct_output(rt, alloc, &poller) {
         Some(port) => Ok(FreshOutput::direct(port)),
@@ -41,20 +67,32 @@ fn main(rt: HostRuntime) -> ExitCode {
             Err(error) => Err(error),
         },
     };
-    let stderr = match RingWriter::new(alloc, StdSink::new(rt.stderr()), &mut spawner, noting) {
+    let noted = StdSink::new(Blocking::new(rt.stderr()));
+    let stderr = match RingWriter::new(alloc, noted, &mut spawner, noting) {
         Ok(ring) => Ok(FreshErrors::ring(ring)),
         Err(error) => Err(error),
     };
     let (Ok(stdin), Ok(stdout), Ok(stderr)) = (stdin, stdout, stderr) else {
-        return lacking(&rt, Lack::Memory);
+        return lacking(&mut errors, Lack::Memory);
     };
     let standard = Standard {
         stdin: stdin.into_port(),
         stdout: stdout.into_port(),
         stderr: stderr.into_port(),
     };
-    match carried_out(rt, rt, alloc, poller, standard, words.as_slice()) {
-        Ok(status) => concluded(&rt, status, &failures),
-        Err(lack) => lacking(&rt, lack),
+    let ended = relayed(
+        rt,
+        rt,
+        alloc,
+        poller,
+        standard,
+        words.as_slice(),
+        &mut journal,
+        &mut errors,
+        &failures,
+    );
+    match ended {
+        Ok(status) => ExitCode::from(status),
+        Err(lack) => lacking(&mut errors, lack),
     }
 }

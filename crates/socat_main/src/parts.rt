@@ -1,32 +1,28 @@
-// Steps of a beginning, each with the status where it couldn't be made, and the end.
-ghost use Rattle.std.specs.Prelude.{◌≡◌, [], IfSome};
+// Steps of a beginning, each with what was wanting where it couldn't be made.
+ghost use Rattle.std.specs.Prelude.{◌≡◌};
 
-use journal_file::DiskJournal;
+use blocking_streams::Blocking;
 use mio_poller::{MioPoller, MioWake};
-use port_desk::{Desk, Standard};
-use port_trait::{Making, Port, Sink};
-use real_maker::RealMaker;
-use relay_model::{Act, Journal, NoMemory, Text};
-use socat_top::{Saving, Written, run_written};
+use port_desk::Standard;
+use port_trait::{DirectReader, DirectWriter, Making, Sink, StdSink, StdSource};
+use relay_model::NoMemory;
 use std::alloc::Global;
 use std::fs::{Files, OpenOptions};
-use std::io::Eprint;
+use std::io::{Stderr, Stdin, Stdout, Write};
 use std::net::Net;
 use std::os::fd::AsRawFd;
 use std::process::ExitCode;
 use std::rt::HostRuntime;
-use std::thread::Threads;
 use std::time::Clock;
 use told_sink::{Failures, ToldSink};
-use world_trait::Recorder;
 
-/// The status where the system refuses the poller or what is registered with it, and where output failed after the run.
+/// The status where the system refuses the poller or what is registered with it.
 const FAILED: u8 = 1;
 
 /// The status where there is no memory.
-const NO_MEMORY: u8 = 2;
+pub const NO_MEMORY: u8 = 2;
 
-/// What was wanting before a run began, or for its journal once it had ended.
+/// What was wanting before a run began.
 #[derive(Clone, Copy, Debug)]
 pub enum Lack {
     Memory,
@@ -41,16 +37,32 @@ impl From<NoMemory> for Lack {
 }
 
 /// Says what was wanting, and gives the status of it. The line takes no memory.
-pub fn lacking<R: Eprint>(rt: &R, lack: Lack) -> ExitCode {
+pub fn lacking<W: Write>(errors: &mut W, lack: Lack) -> ExitCode {
     match lack {
         Lack::Memory => {
-            let _ = eprintln!(rt; "socat: out of memory");
+            let _ = errors.write_all(b"socat: out of memory\n");
             ExitCode::from(NO_MEMORY)
         }
         Lack::Poller => {
-            let _ = eprintln!(rt; "socat: no poller");
+            let _ = errors.write_all(b"socat: no poller\n");
             ExitCode::from(FAILED)
         }
+    }
+}
+
+/// The standard streams by their descriptors, of which nothing is asked before they are used.
+pub type BareStreams = Standard<
+    DirectReader<StdSource<Stdin>>,
+    DirectWriter<StdSink<Stdout>>,
+    DirectWriter<StdSink<Blocking<Stderr>>>,
+>;
+
+/// The standard streams of words that only have something said.
+pub fn bare_streams(rt: &HostRuntime) -> BareStreams {
+    Standard {
+        stdin: DirectReader::new(StdSource::new(rt.stdin())),
+        stdout: DirectWriter::new(StdSink::new(rt.stdout())),
+        stderr: DirectWriter::new(StdSink::new(Blocking::new(rt.stderr()))),
     }
 }
 
@@ -91,7 +103,7 @@ where
 }
 
 /// What was made, or what was wanting for it.
-fn made<T: Drop>(making: Making<T>) -> Result<T, Lack> {
+pub fn made<T: Drop>(making: Making<T>) -> Result<T, Lack> {
     match making {
         Making::Made(made) => Ok(made),
         Making::Later(_) | Making::Failed => Err(Lack::Poller),
@@ -104,57 +116,4 @@ pub fn told<K: Sink + Drop>(alloc: Global, sink: K) -> Result<(ToldSink<K>, Fail
     let failures = Failures::none(alloc)?;
     let told = ToldSink::new(sink, failures.share()?);
     Ok((told, failures))
-}
-
-/// Carries out the words over a desk of these streams, which have passed no bytes, and of the ports that a maker opens,
-/// and gives the status. Files and programs are the system's. In `main` the types would be known, and the prover compares
-/// more of them than its steps allow.
-pub fn carried_out<R, I: Port, O: Port, E: Port>(
-    rt: R,
-    system: HostRuntime,
-    alloc: Global,
-    poller: MioPoller<R>,
-    standard: Standard<I, O, E>,
-    words: &[Text],
-) -> Result<u8, Lack>
-where
-    R: Files + Net + Clock + Threads + Copy + Drop,
-    requires given { IfSome (I.gave standard.stdin) (λ all. all ≡ []) }
-    requires taken { IfSome (O.took standard.stdout) (λ all. all ≡ []) }
-    requires silent { IfSome (E.took standard.stderr) (λ all. all ≡ []) }
-{
-    let maker = made(RealMaker::on(rt, system, alloc, &poller))?;
-    let desk = Desk::new(alloc, standard, maker, poller, Recorder::Skip)?;
-    let mut journal = DiskJournal::new(rt);
-    let written = run_written(alloc, desk, words, u64::MAX, &mut journal);
-    if !has_told(&written) {
-        return Err(Lack::Memory);
-    }
-    Ok(written.status)
-}
-
-/// Whether the run has told a want of memory, where there was one. Where a history is kept its line takes an act, for which
-/// there may be no memory; and that of the journal's text comes after the run.
-fn has_told<I: Port, O: Port, E: Port>(written: &Written<I, O, E>) -> bool {
-    match written.shipped.status {
-        0 => written.saving != Saving::Memory,
-        NO_MEMORY => {
-            written.saving == Saving::NotAsked || ends_with_note(written.shipped.kept.journal())
-        }
-        _ => true,
-    }
-}
-
-fn ends_with_note(journal: &Journal) -> bool {
-    let count = journal.len();
-    count > 0 && matches!(journal.get(count - 1), Act::Note(_) | Act::NoteFault(_))
-}
-
-/// The status of the run, or that of a failure where output failed after its last act, which is told.
-pub fn concluded<R: Eprint>(rt: &R, status: u8, failures: &Failures) -> ExitCode {
-    if status == 0 && failures.any() {
-        let _ = eprintln!(rt; "socat: write failed on standard output");
-        return ExitCode::from(FAILED);
-    }
-    ExitCode::from(status)
 }

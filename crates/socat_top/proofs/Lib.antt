@@ -2,5 +2,4 @@ pub mod Passing
 pub mod PassedEnds
 pub mod EndsBehind
 pub mod Endings
-pub mod Offered
 pub mod Unheld

@@ -12,10 +12,10 @@ ghost use Rattle.socat_top.specs.Headline.{Answers, CompletesTask, Headline, Lea
 ghost use Rattle.socat_top.specs.Tasks.{task, command_task, task_of};
 
 use crate::notes::{conclude, print};
-use crate::relays::relay;
 use cmd_words::{Command, CommandFault, command_of};
 use exit_status::{Outcome, usage_text, version_text};
 use generated_run::generated_run;
+use relay_loop::relay;
 use relay_model::{Config, NoMemory, Text};
 use std::alloc::Global;
 use world_trait::World;

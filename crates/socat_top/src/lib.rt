@@ -3,10 +3,9 @@
 
 mod calls;
 mod notes;
-mod relays;
 mod runs;
 mod written;
 
 pub use calls::socat;
 pub use runs::{Shipped, run};
-pub use written::{Saving, Written, run_written};
+pub use written::{Saving, Written, journal_flag, run_written};

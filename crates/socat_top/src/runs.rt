@@ -1,5 +1,5 @@
 // The run of a list of words over a desk.
-ghost use Rattle.std.specs.Prelude.{◌≡◌, [], true, false, Some, IfSome};
+ghost use Rattle.std.specs.Prelude.{◌≡◌, [], true, Some, is_some};
 ghost use Rattle.relay_model.specs.declared.places.Place.{Place as Spot};
 ghost use Rattle.relay_model.specs.Holding.{Free};
 ghost use Rattle.relay_model.specs.Journals.{History};
@@ -8,7 +8,7 @@ ghost use Rattle.event_loop.specs.Headline.{StopCause, is_failure};
 ghost use Rattle.exit_status.specs.Statuses.{exit_code};
 ghost use Rattle.port_trait.specs.Meanings.{Behind};
 ghost use Rattle.desk_ports.specs.Endings.{OnJoinedBack, handed};
-ghost use Rattle.desk_history.specs.Following.{Passed};
+ghost use Rattle.desk_history.specs.Following.{IsUnused, Passed};
 ghost use Rattle.stream_ends.specs.Behind.{far_bytes, far_faults, told_behind};
 ghost use Rattle.socat_top.specs.Kept.{history_of};
 ghost use Rattle.socat_top.specs.Headline.{Answers, CompletesTask, Leaves, TaskEnds, TaskEndsBehind};
@@ -33,8 +33,8 @@ pub struct Shipped<I: Port, O: Port, E: Port> {
     pub counts: Counts,
 }
 
-/// Does what the words ask over a desk, with at most `turns` waits, and ends the desk. The desk has done nothing yet, and
-/// its standard streams have passed no bytes.
+/// Does what the words ask over a desk, with at most `turns` waits, and ends the desk. A desk that keeps its history has
+/// done nothing yet, and its standard streams have passed no bytes.
 pub fn run<M: Maker + Drop, P: Poller + Drop, I: Port, O: Port, E: Port>(
     alloc: Global,
     desk: Desk<M, P, I, O, E>,
@@ -42,10 +42,7 @@ pub fn run<M: Maker + Drop, P: Poller + Drop, I: Port, O: Port, E: Port>(
     turns: u64,
 ) -> Shipped<I, O, E>
     requires free { (p : Spot) → ⟦<Desk<M, P, I, O, E> as World>⟧.held desk p ≡ Free }
-    requires untouched { desk.log.acted ≡ false }
-    requires given { IfSome desk.ports.harbor.input.port.gave (λ all. all ≡ []) }
-    requires taken { IfSome desk.ports.harbor.output.port.took (λ all. all ≡ []) }
-    requires silent { IfSome desk.ports.harbor.errors.port.took (λ all. all ≡ []) }
+    requires unused { is_some (⟦<Desk<M, P, I, O, E> as World>⟧.told desk) ≡ true → IsUnused desk.log.acted desk.ports.harbor.input.port.gave desk.ports.harbor.output.port.took desk.ports.harbor.errors.port.took }
     ensures status { result.status ≡ exit_code result.outcome }
     ensures headline { (before : History) → ⟦<Desk<M, P, I, O, E> as World>⟧.told desk ≡ Some before → Leaves (task words.now) turns before (Some (history_of result.kept)) result.outcome }
     ensures passed { (before : History) → ⟦<Desk<M, P, I, O, E> as World>⟧.told desk ≡ Some before → Passed (history_of result.kept) (I.gave (handed result.standard.stdin)) (O.took (handed result.standard.stdout)) (E.took (handed result.standard.stderr)) (I.ended (handed result.standard.stdin)) }

@@ -1,5 +1,5 @@
 // A run whose history may be written to a file.
-ghost use Rattle.std.specs.Prelude.{◌≡◌, ◌≤◌, ◌-◌, [], true, false, length, drop, Some, IfSome, MatchOption};
+ghost use Rattle.std.specs.Prelude.{◌≡◌, ◌≤◌, ◌-◌, [], true, false, length, drop, Some, MatchOption, is_some};
 ghost use Rattle.std.specs.Bool.{OnTrue, OnFalse};
 ghost use Rattle.relay_model.specs.declared.places.Place.{Place as Spot};
 ghost use Rattle.relay_model.specs.Holding.{Free};
@@ -10,7 +10,7 @@ ghost use Rattle.exit_status.specs.Statuses.{exit_code};
 ghost use Rattle.socat_top.specs.declared.written.Saving.TheVariants as savings;
 ghost use Rattle.port_trait.specs.Meanings.{Behind};
 ghost use Rattle.desk_ports.specs.Endings.{OnJoinedBack, handed};
-ghost use Rattle.desk_history.specs.Following.{Passed};
+ghost use Rattle.desk_history.specs.Following.{IsUnused, Passed};
 ghost use Rattle.stream_ends.specs.Behind.{far_bytes, far_faults, told_behind};
 ghost use Rattle.socat_top.specs.Kept.{history_of};
 ghost use Rattle.socat_top.specs.Headline.{Answers, CompletesTask, Leaves, TaskEnds, TaskEndsBehind};
@@ -63,9 +63,7 @@ where
     P: Poller + Drop,
     requires free { (p : Spot) → ⟦<Desk<M, P, I, O, E> as World>⟧.held desk p ≡ Free }
     requires untouched { desk.log.acted ≡ false }
-    requires given { IfSome desk.ports.harbor.input.port.gave (λ all. all ≡ []) }
-    requires taken { IfSome desk.ports.harbor.output.port.took (λ all. all ≡ []) }
-    requires silent { IfSome desk.ports.harbor.errors.port.took (λ all. all ≡ []) }
+    requires unused { is_some (told_before (asks_for_journal words.now) (⟦<Desk<M, P, I, O, E> as World>⟧.told desk)) ≡ true → IsUnused desk.log.acted desk.ports.harbor.input.port.gave desk.ports.harbor.output.port.took desk.ports.harbor.errors.port.took }
     ensures asked { is_asked result.saving ≡ asks_for_journal words.now }
     ensures unasked { asks_for_journal words.now ≡ false → file.new ≡ file.old }
     ensures saved { result.saving ≡ savings.Saved → TookText (F.took file.old) (F.took file.new) (without_last_note result.shipped.kept.journal.acts) }
@@ -95,7 +93,7 @@ where
 }
 
 /// The name of the journal's file and the words behind it, where the first word is the flag.
-fn journal_flag(words: &[Text]) -> Option<(&[u8], &[Text])>
+pub fn journal_flag(words: &[Text]) -> Option<(&[u8], &[Text])>
     ensures { MatchOption result ((asks_for_journal words.now ≡ false) × (words_of_run words.now ≡ words.now)) (λ found. (asks_for_journal words.now ≡ true) × (words_of_run words.now ≡ found.1.now)) }
 {
     let [first, others @ ..] = words else {

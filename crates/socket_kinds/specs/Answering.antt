@@ -1,8 +1,9 @@
 -- What an answer of the system means.
-use Rattle.std.specs.Prelude.{◌≡◌, ◌≢◌, ℕ, ◌<◌, Bool, true, false, Option, None, Some, Result, Ok, Err}
+use Rattle.std.specs.Prelude.{◌≡◌, ◌≢◌, ℕ, ◌<◌, List, take, Bool, true, false, Option, None, Some, Result, Ok, Err}
 use Rattle.std.specs.declared.io.Error.{Error}
 use Rattle.std.specs.declared.io.ErrorKind.TheVariants.{WouldBlock, NotConnected}
 use Rattle.std.specs.IoError.{error_kind}
+use Rattle.std.specs.Io.KnownBytes.{Keeps, Consumes, Appends, IsAtEnd}
 use Rattle.port_trait.specs.declared.answers.Settled.{Settled}
 use Rattle.port_trait.specs.declared.answers.Settled.TheVariants as settles
 use Rattle.port_trait.specs.declared.answers.Got.{Got}
@@ -14,6 +15,10 @@ use Rattle.port_trait.specs.declared.answers.Shutting.TheVariants as shuts
 use Rattle.socket_kinds.specs.declared.answering.Connection.{Connection}
 use Rattle.socket_kinds.specs.declared.answering.Connection.TheVariants as connections
 
+-- one call of the system was answered so, and this holds of the answer
+abbrev pub Answers : {T : Type 0} → (Result T Error → Type 0) → (Result T Error → Type 0) → Type 0
+Answers {T} call P = (told : Result T Error) × call told × P told
+
 -- a read of a stream: no bytes are its end
 abbrev pub IsReceived : Result ℕ Error → Got → Type 0
 IsReceived (Ok count) got = (count ≡ 0 → got ≡ reads.End) × (0 < count → got ≡ reads.Bytes count)
@@ -23,6 +28,20 @@ IsReceived (Err error) got = (error_kind error ≡ WouldBlock → got ≡ reads.
 abbrev pub IsAccepted : Result ℕ Error → WriteAnswer → Type 0
 IsAccepted (Ok count) took = (count ≡ 0 → took ≡ writes.Failed) × (0 < count → took ≡ writes.Took count)
 IsAccepted (Err error) took = (error_kind error ≡ WouldBlock → took ≡ writes.NotYet) × (error_kind error ≢ WouldBlock → took ≡ writes.Failed)
+
+-- the reader lost the bytes that this answer hands out, and none with any other; it is at its end where the answer is that
+abbrev pub ReaderGave : Option (List ℕ) → Option (List ℕ) → List ℕ → Got → Type 0
+ReaderGave before now into (reads.Bytes n) = Consumes before now (take n into)
+ReaderGave before now into reads.Empty = ⊥
+ReaderGave before now into reads.End = Keeps before now × IsAtEnd now
+ReaderGave before now into reads.NotYet = Keeps before now
+ReaderGave before now into reads.Failed = Keeps before now
+
+-- the writer holds the bytes more that this answer tells as taken, and none with any other
+abbrev pub WriterTook : Option (List ℕ) → Option (List ℕ) → List ℕ → WriteAnswer → Type 0
+WriterTook before now bytes (writes.Took n) = Appends before now (take n bytes)
+WriterTook before now bytes writes.NotYet = Keeps before now
+WriterTook before now bytes writes.Failed = Keeps before now
 
 -- a shutdown: a connection that the peer has reset is shut
 abbrev pub IsShutDown : {T : Type 0} → Result T Error → Shutting → Type 0

@@ -1,15 +1,43 @@
 -- What contracts see of a door and of what comes at it.
-use Rattle.std.specs.Prelude.{◌≡◌, ◌≢◌, Bool, true, false}
+use Rattle.std.specs.Prelude.{◌≡◌, ◌≢◌, Bool, true, false, Result, Ok, Err}
 use Rattle.std.specs.declared.io.Error.{Error}
 use Rattle.std.specs.declared.io.ErrorKind.TheVariants.{WouldBlock, ConnectionAborted}
 use Rattle.std.specs.IoError.{error_kind}
 use Rattle.port_trait.specs.declared.answers.Hint.{Hint}
+use Rattle.std.specs.declared.net.socket_addr.SocketAddr.{SocketAddr}
+use Rattle.mio.specs.declared.net.stream.TcpStream.{TcpStream}
+use Rattle.socket_kinds.specs.declared.stream.Stream.TheVariants as streams
+use Rattle.relay_model.specs.declared.acts.Peer.TheVariants as peers
+use Rattle.socket_kinds.specs.Peers.{IsPeer}
+use Rattle.socket_kinds.specs.declared.door.Listener.{Listener}
+use Rattle.socket_kinds.specs.declared.door.Listener.TheVariants as listeners
 use Rattle.socket_kinds.specs.declared.door.Arrival.{Arrival}
 use Rattle.socket_kinds.specs.declared.door.Arrival.TheVariants as arrivals
 
+-- whether its last accepting left off, and whether those that come to it have no address
+pub record DoorState : Type 0 where
+  pub cut_short : Bool
+  pub unix : Bool
+
+-- only those that come to a Unix socket have no address
+abbrev pub is_unix : Listener → Bool
+is_unix (listeners.Tcp listener) = false
+is_unix (listeners.Unix listener) = true
+is_unix (listeners.Udp enrolled) = false
+is_unix (listeners.Packets enrolled) = false
+
 -- a door that left off hints that peers may wait
-abbrev pub door_hint : Bool → Hint
-door_hint cut_short = record { readable = cut_short; writable = false }
+abbrev pub door_hint : DoorState → Hint
+door_hint door = record { readable = door.cut_short; writable = false }
+
+-- who came has an address
+abbrev pub ComesAddressed : Arrival → Type 0
+ComesAddressed (arrivals.Came stream peer) = peer ≢ peers.Local
+ComesAddressed arrivals.Aborted = Unit {0}
+ComesAddressed arrivals.Starved = Unit {0}
+ComesAddressed arrivals.LeftOff = Unit {0}
+ComesAddressed (arrivals.Nobody error) = Unit {0}
+ComesAddressed arrivals.Failed = Unit {0}
 
 -- the system refuses, or has no descriptor for it yet
 abbrev pub IsRefusal : Arrival → Type 0
@@ -25,6 +53,20 @@ pub record IsDeclined (error : Error) (arrival : Arrival) : Type 0 where
   pub nobody : error_kind error ≡ WouldBlock → arrival ≡ arrivals.Nobody error
   pub aborted : error_kind error ≡ ConnectionAborted → arrival ≡ arrivals.Aborted
   pub failed : error_kind error ≢ WouldBlock → error_kind error ≢ ConnectionAborted → IsRefusal arrival
+
+-- it is this connection, and its peer the one at this address
+abbrev pub CameFrom : TcpStream → SocketAddr → Arrival → Type 0
+CameFrom accepted addr (arrivals.Came stream peer) = (stream ≡ streams.Tcp accepted) × IsPeer addr peer
+CameFrom accepted addr arrivals.Aborted = ⊥
+CameFrom accepted addr arrivals.Starved = ⊥
+CameFrom accepted addr arrivals.LeftOff = ⊥
+CameFrom accepted addr (arrivals.Nobody error) = ⊥
+CameFrom accepted addr arrivals.Failed = ⊥
+
+-- who came by what an accepting was answered
+abbrev pub Comes : Result (TcpStream × SocketAddr) Error → Arrival → Type 0
+Comes (Ok pair) arrival = CameFrom pair.0 pair.1 arrival
+Comes (Err error) arrival = IsDeclined error arrival
 
 -- an accepting came to its end before the connections that may wait
 abbrev pub has_left : Arrival → Bool

@@ -4,3 +4,4 @@ pub mod Datagrams
 pub mod Doors
 pub mod Kinds
 pub mod Peers
+pub mod Streams

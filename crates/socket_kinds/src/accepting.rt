@@ -1,8 +1,9 @@
 // Peers are accepted at doors.
-ghost use Rattle.std.specs.Prelude.{◌≡◌, false, true, is_some};
+ghost use Rattle.std.specs.Prelude.{◌≡◌, ◌≢◌, false, true, is_some};
 ghost use Rattle.port_trait.specs.declared.makers.MadePeer.TheVariants as peers;
-ghost use Rattle.socket_kinds.specs.Accepting.{OnPeer, IsNoPartner};
-ghost use Rattle.socket_kinds.specs.Kinds.{is_door, has_left_off, hint_of};
+ghost use Rattle.relay_model.specs.declared.acts.Peer.TheVariants as whose;
+ghost use Rattle.socket_kinds.specs.Accepting.{OnPeer, OnCame, OnBoth, IsNoPartner};
+ghost use Rattle.socket_kinds.specs.Kinds.{is_door, is_unix_door, has_left_off, HasPartner};
 
 use crate::any_socket::AnySocket;
 use crate::datagram::DatagramSocket;
@@ -30,6 +31,8 @@ impl AnySocket {
         ensures sort { OnPeer (λ socket. is_door socket ≡ false) result }
         ensures no_door { is_door self.old ≡ false → result ≡ peers.Failed }
         ensures left_off { has_left_off self.new ≡ true → result ≡ peers.NoPeer }
+        ensures addressed { is_unix_door self.old ≡ false → OnCame (λ peer. peer ≢ whose.Local) result }
+        ensures partner { OnBoth HasPartner result }
     {
         match self {
             AnySocket::Door(door) => accept_at(alloc, registry, door, key),
@@ -45,7 +48,9 @@ fn accept_at(
     key: usize,
 ) -> MadePeer<AnySocket>
     ensures sort { OnPeer (λ socket. is_door socket ≡ false) result }
-    ensures left_off { door.new ≡ true → result ≡ peers.NoPeer }
+    ensures left_off { door.new.cut_short ≡ true → result ≡ peers.NoPeer }
+    ensures addressed { door.old.unix ≡ false → OnCame (λ peer. peer ≢ whose.Local) result }
+    ensures partner { OnBoth HasPartner result }
 {
     door.cut_short = false;
     door.starved = false;
@@ -76,7 +81,9 @@ fn stand(
     nodelay: bool,
     key: usize,
 ) -> MadePeer<AnySocket>
-    ensures { OnPeer (λ socket. is_door socket ≡ false) result }
+    ensures sort { OnPeer (λ socket. is_door socket ≡ false) result }
+    ensures peer { OnCame (λ told. told ≡ peer) result }
+    ensures partner { OnBoth HasPartner result }
 {
     if nodelay {
         stream.dont_delay();
@@ -96,7 +103,9 @@ fn accept_partner(
     key: usize,
     single: bool,
 ) -> MadePeer<AnySocket>
-    ensures { OnPeer (λ socket. is_door socket ≡ false) result }
+    ensures sort { OnPeer (λ socket. is_door socket ≡ false) result }
+    ensures addressed { OnCame (λ peer. peer ≢ whose.Local) result }
+    ensures partner { OnBoth HasPartner result }
 {
     if let Err(error) = door.peek_from(&mut [0u8; 1]) {
         return no_partner(&error);
@@ -112,7 +121,9 @@ fn accept_partner(
 }
 
 fn hold_first(mut socket: DatagramSocket, single: bool) -> MadePeer<AnySocket>
-    ensures { OnPeer (λ socket. is_door socket ≡ false) result }
+    ensures sort { OnPeer (λ socket. is_door socket ≡ false) result }
+    ensures addressed { OnCame (λ peer. peer ≢ whose.Local) result }
+    ensures partner { OnBoth HasPartner result }
 {
     match socket.take_first(single) {
         Ok(sender) => MadePeer::Came(AnySocket::Datagrams(socket), peer_of(sender)),
@@ -123,6 +134,8 @@ fn hold_first(mut socket: DatagramSocket, single: bool) -> MadePeer<AnySocket>
 fn no_partner(error: &Error) -> MadePeer<AnySocket>
     ensures answer { IsNoPartner error.now result }
     ensures nobody { OnPeer (λ socket. is_door socket ≡ false) result }
+    ensures unaddressed { OnCame (λ peer. peer ≢ whose.Local) result }
+    ensures alone { OnBoth HasPartner result }
 {
     if error.kind() == ErrorKind::WouldBlock {
         return MadePeer::NoPeer;

@@ -1,7 +1,5 @@
 // Any of the sockets.
-ghost use Rattle.std.specs.Prelude.{◌≡◌, ◌<◌, length, None, is_some};
-ghost use Rattle.port_trait.specs.Meanings.{Gives, Accepts, AcceptsWhole};
-ghost use Rattle.socket_kinds.specs.Kinds.{hint_of};
+ghost use Rattle.socket_kinds.specs.Kinds.{told_by};
 
 use crate::datagram::DatagramSocket;
 use crate::door::Door;
@@ -10,12 +8,12 @@ use crate::stream::StreamSocket;
 use port_trait::{Got, Hint, Settled, Shutting, Took};
 use relay_model::Shut;
 
-/// A connection, a partner of datagrams or a door.
+/// A connection, a partner of datagrams or a door. Over any sockets of these sorts it tells what they tell.
 #[derive(Drop)]
-pub enum AnySocket {
-    Stream(StreamSocket),
-    Datagrams(DatagramSocket),
-    Door(Door),
+pub enum AnySocket<S = StreamSocket, D = DatagramSocket, L = Door> {
+    Stream(S),
+    Datagrams(D),
+    Door(L),
 }
 
 impl AnySocket {
@@ -36,8 +34,14 @@ impl AnySocket {
     }
 }
 
-impl Socket for AnySocket {
-    ghost hints = { hint_of };
+impl<S: Socket, D: Socket, L: Socket> Socket for AnySocket<S, D, L> {
+    ghost gave = { told_by S.gave D.gave L.gave };
+
+    ghost took = { told_by S.took D.took L.took };
+
+    ghost shuts = { told_by S.shuts D.shuts L.shuts };
+
+    ghost hints = { told_by S.hints D.hints L.hints };
 
     fn settle(&mut self) -> Settled {
         match self {
@@ -47,10 +51,7 @@ impl Socket for AnySocket {
         }
     }
 
-    fn receive(&mut self, into: &mut [u8]) -> Got
-        requires { 0 < length into.old }
-        ensures gives { Gives None None into.new result }
-    {
+    fn receive(&mut self, into: &mut [u8]) -> Got {
         match self {
             AnySocket::Stream(socket) => socket.receive(into),
             AnySocket::Datagrams(socket) => socket.receive(into),
@@ -58,10 +59,7 @@ impl Socket for AnySocket {
         }
     }
 
-    fn transmit(&mut self, bytes: &[u8]) -> Took
-        requires { 0 < length bytes.now }
-        ensures accepts { Accepts None None bytes.now result }
-    {
+    fn transmit(&mut self, bytes: &[u8]) -> Took {
         match self {
             AnySocket::Stream(socket) => socket.transmit(bytes),
             AnySocket::Datagrams(socket) => socket.transmit(bytes),
@@ -69,10 +67,7 @@ impl Socket for AnySocket {
         }
     }
 
-    fn transmit_packet(&mut self, bytes: &[u8]) -> Took
-        requires { 0 < length bytes.now }
-        ensures accepts { AcceptsWhole None None bytes.now result }
-    {
+    fn transmit_packet(&mut self, bytes: &[u8]) -> Took {
         match self {
             AnySocket::Stream(socket) => socket.transmit_packet(bytes),
             AnySocket::Datagrams(socket) => socket.transmit_packet(bytes),
@@ -88,9 +83,7 @@ impl Socket for AnySocket {
         }
     }
 
-    fn hint(&self) -> Hint
-        ensures { result ≡ hint_of self.now }
-    {
+    fn hint(&self) -> Hint {
         match self {
             AnySocket::Stream(socket) => socket.hint(),
             AnySocket::Datagrams(socket) => socket.hint(),

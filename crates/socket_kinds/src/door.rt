@@ -1,21 +1,27 @@
 // Doors: sockets that listen for peers.
-ghost use Rattle.std.specs.Prelude.{◌≡◌, true, false, Some};
+ghost use Rattle.std.specs.Prelude.{◌≡◌, true, false, Some, Result};
+ghost use Rattle.std.specs.declared.io.Error.{Error};
+ghost use Rattle.std.specs.declared.net.socket_addr.SocketAddr.{SocketAddr};
+ghost use Rattle.mio.specs.declared.net.stream.TcpStream.{TcpStream};
+ghost use Rattle.socket_kinds.specs.Answering.{Answers};
 ghost use Rattle.socket_kinds.specs.declared.door.Arrival.TheVariants as arrivals;
 ghost use Rattle.port_trait.specs.declared.answers.Settled.TheVariants as settles;
 ghost use Rattle.port_trait.specs.declared.answers.Got.TheVariants as reads;
 ghost use Rattle.port_trait.specs.declared.answers.Took.TheVariants as writes;
 ghost use Rattle.port_trait.specs.declared.answers.Shutting.TheVariants as shuts;
-ghost use Rattle.socket_kinds.specs.Doors.{door_hint, has_left, IsDeclined, IsOne, OnlyBlocked};
+ghost use Rattle.socket_kinds.specs.Doors.{door_hint, has_left, is_unix, Comes, ComesAddressed, IsDeclined, IsOne, OnlyBlocked};
 
 use crate::enrolled::EnrolledUdp;
 use crate::peers::peer_of;
 use crate::socket::Socket;
 use crate::stream::Stream;
-use mio::net::{TcpListener, UnixListener};
+use mio::net::{TcpListener, TcpStream, UnixListener};
 use port_trait::{Got, Hint, Settled, Shutting, Took};
 use relay_model::{Peer, Shut};
+use std::io;
 use std::io::{Error, ErrorKind};
 use std::marker::Model;
+use std::net::SocketAddr;
 
 /// How many aborted connections one accepting passes over at most.
 const MOST_ABORTED: usize = 64;
@@ -48,19 +54,54 @@ pub(crate) enum Arrival {
 impl Listener {
     /// Accepts once. A socket of datagrams has no connections.
     fn accept_one(&self) -> Arrival
-        ensures { OnlyBlocked result }
+        ensures blocked { OnlyBlocked result }
+        ensures addressed { is_unix self.now ≡ false → ComesAddressed result }
     {
         match self {
-            Listener::Tcp(listener) => match listener.accept() {
-                Ok((stream, addr)) => Arrival::Came(Stream::Tcp(stream), peer_of(addr)),
-                Err(error) => declined(error),
-            },
+            Listener::Tcp(listener) => accept_connection(listener),
             Listener::Unix(listener) => match listener.accept() {
                 Ok((stream, _)) => Arrival::Came(Stream::Unix(stream), Peer::Local),
                 Err(error) => declined(error),
             },
             Listener::Udp(_) | Listener::Packets(_) => Arrival::Failed,
         }
+    }
+}
+
+/// What TCP connections are accepted from. As with `Wire`, its relation names the answer of a call.
+pub(crate) trait Accepts {
+    // what an accepting answers
+    ghost comes: { Self → Result (TcpStream × SocketAddr) Error → Type 0 } = { λ _ _. Unit {0} };
+
+    /// Accepts once (accept(2)).
+    fn accept_next(&self) -> io::Result<(TcpStream, SocketAddr)>
+        ensures { comes self.now result };
+}
+
+impl Accepts for TcpListener {
+    fn accept_next(&self) -> io::Result<(TcpStream, SocketAddr)> {
+        self.accept()
+    }
+}
+
+/// The connection that one call accepts, with the address that this call tells, or why there is none.
+fn accept_connection<L: Accepts>(listener: &L) -> Arrival
+    ensures once { Answers (L.comes listener.now) (λ told. Comes told result) }
+    ensures blocked { OnlyBlocked result }
+    ensures addressed { ComesAddressed result }
+{
+    arrived(listener.accept_next())
+}
+
+/// What an accepting at a TCP door came to.
+fn arrived(accepted: io::Result<(TcpStream, SocketAddr)>) -> Arrival
+    ensures came { Comes accepted result }
+    ensures blocked { OnlyBlocked result }
+    ensures addressed { ComesAddressed result }
+{
+    match accepted {
+        Ok((stream, addr)) => Arrival::Came(Stream::Tcp(stream), peer_of(addr)),
+        Err(error) => declined(error),
     }
 }
 
@@ -73,6 +114,7 @@ pub(crate) fn is_starved(error: &Error) -> bool {
 fn declined(error: Error) -> Arrival
     ensures kind { IsDeclined error result }
     ensures blocked { OnlyBlocked result }
+    ensures nobody { ComesAddressed result }
 {
     if error.kind() == ErrorKind::WouldBlock {
         return Arrival::Nobody(error);
@@ -97,17 +139,17 @@ pub struct Door {
 }
 
 impl Model for Door {
-    ghost use Rattle.std.specs.Prelude.{Bool};
+    ghost use Rattle.socket_kinds.specs.Doors.{DoorState, is_unix};
 
-    ghost Value = { Bool };
+    ghost Value = { DoorState };
 
-    ghost view = { λ door. door.cut_short };
+    ghost view = { λ door. record { cut_short = door.cut_short; unix = is_unix door.listener } };
 }
 
 impl Door {
     /// The door of this listener. With `nodelay` the TCP connections that it accepts don't wait to fill a segment.
     pub fn new(listener: Listener, nodelay: bool) -> Door
-        ensures { result ≡ false }
+        ensures { result ≡ record { cut_short = false; unix = is_unix listener } }
     {
         Door {
             listener,
@@ -121,8 +163,9 @@ impl Door {
     /// that there may be more; so it does where no descriptor is free.
     pub(crate) fn accept_stream(&mut self) -> Arrival
         ensures one { IsOne result }
-        ensures left_off { self.new ≡ has_left result }
+        ensures left_off { self.new ≡ record self.old { cut_short = has_left result } }
         ensures blocked { OnlyBlocked result }
+        ensures addressed { self.old.unix ≡ false → ComesAddressed result }
     {
         self.cut_short = false;
         for _ in 0..MOST_ABORTED {
@@ -143,7 +186,7 @@ impl Door {
 
     /// Hints from now on that there may be more.
     fn leave_off(&mut self) -> Arrival
-        ensures hints { self.new ≡ true }
+        ensures hints { self.new ≡ record self.old { cut_short = true } }
         ensures left { result ≡ arrivals.LeftOff }
     {
         self.cut_short = true;

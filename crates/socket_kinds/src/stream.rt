@@ -1,13 +1,17 @@
 // Stream sockets: TCP and Unix.
-ghost use Rattle.std.specs.Prelude.{◌≡◌, ◌≢◌, ◌<◌, length, false, None};
+ghost use Rattle.std.specs.Prelude.{◌≡◌, ◌≢◌, ◌<◌, ℕ, Bool, List, length, true, false, Option, Result, ⊤, None};
 ghost use Rattle.std.specs.Io.{ReadsAtMost, WritesAtMost};
+ghost use Rattle.std.specs.Io.KnownBytes.{Keeps, ReadConsumes, WriteAppends};
+ghost use Rattle.std.specs.declared.io.Error.{Error};
+ghost use Rattle.std.specs.declared.net.handle.Shutdown.{Shutdown};
+ghost use Rattle.std.specs.declared.net.handle.Shutdown.TheVariants as halves;
 ghost use Rattle.port_trait.specs.Meanings.{Gives, Accepts};
 ghost use Rattle.port_trait.specs.declared.answers.Took.TheVariants as writes;
 ghost use Rattle.port_trait.specs.declared.answers.Got.TheVariants as reads;
 ghost use Rattle.port_trait.specs.declared.answers.Shutting.TheVariants as shuts;
 ghost use Rattle.port_trait.specs.Hinting.{no_hint};
-ghost use Rattle.socket_kinds.specs.Answering.{settling_of};
 ghost use Rattle.port_trait.specs.Streams.{finishes};
+ghost use Rattle.socket_kinds.specs.Answering.{Answers, ReaderGave, WriterTook, IsReceived, IsAccepted, IsShutDown, connection_of, settling_of};
 ghost use Rattle.socket_kinds.specs.declared.answering.Connection.TheVariants as connections;
 
 use crate::answering::{Connection, accepted, received, shut_down};
@@ -28,29 +32,84 @@ pub enum Stream {
     Unix(UnixStream),
 }
 
-impl Stream {
-    fn read(&mut self, into: &mut [u8]) -> io::Result<usize>
-        ensures { ReadsAtMost result into.new }
-    {
+/// What a connection goes over. A contract over any wire can name the answer of one of its calls by the wire's own
+/// relations alone, so it holds only of a caller that makes this one call.
+pub trait Wire: Read + Write + Drop {
+    // what a read answers that fills the buffer so, a write of these bytes, and a shutdown of this half
+    ghost receives: { Self → Self → List ℕ → Result ℕ Error → Type 0 } = { λ _ _ _ _. Unit {0} };
+
+    ghost transmits: { Self → Self → List ℕ → Result ℕ Error → Type 0 } = { λ _ _ _ _. Unit {0} };
+
+    ghost shuts_half: { Self → Self → Shutdown → Result ⊤ Error → Type 0 } = { λ _ _ _ _. Unit {0} };
+    // which error was kept of it, and whether its peer is known
+    ghost tells_error: { Self → Result (Option Error) Error → Type 0 } = { λ _ _. Unit {0} };
+
+    ghost knows_peer: { Self → Bool → Type 0 } = { λ _ _. Unit {0} };
+
+    /// Reads once (recv(2)).
+    fn receive(&mut self, into: &mut [u8]) -> io::Result<usize>
+        ensures bound { ReadsAtMost result into.new }
+        ensures bytes { ReadConsumes (Self.remaining self.old) (Self.remaining self.new) result into.new }
+        ensures answered { receives self.old self.new into.new result };
+
+    /// Writes once (send(2)).
+    fn transmit(&mut self, bytes: &[u8]) -> io::Result<usize>
+        ensures bound { WritesAtMost result bytes.now }
+        ensures bytes { WriteAppends (Self.contents self.old) (Self.contents self.new) result bytes.now }
+        ensures answered { transmits self.old self.new bytes.now result };
+
+    /// Shuts this half (shutdown(2)).
+    fn shut(&mut self, half: Shutdown) -> io::Result<()>
+        ensures answered { shuts_half self.old self.new half result }
+        ensures silent { Keeps (Self.contents self.old) (Self.contents self.new) };
+
+    /// The error that the system kept of it, which it then forgets.
+    fn kept_error(&self) -> io::Result<Option<Error>>
+        ensures { tells_error self.now result };
+
+    /// Whether the system knows its peer.
+    fn has_peer(&self) -> bool
+        ensures { knows_peer self.now result };
+}
+
+impl Read for Stream {
+    fn read(&mut self, into: &mut [u8]) -> io::Result<usize> {
         match self {
             Stream::Tcp(stream) => stream.read(into),
             Stream::Unix(stream) => stream.read(into),
         }
     }
+}
 
-    fn write(&mut self, bytes: &[u8]) -> io::Result<usize>
-        ensures { WritesAtMost result bytes.now }
-    {
+impl Write for Stream {
+    fn write(&mut self, bytes: &[u8]) -> io::Result<usize> {
         match self {
             Stream::Tcp(stream) => stream.write(bytes),
             Stream::Unix(stream) => stream.write(bytes),
         }
     }
 
-    fn end_writing(&self) -> io::Result<()> {
+    fn flush(&mut self) -> io::Result<()> {
         match self {
-            Stream::Tcp(stream) => stream.shutdown(Shutdown::Write),
-            Stream::Unix(stream) => stream.shutdown(Shutdown::Write),
+            Stream::Tcp(stream) => stream.flush(),
+            Stream::Unix(stream) => stream.flush(),
+        }
+    }
+}
+
+impl Wire for Stream {
+    fn receive(&mut self, into: &mut [u8]) -> io::Result<usize> {
+        self.read(into)
+    }
+
+    fn transmit(&mut self, bytes: &[u8]) -> io::Result<usize> {
+        self.write(bytes)
+    }
+
+    fn shut(&mut self, half: Shutdown) -> io::Result<()> {
+        match self {
+            Stream::Tcp(stream) => stream.shutdown(half),
+            Stream::Unix(stream) => stream.shutdown(half),
         }
     }
 
@@ -89,23 +148,23 @@ impl Stream {
 
 /// A connection, which may be under way.
 #[derive(Drop)]
-pub struct StreamSocket {
-    stream: Stream,
+pub struct StreamSocket<S = Stream> {
+    stream: S,
     connection: Connection,
 }
 
-impl Model for StreamSocket {
-    ghost use Rattle.socket_kinds.specs.declared.answering.Connection.{Connection};
+impl<S> Model for StreamSocket<S> {
+    ghost use Rattle.socket_kinds.specs.Streams.{StreamState};
 
-    ghost Value = { Connection };
+    ghost Value = { StreamState S };
 
-    ghost view = { λ socket. socket.connection };
+    ghost view = { λ socket. record { stream = socket.stream; connection = socket.connection } };
 }
 
-impl StreamSocket {
+impl<S> StreamSocket<S> {
     /// One that was begun to connect.
-    pub fn connecting(stream: Stream) -> StreamSocket
-        ensures { result ≡ connections.UnderWay }
+    pub fn connecting(stream: S) -> StreamSocket<S>
+        ensures { result ≡ record { stream = stream; connection = connections.UnderWay } }
     {
         StreamSocket {
             stream,
@@ -114,8 +173,8 @@ impl StreamSocket {
     }
 
     /// One that stands.
-    pub fn connected(stream: Stream) -> StreamSocket
-        ensures { result ≡ connections.Standing }
+    pub fn connected(stream: S) -> StreamSocket<S>
+        ensures { result ≡ record { stream = stream; connection = connections.Standing } }
     {
         StreamSocket {
             stream,
@@ -124,11 +183,13 @@ impl StreamSocket {
     }
 }
 
-impl Socket for StreamSocket {
+impl<S: Wire> Socket for StreamSocket<S> {
     /// Asks the system while the connection is under way. What it came to then stays.
     fn settle(&mut self) -> Settled
-        ensures answer { result ≡ settling_of self.new }
-        ensures stays { self.old ≢ connections.UnderWay → self.new ≡ self.old }
+        ensures answer { result ≡ settling_of self.new.connection }
+        ensures asked { self.old.connection ≡ connections.UnderWay → Answers (S.tells_error self.old.stream) (λ kept. (known : Bool) × S.knows_peer self.old.stream known × (self.new.connection ≡ connection_of kept known)) }
+        ensures stays { self.old.connection ≢ connections.UnderWay → self.new ≡ self.old }
+        ensures stream { self.new.stream ≡ self.old.stream }
     {
         if self.connection == Connection::UnderWay {
             self.connection = Connection::of(&self.stream.kept_error(), self.stream.has_peer());
@@ -136,21 +197,27 @@ impl Socket for StreamSocket {
         self.connection.settled()
     }
 
+    /// One read, and its answer.
     fn receive(&mut self, into: &mut [u8]) -> Got
         requires { 0 < length into.old }
+        ensures once { Answers (S.receives self.old.stream self.new.stream into.new) (λ read. IsReceived read result) }
+        ensures bytes { ReaderGave (S.remaining self.old.stream) (S.remaining self.new.stream) into.new result }
         ensures gives { Gives None None into.new result }
         ensures stream { result ≢ reads.Empty }
-        ensures kept { self.new ≡ self.old }
+        ensures kept { self.new.connection ≡ self.old.connection }
     {
-        received(&self.stream.read(into))
+        received(&self.stream.receive(into))
     }
 
+    /// One write, and its answer.
     fn transmit(&mut self, bytes: &[u8]) -> Took
         requires { 0 < length bytes.now }
+        ensures once { Answers (S.transmits self.old.stream self.new.stream bytes.now) (λ written. IsAccepted written result) }
+        ensures bytes { WriterTook (S.contents self.old.stream) (S.contents self.new.stream) bytes.now result }
         ensures accepts { Accepts None None bytes.now result }
-        ensures kept { self.new ≡ self.old }
+        ensures kept { self.new.connection ≡ self.old.connection }
     {
-        accepted(&self.stream.write(bytes))
+        accepted(&self.stream.transmit(bytes))
     }
 
     /// A stream has no packets.
@@ -161,13 +228,16 @@ impl Socket for StreamSocket {
         Took::Failed
     }
 
-    /// Ends the writing at `Down` and `Close`, so that the peer reads to its end.
+    /// Shuts the writing half at `Down` and `Close`, so that the peer reads to its end and can still answer. What
+    /// `Close` closes besides is closed where the socket is dropped.
     fn finish(&mut self, how: Shut) -> Shutting
-        ensures untouched { finishes how ≡ false → result ≡ shuts.Done }
-        ensures kept { self.new ≡ self.old }
+        ensures ended { finishes how ≡ true → Answers (S.shuts_half self.old.stream self.new.stream halves.Write) (λ done. IsShutDown done result) }
+        ensures silent { Keeps (S.contents self.old.stream) (S.contents self.new.stream) }
+        ensures untouched { finishes how ≡ false → (result ≡ shuts.Done) × (self.new ≡ self.old) }
+        ensures kept { self.new.connection ≡ self.old.connection }
     {
         match how {
-            Shut::Down | Shut::Close => shut_down(&self.stream.end_writing()),
+            Shut::Down | Shut::Close => shut_down(&self.stream.shut(Shutdown::Write)),
             Shut::Nothing | Shut::Null => Shutting::Done,
         }
     }

@@ -1,3 +1,6 @@
-pub mod Lookups
+pub mod Addresses
+pub mod Aims
+pub mod Looking
 pub mod Makers
 pub mod Makings
+pub mod Ports

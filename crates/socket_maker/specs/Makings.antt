@@ -1,12 +1,11 @@
 -- Which sockets are made of which addresses.
-use Rattle.std.specs.Prelude.{Option, None, Some}
+use Rattle.std.specs.Prelude.{◌≡◌, ℕ, true, List, Option, None, Some}
+use Rattle.relay_model.specs.declared.commands.EntryOptions.{EntryOptions}
 use Rattle.relay_model.specs.declared.commands.Target.{Target}
 use Rattle.relay_model.specs.declared.commands.Target.TheVariants as targets
 use Rattle.port_trait.specs.declared.makers.Making.{Making}
 use Rattle.port_trait.specs.declared.makers.Making.TheVariants as makings
-use Rattle.socket_kinds.specs.declared.any_socket.AnySocket.{AnySocket}
-use Rattle.socket_ports.specs.Sockets.{PortState}
-use Rattle.socket_kinds.specs.Kinds.{Sort, Connected, Packets, sort_of}
+use Rattle.socket_kinds.specs.Kinds.{Sort, Connected, Packets, SystemSocket, sort_of}
 
 -- what is opened for an address that doesn't listen
 abbrev pub opened_sort : Target → Option Sort
@@ -19,15 +18,12 @@ opened_sort (targets.GenericOpen name) = Some Connected
 opened_sort _ = None
 
 -- the sort of the socket that was made
-abbrev pub socket_sort : Making AnySocket → Option Sort
+abbrev pub socket_sort : Making SystemSocket → Option Sort
 socket_sort (makings.Made socket) = Some (sort_of socket)
 socket_sort (makings.Later socket) = Some (sort_of socket)
 socket_sort makings.Failed = None
 socket_sort makings.Memory = None
 
--- the sort of the socket whose port was made
-abbrev pub port_sort : Making (PortState AnySocket) → Option Sort
-port_sort (makings.Made port) = Some (sort_of port.socket)
-port_sort (makings.Later port) = Some (sort_of port.socket)
-port_sort makings.Failed = None
-port_sort makings.Memory = None
+-- nothing is removed but the entry of this name: before, and with the port, only where the options say so
+abbrev pub IsRemovedEarly : EntryOptions → List ℕ → List ℕ → Type 0
+IsRemovedEarly options name path = (options.unlink_early ≡ true) × (path ≡ name)

@@ -1,10 +1,18 @@
 // Makes sockets: connects them, listens and accepts.
 #![tactic(auto)]
 
-mod lookup;
+mod aims;
+mod entries;
+mod local;
+mod looking;
 mod maker;
 mod making;
+mod port;
+mod reaching;
 
-pub use lookup::{door_address, look_up};
-pub use maker::SocketMaker;
-pub use making::{bind_udp, connect_host, listen_socket, make_socket};
+pub use aims::{Aim, Way};
+pub use local::door_address;
+pub use looking::LookingPort;
+pub use maker::{SocketMaker, is_starved};
+pub use making::bind_door;
+pub use port::{HostPort, PlainPort};

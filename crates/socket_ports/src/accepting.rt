@@ -1,8 +1,9 @@
 // Peers are accepted at doors.
-ghost use Rattle.std.specs.Prelude.{◌≡◌, false, true, is_some};
+ghost use Rattle.std.specs.Prelude.{◌≡◌, ◌≢◌, false, true, is_some};
 ghost use Rattle.port_trait.specs.declared.makers.MadePeer.TheVariants as peers;
-ghost use Rattle.socket_kinds.specs.Accepting.{OnPeer};
-ghost use Rattle.socket_kinds.specs.Kinds.{is_door, has_left_off, hint_of};
+ghost use Rattle.relay_model.specs.declared.acts.Peer.TheVariants as whose;
+ghost use Rattle.socket_kinds.specs.Accepting.{OnCame, OnPeer};
+ghost use Rattle.socket_kinds.specs.Kinds.{is_door, is_unix_door, has_left_off, hint_of};
 ghost use Rattle.socket_ports.specs.Accepting.{IsFresh};
 
 use crate::port::SocketPort;
@@ -28,6 +29,7 @@ impl<G: Drop> SocketPort<AnySocket, G> {
         ensures sort { OnPeer (λ port. is_door port.socket ≡ false) result }
         ensures no_door { is_door self.old.socket ≡ false → result ≡ peers.Failed }
         ensures left_off { has_left_off self.new.socket ≡ true → result ≡ peers.NoPeer }
+        ensures addressed { is_unix_door self.old.socket ≡ false → OnCame (λ peer. peer ≢ whose.Local) result }
         ensures kept { (self.new.counts ≡ self.old.counts) × (self.new.begun ≡ self.old.begun) × (self.new.ended ≡ self.old.ended) }
     {
         match self.socket.accept(alloc, registry, key) {

@@ -46,6 +46,19 @@ impl<S, G> SocketPort<S, G> {
         }
     }
 
+    /// The port of a socket that stands where another port stood, whose counts go on.
+    pub fn going_on(socket: S, kept: G, counts: Counts, begun: bool) -> SocketPort<S, G>
+        ensures { result ≡ record { socket = socket; counts = counts; begun = begun; ended = false } }
+    {
+        SocketPort {
+            socket,
+            counts,
+            begun,
+            ended: false,
+            kept,
+        }
+    }
+
     /// The socket.
     pub fn socket(&self) -> &S
         ensures { result.now ≡ self.now.socket }

@@ -12,6 +12,7 @@ use crate::input::{InputPort, InputRing};
 use crate::output::{OutputPort, OutputRing};
 use crate::piped::PipePort;
 use crate::told::ToldSocket;
+use blocking_streams::Blocking;
 use file_ports::Halves;
 use mio_poller::Watch;
 use port_trait::{Port, StdSink};
@@ -23,7 +24,7 @@ use std::thread::Threads;
 use thread_rings::RingWriter;
 
 /// Standard error behind a ring.
-pub type ErrorRing<R> = RingWriter<StdSink<Stderr>, R>;
+pub type ErrorRing<R> = RingWriter<StdSink<Blocking<Stderr>>, R>;
 
 /// A standard stream in the loop that has passed no bytes yet.
 #[derive(Drop)]

@@ -2,7 +2,8 @@
 ghost use Rattle.standard_ports.specs.Ports.{of_input};
 
 use crate::direct::DirectPort;
-use port_trait::{Begun, Got, Hint, Joining, Port, PortReap, Settled, Shutting, StdSource, Took};
+use blocking_streams::{Blocking, InputSource};
+use port_trait::{Begun, Got, Hint, Joining, Port, PortReap, Settled, Shutting, Took};
 use relay_model::Shut;
 use std::io::Stdin;
 use std::sync::Wait;
@@ -10,7 +11,7 @@ use std::thread::Threads;
 use thread_rings::RingReader;
 
 /// Standard input behind a ring.
-pub type InputRing<R> = RingReader<StdSource<Stdin>, R>;
+pub type InputRing<R> = RingReader<InputSource<Blocking<Stdin>>, R>;
 
 /// Standard input, in the loop or behind a ring. Each call is that call on the port that it is.
 #[derive(Drop)]

@@ -6,7 +6,7 @@ use crate::fresh::FreshDirect;
 use file_ports::Halves;
 use mio::unix::SourceFd;
 use mio::{Interest, Registry, Token};
-use mio_poller::MioPoller;
+use mio_poller::{MioPoller, PROBE};
 use relay_model::Half;
 use std::alloc::Global;
 use std::fs::{Files, OpenOptions};
@@ -23,9 +23,6 @@ const OUTPUT: &str = "/proc/self/fd/1";
 
 /// What the name of a pipe's descriptor leads to begins so, where the pipe has no name of its own (proc_pid_fd(5)).
 const PIPE: &str = "pipe:[";
-
-/// Under this key nothing stays registered.
-const NOBODY: Token = Token(usize::MAX - 3);
 
 /// The port of standard input, without a thread: the descriptor itself where it is always ready, and a pipe without a
 /// name opened anew, since the first opening is shared with other processes, and so mustn't be kept from waiting. `None`
@@ -98,7 +95,7 @@ fn is_pipe(system: &HostRuntime, alloc: Global, name: &str) -> bool {
 /// Whether calls on the descriptor answer at once, so that no registry takes it: files and most devices (epoll_ctl(2),
 /// `EPERM`).
 fn is_always_ready(registry: &Registry, fd: RawFd) -> bool {
-    match registry.register(&mut SourceFd(&fd), NOBODY, Interest::READABLE) {
+    match registry.register(&mut SourceFd(&fd), Token(PROBE), Interest::READABLE) {
         Ok(()) => {
             let _ = registry.deregister(&mut SourceFd(&fd));
             false

@@ -2,6 +2,7 @@
 ghost use Rattle.standard_ports.specs.Ports.{of_output};
 
 use crate::direct::DirectPort;
+use blocking_streams::Blocking;
 use port_trait::{Begun, Got, Hint, Joining, Port, PortReap, Settled, Shutting, StdSink, Took};
 use relay_model::Shut;
 use std::io::Stdout;
@@ -11,7 +12,7 @@ use thread_rings::RingWriter;
 use told_sink::ToldSink;
 
 /// Standard output behind a ring, whose late failures are told.
-pub type OutputRing<R> = RingWriter<ToldSink<StdSink<Stdout>>, R>;
+pub type OutputRing<R> = RingWriter<ToldSink<StdSink<Blocking<Stdout>>>, R>;
 
 /// Standard output, in the loop or behind a ring. Each call is that call on the port that it is.
 #[derive(Drop)]

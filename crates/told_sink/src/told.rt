@@ -55,6 +55,8 @@ impl<K: Sink> ToldSink<K> {
 impl<K: Sink> Sink for ToldSink<K> {
     ghost took = { λ told. K.took told.sink };
 
+    ghost holds = { λ told. K.holds told.sink };
+
     ghost faults = { λ told. K.faults told.sink };
 
     ghost finished = { λ told. K.finished told.sink };

@@ -118,6 +118,15 @@ HasCause stages.Faulted before now = Rose before.faults now.faults
 HasCause stages.Refused before now = Unit {0}
 HasCause stages.Cut before now = Rose before.ends now.ends ⊎ Rose before.empties now.empties
 
+-- the talk was cut where a read of the port beneath told its end or an empty packet, and nowhere else
+abbrev pub IsCutByEnd : Stage → Bool → Bool → Counts → Counts → Type 0
+IsCutByEnd stages.Cut before now old new = (now ≡ true) ⊎ Rose old.empties new.empties
+IsCutByEnd stages.Joining before now old new = now ≡ true → before ≡ true
+IsCutByEnd stages.Talking before now old new = now ≡ true → before ≡ true
+IsCutByEnd stages.Passed before now old new = now ≡ true → before ≡ true
+IsCutByEnd stages.Faulted before now old new = now ≡ true → before ≡ true
+IsCutByEnd stages.Refused before now old new = now ≡ true → before ≡ true
+
 -- what kept the request from being written
 abbrev pub Paused : Settled → Counts → Counts → Type 0
 Paused settles.Ready before now = Unit {0}

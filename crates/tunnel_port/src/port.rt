@@ -3,10 +3,10 @@ ghost use Rattle.std.specs.Prelude.{◌≡◌, ◌<◌, true, false, [], length,
 ghost use Rattle.port_trait.specs.Counting.{Tallied};
 ghost use Rattle.port_trait.specs.Hinting.{IsWithin};
 ghost use Rattle.answer_counts.specs.Counted.{counted};
-ghost use Rattle.port_trait.specs.Meanings.{Gives, Accepts, AcceptsAll, ReapsChild, begun_after, is_end, begin_event, settle_event, read_event, write_event, shut_event, join_answer};
+ghost use Rattle.port_trait.specs.Meanings.{Gives, Accepts, AcceptsAll, ReapsChild, begun_after, is_end, begin_event, settle_event, read_event, write_event, shut_event, noted, join_answer};
 ghost use Rattle.port_trait.specs.declared.answers.Begun.TheVariants as begins;
 ghost use Rattle.port_trait.specs.declared.answers.Took.TheVariants as writes;
-ghost use Rattle.tunnel_port.specs.Talks.{is_passed, is_over, settled_at, read_at, write_at, IsOnly, behind_talk, InTalk, IsJudged, HasCause};
+ghost use Rattle.tunnel_port.specs.Talks.{is_passed, is_over, settled_at, read_at, write_at, IsOnly, behind_talk, InTalk, IsJudged, HasCause, IsCutByEnd};
 ghost use Rattle.tunnel_port.specs.Tunnels.{fresh_tunnel};
 
 use crate::progress::go_on;
@@ -91,6 +91,8 @@ impl<P: Port, T: Talk> Port for TunnelPort<P, T> {
 
     ghost took = { λ port. behind_talk (is_passed port.stage) (T.asks port.talk) (P.took port.inner) };
 
+    ghost shuts = { λ port. P.shuts port.inner };
+
     ghost hints = { λ port. P.hints port.inner };
 
     ghost hinting = { λ port. P.hinting port.inner };
@@ -111,6 +113,7 @@ impl<P: Port, T: Talk> Port for TunnelPort<P, T> {
         ensures again { P.begun self.old.inner ≡ true → (result ≡ begins.Begun) × (self.new ≡ self.old) }
         ensures begun { P.begun self.new.inner ≡ begun_after (P.begun self.old.inner) result }
         ensures beneath { (P.gave self.new.inner ≡ P.gave self.old.inner) × (P.took self.new.inner ≡ P.took self.old.inner) }
+        ensures unshut { P.shuts self.new.inner ≡ P.shuts self.old.inner }
         ensures kept { self.new ≡ record self.old { inner = self.new.inner; counts = self.new.counts } }
         ensures counted { self.new.counts ≡ counted (begin_event result) self.old.counts }
         ensures counts { Tallied (begin_event result) self.old.counts self.new.counts }
@@ -125,6 +128,7 @@ impl<P: Port, T: Talk> Port for TunnelPort<P, T> {
     fn settle(&mut self) -> Settled
         ensures answer { result ≡ settled_at self.new.stage }
         ensures cause { is_over self.old.stage ≡ false → HasCause self.new.stage (P.counts self.old.inner) (P.counts self.new.inner) }
+        ensures cut { is_over self.old.stage ≡ false → IsCutByEnd self.new.stage (P.ended self.old.inner) (P.ended self.new.inner) (P.counts self.old.inner) (P.counts self.new.inner) }
         ensures over { is_over self.old.stage ≡ true → self.new ≡ record self.old { counts = self.new.counts } }
         ensures talk { InTalk (P.took self.new.inner) (P.gave self.new.inner) (T.asks self.new.talk) (T.heard self.new.talk) self.new.said self.new.stage }
         ensures judged { IsJudged (T.judges self.new.talk) (T.heard self.new.talk) T.limit self.new.stage }
@@ -132,6 +136,7 @@ impl<P: Port, T: Talk> Port for TunnelPort<P, T> {
         ensures took { behind_talk (is_passed self.new.stage) (T.asks self.new.talk) (P.took self.new.inner) ≡ behind_talk (is_passed self.old.stage) (T.asks self.old.talk) (P.took self.old.inner) }
         ensures gave { behind_talk (is_passed self.new.stage) (T.heard self.new.talk) (P.gave self.new.inner) ≡ behind_talk (is_passed self.old.stage) (T.heard self.old.talk) (P.gave self.old.inner) }
         ensures kept { (P.begun self.new.inner ≡ P.begun self.old.inner) × (P.child self.new.inner ≡ P.child self.old.inner) × (self.new.ended ≡ self.old.ended) }
+        ensures unshut { P.shuts self.new.inner ≡ P.shuts self.old.inner }
         ensures counted { self.new.counts ≡ counted (settle_event result) self.old.counts }
         ensures counts { Tallied (settle_event result) self.old.counts self.new.counts }
     {
@@ -152,6 +157,7 @@ impl<P: Port, T: Talk> Port for TunnelPort<P, T> {
         ensures ended { self.new.ended ≡ is_end result }
         ensures kept { self.new ≡ record self.old { inner = self.new.inner; counts = self.new.counts; ended = self.new.ended } }
         ensures same { (P.took self.new.inner ≡ P.took self.old.inner) × (P.begun self.new.inner ≡ P.begun self.old.inner) × (P.child self.new.inner ≡ P.child self.old.inner) }
+        ensures unshut { P.shuts self.new.inner ≡ P.shuts self.old.inner }
         ensures counted { self.new.counts ≡ counted (read_event result) self.old.counts }
         ensures counts { Tallied (read_event result) self.old.counts self.new.counts }
     {
@@ -177,6 +183,7 @@ impl<P: Port, T: Talk> Port for TunnelPort<P, T> {
         ensures accepts { Accepts (behind_talk (is_passed self.old.stage) (T.asks self.old.talk) (P.took self.old.inner)) (behind_talk (is_passed self.new.stage) (T.asks self.new.talk) (P.took self.new.inner)) bytes.now result }
         ensures kept { self.new ≡ record self.old { inner = self.new.inner; counts = self.new.counts } }
         ensures same { (P.gave self.new.inner ≡ P.gave self.old.inner) × (P.begun self.new.inner ≡ P.begun self.old.inner) × (P.child self.new.inner ≡ P.child self.old.inner) }
+        ensures unshut { P.shuts self.new.inner ≡ P.shuts self.old.inner }
         ensures counted { self.new.counts ≡ counted (write_event result) self.old.counts }
         ensures counts { Tallied (write_event result) self.old.counts self.new.counts }
     {
@@ -211,6 +218,7 @@ impl<P: Port, T: Talk> Port for TunnelPort<P, T> {
         ensures accepts { AcceptsAll (behind_talk (is_passed self.old.stage) (T.asks self.old.talk) (P.took self.old.inner)) (behind_talk (is_passed self.new.stage) (T.asks self.new.talk) (P.took self.new.inner)) bytes.now result }
         ensures kept { self.new ≡ record self.old { inner = self.new.inner; counts = self.new.counts } }
         ensures same { (P.gave self.new.inner ≡ P.gave self.old.inner) × (P.begun self.new.inner ≡ P.begun self.old.inner) × (P.child self.new.inner ≡ P.child self.old.inner) }
+        ensures unshut { P.shuts self.new.inner ≡ P.shuts self.old.inner }
         ensures counted { self.new.counts ≡ counted (write_event result) self.old.counts }
         ensures counts { Tallied (write_event result) self.old.counts self.new.counts }
     {
@@ -228,6 +236,7 @@ impl<P: Port, T: Talk> Port for TunnelPort<P, T> {
     #[tactic(auto, using(crate::proofs::Passing::talk_kept))]
     fn shut(&mut self, how: Shut) -> Shutting
         ensures beneath { Tallied (shut_event result) (P.counts self.old.inner) (P.counts self.new.inner) }
+        ensures told { P.shuts self.new.inner ≡ noted how (P.shuts self.old.inner) }
         ensures kept { self.new ≡ record self.old { inner = self.new.inner; counts = self.new.counts } }
         ensures same { (P.gave self.new.inner ≡ P.gave self.old.inner) × (P.took self.new.inner ≡ P.took self.old.inner) × (P.begun self.new.inner ≡ P.begun self.old.inner) × (P.child self.new.inner ≡ P.child self.old.inner) }
         ensures counted { self.new.counts ≡ counted (shut_event result) self.old.counts }
@@ -246,6 +255,7 @@ impl<P: Port, T: Talk> Port for TunnelPort<P, T> {
         ensures hinting { P.hinting self.new.inner ≡ P.hinting self.old.inner }
         ensures kept { self.new ≡ record self.old { inner = self.new.inner } }
         ensures same { (P.gave self.new.inner ≡ P.gave self.old.inner) × (P.took self.new.inner ≡ P.took self.old.inner) × (P.hints self.new.inner ≡ P.hints self.old.inner) × (P.counts self.new.inner ≡ P.counts self.old.inner) × (P.begun self.new.inner ≡ P.begun self.old.inner) × (P.joins self.new.inner ≡ P.joins self.old.inner) × (P.child self.new.inner ≡ P.child self.old.inner) }
+        ensures unshut { P.shuts self.new.inner ≡ P.shuts self.old.inner }
     {
         self.inner.hint()
     }
@@ -269,6 +279,7 @@ impl<P: Port, T: Talk> Port for TunnelPort<P, T> {
         ensures reaped { ReapsChild (P.child self.old.inner) result }
         ensures kept { self.new ≡ record self.old { inner = self.new.inner } }
         ensures same { (P.gave self.new.inner ≡ P.gave self.old.inner) × (P.took self.new.inner ≡ P.took self.old.inner) × (P.begun self.new.inner ≡ P.begun self.old.inner) × (P.child self.new.inner ≡ P.child self.old.inner) }
+        ensures unshut { P.shuts self.new.inner ≡ P.shuts self.old.inner }
     {
         self.inner.reap()
     }
@@ -279,6 +290,7 @@ impl<P: Port, T: Talk> Port for TunnelPort<P, T> {
         ensures joined { result ≡ join_answer (P.joins self.old.inner) }
         ensures kept { self.new ≡ record self.old { inner = self.new.inner } }
         ensures same { (P.gave self.new.inner ≡ P.gave self.old.inner) × (P.took self.new.inner ≡ P.took self.old.inner) × (P.begun self.new.inner ≡ P.begun self.old.inner) × (P.joins self.new.inner ≡ P.joins self.old.inner) × (P.child self.new.inner ≡ P.child self.old.inner) }
+        ensures unshut { P.shuts self.new.inner ≡ P.shuts self.old.inner }
     {
         self.inner.join()
     }

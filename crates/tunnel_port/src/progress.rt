@@ -3,7 +3,7 @@ ghost use Rattle.std.specs.Prelude.{◌≡◌, ◌<◌, ◌≤◌, ◌+◌, true
 ghost use Rattle.port_trait.specs.Counting.{Grew};
 ghost use Rattle.port_trait.specs.declared.answers.Settled.TheVariants as settles;
 ghost use Rattle.tunnel_port.specs.declared.stage.Stage.TheVariants as stages;
-ghost use Rattle.tunnel_port.specs.Talks.{is_passed, is_over, IsOnly, behind_talk, InTalk, IsJudged, HasCause, StillHears, Paused, nothing_of};
+ghost use Rattle.tunnel_port.specs.Talks.{is_passed, is_over, IsOnly, behind_talk, InTalk, IsJudged, HasCause, IsCutByEnd, StillHears, Paused, nothing_of};
 
 use crate::stage::Stage;
 use crate::talk::{Heard, Talk};
@@ -20,7 +20,8 @@ fn ask<P: Port>(inner: &mut P, request: &[u8], said: usize) -> (usize, Settled)
     ensures cause { Paused result.1 (P.counts inner.old) (P.counts inner.new) }
     ensures grew { Grew (P.counts inner.old) (P.counts inner.new) }
     ensures unsaid { nothing_of (P.took inner.new) ≡ nothing_of (P.took inner.old) }
-    ensures kept { (P.gave inner.new ≡ P.gave inner.old) × (P.begun inner.new ≡ P.begun inner.old) × (P.child inner.new ≡ P.child inner.old) }
+    ensures kept { (P.gave inner.new ≡ P.gave inner.old) × (P.ended inner.new ≡ P.ended inner.old) × (P.begun inner.new ≡ P.begun inner.old) × (P.child inner.new ≡ P.child inner.old) }
+    ensures unshut { P.shuts inner.new ≡ P.shuts inner.old }
 {
     let mut count = said;
     while count < request.len() {
@@ -42,10 +43,13 @@ fn hear_byte<P: Port, T: Talk>(inner: &mut P, talk: &mut T) -> Option<Stage>
     ensures judged { IfSome result (λ stage. IsJudged (T.judges talk.new) (T.heard talk.new) T.limit stage) }
     ensures heard { IfSome result (λ stage. IsOnly (T.heard talk.new) (P.gave inner.new)) }
     ensures cause { IfSome result (λ stage. HasCause stage (P.counts inner.old) (P.counts inner.new)) }
+    ensures cut { IfSome result (λ stage. IsCutByEnd stage (P.ended inner.old) (P.ended inner.new) (P.counts inner.old) (P.counts inner.new)) }
+    ensures unended { result ≡ None → P.ended inner.new ≡ false }
     ensures grew { Grew (P.counts inner.old) (P.counts inner.new) }
     ensures unheard { nothing_of (P.gave inner.new) ≡ nothing_of (P.gave inner.old) }
     ensures asks { T.asks talk.new ≡ T.asks talk.old }
     ensures kept { (P.took inner.new ≡ P.took inner.old) × (P.begun inner.new ≡ P.begun inner.old) × (P.child inner.new ≡ P.child inner.old) }
+    ensures unshut { P.shuts inner.new ≡ P.shuts inner.old }
 {
     let mut byte = [0];
     match inner.read(&mut byte) {
@@ -67,9 +71,11 @@ fn listen<P: Port, T: Talk>(inner: &mut P, talk: &mut T) -> Stage
     ensures judged { IsJudged (T.judges talk.new) (T.heard talk.new) T.limit result }
     ensures heard { IsOnly (T.heard talk.new) (P.gave inner.new) }
     ensures cause { HasCause result (P.counts inner.old) (P.counts inner.new) }
+    ensures cut { IsCutByEnd result (P.ended inner.old) (P.ended inner.new) (P.counts inner.old) (P.counts inner.new) }
     ensures unheard { nothing_of (P.gave inner.new) ≡ nothing_of (P.gave inner.old) }
     ensures asks { T.asks talk.new ≡ T.asks talk.old }
     ensures kept { (P.took inner.new ≡ P.took inner.old) × (P.begun inner.new ≡ P.begun inner.old) × (P.child inner.new ≡ P.child inner.old) }
+    ensures unshut { P.shuts inner.new ≡ P.shuts inner.old }
 {
     loop {
         if let Some(stage) = hear_byte(inner, talk) {
@@ -86,10 +92,12 @@ fn talk_on<P: Port, T: Talk>(inner: &mut P, talk: &mut T, said: &mut usize) -> S
     ensures talk { InTalk (P.took inner.new) (P.gave inner.new) (T.asks talk.new) (T.heard talk.new) said.new result }
     ensures judged { IsJudged (T.judges talk.new) (T.heard talk.new) T.limit result }
     ensures cause { HasCause result (P.counts inner.old) (P.counts inner.new) }
+    ensures cut { IsCutByEnd result (P.ended inner.old) (P.ended inner.new) (P.counts inner.old) (P.counts inner.new) }
     ensures unsaid { behind_talk (is_passed result) (T.asks talk.new) (P.took inner.new) ≡ nothing_of (P.took inner.old) }
     ensures unheard { behind_talk (is_passed result) (T.heard talk.new) (P.gave inner.new) ≡ nothing_of (P.gave inner.old) }
     ensures asks { T.asks talk.new ≡ T.asks talk.old }
     ensures kept { (P.begun inner.new ≡ P.begun inner.old) × (P.child inner.new ≡ P.child inner.old) }
+    ensures unshut { P.shuts inner.new ≡ P.shuts inner.old }
 {
     let (written, asked) = ask(inner, talk.request(), *said);
     *said = written;
@@ -113,11 +121,13 @@ pub(crate) fn go_on<P: Port, T: Talk>(
     ensures talk { InTalk (P.took inner.new) (P.gave inner.new) (T.asks talk.new) (T.heard talk.new) said.new result }
     ensures judged { IsJudged (T.judges talk.new) (T.heard talk.new) T.limit result }
     ensures cause { is_over stage ≡ false → HasCause result (P.counts inner.old) (P.counts inner.new) }
+    ensures cut { is_over stage ≡ false → IsCutByEnd result (P.ended inner.old) (P.ended inner.new) (P.counts inner.old) (P.counts inner.new) }
     ensures over { is_over stage ≡ true → (result ≡ stage) × (inner.new ≡ inner.old) × (talk.new ≡ talk.old) × (said.new ≡ said.old) }
     ensures unsaid { behind_talk (is_passed result) (T.asks talk.new) (P.took inner.new) ≡ behind_talk (is_passed stage) (T.asks talk.old) (P.took inner.old) }
     ensures unheard { behind_talk (is_passed result) (T.heard talk.new) (P.gave inner.new) ≡ behind_talk (is_passed stage) (T.heard talk.old) (P.gave inner.old) }
     ensures asks { T.asks talk.new ≡ T.asks talk.old }
     ensures kept { (P.begun inner.new ≡ P.begun inner.old) × (P.child inner.new ≡ P.child inner.old) }
+    ensures unshut { P.shuts inner.new ≡ P.shuts inner.old }
 {
     match stage {
         Stage::Joining => match inner.settle() {

@@ -2,7 +2,7 @@
 ghost use Rattle.std.specs.Prelude.{◌≡◌, ◌≤◌, ◌<◌, ◌+◌, ◌-◌, [], true, false, None, Some, is_some, OnOk, OnErr, IfOk, MatchOption, option_map};
 ghost use Rattle.world_trait.specs.Recordings.{HasRoom, HasAskingRoom, KeepsNothing, told_by, with_act, with_asking};
 
-use relay_model::{Act, Askings, Bytes, Journal, Kept, NoMemory, Place, Single};
+use relay_model::{Act, Bytes, Kept, NoMemory, Place, Single};
 use std::alloc::Global;
 use std::marker::Model;
 
@@ -38,10 +38,7 @@ impl Recording {
     {
         Recording {
             recorder,
-            kept: Kept {
-                journal: Journal::new(alloc),
-                asked: Askings::new(alloc),
-            },
+            kept: Kept::new(alloc),
         }
     }
 
@@ -92,7 +89,7 @@ impl Recording {
     {
         match self.recorder {
             Recorder::Skip => Ok(()),
-            Recorder::Keep => self.kept.journal.reserve(n),
+            Recorder::Keep => self.kept.reserve(n),
         }
     }
 
@@ -105,7 +102,7 @@ impl Recording {
     {
         match self.recorder {
             Recorder::Skip => Ok(()),
-            Recorder::Keep => self.kept.asked.reserve(1),
+            Recorder::Keep => self.kept.reserve_asking(1),
         }
     }
 
@@ -118,7 +115,7 @@ impl Recording {
     {
         match self.recorder {
             Recorder::Skip => {}
-            Recorder::Keep => self.kept.journal.put(act),
+            Recorder::Keep => self.kept.put(act),
         }
     }
 
@@ -133,8 +130,8 @@ impl Recording {
         match self.recorder {
             Recorder::Skip => {}
             Recorder::Keep => {
-                self.kept.journal.put(act);
-                self.kept.asked.put(place, single);
+                self.kept.put(act);
+                self.kept.put_asking(place, single);
             }
         }
     }

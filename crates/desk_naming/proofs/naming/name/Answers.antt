@@ -1,4 +1,5 @@
 use Rattle.desk_naming.proofs.NamingLemmas.{push_fits, push_grown, push_held, push_most, push_named}
+use Rattle.desk_naming.proofs.OnlyLemmas.{push_only}
 use Rattle.desk_naming.proofs.naming.name.Goals as goal
 
 pub returns-clause-named : goal.returns-clause-named
@@ -15,3 +16,6 @@ returns-clause-grown c = push_grown c.push.result c.args.ready.now c.push.new.se
 
 pub returns-clause-held : goal.returns-clause-held
 returns-clause-held c = push_held c.push.result c.args.ready.now c.push.new.self (record { place = c.args.place; half = c.args.half }) c.push.ensures.pushed c.push.ensures.refused
+
+pub returns-clause-only : goal.returns-clause-only
+returns-clause-only c = push_only c.push.result c.args.ready.now c.push.new.self (record { place = c.args.place; half = c.args.half }) c.push.ensures.pushed c.push.ensures.refused

@@ -10,6 +10,7 @@ loop-i-preserved g c = record {
   room = c.name_key.ensures.room ∙ c.loop-i.invariant.room;
   held = c.name_key.ensures.held;
   most = omega (arith, c.loop-i.invariant.most, c.name_key.ensures.most);
+  only = λ told. c.name_key.ensures.only c.args.keys.now.entries told c.loop-i.i c.get-key.ensures (c.loop-i.invariant.only told);
   named = keyed_more c.args.keys.now.entries c.args.stations.now.entries c.loop-i.i c.get-key.result c.loop-i.ready.entries c.name_key.new.ready.entries c.get-key.ensures c.name_key.ensures.grown c.loop-i.invariant.named c.name_key.ensures.named;
 }
 

@@ -1,11 +1,12 @@
 -- the halves of the places so far are named where their port hints so, and all that was named before
-use Rattle.std.proofs.Common.{◌≡◌, ◌<◌, ℕ, slice_get, Some}
+use Rattle.std.proofs.Common.{◌≡◌, ◌<◌, ℕ, List, slice_get, Some}
 use Rattle.slab.specs.Slab.{SameValues}
+use Rattle.relay_model.specs.declared.places.Half.{Half}
 use Rattle.relay_model.specs.declared.places.Place.{Place}
 use Rattle.world_trait.specs.Answers.{NamesHeld}
-use Rattle.desk_ports.specs.Harbors.{hint_told}
+use Rattle.desk_ports.specs.Harbors.{SameStreams}
 use Rattle.desk_places.specs.Stations.{hold_at}
-use Rattle.desk_naming.specs.Naming.{Grown, PlaceNamed}
+use Rattle.desk_naming.specs.Naming.{Grown, NamesOnly, PlaceNamed, told_by}
 use Rattle.desk_naming.proofs.naming.name_standard.Given as goal
 
 abbrev pub invariant-loop-i : goal.invariant-loop-i
@@ -13,12 +14,11 @@ invariant-loop-i g l = record {
   room : l.ready.room ≡ l.initial.ready.room;
   held : NamesHeld (hold_at l.stations.entries) l.ready.entries;
   grown : Grown l.initial.ready.entries l.ready.entries;
-  input : l.ports.harbor.input.port ≡ l.initial.ports.harbor.input.port;
-  output : l.ports.harbor.output.port ≡ l.initial.ports.harbor.output.port;
-  errors : l.ports.harbor.errors.port ≡ l.initial.ports.harbor.errors.port;
+  streams : SameStreams l.initial.ports.harbor l.ports.harbor;
   made : SameValues l.initial.ports.harbor.made l.ports.harbor.made;
   listed : l.ports.listed ≡ l.initial.ports.listed;
   maker : l.ports.maker ≡ l.initial.ports.maker;
   parents : l.ports.parents ≡ l.initial.ports.parents;
-  named : (j : ℕ) (p : Place) → j < l.i → slice_get l.stations.asked j ≡ Some p → PlaceNamed (hint_told l.initial.ports.harbor.input.port.hints l.initial.ports.harbor.output.port.hints l.initial.ports.harbor.errors.port.hints l.initial.ports.harbor.made) l.stations.entries p l.ready.entries;
+  named : (j : ℕ) (p : Place) → j < l.i → slice_get l.stations.asked j ≡ Some p → PlaceNamed (told_by l.initial.ports.harbor) l.stations.entries p l.ready.entries;
+  only : (keys : List (ℕ × Half)) → NamesOnly keys (told_by l.initial.ports.harbor) l.stations.entries l.initial.ready.entries → NamesOnly keys (told_by l.initial.ports.harbor) l.stations.entries l.ready.entries;
 }

@@ -2,7 +2,7 @@ use Rattle.std.proofs.Common.{◌≡◌, true, is_some, Option, subst, refl, ◌
 use Rattle.relay_model.specs.Journals.{History}
 use Rattle.socat_top.specs.Headline.{Leaves}
 use Rattle.socat_top.specs.Tasks.{task}
-use Rattle.socat_top.proofs.Passing.{ends_still, passed_at}
+use Rattle.socat_top.proofs.Passing.{ends_still, if_told, passed_at}
 use Rattle.socat_top.proofs.PassedEnds.{nothing, task_ends}
 use Rattle.socat_top.proofs.EndsBehind.{task_ends_behind}
 use Rattle.stream_ends.proofs.BehindLemmas.{behind_back}
@@ -30,3 +30,6 @@ returns-clause-behind g c = λ told.
     task_ends_behind (task c.args.words.now) _ _ _ _ _ _ _ _ _ _ _ _ _ _ _ (returns-clause-ends g c told)
     (behind_back g.I.Port.gave g.I.Port.took g.I.Port.behind_gave g.I.Port.behind_took g.I.Port.behind_left g.I.Port.behind_faults g.I.Port.ended c.end-standard.result.standard.stdin c.end-standard.ensures.stdin_behind)
     (behind_back g.O.Port.gave g.O.Port.took g.O.Port.behind_gave g.O.Port.behind_took g.O.Port.behind_left g.O.Port.behind_faults g.O.Port.ended c.end-standard.result.standard.stdout c.end-standard.ensures.stdout_behind)
+
+pub new-followed-requires-clause-unused : goal.new-followed-requires-clause-unused
+new-followed-requires-clause-unused g c = if_told c.args.desk.log.recording.told _ c.requires.unused

@@ -1,4 +1,4 @@
-use Rattle.std.proofs.Common.{◌≡◌, Some, subst, sym, ◌∙◌}
+use Rattle.std.proofs.Common.{◌≡◌, Some, refl, subst, sym, ◌∙◌}
 use Rattle.relay_model.specs.declared.places.Place.{Place}
 use Rattle.relay_model.specs.Holding.{Free}
 use Rattle.desk_places.specs.Stations.{StationTable, hold_at}
@@ -12,13 +12,15 @@ keep-requires-clause-free g c = no_station c.args.desk.log.stations.entries c.re
 pub run-shipped-requires : goal.run-shipped-requires
 run-shipped-requires g c =
     let P : StationTable → Type 0 = λ stations. (p : Place) → hold_at stations.entries p ≡ Free in
+    let kept = rw c.in-Some.ensures.0 at c.requires.unused in
+    let unused = kept refl in
     record {
       free = subst P (sym c.keep.ensures.stations) c.requires.free;
-      untouched = c.keep.ensures.untouched;
-      given = rw c.keep.ensures.ports c.requires.given;
-      taken = rw c.keep.ensures.ports c.requires.taken;
-      silent = rw c.keep.ensures.ports c.requires.silent;
+      unused = λ _. rw c.keep.ensures.ports (record { untouched = c.keep.ensures.untouched; given = unused.given; taken = unused.taken; silent = unused.silent });
     }
+
+pub run-requires : goal.run-requires
+run-requires g c = record { free = c.requires.free; unused = rw c.in_default.ensures.0 at c.requires.unused }
 
 pub returns-clause-headline : goal.returns-clause-headline
 returns-clause-headline g c = λ before told.

@@ -11,6 +11,8 @@ invariant-loop-count g l =
     × Grew (g.P.Port.counts l.fn.inner) (g.P.Port.counts l.inner)
     × (nothing_of (g.P.Port.took l.inner) ≡ nothing_of (g.P.Port.took l.fn.inner))
     × (g.P.Port.gave l.inner ≡ g.P.Port.gave l.fn.inner)
+    × (g.P.Port.ended l.inner ≡ g.P.Port.ended l.fn.inner)
+    × (g.P.Port.shuts l.inner ≡ g.P.Port.shuts l.fn.inner)
     × (g.P.Port.begun l.inner ≡ g.P.Port.begun l.fn.inner)
     × (g.P.Port.child l.inner ≡ g.P.Port.child l.fn.inner)
 

@@ -1,4 +1,4 @@
-use Rattle.std.proofs.Common.{◌≡◌, ◌-◌, length}
+use Rattle.std.proofs.Common.{◌≡◌, ◌-◌, true, length}
 use Rattle.port_trait.specs.Counting.{Grew}
 use Rattle.tunnel_port.specs.Talks.{IsOnly, StillHears, nothing_of}
 use Rattle.tunnel_port.proofs.progress.listen.Given as goal
@@ -12,6 +12,8 @@ invariant-loop-stage g l =
     × (nothing_of (g.P.Port.gave l.inner) ≡ nothing_of (g.P.Port.gave l.fn.inner))
     × (g.T.Talk.asks l.talk ≡ g.T.Talk.asks l.fn.talk)
     × (g.P.Port.took l.inner ≡ g.P.Port.took l.fn.inner)
+    × (g.P.Port.ended l.inner ≡ true → g.P.Port.ended l.fn.inner ≡ true)
+    × (g.P.Port.shuts l.inner ≡ g.P.Port.shuts l.fn.inner)
     × (g.P.Port.begun l.inner ≡ g.P.Port.begun l.fn.inner)
     × (g.P.Port.child l.inner ≡ g.P.Port.child l.fn.inner)
 

@@ -2,7 +2,9 @@ use Rattle.desk_places.proofs.BaseLemmas.{same_bases}
 use Rattle.std.proofs.Common.{ap, false, refl, subst, sym, true, ◌∙◌}
 use Rattle.relay_model.specs.Holding.{is_free}
 use Rattle.relay_model.specs.declared.places.Half.TheVariants.{ToRead}
-use Rattle.desk_places.proofs.PortLemmas.{key_made, welcomed}
+use Rattle.desk_places.proofs.MadeLemmas.{accepts_made, at_made, at_standard}
+use Rattle.desk_places.proofs.MarkLemmas.{arms_half, held_slot, marks_half}
+use Rattle.desk_places.proofs.PortLemmas.{at_base, key_made, welcomed}
 use Rattle.desk_places.proofs.SoundLemmas.{OnlyAt, call_keeps, same_keeps, sound_but_still, sound_marked}
 use Rattle.desk_places.proofs.ports.Ports.accept.Goals as goal
 
@@ -13,7 +15,7 @@ pub welcome-requires-clause-made_room : goal.welcome-requires-clause-made_room
 welcome-requires-clause-made_room g c = rw c.list.ensures.harbor (record { room = c.accept_at-taken.ensures.room c.requires.made_room.room; covered = rw (c.list.ensures.covered, c.accept_at-taken.ensures.next) c.requires.made_room.covered })
 
 pub returns-in-Came-clause-cause : goal.returns-in-Came-clause-cause
-returns-in-Came-clause-cause g c = rw (c.welcome.ensures.maker, c.list.ensures.maker) (welcomed c.welcome.result c.in-Came.peer _ _ _ _ _ c.in-Came.ensures.came c.welcome.ensures.cause)
+returns-in-Came-clause-cause g c = rw (c.welcome.ensures.maker, c.list.ensures.maker) (welcomed _ c.welcome.result c.in-Came.peer _ _ _ _ _ c.in-Came.ensures.came c.welcome.ensures.cause)
 
 pub returns-in-Came-clause-sound : goal.returns-in-Came-clause-sound
 returns-in-Came-clause-sound g c = λ sound.
@@ -48,3 +50,38 @@ returns-in-NoPeer-clause-bases g c = same_bases c.args.stations.now.entries c.ma
 
 pub returns-in-Failed-clause-bases : goal.returns-in-Failed-clause-bases
 returns-in-Failed-clause-bases g c = same_bases c.args.stations.now.entries c.mark-in-Failed.new.stations.entries c.mark-in-Failed.ensures.footing
+
+pub returns-in-Came-clause-ports : goal.returns-in-Came-clause-ports
+returns-in-Came-clause-ports g c =
+    let is = key_made c.held-station.result.base c.in-Some.door_key (sym c.made_key.ensures ∙ c.in-Some.is) in
+    at_base c.args.stations.now.entries c.args.door c.held-station.result _ c.held-station.ensures
+    (at_made c.held-station.result.base c.in-Some.door_key _ _ is (accepts_made _ c.welcome.result c.in-Some.door_key c.args.place _ c.args.self.now.harbor.made c.accept_at-taken.new.harbor.made _ c.accept_at-taken.ensures.door (rw c.list.ensures.harbor at c.welcome.ensures.ports)))
+
+pub returns-in-NoPeer-clause-ports : goal.returns-in-NoPeer-clause-ports
+returns-in-NoPeer-clause-ports g c =
+    let is = key_made c.held-station.result.base c.in-Some.door_key (sym c.made_key.ensures ∙ c.in-Some.is) in
+    at_base c.args.stations.now.entries c.args.door c.held-station.result _ c.held-station.ensures
+    (at_made c.held-station.result.base c.in-Some.door_key _ _ is (rw (c.mark.ensures.harbor, c.list.ensures.harbor) c.accept_at-taken.ensures.door))
+
+pub returns-in-Failed-clause-ports : goal.returns-in-Failed-clause-ports
+returns-in-Failed-clause-ports g c =
+    let is = key_made c.held-station.result.base c.in-Some.door_key (sym c.made_key.ensures ∙ c.in-Some.is) in
+    at_base c.args.stations.now.entries c.args.door c.held-station.result _ c.held-station.ensures
+    (at_made c.held-station.result.base c.in-Some.door_key _ _ is (rw (c.mark-in-Failed.ensures.harbor, c.list.ensures.harbor) c.accept_at-taken.ensures.door))
+
+pub returns-in-Memory-clause-ports : goal.returns-in-Memory-clause-ports
+returns-in-Memory-clause-ports g c =
+    let is = key_made c.held-station.result.base c.in-Some.door_key (sym c.made_key.ensures ∙ c.in-Some.is) in
+    at_base c.args.stations.now.entries c.args.door c.held-station.result _ c.held-station.ensures
+    (at_made c.held-station.result.base c.in-Some.door_key _ _ is (rw c.list.ensures.harbor c.accept_at-taken.ensures.door))
+
+pub returns-in_default-clause-ports : goal.returns-in_default-clause-ports
+returns-in_default-clause-ports g c =
+    at_base c.args.stations.now.entries c.args.door c.held-station.result _ c.held-station.ensures
+    (at_standard c.held-station.result.base _ _ (sym c.made_key.ensures ∙ c.in_default.is) (λ key. refl))
+
+pub returns-in-NoPeer-clause-marks : goal.returns-in-NoPeer-clause-marks
+returns-in-NoPeer-clause-marks g c = marks_half c.args.stations.now.entries c.mark.new.stations.entries c.args.door ToRead true (held_slot c.args.stations.now.entries c.args.door c.held-station.result c.held-station.ensures) c.mark.ensures.set
+
+pub returns-in-Failed-clause-marks : goal.returns-in-Failed-clause-marks
+returns-in-Failed-clause-marks g c = arms_half c.args.stations.now.entries c.mark-in-Failed.new.stations.entries c.args.door ToRead c.mark-in-Failed.ensures.set

@@ -13,3 +13,6 @@ returns-clause-held g c = c.leave.ensures.held
 
 pub returns-clause-bases : goal.returns-clause-bases
 returns-clause-bases g c = c.leave.ensures.bases
+
+pub returns-clause-marks : goal.returns-clause-marks
+returns-clause-marks g c = c.leave.ensures.marks

@@ -1,4 +1,5 @@
 use Rattle.desk_places.proofs.BaseLemmas.{leaves_here}
+use Rattle.desk_places.proofs.MarkLemmas.{marks_gone}
 use Rattle.std.proofs.Common.{◌≡◌, ◌∙◌, None, Some, ap, refl, sym}
 use Rattle.desk_places.proofs.PortLemmas.{based_some, key_made, let_go_gone, let_go_others, not_made}
 use Rattle.desk_places.proofs.SoundLemmas.{sound_fewer, sound_let_go}
@@ -41,3 +42,9 @@ returns-in-None-clause-bases g c = leaves_here c.args.stations.now.entries c.rem
 
 pub returns-in-Some-clause-bases : goal.returns-in-Some-clause-bases
 returns-in-Some-clause-bases g c = leaves_here c.args.stations.now.entries c.remove.new.self.entries c.args.place c.remove.ensures.set
+
+pub returns-in-None-clause-marks : goal.returns-in-None-clause-marks
+returns-in-None-clause-marks g c = marks_gone c.args.stations.now.entries c.remove.new.self.entries c.args.place c.remove.ensures.set
+
+pub returns-in-Some-clause-marks : goal.returns-in-Some-clause-marks
+returns-in-Some-clause-marks g c = marks_gone c.args.stations.now.entries c.remove.new.self.entries c.args.place c.remove.ensures.set

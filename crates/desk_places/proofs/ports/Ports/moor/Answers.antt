@@ -1,13 +1,14 @@
-use Rattle.std.proofs.Common.{◌∙◌, None, Some, ap, subst, sym}
+use Rattle.std.proofs.Common.{◌≡◌, ◌∙◌, None, Some, ap, rules, subst, sym}
+use Rattle.slab.specs.Slab.{Updates}
+use Rattle.desk_ports.specs.declared.bases.Base.TheVariants as bases
 use Rattle.desk_places.specs.Bases.{ComesOn, is_made}
-use Rattle.desk_places.specs.Stations.{SetsStation, base_at, station_at}
-use Rattle.desk_places.proofs.BaseLemmas.{comes_made}
+use Rattle.desk_places.specs.Marks.{MarksPlace}
+use Rattle.desk_places.specs.Stations.{SetsStation, base_at, is_disarmed, station_at}
+use Rattle.desk_places.proofs.MarkLemmas.{marks_set}
+use Rattle.desk_places.proofs.BaseLemmas.{comes_here, comes_made}
 use Rattle.desk_places.proofs.StationLemmas.{free_station}
 use Rattle.desk_places.proofs.SoundLemmas.{sound_moor}
 use Rattle.desk_places.proofs.ports.Ports.moor.Goals as goal
-
-pub returns-in-Failed-clause-cause : goal.returns-in-Failed-clause-cause
-returns-in-Failed-clause-cause g c = record { made = c.new-berth.result.port; failed = c.begin.new.self.port; rose = c.in-Failed.ensures.call.counts.1 }
 
 pub add-requires-clause-free : goal.add-requires-clause-free
 add-requires-clause-free g c = rw c.begun.ensures.place (free_station c.args.stations.now.entries c.args.place c.requires.free)
@@ -22,9 +23,9 @@ returns-clause-sound g c = λ sound.
     let set = subst (λ q. SetsStation q (Some c.begun.result) (station_at c.args.stations.now.entries) (station_at c.add.new.self.entries)) c.begun.ensures.place c.add.ensures.set in
     c.list.ensures.sound
     (rw c.begun.ensures.place at
-    (sound_moor c.args.stations.now.entries c.add.new.self.entries c.begun.result c.args.self.now.harbor.made c.moor.new.self.made c.args.self.now.listed c.moor.result c.begin.new.self
+    (sound_moor c.args.stations.now.entries c.add.new.self.entries c.begun.result c.args.self.now.harbor.made c.moor.new.self.made c.args.self.now.listed c.moor.result c.new.result
     c.begun.ensures.base
-    ((c.begin.ensures.place ∙ c.new-berth.ensures.place) ∙ sym c.begun.ensures.place)
+    (c.new.ensures.place ∙ sym c.begun.ensures.place)
     (rw c.moor.ensures.key c.requires.made_room.covered)
     c.add.ensures.set c.moor.ensures.vacant c.moor.ensures.made sound))
 
@@ -32,3 +33,20 @@ pub returns-clause-bases : goal.returns-clause-bases
 returns-clause-bases g c =
     let comes = comes_made c.args.stations.now.entries c.add.new.self.entries c.begun.result (ap (λ b. is_made (Some b)) c.begun.ensures.base) c.add.ensures.set in
     subst (λ q. ComesOn None q (base_at c.args.stations.now.entries) (base_at c.add.new.self.entries)) c.begun.ensures.place comes
+
+pub returns-clause-made : goal.returns-clause-made
+returns-clause-made g c =
+    rw c.list.ensures.harbor (record {
+      key = c.moor.result;
+      vacant = c.moor.ensures.vacant;
+      given = c.args.port;
+      port = c.new.result.port;
+      begun = search rules;
+      made = subst (λ q. Updates c.args.self.now.harbor.made c.moor.new.self.made c.moor.result (Some (record { place = q; port = c.new.result.port }))) c.new.ensures.place c.moor.ensures.made;
+      based = subst (λ q. base_at c.add.new.self.entries q ≡ Some (bases.Made c.moor.result)) c.begun.ensures.place (comes_here c.args.stations.now.entries c.add.new.self.entries c.begun.result c.add.ensures.set ∙ ap Some c.begun.ensures.base);
+    })
+
+pub returns-clause-marks : goal.returns-clause-marks
+returns-clause-marks g c =
+    let marks = marks_set c.args.stations.now.entries c.add.new.self.entries c.begun.result c.args.settling c.add.ensures.set c.begun.ensures.marked.0 c.begun.ensures.marked.1 in
+    subst (λ q. MarksPlace q c.args.settling (is_disarmed c.args.stations.now.entries) (is_disarmed c.add.new.self.entries)) c.begun.ensures.place marks

@@ -1,3 +1,8 @@
+use Rattle.std.proofs.Common.{ap, false, subst}
+use Rattle.desk_places.specs.declared.stations.Station.{Station}
+use Rattle.desk_places.specs.Marks.{MarksPlace}
+use Rattle.desk_places.specs.Stations.{is_disarmed}
+use Rattle.desk_places.proofs.MarkLemmas.{marks_set}
 use Rattle.desk_places.proofs.BaseLemmas.{comes_standard}
 use Rattle.desk_places.proofs.StationLemmas.{free_station}
 use Rattle.desk_places.proofs.SoundLemmas.{sound_add}
@@ -21,3 +26,8 @@ pub returns-in-Begun-clause-bases : goal.returns-in-Begun-clause-bases
 returns-in-Begun-clause-bases g c =
     let comes = comes_standard c.args.stations.now.entries c.add.new.self.entries c.open.result c.add.ensures.set in
     rw c.open.ensures at comes
+
+pub returns-in-Begun-clause-marks : goal.returns-in-Begun-clause-marks
+returns-in-Begun-clause-marks g c =
+    let marks = marks_set c.args.stations.now.entries c.add.new.self.entries c.open.result false c.add.ensures.set (ap (λ (s : Station). s.reading_disarmed) c.open.ensures) (ap (λ (s : Station). s.writing_disarmed) c.open.ensures) in
+    subst (λ q. MarksPlace q false (is_disarmed c.args.stations.now.entries) (is_disarmed c.add.new.self.entries)) (ap (λ (s : Station). s.place) c.open.ensures) marks

@@ -1,7 +1,8 @@
 use Rattle.desk_places.proofs.BaseLemmas.{same_bases}
-use Rattle.std.proofs.Common.{Bool, option_map, subst}
+use Rattle.std.proofs.Common.{Bool, false, option_map, subst}
 use Rattle.relay_model.specs.declared.places.Half.TheVariants.{ToRead}
 use Rattle.desk_ports.specs.Harbors.{giving_pier}
+use Rattle.desk_ports.proofs.CalledLemmas.{called_made}
 use Rattle.desk_places.specs.Stations.{hold_at, SetsStation, station_at, with_half}
 use Rattle.desk_places.proofs.PortLemmas.{open_held}
 use Rattle.desk_places.proofs.PortLemmas.{at_base}
@@ -11,17 +12,8 @@ use Rattle.desk_places.proofs.ports.Ports.read.Goals as goal
 pub held-station-requires : goal.held-station-requires
 held-station-requires g c = open_held (hold_at c.args.stations.now.entries c.args.place) c.requires.open
 
-pub returns-clause-input : goal.returns-clause-input
-returns-clause-input g c = rw c.mark.ensures.harbor (at_base c.args.stations.now.entries c.args.place c.held-station.result _ c.held-station.ensures c.read-got.ensures.input)
-
-pub returns-clause-output : goal.returns-clause-output
-returns-clause-output g c = rw c.mark.ensures.harbor (at_base c.args.stations.now.entries c.args.place c.held-station.result _ c.held-station.ensures c.read-got.ensures.output)
-
-pub returns-clause-errors : goal.returns-clause-errors
-returns-clause-errors g c = rw c.mark.ensures.harbor (at_base c.args.stations.now.entries c.args.place c.held-station.result _ c.held-station.ensures c.read-got.ensures.errors)
-
-pub returns-clause-made : goal.returns-clause-made
-returns-clause-made g c = rw c.mark.ensures.harbor (at_base c.args.stations.now.entries c.args.place c.held-station.result _ c.held-station.ensures c.read-got.ensures.made)
+pub returns-clause-call : goal.returns-clause-call
+returns-clause-call g c = rw c.mark.ensures.harbor (at_base c.args.stations.now.entries c.args.place c.held-station.result _ c.held-station.ensures c.read-got.ensures.call)
 
 pub returns-clause-marks : goal.returns-clause-marks
 returns-clause-marks g c =
@@ -32,7 +24,7 @@ pub returns-clause-sound : goal.returns-clause-sound
 returns-clause-sound g c = λ sound.
     c.mark.ensures.sound
     (sound_marked c.args.stations.now.entries c.mark.new.stations.entries c.args.place c.held-station.result ToRead c.gave_not_yet.result c.args.self.now.harbor.made c.read-got.new.self.made c.args.self.now.listed c.held-station.ensures c.mark.ensures.set
-    (pier_keeps (giving_pier c.held-station.result.base) c.held-station.result.base c.args.self.now.harbor.made c.read-got.new.self.made _ (giving_of c.held-station.result.base) c.read-got.ensures.made)
+    (pier_keeps (giving_pier c.held-station.result.base) c.held-station.result.base c.args.self.now.harbor.made c.read-got.new.self.made _ (giving_of c.held-station.result.base) (called_made false (giving_pier c.held-station.result.base) c.args.self.now.harbor c.read-got.new.self _ c.read-got.ensures.call))
     sound)
 
 pub returns-clause-bases : goal.returns-clause-bases

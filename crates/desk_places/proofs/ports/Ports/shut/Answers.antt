@@ -7,6 +7,7 @@ use Rattle.relay_model.specs.declared.places.Place.{Place}
 use Rattle.std.proofs.Common.{ap}
 use Rattle.relay_model.specs.Holding.{is_free}
 use Rattle.desk_ports.specs.Harbors.{taking_pier}
+use Rattle.desk_ports.proofs.CalledLemmas.{called_made}
 use Rattle.desk_places.specs.Stations.{hold_at}
 use Rattle.desk_places.proofs.PortLemmas.{at_base, shut_holds}
 use Rattle.desk_places.proofs.SoundLemmas.{pier_keeps, sound_but, taking_of}
@@ -19,18 +20,6 @@ held-station-requires g c = ap is_free c.requires
 pub replace-requires : goal.replace-requires
 replace-requires g c = found_base c.args.stations.now.entries c.args.place c.held-station.result c.held-station.ensures
 
-pub returns-clause-input : goal.returns-clause-input
-returns-clause-input g c = rw c.list.ensures.harbor (at_base c.args.stations.now.entries c.args.place c.held-station.result _ c.held-station.ensures c.shut-answer.ensures.input)
-
-pub returns-clause-output : goal.returns-clause-output
-returns-clause-output g c = rw c.list.ensures.harbor (at_base c.args.stations.now.entries c.args.place c.held-station.result _ c.held-station.ensures c.shut-answer.ensures.output)
-
-pub returns-clause-errors : goal.returns-clause-errors
-returns-clause-errors g c = rw c.list.ensures.harbor (at_base c.args.stations.now.entries c.args.place c.held-station.result _ c.held-station.ensures c.shut-answer.ensures.errors)
-
-pub returns-clause-made : goal.returns-clause-made
-returns-clause-made g c = rw c.list.ensures.harbor (at_base c.args.stations.now.entries c.args.place c.held-station.result _ c.held-station.ensures c.shut-answer.ensures.made)
-
 pub returns-clause-held : goal.returns-clause-held
 returns-clause-held g c = shut_holds c.shut-answer.result c.args.place c.args.how (hold_at c.args.stations.now.entries) (hold_at c.replace.new.self.entries) c.replace.ensures.held
 
@@ -38,7 +27,7 @@ pub returns-clause-sound : goal.returns-clause-sound
 returns-clause-sound g c = λ sound.
     c.list.ensures.sound
     (sound_but c.args.stations.now.entries c.replace.new.self.entries c.args.place c.held-station.result _ c.args.self.now.harbor.made c.shut-answer.new.self.made c.args.self.now.listed c.held-station.ensures refl c.replace.ensures.set
-    (pier_keeps (taking_pier c.held-station.result.base) c.held-station.result.base c.args.self.now.harbor.made c.shut-answer.new.self.made _ (taking_of c.held-station.result.base) c.shut-answer.ensures.made)
+    (pier_keeps (taking_pier c.held-station.result.base) c.held-station.result.base c.args.self.now.harbor.made c.shut-answer.new.self.made _ (taking_of c.held-station.result.base) (called_made (finishes c.args.how) (taking_pier c.held-station.result.base) c.args.self.now.harbor c.shut-answer.new.self _ c.shut-answer.ensures))
     sound)
 
 pub returns-clause-station : goal.returns-clause-station
@@ -48,3 +37,6 @@ returns-clause-station g c =
 
 pub returns-clause-bases : goal.returns-clause-bases
 returns-clause-bases g c = same_bases c.args.stations.now.entries c.replace.new.self.entries c.replace.ensures.footing
+
+pub returns-clause-call : goal.returns-clause-call
+returns-clause-call g c = rw c.list.ensures.harbor (at_base c.args.stations.now.entries c.args.place c.held-station.result _ c.held-station.ensures c.shut-answer.ensures)

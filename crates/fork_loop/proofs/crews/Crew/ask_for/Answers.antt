@@ -84,7 +84,7 @@ pub returns-in-None-end_rows-clause-paid : goal.returns-in-None-end_rows-clause-
 returns-in-None-end_rows-clause-paid g c = paid_failed c.args.config.now _ _ _ c.live-live.result _ _ c.args.self.now _ _ c.live-live.ensures c.requires.idle c.in-AcceptFailed.ensures (record { clock_same = refl; made_same = refl; table_same = refl; lists = record { work_same = refl; timers_same = refl }; next = λ p e. c.requires.next p e }) c.in-None-end_rows.ensures.paid
 
 pub returns-in-Memory-clause-paid : goal.returns-in-Memory-clause-paid
-returns-in-Memory-clause-paid g c = λ n start past on. paid_idled c.args.config.now n start _ _ past _ c.args.self.now c.step.new.door on c.in-Memory.ensures
+returns-in-Memory-clause-paid g c = λ n start past on. paid_idled c.args.config.now n start _ past _ _ (door_idled c.args.config.now n start _ _ past c.args.self.now _ on c.in-Memory.ensures (record { clock_same = refl; made_same = refl; table_same = refl; lists = record { work_same = refl; timers_same = refl }; next = λ p e. c.requires.next p e }))
 
 pub returns-in-Sleep-clause-paid : goal.returns-in-Sleep-clause-paid
 returns-in-Sleep-clause-paid g c = let s = c.in-Sleep.ensures in paid_waiting c.args.config.now _ _ c.live-live.result _ c.args.self.now _ c.in-Sleep.until c.live-live.ensures s.0 s.1 s.2 (record { clock_same = refl; made_same = refl; table_same = refl; lists = record { work_same = refl; timers_same = refl }; next = λ p e. c.requires.next p e })

@@ -29,4 +29,4 @@ pub returns-in-Ok-clause-paid : goal.returns-in-Ok-clause-paid
 returns-in-Ok-clause-paid g c = paid_before c.args.config.now _ _ _ _ c.args.self.now c.take_next.new.self c.ask_for.new.self _ c.take_next.ensures.same c.ask_for.ensures.paid
 
 pub returns-in-Err-clause-paid : goal.returns-in-Err-clause-paid
-returns-in-Err-clause-paid g c = paid_short c.args.config.now _ _ whys.Memory c.args.self.now c.take_next.new.self c.take_next.ensures.same
+returns-in-Err-clause-paid g c = paid_short c.args.config.now _ _ c.args.self.now c.take_next.new.self c.take_next.ensures.same

@@ -5,13 +5,13 @@ use Rattle.fork_loop.proofs.crews.Crew.close_first.Goals as goal
 pub close-requires : goal.close-requires
 close-requires g c = let at = c.requires in taken_first _ c.args.why c.args.self.now c.in-Some.thing at (sym (c.in-Some.ensures.first at.c at.past at.vacated.exit.stands))
 
-pub returns-in-Some : goal.returns-in-Some
-returns-in-Some g c = λ k n start past v.
+pub returns-in-Some-clause-closes : goal.returns-in-Some-clause-closes
+returns-in-Some-clause-closes g c = λ k n start past v.
     let e = sym (c.in-Some.ensures.first k past v.exit.stands) in
     first_closed k n start _ _ past c.args.why c.args.self.now _ c.in-Some.thing v e
     (record { memory = c.in-Some.ensures.memory k n past c.in-Some.thing v.exit.stands refl; limit = λ t r. c.in-Some.ensures.limit k n past c.in-Some.thing v.exit.stands refl t r })
     (record { did = c.close.ensures.act; later = c.close.ensures.faults; waitless = record { waits = c.close.ensures.waits; stops = c.close.ensures.stops; clock = c.close.ensures.clock } })
     (c.closed.ensures k past c.in-Some.thing v.exit.stands e (a_stop_or_memory past c.args.why v.exit.may)) refl
 
-pub returns-in_default : goal.returns-in_default
-returns-in_default g c = λ k n start past v. nothing_first k n start _ past c.args.why c.args.self.now _ v (sym (c.in_default.ensures.first k past v.exit.stands)) refl refl
+pub returns-in_default-clause-closes : goal.returns-in_default-clause-closes
+returns-in_default-clause-closes g c = λ k n start past v. nothing_first k n start _ past c.args.why c.args.self.now _ v (sym (c.in_default.ensures.first k past v.exit.stands)) refl refl

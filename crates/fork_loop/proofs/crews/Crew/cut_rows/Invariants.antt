@@ -1,5 +1,6 @@
 use Rattle.fork_loop.specs.Courses.{SameRest, SameLists}
 use Rattle.fork_loop.specs.Endings.{CutRow}
+use Rattle.fork_loop.proofs.LivingRows.{LooksTo}
 use Rattle.fork_loop.proofs.Loops.{RowsTo, ahead}
 use Rattle.fork_loop.proofs.crews.Crew.cut_rows.Given as goal
 
@@ -8,6 +9,7 @@ invariant-loop-next g l = record {
   rows : RowsTo (CutRow l.fn.self.made l.fn.self.clock l.why) l.next l.fn.self l.self;
   same : SameRest l.fn.self l.self;
   lists : SameLists l.fn.self l.self;
+  looks : LooksTo l.fn.self l.next l.fn.steps.ticks l.steps.ticks;
 }
 
 abbrev pub decreases-loop-next : goal.decreases-loop-next

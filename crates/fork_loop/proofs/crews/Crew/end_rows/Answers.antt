@@ -1,6 +1,5 @@
-use Rattle.session_runs.specs.Runs.{Run}
-use Rattle.fork_loop.proofs.Cutting.{some_queued, some_idle, ends_rows, ends_paid, ends_short}
-use Rattle.fork_loop.proofs.Paying.{led_itself}
+use Rattle.std.proofs.Common.{[], arith}
+use Rattle.fork_loop.proofs.Cutting.{some_queued, some_idle, ends_rows, ends_paid, ends_short, ends_short_after}
 use Rattle.fork_loop.proofs.RowRuns.{rest_then}
 use Rattle.fork_loop.proofs.crews.Crew.end_rows.Goals as goal
 
@@ -26,4 +25,4 @@ pub returns-in-Ok-clause-paid : goal.returns-in-Ok-clause-paid
 returns-in-Ok-clause-paid g c = ends_paid c.args.config.now _ _ c.args.self.now c.queue_all.new.self c.end_queued.new.self _ _ _ c.queue_all.ensures.same c.in-Ok.ensures.all c.end_queued.ensures.paid
 
 pub returns-in-Err-clause-paid : goal.returns-in-Err-clause-paid
-returns-in-Err-clause-paid g c = λ n start past f. led_itself _ (Run c.args.config.now n start _) 2 _ f.frame.run
+returns-in-Err-clause-paid g c = λ n start past f. record { made = []; holds = ends_short_after c.args.config.now n start _ past c.args.self.now c.queue_all.new.self f c.queue_all.ensures.same; few = omega arith }

@@ -1,4 +1,5 @@
 use Rattle.fork_loop.specs.Turns.{HearsRow, SameBesides}
+use Rattle.fork_loop.proofs.LivingRows.{LooksTo}
 use Rattle.fork_loop.proofs.Loops.{RowsTo, ahead}
 use Rattle.fork_loop.proofs.crews.Crew.stop_all.Given as goal
 use Rattle.std.specs.Prelude.{true}
@@ -7,6 +8,7 @@ abbrev pub invariant-loop-next : goal.invariant-loop-next
 invariant-loop-next g l = record {
   rows : RowsTo (λ s. HearsRow l.fn.self.made l.fn.self.clock l.fn.self.ready true) l.next l.fn.self l.self;
   same : SameBesides l.fn.self l.self;
+  looks : LooksTo l.fn.self l.next l.fn.steps.ticks l.steps.ticks;
 }
 
 abbrev pub decreases-loop-next : goal.decreases-loop-next

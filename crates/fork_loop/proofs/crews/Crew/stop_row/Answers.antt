@@ -6,8 +6,8 @@ use Rattle.fork_loop.proofs.crews.Crew.stop_row.Goals as goal
 pub hear_turn-requires : goal.hear_turn-requires
 hear_turn-requires g c = subst AsleepRow (sym c.in-Some.ensures.value) c.requires
 
-pub returns-in-Some : goal.returns-in-Some
-returns-in-Some g c =
+pub returns-in-Some-clause-heard : goal.returns-in-Some-clause-heard
+returns-in-Some-clause-heard g c =
     let ch = c.in-Some.ensures.changes _ in
     record {
       row = row_hears c.args.self.now.made c.args.self.now.clock c.args.self.now.ready true _ _ c.in-Some.row.now _ (sym c.in-Some.ensures.value) ch.row c.hear_turn.ensures refl refl;

@@ -1,6 +1,7 @@
 use Rattle.fork_loop.proofs.Looking.{looks_run, looks_after, looks_then, looks_more}
-use Rattle.std.proofs.Common.{inl, inr, arith, ◌∙◌, None}
+use Rattle.std.proofs.Common.{refl, inl, inr, arith, ◌∙◌, None}
 use Rattle.fork_loop.specs.declared.asked.Asked.TheVariants as asks
+use Rattle.fork_loop.specs.declared.turned.RunEnd.TheVariants as ends
 use Rattle.program_door.specs.declared.wishes.DoorWish.TheVariants as wishes
 use Rattle.fork_loop.proofs.Loops.{kept_on}
 use Rattle.fork_loop.proofs.InOrder.{further_then, some_within, door_waits, door_over}
@@ -8,7 +9,7 @@ use Rattle.fork_loop.proofs.CallPays.{call_ends, call_asked, call_waited}
 use Rattle.fork_loop.proofs.crews.Crew.turn.Goals as goal
 
 pub returns-in-Some-clause-turns : goal.returns-in-Some-clause-turns
-returns-in-Some-clause-turns g c = (λ start past on. c.in-Some.ensures.runs c.args.turns start past on, tt)
+returns-in-Some-clause-turns g c = (λ start past on. c.in-Some.ensures.runs c.args.turns start past on, c.run_rows.ensures.rest.made_same)
 
 pub run_rows-requires : goal.run_rows-requires
 run_rows-requires g c = some_within c.args.config.now c.args.turns _ c.args.self.now c.requires.course
@@ -51,7 +52,7 @@ returns-in-None-clause-turns g c = (
   λ start past on.
       let o = c.in_default.ensures.runs.0 c.args.turns start past on in
       (c.in-Over.ensures.asks.0 c.args.turns start o.past o.course, λ s. c.in-None.ensures s (omega arith)),
-  tt,
+  c.ask_door.ensures.made ∙ c.run_rows.ensures.rest.made_same,
 )
 
 pub returns-in-Ends-clause-turns : goal.returns-in-Ends-clause-turns
@@ -59,7 +60,7 @@ returns-in-Ends-clause-turns g c = (
   λ start past on.
       let o = c.in_default.ensures.runs.0 c.args.turns start past on in
       c.in-Ends.ensures.asks c.args.turns start o.past o.course,
-  tt,
+  c.ask_door.ensures.made ∙ c.run_rows.ensures.rest.made_same,
 )
 
 pub returns-in-Some-clause-few : goal.returns-in-Some-clause-few
@@ -81,13 +82,13 @@ pub returns-in-Some-clause-looks : goal.returns-in-Some-clause-looks
 returns-in-Some-clause-looks g c = call_ends c.args.config.now c.args.turns _ _ _ _ c.args.self.now c.run_rows.new.self c.in-Some.why c.in-Some.ensures.paid
 
 pub returns-in-Waits-clause-looks : goal.returns-in-Waits-clause-looks
-returns-in-Waits-clause-looks g c = call_waited c.args.config.now c.args.turns _ _ _ _ _ _ _ _ c.args.self.now c.run_rows.new.self c.ask_door.new.self c.wait_for.new.self (wishes.Sleep c.in-Waits.first) c.in-Waits.first c.in_default.ensures.paid c.in-Waits.ensures.paid (λ since wished. record { door = wished.0; remains = inl wished.1 }) c.wait_for.ensures.paid
+returns-in-Waits-clause-looks g c = call_waited c.args.config.now c.args.turns _ _ _ _ _ _ _ _ c.args.self.now c.run_rows.new.self c.ask_door.new.self c.wait_for.new.self (wishes.Sleep c.in-Waits.first) c.in-Waits.first _ c.in_default.ensures.paid c.in-Waits.ensures.paid (λ since wished. record { door = wished.0; remains = inl wished.1 }) c.wait_for.ensures.paid
 
 pub returns-in-Some-first_from-clause-looks : goal.returns-in-Some-first_from-clause-looks
-returns-in-Some-first_from-clause-looks g c = call_waited c.args.config.now c.args.turns _ _ _ _ _ _ _ _ c.args.self.now c.run_rows.new.self c.ask_door.new.self c.wait_for-in-Some-first_from.new.self wishes.Done None c.in_default.ensures.paid c.in-Over.ensures.paid (λ since wished. record { door = wished.sleeps; remains = inr (_, c.in-Some-first_from.ensures.1) }) c.wait_for-in-Some-first_from.ensures.paid
+returns-in-Some-first_from-clause-looks g c = call_waited c.args.config.now c.args.turns _ _ _ _ _ _ _ _ c.args.self.now c.run_rows.new.self c.ask_door.new.self c.wait_for-in-Some-first_from.new.self wishes.Done None _ c.in_default.ensures.paid c.in-Over.ensures.paid (λ since wished. record { door = wished.sleeps; remains = inr (_, c.in-Some-first_from.ensures.1) }) c.wait_for-in-Some-first_from.ensures.paid
 
 pub returns-in-None-clause-looks : goal.returns-in-None-clause-looks
-returns-in-None-clause-looks g c = call_asked c.args.config.now c.args.turns _ _ _ _ _ _ c.args.self.now c.run_rows.new.self c.ask_door.new.self asks.Over (λ start since a. a.0.frame.run) c.in_default.ensures.paid c.in-Over.ensures.paid
+returns-in-None-clause-looks g c = call_asked c.args.config.now c.args.turns _ _ _ _ _ _ c.args.self.now c.run_rows.new.self c.ask_door.new.self asks.Over ends.Over (λ start since a. (record { past = since; course = a.0; wished = a.1 }, refl)) c.in_default.ensures.paid c.in-Over.ensures.paid
 
 pub returns-in-Ends-clause-looks : goal.returns-in-Ends-clause-looks
-returns-in-Ends-clause-looks g c = call_asked c.args.config.now c.args.turns _ _ _ _ _ _ c.args.self.now c.run_rows.new.self c.ask_door.new.self (asks.Ends c.in-Ends.why) (λ start since a. a) c.in_default.ensures.paid c.in-Ends.ensures.paid
+returns-in-Ends-clause-looks g c = call_asked c.args.config.now c.args.turns _ _ _ _ _ _ c.args.self.now c.run_rows.new.self c.ask_door.new.self (asks.Ends c.in-Ends.why) (ends.Ends c.in-Ends.why) (λ start since a. a) c.in_default.ensures.paid c.in-Ends.ensures.paid

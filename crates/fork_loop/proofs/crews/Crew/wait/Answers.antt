@@ -3,14 +3,13 @@ use Rattle.relay_model.specs.Readiness.{copied_list}
 use Rattle.fork_loop.specs.declared.crews.Row.{Row}
 use Rattle.fork_loop.proofs.Looking.{looks_waited, works_waited, works_alone, as_many, turned_few}
 use Rattle.fork_loop.proofs.RowRuns.{rest_itself}
-use Rattle.std.proofs.Common.{ap, refl, inl, inr, ◌∙◌, add-one, arith}
+use Rattle.std.proofs.Common.{[], ap, refl, inl, inr, ◌∙◌, add-one, arith}
 use Rattle.std.proofs.lemmas.Bool.{false≢true}
 use Rattle.session_runs.proofs.Going.{idle_run}
 use Rattle.fork_loop.proofs.Turning.{has_waited, turned_there, all_unheard, run_turned, when_going, when_short, when_stopped}
 use Rattle.fork_loop.proofs.DoorSteps.{memory_rows}
 use Rattle.fork_loop.proofs.InOrder.{came_for, left_by}
 use Rattle.session_runs.specs.Runs.{Run}
-use Rattle.fork_loop.proofs.Paying.{led_itself}
 use Rattle.fork_loop.proofs.DoorPays.{led_turned}
 use Rattle.fork_loop.proofs.crews.Crew.wait.Goals as goal
 
@@ -20,17 +19,20 @@ hear_turn-requires g c =
     all_unheard c.args.config.now _ c.in-Turned.at c.in-Turned.stop c.args.self.now c.take_turn.new.self c.requires.course c.requires.idle (record { door = h.door; table_same = h.table_same; lists = record { work_same = h.lists.work_same; timers_same = h.lists.timers_same }; unborn_same = h.unborn_same; clock_is = h.clock_is; made_is = h.made_is })
 
 pub returns-then-stop-clause-waits : goal.returns-then-stop-clause-waits
-returns-then-stop-clause-waits g c = λ start past on order.
-    let h = has_waited c.in-Turned.at c.in-Turned.stop _ c.take_turn.new.self c.take_turn.ensures in
-    when_stopped c.args.config.now c.args.turns start _ _ past c.args.until c.in-Turned.at c.in-Turned.stop c.args.self.now c.take_turn.new.self c.if-stop.true (record {
-      course = on;
-      few = c.requires.few;
-      idle = c.requires.idle;
-      order = order;
-      turns = turned_there _ _ c.args.until c.in-Turned.at _ c.take_turn.new.self.ready c.in-Turned.stop c.take_turn.ensures.ready_same (record { did = c.in-Turned.ensures.act; named = c.in-Turned.ensures.named; later = c.in-Turned.ensures.faults; counts = c.in-Turned.ensures.counts });
-      has = record { door = h.door; table_same = h.table_same; lists = record { work_same = h.lists.work_same; timers_same = h.lists.timers_same }; unborn_same = h.unborn_same; clock_is = h.clock_is; made_is = h.made_is };
-      on_clock = c.take_turn.ensures.on_clock;
-    })
+returns-then-stop-clause-waits g c = (
+  λ start past on order.
+      let h = has_waited c.in-Turned.at c.in-Turned.stop _ c.take_turn.new.self c.take_turn.ensures in
+      when_stopped c.args.config.now c.args.turns start _ _ past c.args.until c.in-Turned.at c.in-Turned.stop c.args.self.now c.take_turn.new.self c.if-stop.true (record {
+        course = on;
+        few = c.requires.few;
+        idle = c.requires.idle;
+        order = order;
+        turns = turned_there _ _ c.args.until c.in-Turned.at _ c.take_turn.new.self.ready c.in-Turned.stop c.take_turn.ensures.ready_same (record { did = c.in-Turned.ensures.act; named = c.in-Turned.ensures.named; later = c.in-Turned.ensures.faults; counts = c.in-Turned.ensures.counts });
+        has = record { door = h.door; table_same = h.table_same; lists = record { work_same = h.lists.work_same; timers_same = h.lists.timers_same }; unborn_same = h.unborn_same; clock_is = h.clock_is; made_is = h.made_is };
+        on_clock = c.take_turn.ensures.on_clock;
+      }),
+  c.take_turn.ensures.made_is ∙ add-one _,
+)
 
 pub returns-in-Ok-clause-waits : goal.returns-in-Ok-clause-waits
 returns-in-Ok-clause-waits g c = (
@@ -56,39 +58,45 @@ returns-in-Ok-clause-waits g c = (
 )
 
 pub returns-in-Err-clause-waits : goal.returns-in-Err-clause-waits
-returns-in-Err-clause-waits g c = λ start past on order.
-    let h = has_waited c.in-Turned.at c.in-Turned.stop _ c.take_turn.new.self c.take_turn.ensures in
-    when_short c.args.config.now c.args.turns start _ _ past c.args.until c.in-Turned.at c.in-Turned.stop c.args.self.now c.take_turn.new.self c.hear_turn.new.self c.if-stop.false (record {
-      course = on;
-      few = c.requires.few;
-      idle = c.requires.idle;
-      order = order;
-      turns = turned_there _ _ c.args.until c.in-Turned.at _ c.take_turn.new.self.ready c.in-Turned.stop c.take_turn.ensures.ready_same (record { did = c.in-Turned.ensures.act; named = c.in-Turned.ensures.named; later = c.in-Turned.ensures.faults; counts = c.in-Turned.ensures.counts });
-      has = record { door = h.door; table_same = h.table_same; lists = record { work_same = h.lists.work_same; timers_same = h.lists.timers_same }; unborn_same = h.unborn_same; clock_is = h.clock_is; made_is = h.made_is };
-      on_clock = c.take_turn.ensures.on_clock;
-    }) c.hear_turn.ensures.heard
+returns-in-Err-clause-waits g c = (
+  λ start past on order.
+      let h = has_waited c.in-Turned.at c.in-Turned.stop _ c.take_turn.new.self c.take_turn.ensures in
+      when_short c.args.config.now c.args.turns start _ _ past c.args.until c.in-Turned.at c.in-Turned.stop c.args.self.now c.take_turn.new.self c.hear_turn.new.self c.if-stop.false (record {
+        course = on;
+        few = c.requires.few;
+        idle = c.requires.idle;
+        order = order;
+        turns = turned_there _ _ c.args.until c.in-Turned.at _ c.take_turn.new.self.ready c.in-Turned.stop c.take_turn.ensures.ready_same (record { did = c.in-Turned.ensures.act; named = c.in-Turned.ensures.named; later = c.in-Turned.ensures.faults; counts = c.in-Turned.ensures.counts });
+        has = record { door = h.door; table_same = h.table_same; lists = record { work_same = h.lists.work_same; timers_same = h.lists.timers_same }; unborn_same = h.unborn_same; clock_is = h.clock_is; made_is = h.made_is };
+        on_clock = c.take_turn.ensures.on_clock;
+      }) c.hear_turn.ensures.heard,
+  c.hear_turn.ensures.heard.same.made_same ∙ (c.take_turn.ensures.made_is ∙ add-one _),
+)
 
 pub returns-in-Memory-clause-waits : goal.returns-in-Memory-clause-waits
-returns-in-Memory-clause-waits g c = λ start past on order.
-    let f = on.frame in
-    let n = c.in-Memory.ensures.counts in
-    record {
-      past = past;
-      frame = record {
-        fork = f.fork;
-        run = idle_run c.args.config.now c.args.turns start _ _ past f.run c.in-Memory.ensures.act (record { later = c.in-Memory.ensures.faults; rose = λ e. absurd (false≢true e) }) (record { waits = n.waits_is; stops = n.stops_is; clock = n.clock_is });
-        door = f.door;
-        counts = f.counts;
-        next = f.next;
-        clock_is = f.clock_is;
-        made_is = f.made_is;
-        unsaid = f.unsaid;
-      };
-      all = refl;
-      ends = inl refl;
-      owes = inr refl;
-      rows = memory_rows c.args.config.now c.args.turns start _ past c.args.self.now on;
-    }
+returns-in-Memory-clause-waits g c = (
+  λ start past on order.
+      let f = on.frame in
+      let n = c.in-Memory.ensures.counts in
+      record {
+        past = past;
+        frame = record {
+          fork = f.fork;
+          run = idle_run c.args.config.now c.args.turns start _ _ past f.run c.in-Memory.ensures.act (record { later = c.in-Memory.ensures.faults; rose = λ e. absurd (false≢true e) }) (record { waits = n.waits_is; stops = n.stops_is; clock = n.clock_is });
+          door = f.door;
+          counts = f.counts;
+          next = f.next;
+          clock_is = f.clock_is;
+          made_is = f.made_is;
+          unsaid = f.unsaid;
+        };
+        all = refl;
+        ends = inl refl;
+        owes = inr refl;
+        rows = memory_rows c.args.config.now c.args.turns start _ past c.args.self.now on;
+      },
+  refl,
+)
 
 pub returns-in-Ok-clause-looks : goal.returns-in-Ok-clause-looks
 returns-in-Ok-clause-looks g c =
@@ -164,6 +172,5 @@ returns-then-stop-clause-paid g c = λ start past on order longest.
     })) (omega arith)
 
 pub returns-in-Memory-clause-paid : goal.returns-in-Memory-clause-paid
-returns-in-Memory-clause-paid g c = λ start past on order longest.
-    let n = c.in-Memory.ensures.counts in
-    led_itself past (Run c.args.config.now c.args.turns start _) 0 _ (idle_run c.args.config.now c.args.turns start _ _ past on.frame.run c.in-Memory.ensures.act (record { later = c.in-Memory.ensures.faults; rose = λ e. absurd (false≢true e) }) (record { waits = n.waits_is; stops = n.stops_is; clock = n.clock_is }))
+unfolding returns-in-Memory-clause-waits
+returns-in-Memory-clause-paid g c = λ start past on order longest. record { made = []; holds = ((returns-in-Memory-clause-waits g c).0 start past on order, refl); few = omega arith }

@@ -6,5 +6,5 @@ use Rattle.scripted_world.proofs.mem_world.MemWorldWorld.listen.Goals as goal
 pub returns-in-Fails-clause-act : goal.returns-in-Fails-clause-act
 returns-in-Fails-clause-act c = record {
   told = search rules;
-  held = rw c.reserve-3.ensures.entries (free_stays (lookup c.args.self.now.held.entries) c.args.door c.requires);
+  held = rw c.reserve-2.ensures.entries (free_stays (lookup c.args.self.now.held.entries) c.args.door c.requires);
 }

@@ -1,0 +1,26 @@
+use Rattle.desk_places.specs.Stations.{base_at, is_disarmed}
+use Rattle.desk_places.proofs.MadeLemmas.{more_based}
+use Rattle.desk_places.proofs.MarkLemmas.{arms_both, arms_half, marks_after}
+use Rattle.desk_places.proofs.SoundLemmas.{but_of, sound_armed}
+use Rattle.relay_model.specs.declared.places.Half.TheVariants.{ToRead}
+use Rattle.std.proofs.Common.{false}
+use Rattle.desk_places.proofs.ports.Ports.welcome.Goals as goal
+
+pub returns-in-Begun-clause-marks : goal.returns-in-Begun-clause-marks
+returns-in-Begun-clause-marks g c =
+    arms_both c.args.door c.args.place (is_disarmed c.args.stations.now.entries) (is_disarmed c.moor.new.stations.entries) (is_disarmed c.mark.new.stations.entries) c.in-Begun.ensures.marks
+    (arms_half c.moor.new.stations.entries c.mark.new.stations.entries c.args.door ToRead c.mark.ensures.set)
+
+pub returns-in-Failed-clause-marks : goal.returns-in-Failed-clause-marks
+returns-in-Failed-clause-marks g c =
+    marks_after c.args.door ToRead false (is_disarmed c.args.stations.now.entries) (is_disarmed c.moor.new.stations.entries) (is_disarmed c.mark-in-Failed.new.stations.entries) c.in-Failed.ensures.marks
+    (arms_half c.moor.new.stations.entries c.mark-in-Failed.new.stations.entries c.args.door ToRead c.mark-in-Failed.ensures.set)
+
+pub returns-in-Begun-clause-sound : goal.returns-in-Begun-clause-sound
+returns-in-Begun-clause-sound g c = λ sound.
+    c.mark.ensures.sound
+    (but_of c.mark.new.stations.entries c.args.door c.moor.new.self.harbor.made c.moor.new.self.listed
+    (sound_armed c.moor.new.stations.entries c.mark.new.stations.entries c.args.door ToRead c.moor.new.self.harbor.made c.moor.new.self.listed c.mark.ensures.set (c.moor.ensures.sound sound)))
+
+pub returns-in-Begun-clause-ports : goal.returns-in-Begun-clause-ports
+returns-in-Begun-clause-ports g c = rw c.mark.ensures.harbor (more_based _ c.args.place (base_at c.moor.new.stations.entries c.args.place) (base_at c.mark.new.stations.entries c.args.place) c.args.self.now.harbor.made c.moor.new.self.harbor.made (c.mark.ensures.footing c.args.place) c.in-Begun.ensures.made)

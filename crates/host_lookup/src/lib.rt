@@ -1,0 +1,8 @@
+// Hosts: what their text writes, and names that are looked up beside the loop.
+#![tactic(auto)]
+
+mod hosts;
+mod lookups;
+
+pub use hosts::{HostAddresses, Written, written_host};
+pub use lookups::{Looked, Lookup, Lookups};

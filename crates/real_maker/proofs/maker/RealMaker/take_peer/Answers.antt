@@ -1,4 +1,0 @@
-use Rattle.real_maker.proofs.maker.RealMaker.take_peer.Goals as goal
-
-pub returns-in-Peer-clause-kind : goal.returns-in-Peer-clause-kind
-returns-in-Peer-clause-kind g c = rw c.in-Peer.is (c.gathered.ensures c.in-Peer.door)

@@ -1,0 +1,39 @@
+-- What a proxy is asked for.
+use Rattle.std.specs.Prelude.{◌≡◌, ℕ, Bool, true, false, List}
+use Rattle.relay_model.specs.declared.commands.Options.{Options}
+use Rattle.relay_model.specs.declared.commands.Target.{Target}
+use Rattle.relay_model.specs.declared.commands.Target.TheVariants as targets
+use Rattle.socks_port.specs.Requests.{socks4, socks4a}
+use Rattle.connect_port.specs.Requests.{connect_request}
+use Rattle.real_maker.specs.declared.socks.SocksStage.{SocksStage}
+use Rattle.real_maker.specs.declared.socks.SocksStage.TheVariants as stages
+use Rattle.real_maker.specs.declared.ports.RealPort.{RealPort}
+use Rattle.real_maker.specs.declared.ports.RealPort.TheVariants as ports
+
+-- the request of SOCKS4 for this port of an address
+abbrev pub IsRequestTo : ℕ → List ℕ → List ℕ → Type 0
+IsRequestTo port user request = (addr : List ℕ) × (request ≡ socks4 addr port user)
+
+-- a SOCKS server is asked for this host and port: SOCKS4A names the host, and SOCKS4 has an address that was looked up
+abbrev pub AsksAt : Bool → List ℕ → ℕ → List ℕ → SocksStage → Type 0
+AsksAt true host wanted user (stages.Talking port) = port.talk.request ≡ socks4a host wanted user
+AsksAt true host wanted user _ = ⊥
+AsksAt false host wanted user (stages.Talking port) = IsRequestTo wanted user port.talk.request
+AsksAt false host wanted user (stages.Asking asked) = (asked.port ≡ wanted) × (asked.user ≡ user)
+AsksAt false host wanted user stages.Over = ⊥
+
+-- the port asks one
+abbrev pub AsksSocks : Bool → List ℕ → ℕ → List ℕ → RealPort → Type 0
+AsksSocks named host wanted user (ports.Socks port) = AsksAt named host wanted user port.stage
+AsksSocks named host wanted user _ = ⊥
+
+-- the port asks an HTTP proxy for it
+abbrev pub AsksProxy : List ℕ → ℕ → RealPort → Type 0
+AsksProxy host wanted (ports.Proxy port) = port.talk.request ≡ connect_request host wanted
+AsksProxy host wanted _ = ⊥
+
+-- the port asks its proxy for what the address names
+abbrev pub Asks : Target → Options → RealPort → Type 0
+Asks (targets.Socks named server host wanted) options port = AsksSocks named host wanted options.proxy.socksuser port
+Asks (targets.Proxy server host wanted) options port = AsksProxy host wanted port
+Asks _ options port = Unit {0}

@@ -1,0 +1,255 @@
+// A connection through a SOCKS server, also while the host that it is asked for is looked up.
+ghost use Rattle.std.specs.Prelude.{◌≡◌, None, true, false, IfSome};
+ghost use Rattle.real_maker.specs.Asking.{IsRequestTo};
+ghost use Rattle.real_maker.specs.SocksStages.{stage_gave, stage_hinting, stage_hints, stage_took};
+
+use crate::opening::OfSocket;
+use answer_counts::{
+    count_beginning, count_reading, count_settling, count_shutting, count_writing, is_end,
+};
+use host_lookup::{Looked, Lookup};
+use port_trait::{Begun, Counts, Got, Hint, Joining, Port, PortReap, Settled, Shutting, Took};
+use relay_model::{Shut, Text};
+use socks_port::{Request, SocksPort, request4};
+use std::marker::Model;
+use std::mem;
+use std::net::SocketAddrV4;
+
+/// The most bytes of a user and of a host that a proxy is told.
+pub(crate) const MOST: usize = 255;
+
+/// A server, and the host and port that it will be asked for.
+#[derive(Drop)]
+pub struct AskedLater {
+    pub(crate) inner: OfSocket,
+    pub(crate) lookup: Lookup,
+    pub(crate) port: u16,
+    pub(crate) user: Text,
+}
+
+impl Model for AskedLater {
+    ghost use Rattle.real_maker.specs.Socks.{AskedState};
+
+    ghost Value = { AskedState };
+
+    ghost view = { λ asked. record { port = asked.port; user = asked.user } };
+}
+
+/// The request of SOCKS4 to be connected to this address (socat(1), `SOCKS4`). `None` where the user is too long.
+pub(crate) fn request_to(addr: [u8; 4], port: u16, user: &[u8]) -> Option<Request>
+    ensures { IfSome result (IsRequestTo port user.now) }
+{
+    if user.len() > MOST {
+        return None;
+    }
+    Some(request4(addr, port, user))
+}
+
+/// How far it has come.
+#[derive(Drop)]
+pub enum SocksStage {
+    Asking(AskedLater),
+    Talking(SocksPort<OfSocket>),
+    Over,
+}
+
+/// A connection through a SOCKS server. Each answer is counted here, once.
+#[derive(Drop)]
+pub struct SocksOpening {
+    stage: SocksStage,
+    counts: Counts,
+    begun: bool,
+    ended: bool,
+}
+
+impl Model for SocksOpening {
+    ghost use Rattle.real_maker.specs.SocksStages.{OpeningState};
+
+    ghost Value = { OpeningState };
+
+    ghost view = { λ port. record { stage = port.stage; counts = port.counts; begun = port.begun; ended = port.ended } };
+}
+
+impl SocksOpening {
+    /// One of which nothing was asked yet.
+    pub(crate) fn new(stage: SocksStage) -> SocksOpening
+        ensures { result.stage ≡ stage }
+    {
+        SocksOpening {
+            stage,
+            counts: Counts::new(),
+            begun: false,
+            ended: false,
+        }
+    }
+
+    /// Asks for the host once it is looked up, and goes on with the talk.
+    fn advance(&mut self) -> Settled
+        ensures kept { self.new ≡ record self.old { stage = self.new.stage } }
+        ensures gave { stage_gave self.new.stage ≡ stage_gave self.old.stage }
+        ensures took { stage_took self.new.stage ≡ stage_took self.old.stage }
+    {
+        let looked = match &mut self.stage {
+            SocksStage::Talking(port) => return port.settle(),
+            SocksStage::Over => return Settled::Failed,
+            SocksStage::Asking(asked) => asked.lookup.ask(),
+        };
+        match looked {
+            Looked::UnderWay => Settled::NotYet,
+            Looked::NotFound => self.give_up(),
+            Looked::Found(addresses) => match addresses.ipv4 {
+                Some(addr) => self.ask_for(addr),
+                None => self.give_up(),
+            },
+        }
+    }
+
+    fn give_up(&mut self) -> Settled
+        ensures kept { self.new ≡ record self.old { stage = self.new.stage } }
+        ensures gave { stage_gave self.new.stage ≡ None }
+        ensures took { stage_took self.new.stage ≡ None }
+    {
+        self.stage = SocksStage::Over;
+        Settled::Failed
+    }
+
+    fn ask_for(&mut self, addr: SocketAddrV4) -> Settled
+        ensures kept { self.new ≡ record self.old { stage = self.new.stage } }
+        ensures gave { stage_gave self.new.stage ≡ None }
+        ensures took { stage_took self.new.stage ≡ None }
+    {
+        let SocksStage::Asking(asked) = mem::replace(&mut self.stage, SocksStage::Over) else {
+            return Settled::Failed;
+        };
+        let octets = addr.ip().octets();
+        let Some(request) = request_to(octets, asked.port, asked.user.as_slice()) else {
+            return Settled::Failed;
+        };
+        let mut port = SocksPort::new(asked.inner, request);
+        let settled = port.settle();
+        self.stage = SocksStage::Talking(port);
+        settled
+    }
+
+    fn begin_inner(&mut self) -> Begun
+        ensures kept { self.new ≡ record self.old { stage = self.new.stage } }
+        ensures gave { stage_gave self.new.stage ≡ stage_gave self.old.stage }
+        ensures took { stage_took self.new.stage ≡ stage_took self.old.stage }
+    {
+        match &mut self.stage {
+            SocksStage::Asking(asked) => asked.inner.begin(),
+            SocksStage::Talking(port) => port.begin(),
+            SocksStage::Over => Begun::Failed,
+        }
+    }
+}
+
+impl Port for SocksOpening {
+    ghost gave = { λ port. stage_gave port.stage };
+
+    ghost took = { λ port. stage_took port.stage };
+
+    ghost hints = { λ port. stage_hints port.stage };
+
+    ghost hinting = { λ port. stage_hinting port.stage };
+
+    ghost counts = { λ port. port.counts };
+
+    ghost begun = { λ port. port.begun };
+
+    ghost ended = { λ port. port.ended };
+
+    ghost joins = { λ _. true };
+
+    ghost child = { λ _. false };
+
+    fn begin(&mut self) -> Begun {
+        if self.begun {
+            return Begun::Begun;
+        }
+        let begun = self.begin_inner();
+        self.begun = begun == Begun::Begun;
+        count_beginning(&mut self.counts, begun);
+        begun
+    }
+
+    fn settle(&mut self) -> Settled {
+        let settled = self.advance();
+        count_settling(&mut self.counts, settled);
+        settled
+    }
+
+    fn read(&mut self, into: &mut [u8]) -> Got {
+        let got = match &mut self.stage {
+            SocksStage::Asking(_) => Got::NotYet,
+            SocksStage::Talking(port) => port.read(into),
+            SocksStage::Over => Got::Failed,
+        };
+        self.ended = is_end(got);
+        count_reading(&mut self.counts, got);
+        got
+    }
+
+    fn write(&mut self, bytes: &[u8]) -> Took {
+        let took = match &mut self.stage {
+            SocksStage::Asking(_) => Took::NotYet,
+            SocksStage::Talking(port) => port.write(bytes),
+            SocksStage::Over => Took::Failed,
+        };
+        count_writing(&mut self.counts, took);
+        took
+    }
+
+    /// A stream has no packets.
+    fn send(&mut self, _bytes: &[u8]) -> Took {
+        count_writing(&mut self.counts, Took::Failed);
+        Took::Failed
+    }
+
+    fn put_all(&mut self, bytes: &[u8]) -> Took {
+        let took = match &mut self.stage {
+            SocksStage::Talking(port) => port.put_all(bytes),
+            SocksStage::Asking(_) | SocksStage::Over => Took::Failed,
+        };
+        count_writing(&mut self.counts, took);
+        took
+    }
+
+    fn shut(&mut self, how: Shut) -> Shutting {
+        let shutting = match &mut self.stage {
+            SocksStage::Asking(asked) => asked.inner.shut(how),
+            SocksStage::Talking(port) => port.shut(how),
+            SocksStage::Over => Shutting::Done,
+        };
+        count_shutting(&mut self.counts, shutting);
+        shutting
+    }
+
+    fn hint(&mut self) -> Hint {
+        match &mut self.stage {
+            SocksStage::Asking(asked) if !asked.lookup.is_over() => Hint::none(),
+            SocksStage::Talking(port) => port.hint(),
+            _ => Hint::all(),
+        }
+    }
+
+    fn may_hint(&self) -> Hint {
+        match &self.stage {
+            SocksStage::Talking(port) => port.may_hint(),
+            SocksStage::Asking(_) | SocksStage::Over => Hint::all(),
+        }
+    }
+
+    fn has_child(&self) -> bool {
+        false
+    }
+
+    fn reap(&mut self) -> PortReap {
+        PortReap::NoChild
+    }
+
+    /// No thread works for it: that of a lookup is nobody's to wait for.
+    fn join(&mut self) -> Joining {
+        Joining::Joined
+    }
+}

@@ -1,0 +1,2 @@
+pub mod BothRuns
+pub mod Ending

@@ -1,7 +1,0 @@
-use Rattle.std.proofs.Common.{◌≡◌, drop}
-use Rattle.std.specs.List.{find}
-use Rattle.socket_maker.specs.Lookups.{has_ipv6}
-use Rattle.socket_maker.proofs.lookup.first_ipv6.Given as goal
-
-abbrev pub invariant-loop-addr : goal.invariant-loop-addr
-invariant-loop-addr l = find has_ipv6 (drop l.addr-index l.addrs) ≡ find has_ipv6 l.addrs

@@ -1,0 +1,11 @@
+# Standard streams that somebody else set not to wait, and terminals that hang up. The relay waits, loses nothing, and leaves
+# them set as they were.
+
+if [ -n "$python" ]; then
+    mkdir "$scratch/nonblocking"
+    while IFS=$'\t' read -r name problem; do
+        report "$name" "$problem"
+    done < <("$python" -ES -B "$here/tests/program/nonblocking.py" "$program" "$scratch/nonblocking" 2>&1)
+else
+    echo "skipped streams that are set not to wait: there is no python3"
+fi
