@@ -1,47 +1,19 @@
-// What a row has beside streams in memory: the file that its run is to leave, and whether a poller waits.
+// The file that a run is to leave.
 use desk_rows::taken_line;
 use std::fs;
 use std::fs::Files;
 use worked_rows::{Ran, Row, RowFault};
 
-/// What the words of a row are carried out over.
-#[derive(Clone, Copy, Debug, PartialEq, Eq)]
-pub(crate) enum World {
-    /// The program's poller waits, and reports what the maker makes.
-    Watched,
-    /// No poller reports it, and one in memory waits.
-    Unwatched,
-    /// The same as `Watched` with a poller that stops in the end, while a thread answers at the port of the words.
-    Answered,
-    /// No run: the two addresses talk.
-    Ends,
-}
-
-/// What a row has beside streams in memory.
-#[derive(Clone, Copy, Debug)]
-pub(crate) struct Setting<'a> {
-    /// The file that its run is to leave.
-    pub file: Option<&'a str>,
-    pub world: World,
-}
-
-impl<'a> Setting<'a> {
-    pub(crate) fn of(row: &Row<'a>) -> Result<Setting<'a>, RowFault> {
-        let mut setting = Setting {
-            file: None,
-            world: World::Watched,
-        };
-        for line in row.over.as_slice() {
-            match line.parts() {
-                ("file", name) if !name.is_empty() => setting.file = Some(name),
-                ("unwatched", "") => setting.world = World::Unwatched,
-                ("answered", "") => setting.world = World::Answered,
-                ("ends", "") => setting.world = World::Ends,
-                _ => return Err(line.fault()),
-            }
+/// Its name, where the row says one.
+pub(crate) fn file_of<'a>(row: &Row<'a>) -> Result<Option<&'a str>, RowFault> {
+    let mut file = None;
+    for line in row.over.as_slice() {
+        match line.parts() {
+            ("file", name) if !name.is_empty() => file = Some(name),
+            _ => return Err(line.fault()),
         }
-        Ok(setting)
     }
+    Ok(file)
 }
 
 /// Removes it, so that no earlier run's is found.

@@ -4,10 +4,8 @@
 // doesn't fit or isn't understood.
 #![tactic(auto)]
 
-mod answering;
 mod files;
 mod runs;
-mod talks;
 
 use relay_model::Text;
 use runs::run_row;
