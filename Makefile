@@ -21,25 +21,12 @@ help:
 	@echo 'make check      runs the gate: every proof, and all its tests'
 	@echo 'make endurance  runs random commands for ten minutes, or for FOR=SECONDS, and judges each run'
 	@echo 'make memory     runs them with each request for memory refused in turn'
-	@echo 'make bench      measures the program beside its peers'
+	@echo 'make bench      measures the program beside its peers; bench/run --report writes docs/FIGURES.md'
 	@echo 'make install    puts programs, manual pages and completion below PREFIX, with DESTDIR in front; make uninstall'
 
-# The run of a proved program leaves it in its crate; its status is 0 where all is proved.
-bin/socat: crates/socat_main/out/socat_main
-bin/socat-audit: crates/audit_main/out/audit_main
-bin/socat-explain: crates/explain_main/out/explain_main
-$(PROGRAMS):
-	mkdir -p bin
-	cp $< $@.new
-	mv $@.new $@
-
-crates/socat_main/out/socat_main: WORDS = -u STDIN STDOUT
-crates/audit_main/out/audit_main: WORDS = data/journal -u STDIN STDOUT
-crates/explain_main/out/explain_main: WORDS = -u STDIN STDOUT
-crates/socat_main/out/socat_main crates/audit_main/out/audit_main crates/explain_main/out/explain_main: $(SOURCES)
-	@echo "Proving and building $(@F). A first build proves every crate below it, and may take an hour or more."
-	cd $(@D)/.. && rt run -- $(WORDS) </dev/null
-	@touch $@
+# One run proves and builds all three. tools/build.py socat proves and builds bin/socat alone.
+$(PROGRAMS) &: $(SOURCES) HANDLES tools/build.py
+	tools/build.py $(NAMES)
 
 check:
 	.ci/run

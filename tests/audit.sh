@@ -7,19 +7,18 @@ set -u
 
 . "$(dirname "${BASH_SOURCE[0]}")/common.sh"
 use_program "${1:-$here/bin/socat-audit}"
+quiet=yes
 
 # expect NAME LINE STATUS FILE WORDS..: the auditor says this line, and ends with this status.
 expect() {
-    local name="$1" line="$2" status="$3" file="$4" said got
+    local name="$1" line="$2" status="$3" file="$4" said got problem=''
     shift 4
     said="$(timeout 120 "$program" "$file" "$@")"
     got=$?
-    if [ "$said" = "$line" ] && [ "$got" -eq "$status" ]; then
-        passed=$((passed + 1))
-    else
-        failed=$((failed + 1))
-        echo "FAILED  $name: '$said' and status $got, not '$line' and status $status"
+    if [ "$said" != "$line" ] || [ "$got" -ne "$status" ]; then
+        problem="'$said' and status $got, not '$line' and status $status"
     fi
+    report "$name" "$problem"
 }
 
 # The status that goes with a line.
@@ -62,8 +61,7 @@ run_cases() {
     echo "$number journals of $file"
     wanted="$(grep -c '^verdict ' "$here/tests/data/$file")"
     if [ "$number" -eq 0 ] || [ "$number" -ne "$wanted" ]; then
-        failed=$((failed + 1))
-        echo "FAILED  $number cases of $file were run, of $wanted"
+        report "$file" "$number cases were run, of $wanted"
     fi
 }
 
@@ -111,18 +109,14 @@ short_acts() {
 # run_long_journal NAME SECONDS LINE FILE WORDS..: the auditor says this line of the journal within these seconds, or
 # within PATIENCE times as many on a slow machine.
 run_long_journal() {
-    local name="$1" limit=$(($2 * ${PATIENCE:-1})) line="$3" file="$4" said begun ended
+    local name="$1" limit=$(($2 * ${PATIENCE:-1})) line="$3" file="$4" said begun took problem=''
     shift 4
     begun="$(date +%s%N)"
     said="$(timeout "$limit" "$program" "$file" "$@")"
-    ended="$(date +%s%N)"
-    if [ "$said" = "$line" ]; then
-        passed=$((passed + 1))
-        echo "$name in $(((ended - begun) / 1000000)) ms"
-    else
-        failed=$((failed + 1))
-        echo "FAILED  $name: '$said' after $(((ended - begun) / 1000000)) ms"
-    fi
+    took=$((($(date +%s%N) - begun) / 1000000))
+    [ "$said" = "$line" ] || problem="'$said' after $took ms"
+    report "$name" "$problem"
+    [ -n "$problem" ] || echo "$name in $took ms"
 }
 
 run_cases journals.txt
@@ -156,19 +150,11 @@ expect "a file that isn't there" '' 3 "$scratch/missing" "${relay[@]}"
 expect "a folder" '' 3 "$scratch" "${relay[@]}"
 
 said="$("$program" 2>"$scratch/usage")"
-if [ $? -eq 3 ] && [ -z "$said" ] && [[ "$(<"$scratch/usage")" == usage:* ]]; then
-    passed=$((passed + 1))
-else
-    failed=$((failed + 1))
-    echo "FAILED  no arguments"
-fi
+problem="$(ended_with 3 $?)"
+[ -z "$said" ] && [[ "$(<"$scratch/usage")" == usage:* ]] || problem="said $said$(<"$scratch/usage")"
+report "no arguments" "$problem"
 "$program" "$scratch/empty" "${relay[@]}" >/dev/full
-if [ $? -eq 3 ]; then
-    passed=$((passed + 1))
-else
-    failed=$((failed + 1))
-    echo "FAILED  a full device"
-fi
+report "a full device" "$(ended_with 3 $?)"
 
 echo "$passed passed, $failed failed"
 [ "$failed" -eq 0 ]

@@ -23,16 +23,44 @@ use_program() {
     [ -z "${AUDITOR:-}" ] || audit_runs
 }
 
-# report NAME PROBLEM: a case passed where no problem is named.
+# beside PART..: where PEER names another socat, runs these parts of the same script on it as well, and counts their cases.
+# Cases in which it is meant to do otherwise are left out there.
+beside() {
+    local peer line good bad
+    [ -n "${PEER:-}" ] || return 0
+    peer="$(command -v "$PEER")" || {
+        report "there is a $PEER" "it isn't found"
+        return 0
+    }
+    while IFS= read -r line; do
+        case "$line" in
+            *' passed, '*' failed')
+                read -r good _ bad _ <<<"$line"
+                passed=$((passed + good))
+                failed=$((failed + bad))
+                ;;
+            *) echo "$PEER: $line" ;;
+        esac
+    done < <(PEER='' AUDITOR='' "$here/tests/${0##*/}" "$peer" "$@" 2>&1)
+}
+
+# report NAME PROBLEM: a case passed where no problem is named. Where `quiet` is set only what fails is printed.
+quiet=''
 report() {
     if [ -z "$2" ]; then
         passed=$((passed + 1))
-        echo "ok      $1"
+        [ -n "$quiet" ] || echo "ok      $1"
     else
         failed=$((failed + 1))
         echo "FAILED  $1: $2"
     fi
 }
+
+# ended_with WANTED STATUS: '' where the statuses are the same, else what is wrong.
+ended_with() { [ "$1" = "$2" ] || echo "status $2, not $1"; }
+
+# report_words PROBLEM WORD..: the same of a case that is named by its words.
+report_words() { report "$(printf '%q ' "${@:2}" | head -c 200)" "$1"; }
 
 # try NAME STATUS INPUT OUTPUT LINE WORD..: runs the program on the input, and looks at its status, its output and its
 # one line on standard error ('' for none). INPUT and OUTPUT are texts for printf '%b'.

@@ -8,6 +8,7 @@ set -u
 
 . "$(dirname "${BASH_SOURCE[0]}")/common.sh"
 use_program "${1:-$here/bin/socat-explain}"
+quiet=yes
 relay="${2:-$here/bin/socat}"
 case "$relay" in
     /*) ;;
@@ -20,18 +21,6 @@ if [ ! -x "$relay" ]; then
 fi
 mkdir "$scratch/empty"
 cd "$scratch/empty" || exit 1
-
-# tell PROBLEM WORD..: a case passed where no problem is named.
-tell() {
-    local problem="$1"
-    shift
-    if [ -z "$problem" ]; then
-        passed=$((passed + 1))
-    else
-        failed=$((failed + 1))
-        printf 'FAILED  %s: %s\n' "$(printf '%q ' "$@" | head -c 200)" "$problem"
-    fi
-}
 
 shopt -s nullglob dotglob
 
@@ -88,11 +77,11 @@ texts() {
         if [ -z "$problem" ] && ! cmp -s "$scratch/report" "$scratch/text"; then
             problem="$(diff "$scratch/text" "$scratch/report" | head -n 5)"
         fi
-        tell "$problem" "${words[@]}"
+        report_words "$problem" "${words[@]}"
         tried=$((tried + 1))
     done <"$1"
     if [ "$tried" -eq 0 ] || [ "$tried" -ne "$(grep -c '^case ' "$1")" ]; then
-        tell "$tried cases were tried" "$1"
+        report "$1" "$tried cases were tried"
     fi
 }
 texts "$here/tests/data/explanations.txt"
@@ -149,7 +138,7 @@ for kind in "${!_socat_groups[@]}"; do
     address="$kind$(parameters "$kind")"
     in_order "$address"
     wants 0 'first address' 'second address' "the other's end: "
-    tell "$problem" "$address"
+    report_words "$problem" "$address"
     # The families of addresses take the same options.
     [[ "$kind" != @(TCP|UDP)[46]* ]] || continue
     for group in ${_socat_groups[$kind]}; do
@@ -157,7 +146,7 @@ for kind in "${!_socat_groups[@]}"; do
             word="$address,$(value "$option")"
             in_order "$word"
             wants 0 "$(told "$option")"
-            tell "$problem" "$word"
+            report_words "$problem" "$word"
         done
     done
 done
@@ -173,7 +162,7 @@ differs() {
     if [ -z "$problem" ] && cmp -s "$scratch/report" "$scratch/off"; then
         problem='the same is said without the option'
     fi
-    tell "$problem" "$on"
+    report_words "$problem" "$on"
 }
 for pair in STDIO,cr STDIO,crnl STDIO,ignoreeof STDIO,readbytes=1 STDIO,escape=1 OPEN:x,shut-none UDP:h:1,null-eof \
     UDP:h:1,shut-null TCP:h:1,shut-close TCP:h:1,shut-none OPEN:x,creat OPEN:x,excl OPEN:x,append OPEN:x,trunc \
@@ -204,7 +193,7 @@ refused() {
             *' word '*) grep -q '^ *^^*$' "$scratch/report" || problem='no word is underlined' ;;
         esac
     fi
-    tell "$problem" "$@"
+    report_words "$problem" "$@"
 }
 
 refusals() {
@@ -250,7 +239,7 @@ names() {
     shift
     explain "$@"
     wants 0 "$shown"
-    tell "$problem" "$@"
+    report_words "$problem" "$@"
 }
 names '"\x1b[2J\x07"' -u $'OPEN:\x1b\\[2J\x07' STDOUT
 names '"\xff\xfe"' -u $'OPEN:\xff\xfe' STDOUT
@@ -262,16 +251,16 @@ names "\"$(long 60000 n)\"" -u "OPEN:$(long 60000 n)" STDOUT
 # --- where nothing can be written
 
 "$program" -u STDIN STDOUT >/dev/full
-[ $? -eq 3 ] && tell '' 'a full device' || tell 'another status' 'a full device'
+report 'a full device' "$(ended_with 3 $?)"
 "$program" -u STDIN STDOUT >&-
-[ $? -eq 3 ] && tell '' 'a closed output' || tell 'another status' 'a closed output'
+report 'a closed output' "$(ended_with 3 $?)"
 "$program" -b >/dev/full
-[ $? -eq 3 ] && tell '' 'a refusal on a full device' || tell 'another status' 'a refusal on a full device'
+report 'a refusal on a full device' "$(ended_with 3 $?)"
 {
     "$program" "$(long 65537 a)" -
     echo "$?" >"$scratch/ended"
 } | head -c 1 >/dev/null
-[ "$(cat "$scratch/ended")" = 3 ] && tell '' 'a reader that closed' || tell "status $(cat "$scratch/ended")" 'a reader that closed'
+report 'a reader that closed' "$(ended_with 3 "$(<"$scratch/ended")")"
 
 echo "$passed passed, $failed failed"
 [ "$failed" -eq 0 ]

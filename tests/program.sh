@@ -4,6 +4,7 @@
 # failed.
 # Usage: tests/program.sh [PROGRAM [PART..]]      (bin/socat where none is given, and all parts)
 # LARGE is the number of bytes that stands for 100 MB, for a program that is slow; RELAYS how many run in a row (300).
+# PEER names another socat, as in PEER=socat, on which the same parts are run afterwards.
 set -u
 RELAYS="${RELAYS:-300}"
 
@@ -90,5 +91,6 @@ for part in "${parts[@]}"; do
 done
 
 judge_runs
+beside "${parts[@]}"
 echo "$passed passed, $failed failed"
 [ "$failed" -eq 0 ]

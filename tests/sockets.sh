@@ -4,6 +4,7 @@
 # at the end; the status is 1 where a case failed.
 # Usage: tests/sockets.sh [PROGRAM [PART..]]      (bin/socat where none is given, and all parts)
 # MANY is the number of short relays in a row (200). On a slow machine PATIENCE is how many times longer all may take.
+# PEER names another socat, as in PEER=socat, on which the same parts are run afterwards.
 set -u
 
 . "$(dirname "${BASH_SOURCE[0]}")/common.sh"
@@ -23,5 +24,6 @@ for part in "${parts[@]}"; do
 done
 
 judge_runs
+beside "${parts[@]}"
 echo "$passed passed, $failed failed"
 [ "$failed" -eq 0 ]

@@ -10,6 +10,7 @@ set -u
 
 . "$(dirname "${BASH_SOURCE[0]}")/common.sh"
 use_program "${1:-$here/bin/socat}"
+quiet=yes
 mkdir "$scratch/empty"
 cd "$scratch/empty" || exit 1
 
@@ -44,12 +45,7 @@ says() {
         problem="something was written to the journal"
     fi
     rm -rf "$scratch/empty"/*
-    if [ -z "$problem" ]; then
-        passed=$((passed + 1))
-    else
-        failed=$((failed + 1))
-        printf 'FAILED  %s: %s\n' "$(printf '%q ' "$@" | head -c 200)" "$problem"
-    fi
+    report_words "$problem" "$@"
 }
 
 # refused LINE WORD..: status 1 and this line.
@@ -75,8 +71,7 @@ cases <"$table"
 # Each case was tried, and none is missing.
 wanted=336
 if [ "$(grep -c '^case ' "$table")" -ne "$wanted" ] || [ "$((passed + failed))" -ne "$wanted" ]; then
-    echo "FAILED  the table: $((passed + failed)) cases tried, want $wanted"
-    failed=$((failed + 1))
+    report "the table" "$((passed + failed)) cases tried, want $wanted"
 fi
 echo "the table: $passed passed, $failed failed"
 

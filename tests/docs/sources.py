@@ -46,11 +46,13 @@ def functions(crate):
     """Every function of the crate, with the clauses that stand between its name and the next function."""
     found = []
     for path in sources(crate):
-        owner, current = "", None
+        owner, current, is_open = "", None, False
         for line in path.read_text().split("\n"):
             block = BLOCK.match(line)
-            if block:
-                owner, current = block.group(2), None
+            if block or is_open:
+                # the head of a block goes on to its brace
+                owner, current = f"{owner} {line.strip()}" if is_open else block.group(2), None
+                is_open = "{" not in line and ";" not in line
                 continue
             start = FUNCTION.match(line)
             if start:

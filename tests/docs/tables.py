@@ -230,7 +230,8 @@ def check_options(page):
 def check_left_out(page):
     text = "\n".join(page["LEFT OUT"]).split(".P\n")
     for part, crate in ((1, "addr_kinds"), (3, "option_table")):
-        have = re.split(r",\s*|\s+", plain(text[part].strip()))
+        lines = [line for line in text[part].split("\n") if line and not line.startswith(".")]
+        have = re.split(r",\s*|\s+", plain(" ".join(lines).strip(", ")))
         compare(f"socat.1, left out of {crate}", have, code_left_out(crate))
 
 

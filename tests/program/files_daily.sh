@@ -7,7 +7,19 @@ daily_pipe() {
     mkfifo files/pipe
 }
 
-daily_reader() { cat files/pipe >files/taken; }
+daily_reader() { exec cat files/pipe >files/taken; }
+
+# until_asleep TAG NAME: waits until the process is that of this program, and sleeps.
+until_asleep() {
+    local last=$((SECONDS + limit))
+    until [[ "$(cat "/proc/${pids[$1]}/stat" 2>/dev/null)" == *"($2) S "* ]]; do
+        if [ "$SECONDS" -gt "$last" ]; then
+            wrong "$2 doesn't wait"
+            return
+        fi
+        nap 0.02
+    done
+}
 
 # fails_left ADDRESS: it can't be opened to be read.
 fails_left() { run 1 '' 'socat: open failed on the left after 1 attempts' -u "$1" STDOUT; }
@@ -68,7 +80,7 @@ begin "nothing for a named pipe: a reader that waits sees the end, 10 in a row"
 for round in {1..10}; do
     daily_pipe
     behind reader daily_reader
-    nap 0.1
+    until_asleep reader cat
     given ''
     run 0 '' '' -u STDIN "$([ $((round % 2)) -eq 0 ] || echo PIPE:)./files/pipe"
     await reader
@@ -113,7 +125,7 @@ if [ -n "$python" ]; then
     begin_own "1000 sessions before a named pipe that nobody reads leave no thread and no descriptor"
     daily_pipe
     given_nothing
-    limit=60
+    limit=$((60 * patience))
     start relay -u TCP4-LISTEN:0,fork OPEN:files/pipe
     crowd '1 came' tcp4 "@${pids[relay]}" 1 leave
     nap 0.3
@@ -221,9 +233,9 @@ finish
 # --- children
 
 if [ -n "$python" ]; then
-    begin_own "children that end while nothing passes don't stay"
+    begin "children that end while nothing passes don't stay"
     given_nothing
-    start relay TCP4-LISTEN:0,fork EXEC:cat
+    start relay -t30 TCP4-LISTEN:0,fork EXEC:cat
     crowd '40 had their own' tcp4 "@${pids[relay]}" 40 echo=1000
     nap 0.5
     left="$(ended_children_of "${pids[relay]}")"
@@ -235,7 +247,7 @@ if [ -n "$python" ]; then
     export SOCAT_PEERADDR=192.0.2.1 SOCAT_PEERPORT=7
     begin_own "a Unix peer's child isn't told of the caller's peer"
     given_nothing
-    start relay UNIX-LISTEN:served "$told_of"
+    start relay -t30 UNIX-LISTEN:served "$told_of"
     peer connect unix served shut read
     ended relay 0 '' ''
     told 1 'none none\n'
@@ -243,7 +255,7 @@ if [ -n "$python" ]; then
 
     begin "a TCP peer's child is told of its own peer"
     given_nothing
-    start relay TCP4-LISTEN:0 "$told_of"
+    start relay -t30 TCP4-LISTEN:0 "$told_of"
     peer connect tcp4 "/@${pids[relay]}" from=127.0.0.2 shut read
     ended relay 0 '' ''
     told 1 "127.0.0.2 $port\n"
@@ -251,7 +263,7 @@ if [ -n "$python" ]; then
 
     begin "a child without a peer has the caller's environment"
     given ''
-    run 0 '192.0.2.1 7\n' '' -t5 STDIO "$told_of"
+    run 0 '192.0.2.1 7\n' '' -t30 STDIO "$told_of"
     finish
     unset SOCAT_PEERADDR SOCAT_PEERPORT
 fi

@@ -1,11 +1,13 @@
 """Runs a relay of standard input to standard output whose streams were set not to wait (O_NONBLOCK) by its parent: sockets,
 named pipes and terminals as standard input, output and error; and terminals that hang up. One line a case: its name, a tab,
-and what went wrong, if anything did.
-Usage: nonblocking.py PROGRAM SCRATCH"""
+and what went wrong, if anything did. socat(1) loses what a standard error that doesn't wait takes late, and a terminal that
+hangs up is a fault there.
+Usage: nonblocking.py PROGRAM SCRATCH [own]     without `own`, of another socat, these cases are left out"""
 
 import fcntl
 import os
 import pty
+import re
 import socket
 import struct
 import subprocess
@@ -16,8 +18,9 @@ import time
 import tty
 
 PROGRAM, SCRATCH = sys.argv[1:3]
+OWN = sys.argv[3:] == ["own"]
 LIMIT = 60
-MANY = b"0123456789abcdef" * 50_000
+MANY = b"0123456789abcdef" * 25_000
 
 
 def end_of_waiting(fd):
@@ -116,17 +119,28 @@ def as_input(kind):
     return problem
 
 
-def wait_until_full(fd):
-    """Waits until something came and for a while no more did: the system takes no more without a reader."""
-    last, since = 0, time.monotonic()
-    until = since + LIMIT
-    while time.monotonic() < until:
+def waiting_in(fd):
+    """How many bytes wait there to be read."""
+    return struct.unpack("i", fcntl.ioctl(fd, termios.FIONREAD, b"\0" * 4))[0]
+
+
+def sleeps(process):
+    """Whether each of its threads sleeps, and none only waits for a processor (proc(5))."""
+    try:
+        tasks = os.listdir(f"/proc/{process.pid}/task")
+        states = [open(f"/proc/{process.pid}/task/{task}/stat").read() for task in tasks]
+    except OSError:
+        return False
+    return all(state.rpartition(") ")[2].startswith("S") for state in states)
+
+
+def wait_until_stuck(process, feeder, fd):
+    """Waits until the program has ended, or sleeps and takes no more: what it writes to is full, and nobody reads."""
+    looks, until = 0, time.monotonic() + LIMIT
+    while looks < 5 and process.poll() is None and time.monotonic() < until:
         time.sleep(0.05)
-        count = struct.unpack("i", fcntl.ioctl(fd, termios.FIONREAD, b"\0" * 4))[0]
-        if count != last:
-            last, since = count, time.monotonic()
-        elif count > 0 and time.monotonic() - since > 1:
-            return
+        fed = not feeder.is_alive() or waiting_in(process.stdin.fileno()) > 0
+        looks = looks + 1 if fed and waiting_in(fd) > 0 and sleeps(process) else 0
 
 
 def written(process, ours, theirs, whole):
@@ -143,7 +157,7 @@ def written(process, ours, theirs, whole):
 
     feeder = threading.Thread(target=feed)
     feeder.start()
-    wait_until_full(ours)
+    wait_until_stuck(process, feeder, ours)
     got = taken(ours)
     feeder.join()
     if not problem and not whole(got):
@@ -169,12 +183,13 @@ def plain_pipe():
     return reading, end_of_waiting(writing)
 
 
+# The head of a dump; that of socat(1) has the time, too.
+HEAD = re.compile(rb"> (?:\S+ \S+ +)?length=\d+ from=\d+ to=\d+\n")
+
+
 def dumped(text):
-    """What dumps as text show of bytes without line ends: the lines that are no heads."""
-    shown = b""
-    for part in text.split(b"> length=")[1:]:
-        shown += part.split(b"\n", 1)[1].rstrip(b"\n")
-    return shown
+    """What dumps as text show of bytes without line ends: what stands between the heads."""
+    return b"".join(part.rstrip(b"\n") for part in HEAD.split(text))
 
 
 def hung_up():
@@ -191,15 +206,16 @@ def hung_up():
 
 
 def main():
-    cases = []
+    both, own = [], []
     for kind in ("socket", "named pipe", "terminal"):
-        cases.append((f"a {kind} as the input, set not to wait", as_input, kind))
-        cases.append((f"a {kind} as the output, set not to wait", as_output, kind))
-        cases.append((f"a {kind} for dumps, set not to wait", as_errors, kind))
-    cases.append(("a full pipe for dumps, set not to wait", as_errors, "pipe"))
-    for name, case, kind in cases:
-        print(f"{name}\t{case(kind)}", flush=True)
-    print(f"a terminal that hangs up is the end\t{hung_up()}", flush=True)
+        both.append((f"a {kind} as the input, set not to wait", as_input, kind))
+        both.append((f"a {kind} as the output, set not to wait", as_output, kind))
+        own.append((f"a {kind} for dumps, set not to wait", as_errors, kind))
+    own.append(("a full pipe for dumps, set not to wait", as_errors, "pipe"))
+    own.append(("a terminal that hangs up is the end", hung_up))
+    for name, case, *kind in both + own:
+        left_out = not OWN and (name, case, *kind) in own
+        print(f"{name}\t{'left out' if left_out else case(*kind)}", flush=True)
 
 
 main()

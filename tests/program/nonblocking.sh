@@ -4,8 +4,12 @@
 if [ -n "$python" ]; then
     mkdir "$scratch/nonblocking"
     while IFS=$'\t' read -r name problem; do
-        report "$name" "$problem"
-    done < <("$python" -ES -B "$here/tests/program/nonblocking.py" "$program" "$scratch/nonblocking" 2>&1)
+        if [ "$problem" = 'left out' ]; then
+            echo "left out: $name"
+        else
+            report "$name" "$problem"
+        fi
+    done < <("$python" -ES -B "$here/tests/program/nonblocking.py" "$program" "$scratch/nonblocking" ${own:+own} 2>&1)
 else
     echo "skipped streams that are set not to wait: there is no python3"
 fi

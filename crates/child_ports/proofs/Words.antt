@@ -1,9 +1,10 @@
 -- Words that are taken one after another.
-use Rattle.std.proofs.Common.{◌≡◌, ℕ, ◌+◌, List, [], ◌∷◌, ◌++◌, take, ap, sym, ◌∙◌}
-use Rattle.std.specs.Prelude.{Option, None, Some, slice_get, codes}
+use Rattle.std.proofs.Common.{◌≡◌, ℕ, ◌+◌, List, [], ◌∷◌, ◌++◌, take, refl, ap, sym, subst, ◌∙◌}
+use Rattle.std.specs.Prelude.{Option, None, Some, slice_get, codes, IsSomeAnd, IsUtf8, MatchOption}
 use Rattle.std.specs.declared.process.command.Command.{Command}
 use Rattle.std.specs.Process.{command_program, command_args, SameProgramAndArgs, SameEnv}
-use Rattle.child_ports.specs.Commands.{RunsWords, Runs, TellsTexts, AddsArgument}
+use Rattle.child_ports.specs.Commands.{RunsWords, Runs, TellsTexts, AddsArgument, shell_words}
+use Rattle.child_ports.specs.Programs.{IsWordless, unreadable}
 use Rattle.std.proofs.lemmas.Option.{slice_get_within, get_or_from_slice_get}
 use Rattle.std.proofs.lemmas.List.{take_more}
 
@@ -62,3 +63,20 @@ runs_on words (Some texts) before now runs same environment =
         silent = λ name other another. environment.1 name ∙ runs.told.silent name other another;
       };
     }
+
+-- a word that isn't UTF-8
+pub unreadable_at : (words : List (List ℕ)) (i : ℕ) (word bytes : List ℕ) → slice_get words i ≡ Some word → bytes ≡ word → ¬ (IsUtf8 bytes) → IsWordless words
+unreadable_at words i word bytes at same bad = unreadable i (subst (λ found. IsSomeAnd found (λ w. ¬ (IsUtf8 w))) (sym at) (subst (λ w. ¬ (IsUtf8 w)) same bad))
+
+-- the text of a shell that isn't UTF-8
+pub unreadable_text : (text bytes : List ℕ) → bytes ≡ text → ¬ (IsUtf8 bytes) → IsWordless (shell_words text)
+unreadable_text text bytes same bad = unreadable_at (shell_words text) 2 text bytes refl same bad
+
+-- there is no command
+pub no_command : {C : Type 0} (found : Option C) (words : List (List ℕ)) (P : C → Type 0) → found ≡ None → MatchOption found (IsWordless words) P → IsWordless words
+no_command None words P is wordless = wordless
+no_command (Some command) words P is made = let x : ⊥ = cc in absurd x
+
+-- there is this command
+pub some_command : {C : Type 0} (found : Option C) (command : C) (Q : Type 0) (P : C → Type 0) → found ≡ Some command → MatchOption found Q P → P command
+some_command found command Q P is made = subst (λ those. MatchOption those Q P) is made

@@ -15,10 +15,14 @@ pub record RunsWords {A : Type 0} (words : List (List ℕ)) (command : Command A
   pub inherits : clears_env command ≡ false
   pub silent : (name : List ℕ) → command_var command name ≡ None
 
+-- the words that run this text in a shell
+abbrev pub shell_words : List ℕ → List (List ℕ)
+shell_words text = codes "/bin/sh" ∷ codes "-c" ∷ text ∷ []
+
 -- the words that an address runs: its own, and the shell with its text
 abbrev pub words_of : Target → List (List ℕ)
 words_of (targets.Exec words) = words
-words_of (targets.System text) = codes "/bin/sh" ∷ codes "-c" ∷ text ∷ []
+words_of (targets.System text) = shell_words text
 words_of _ = []
 
 -- one argument more, and nothing else

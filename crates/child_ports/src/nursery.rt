@@ -22,11 +22,10 @@ impl<P: OpenProcess + Drop> Nursery<P> {
         })
     }
 
-    /// The ward of a child, which comes here where it hasn't ended when its ward is let go.
-    pub fn ward(&self, child: Child<P>) -> Result<Ward<P>, NoMemory> {
-        Ok(Ward {
+    /// Room for the ward of a child that isn't started yet.
+    pub fn empty_ward(&self) -> Result<EmptyWard<P>, NoMemory> {
+        Ok(EmptyWard {
             alloc: self.alloc,
-            child: Some(child),
             left: self.left.clone()?,
         })
     }
@@ -57,6 +56,25 @@ fn end_of<P: OpenProcess>(child: &mut Child<P>) -> ChildEnd {
 
 fn is_running<P: OpenProcess>(child: &mut Child<P>) -> bool {
     end_of(child) == ChildEnd::Running
+}
+
+/// Room for a ward, which is had before its child, so that no started child is lost for want of memory.
+#[derive(Drop)]
+pub struct EmptyWard<P: OpenProcess + Drop> {
+    alloc: Global,
+    left: Rc<Cell<Vec<Child<P>>>, Global>,
+}
+
+impl<P: OpenProcess + Drop> EmptyWard<P> {
+    /// The ward of a child, which goes to the nursery where it hasn't ended when its ward is let go.
+    pub fn with(self, child: Child<P>) -> Ward<P> {
+        let EmptyWard { alloc, left } = self;
+        Ward {
+            alloc,
+            child: Some(child),
+            left,
+        }
+    }
 }
 
 /// A child and where it goes if it outlives its port.

@@ -1,35 +1,35 @@
 // Starting a program.
-ghost use Rattle.std.specs.Prelude.{◌≡◌, ◌∷◌, [], ℕ, List, false, None, Some, IfSome, OnOk, codes};
+ghost use Rattle.std.specs.Prelude.{◌≡◌, false, None, Some, Ok, is_some, IfOk, IfErr, MatchOption, OnOk};
 ghost use Rattle.std.specs.Process.{SameProgramAndArgs, SameEnv, clears_env};
-ghost use Rattle.child_ports.specs.Commands.{RunsWords, Runs, AddsArgument, SetsTexts, TellsTexts, IsCommandOf, words_of, told_texts};
+ghost use Rattle.child_ports.specs.Commands.{RunsWords, AddsArgument, SetsTexts, TellsTexts, IsCommandOf, shell_words, words_of, told_texts};
 ghost use Rattle.port_trait.specs.Made.{IsAtOnce};
 ghost use Rattle.port_trait.specs.declared.makers.Making.TheVariants as makings;
 ghost use Rattle.file_ports.specs.Halves.{AreOf};
 ghost use Rattle.file_ports.specs.Opened.{OnMade};
 ghost use Rattle.socket_ports.specs.Accepting.{IsFresh};
-ghost use Rattle.child_ports.specs.Programs.{runs_program};
+ghost use Rattle.child_ports.specs.Programs.{runs_program, IsWordless, IsUnstarted, Starts};
+ghost use Rattle.file_ports.specs.Access.{reads_by, writes_by};
 
+use crate::calls::ProgramCalls;
 use crate::nursery::Nursery;
 use crate::peers::PeerTexts;
 use crate::port::ChildPort;
-use file_ports::Halves;
 use mio::Registry;
 use port_trait::Making;
 use relay_model::{NoMemory, Part, Peer, Target, Text, Texts};
 use socket_ports::SocketPort;
 use std::alloc::Global;
-use std::fs::Files;
-use std::io::{PipeReader, PipeWriter, pipe};
-use std::process::{Child, Command, Processes, Stdio, SystemProcess};
+use std::io::{PipeReader, PipeWriter};
+use std::process::{Command, Stdio, SystemProcess};
 use std::{io, str};
 
-/// Starts the program of an `EXEC` or the shell of a `SYSTEM` (socat(1)), and has the registry report its pipes under
-/// `key`. The stream that the part doesn't use is this process's own, as is standard error. `Failed` where the address
-/// is none of these, where a text of it isn't UTF-8, and where the system refuses. A program that outlives its port
-/// goes to the nursery.
+/// Starts the program of an `EXEC` or the shell of a `SYSTEM` (socat(1)), once, and has the registry report its pipes
+/// under `key`. The stream that the part doesn't use is this process's own, as is standard error. `Failed` where the
+/// address is none of these, where a text of it isn't UTF-8, and where the system refuses; then nothing was started. A
+/// program that outlives its port goes to the nursery.
 #[tactic(auto, using(crate::proofs::Words::runs_on))]
-pub fn make_child<R: Files + Processes<Started = SystemProcess>>(
-    rt: &R,
+pub fn make_child<C: ProgramCalls>(
+    calls: &mut C,
     alloc: Global,
     registry: &Registry,
     key: usize,
@@ -42,95 +42,75 @@ pub fn make_child<R: Files + Processes<Started = SystemProcess>>(
     ensures halves { OnMade result (λ port. AreOf part port.socket) }
     ensures at_once { IsAtOnce result }
     ensures other { runs_program target.now ≡ false → result ≡ makings.Failed }
+    ensures started { Starts target.now peer result (C.started calls.old) (C.started calls.new) }
+    ensures failed { result ≡ makings.Failed → IsUnstarted (C.refuses calls.old) (C.lacks_pipes calls.old) (C.reports_none calls.old) target.now peer }
 {
     let mut command = match command_for(alloc, target, peer) {
-        Making::Made(command) => command,
-        Making::Later(_) | Making::Failed => return Making::Failed,
-        Making::Memory => return Making::Memory,
+        Ok(Some(command)) => command,
+        Ok(None) => return Making::Failed,
+        Err(NoMemory) => return Making::Memory,
     };
-    let Ok(pipes) = pipe_ends(rt, &mut command, part) else {
+    let Ok(PipeEnds { output, input }) = pipe_ends(&*calls, &mut command, part) else {
         return Making::Failed;
     };
-    let Ok(child) = start(rt, target, peer, &mut command) else {
+    let Some(pipes) = calls.enrolled(registry, key, output, input) else {
         return Making::Failed;
     };
-    let Ok(ward) = nursery.ward(child) else {
+    let Ok(ward) = nursery.empty_ward() else {
         return Making::Memory;
     };
-    match pipes_of(registry, key, part, pipes) {
-        Some(pipes) => Making::Made(ChildPort::new(SocketPort::new(pipes, ()), ward)),
-        None => Making::Failed,
+    match calls.start(&mut command) {
+        Ok(child) => Making::Made(ChildPort::new(SocketPort::new(pipes, ()), ward.with(child))),
+        Err(_) => Making::Failed,
     }
 }
 
-/// Starts the program that the target names, which is told of this peer.
-fn start<R: Processes<Started = SystemProcess>>(
-    rt: &R,
+/// The program with its arguments, which is told of the peer that it serves. `None` where the address names none.
+#[tactic(auto, using(crate::proofs::Words::told_after))]
+fn command_for(
+    alloc: Global,
     target: &Target,
     peer: Option<Peer>,
-    command: &mut Command,
-) -> io::Result<Child<SystemProcess>>
-    requires { IsCommandOf target.now peer command.old }
+) -> Result<Option<Command>, NoMemory>
+    ensures command { IfOk result (λ found. MatchOption found (IsWordless (words_of target.now)) (IsCommandOf target.now peer)) }
+    ensures other { runs_program target.now ≡ false → result ≡ Ok None }
 {
-    command.spawn(rt)
-}
-
-/// The program with its arguments, which is told of the peer that it serves.
-fn command_for(alloc: Global, target: &Target, peer: Option<Peer>) -> Making<Command>
-    ensures command { OnMade result (IsCommandOf target.now peer) }
-    ensures other { runs_program target.now ≡ false → result ≡ makings.Failed }
-{
-    match command_of(alloc, target) {
-        Making::Made(command) => with_peer(alloc, command, peer),
-        Making::Later(_) | Making::Failed => Making::Failed,
-        Making::Memory => Making::Memory,
-    }
-}
-
-/// The same command, which tells of the peer besides.
-#[tactic(auto, using(crate::proofs::Words::told_after))]
-fn with_peer(alloc: Global, mut command: Command, peer: Option<Peer>) -> Making<Command>
-    ensures { (words : List (List ℕ)) → RunsWords words command → OnMade result (Runs words (told_texts peer)) }
-{
-    match set_peer(alloc, &mut command, peer) {
-        Ok(()) => Making::Made(command),
-        Err(NoMemory) => Making::Memory,
-    }
+    let Some(mut command) = command_of(alloc, target)? else {
+        return Ok(None);
+    };
+    set_peer(alloc, &mut command, peer)?;
+    Ok(Some(command))
 }
 
 /// The program and its arguments.
-fn command_of(alloc: Global, target: &Target) -> Making<Command>
-    ensures words { OnMade result (RunsWords (words_of target.now)) }
-    ensures other { runs_program target.now ≡ false → result ≡ makings.Failed }
+fn command_of(alloc: Global, target: &Target) -> Result<Option<Command>, NoMemory>
+    ensures words { IfOk result (λ found. MatchOption found (IsWordless (words_of target.now)) (RunsWords (words_of target.now))) }
+    ensures other { runs_program target.now ≡ false → result ≡ Ok None }
 {
     match target {
         Target::Exec(words) => command_of_words(alloc, words),
         Target::System(text) => shell_command(alloc, text),
-        _ => Making::Failed,
+        _ => Ok(None),
     }
 }
 
-fn command_of_words(alloc: Global, words: &Texts) -> Making<Command>
-    ensures { OnMade result (RunsWords words.now) }
+fn command_of_words(alloc: Global, words: &Texts) -> Result<Option<Command>, NoMemory>
+    ensures { IfOk result (λ found. MatchOption found (IsWordless words.now) (RunsWords words.now)) }
 {
     if words.len() == 0 {
-        return Making::Failed;
+        return Ok(None);
     }
     let Ok(program) = str::from_utf8(words.get(0).as_slice()) else {
-        return Making::Failed;
+        return Ok(None);
     };
-    let Ok(mut command) = Command::new(alloc, program) else {
-        return Making::Memory;
-    };
+    let mut command = Command::new(alloc, program)?;
     for i in 1..words.len() {
         let Ok(word) = str::from_utf8(words.get(i).as_slice()) else {
-            return Making::Failed;
+            return Ok(None);
         };
-        let Ok(()) = add_argument(&mut command, word) else {
-            return Making::Memory;
-        };
+        add_argument(&mut command, word)?;
     }
-    Making::Made(command)
+    Ok(Some(command))
 }
 
 fn add_argument(command: &mut Command, argument: &str) -> Result<(), NoMemory>
@@ -140,22 +120,16 @@ fn add_argument(command: &mut Command, argument: &str) -> Result<(), NoMemory>
     Ok(())
 }
 
-fn shell_command(alloc: Global, text: &Text) -> Making<Command>
-    ensures { OnMade result (RunsWords (codes "/bin/sh" ∷ codes "-c" ∷ text.now ∷ [])) }
+fn shell_command(alloc: Global, text: &Text) -> Result<Option<Command>, NoMemory>
+    ensures { IfOk result (λ found. MatchOption found (IsWordless (shell_words text.now)) (RunsWords (shell_words text.now))) }
 {
     let Ok(text) = str::from_utf8(text.as_slice()) else {
-        return Making::Failed;
+        return Ok(None);
     };
-    let Ok(mut command) = Command::new(alloc, "/bin/sh") else {
-        return Making::Memory;
-    };
-    if add_argument(&mut command, "-c").is_err() {
-        return Making::Memory;
-    }
-    if add_argument(&mut command, text).is_err() {
-        return Making::Memory;
-    }
-    Making::Made(command)
+    let mut command = Command::new(alloc, "/bin/sh")?;
+    add_argument(&mut command, "-c")?;
+    add_argument(&mut command, text)?;
+    Ok(Some(command))
 }
 
 /// Tells the child of the peer that it serves. Of a peer without an address it isn't told that of another.
@@ -196,45 +170,62 @@ struct PipeEnds {
 
 /// Gives the program the other ends of pipes. These are of io::pipe, since the writer of a `Child` keeps SIGPIPE away by
 /// three more system calls for each write, and this process ignores that signal.
-fn pipe_ends<R: Files>(rt: &R, command: &mut Command, part: Part) -> io::Result<PipeEnds>
+fn pipe_ends<C: ProgramCalls>(calls: &C, command: &mut Command, part: Part) -> io::Result<PipeEnds>
     ensures call { OnOk result (SameProgramAndArgs command.old command.new) }
     ensures environment { OnOk result (SameEnv command.old command.new) }
+    ensures ends { IfOk result (λ ends. (is_some ends.output ≡ reads_by part) × (is_some ends.input ≡ writes_by part)) }
+    ensures none { IfErr result (λ _. C.lacks_pipes calls.now) }
 {
-    let mut ends = PipeEnds {
-        output: None,
-        input: None,
-    };
-    if part == Part::Reading {
-        command.stdin(Stdio::inherit());
-    } else {
-        let (theirs, ours) = pipe(rt)?;
-        command.stdin(Stdio::from(theirs));
-        ends.input = Some(ours);
-    }
-    if part == Part::Writing {
-        command.stdout(Stdio::inherit());
-    } else {
-        let (ours, theirs) = pipe(rt)?;
-        command.stdout(Stdio::from(theirs));
-        ends.output = Some(ours);
-    }
+    let input = input_for(calls, command, part)?;
+    let output = output_of(calls, command, part)?;
     command.stderr(Stdio::inherit());
-    Ok(ends)
+    Ok(PipeEnds { output, input })
 }
 
-/// The pipes of the part's halves. `None` where one isn't there or can't be reported.
-fn pipes_of(
-    registry: &Registry,
-    key: usize,
+/// What the program reads from is written here, where the part writes.
+fn input_for<C: ProgramCalls>(
+    calls: &C,
+    command: &mut Command,
     part: Part,
-    pipes: PipeEnds,
-) -> Option<Halves<PipeReader, PipeWriter>>
-    ensures { IfSome result (AreOf part) }
+) -> io::Result<Option<PipeWriter>>
+    ensures call { OnOk result (SameProgramAndArgs command.old command.new) }
+    ensures environment { OnOk result (SameEnv command.old command.new) }
+    ensures end { IfOk result (λ input. is_some input ≡ writes_by part) }
+    ensures none { IfErr result (λ _. C.lacks_pipes calls.now) }
 {
-    let PipeEnds { output, input } = pipes;
     match part {
-        Part::Reading => Halves::enrolled(registry, key, Some(output?), None),
-        Part::Writing => Halves::enrolled(registry, key, None, Some(input?)),
-        Part::Both => Halves::enrolled(registry, key, Some(output?), Some(input?)),
+        Part::Reading => {
+            command.stdin(Stdio::inherit());
+            Ok(None)
+        }
+        Part::Writing | Part::Both => {
+            let (theirs, ours) = calls.pipe()?;
+            command.stdin(Stdio::from(theirs));
+            Ok(Some(ours))
+        }
+    }
+}
+
+/// What the program writes is read here, where the part reads.
+fn output_of<C: ProgramCalls>(
+    calls: &C,
+    command: &mut Command,
+    part: Part,
+) -> io::Result<Option<PipeReader>>
+    ensures call { OnOk result (SameProgramAndArgs command.old command.new) }
+    ensures environment { OnOk result (SameEnv command.old command.new) }
+    ensures end { IfOk result (λ output. is_some output ≡ reads_by part) }
+    ensures none { IfErr result (λ _. C.lacks_pipes calls.now) }
+{
+    match part {
+        Part::Writing => {
+            command.stdout(Stdio::inherit());
+            Ok(None)
+        }
+        Part::Reading | Part::Both => {
+            let (ours, theirs) = calls.pipe()?;
+            command.stdout(Stdio::from(theirs));
+            Ok(Some(ours))
+        }
     }
 }

@@ -1,7 +1,7 @@
 -- What each call of a desk makes of what follows its history.
 use Rattle.std.proofs.Common.{◌≡◌, ◌||◌, ◌&&◌, not, cond, ℕ, Bool, true, false, List, [], ◌∷◌, ◌++◌, length, take, Option, None, Some, IfSome, is_some, option_map, refl, sym, ap, subst, ◌∙◌}
 use Rattle.std.specs.Coded.{coded_ℕ, coded_bool, coded_list, Unit-prop}
-use Rattle.std.proofs.Math.Logic.{∥∥₁_elim}
+use Rattle.std.proofs.Math.Logic.{∥∥₁_elim, ∥∥₁_map}
 use base.Stored.{Coded-set}
 use Rattle.relay_model.specs.declared.acts.Act.{Act}
 use Rattle.relay_model.specs.declared.acts.Act.TheVariants as acts
@@ -49,7 +49,7 @@ use Rattle.desk_places.proofs.PlaceLemmas.{same_place-eq}
 use Rattle.desk_places.proofs.StationLemmas.{found_none, free_station}
 use Rattle.port_desk.specs.Records.{NotedSo, are_none, has_no_acts}
 use Rattle.port_desk.specs.Calls.{ReadsSo, SendsSo, ShutsSo, WritesSo}
-use Rattle.desk_history.specs.Following.{AllOwn, AreElsewhere, Follows, FollowsTold, IsElsewhere, IsUnused, Passed, are_noted, errors_written, input_ended, input_read, output_written, reads_input, stream_of, writes_errors, writes_output}
+use Rattle.desk_history.specs.Following.{AllOwn, AreElsewhere, Follows, FollowsTold, IsElsewhere, IsUnused, Passed, PassedBy, PassedTold, Start, StartsInStep, are_noted, errors_written, input_ended, input_read, output_written, reads_input, stream_of, writes_errors, writes_output}
 use Rattle.desk_history.proofs.FollowSteps.{Goes, IsStill, Stands, acted, asked, ended_of, found, gave_of, grown_sum, kept_over, kept_sum, kept_told, nothing, on_slot, own_reads, own_said, own_writes, quiet, stands_comes, stands_leaves, stands_same, still_follows, took_of, unmapped}
 
 -- ---- a read
@@ -661,22 +661,30 @@ close_follows place why told told' held held' base base' input input' output out
 nowhere : (own : Place → Single) (base : Place → Option Base) → ((p : Place) → base p ≡ None) → Stands own base
 nowhere own base none p = subst (λ slot. IfSome slot (λ b. StandsFor (stream_of own p) (Some b))) (sym (none p)) tt
 
-start_at : (own : Place → Single) (past : List Act) (base : Place → Option Base) (gave took said : Option (List ℕ)) (over : Bool) → past ≡ [] → ((p : Place) → base p ≡ None) → IfSome gave (λ all. all ≡ []) → IfSome took (λ all. all ≡ []) → IfSome said (λ all. all ≡ []) → Follows own past base gave took said over
-start_at own past base gave took said over none free given taken silent =
-    subst (λ xs. Follows own xs base gave took said over) (sym none) (record { stands = nowhere own base free; given = given; taken = taken; told = λ whole. silent; over = λ is. absurd cc })
+-- where nothing is held, what was passed follows what is told
+pub starts : (told : Option History) (base : Place → Option Base) (gave took said : Option (List ℕ)) (over : Bool) → ((p : Place) → base p ≡ None) → PassedTold told gave took said over → FollowsTold told base gave took said over
+starts None base gave took said over free passed = tt
+starts (Some h) base gave took said over free passed = λ own all elsewhere.
+    let by = passed own all elsewhere in
+    record { stands = nowhere own base free; given = by.given; taken = by.taken; told = by.told; over = by.over }
+
+-- a desk that starts like this
+pub starts_from : (start : Start) (told : Option History) (base : Place → Option Base) (gave took said : Option (List ℕ)) (over : Bool) → start ≡ record { told = told; gave = gave; took = took; said = said; ended = over } → ((p : Place) → base p ≡ None) → StartsInStep start → FollowsTold told base gave took said over
+starts_from start told base gave took said over is free passed = starts told base gave took said over free (subst StartsInStep is passed)
+
+-- streams that passed no bytes have passed what a history without acts tells
+pub unused_passed : (history : History) (gave took said : Option (List ℕ)) (over : Bool) → history.acts ≡ [] → IsUnused gave took said → Passed history gave took said over
+unused_passed history gave took said over none unused = λ own all elsewhere.
+    subst (λ xs. PassedBy own xs gave took said over) (sym none) (record { given = unused.given; taken = unused.taken; told = λ whole. unused.silent; over = λ is. absurd cc })
 
 empty : (past : List Act) → are_none past ≡ true → past ≡ []
 empty [] e = refl
 empty (act ∷ past) e = absurd cc
 
-no_acts : (acted : Bool) (acts : List Act) → acted ≡ false → (acted || are_none acts) ≡ true → are_none acts ≡ true
-no_acts true acts untouched none = absurd cc
-no_acts false acts untouched none = none
-
--- a history without acts, where nothing is held and no bytes were passed
-pub starts : (acted : Bool) (told : Option History) (base : Place → Option Base) (gave took said : Option (List ℕ)) (over : Bool) → (acted || has_no_acts told) ≡ true → ((p : Place) → base p ≡ None) → IfSome told (λ _. IsUnused acted gave took said) → FollowsTold told base gave took said over
-starts acted None base gave took said over unacted free unused = tt
-starts acted (Some h) base gave took said over unacted free unused = λ own all elsewhere. start_at own h.acts base gave took said over (empty h.acts (no_acts acted h.acts unused.untouched unacted)) free unused.given unused.taken unused.silent
+-- a desk that made no act tells none
+pub no_acts : (acted : Bool) (told : Option History) (history : History) → acted ≡ false → (acted || has_no_acts told) ≡ true → told ≡ Some history → history.acts ≡ []
+no_acts true told history untouched unacted is = absurd cc
+no_acts false told history untouched unacted is = empty history.acts (subst (λ slot. has_no_acts slot ≡ true) is unacted)
 
 -- what isn't held stands on nothing
 pub unbased : (xs : List Station) → ((p : Place) → hold_at xs p ≡ Free) → (p : Place) → base_at xs p ≡ None
@@ -689,11 +697,15 @@ sum_prop None x = Unit-prop
 sum_prop (Some a) x = Coded-set (coded_list coded_ℕ) a x
 
 -- what follows a history to its end
-pub passed : (told : Option History) (base : Place → Option Base) (gave took said : Option (List ℕ)) (over : Bool) → ∥ FollowsTold told base gave took said over ∥₁ → IfSome told (λ h. Passed h gave took said over)
-passed None base gave took said over follows = tt
-passed (Some h) base gave took said over follows = λ own all elsewhere. record {
+pub passed_by : (told : Option History) (base : Place → Option Base) (gave took said : Option (List ℕ)) (over : Bool) → ∥ FollowsTold told base gave took said over ∥₁ → IfSome told (λ h. Passed h gave took said over)
+passed_by None base gave took said over follows = tt
+passed_by (Some h) base gave took said over follows = λ own all elsewhere. record {
   given = ∥∥₁_elim follows (sum_prop gave (input_read own h.acts)) (λ f. (f own all elsewhere).given);
   taken = ∥∥₁_elim follows (sum_prop took (output_written own h.acts)) (λ f. (f own all elsewhere).taken);
   told = λ whole. ∥∥₁_elim follows (sum_prop said (errors_written own h.acts)) (λ f. (f own all elsewhere).told whole);
   over = λ is. ∥∥₁_elim follows (Coded-set coded_bool over true) (λ f. (f own all elsewhere).over is);
 }
+
+-- the same of a desk that was followed from this start on
+pub passed_since : (start : Start) (told : Option History) (base : Place → Option Base) (gave took said : Option (List ℕ)) (over : Bool) → ∥ (StartsInStep start → FollowsTold told base gave took said over) ∥₁ → StartsInStep start → IfSome told (λ h. Passed h gave took said over)
+passed_since start told base gave took said over follows at = passed_by told base gave took said over (∥∥₁_map follows (λ f. f at))

@@ -108,9 +108,8 @@ abbrev pub FollowsTold : Option History → (Place → Option Base) → Option (
 FollowsTold None base gave took said ended = ⊤
 FollowsTold (Some history) base gave took said ended = (own : Place → Single) → AllOwn own history.asked → AreElsewhere own history.acts → Follows own history.acts base gave took said ended
 
--- nothing was done yet, and the standard streams have passed no bytes
-pub record IsUnused (acted : Bool) (gave took said : Option (List ℕ)) : Type 0 where
-  pub untouched : acted ≡ false
+-- the standard streams have passed no bytes
+pub record IsUnused (gave took said : Option (List ℕ)) : Type 0 where
   pub given : IfSome gave (λ all. all ≡ [])
   pub taken : IfSome took (λ all. all ≡ [])
   pub silent : IfSome said (λ all. all ≡ [])
@@ -127,3 +126,20 @@ pub record PassedBy (own : Place → Single) (acts : List Act) (gave took said :
 -- the same of a history, whatever address each place has for its own
 abbrev pub Passed : History → Option (List ℕ) → Option (List ℕ) → Option (List ℕ) → Bool → Type 0
 Passed history gave took said ended = (own : Place → Single) → AllOwn own history.asked → AreElsewhere own history.acts → PassedBy own history.acts gave took said ended
+
+-- the same of a history that is told
+abbrev pub PassedTold : Option History → Option (List ℕ) → Option (List ℕ) → Option (List ℕ) → Bool → Type 0
+PassedTold None gave took said ended = ⊤
+PassedTold (Some history) gave took said ended = Passed history gave took said ended
+
+-- what a desk told, and what its standard streams had passed, where it was first followed
+pub record Start : Type 0 where
+  pub told : Option History
+  pub gave : Option (List ℕ)
+  pub took : Option (List ℕ)
+  pub said : Option (List ℕ)
+  pub ended : Bool
+
+-- the streams had passed what was told
+abbrev pub StartsInStep : Start → Type 0
+StartsInStep start = PassedTold start.told start.gave start.took start.said start.ended

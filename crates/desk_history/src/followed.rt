@@ -1,48 +1,71 @@
 // The calls of a desk, each of which keeps what its standard streams passed in step with what its history tells.
-ghost use Rattle.std.specs.Prelude.{◌≡◌, IfSome};
+ghost use Rattle.std.specs.Prelude.{◌≡◌, IfSome, None, false};
 ghost use Rattle.relay_model.specs.Holding.{Free};
 ghost use Rattle.relay_model.specs.declared.places.Place.{Place as Spot};
 ghost use Rattle.desk_places.specs.Stations.{base_at, hold_at};
-ghost use Rattle.desk_history.specs.Following.{FollowsTold, IsUnused, Passed};
+ghost use Rattle.desk_history.specs.Following.{FollowsTold, Passed, Start, StartsInStep};
 
 use port_desk::Desk;
 use port_trait::{Maker, Poller, Port};
 use relay_model::{Peer, Place, ReadyList, Shut, Single, Why};
+use std::marker::{Brand, PhantomData};
 use world_trait::{
     AcceptAnswer, ListenAnswer, NoteAnswer, OpenAnswer, ReadAnswer, ReapAnswer, SendAnswer,
     ShutAnswer, Turned, World, WriteAnswer,
 };
 
-/// A desk that is followed from its first act on.
-#[derive(Drop)]
-pub struct Followed<M: Maker + Drop, P: Poller + Drop, I: Port, O: Port, E: Port> {
-    desk: Desk<M, P, I, O, E>,
-    ghost follows: { ∥ FollowsTold desk.log.recording.told (base_at desk.log.stations.entries) desk.ports.harbor.input.port.gave desk.ports.harbor.output.port.took desk.ports.harbor.errors.port.took desk.ports.harbor.input.port.ended ∥₁ },
+/// How a desk stood where it was first followed. Each call picks it.
+pub trait Beginning {
+    ghost start: { Start };
 }
 
-impl<M: Maker + Drop, P: Poller + Drop, I: Port, O: Port, E: Port> Followed<M, P, I, O, E> {
-    /// Follows the desk, at which nothing is held. One that tells its history has done nothing yet, and its standard streams
-    /// have passed no bytes.
-    pub fn new(desk: Desk<M, P, I, O, E>) -> Followed<M, P, I, O, E>
+impl Beginning for Brand {
+    ghost start = { record { told = None; gave = None; took = None; said = None; ended = false } };
+}
+
+/// Names the beginning, and holds nothing.
+#[derive(Drop)]
+struct Since<B: Beginning> {
+    of: PhantomData<B>,
+}
+
+/// A desk that is followed from a beginning on. Where its streams had passed then what its history told, they go on to.
+#[derive(Drop)]
+pub struct Followed<M: Maker + Drop, P: Poller + Drop, I: Port, O: Port, E: Port, B: Beginning> {
+    desk: Desk<M, P, I, O, E>,
+    since: Since<B>,
+    ghost follows: { ∥ (StartsInStep B.start → FollowsTold desk.log.recording.told (base_at desk.log.stations.entries) desk.ports.harbor.input.port.gave desk.ports.harbor.output.port.took desk.ports.harbor.errors.port.took desk.ports.harbor.input.port.ended) ∥₁ },
+}
+
+impl<M, P, I: Port, O: Port, E: Port, B: Beginning> Followed<M, P, I, O, E, B>
+where
+    M: Maker + Drop,
+    P: Poller + Drop,
+{
+    /// Follows the desk, at which nothing is held, from here on.
+    pub fn new(desk: Desk<M, P, I, O, E>) -> Followed<M, P, I, O, E, B>
         requires free { (p : Spot) → ⟦<Desk<M, P, I, O, E> as World>⟧.held desk p ≡ Free }
-        requires unused { IfSome desk.log.recording.told (λ _. IsUnused desk.log.acted desk.ports.harbor.input.port.gave desk.ports.harbor.output.port.took desk.ports.harbor.errors.port.took) }
+        requires start { B.start ≡ record { told = desk.log.recording.told; gave = desk.ports.harbor.input.port.gave; took = desk.ports.harbor.output.port.took; said = desk.ports.harbor.errors.port.took; ended = desk.ports.harbor.input.port.ended } }
         ensures { result.desk ≡ desk }
     {
-        Followed { desk }
+        Followed {
+            desk,
+            since: Since { of: PhantomData },
+        }
     }
 
     /// The desk again.
     pub fn into_desk(self) -> Desk<M, P, I, O, E>
         ensures desk { result ≡ self.desk }
-        ensures passed { IfSome result.log.recording.told (λ history. Passed history result.ports.harbor.input.port.gave result.ports.harbor.output.port.took result.ports.harbor.errors.port.took result.ports.harbor.input.port.ended) }
+        ensures passed { StartsInStep B.start → IfSome result.log.recording.told (λ history. Passed history result.ports.harbor.input.port.gave result.ports.harbor.output.port.took result.ports.harbor.errors.port.took result.ports.harbor.input.port.ended) }
     {
-        let Followed { desk } = self;
+        let Followed { desk, since: _ } = self;
         desk
     }
 }
 
-impl<M: Maker + Drop, P: Poller + Drop, I: Port, O: Port, E: Port> World
-    for Followed<M, P, I, O, E> {
+impl<M: Maker + Drop, P: Poller + Drop, I: Port, O: Port, E: Port, B: Beginning> World
+    for Followed<M, P, I, O, E, B> {
     ghost told = { λ f. f.desk.log.recording.told };
 
     ghost held = { λ f. hold_at f.desk.log.stations.entries };

@@ -3,4 +3,4 @@
 
 mod followed;
 
-pub use followed::Followed;
+pub use followed::{Beginning, Followed};

@@ -56,7 +56,7 @@ pub fails : (c : Config) (n : ℕ) (start now : Seen) (past : List Act) (answer 
 fails c n start now past answer e h = e.happened.blamed (e.ends.failed h)
 
 pub stops : (c : Config) (n : ℕ) (start now : Seen) (past : List Act) (answer : Outcome) → Ended c n start now past answer → StopCause n start.waits now.waits start.stops now.stops answer
-stops c n start now past answer e = stop_of answer n (turns past) start.waits now.waits start.stops now.stops past e.ends.stopped refl e.happened.stopped e.happened.waited
+stops c n start now past answer e = stop_of answer n start.waits now.waits start.stops now.stops past e.ends.stopped e.happened.stopped (record { least = e.happened.waited; most = e.happened.few_waits })
 
 pub completes : (c : Config) (n : ℕ) (start now : Seen) (past : List Act) (answer : Outcome) → Ended c n start now past answer → Completes n start.faults now.faults start.waits now.waits start.stops now.stops answer
 completes c n start now past answer e = completes_by answer n start.faults now.faults start.waits now.waits start.stops now.stops e.ends.relayed (fails c n start now past answer e) (stops c n start now past answer e)

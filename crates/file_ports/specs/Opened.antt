@@ -1,5 +1,5 @@
 -- What a file is when it was opened.
-use Rattle.std.specs.Prelude.{◌≡◌, ℕ, List, Option, None, Some, true, is_some, IsUtf8, string_bytes, ⊤}
+use Rattle.std.specs.Prelude.{◌≡◌, ◌⊎◌, ℕ, Bool, true, List, [], ◌∷◌, ◌++◌, Option, None, Some, option_map, if◌then◌else◌, IsUtf8, string_bytes, ⊤}
 use Rattle.std.specs.declared.fs.File.{File}
 use Rattle.std.specs.declared.fs.options.OpenOptions.{OpenOptions}
 use Rattle.relay_model.specs.declared.places.Part.{Part}
@@ -9,6 +9,7 @@ use Rattle.relay_model.specs.declared.commands.Target.TheVariants as targets
 use Rattle.relay_model.specs.declared.commands.Single.{Single}
 use Rattle.port_trait.specs.declared.makers.Making.{Making}
 use Rattle.port_trait.specs.declared.makers.Making.TheVariants as makings
+use Rattle.socket_ports.specs.Removals.{IsRemoval}
 use Rattle.file_ports.specs.declared.access.Access.{Access}
 use Rattle.file_ports.specs.declared.access.FileKind.{FileKind}
 use Rattle.file_ports.specs.declared.access.FileKind.TheVariants as kinds
@@ -60,10 +61,29 @@ AreOpened opens empties copies parts.Writing access name (ends.Waiting pipe) = I
 
 -- the address is one of a file whose name is UTF-8, the ends are those of the part, of that name, opened as the kind of
 -- the address and its flags ask, and the entry goes where it is to
-pub record IsOpened {G : Type 0} (opens : OpenOptions → List ℕ → File → Type 0) (empties : File → Type 0) (copies : File → File → Type 0) (single : Single) (part : Part) (ends : FileEnds) (removal : Option G) : Type 0 where
+pub record IsOpened (opens : OpenOptions → List ℕ → File → Type 0) (empties : File → Type 0) (copies : File → File → Type 0) (single : Single) (part : Part) (ends : FileEnds) (removal : Option (List ℕ)) : Type 0 where
   pub named : (file : FileKind × List ℕ) × (file_named single.target ≡ Some file) × IsUtf8 file.1
   pub opened : AreOpened opens empties copies part (access_of named.0.0 single.options.file part) named.0.1 ends
-  pub removed : is_some removal ≡ single.options.entry.unlink_close
+  pub removed : IsRemoval single.options.entry.unlink_close named.0.1 removal
+
+-- the entry that goes with the port is the one that the address names, and goes only where that is asked for
+abbrev pub IsRemovalOf : Single → Option (List ℕ) → Type 0
+IsRemovalOf single removal = (file : FileKind × List ℕ) × (file_named single.target ≡ Some file) × IsRemoval single.options.entry.unlink_close file.1 removal
+
+-- what was asked to be removed: this entry besides, where that is wanted
+abbrev pub Unlinks : Bool → List ℕ → Option (List (List ℕ)) → Option (List (List ℕ)) → Type 0
+Unlinks wanted name before now = now ≡ (if wanted then option_map (λ all. all ++ name ∷ []) before else before)
+
+-- the same of the entry that the address names
+abbrev pub UnlinksNamed : Single → Option (List (List ℕ)) → Option (List (List ℕ)) → Type 0
+UnlinksNamed single before now = (file : FileKind × List ℕ) × (file_named single.target ≡ Some file) × Unlinks single.options.entry.unlink_early file.1 before now
+
+-- an opening removes the entry that its address names, where that is to be done early; one that fails may remove nothing
+abbrev pub UnlinksEntry : {T : Type 0} → Single → Making T → Option (List (List ℕ)) → Option (List (List ℕ)) → Type 0
+UnlinksEntry single (makings.Made made) before now = UnlinksNamed single before now
+UnlinksEntry single (makings.Later made) before now = ⊥
+UnlinksEntry single makings.Failed before now = (now ≡ before) ⊎ UnlinksNamed single before now
+UnlinksEntry single makings.Memory before now = (now ≡ before) ⊎ UnlinksNamed single before now
 
 -- the pipe is the one that the address names, to be opened as its kind and its flags ask
 abbrev pub IsPipeOf : Single → Part → NamedPipe → Type 0

@@ -1,9 +1,10 @@
 // Files are opened by their addresses.
-ghost use Rattle.std.specs.Prelude.{◌≡◌, None, Some, IfSome, IfNone, is_some, IsUtf8};
+ghost use Rattle.std.specs.Prelude.{◌≡◌, None, Some, IfSome, IfNone, IsUtf8};
 ghost use Rattle.std.specs.Fs.{IsValidOptions};
 ghost use Rattle.port_trait.specs.declared.makers.Making.TheVariants as makings;
 ghost use Rattle.file_ports.specs.Access.{access_of, options_of};
-ghost use Rattle.file_ports.specs.Opened.{file_named, OnMade, AreOpened, IsAsked, IsOpened};
+ghost use Rattle.file_ports.specs.Opened.{file_named, OnMade, AreOpened, IsAsked, IsOpened, Unlinks, UnlinksEntry};
+ghost use Rattle.socket_ports.specs.Removals.{IsRemoval};
 
 use crate::access::{Access, FileKind};
 use crate::opening::{FileCalls, open_asked};
@@ -53,12 +54,13 @@ pub struct OpenedFile {
 /// named pipe fails too. It is never `Later`. A named pipe that is used one way is left to be opened. What is asked in
 /// vain makes and removes nothing.
 pub fn open_file<C: FileCalls>(
-    calls: &C,
+    calls: &mut C,
     alloc: Global,
     single: &Single,
     part: Part,
 ) -> Making<OpenedFile>
-    ensures made { OnMade result (λ opened. IsOpened (C.opens calls.now) (C.empties calls.now) (C.copies calls.now) single.now part opened.ends opened.removal) }
+    ensures made { OnMade result (λ opened. IsOpened (C.opens calls.new) (C.empties calls.new) (C.copies calls.new) single.now part opened.ends opened.removal) }
+    ensures unlinked { UnlinksEntry single.now result (C.unlinked calls.old) (C.unlinked calls.new) }
     ensures other { file_named single.now.target ≡ None → result ≡ makings.Failed }
     ensures unnamed { IfSome (file_named single.now.target) (λ file. ¬ (IsUtf8 file.1) → result ≡ makings.Failed) }
     ensures unfit { IfSome (file_named single.now.target) (λ file. ¬ (IsValidOptions (options_of (access_of file.0 single.now.options.file part))) → result ≡ makings.Failed) }
@@ -73,19 +75,26 @@ pub fn open_file<C: FileCalls>(
     let Ok(name) = str::from_utf8(name.as_slice()) else {
         return Making::Failed;
     };
-    if single.options.entry.unlink_early {
-        let _ = calls.remove(name);
-    }
-    match open_ends(calls, alloc, kind, access, name, part) {
+    unlink_early(calls, single, name);
+    match open_ends(&*calls, alloc, kind, access, name, part) {
         Making::Made(ends) => keep_entry(alloc, ends, name, single.options.entry.unlink_close),
         Making::Later(_) | Making::Failed => Making::Failed,
         Making::Memory => Making::Memory,
     }
 }
 
+/// Removes the entry of this name where that is asked for (socat(1), `unlink-early`).
+fn unlink_early<C: FileCalls>(calls: &mut C, single: &Single, name: &str)
+    ensures { Unlinks single.now.options.entry.unlink_early name.now (C.unlinked calls.old) (C.unlinked calls.new) }
+{
+    if single.options.entry.unlink_early {
+        let _ = calls.remove(name);
+    }
+}
+
 /// The opened file, with what removes its entry where that is `wanted`.
 fn keep_entry(alloc: Global, ends: FileEnds, name: &str, wanted: bool) -> Making<OpenedFile>
-    ensures { OnMade result (λ opened. (opened.ends ≡ ends) × (is_some opened.removal ≡ wanted)) }
+    ensures { OnMade result (λ opened. (opened.ends ≡ ends) × IsRemoval wanted name.now opened.removal) }
 {
     match String::from_str(alloc, name) {
         Ok(name) => Making::Made(OpenedFile {

@@ -1,5 +1,5 @@
 // The calls on the file system by which files are opened.
-ghost use Rattle.std.specs.Prelude.{◌≡◌, ℕ, List, ⊤, IfOk, OnOk};
+ghost use Rattle.std.specs.Prelude.{◌≡◌, ◌∷◌, ◌++◌, [], ℕ, List, Option, None, option_map, ⊤, IfOk, OnOk};
 ghost use Rattle.std.specs.declared.fs.File.{File};
 ghost use Rattle.std.specs.declared.fs.options.OpenOptions.{OpenOptions};
 ghost use Rattle.file_ports.specs.Opened.{IsAsked};
@@ -18,6 +18,9 @@ pub trait FileCalls {
     // the second is another descriptor of the first
     ghost copies: { Self → File → File → Type 0 } = { λ _ _ _. ⊤ };
 
+    // the names of the entries that it was asked to remove
+    ghost unlinked: { Self → Option (List (List ℕ)) } = { λ _. None };
+
     /// Opens the file of this name (open(2)).
     fn open_by(&self, options: &OpenOptions, name: &str) -> io::Result<File>
         ensures { IfOk result (opens self.now options.now name.now) };
@@ -34,7 +37,8 @@ pub trait FileCalls {
     fn entry(&self, name: &str) -> io::Result<Metadata>;
 
     /// Removes the entry of this name (unlink(2)).
-    fn remove(&self, name: &str) -> io::Result<()>;
+    fn remove(&mut self, name: &str) -> io::Result<()>
+        ensures { unlinked self.new ≡ option_map (λ all. all ++ name.now ∷ []) (unlinked self.old) };
 }
 
 impl FileCalls for HostRuntime {
@@ -57,7 +61,7 @@ impl FileCalls for HostRuntime {
         self.metadata(name)
     }
 
-    fn remove(&self, name: &str) -> io::Result<()> {
+    fn remove(&mut self, name: &str) -> io::Result<()> {
         self.remove_file(name)
     }
 }

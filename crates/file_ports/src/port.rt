@@ -3,8 +3,9 @@ ghost use Rattle.std.specs.Prelude.{◌≡◌, None};
 ghost use Rattle.port_trait.specs.Made.{IsAtOnce};
 ghost use Rattle.port_trait.specs.declared.makers.Making.TheVariants as makings;
 ghost use Rattle.socket_ports.specs.Accepting.{IsFresh};
+ghost use Rattle.socket_ports.specs.Sockets.{fresh_port};
 ghost use Rattle.file_ports.specs.Halves.{AreOf};
-ghost use Rattle.file_ports.specs.Opened.{file_named, AreEndsOf, OnMade};
+ghost use Rattle.file_ports.specs.Opened.{file_named, AreEndsOf, IsRemovalOf, OnMade};
 ghost use Rattle.file_ports.specs.Streams.{halves_of};
 
 use crate::halves::Halves;
@@ -29,7 +30,7 @@ pub type FilePort = SocketPort<FileStream, Option<Removal>>;
 /// since only a known runtime may go to one.
 pub fn make_file<R>(
     rt: &R,
-    system: HostRuntime,
+    mut system: HostRuntime,
     alloc: Global,
     openings: &mut PipeOpenings,
     key: usize,
@@ -43,16 +44,25 @@ where
     ensures at_once { IsAtOnce result }
     ensures other { file_named single.now.target ≡ None → result ≡ makings.Failed }
 {
-    let OpenedFile { ends, removal } = match open_file(&system, alloc, single, part) {
+    let OpenedFile { ends, removal } = match open_file(&mut system, alloc, single, part) {
         Making::Made(opened) => opened,
         Making::Later(_) | Making::Failed => return Making::Failed,
         Making::Memory => return Making::Memory,
     };
     match stream_of(rt, system, openings, key, single, part, ends) {
-        Making::Made(stream) => Making::Made(SocketPort::new(stream, removal)),
+        Making::Made(stream) => Making::Made(with_entry(stream, single, removal)),
         Making::Later(_) | Making::Failed => Making::Failed,
         Making::Memory => Making::Memory,
     }
+}
+
+/// The port of a file whose entry goes with it where that is asked for.
+fn with_entry(stream: FileStream, single: &Single, removal: Option<Removal>) -> FilePort
+    requires { IsRemovalOf single.now removal }
+    ensures { result ≡ fresh_port stream }
+{
+    let _removed_by = &single.options.entry;
+    SocketPort::new(stream, removal)
 }
 
 /// The file with these ends, which the registry reports.

@@ -6,3 +6,4 @@ pub mod Scripts
 pub mod Stream
 pub mod Summaries
 pub mod Sums
+pub mod Words

@@ -7,6 +7,7 @@ mod numbered_worlds;
 mod runs;
 mod streams;
 mod summaries;
+mod words;
 
 pub use commands::load_command;
 pub use load_worlds::load_world;
@@ -14,3 +15,4 @@ pub use numbered_worlds::NumberedWorld;
 pub use runs::generated_run;
 pub use streams::Generator;
 pub use summaries::Summary;
+pub use words::command_is_of_words;

@@ -6,6 +6,8 @@ use Rattle.std.specs.Net.Addr.{is_ipv4, is_ipv6}
 use Rattle.std.specs.Net.Socket.{socket_ip, socket_port}
 use Rattle.relay_model.specs.declared.commands.Family.{Family}
 use Rattle.relay_model.specs.declared.commands.Family.TheVariants as families
+use Rattle.port_trait.specs.declared.makers.Making.{Making}
+use Rattle.port_trait.specs.declared.makers.Making.TheVariants as makings
 
 -- an IPv4 address
 abbrev pub has_ipv4 : SocketAddr → Bool
@@ -36,3 +38,10 @@ IsOfFamily families.Any addr = Unit {0}
 abbrev pub IsAtPort : ℕ → Option SocketAddr → Option SocketAddr → Type 0
 IsAtPort port None now = now ≡ None
 IsAtPort port (Some found) now = IsSomeAnd now (λ addr. (socket_ip addr ≡ socket_ip found) × (socket_port addr ≡ port))
+
+-- a fact of the lookup that was begun
+abbrev pub OnBegun : {T : Type 0} → Making T → (T → Type 0) → Type 0
+OnBegun (makings.Made lookup) P = P lookup
+OnBegun (makings.Later lookup) P = ⊥
+OnBegun makings.Failed P = Unit {0}
+OnBegun makings.Memory P = Unit {0}

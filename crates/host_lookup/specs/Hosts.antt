@@ -13,12 +13,12 @@ IsBare host bare = (host ≡ 91 ∷ bare ++ 93 ∷ []) ⊎ ((bare ≡ host) × (
 abbrev pub WritesIp : List ℕ → IpAddr → Type 0
 WritesIp host ip = (bare : List ℕ) × IsBare host bare × IsIpText bare ip
 
--- the text writes no address in numbers
-abbrev pub IsNamed : List ℕ → Type 0
-IsNamed host = (bare : List ℕ) × IsBare host bare × ((ip : IpAddr) → ¬ (IsIpText bare ip))
+-- the text is this name, which writes no address in numbers
+abbrev pub IsNameOf : List ℕ → List ℕ → Type 0
+IsNameOf host name = IsBare host name × ((ip : IpAddr) → ¬ (IsIpText name ip))
 
 -- what the text is: an address in numbers, and a name only where it is none
 abbrev pub IsWritten : List ℕ → Written → Type 0
 IsWritten host (writes.Address ip) = WritesIp host ip
-IsWritten host (writes.Name name) = IsBare host name.now × ((ip : IpAddr) → ¬ (IsIpText name.now ip))
+IsWritten host (writes.Name name) = IsNameOf host name.now
 IsWritten host writes.Unnamed = ¬ (IsUtf8 host)

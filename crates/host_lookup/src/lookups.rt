@@ -1,11 +1,14 @@
 // Names are looked up by threads, one for each name, and the loop is woken when one is done.
+ghost use Rattle.std.specs.Prelude.{◌≡◌, true, IfOk, IfSome};
 ghost use Rattle.port_trait.specs.Made.{IsAtOnce};
+ghost use Rattle.host_lookup.specs.Found.{OnBegun};
 
 use crate::hosts::HostAddresses;
 use mio_poller::MioWake;
 use port_trait::{Making, Wake};
 use relay_model::NoMemory;
 use std::alloc::Global;
+use std::marker::Model;
 use std::net::{IpAddr, Ipv4Addr, Net, SocketAddr};
 use std::rt::HostRuntime;
 use std::sync::{Arc, OnceLock};
@@ -27,17 +30,47 @@ pub enum Looked {
     NotFound,
 }
 
+/// A name, and what its lookup has come to once that is told.
+#[derive(Drop)]
+struct Asked {
+    name: String,
+    told: OnceLock<Looked>,
+}
+
 /// A lookup of one name, for all who want it while it is under way. Nobody waits for its thread: one that is still under
 /// way ends with the program.
 #[derive(Drop)]
 pub struct Lookup {
-    told: Arc<OnceLock<Looked>, Global>,
+    asked: Arc<Asked, Global>,
+}
+
+impl Model for Lookup {
+    ghost use Rattle.std.specs.Prelude.{List, ℕ, string_bytes};
+
+    // the name
+    ghost Value = { List ℕ };
+
+    ghost view = { λ lookup. string_bytes lookup.asked.value.name };
 }
 
 impl Lookup {
+    /// A lookup of this name, of which nothing is told yet.
+    fn of(alloc: Global, name: &str) -> Result<Lookup, NoMemory>
+        ensures { IfOk result (λ lookup. lookup ≡ name.now) }
+    {
+        let name = String::from_str(alloc, name)?;
+        let asked = Asked {
+            name,
+            told: OnceLock::new(),
+        };
+        Ok(Lookup {
+            asked: Arc::new(alloc, asked)?,
+        })
+    }
+
     /// What it has come to, without waiting.
     pub fn ask(&self) -> Looked {
-        match self.told.get() {
+        match self.asked.told.get() {
             Some(looked) => *looked,
             None => Looked::UnderWay,
         }
@@ -45,21 +78,28 @@ impl Lookup {
 
     /// Whether it has come to its end.
     pub fn is_over(&self) -> bool {
-        self.told.get().is_some()
+        self.asked.told.get().is_some()
     }
 
-    fn share(&self) -> Result<Lookup, NoMemory> {
+    fn is_of(&self, name: &str) -> bool
+        ensures { result ≡ true → self.now ≡ name.now }
+    {
+        self.asked.name.as_str() == name
+    }
+
+    fn share(&self) -> Result<Lookup, NoMemory>
+        ensures { IfOk result (λ lookup. lookup ≡ self.now) }
+    {
         Ok(Lookup {
-            told: Arc::try_clone(&self.told)?,
+            asked: Arc::try_clone(&self.asked)?,
         })
     }
-}
 
-/// A name with its lookup.
-#[derive(Drop)]
-struct Named {
-    name: String,
-    lookup: Lookup,
+    /// Looks the name up, which waits, and tells what came of it.
+    fn answer<R: Net>(&self, rt: &R) {
+        let looked = look_up(rt, self.asked.name.as_str(), self);
+        let _ = self.asked.told.try_set(looked);
+    }
 }
 
 /// The lookups that are under way.
@@ -68,7 +108,7 @@ pub struct Lookups {
     system: HostRuntime,
     alloc: Global,
     wake: MioWake,
-    named: Vec<Named>,
+    begun: Vec<Lookup>,
 }
 
 impl Lookups {
@@ -78,21 +118,21 @@ impl Lookups {
             system,
             alloc,
             wake,
-            named: Vec::new(alloc),
+            begun: Vec::new(alloc),
         }
     }
 
     /// The lookup of this name that is under way, or else a new one. It answers `Failed` where 16 other names are looked
     /// up already, and where no thread can be made; never `Later`.
     pub fn begin<R: Threads>(&mut self, rt: &R, name: &str) -> Making<Lookup>
-        ensures { IsAtOnce result }
+        ensures at_once { IsAtOnce result }
+        ensures named { OnBegun result (λ lookup. lookup ≡ name.now) }
     {
-        self.named.retain(|named| !named.lookup.is_over());
-        let begun = match self.of_name(name) {
-            Some(lookup) => lookup.share().map(Some),
-            None => self.begin_new(rt, name),
-        };
-        match begun {
+        self.begun.retain(|lookup| !lookup.is_over());
+        if let Some(lookup) = self.of_name(name) {
+            return shared(lookup);
+        }
+        match self.begin_new(rt, name) {
             Ok(Some(lookup)) => Making::Made(lookup),
             Ok(None) => Making::Failed,
             Err(NoMemory) => Making::Memory,
@@ -100,54 +140,60 @@ impl Lookups {
     }
 
     /// The lookup of this name that is under way.
-    fn of_name(&self, name: &str) -> Option<&Lookup> {
-        for named in &self.named {
-            if named.name.as_str() == name {
-                return Some(&named.lookup);
+    fn of_name(&self, name: &str) -> Option<&Lookup>
+        ensures { IfSome result (λ lookup. lookup.now ≡ name.now) }
+    {
+        for lookup in &self.begun {
+            if lookup.is_of(name) {
+                return Some(lookup);
             }
         }
         None
     }
 
     /// Has a thread look the name up. `None` where there are too many, or none can be made.
-    fn begin_new<R: Threads>(&mut self, rt: &R, name: &str) -> Result<Option<Lookup>, NoMemory> {
-        if self.named.len() >= MOST_NAMES {
+    fn begin_new<R: Threads>(&mut self, rt: &R, name: &str) -> Result<Option<Lookup>, NoMemory>
+        ensures { IfOk result (λ begun. IfSome begun (λ lookup. lookup ≡ name.now)) }
+    {
+        if self.begun.len() >= MOST_NAMES {
             return Ok(None);
         }
-        let lookup = Lookup {
-            told: Arc::new(self.alloc, OnceLock::new())?,
-        };
-        let named = Named {
-            name: String::from_str(self.alloc, name)?,
-            lookup: lookup.share()?,
-        };
-        self.named.reserve(1)?;
-        let (asked, told) = (String::from_str(self.alloc, name)?, lookup.share()?);
-        if !launch(rt, self.system, asked, told, self.wake.another()?) {
+        let lookup = Lookup::of(self.alloc, name)?;
+        self.begun.reserve(1)?;
+        let (kept, told) = (lookup.share()?, lookup.share()?);
+        if !launch(rt, self.system, told, self.wake.another()?) {
             return Ok(None);
         }
-        self.named.push(named)?;
+        self.begun.push(kept)?;
         Ok(Some(lookup))
     }
 }
 
+/// Another share of a lookup.
+fn shared(lookup: &Lookup) -> Making<Lookup>
+    ensures at_once { IsAtOnce result }
+    ensures same { OnBegun result (λ shared. shared ≡ lookup.now) }
+{
+    match lookup.share() {
+        Ok(shared) => Making::Made(shared),
+        Err(NoMemory) => Making::Memory,
+    }
+}
+
 /// Starts the thread, whose last act is the wake.
-fn launch<R: Threads>(
-    rt: &R,
-    system: HostRuntime,
-    name: String,
-    lookup: Lookup,
-    wake: MioWake,
-) -> bool {
+fn launch<R: Threads>(rt: &R, system: HostRuntime, lookup: Lookup, wake: MioWake) -> bool {
     let work = move || {
-        let _ = lookup.told.try_set(look_up(&system, name.as_str()));
+        lookup.answer(&system);
         wake.wake();
     };
     thread::spawn(rt, work).is_ok()
 }
 
-/// Waits for the system's resolver.
-fn look_up<R: Net>(rt: &R, name: &str) -> Looked {
+/// Waits for the system's resolver, which is asked for the name of the lookup.
+fn look_up<R: Net>(rt: &R, name: &str, lookup: &Lookup) -> Looked
+    requires { name.now ≡ lookup.now }
+{
+    let _asked_for = lookup;
     let nobody = SocketAddr::new(IpAddr::V4(Ipv4Addr::UNSPECIFIED), 0);
     let mut found = [nobody; MOST_ADDRESSES];
     match rt.lookup_host(name, 0, &mut found) {

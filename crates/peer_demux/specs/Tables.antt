@@ -1,5 +1,5 @@
 -- What contracts see of a table of peers, and what its calls do.
-use Rattle.std.specs.Prelude.{◌≡◌, ◌≢◌, ℕ, ◌+◌, ◌-◌, ◌^◌, ◌<◌, ◌≤◌, Bool, true, false, ◌==◌, ◌&&◌, not, List, [], ◌∷◌, ◌++◌, length, set, take, min, slice_index_or, Option, None, Some, if◌then◌else◌}
+use Rattle.std.specs.Prelude.{◌≡◌, ◌≢◌, ℕ, ◌+◌, ◌-◌, ◌^◌, ◌<◌, ◌≤◌, Bool, true, false, ◌==◌, ◌&&◌, ◌⊎◌, not, List, [], ◌∷◌, ◌++◌, length, set, take, min, slice_index_or, Option, None, Some, if◌then◌else◌}
 use Rattle.std.specs.List.{list_any, remove}
 use Rattle.relay_model.specs.declared.acts.Peer.{Peer}
 use Rattle.relay_model.specs.declared.acts.Peer.TheVariants as peers
@@ -100,12 +100,23 @@ pub record IsRowFull (table : TableState) (from : Peer) (count number place : �
   pub sender : IsSender table from number place
   pub full : is_full (row_at table.rows place) count ≡ true
 
--- why a packet of this sender can't be held; want of memory may come at any time
+-- a new row may be made for this sender
+pub record MayOpen (table : TableState) (from : Peer) : Type 0 where
+  pub unknown : IsUnknown table from
+  pub few : length table.rows < 4096
+  pub fresh : table.made < 2 ^ 32 - 1
+
+-- the row of this sender has room for so many bytes
+pub record MayQueue (table : TableState) (from : Peer) (count number place : ℕ) : Type 0 where
+  pub sender : IsSender table from number place
+  pub room : is_full (row_at table.rows place) count ≡ false
+
+-- why a packet of this sender can't be held; memory may be wanting only for one that would be held otherwise
 abbrev pub IsLoss : TableState → Peer → List ℕ → Lost → Type 0
 IsLoss table from bytes (losses.RowFull number) = (place : ℕ) × IsRowFull table from (length bytes) number place
 IsLoss table from bytes losses.Rows = IsUnknown table from × (4096 ≤ length table.rows)
 IsLoss table from bytes losses.Numbers = IsUnknown table from × (length table.rows < 4096) × (table.made ≡ 2 ^ 32 - 1)
-IsLoss table from bytes losses.Memory = Unit {0}
+IsLoss table from bytes losses.Memory = MayOpen table from ⊎ ((number : ℕ) × (place : ℕ) × MayQueue table from (length bytes) number place)
 
 -- what becomes of a packet
 abbrev pub IsPut : TableState → TableState → Peer → List ℕ → Put → Type 0

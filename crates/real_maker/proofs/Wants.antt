@@ -2,7 +2,6 @@
 use Rattle.std.proofs.Common.{◌≡◌, ℕ, Bool, true, false, List, []}
 use Rattle.tunnel_port.specs.Tunnels.{fresh_tunnel}
 use Rattle.socket_maker.specs.declared.port.HostPort.{HostPort}
-use Rattle.host_lookup.specs.declared.lookups.Lookup.{Lookup}
 use Rattle.real_maker.specs.Asking.{AsksAt}
 use Rattle.real_maker.specs.Wanting.{IsWantedOf}
 use Rattle.real_maker.specs.declared.proxied.Wanted.TheVariants as wants
@@ -12,6 +11,6 @@ pub asks_now : (inner : HostPort) (request : List ℕ) (named : Bool) (host : Li
 asks_now inner request true host port user wanted = wanted
 asks_now inner request false host port user wanted = wanted
 
-pub asks_later : (lookup : Lookup) (wanted : ℕ) (told : List ℕ) (named : Bool) (host : List ℕ) (port : ℕ) (user : List ℕ) → IsWantedOf named host port user (wants.Once lookup wanted told) → AsksAt named host port user (stages.Asking (record { port = wanted; user = told }))
+pub asks_later : (lookup : List ℕ) (wanted : ℕ) (told : List ℕ) (named : Bool) (host : List ℕ) (port : ℕ) (user : List ℕ) → IsWantedOf named host port user (wants.Once lookup wanted told) → AsksAt named host port user (stages.Asking (record { name = lookup; port = wanted; user = told }))
 asks_later lookup wanted told true host port user never = absurd never
 asks_later lookup wanted told false host port user same = same

@@ -1,5 +1,9 @@
 -- What a proxy is asked for.
 use Rattle.std.specs.Prelude.{◌≡◌, ℕ, Bool, true, false, List}
+use Rattle.std.specs.Net.Addr.{ipv4_octets}
+use Rattle.std.specs.declared.net.ip_addr.IpAddr.TheVariants as ips
+use Rattle.std.specs.declared.net.ipv4_addr.Ipv4Addr.{Ipv4Addr}
+use Rattle.host_lookup.specs.Hosts.{IsNameOf, WritesIp}
 use Rattle.relay_model.specs.declared.commands.Options.{Options}
 use Rattle.relay_model.specs.declared.commands.Target.{Target}
 use Rattle.relay_model.specs.declared.commands.Target.TheVariants as targets
@@ -10,17 +14,26 @@ use Rattle.real_maker.specs.declared.socks.SocksStage.TheVariants as stages
 use Rattle.real_maker.specs.declared.ports.RealPort.{RealPort}
 use Rattle.real_maker.specs.declared.ports.RealPort.TheVariants as ports
 
--- the request of SOCKS4 for this port of an address
-abbrev pub IsRequestTo : ℕ → List ℕ → List ℕ → Type 0
-IsRequestTo port user request = (addr : List ℕ) × (request ≡ socks4 addr port user)
+-- the request of SOCKS4 for this port of the address that the text of the host writes in numbers
+abbrev pub IsWrittenRequest : List ℕ → ℕ → List ℕ → List ℕ → Type 0
+IsWrittenRequest host port user request = (ip : Ipv4Addr) × WritesIp host (ips.V4 ip) × (request ≡ socks4 (ipv4_octets ip) port user)
 
--- a SOCKS server is asked for this host and port: SOCKS4A names the host, and SOCKS4 has an address that was looked up
+-- a SOCKS server is asked for this host and port: SOCKS4A names the host, and SOCKS4 has the address that is written or
+-- that the name is looked up for
 abbrev pub AsksAt : Bool → List ℕ → ℕ → List ℕ → SocksStage → Type 0
 AsksAt true host wanted user (stages.Talking port) = port.talk.request ≡ socks4a host wanted user
 AsksAt true host wanted user _ = ⊥
-AsksAt false host wanted user (stages.Talking port) = IsRequestTo wanted user port.talk.request
-AsksAt false host wanted user (stages.Asking asked) = (asked.port ≡ wanted) × (asked.user ≡ user)
+AsksAt false host wanted user (stages.Talking port) = IsWrittenRequest host wanted user port.talk.request
+AsksAt false host wanted user (stages.Asking asked) = IsNameOf host asked.name × (asked.port ≡ wanted) × (asked.user ≡ user)
 AsksAt false host wanted user stages.Over = ⊥
+
+-- once the host is found, the server is asked for these octets, at the port and in the name of the user that are kept; a
+-- user may be too long
+abbrev pub AsksFound : List ℕ → SocksStage → SocksStage → Type 0
+AsksFound octets (stages.Asking asked) (stages.Talking port) = port.talk.request ≡ socks4 octets asked.port asked.user
+AsksFound octets (stages.Asking asked) (stages.Asking other) = ⊥
+AsksFound octets (stages.Asking asked) stages.Over = Unit {0}
+AsksFound octets _ now = Unit {0}
 
 -- the port asks one
 abbrev pub AsksSocks : Bool → List ℕ → ℕ → List ℕ → RealPort → Type 0

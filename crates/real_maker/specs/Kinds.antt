@@ -8,7 +8,7 @@ use Rattle.file_ports.specs.Opened.{file_named}
 use Rattle.child_ports.specs.Programs.{runs_program}
 use Rattle.socket_kinds.specs.Kinds.{Listening}
 use Rattle.socket_maker.specs.Makings.{opened_sort}
-use Rattle.socket_maker.specs.Ports.{is_door_port, sort_at}
+use Rattle.socket_maker.specs.Ports.{is_door_port, is_unix_door_port, sort_at}
 use Rattle.real_maker.specs.declared.ports.RealPort.{RealPort}
 use Rattle.real_maker.specs.declared.ports.RealPort.TheVariants as ports
 
@@ -52,3 +52,8 @@ abbrev pub ComesAt : RealPort → RealPort → Type 0
 ComesAt (ports.Socket door) (ports.Socket port) = (is_door_port door ≡ true) × (is_door_port port ≡ false)
 ComesAt (ports.Peer door) (ports.Peer port) = Unit {0}
 ComesAt _ _ = ⊥
+
+-- the port is a door to which those come that have no address
+abbrev pub is_local_door : RealPort → Bool
+is_local_door (ports.Socket door) = is_unix_door_port door
+is_local_door _ = false

@@ -7,17 +7,19 @@ ghost use Rattle.port_trait.specs.Counting.{Counted};
 ghost use Rattle.port_trait.specs.Made.{making_failed, making_stalled, IsAtOnce, peer_failed, peer_stalled, came_after};
 ghost use Rattle.port_trait.specs.declared.makers.Making.TheVariants as makings;
 ghost use Rattle.port_trait.specs.declared.makers.MadePeer.TheVariants as peers;
-ghost use Rattle.socket_kinds.specs.Accepting.{OnPort, OnPeer};
+ghost use Rattle.relay_model.specs.declared.acts.Peer.TheVariants as whose;
+ghost use Rattle.socket_kinds.specs.Accepting.{OnPort, OnPeer, OnCame};
 ghost use Rattle.socket_kinds.specs.Kinds.{Listening};
 ghost use Rattle.socket_maker.specs.Makings.{opened_sort};
-ghost use Rattle.socket_maker.specs.Ports.{is_door_port, port_sort};
+ghost use Rattle.socket_maker.specs.Ports.{is_door_port, is_unix_door_port, port_sort};
 ghost use Rattle.socket_maker.specs.declared.port.HostPort.{HostPort};
 ghost use Rattle.peer_ports.specs.Ports.{PeerState};
 ghost use Rattle.file_ports.specs.Opened.{OnMade};
+ghost use Rattle.mio_poller.specs.Pollers.{is_reserved};
 ghost use Rattle.real_maker.specs.Made.{lacking_of, is_shared};
 ghost use Rattle.real_maker.specs.Makers.{risen, risen_if, IsFreshMaker, SameBooks};
 ghost use Rattle.real_maker.specs.Asking.{Asks};
-ghost use Rattle.real_maker.specs.Kinds.{IsOpenedFor, IsDoorFor, ComesAt, gathers_senders};
+ghost use Rattle.real_maker.specs.Kinds.{IsOpenedFor, IsDoorFor, ComesAt, is_local_door, gathers_senders};
 ghost use Rattle.real_maker.specs.declared.ports.RealPort.TheVariants as ports;
 
 use crate::kinds::{Kind, kind_of};
@@ -29,7 +31,7 @@ use crate::reserve::Reserve;
 use child_ports::{Nursery, make_child};
 use file_ports::{PipeOpenings, make_file};
 use mio::{Poll, Registry};
-use mio_poller::MioPoller;
+use mio_poller::{MioPoller, is_reserved};
 use peer_ports::{Gathering, PeerPoller, PeerPort};
 use port_trait::{MadePeer, Maker, Making, Port};
 use relay_model::{NoMemory, Part, Peer, Place, Single, Target};
@@ -280,8 +282,9 @@ where
     {
         let (registry, nursery) = (&self.registry, &self.nursery);
         let target = &single.target;
+        let mut system = self.system;
         match make_child(
-            &self.system,
+            &mut system,
             self.alloc,
             registry,
             key,
@@ -370,6 +373,8 @@ where
     fn take_peer(&mut self, door: &mut MadePort, key: usize) -> MadePeer<RealPort>
         ensures same { SameBooks self.old self.new }
         ensures kind { OnPeer (ComesAt door.old.port) result }
+        ensures addressed { is_local_door door.old.port ≡ false → OnCame (λ peer. peer ≢ whose.Local) result }
+        ensures unreserved { OnPeer (λ _. is_reserved key ≡ false) result }
         ensures door { (⟦<RealPort as Port>⟧.gave door.new.port ≡ ⟦<RealPort as Port>⟧.gave door.old.port) × (⟦<RealPort as Port>⟧.took door.new.port ≡ ⟦<RealPort as Port>⟧.took door.old.port) × (⟦<RealPort as Port>⟧.shuts door.new.port ≡ ⟦<RealPort as Port>⟧.shuts door.old.port) }
         ensures kept { result ≢ peers.NoPeer → is_shared door.old.hints ≡ true → self.new.reserve.held + 1 ≡ self.new.reserve.wanted }
         ensures lacking { 0 < lacking_of door.new.hints → result ≡ peers.NoPeer }
@@ -400,13 +405,16 @@ where
         true
     }
 
-    /// Accepts at the door of a socket.
+    /// Accepts at the door of a socket. No port gets a key that is reserved.
     fn accept_at(&mut self, door: &mut RealPort, key: usize) -> MadePeer<RealPort>
         ensures same { self.new ≡ self.old }
         ensures kind { OnPeer (ComesAt door.old) result }
+        ensures addressed { is_local_door door.old ≡ false → OnCame (λ peer. peer ≢ whose.Local) result }
+        ensures unreserved { OnPeer (λ _. is_reserved key ≡ false) result }
         ensures door { (⟦<RealPort as Port>⟧.gave door.new ≡ ⟦<RealPort as Port>⟧.gave door.old) × (⟦<RealPort as Port>⟧.took door.new ≡ ⟦<RealPort as Port>⟧.took door.old) × (⟦<RealPort as Port>⟧.shuts door.new ≡ ⟦<RealPort as Port>⟧.shuts door.old) }
     {
         match door {
+            _ if is_reserved(key) => MadePeer::Failed,
             RealPort::Socket(socket) => peer_of(self.accept_socket(socket, key)),
             RealPort::Peer(door) => gathered(door.accept(key)),
             _ => MadePeer::Failed,
@@ -416,6 +424,7 @@ where
     fn accept_socket(&mut self, socket: &mut OfSocket, key: usize) -> MadePeer<OfSocket>
         ensures same { self.new ≡ self.old }
         ensures no_door { is_door_port socket.old ≡ false → result ≡ peers.Failed }
+        ensures addressed { is_unix_door_port socket.old ≡ false → OnCame (λ peer. peer ≢ whose.Local) result }
         ensures sort { OnPeer (λ port. is_door_port port ≡ false) result }
         ensures door { (⟦<OfSocket as Port>⟧.gave socket.new ≡ ⟦<OfSocket as Port>⟧.gave socket.old) × (⟦<OfSocket as Port>⟧.took socket.new ≡ ⟦<OfSocket as Port>⟧.took socket.old) × (⟦<OfSocket as Port>⟧.shuts socket.new ≡ ⟦<OfSocket as Port>⟧.shuts socket.old) }
     {
@@ -515,7 +524,8 @@ fn of_socket(making: Making<OfSocket>) -> Making<RealPort>
 
 /// A peer's socket as a port of any kind.
 fn peer_of(peer: MadePeer<OfSocket>) -> MadePeer<RealPort>
-    ensures { (door : HostPort) → (is_door_port door ≡ false → peer ≡ peers.Failed) → OnPeer (λ port. is_door_port port ≡ false) peer → OnPeer (ComesAt (ports.Socket door)) result }
+    ensures addressed { OnCame (λ who. who ≢ whose.Local) peer → OnCame (λ who. who ≢ whose.Local) result }
+    ensures kind { (door : HostPort) → (is_door_port door ≡ false → peer ≡ peers.Failed) → OnPeer (λ port. is_door_port port ≡ false) peer → OnPeer (ComesAt (ports.Socket door)) result }
 {
     match peer {
         MadePeer::Came(port, peer) => MadePeer::Came(RealPort::Socket(port), peer),
@@ -527,7 +537,8 @@ fn peer_of(peer: MadePeer<OfSocket>) -> MadePeer<RealPort>
 
 /// A peer of a shared socket as a port of any kind.
 fn gathered(peer: MadePeer<PeerPort>) -> MadePeer<RealPort>
-    ensures { (door : PeerState) → OnPeer (ComesAt (ports.Peer door)) result }
+    ensures addressed { OnCame (λ who. who ≢ whose.Local) peer → OnCame (λ who. who ≢ whose.Local) result }
+    ensures kind { (door : PeerState) → OnPeer (ComesAt (ports.Peer door)) result }
 {
     match peer {
         MadePeer::Came(port, peer) => MadePeer::Came(RealPort::Peer(port), peer),
@@ -557,10 +568,15 @@ where
         behind: Option<Peer>,
     ) -> Making<MadePort>
         ensures kind { OnPort (λ made. IsOpenedFor single.now.target made.port) result }
+        ensures unreserved { OnPort (λ _. is_reserved key ≡ false) result }
         ensures came { self.new.came ≡ self.old.came }
         ensures faults { Counted (making_failed result) self.old.faults self.new.faults }
         ensures stalls { Counted (making_stalled result) self.old.stalls self.new.stalls }
     {
+        if is_reserved(key) {
+            self.count_fault();
+            return Making::Failed;
+        }
         let opened = self.open(key, place, single, behind);
         let making = self.made_opening(opened);
         self.count_making(&making);
@@ -570,11 +586,16 @@ where
     fn listen(&mut self, key: usize, single: &Single) -> Making<MadePort>
         ensures kind { OnPort (λ made. IsDoorFor single.now made.port) result }
         ensures shared { OnPort (λ made. is_shared made.hints ≡ single.now.options.sessions.fork) result }
+        ensures unreserved { OnPort (λ _. is_reserved key ≡ false) result }
         ensures at_once { IsAtOnce result }
         ensures came { self.new.came ≡ self.old.came }
         ensures faults { Counted (making_failed result) self.old.faults self.new.faults }
         ensures stalls { Counted (making_stalled result) self.old.stalls self.new.stalls }
     {
+        if is_reserved(key) {
+            self.count_fault();
+            return Making::Failed;
+        }
         let opened = self.open_door(key, single);
         let making = self.made_door(opened, single.options.sessions.fork);
         self.count_making(&making);
@@ -583,6 +604,8 @@ where
 
     fn accept(&mut self, door: &mut MadePort, key: usize) -> MadePeer<MadePort>
         ensures kind { OnPeer (λ made. ComesAt door.old.port made.port) result }
+        ensures addressed { is_local_door door.old.port ≡ false → OnCame (λ peer. peer ≢ whose.Local) result }
+        ensures unreserved { OnPeer (λ _. is_reserved key ≡ false) result }
         ensures door { (⟦<MadePort as Port>⟧.gave door.new ≡ ⟦<MadePort as Port>⟧.gave door.old) × (⟦<MadePort as Port>⟧.took door.new ≡ ⟦<MadePort as Port>⟧.took door.old) }
         ensures unshut { ⟦<MadePort as Port>⟧.shuts door.new ≡ ⟦<MadePort as Port>⟧.shuts door.old }
         ensures kept { result ≢ peers.NoPeer → is_shared door.old.hints ≡ true → self.new.reserve.held + 1 ≡ self.new.reserve.wanted }

@@ -1,9 +1,11 @@
 // Connections through a proxy.
-ghost use Rattle.std.specs.Prelude.{◌≡◌, ℕ, Bool, List, true, IfSome};
+ghost use Rattle.std.specs.Prelude.{◌≡◌, ℕ, Bool, List, false, true};
 ghost use Rattle.relay_model.specs.declared.commands.Target.{Target};
 ghost use Rattle.socket_kinds.specs.Accepting.{OnPort};
-ghost use Rattle.real_maker.specs.Asking.{IsRequestTo, AsksAt, AsksSocks, AsksProxy};
-ghost use Rattle.real_maker.specs.Wanting.{IsWantedLater, IsWantedOf};
+ghost use Rattle.real_maker.specs.Asking.{IsWrittenRequest, AsksAt, AsksSocks, AsksProxy};
+ghost use Rattle.real_maker.specs.Wanting.{IsWantedOf};
+ghost use Rattle.host_lookup.specs.Hosts.{IsNameOf, WritesIp};
+ghost use Rattle.std.specs.declared.net.ip_addr.IpAddr.TheVariants as ips;
 ghost use Rattle.real_maker.specs.Kinds.{IsOpenedFor, is_proxy, is_socks};
 
 use crate::opening::OfSocket;
@@ -17,7 +19,7 @@ use socket_maker::SocketMaker;
 use socks_port::{Request, SocksPort, request4a};
 use std::alloc::Global;
 use std::fs::Files;
-use std::net::{IpAddr, Net};
+use std::net::{IpAddr, Ipv4Addr, Net};
 use std::thread::Threads;
 use std::time::Clock;
 
@@ -86,35 +88,38 @@ where
         return Making::Made(Wanted::Now(request4a(host.as_slice(), port, user.as_slice())));
     }
     match written_host(host) {
-        Written::Address(IpAddr::V4(ip)) => requested(request_to(
-            ip.octets(),
-            port,
-            user.as_slice(),
-        )),
+        Written::Address(IpAddr::V4(ip)) => wanted_now(host, ip, port, user),
         Written::Address(IpAddr::V6(_)) | Written::Unnamed => Making::Failed,
-        Written::Name(name) => wanted_once(sockets, name, port, user),
+        Written::Name(name) => wanted_once(sockets, host, name, port, user),
     }
 }
 
-fn requested(request: Option<Request>) -> Making<Wanted>
-    ensures { (port : ℕ) (user : List ℕ) → IfSome request (IsRequestTo port user) → OnPort (IsWantedLater port user) result }
+/// The request for the address that the text of the host writes.
+fn wanted_now(host: &Text, ip: Ipv4Addr, port: u16, user: &Text) -> Making<Wanted>
+    requires { WritesIp host.now (ips.V4 ip) }
+    ensures { OnPort (IsWantedOf false host.now port user.now) result }
 {
-    match request {
+    let _written_by = host;
+    match request_to(ip.octets(), port, user.as_slice()) {
         Some(request) => Making::Made(Wanted::Now(request)),
         None => Making::Failed,
     }
 }
 
+/// The lookup of the name that the text of the host is.
 fn wanted_once<R>(
     sockets: &mut SocketMaker<R>,
+    host: &Text,
     name: &str,
     port: u16,
     user: &Text,
 ) -> Making<Wanted>
 where
     R: Net + Clock + Files + Threads + Copy + Drop,
-    ensures { OnPort (IsWantedLater port user.now) result }
+    requires { IsNameOf host.now name.now }
+    ensures { OnPort (IsWantedOf false host.now port user.now) result }
 {
+    let _named_by = host;
     let Ok(user) = user.copy() else {
         return Making::Memory;
     };

@@ -1,6 +1,9 @@
 // A connection through a SOCKS server, also while the host that it is asked for is looked up.
 ghost use Rattle.std.specs.Prelude.{◌≡◌, None, true, false, IfSome};
-ghost use Rattle.real_maker.specs.Asking.{IsRequestTo};
+ghost use Rattle.std.specs.Net.Addr.{ipv4_octets};
+ghost use Rattle.std.specs.Net.Socket.{v4_ip};
+ghost use Rattle.socks_port.specs.Requests.{socks4};
+ghost use Rattle.real_maker.specs.Asking.{AsksFound};
 ghost use Rattle.real_maker.specs.SocksStages.{stage_gave, stage_hinting, stage_hints, stage_took};
 
 use crate::opening::OfSocket;
@@ -32,12 +35,12 @@ impl Model for AskedLater {
 
     ghost Value = { AskedState };
 
-    ghost view = { λ asked. record { port = asked.port; user = asked.user } };
+    ghost view = { λ asked. record { name = asked.lookup; port = asked.port; user = asked.user } };
 }
 
 /// The request of SOCKS4 to be connected to this address (socat(1), `SOCKS4`). `None` where the user is too long.
 pub(crate) fn request_to(addr: [u8; 4], port: u16, user: &[u8]) -> Option<Request>
-    ensures { IfSome result (IsRequestTo port user.now) }
+    ensures { IfSome result (λ request. request ≡ socks4 addr port user.now) }
 {
     if user.len() > MOST {
         return None;
@@ -117,6 +120,7 @@ impl SocksOpening {
         ensures kept { self.new ≡ record self.old { stage = self.new.stage } }
         ensures gave { stage_gave self.new.stage ≡ None }
         ensures took { stage_took self.new.stage ≡ None }
+        ensures asks { AsksFound (ipv4_octets (v4_ip addr)) self.old.stage self.new.stage }
     {
         let SocksStage::Asking(asked) = mem::replace(&mut self.stage, SocksStage::Over) else {
             return Settled::Failed;

@@ -4,6 +4,7 @@ use Rattle.std.specs.Prelude.{Option, None, Some, option_map, IfSome}
 use Rattle.std.specs.List.{count_by}
 use Rattle.std.proofs.lemmas.List.{append-nil, length-append}
 use Rattle.std.proofs.lemmas.Bool.{false≢true}
+use Rattle.std.specs.Io.KnownBytes.{Keeps, Consumes}
 use Rattle.port_trait.specs.Streams.{Loses}
 use Rattle.ordered_queue.specs.declared.roles.View.{View}
 use Rattle.ordered_queue.specs.Order.{view_of}
@@ -11,7 +12,7 @@ use Rattle.ring_items.specs.declared.items.RingItem.{RingItem}
 use Rattle.ring_items.specs.declared.items.RingItem.TheVariants as items
 use Rattle.ring_items.specs.declared.words.Word.{Word}
 use Rattle.ring_items.specs.Items.{item_bytes, bytes_of, is_mark, is_end_mark, is_fault_mark, last_is, marks, end_marks, fault_marks, told, AddsChunks}
-use Rattle.ring_reader.specs.Feeding.{EndsMarked, Works}
+use Rattle.ring_reader.specs.Feeding.{EndsMarked, SendsLost, Works}
 use Rattle.ring_items.specs.Tallies.{RoseTimes}
 use Rattle.ring_items.proofs.ItemLists.{bytes_snoc, count_snoc, one_counted, last_snoc}
 
@@ -75,4 +76,22 @@ pub marked_fault : (left : Option (List ℕ)) (v w : View RingItem) (told : ℕ)
 marked_fault left v w told is = record {
   marked = ap (λ (u : View RingItem). last_is is_mark u.sent) is ∙ last_snoc is_mark v.sent (items.Fault told);
   spent = λ ended. absurd (false≢true (sym (ap (λ (u : View RingItem). last_is is_end_mark u.sent) is ∙ last_snoc is_end_mark v.sent (items.Fault told)) ∙ ended));
+}
+
+-- chunks were sent, and the reader beneath lost their bytes
+pub chunks_lost : (before now : Option (List ℕ)) (sent sent' : List RingItem) (added : List ℕ) → Consumes before now added → AddsChunks sent sent' added → SendsLost before now sent sent'
+chunks_lost before now sent sent' added gone adds = record { bytes = added; lost = gone; passed = adds.bytes }
+
+-- the reader beneath kept its bytes
+kept_none : (before now : Option (List ℕ)) → Keeps before now → Consumes before now []
+kept_none None now kept = tt
+kept_none (Some x) None kept = absurd kept
+kept_none (Some x) (Some y) kept = sym kept
+
+-- a mark was sent, and nothing was lost
+pub mark_lost : (before now : Option (List ℕ)) (v w : View RingItem) (mark : RingItem) → item_bytes mark ≡ [] → Keeps before now → w ≡ view_of v.sends v.takes (v.sent ++ mark ∷ []) v.taken → SendsLost before now v.sent w.sent
+mark_lost before now v w mark none kept is = record {
+  bytes = [];
+  lost = kept_none before now kept;
+  passed = ap bytes_of (ap (λ (u : View RingItem). u.sent) is) ∙ bytes_snoc v.sent mark ∙ ap (λ more. bytes_of v.sent ++ more) none;
 }

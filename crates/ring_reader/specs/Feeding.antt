@@ -1,5 +1,6 @@
 -- What a reader's thread has sent of what its source gave since it began.
 use Rattle.std.specs.Prelude.{◌≡◌, ℕ, ◌+◌, ◌-◌, ◌^◌, ◌≤◌, min, Bool, true, false, List, [], ◌++◌, Option, IfSome}
+use Rattle.std.specs.Io.KnownBytes.{Consumes}
 use Rattle.port_trait.specs.Streams.{Loses}
 use Rattle.ring_items.specs.Tallies.{RoseTimes}
 use Rattle.ordered_queue.specs.declared.roles.View.{View}
@@ -18,6 +19,12 @@ pub record Feeds (left_before left : Option (List ℕ)) (faults_before faults en
   pub gave : Loses left_before left (bytes_of sent)
   pub failed : RoseTimes faults_before (fault_marks sent) faults
   pub ended : RoseTimes ends_before (end_marks sent) ends
+
+-- the bytes that were sent since are those that the reader of std beneath lost, where its bytes are known
+pub record SendsLost (rest_before rest : Option (List ℕ)) (sent_before sent : List RingItem) : Type 0 where
+  pub bytes : List ℕ
+  pub lost : Consumes rest_before rest bytes
+  pub passed : bytes_of sent ≡ bytes_of sent_before ++ bytes
 
 -- a mark was sent last, and where that is an end, the source has nothing left
 pub record EndsMarked (left : Option (List ℕ)) (sent : List RingItem) : Type 0 where

@@ -5,7 +5,7 @@ ghost use Rattle.ordered_queue.specs.Order.{view_of};
 ghost use Rattle.ring_items.specs.Items.{Follows, bytes_of, told, AddsChunks};
 ghost use Rattle.ring_reader.specs.declared.reader_thread.Turned.TheVariants as turns;
 ghost use Rattle.ring_items.specs.Endings.{OnDone};
-ghost use Rattle.ring_reader.specs.Feeding.{Works, EndsMarked, OnTurned, ahead_after};
+ghost use Rattle.ring_reader.specs.Feeding.{Works, EndsMarked, SendsLost, OnTurned, ahead_after};
 ghost use Rattle.ring_reader.specs.Starting.{FedBy};
 
 use ordered_queue::OrderedPass;
@@ -151,6 +151,7 @@ where
         ensures kept { (self.new.lines.value ≡ self.old.lines.value) × (self.new.words ≡ self.old.words) }
         ensures queue { OnTurned result (λ _. IsSamePass self.old.items self.new.items) }
         ensures works { OnTurned result (λ ahead. Works (S.left start.now.value) (S.left self.new.source) (S.faults start.now.value) (S.faults self.new.source) (S.ends start.now.value) (S.ends self.new.source) self.new.count ahead (view self.new.items) (view self.new.words)) }
+        ensures lost { OnTurned result (λ _. SendsLost (S.rest self.old.source) (S.rest self.new.source) (view self.old.items).sent (view self.new.items).sent) }
         ensures marked { result ≡ turns.Marked → EndsMarked (S.left self.new.source) (view self.new.items).sent }
     {
         if self.lines.state.is_gone() {

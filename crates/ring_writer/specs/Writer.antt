@@ -1,5 +1,6 @@
 -- What a sink took of the bytes that a writer's thread gave to it. Contents that aren't told are None.
 use Rattle.std.specs.Prelude.{◌≡◌, ℕ, zero, suc, ◌+◌, ◌-◌, ◌^◌, ◌*◌, ◌<◌, ◌≤◌, min, Bool, true, false, List, ◌++◌, length, take, Option, option_map, IfSome}
+use Rattle.std.specs.Io.KnownBytes.{Appends}
 use Rattle.ring_writer.specs.declared.writer_outlet.Outlet.{Outlet}
 
 -- a sink that never failed took all bytes; one that did took a front of them before its first fault. Of those bytes the
@@ -11,6 +12,11 @@ Delivered (suc faults) sound before now bytes = (n : ℕ) × (later : List ℕ) 
 -- the sink took these bytes, up to its first fault
 abbrev pub Delivers : {K : Type 0} → (K → Option (List ℕ)) → Option (List ℕ) → Outlet K → List ℕ → Type 0
 Delivers took before outlet bytes = Delivered outlet.faults outlet.sound before (took outlet.sink) bytes
+
+-- the writer of std beneath holds all of the bytes more, or those before a fault, where its bytes are known
+abbrev pub HoldsFront : Bool → Option (List ℕ) → Option (List ℕ) → List ℕ → Type 0
+HoldsFront true before now bytes = Appends before now bytes
+HoldsFront false before now bytes = (n : ℕ) × (n ≤ length bytes) × Appends before now (take n bytes)
 
 -- each fault of the sink cost it at most 65,536 of the bytes that were given: it took all others, and may lose so many
 -- more

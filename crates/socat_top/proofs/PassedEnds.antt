@@ -21,6 +21,10 @@ use Rattle.socat_top.specs.Headline.{Leaves, TaskEnds}
 abbrev pub nothing : History
 nothing = record { acts = []; asked = [] }
 
+-- what is told as one history is told as no other
+pub acts_of : (one other : History) → Some one ≡ Some other → other.acts ≡ one.acts
+acts_of one other e = cc
+
 own_all : (c : Config) (asked : List Asking) → OnlyOwn c asked → AllOwn (single c) asked
 own_all c [] own = tt
 own_all c (asking ∷ more) own = (own.1, own_all c more own.2)

@@ -5,11 +5,6 @@ use Rattle.desk_ports.specs.Endings.{EndsSo, PassedEnd}
 use Rattle.desk_ports.specs.Ports.{PortSeen}
 use Rattle.desk_history.specs.Following.{Passed}
 
--- a fact of a desk that tells its history
-pub if_told : (told : Option History) (Fact : Type 0) → (is_some told ≡ true → Fact) → IfSome told (λ _. Fact)
-if_told None Fact fact = tt
-if_told (Some history) Fact fact = fact refl
-
 end_still : (passes : Bool) (before now : PortSeen) → PassedEnd passes before now → (now.gave ≡ before.gave) × (now.took ≡ before.took) × (now.ended ≡ before.ended)
 end_still true before now passed = (passed.1.gave, passed.1.took, passed.1.ended)
 end_still false before now same = (ap (λ (p : PortSeen). p.gave) same, ap (λ (p : PortSeen). p.took) same, ap (λ (p : PortSeen). p.ended) same)

@@ -1,5 +1,5 @@
 -- A run whose history may be written to a file.
-use Rattle.std.specs.Prelude.{◌≡◌, ℕ, zero, suc, Bool, true, false, List, [], ◌∷◌, ◌++◌, Option, Some, option_map, codes, nat_eq, if◌then◌else◌}
+use Rattle.std.specs.Prelude.{◌≡◌, ℕ, zero, suc, Bool, true, false, List, [], ◌∷◌, ◌++◌, Option, Some, option_map, codes, drop, length, nat_eq, if◌then◌else◌}
 use Rattle.std.specs.List.{starts_with}
 use Rattle.relay_model.specs.declared.acts.Act.{Act}
 use Rattle.relay_model.specs.declared.acts.Act.TheVariants.{Note, NoteFault}
@@ -21,6 +21,11 @@ asks_for_journal (word ∷ words) = is_flag word
 abbrev pub words_of_run : List (List ℕ) → List (List ℕ)
 words_of_run [] = []
 words_of_run (word ∷ words) = if is_flag word then words else word ∷ words
+
+-- the name of the journal's file: what follows the flag in the first word
+abbrev pub journal_name : List (List ℕ) → List ℕ
+journal_name [] = []
+journal_name (word ∷ words) = drop (length (codes "--journal=")) word
 
 -- what the desk tells when the run begins: with the flag it keeps its history, and nothing was done yet
 abbrev pub told_before : Bool → Option History → Option History

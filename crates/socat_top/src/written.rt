@@ -1,5 +1,5 @@
 // A run whose history may be written to a file.
-ghost use Rattle.std.specs.Prelude.{◌≡◌, ◌≤◌, ◌-◌, [], true, false, length, drop, Some, MatchOption, is_some};
+ghost use Rattle.std.specs.Prelude.{◌≡◌, ◌≤◌, ◌-◌, [], true, false, length, drop, Some, IfSome, MatchOption};
 ghost use Rattle.std.specs.Bool.{OnTrue, OnFalse};
 ghost use Rattle.relay_model.specs.declared.places.Place.{Place as Spot};
 ghost use Rattle.relay_model.specs.Holding.{Free};
@@ -15,7 +15,7 @@ ghost use Rattle.stream_ends.specs.Behind.{far_bytes, far_faults, told_behind};
 ghost use Rattle.socat_top.specs.Kept.{history_of};
 ghost use Rattle.socat_top.specs.Headline.{Answers, CompletesTask, Leaves, TaskEnds, TaskEndsBehind};
 ghost use Rattle.socat_top.specs.Tasks.{task};
-ghost use Rattle.socat_top.specs.Written.{TookText, asks_for_journal, is_asked, is_note, status_with, told_before, without_last_note, words_of_run};
+ghost use Rattle.socat_top.specs.Written.{TookText, asks_for_journal, is_asked, is_note, journal_name, status_with, told_before, without_last_note, words_of_run};
 
 use crate::runs::{Shipped, run};
 use journal_file::JournalFile;
@@ -63,8 +63,8 @@ where
     P: Poller + Drop,
     requires free { (p : Spot) → ⟦<Desk<M, P, I, O, E> as World>⟧.held desk p ≡ Free }
     requires untouched { desk.log.acted ≡ false }
-    requires unused { is_some (told_before (asks_for_journal words.now) (⟦<Desk<M, P, I, O, E> as World>⟧.told desk)) ≡ true → IsUnused desk.log.acted desk.ports.harbor.input.port.gave desk.ports.harbor.output.port.took desk.ports.harbor.errors.port.took }
     ensures asked { is_asked result.saving ≡ asks_for_journal words.now }
+    ensures named { result.saving ≡ savings.Saved → (made : F) × F.creates file.old (journal_name words.now) made }
     ensures unasked { asks_for_journal words.now ≡ false → file.new ≡ file.old }
     ensures saved { result.saving ≡ savings.Saved → TookText (F.took file.old) (F.took file.new) (without_last_note result.shipped.kept.journal.acts) }
     ensures finished { result.saving ≡ savings.Saved → F.finished file.new ≡ true }
@@ -72,11 +72,11 @@ where
     ensures status { result.status ≡ status_with result.shipped.status result.saving }
     ensures run_status { result.shipped.status ≡ exit_code result.shipped.outcome }
     ensures headline { (before : History) → told_before (asks_for_journal words.now) (⟦<Desk<M, P, I, O, E> as World>⟧.told desk) ≡ Some before → Leaves (task (words_of_run words.now)) turns before (Some (history_of result.shipped.kept)) result.shipped.outcome }
-    ensures passed { (before : History) → told_before (asks_for_journal words.now) (⟦<Desk<M, P, I, O, E> as World>⟧.told desk) ≡ Some before → Passed (history_of result.shipped.kept) (I.gave (handed result.shipped.standard.stdin)) (O.took (handed result.shipped.standard.stdout)) (E.took (handed result.shipped.standard.stderr)) (I.ended (handed result.shipped.standard.stdin)) }
-    ensures ends { told_before (asks_for_journal words.now) (⟦<Desk<M, P, I, O, E> as World>⟧.told desk) ≡ Some (record { acts = []; asked = [] }) → TaskEnds (task (words_of_run words.now)) result.shipped.kept.journal.acts (I.gave (handed result.shipped.standard.stdin)) (O.took (handed result.shipped.standard.stdout)) (I.ended (handed result.shipped.standard.stdin)) }
+    ensures passed { (before : History) → told_before (asks_for_journal words.now) (⟦<Desk<M, P, I, O, E> as World>⟧.told desk) ≡ Some before → IsUnused desk.ports.harbor.input.port.gave desk.ports.harbor.output.port.took desk.ports.harbor.errors.port.took → Passed (history_of result.shipped.kept) (I.gave (handed result.shipped.standard.stdin)) (O.took (handed result.shipped.standard.stdout)) (E.took (handed result.shipped.standard.stderr)) (I.ended (handed result.shipped.standard.stdin)) }
+    ensures ends { told_before (asks_for_journal words.now) (⟦<Desk<M, P, I, O, E> as World>⟧.told desk) ≡ Some (record { acts = []; asked = [] }) → IsUnused desk.ports.harbor.input.port.gave desk.ports.harbor.output.port.took desk.ports.harbor.errors.port.took → TaskEnds (task (words_of_run words.now)) result.shipped.kept.journal.acts (I.gave (handed result.shipped.standard.stdin)) (O.took (handed result.shipped.standard.stdout)) (I.ended (handed result.shipped.standard.stdin)) }
     ensures stdin_behind { OnJoinedBack (λ port. Behind (I.gave port) (I.took port) (I.behind_gave port) (I.behind_took port) (I.behind_left port) (I.behind_faults port) (I.ended port)) result.shipped.standard.stdin }
     ensures stdout_behind { OnJoinedBack (λ port. Behind (O.gave port) (O.took port) (O.behind_gave port) (O.behind_took port) (O.behind_left port) (O.behind_faults port) (O.ended port)) result.shipped.standard.stdout }
-    ensures behind { told_before (asks_for_journal words.now) (⟦<Desk<M, P, I, O, E> as World>⟧.told desk) ≡ Some (record { acts = []; asked = [] }) → TaskEndsBehind (task (words_of_run words.now)) result.shipped.kept.journal.acts (far_bytes (I.gave (handed result.shipped.standard.stdin)) (told_behind I.behind_gave result.shipped.standard.stdin)) (far_bytes (O.took (handed result.shipped.standard.stdout)) (told_behind O.behind_took result.shipped.standard.stdout)) (told_behind I.behind_left result.shipped.standard.stdin) (far_faults (told_behind O.behind_took result.shipped.standard.stdout) (told_behind O.behind_faults result.shipped.standard.stdout)) }
+    ensures behind { told_before (asks_for_journal words.now) (⟦<Desk<M, P, I, O, E> as World>⟧.told desk) ≡ Some (record { acts = []; asked = [] }) → IsUnused desk.ports.harbor.input.port.gave desk.ports.harbor.output.port.took desk.ports.harbor.errors.port.took → TaskEndsBehind (task (words_of_run words.now)) result.shipped.kept.journal.acts (far_bytes (I.gave (handed result.shipped.standard.stdin)) (told_behind I.behind_gave result.shipped.standard.stdin)) (far_bytes (O.took (handed result.shipped.standard.stdout)) (told_behind O.behind_took result.shipped.standard.stdout)) (told_behind I.behind_left result.shipped.standard.stdin) (far_faults (told_behind O.behind_took result.shipped.standard.stdout) (told_behind O.behind_faults result.shipped.standard.stdout)) }
     ensures answers { Answers (task (words_of_run words.now)) result.shipped.outcome }
     ensures complete { let w = ⟦<Desk<M, P, I, O, E> as World>⟧ in CompletesTask (task (words_of_run words.now)) turns (w.faults desk) result.shipped.counts.faults (w.waits desk) result.shipped.counts.waits (w.stops desk) result.shipped.counts.stops result.shipped.outcome }
     ensures failed { is_failure result.shipped.outcome ≡ true → Risen (⟦<Desk<M, P, I, O, E> as World>⟧.faults desk) result.shipped.counts.faults }
@@ -94,7 +94,8 @@ where
 
 /// The name of the journal's file and the words behind it, where the first word is the flag.
 pub fn journal_flag(words: &[Text]) -> Option<(&[u8], &[Text])>
-    ensures { MatchOption result ((asks_for_journal words.now ≡ false) × (words_of_run words.now ≡ words.now)) (λ found. (asks_for_journal words.now ≡ true) × (words_of_run words.now ≡ found.1.now)) }
+    ensures flag { MatchOption result ((asks_for_journal words.now ≡ false) × (words_of_run words.now ≡ words.now)) (λ found. (asks_for_journal words.now ≡ true) × (words_of_run words.now ≡ found.1.now)) }
+    ensures named { IfSome result (λ found. found.0.now ≡ journal_name words.now) }
 {
     let [first, others @ ..] = words else {
         return None;
@@ -108,6 +109,7 @@ pub fn journal_flag(words: &[Text]) -> Option<(&[u8], &[Text])>
 /// Writes what was done to the file, where that was made.
 fn save<F: JournalFile>(alloc: Global, journal: &Journal, file: &mut F, made: bool) -> Saving
     ensures asked { is_asked result ≡ true }
+    ensures made { result ≡ savings.Saved → made ≡ true }
     ensures unmade { OnFalse made (file.new ≡ file.old) }
     ensures saved { result ≡ savings.Saved → TookText (F.took file.old) (F.took file.new) (without_last_note journal.now.acts) }
     ensures finished { result ≡ savings.Saved → F.finished file.new ≡ true }

@@ -24,6 +24,13 @@ told_by stream datagrams listening (sockets.Stream socket) = stream socket
 told_by stream datagrams listening (sockets.Datagrams socket) = datagrams socket
 told_by stream datagrams listening (sockets.Door door) = listening door
 
+-- what is said of a socket before and after a call, which stays of its sort
+abbrev pub SameSort : {S D L : Type 0} → (S → S → Type 0) → (D → D → Type 0) → (L → L → Type 0) → AnySocket S D L → AnySocket S D L → Type 0
+SameSort stream datagrams door (sockets.Stream before) (sockets.Stream now) = stream before now
+SameSort stream datagrams door (sockets.Datagrams before) (sockets.Datagrams now) = datagrams before now
+SameSort stream datagrams door (sockets.Door before) (sockets.Door now) = door before now
+SameSort stream datagrams door _ _ = ⊥
+
 -- what it knows of its readiness by itself: a stream knows nothing
 abbrev pub hint_of : SystemSocket → Hint
 hint_of socket = told_by (λ _. no_hint) datagram_hint door_hint socket

@@ -3,6 +3,8 @@ ghost use Rattle.std.specs.Prelude.{◌≡◌, ◌<◌, List, ℕ, length, Optio
 ghost use Rattle.port_trait.specs.Hinting.{no_hint};
 ghost use Rattle.port_trait.specs.Meanings.{Gives, Accepts, AcceptsWhole, noted};
 ghost use Rattle.port_trait.specs.declared.answers.Hint.{Hint};
+ghost use Rattle.port_trait.specs.declared.answers.Settled.{Settled};
+ghost use Rattle.port_trait.specs.declared.answers.Shutting.{Shutting};
 ghost use Rattle.relay_model.specs.declared.acts.Shut.{Shut};
 
 use port_trait::{Got, Hint, Settled, Shutting, Took};
@@ -18,9 +20,15 @@ pub trait Socket: Drop {
     ghost shuts: { Self → Option (List Shut) } = { λ _. None };
     // what it knows of its readiness by itself; only a call on it changes that
     ghost hints: { Self → Hint } = { λ _. no_hint };
+    // what a `settle` and a `finish` answer of it. A contract over any socket can name that answer by these alone, so it
+    // holds only of a caller that makes this one call
+    ghost answers_settle: { Self → Self → Settled → Type 0 } = { λ _ _ _. Unit {0} };
+
+    ghost answers_finish: { Self → Self → Shut → Shutting → Type 0 } = { λ _ _ _ _. Unit {0} };
 
     /// Whether the connection stands.
     fn settle(&mut self) -> Settled
+        ensures answered { answers_settle self.old self.new result }
         ensures kept { (gave self.new ≡ gave self.old) × (took self.new ≡ took self.old) × (shuts self.new ≡ shuts self.old) };
 
     /// Takes what there is, up to the length of `into`.
@@ -43,6 +51,7 @@ pub trait Socket: Drop {
 
     /// Passes on that no more bytes will be written.
     fn finish(&mut self, how: Shut) -> Shutting
+        ensures answered { answers_finish self.old self.new how result }
         ensures told { shuts self.new ≡ noted how (shuts self.old) }
         ensures kept { (gave self.new ≡ gave self.old) × (took self.new ≡ took self.old) };
 

@@ -1,5 +1,5 @@
 -- What contracts see of the port of a socket, also while its host is looked up.
-use Rattle.std.specs.Prelude.{◌≡◌, ◌≢◌, ℕ, Bool, true, false, List, Option, None, Some}
+use Rattle.std.specs.Prelude.{◌≡◌, ◌≢◌, ℕ, Bool, true, false, List, Option, None, Some, IsSomeAnd}
 use Rattle.port_trait.specs.Hinting.{all_hints}
 use Rattle.port_trait.specs.declared.answers.Hint.{Hint}
 use Rattle.port_trait.specs.declared.counts.Counts.{Counts}
@@ -8,7 +8,7 @@ use Rattle.port_trait.specs.declared.makers.Making.TheVariants as makings
 use Rattle.socket_kinds.specs.Kinds.{Sort, hint_of, is_door, is_unix_door, has_left_off, sort_of, SystemSocket}
 use Rattle.socket_ports.specs.Accepting.{IsFresh}
 use Rattle.socket_ports.specs.Sockets.{PortState, no_counts}
-use Rattle.host_lookup.specs.Hosts.{IsNamed}
+use Rattle.host_lookup.specs.Hosts.{IsNameOf}
 use Rattle.socket_maker.specs.Aims.{way_sort}
 use Rattle.socket_maker.specs.Looking.{LookingState}
 use Rattle.socket_maker.specs.declared.aims.Aim.{Aim}
@@ -65,9 +65,10 @@ abbrev pub IsFreshPort : HostPort → Type 0
 IsFreshPort (ports.Looking port) = (port.counts ≡ no_counts) × (port.begun ≡ false)
 IsFreshPort (ports.Socket port) = IsFresh port
 
--- what a socket is opened for: one whose host is still looked up, which is a name, opens nothing else later
+-- what a socket is opened for: one whose host is still looked up, which is a name, opens nothing else later, and it is this
+-- name that is looked up
 abbrev pub Aims : Aim → List ℕ → HostPort → Type 0
-Aims aim host (ports.Looking port) = (port.aim ≡ aim) × IsNamed host
+Aims aim host (ports.Looking port) = (port.aim ≡ aim) × IsSomeAnd port.name (λ name. IsNameOf host name)
 Aims aim host (ports.Socket port) = sort_of port.socket ≡ way_sort aim.way
 
 -- what came of what was looked up

@@ -1,5 +1,5 @@
 // A socket whose host is being looked up.
-ghost use Rattle.std.specs.Prelude.{◌≡◌, false, List, ℕ, None, IfSome};
+ghost use Rattle.std.specs.Prelude.{◌≡◌, false, List, ℕ, None, Some, IfSome};
 ghost use Rattle.answer_counts.specs.Counted.{counted};
 ghost use Rattle.port_trait.specs.Counting.{Tallied};
 ghost use Rattle.port_trait.specs.Meanings.{Accepts, AcceptsWhole, Gives, is_end, read_event, settle_event, write_event};
@@ -41,7 +41,7 @@ impl Model for LookingPort {
 
     ghost Value = { LookingState };
 
-    ghost view = { λ port. record { aim = port.aim; counts = port.counts; begun = port.begun } };
+    ghost view = { λ port. record { aim = port.aim; name = port.lookup; counts = port.counts; begun = port.begun } };
 }
 
 impl LookingPort {
@@ -54,7 +54,7 @@ impl LookingPort {
         aim: Aim,
         lookup: Lookup,
     ) -> LookingPort
-        ensures { result ≡ record { aim = aim; counts = no_counts; begun = false } }
+        ensures { result ≡ record { aim = aim; name = Some lookup; counts = no_counts; begun = false } }
     {
         LookingPort {
             system,
@@ -71,7 +71,7 @@ impl LookingPort {
     /// Asks, without waiting, what the lookup has come to. Once the address is known the socket is opened, and handed out
     /// where it stands or is under way. After a failure each further call fails.
     pub(crate) fn advance(&mut self) -> (Settled, Option<AnySocket>)
-        ensures kept { self.new ≡ record self.old { counts = self.new.counts } }
+        ensures kept { self.new ≡ record self.old { counts = self.new.counts; name = self.new.name } }
         ensures sort { IfSome result.1 (λ socket. sort_of socket ≡ way_sort self.old.aim.way) }
         ensures stands { result.0 ≡ settles.Ready → result.1 ≡ None → ⊥ }
         ensures counted { self.new.counts ≡ counted (settle_event result.0) self.old.counts }
@@ -83,7 +83,7 @@ impl LookingPort {
     }
 
     fn reached(&mut self) -> (Settled, Option<AnySocket>)
-        ensures kept { self.new ≡ self.old }
+        ensures kept { self.new ≡ record self.old { name = self.new.name } }
         ensures sort { IfSome result.1 (λ socket. sort_of socket ≡ way_sort self.old.aim.way) }
         ensures stands { result.0 ≡ settles.Ready → result.1 ≡ None → ⊥ }
     {
@@ -157,7 +157,7 @@ impl LookingPort {
 
     /// A socket of which nothing more is wanted isn't opened any more.
     pub(crate) fn finish(&mut self, how: Shut) -> Shutting
-        ensures kept { self.new ≡ self.old }
+        ensures kept { self.new ≡ record self.old { name = self.new.name } }
         ensures done { result ≡ shuts.Done }
     {
         match how {

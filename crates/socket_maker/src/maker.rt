@@ -9,7 +9,7 @@ ghost use Rattle.port_trait.specs.declared.makers.MadePeer.TheVariants as peers;
 ghost use Rattle.relay_model.specs.declared.acts.Peer.TheVariants as whose;
 ghost use Rattle.socket_kinds.specs.Kinds.{Listening};
 ghost use Rattle.socket_kinds.specs.Accepting.{OnCame, OnPort, OnPeer};
-ghost use Rattle.host_lookup.specs.Hosts.{IsNamed, WritesIp};
+ghost use Rattle.host_lookup.specs.Hosts.{IsNameOf, WritesIp};
 ghost use Rattle.socket_maker.specs.Aims.{aim_of, host_of, server_aim, way_sort};
 ghost use Rattle.socket_maker.specs.Makings.{opened_sort};
 ghost use Rattle.socket_maker.specs.Ports.{Aims, IsFreshPort, has_left_off_at, is_door_port, is_unix_door_port, port_sort, sort_at};
@@ -148,6 +148,7 @@ where
     pub fn begin_lookup(&mut self, name: &str) -> Making<Lookup>
         ensures same { self.new ≡ self.old }
         ensures at_once { IsAtOnce result }
+        ensures named { OnPort (λ lookup. lookup ≡ name.now) result }
     {
         self.lookups.begin(&self.rt, name)
     }
@@ -182,7 +183,7 @@ where
     }
 
     fn look_up(&mut self, key: usize, host: &Text, name: &str, aim: Aim) -> Making<HostPort>
-        requires { IsNamed host.now }
+        requires { IsNameOf host.now name.now }
         ensures same { self.new ≡ self.old }
         ensures fresh { OnPort IsFreshPort result }
         ensures aims { OnPort (Aims aim host.now) result }

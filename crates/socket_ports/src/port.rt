@@ -97,7 +97,9 @@ impl<S: Socket, G: Drop> Port for SocketPort<S, G> {
         Begun::Begun
     }
 
+    /// The socket is asked once.
     fn settle(&mut self) -> Settled
+        ensures asked { S.answers_settle self.old.socket self.new.socket result }
         ensures kept { (S.gave self.new.socket ≡ S.gave self.old.socket) × (S.took self.new.socket ≡ S.took self.old.socket) × (self.new.begun ≡ self.old.begun) × (self.new.ended ≡ self.old.ended) }
         ensures unshut { S.shuts self.new.socket ≡ S.shuts self.old.socket }
         ensures counted { self.new.counts ≡ counted (settle_event result) self.old.counts }
@@ -166,6 +168,7 @@ impl<S: Socket, G: Drop> Port for SocketPort<S, G> {
     }
 
     fn shut(&mut self, how: Shut) -> Shutting
+        ensures asked { S.answers_finish self.old.socket self.new.socket how result }
         ensures told { S.shuts self.new.socket ≡ noted how (S.shuts self.old.socket) }
         ensures kept { (S.gave self.new.socket ≡ S.gave self.old.socket) × (S.took self.new.socket ≡ S.took self.old.socket) × (self.new.begun ≡ self.old.begun) × (self.new.ended ≡ self.old.ended) }
         ensures counted { self.new.counts ≡ counted (shut_event result) self.old.counts }

@@ -51,6 +51,10 @@ impl<S: Socket> Socket for ToldSocket<S> {
 
     ghost hints = { λ told. S.hints told.socket };
 
+    ghost answers_settle = { λ old new settled. S.answers_settle old.socket new.socket settled };
+
+    ghost answers_finish = { λ old new how shutting. S.answers_finish old.socket new.socket how shutting };
+
     fn settle(&mut self) -> Settled {
         self.socket.settle()
     }

@@ -1,4 +1,4 @@
-use Rattle.event_loop.proofs.Ends.{completes_on}
+use Rattle.event_loop.proofs.Ends.{completes_on, stop_on}
 use Rattle.socat_top.proofs.Endings.{concluded}
 use Rattle.socat_top.proofs.calls.run_relay.Goals as goal
 
@@ -9,3 +9,7 @@ returns-clause-headline g c = λ before told.
 pub returns-clause-complete : goal.returns-clause-complete
 returns-clause-complete g c =
     completes_on c.relay-outcome.result c.conclude.result _ _ _ _ _ _ _ _ _ _ c.relay-outcome.ensures.complete c.conclude.ensures.answer c.conclude.ensures.faults c.conclude.ensures.waits c.conclude.ensures.stops
+
+pub returns-clause-stopped : goal.returns-clause-stopped
+returns-clause-stopped g c =
+    stop_on c.relay-outcome.result c.conclude.result _ _ _ _ _ _ _ c.relay-outcome.ensures.stopped c.conclude.ensures.answer c.conclude.ensures.waits c.conclude.ensures.stops

@@ -1,8 +1,10 @@
-use Rattle.std.proofs.Common.{◌≡◌, true, is_some, Option, subst, refl, ◌∙◌}
+use Rattle.std.proofs.Common.{◌≡◌, true, is_some, Option, subst, sym, refl, ap, ◌∙◌}
 use Rattle.relay_model.specs.Journals.{History}
+use Rattle.desk_history.specs.Following.{PassedTold}
+use Rattle.desk_history.proofs.FollowLemmas.{unused_passed}
 use Rattle.socat_top.specs.Headline.{Leaves}
 use Rattle.socat_top.specs.Tasks.{task}
-use Rattle.socat_top.proofs.Passing.{ends_still, if_told, passed_at}
+use Rattle.socat_top.proofs.Passing.{ends_still, passed_at}
 use Rattle.socat_top.proofs.PassedEnds.{nothing, task_ends}
 use Rattle.socat_top.proofs.EndsBehind.{task_ends_behind}
 use Rattle.stream_ends.proofs.BehindLemmas.{behind_back}
@@ -10,26 +12,26 @@ use Rattle.socat_top.proofs.runs.run.Goals as goal
 
 pub returns-clause-headline : goal.returns-clause-headline
 returns-clause-headline g c = λ before told.
-    let told_on : is_some c.into_desk.result.log.recording.told ≡ true = rw c.into_desk.ensures.desk (c.socat-outcome.ensures.tells ∙ rw (c.new-followed.ensures, told) refl) in
-    let P : Option History → Type 0 = λ t. Leaves (task c.args.words.now) c.args.turns before t c.socat-outcome.result in
-    subst P (c.end-standard.ensures.kept told_on) (rw c.into_desk.ensures.desk (c.socat-outcome.ensures.headline before (rw c.new-followed.ensures told)))
+    let told_on : is_some c.follow-outcome.result.1.log.recording.told ≡ true = c.follow-outcome.ensures.tells ∙ ap is_some told in
+    let P : Option History → Type 0 = λ t. Leaves (task c.args.words.now) c.args.turns before t c.follow-outcome.result.0 in
+    subst P (c.end-standard.ensures.kept told_on) (c.follow-outcome.ensures.headline before told)
 
 pub returns-clause-passed : goal.returns-clause-passed
-returns-clause-passed g c = λ before told.
-    let told_on : is_some c.into_desk.result.log.recording.told ≡ true = rw c.into_desk.ensures.desk (c.socat-outcome.ensures.tells ∙ rw (c.new-followed.ensures, told) refl) in
-    let input = ends_still _ c.into_desk.result.ports.harbor.input.port _ _ c.end-standard.ensures.stdin in
-    let output = ends_still _ c.into_desk.result.ports.harbor.output.port _ _ c.end-standard.ensures.stdout in
-    let errors = ends_still _ c.into_desk.result.ports.harbor.errors.port _ _ c.end-standard.ensures.stderr in
-    passed_at c.into_desk.result.log.recording.told _ _ _ _ _ _ _ _ _ (c.end-standard.ensures.kept told_on) c.into_desk.ensures.passed input.0 output.1 errors.1 input.2
+returns-clause-passed g c = λ before told in_step.
+    let told_on : is_some c.follow-outcome.result.1.log.recording.told ≡ true = c.follow-outcome.ensures.tells ∙ ap is_some told in
+    let desk = c.args.desk in
+    let P : Option History → Type 0 = λ t. PassedTold t desk.ports.harbor.input.port.gave desk.ports.harbor.output.port.took desk.ports.harbor.errors.port.took desk.ports.harbor.input.port.ended in
+    let input = ends_still _ c.follow-outcome.result.1.ports.harbor.input.port _ _ c.end-standard.ensures.stdin in
+    let output = ends_still _ c.follow-outcome.result.1.ports.harbor.output.port _ _ c.end-standard.ensures.stdout in
+    let errors = ends_still _ c.follow-outcome.result.1.ports.harbor.errors.port _ _ c.end-standard.ensures.stderr in
+    passed_at c.follow-outcome.result.1.log.recording.told _ _ _ _ _ _ _ _ _ (c.end-standard.ensures.kept told_on) (c.follow-outcome.ensures.passed (subst P (sym told) in_step)) input.0 output.1 errors.1 input.2
 
 pub returns-clause-ends : goal.returns-clause-ends
-returns-clause-ends g c = λ told. task_ends (task c.args.words.now) c.args.turns _ _ _ _ _ _ (returns-clause-headline g c nothing told) (returns-clause-passed g c nothing told)
+returns-clause-ends g c = λ told unused.
+    task_ends (task c.args.words.now) c.args.turns _ _ _ _ _ _ (returns-clause-headline g c nothing told) (returns-clause-passed g c nothing told (unused_passed nothing _ _ _ _ refl unused))
 
 pub returns-clause-behind : goal.returns-clause-behind
-returns-clause-behind g c = λ told.
-    task_ends_behind (task c.args.words.now) _ _ _ _ _ _ _ _ _ _ _ _ _ _ _ (returns-clause-ends g c told)
+returns-clause-behind g c = λ told unused.
+    task_ends_behind (task c.args.words.now) _ _ _ _ _ _ _ _ _ _ _ _ _ _ _ (returns-clause-ends g c told unused)
     (behind_back g.I.Port.gave g.I.Port.took g.I.Port.behind_gave g.I.Port.behind_took g.I.Port.behind_left g.I.Port.behind_faults g.I.Port.ended c.end-standard.result.standard.stdin c.end-standard.ensures.stdin_behind)
     (behind_back g.O.Port.gave g.O.Port.took g.O.Port.behind_gave g.O.Port.behind_took g.O.Port.behind_left g.O.Port.behind_faults g.O.Port.ended c.end-standard.result.standard.stdout c.end-standard.ensures.stdout_behind)
-
-pub new-followed-requires-clause-unused : goal.new-followed-requires-clause-unused
-new-followed-requires-clause-unused g c = if_told c.args.desk.log.recording.told _ c.requires.unused

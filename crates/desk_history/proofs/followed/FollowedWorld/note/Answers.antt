@@ -6,5 +6,5 @@ use Rattle.desk_history.proofs.followed.FollowedWorld.note.Goals as goal
 pub invariant_of-self : goal.invariant_of-self
 invariant_of-self g c = record {
   follows = ∥∥₁_map c.args.self.now.follows
-      (note_follows c.note.result c.args.text.now c.args.self.now.desk.log.recording.told c.note.new.self.log.recording.told (hold_at c.args.self.now.desk.log.stations.entries) (hold_at c.note.new.self.log.stations.entries) (base_at c.args.self.now.desk.log.stations.entries) (base_at c.note.new.self.log.stations.entries) c.args.self.now.desk.ports.harbor.input c.note.new.self.ports.harbor.input c.args.self.now.desk.ports.harbor.output c.note.new.self.ports.harbor.output c.args.self.now.desk.ports.harbor.errors c.note.new.self.ports.harbor.errors c.note.ensures.act c.note.ensures.streams.0 c.note.ensures.streams.1 c.note.ensures.said c.note.ensures.bases);
+      (λ on start. note_follows c.note.result c.args.text.now c.args.self.now.desk.log.recording.told c.note.new.self.log.recording.told (hold_at c.args.self.now.desk.log.stations.entries) (hold_at c.note.new.self.log.stations.entries) (base_at c.args.self.now.desk.log.stations.entries) (base_at c.note.new.self.log.stations.entries) c.args.self.now.desk.ports.harbor.input c.note.new.self.ports.harbor.input c.args.self.now.desk.ports.harbor.output c.note.new.self.ports.harbor.output c.args.self.now.desk.ports.harbor.errors c.note.new.self.ports.harbor.errors c.note.ensures.act c.note.ensures.streams.0 c.note.ensures.streams.1 c.note.ensures.said c.note.ensures.bases (on start));
 }

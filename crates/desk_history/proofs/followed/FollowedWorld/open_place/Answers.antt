@@ -6,5 +6,5 @@ use Rattle.desk_history.proofs.followed.FollowedWorld.open_place.Goals as goal
 pub invariant_of-self : goal.invariant_of-self
 invariant_of-self g c = record {
   follows = ∥∥₁_map c.args.self.now.follows
-      (open_follows c.open_place.result c.args.place c.args.single.now c.args.self.now.desk.log.recording.told c.open_place.new.self.log.recording.told (hold_at c.args.self.now.desk.log.stations.entries) (hold_at c.open_place.new.self.log.stations.entries) (base_at c.args.self.now.desk.log.stations.entries) (base_at c.open_place.new.self.log.stations.entries) c.args.self.now.desk.ports.harbor.input c.open_place.new.self.ports.harbor.input c.args.self.now.desk.ports.harbor.output c.open_place.new.self.ports.harbor.output c.args.self.now.desk.ports.harbor.errors c.open_place.new.self.ports.harbor.errors c.open_place.ensures.act c.open_place.ensures.input c.open_place.ensures.output c.open_place.ensures.errors c.open_place.ensures.ended.0 c.open_place.ensures.bases);
+      (λ on start. open_follows c.open_place.result c.args.place c.args.single.now c.args.self.now.desk.log.recording.told c.open_place.new.self.log.recording.told (hold_at c.args.self.now.desk.log.stations.entries) (hold_at c.open_place.new.self.log.stations.entries) (base_at c.args.self.now.desk.log.stations.entries) (base_at c.open_place.new.self.log.stations.entries) c.args.self.now.desk.ports.harbor.input c.open_place.new.self.ports.harbor.input c.args.self.now.desk.ports.harbor.output c.open_place.new.self.ports.harbor.output c.args.self.now.desk.ports.harbor.errors c.open_place.new.self.ports.harbor.errors c.open_place.ensures.act c.open_place.ensures.input c.open_place.ensures.output c.open_place.ensures.errors c.open_place.ensures.ended.0 c.open_place.ensures.bases (on start));
 }

@@ -15,5 +15,5 @@ use Rattle.desk_history.proofs.followed.FollowedWorld.read.Goals as goal
 pub invariant_of-self : goal.invariant_of-self
 invariant_of-self g c = record {
   follows = ∥∥₁_map c.args.self.now.follows
-      (read_follows c.read.result c.args.place c.read.new.into c.args.self.now.desk.log.recording.told c.read.new.self.log.recording.told (hold_at c.args.self.now.desk.log.stations.entries) (hold_at c.read.new.self.log.stations.entries) (base_at c.args.self.now.desk.log.stations.entries) (base_at c.read.new.self.log.stations.entries) c.args.self.now.desk.ports.harbor.input c.read.new.self.ports.harbor.input c.args.self.now.desk.ports.harbor.output c.read.new.self.ports.harbor.output c.args.self.now.desk.ports.harbor.errors c.read.new.self.ports.harbor.errors (based c.args.self.now.desk.log.stations.entries c.args.place (open_held (hold_at c.args.self.now.desk.log.stations.entries c.args.place) c.requires.open)) c.read.ensures.act (at_input false (base_at c.args.self.now.desk.log.stations.entries c.args.place) giving_pier c.args.self.now.desk.ports.harbor c.read.new.self.ports.harbor (ReadsSo c.read.new.into c.read.result) c.read.ensures.call) (at_output false (base_at c.args.self.now.desk.log.stations.entries c.args.place) giving_pier c.args.self.now.desk.ports.harbor c.read.new.self.ports.harbor (ReadsSo c.read.new.into c.read.result) c.read.ensures.call) (at_errors false (base_at c.args.self.now.desk.log.stations.entries c.args.place) giving_pier c.args.self.now.desk.ports.harbor c.read.new.self.ports.harbor (ReadsSo c.read.new.into c.read.result) c.read.ensures.call) (marked_bases c.args.place ToRead (read_mark c.read.result) c.args.self.now.desk.log.stations.entries c.read.new.self.log.stations.entries c.read.ensures.row));
+      (λ on start. read_follows c.read.result c.args.place c.read.new.into c.args.self.now.desk.log.recording.told c.read.new.self.log.recording.told (hold_at c.args.self.now.desk.log.stations.entries) (hold_at c.read.new.self.log.stations.entries) (base_at c.args.self.now.desk.log.stations.entries) (base_at c.read.new.self.log.stations.entries) c.args.self.now.desk.ports.harbor.input c.read.new.self.ports.harbor.input c.args.self.now.desk.ports.harbor.output c.read.new.self.ports.harbor.output c.args.self.now.desk.ports.harbor.errors c.read.new.self.ports.harbor.errors (based c.args.self.now.desk.log.stations.entries c.args.place (open_held (hold_at c.args.self.now.desk.log.stations.entries c.args.place) c.requires.open)) c.read.ensures.act (at_input false (base_at c.args.self.now.desk.log.stations.entries c.args.place) giving_pier c.args.self.now.desk.ports.harbor c.read.new.self.ports.harbor (ReadsSo c.read.new.into c.read.result) c.read.ensures.call) (at_output false (base_at c.args.self.now.desk.log.stations.entries c.args.place) giving_pier c.args.self.now.desk.ports.harbor c.read.new.self.ports.harbor (ReadsSo c.read.new.into c.read.result) c.read.ensures.call) (at_errors false (base_at c.args.self.now.desk.log.stations.entries c.args.place) giving_pier c.args.self.now.desk.ports.harbor c.read.new.self.ports.harbor (ReadsSo c.read.new.into c.read.result) c.read.ensures.call) (marked_bases c.args.place ToRead (read_mark c.read.result) c.args.self.now.desk.log.stations.entries c.read.new.self.log.stations.entries c.read.ensures.row) (on start));
 }

@@ -7,5 +7,5 @@ use Rattle.desk_history.proofs.followed.FollowedWorld.reap.Goals as goal
 pub invariant_of-self : goal.invariant_of-self
 invariant_of-self g c = record {
   follows = ∥∥₁_map c.args.self.now.follows
-      (reap_follows c.reap.result c.args.place c.args.self.now.desk.log.recording.told c.reap.new.self.log.recording.told (hold_at c.args.self.now.desk.log.stations.entries) (hold_at c.reap.new.self.log.stations.entries) (base_at c.args.self.now.desk.log.stations.entries) (base_at c.reap.new.self.log.stations.entries) c.args.self.now.desk.ports.harbor.input c.reap.new.self.ports.harbor.input c.args.self.now.desk.ports.harbor.output c.reap.new.self.ports.harbor.output c.args.self.now.desk.ports.harbor.errors c.reap.new.self.ports.harbor.errors c.reap.ensures.act (ap (λ h. h.input) c.reap.ensures.ports.0) (ap (λ h. h.output) c.reap.ensures.ports.0) (ap (λ h. h.errors) c.reap.ensures.ports.0) c.reap.ensures.bases);
+      (λ on start. reap_follows c.reap.result c.args.place c.args.self.now.desk.log.recording.told c.reap.new.self.log.recording.told (hold_at c.args.self.now.desk.log.stations.entries) (hold_at c.reap.new.self.log.stations.entries) (base_at c.args.self.now.desk.log.stations.entries) (base_at c.reap.new.self.log.stations.entries) c.args.self.now.desk.ports.harbor.input c.reap.new.self.ports.harbor.input c.args.self.now.desk.ports.harbor.output c.reap.new.self.ports.harbor.output c.args.self.now.desk.ports.harbor.errors c.reap.new.self.ports.harbor.errors c.reap.ensures.act (ap (λ h. h.input) c.reap.ensures.ports.0) (ap (λ h. h.output) c.reap.ensures.ports.0) (ap (λ h. h.errors) c.reap.ensures.ports.0) c.reap.ensures.bases (on start));
 }

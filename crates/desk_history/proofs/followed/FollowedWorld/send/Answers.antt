@@ -15,5 +15,5 @@ use Rattle.desk_history.proofs.followed.FollowedWorld.send.Goals as goal
 pub invariant_of-self : goal.invariant_of-self
 invariant_of-self g c = record {
   follows = ∥∥₁_map c.args.self.now.follows
-      (send_follows c.send.result c.args.place c.args.bytes.now c.args.self.now.desk.log.recording.told c.send.new.self.log.recording.told (hold_at c.args.self.now.desk.log.stations.entries) (hold_at c.send.new.self.log.stations.entries) (base_at c.args.self.now.desk.log.stations.entries) (base_at c.send.new.self.log.stations.entries) c.args.self.now.desk.ports.harbor.input c.send.new.self.ports.harbor.input c.args.self.now.desk.ports.harbor.output c.send.new.self.ports.harbor.output c.args.self.now.desk.ports.harbor.errors c.send.new.self.ports.harbor.errors (based c.args.self.now.desk.log.stations.entries c.args.place (ap is_free c.requires.open)) c.send.ensures.act (at_input false (base_at c.args.self.now.desk.log.stations.entries c.args.place) taking_pier c.args.self.now.desk.ports.harbor c.send.new.self.ports.harbor (SendsSo c.args.bytes.now c.send.result) c.send.ensures.call) (at_output false (base_at c.args.self.now.desk.log.stations.entries c.args.place) taking_pier c.args.self.now.desk.ports.harbor c.send.new.self.ports.harbor (SendsSo c.args.bytes.now c.send.result) c.send.ensures.call) (at_errors false (base_at c.args.self.now.desk.log.stations.entries c.args.place) taking_pier c.args.self.now.desk.ports.harbor c.send.new.self.ports.harbor (SendsSo c.args.bytes.now c.send.result) c.send.ensures.call) (marked_bases c.args.place ToWrite (send_mark c.send.result) c.args.self.now.desk.log.stations.entries c.send.new.self.log.stations.entries c.send.ensures.row));
+      (λ on start. send_follows c.send.result c.args.place c.args.bytes.now c.args.self.now.desk.log.recording.told c.send.new.self.log.recording.told (hold_at c.args.self.now.desk.log.stations.entries) (hold_at c.send.new.self.log.stations.entries) (base_at c.args.self.now.desk.log.stations.entries) (base_at c.send.new.self.log.stations.entries) c.args.self.now.desk.ports.harbor.input c.send.new.self.ports.harbor.input c.args.self.now.desk.ports.harbor.output c.send.new.self.ports.harbor.output c.args.self.now.desk.ports.harbor.errors c.send.new.self.ports.harbor.errors (based c.args.self.now.desk.log.stations.entries c.args.place (ap is_free c.requires.open)) c.send.ensures.act (at_input false (base_at c.args.self.now.desk.log.stations.entries c.args.place) taking_pier c.args.self.now.desk.ports.harbor c.send.new.self.ports.harbor (SendsSo c.args.bytes.now c.send.result) c.send.ensures.call) (at_output false (base_at c.args.self.now.desk.log.stations.entries c.args.place) taking_pier c.args.self.now.desk.ports.harbor c.send.new.self.ports.harbor (SendsSo c.args.bytes.now c.send.result) c.send.ensures.call) (at_errors false (base_at c.args.self.now.desk.log.stations.entries c.args.place) taking_pier c.args.self.now.desk.ports.harbor c.send.new.self.ports.harbor (SendsSo c.args.bytes.now c.send.result) c.send.ensures.call) (marked_bases c.args.place ToWrite (send_mark c.send.result) c.args.self.now.desk.log.stations.entries c.send.new.self.log.stations.entries c.send.ensures.row) (on start));
 }

@@ -13,5 +13,5 @@ use Rattle.desk_history.proofs.followed.FollowedWorld.shut.Goals as goal
 pub invariant_of-self : goal.invariant_of-self
 invariant_of-self g c = record {
   follows = ∥∥₁_map c.args.self.now.follows
-      (shut_follows c.shut.result c.args.place c.args.how c.args.self.now.desk.log.recording.told c.shut.new.self.log.recording.told (hold_at c.args.self.now.desk.log.stations.entries) (hold_at c.shut.new.self.log.stations.entries) (base_at c.args.self.now.desk.log.stations.entries) (base_at c.shut.new.self.log.stations.entries) c.args.self.now.desk.ports.harbor.input c.shut.new.self.ports.harbor.input c.args.self.now.desk.ports.harbor.output c.shut.new.self.ports.harbor.output c.args.self.now.desk.ports.harbor.errors c.shut.new.self.ports.harbor.errors (based c.args.self.now.desk.log.stations.entries c.args.place (ap is_free c.requires)) c.shut.ensures.act (at_input (shut_ends c.args.how c.shut.result) (base_at c.args.self.now.desk.log.stations.entries c.args.place) taking_pier c.args.self.now.desk.ports.harbor c.shut.new.self.ports.harbor (ShutsSo c.args.how c.shut.result) c.shut.ensures.call) (at_output (shut_ends c.args.how c.shut.result) (base_at c.args.self.now.desk.log.stations.entries c.args.place) taking_pier c.args.self.now.desk.ports.harbor c.shut.new.self.ports.harbor (ShutsSo c.args.how c.shut.result) c.shut.ensures.call) (at_errors (shut_ends c.args.how c.shut.result) (base_at c.args.self.now.desk.log.stations.entries c.args.place) taking_pier c.args.self.now.desk.ports.harbor c.shut.new.self.ports.harbor (ShutsSo c.args.how c.shut.result) c.shut.ensures.call) c.shut.ensures.bases);
+      (λ on start. shut_follows c.shut.result c.args.place c.args.how c.args.self.now.desk.log.recording.told c.shut.new.self.log.recording.told (hold_at c.args.self.now.desk.log.stations.entries) (hold_at c.shut.new.self.log.stations.entries) (base_at c.args.self.now.desk.log.stations.entries) (base_at c.shut.new.self.log.stations.entries) c.args.self.now.desk.ports.harbor.input c.shut.new.self.ports.harbor.input c.args.self.now.desk.ports.harbor.output c.shut.new.self.ports.harbor.output c.args.self.now.desk.ports.harbor.errors c.shut.new.self.ports.harbor.errors (based c.args.self.now.desk.log.stations.entries c.args.place (ap is_free c.requires)) c.shut.ensures.act (at_input (shut_ends c.args.how c.shut.result) (base_at c.args.self.now.desk.log.stations.entries c.args.place) taking_pier c.args.self.now.desk.ports.harbor c.shut.new.self.ports.harbor (ShutsSo c.args.how c.shut.result) c.shut.ensures.call) (at_output (shut_ends c.args.how c.shut.result) (base_at c.args.self.now.desk.log.stations.entries c.args.place) taking_pier c.args.self.now.desk.ports.harbor c.shut.new.self.ports.harbor (ShutsSo c.args.how c.shut.result) c.shut.ensures.call) (at_errors (shut_ends c.args.how c.shut.result) (base_at c.args.self.now.desk.log.stations.entries c.args.place) taking_pier c.args.self.now.desk.ports.harbor c.shut.new.self.ports.harbor (ShutsSo c.args.how c.shut.result) c.shut.ensures.call) c.shut.ensures.bases (on start));
 }

@@ -8,5 +8,5 @@ use Rattle.desk_history.proofs.followed.FollowedWorld.wait.Goals as goal
 pub invariant_of-self : goal.invariant_of-self
 invariant_of-self g c = record {
   follows = ∥∥₁_map c.args.self.now.follows
-      (wait_follows c.wait.result c.args.until c.wait.new.ready c.args.self.now.desk.log.recording.told c.wait.new.self.log.recording.told (hold_at c.args.self.now.desk.log.stations.entries) (hold_at c.wait.new.self.log.stations.entries) (base_at c.args.self.now.desk.log.stations.entries) (base_at c.wait.new.self.log.stations.entries) c.args.self.now.desk.ports.harbor.input c.wait.new.self.ports.harbor.input c.args.self.now.desk.ports.harbor.output c.wait.new.self.ports.harbor.output c.args.self.now.desk.ports.harbor.errors c.wait.new.self.ports.harbor.errors c.wait.ensures.act (ap (λ (s : StreamSeen). s.port) c.wait.ensures.streams.input) (ap (λ (s : StreamSeen). s.port) c.wait.ensures.streams.output) (ap (λ (s : StreamSeen). s.port) c.wait.ensures.streams.errors) c.wait.ensures.bases);
+      (λ on start. wait_follows c.wait.result c.args.until c.wait.new.ready c.args.self.now.desk.log.recording.told c.wait.new.self.log.recording.told (hold_at c.args.self.now.desk.log.stations.entries) (hold_at c.wait.new.self.log.stations.entries) (base_at c.args.self.now.desk.log.stations.entries) (base_at c.wait.new.self.log.stations.entries) c.args.self.now.desk.ports.harbor.input c.wait.new.self.ports.harbor.input c.args.self.now.desk.ports.harbor.output c.wait.new.self.ports.harbor.output c.args.self.now.desk.ports.harbor.errors c.wait.new.self.ports.harbor.errors c.wait.ensures.act (ap (λ (s : StreamSeen). s.port) c.wait.ensures.streams.input) (ap (λ (s : StreamSeen). s.port) c.wait.ensures.streams.output) (ap (λ (s : StreamSeen). s.port) c.wait.ensures.streams.errors) c.wait.ensures.bases (on start));
 }
