@@ -1,24 +1,21 @@
-"""Parts by themselves; the pump is two rings without a relay."""
+"""Parts by themselves. What a session and the rings cost shows in Streams beside `cat`, and in Sockets beside the bare loop."""
 import os
 import re
 import subprocess
 
 from measures import LIMIT, TOP, Failed, Figure
-from streams import copied
 
-PARTS = {
-    "bench_flow": ("200000",),
-    "bench_session": ("TCP4:here:1", "TCP4:there:1"),
-    "bench_timers": ("300000",),
-}
+CRATE = "bench_parts"
+# The words that each part is asked with.
+PARTS = {"flow": ("flow", "200000"), "timers": ("timers", "300000")}
 LINE = re.compile(r"^(.*?): ([\d.]+)(?: (MB/s|ns))?\b")
 
 
-def built(bench, crate):
-    program = os.path.join(TOP, "crates", crate, "out", crate)
+def built(bench):
+    program = os.path.join(TOP, "crates", CRATE, "out", CRATE)
     if os.access(program, os.X_OK):
         return program
-    return bench.note(f"{crate} isn't built: use rt run in its crate")
+    return bench.note(f"{CRATE} isn't built: use rt run in its crate")
 
 
 def lines_of(program, words):
@@ -30,16 +27,9 @@ def lines_of(program, words):
 
 
 def figures(bench):
-    for crate, words in PARTS.items():
-        program = built(bench, crate)
-        rounds = [lines_of(program, words) for _ in range(bench.rounds)] if program else [[]]
+    program = built(bench)
+    for part, words in PARTS.items() if program else ():
+        rounds = [lines_of(program, words) for _ in range(bench.rounds)]
         for at, (name, _, unit) in enumerate(rounds[0]):
             values = [float(row[at][1]) for row in rounds]
-            yield Figure(f"{crate.removeprefix('bench_')}: {name}", unit or "", {"ours": values}, unit == "ns")
-    pump = built(bench, "bench_pump")
-    if pump:
-        bench.programs["pump"] = pump
-        count = bench.size(1 << 30)
-        commands = {"ours": [bench.programs["ours"], "-u", "STDIN", "STDOUT"], "pump": [pump]}
-        yield from bench.figures([("pipe to pipe, beside the pump", "MB/s", False)], list(commands),
-                                 lambda name: (copied(bench, commands[name], count),))
+            yield Figure(f"{part}: {name}", unit or "", {"ours": values}, unit == "ns")

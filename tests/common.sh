@@ -62,30 +62,6 @@ ended_with() { [ "$1" = "$2" ] || echo "status $2, not $1"; }
 # report_words PROBLEM WORD..: the same of a case that is named by its words.
 report_words() { report "$(printf '%q ' "${@:2}" | head -c 200)" "$1"; }
 
-# try NAME STATUS INPUT OUTPUT LINE WORD..: runs the program on the input, and looks at its status, its output and its
-# one line on standard error ('' for none). INPUT and OUTPUT are texts for printf '%b'.
-try() {
-    local name="$1" wanted="$2" input="$3" output="$4" line="$5" status problem=''
-    shift 5
-    forget_last
-    printf '%b' "$input" >"$scratch/offered"
-    # shellcheck disable=SC2002
-    cat "$scratch/offered" | timeout 60 "$program" "$@" >"$scratch/out" 2>"$scratch/err"
-    status="${PIPESTATUS[1]}"
-    keep_last "$status" "$scratch/offered" "$scratch/out"
-    printf '%b' "$output" >"$scratch/wanted"
-    [ -z "$line" ] || printf '%s\n' "$line" >"$scratch/line"
-    [ -n "$line" ] || : >"$scratch/line"
-    if [ "$status" -ne "$wanted" ]; then
-        problem="status $status, said $(head -c 200 "$scratch/err")"
-    elif ! cmp -s "$scratch/out" "$scratch/wanted"; then
-        problem="other bytes came out: $(head -c 60 "$scratch/out" | od -An -c | head -3)"
-    elif ! cmp -s "$scratch/err" "$scratch/line"; then
-        problem="said $(head -c 200 "$scratch/err")"
-    fi
-    report "$name" "$problem"
-}
-
 # next_case: reads the next case's words into `words`: a line 'case N', and N lines with one word each. It fails where no
 # case is left.
 next_case() {

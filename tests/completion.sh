@@ -16,9 +16,15 @@ mkdir sub 'my folder'
 
 # offers LINE WORD..: what the completion offers at the end of the line is just these words.
 offers() {
-    local COMP_LINE="$1" COMP_POINT="${#1}" got wanted
+    local COMP_LINE="$1" COMP_POINT="${#1}" COMP_WORDS COMP_CWORD got wanted
+    read -ra COMP_WORDS <<<"$1"
+    [[ "$1" != *' ' ]] || COMP_WORDS+=('')
+    COMP_CWORD=$((${#COMP_WORDS[@]} - 1))
     COMPREPLY=()
-    _socat
+    case "$1" in
+        'socat-journal '*) _socat_journal ;;
+        *) _socat ;;
+    esac
     got="$(printf '<%s>' "${COMPREPLY[@]}")"
     shift
     wanted="$(printf '<%s>' "$@")"
@@ -39,6 +45,14 @@ offers "socat 'STDIN!!STDO" 'STDIN!!STDOUT'
 offers 'socat STDIO,shut-n' STDIO,shut-none STDIO,shut-null
 offers 'socat -,ign' -,ignoreeof
 offers 'socat STDIO UNIX-L' UNIX-L: UNIX-LISTEN:
+offers 'socat-journal --t' --timeline --text
+offers 'socat-journal jo' journal.txt
+offers 'socat-journal --svg jo' journal.txt
+offers 'socat-journal --bytes 0 r' right
+offers 'socat-journal --read --hex 12 ' right left
+offers 'socat-journal --bytes 0 left --re' --read
+offers 'socat-journal --bytes 0 left jo' journal.txt
+offers 'socat-journal --text 0 left journal.txt -u STDIN STDO' STDOUT
 
 echo "$passed passed, $failed failed"
 [ "$failed" -eq 0 ]

@@ -4,7 +4,7 @@
 # The examples count on half a second for an answer, as a user does. A busy machine may need more, so an example that
 # fails is tried again, up to three times in all.
 # 'N passed, M failed' at the end; the status is 1 where one failed.
-# Usage: tests/examples.sh [PROGRAM [AUDITOR [EXPLAINER]]]      (those of bin/ where none is given)
+# Usage: tests/examples.sh [PROGRAM [AUDITOR [EXPLAINER [READER]]]]      (those of bin/ where none is given)
 set -u
 
 . "$(dirname "${BASH_SOURCE[0]}")/common.sh"
@@ -14,6 +14,7 @@ mkdir "$scratch/bin" "$scratch/blocks"
 ln -s "$program" "$scratch/bin/socat"
 ln -s "$auditor" "$scratch/bin/socat-audit"
 ln -s "$(realpath "${3:-$here/bin/socat-explain}")" "$scratch/bin/socat-explain"
+ln -s "$(realpath "${4:-$here/bin/socat-journal}")" "$scratch/bin/socat-journal"
 
 # blocks FILE: takes the examples of a document apart, into NAME.title, .run and .want. In a manual page a block stands
 # between .EX and .EE, and its text is unescaped.
@@ -89,7 +90,7 @@ done
 for name in "$scratch"/blocks/*.run; do
     example "${name%.run}"
 done
-wanted=28
+wanted=31
 tasks="$(grep -c '^### [0-9]' "$here/docs/EXAMPLES.md")"
 [ "$tasks" -eq "$wanted" ] || report "docs/EXAMPLES.md" "it has $tasks tasks, want $wanted"
 

@@ -2,17 +2,17 @@
 # Refused memory: runs the built program with the C library's allocator refusing one request, for each of the requests
 # in turn: one way, a dump, 100,000 bytes over both rings, three TCP peers with `fork`; and one way and a dump with all
 # behind it refused too; each also with a journal, which the built auditor judges. Each run either is as ever, or ends for
-# want of memory, which it says, with everything closed and no wrong byte passed. Where the program worked_runs is named
+# want of memory, which it says, with everything closed and no wrong byte passed. Where the program run_trials is named
 # too, some of its rows are tried likewise.
 # Usage: tests/memory.sh [PROGRAM [AUDITOR [WORKED]]]     (bin/socat and bin/socat-audit where none is given, and
-# crates/worked_runs/out/worked_runs where it was built)
+# crates/run_trials/out/run_trials where it was built)
 # A line for each row, and 'N passed, M failed' at the end; the status is 1 where a run was otherwise.
 set -u
 
 here="$(cd "$(dirname "${BASH_SOURCE[0]}")/.." && pwd)"
 program="$(realpath "${1:-$here/bin/socat}")"
 auditor="$(realpath "${2:-$here/bin/socat-audit}")"
-worked="$(realpath -m "${3:-$here/crates/worked_runs/out/worked_runs}")"
+worked="$(realpath -m "${3:-$here/crates/run_trials/out/run_trials}")"
 for one in "$program" "$auditor"; do
     if [ ! -x "$one" ]; then
         echo "no program at $one: run make first"
@@ -29,6 +29,6 @@ scratch="$(mktemp -d)" || exit 1
 trap 'rm -rf "$scratch"' EXIT
 "$compiler" -O2 -shared -fPIC -o "$scratch/refuse.so" "$here/tests/memory/refuse.c" || exit 1
 [ -x "$worked" ] || worked=''
-[ -n "$worked" ] || echo "skipped the worked rows: worked_runs isn't built"
+[ -n "$worked" ] || echo "skipped the worked rows: run_trials isn't built"
 python3 -B "$here/tests/memory/run.py" "$scratch/refuse.so" "$program" "$auditor" \
-    ${worked:+"$worked" "$here/crates/worked_runs/data"}
+    ${worked:+"$worked" "$here/crates/run_trials/data/scripted"}

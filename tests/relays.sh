@@ -249,6 +249,14 @@ run() {
     ended relay "$1" "$2" "$3"
 }
 
+# run_case NAME STATUS INPUT OUTPUT LINE WORD..: a case of one run on an input.
+run_case() {
+    begin "$1"
+    given "$3"
+    run "$2" "$4" "$5" "${@:6}"
+    finish
+}
+
 # run_to_end WORD..: a relay from its start to its end; `status` is what it ended with.
 run_to_end() {
     start relay "$@"

@@ -1,7 +1,7 @@
 #!/usr/bin/env python3
 """Proves programs with the crates that they stand on, and leaves them in bin/.
 
-Usage: tools/build.py socat|socat-audit|socat-explain ..
+Usage: tools/build.py socat|socat-audit|socat-explain|socat-journal ..
 
 `rt ci` does the work, on a copy that holds these crates alone: no program that only tries or measures, and no
 must-fail edit. It uses all processors, and the machine keeps what it proved: an interrupted build goes on where it
@@ -17,7 +17,7 @@ import threading
 import time
 
 TOP = os.path.dirname(os.path.dirname(os.path.realpath(__file__)))
-CRATES = {"socat": "socat_main", "socat-audit": "audit_main", "socat-explain": "explain_main"}
+CRATES = {"socat": "socat_main", "socat-audit": "audit_main", "socat-explain": "explain_main", "socat-journal": "journal_main"}
 LEFT_OUT = shutil.ignore_patterns("out", "must-fail")
 # The longest time without a line, in seconds.
 SILENCE = 25

@@ -42,6 +42,11 @@ def sources(crate):
     return sorted((CRATES / crate / "src").rglob("*.rt"))
 
 
+def goes_on(line):
+    """Whether this line begins a clause whose brace is still open."""
+    return line.lstrip().startswith(("ensures", "requires")) and line.count("{") > line.count("}")
+
+
 def functions(crate):
     """Every function of the crate, with the clauses that stand between its name and the next function."""
     found = []
@@ -59,6 +64,9 @@ def functions(crate):
                 current = Function(owner if start.group(1) else "", start.group(2))
                 found.append(current)
             if current is None:
+                continue
+            if current.lines and goes_on(current.lines[-1]):
+                current.lines[-1] += " " + line.strip()
                 continue
             current.lines.append(line)
             clause = CLAUSE.match(line)

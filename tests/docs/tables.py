@@ -105,6 +105,14 @@ def code_refusals():
     return {f"E{number} {lines[name]}" for name, number in codes.items()}
 
 
+def code_views():
+    return {name.decode() for name in re.findall(rb'b"(--[a-z]+)"', (CRATES / "journal_report/src/views.rt").read_bytes())}
+
+
+def code_unshown():
+    return {line.strip() for line in re.findall(r'codes "(no: [a-z ]+)"', text_of("journal_report/specs/Runs.antt"))}
+
+
 def code_journal_words():
     text = text_of("journal_text/specs/Lines.antt")
     return {
@@ -250,6 +258,14 @@ def check_manual():
     audit = sections("socat-audit.1")
     lines = [line.split()[0] for line in audit["JOURNALS"] if re.match(r"^[a-z]+ \\fI", line)]
     compare("socat-audit.1, lines of a journal", lines, code_journal_words())
+    check_reader(sections("socat-journal.1"))
+
+
+def check_reader(page):
+    views = re.findall(r"--[a-z]+", plain("\n".join(page["VIEWS"])))
+    compare("socat-journal.1, views", views, code_views() | {"--journal"} & set(views))
+    status = plain(" ".join(page["EXIT STATUS"]))
+    compare("socat-journal.1, lines", re.findall(r"no: (?:too long|[a-z]+)", status), code_unshown())
 
 
 # --- the completion
@@ -257,7 +273,7 @@ def check_manual():
 
 def check_completion():
     script = (
-        f'. "{TOP}/completion/socat"; printf "flags %s\\n" "${{_socat_flags[*]}}"; '
+        f'. "{TOP}/completion/socat"; printf "flags %s\\n" "${{_socat_flags[*]}}"; printf "views %s\\n" "${{_socat_views[*]}}"; '
         'for k in "${!_socat_groups[@]}"; do printf "kind %s %s\\n" "$k" "${_socat_groups[$k]}"; done; '
         'for g in "${!_socat_options[@]}"; do printf "group %s %s\\n" "$g" "${_socat_options[$g]}"; done'
     )
@@ -265,6 +281,7 @@ def check_completion():
     same("completion, errors", told.stderr, "")
     rows = [line.split() for line in told.stdout.split("\n") if line]
     compare("completion, flags", [w.rstrip("=") for r in rows if r[0] == "flags" for w in r[1:]], code_flags())
+    compare("completion, views", [word for row in rows if row[0] == "views" for word in row[1:]], code_views())
     kinds = {r[1]: r[2:] for r in rows if r[0] == "kind"}
     wanted = {word: groups for keywords, _, groups in code_kinds() for word in keywords}
     compare("completion, kinds", kinds, wanted)

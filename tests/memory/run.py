@@ -1,7 +1,7 @@
 #!/usr/bin/env python3
 """Refused memory, as tests/memory.sh says.
 
-run.py LIBRARY PROGRAM AUDITOR [WORKED FOLDER]      WORKED is the program worked_runs, FOLDER has its rows
+run.py LIBRARY PROGRAM AUDITOR [WORKED FOLDER]      WORKED is the program run_trials, FOLDER has rows over a scripted world
 """
 import os
 import socket
@@ -143,7 +143,7 @@ class Peers(Row):
 
 
 class Worked:
-    """One row of worked_runs, which is printed as fitting, or as one that ended for want of memory with all closed."""
+    """One row of run_trials, which is printed as fitting, or as one that ended for want of memory with all closed."""
 
     errors = b""
 
@@ -152,7 +152,7 @@ class Worked:
         self.folder = tempfile.mkdtemp(dir=folder)
 
     def run(self, library, number, *_):
-        process = begun(library, number, [self.program, "one.rows"], subprocess.PIPE, self.folder)
+        process = begun(library, number, [self.program, "scripted/one.rows"], subprocess.PIPE, self.folder)
         return ended(process, b"", self.folder)
 
     def take(self, rows):
@@ -162,7 +162,8 @@ class Worked:
                 for text in lines.read().split("\n\n"):
                     text = "\n".join(line for line in text.splitlines() if not line.startswith("#"))
                     if text.startswith(f"row {self.name}\n"):
-                        with open(os.path.join(self.folder, "one.rows"), "w") as out:
+                        os.mkdir(os.path.join(self.folder, "scripted"))
+                        with open(os.path.join(self.folder, "scripted", "one.rows"), "w") as out:
                             out.write(text + "\n")
                         return
         sys.exit(f"there is no row {self.name}")

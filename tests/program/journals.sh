@@ -8,7 +8,7 @@ saves() {
     local name="$1" input="$2" output="$3" said
     shift 3
     rm -f "$journal"
-    try "$name" 0 "$input" "$output" '' "--journal=$journal" "$@"
+    run_case "$name" 0 "$input" "$output" '' "--journal=$journal" "$@"
     said="$("${AUDITOR:-$here/bin/socat-audit}" "$journal" "$@")"
     case "$said" in
         yes:*' 0 held') report "$name, audited" '' ;;
@@ -21,24 +21,24 @@ saves "a journal of an echo" 'hi' 'hi' STDIO PIPE
 saves "a journal of nothing" '' '' -u STDIN STDOUT
 
 printf 'what stood there before' >"$journal"
-try "a file that was there" 0 '' '' '' "--journal=$journal" -u STDIN STDOUT
+run_case "a file that was there" 0 '' '' '' "--journal=$journal" -u STDIN STDOUT
 report "it is emptied first" "$(grep -q before "$journal" && echo 'it keeps what stood there')"
 
-try "words that are refused" 1 '' '' 'socat: E05 word 2: empty address' "--journal=$journal" - ''
+run_case "words that are refused" 1 '' '' 'socat: E05 word 2: empty address' "--journal=$journal" - ''
 report "the file is empty" "$(holds "$journal" '')"
 
 # --- files that can't be made or written: the relay is as ever, but for its status and a line
 
 unwritten="socat: the journal couldn't be written"
-try "a folder as a journal" 1 'abc' 'abc' "$unwritten" "--journal=$scratch" -u STDIN STDOUT
-try "a journal without a name" 1 'abc' 'abc' "$unwritten" --journal= -u STDIN STDOUT
-try "a journal in no folder" 1 'abc' 'abc' "$unwritten" "--journal=$scratch/none/journal" -u STDIN STDOUT
-try "a journal whose name is no text" 1 'abc' 'abc' "$unwritten" "--journal=$scratch/"$'\xff' -u STDIN STDOUT
-[ ! -e /dev/full ] || try "a journal on a full disk" 1 'abc' 'abc' "$unwritten" --journal=/dev/full -u STDIN STDOUT
+run_case "a folder as a journal" 1 'abc' 'abc' "$unwritten" "--journal=$scratch" -u STDIN STDOUT
+run_case "a journal without a name" 1 'abc' 'abc' "$unwritten" --journal= -u STDIN STDOUT
+run_case "a journal in no folder" 1 'abc' 'abc' "$unwritten" "--journal=$scratch/none/journal" -u STDIN STDOUT
+run_case "a journal whose name is no text" 1 'abc' 'abc' "$unwritten" "--journal=$scratch/"$'\xff' -u STDIN STDOUT
+[ ! -e /dev/full ] || run_case "a journal on a full disk" 1 'abc' 'abc' "$unwritten" --journal=/dev/full -u STDIN STDOUT
 
 # The opening of a named pipe would wait for a reader.
 mkfifo "$scratch/journal.pipe"
-try "a named pipe as a journal" 1 'abc' 'abc' "$unwritten" "--journal=$scratch/journal.pipe" -u STDIN STDOUT
+run_case "a named pipe as a journal" 1 'abc' 'abc' "$unwritten" "--journal=$scratch/journal.pipe" -u STDIN STDOUT
 rm -f "$scratch/journal.pipe"
 
 problem=''

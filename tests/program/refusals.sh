@@ -5,7 +5,7 @@
 untouched() {
     local name="$1" wanted="$2" status problem='' calls="$scratch/calls"
     shift 2
-    timeout 60 strace -f -o "$calls" -e trace=process,desc,network "$program" "$@" </dev/null >/dev/null 2>"$scratch/err"
+    timeout 60 strace -f -o "$calls" -e trace=process,desc,network "${AUDITED:-$program}" "$@" </dev/null >/dev/null 2>"$scratch/err"
     status=$?
     if [ "$status" -ne "$wanted" ]; then
         problem="status $status, said $(head -c 200 "$scratch/err")"

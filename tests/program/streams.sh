@@ -57,10 +57,10 @@ report "a reader that is slow" "$problem"
 
 # --- dumps
 
-try "a dump as text" 0 'a\n' 'a\n' $'> length=2 from=0 to=1\na' -v "${relay[@]}"
-try "a dump in hexadecimal" 0 'a\n' 'a\n' $'> length=2 from=0 to=1\n 61 0a' -x "${relay[@]}"
-try "a dump of both" 0 'a\n' 'a\n' $'> length=2 from=0 to=1\n 61 0a\n> length=2 from=0 to=1\na' -v -x "${relay[@]}"
-try "a dump of each block" 0 'abcdef' 'abcdef' $'> length=4 from=0 to=3\nabcd\n> length=2 from=4 to=5\nef' -b4 -v "${relay[@]}"
+run_case "a dump as text" 0 'a\n' 'a\n' $'> length=2 from=0 to=1\na' -v "${relay[@]}"
+run_case "a dump in hexadecimal" 0 'a\n' 'a\n' $'> length=2 from=0 to=1\n 61 0a' -x "${relay[@]}"
+run_case "a dump of both" 0 'a\n' 'a\n' $'> length=2 from=0 to=1\n 61 0a\n> length=2 from=0 to=1\na' -v -x "${relay[@]}"
+run_case "a dump of each block" 0 'abcdef' 'abcdef' $'> length=4 from=0 to=3\nabcd\n> length=2 from=4 to=5\nef' -b4 -v "${relay[@]}"
 
 problem=''
 got="$(timeout 60 "$program" -x "${relay[@]}" <"$scratch/binary" 2>&1 >"$scratch/out" | grep -v '^>' | tr -d ' \n')"

@@ -9,4 +9,4 @@ mod tries;
 pub use answers::Answers;
 pub use inputs::{Inputs, bytes_of, step_parts};
 pub use rows::{Answered, Row, RowFault, Tally};
-pub use tries::try_files;
+pub use tries::{try_files, try_named};

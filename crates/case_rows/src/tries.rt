@@ -16,13 +16,31 @@ where
     F: Fn(Global, &str, &mut Inputs<'_>, &mut Answers) -> Answered,
     requires { F.IsAlwaysCallable ask.now }
 {
+    let mut names = Vec::new(rt.alloc());
+    for name in env::args(rt)?.skip(1) {
+        names.push(name)?;
+    }
+    let all_fit = try_named(rt, names.as_slice(), ask)?;
+    Ok(ExitCode::from(if all_fit { 0 } else { 1 }))
+}
+
+/// The same for the files with these names. Nothing is printed where there are none. False where a row differs.
+pub fn try_named<R, F>(rt: &R, names: &[String], ask: &F) -> io::Result<bool>
+where
+    R: Files + Print + AllocGlobal,
+    F: Fn(Global, &str, &mut Inputs<'_>, &mut Answers) -> Answered,
+    requires { F.IsAlwaysCallable ask.now }
+{
+    if names.is_empty() {
+        return Ok(true);
+    }
     let mut tally = Tally::default();
-    for path in env::args(rt)?.skip(1) {
-        try_file(rt, ask, path.as_str(), &mut tally)?;
+    for name in names {
+        try_file(rt, ask, name.as_str(), &mut tally)?;
     }
     let (good, differing) = (tally.good, tally.differing);
     println!(rt; "{good} ok, {differing} differ")?;
-    Ok(ExitCode::from(if differing == 0 { 0 } else { 1 }))
+    Ok(differing == 0)
 }
 
 fn try_file<R, F>(rt: &R, ask: &F, path: &str, tally: &mut Tally) -> io::Result<()>

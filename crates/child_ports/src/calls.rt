@@ -24,7 +24,9 @@ pub trait ProgramCalls {
 
     /// Starts the program of this command (execve(2)).
     fn start(&mut self, command: &mut Command) -> io::Result<Child<SystemProcess>>
-        ensures started { MatchResult result (λ _. started self.new ≡ option_map (λ all. all ++ command.old ∷ []) (started self.old)) (λ _. started self.new ≡ started self.old) }
+        ensures started { MatchResult result
+            (λ _. started self.new ≡ option_map (λ all. all ++ command.old ∷ []) (started self.old))
+            (λ _. started self.new ≡ started self.old) }
         ensures refused { IfErr result (λ _. refuses self.old command.old) };
 
     /// A pipe (pipe(2)).

@@ -2,13 +2,13 @@
 #![tactic(auto)]
 
 mod calls;
-mod nursery;
 mod peers;
 mod port;
 mod start;
+mod unreaped;
 
 pub use calls::ProgramCalls;
-pub use nursery::{EmptyWard, Nursery, Ward};
 pub use peers::PeerTexts;
 pub use port::{ChildPort, ProgramPipes};
 pub use start::make_child;
+pub use unreaped::{EmptyWard, UnreapedChildren, Ward};

@@ -18,7 +18,9 @@ pub struct PeerTexts {
 impl PeerTexts {
     /// The texts of socat(1)'s variables SOCAT_PEERADDR and SOCAT_PEERPORT. A peer of a Unix socket has none.
     pub fn of(alloc: Global, peer: Peer) -> Result<Option<PeerTexts>, NoMemory>
-        ensures { IfOk result (λ found. option_map (λ texts. (string_bytes texts.address, string_bytes texts.port)) found ≡ peer_texts peer) }
+        ensures { IfOk result
+            (λ found. option_map (λ texts. (string_bytes texts.address, string_bytes texts.port)) found
+            ≡ peer_texts peer) }
     {
         match peer {
             Peer::V4 { addr, port } => Ok(Some(PeerTexts {

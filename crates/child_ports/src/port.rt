@@ -1,7 +1,7 @@
 // The port of a child.
 ghost use Rattle.std.specs.Prelude.{◌≡◌, true};
 
-use crate::nursery::Ward;
+use crate::unreaped::Ward;
 use file_ports::Halves;
 use port_trait::{Begun, Got, Hint, Joining, Port, PortReap, Settled, Shutting, Took};
 use relay_model::Shut;

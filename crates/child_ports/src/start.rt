@@ -11,9 +11,9 @@ ghost use Rattle.child_ports.specs.Programs.{runs_program, IsWordless, IsUnstart
 ghost use Rattle.file_ports.specs.Access.{reads_by, writes_by};
 
 use crate::calls::ProgramCalls;
-use crate::nursery::Nursery;
 use crate::peers::PeerTexts;
 use crate::port::ChildPort;
+use crate::unreaped::UnreapedChildren;
 use mio::Registry;
 use port_trait::Making;
 use relay_model::{NoMemory, Part, Peer, Target, Text, Texts};
@@ -26,14 +26,14 @@ use std::{io, str};
 /// Starts the program of an `EXEC` or the shell of a `SYSTEM` (socat(1)), once, and has the registry report its pipes
 /// under `key`. The stream that the part doesn't use is this process's own, as is standard error. `Failed` where the
 /// address is none of these, where a text of it isn't UTF-8, and where the system refuses; then nothing was started. A
-/// program that outlives its port goes to the nursery.
+/// program that outlives its port goes to the unreaped.
 #[tactic(auto, using(crate::proofs::Words::runs_on))]
 pub fn make_child<C: ProgramCalls>(
     calls: &mut C,
     alloc: Global,
     registry: &Registry,
     key: usize,
-    nursery: &Nursery<SystemProcess>,
+    unreaped: &UnreapedChildren<SystemProcess>,
     target: &Target,
     part: Part,
     peer: Option<Peer>,
@@ -43,7 +43,8 @@ pub fn make_child<C: ProgramCalls>(
     ensures at_once { IsAtOnce result }
     ensures other { runs_program target.now ≡ false → result ≡ makings.Failed }
     ensures started { Starts target.now peer result (C.started calls.old) (C.started calls.new) }
-    ensures failed { result ≡ makings.Failed → IsUnstarted (C.refuses calls.old) (C.lacks_pipes calls.old) (C.reports_none calls.old) target.now peer }
+    ensures failed { result ≡ makings.Failed
+        → IsUnstarted (C.refuses calls.old) (C.lacks_pipes calls.old) (C.reports_none calls.old) target.now peer }
 {
     let mut command = match command_for(alloc, target, peer) {
         Ok(Some(command)) => command,
@@ -56,7 +57,7 @@ pub fn make_child<C: ProgramCalls>(
     let Some(pipes) = calls.enrolled(registry, key, output, input) else {
         return Making::Failed;
     };
-    let Ok(ward) = nursery.empty_ward() else {
+    let Ok(ward) = unreaped.empty_ward() else {
         return Making::Memory;
     };
     match calls.start(&mut command) {

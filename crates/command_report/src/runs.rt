@@ -6,9 +6,8 @@ ghost use Rattle.command_report.specs.Runs.{words_of_run, IsReport, Explained, E
 use crate::commands::explanation;
 use crate::refusals::refusal_report;
 use cmd_words::{CommandFault, command_of};
-use port_trait::Sink;
+use port_trait::{Sink, write_whole};
 use relay_model::{Bytes, NoMemory, Text};
-use sink_texts::write_whole;
 use std::alloc::Global;
 
 /// The flag that asks for a written journal, with the name of its file behind it.

@@ -2,14 +2,14 @@
 use Rattle.std.proofs.Common.{◌≡◌, Bool, true, false, List, Option, None, Some, option_map, refl, ap, ◌∙◌, if◌then◌else◌}
 use Rattle.relay_model.specs.declared.places.Place.{Place}
 use Rattle.relay_model.specs.Places.{same_place}
-use Rattle.desk_ports.specs.declared.bases.Base.{Base}
+use Rattle.port_table.specs.declared.bases.Base.{Base}
 use Rattle.desk_places.specs.declared.stations.Station.{Station}
-use Rattle.desk_places.specs.Bases.{ComesOn, Leaves, OtherBases, SameBases, is_made}
-use Rattle.desk_places.specs.Stations.{SameFooting, SetsStation, base_at, station_at}
+use Rattle.desk_places.specs.PlaceBases.{ComesOn, Leaves, OtherBases, SameBases, is_made}
+use Rattle.desk_places.specs.Stations.{SameStanding, SetsStation, base_at, station_at}
 use Rattle.desk_places.proofs.PlaceLemmas.{same_place-same}
 
--- what keeps its footing stands on what it stood on
-pub same_bases : (xs ys : List Station) → SameFooting xs ys → SameBases (base_at xs) (base_at ys)
+-- what keeps its standing stands on what it stood on
+pub same_bases : (xs ys : List Station) → SameStanding xs ys → SameBases (base_at xs) (base_at ys)
 same_bases xs ys same p = same p
 
 picked : (b : Bool) (x y : Option Station) → b ≡ true → (if b then x else y) ≡ x

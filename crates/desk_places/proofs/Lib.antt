@@ -2,7 +2,10 @@ pub mod BaseLemmas
 pub mod KeyLemmas
 pub mod MadeLemmas
 pub mod MarkLemmas
+pub mod NamingLemmas
+pub mod OnlyLemmas
 pub mod PlaceLemmas
 pub mod PortLemmas
 pub mod SoundLemmas
 pub mod StationLemmas
+pub mod TurnLemmas

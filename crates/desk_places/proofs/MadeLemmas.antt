@@ -2,11 +2,11 @@
 use Rattle.std.proofs.Common.{◌≡◌, ◌∙◌, ap, sym, subst, refl, ℕ, Option, None, Some, IfSome, is_some}
 use Rattle.slab.specs.Slab.{SameValues, Slab, get}
 use Rattle.relay_model.specs.declared.places.Place.{Place}
-use Rattle.desk_ports.specs.Bases.{key_of}
-use Rattle.desk_ports.specs.Harbors.{AtMade, MadeCall, giving_pier}
-use Rattle.desk_ports.specs.Ports.{BerthSeen, LetsIn, PortSeen}
-use Rattle.desk_ports.specs.declared.bases.Base.{Base}
-use Rattle.desk_ports.specs.declared.bases.Base.TheVariants as bases
+use Rattle.port_table.specs.Bases.{key_of}
+use Rattle.port_table.specs.PortTables.{AtMade, MadeCall, giving_port}
+use Rattle.port_table.specs.Ports.{EntrySeen, LetsIn, PortSeen}
+use Rattle.port_table.specs.declared.bases.Base.{Base}
+use Rattle.port_table.specs.declared.bases.Base.TheVariants as bases
 use Rattle.world_trait.specs.declared.answers.OpenAnswer.{OpenAnswer}
 use Rattle.world_trait.specs.declared.answers.OpenAnswer.TheVariants as opens
 use Rattle.world_trait.specs.declared.answers.ListenAnswer.{ListenAnswer}
@@ -16,11 +16,11 @@ use Rattle.world_trait.specs.declared.answers.AcceptAnswer.TheVariants as accept
 use Rattle.desk_places.specs.Changes.{AcceptsMade, ListensMade, OneMore, OpensMade, WelcomesMade}
 
 -- a fact of the key of a base that is a made port
-pub at_made : (base : Base) (key : ℕ) (Here : ℕ → Type 0) (Elsewhere : Type 0) → base ≡ bases.Made key → Here key → AtMade (giving_pier base) Here Elsewhere
-at_made base key Here Elsewhere is here = subst (λ b. AtMade (giving_pier b) Here Elsewhere) (sym is) here
+pub at_made : (base : Base) (key : ℕ) (Here : ℕ → Type 0) (Elsewhere : Type 0) → base ≡ bases.Made key → Here key → AtMade (giving_port base) Here Elsewhere
+at_made base key Here Elsewhere is here = subst (λ b. AtMade (giving_port b) Here Elsewhere) (sym is) here
 
 -- and of one that isn't
-pub at_standard : (base : Base) (Here : ℕ → Type 0) (Elsewhere : Type 0) → key_of base ≡ None → Elsewhere → AtMade (giving_pier base) Here Elsewhere
+pub at_standard : (base : Base) (Here : ℕ → Type 0) (Elsewhere : Type 0) → key_of base ≡ None → Elsewhere → AtMade (giving_port base) Here Elsewhere
 at_standard (bases.Made key) Here Elsewhere e there = absurd cc
 at_standard bases.Input Here Elsewhere e there = there
 at_standard bases.Output Here Elsewhere e there = there
@@ -28,17 +28,17 @@ at_standard bases.Both Here Elsewhere e there = there
 at_standard bases.Errors Here Elsewhere e there = there
 
 -- a call on a made port, and then nothing
-pub call_then : (made mid made' : Slab BerthSeen) (key : ℕ) (Call : PortSeen → PortSeen → Type 0) → MadeCall made mid key Call → SameValues mid made' → MadeCall made made' key Call
+pub call_then : (made mid made' : Slab EntrySeen) (key : ℕ) (Call : PortSeen → PortSeen → Type 0) → MadeCall made mid key Call → SameValues mid made' → MadeCall made made' key Call
 call_then made mid made' key Call call same = record {
-  call = subst (λ (slot : Option BerthSeen). IfSome (get made key) (λ o. IfSome slot (λ n. (n.place ≡ o.place) × Call o.port n.port))) (sym (same key)) call.call;
+  call = subst (λ (slot : Option EntrySeen). IfSome (get made key) (λ o. IfSome slot (λ n. (n.place ≡ o.place) × Call o.port n.port))) (sym (same key)) call.call;
   stands = ap is_some (same key) ∙ call.stands;
   others = λ other away. same other ∙ call.others other away;
 }
 
 -- nothing, and then a call on a made port
-pub then_call : (made mid made' : Slab BerthSeen) (key : ℕ) (Call : PortSeen → PortSeen → Type 0) → SameValues made mid → MadeCall mid made' key Call → MadeCall made made' key Call
+pub then_call : (made mid made' : Slab EntrySeen) (key : ℕ) (Call : PortSeen → PortSeen → Type 0) → SameValues made mid → MadeCall mid made' key Call → MadeCall made made' key Call
 then_call made mid made' key Call same call = record {
-  call = subst (λ (slot : Option BerthSeen). IfSome slot (λ o. IfSome (get made' key) (λ n. (n.place ≡ o.place) × Call o.port n.port))) (same key) call.call;
+  call = subst (λ (slot : Option EntrySeen). IfSome slot (λ o. IfSome (get made' key) (λ n. (n.place ≡ o.place) × Call o.port n.port))) (same key) call.call;
   stands = call.stands ∙ ap is_some (same key);
   others = λ other away. call.others other away ∙ same other;
 }
@@ -46,19 +46,19 @@ then_call made mid made' key Call same call = record {
 still_port : (port : PortSeen) → LetsIn port port
 still_port port = record { still = record { gave = refl; took = refl; unshut = refl } }
 
-still_slot : (slot : Option BerthSeen) → IfSome slot (λ o. IfSome slot (λ n. (n.place ≡ o.place) × LetsIn o.port n.port))
+still_slot : (slot : Option EntrySeen) → IfSome slot (λ o. IfSome slot (λ n. (n.place ≡ o.place) × LetsIn o.port n.port))
 still_slot None = tt
-still_slot (Some berth) = (refl, still_port berth.port)
+still_slot (Some entry) = (refl, still_port entry.port)
 
-still_call : (made : Slab BerthSeen) (key : ℕ) → MadeCall made made key LetsIn
+still_call : (made : Slab EntrySeen) (key : ℕ) → MadeCall made made key LetsIn
 still_call made key = record { call = still_slot (get made key); stands = refl; others = λ other away. refl }
 
 -- a door that let nobody in
-pub no_call : (made made' : Slab BerthSeen) (key : ℕ) → SameValues made made' → MadeCall made made' key LetsIn
+pub no_call : (made made' : Slab EntrySeen) (key : ℕ) → SameValues made made' → MadeCall made made' key LetsIn
 no_call made made' key same = call_then made made made' key LetsIn (still_call made key) same
 
 -- one port more, after nothing
-pub then_more : {T : Type 0} (tells : T → PortSeen) (place : Place) (base : Option Base) (made mid made' : Slab BerthSeen) → SameValues made mid → OneMore tells place base mid made' → OneMore tells place base made made'
+pub then_more : {T : Type 0} (tells : T → PortSeen) (place : Place) (base : Option Base) (made mid made' : Slab EntrySeen) → SameValues made mid → OneMore tells place base mid made' → OneMore tells place base made made'
 then_more tells place base made mid made' same more = record {
   key = more.key;
   vacant = sym (same more.key) ∙ more.vacant;
@@ -70,28 +70,28 @@ then_more tells place base made mid made' same more = record {
 }
 
 -- the same where the place still stands on it
-pub more_based : {T : Type 0} (tells : T → PortSeen) (place : Place) (base base' : Option Base) (made made' : Slab BerthSeen) → base' ≡ base → OneMore tells place base made made' → OneMore tells place base' made made'
+pub more_based : {T : Type 0} (tells : T → PortSeen) (place : Place) (base base' : Option Base) (made made' : Slab EntrySeen) → base' ≡ base → OneMore tells place base made made' → OneMore tells place base' made made'
 more_based tells place base base' made made' same more = subst (λ b. OneMore tells place b made made') (sym same) more
 
-pub accepts_made : {T : Type 0} (tells : T → PortSeen) (answer : AcceptAnswer) (door : ℕ) (place : Place) (base : Option Base) (made mid made' : Slab BerthSeen) → MadeCall made mid door LetsIn → WelcomesMade tells place base answer mid made' → AcceptsMade tells door place base answer made made'
+pub accepts_made : {T : Type 0} (tells : T → PortSeen) (answer : AcceptAnswer) (door : ℕ) (place : Place) (base : Option Base) (made mid made' : Slab EntrySeen) → MadeCall made mid door LetsIn → WelcomesMade tells place base answer mid made' → AcceptsMade tells door place base answer made made'
 accepts_made tells (accepts.Accepted peer) door place base made mid made' call more = (mid, call, more)
 accepts_made tells accepts.NoPeer door place base made mid made' call never = absurd never
 accepts_made tells accepts.Failed door place base made mid made' call same = call_then made mid made' door LetsIn call same
 accepts_made tells accepts.Memory door place base made mid made' call same = call_then made mid made' door LetsIn call same
 
 -- the same after the room was made
-pub then_opens : {T : Type 0} (tells : T → PortSeen) (answer : OpenAnswer) (place : Place) (base : Option Base) (made mid made' : Slab BerthSeen) → SameValues made mid → OpensMade tells place base answer mid made' → OpensMade tells place base answer made made'
+pub then_opens : {T : Type 0} (tells : T → PortSeen) (answer : OpenAnswer) (place : Place) (base : Option Base) (made mid made' : Slab EntrySeen) → SameValues made mid → OpensMade tells place base answer mid made' → OpensMade tells place base answer made made'
 then_opens tells opens.Opened place base made mid made' same more = then_more tells place base made mid made' same more
 then_opens tells opens.Later place base made mid made' same more = then_more tells place base made mid made' same more
 then_opens tells opens.Failed place base made mid made' same more = λ key. more key ∙ same key
 then_opens tells opens.Memory place base made mid made' same more = λ key. more key ∙ same key
 
-pub then_listens : {T : Type 0} (tells : T → PortSeen) (answer : ListenAnswer) (door : Place) (base : Option Base) (made mid made' : Slab BerthSeen) → SameValues made mid → ListensMade tells door base answer mid made' → ListensMade tells door base answer made made'
+pub then_listens : {T : Type 0} (tells : T → PortSeen) (answer : ListenAnswer) (door : Place) (base : Option Base) (made mid made' : Slab EntrySeen) → SameValues made mid → ListensMade tells door base answer mid made' → ListensMade tells door base answer made made'
 then_listens tells listens.Listening door base made mid made' same more = then_more tells door base made mid made' same more
 then_listens tells listens.Failed door base made mid made' same more = λ key. more key ∙ same key
 then_listens tells listens.Memory door base made mid made' same more = λ key. more key ∙ same key
 
-pub then_accepts : {T : Type 0} (tells : T → PortSeen) (answer : AcceptAnswer) (door : ℕ) (place : Place) (base : Option Base) (made mid made' : Slab BerthSeen) → SameValues made mid → AcceptsMade tells door place base answer mid made' → AcceptsMade tells door place base answer made made'
+pub then_accepts : {T : Type 0} (tells : T → PortSeen) (answer : AcceptAnswer) (door : ℕ) (place : Place) (base : Option Base) (made mid made' : Slab EntrySeen) → SameValues made mid → AcceptsMade tells door place base answer mid made' → AcceptsMade tells door place base answer made made'
 then_accepts tells (accepts.Accepted peer) door place base made mid made' same accepted = (accepted.0, then_call made mid accepted.0 door LetsIn same accepted.1, accepted.2)
 then_accepts tells accepts.NoPeer door place base made mid made' same call = then_call made mid made' door LetsIn same call
 then_accepts tells accepts.Failed door place base made mid made' same call = then_call made mid made' door LetsIn same call

@@ -18,12 +18,12 @@ use Rattle.world_trait.specs.HoldTables.{SetsHold}
 use Rattle.world_trait.specs.declared.answers.OpenAnswer.TheVariants as opens
 use Rattle.world_trait.specs.declared.answers.AcceptAnswer.{AcceptAnswer}
 use Rattle.world_trait.specs.declared.answers.AcceptAnswer.TheVariants as accepts
-use Rattle.desk_ports.specs.Bases.{key_of}
-use Rattle.desk_ports.specs.Harbors.{CalledAt, Errors, Input, Made, MadeCall, Output, Pier, SameStreams, StreamCall, giving_pier}
-use Rattle.desk_ports.specs.Ports.{BerthSeen, IsOf, PortSeen, Settles, StreamSeen}
-use Rattle.desk_ports.specs.declared.bases.Base.{Base}
-use Rattle.desk_ports.specs.declared.bases.Base.TheVariants as bases
-use Rattle.desk_ports.specs.declared.harbor.Harbor.{Harbor}
+use Rattle.port_table.specs.Bases.{key_of}
+use Rattle.port_table.specs.PortTables.{CalledAt, Errors, Input, Made, MadeCall, Output, PortId, SameStreams, StreamCall, giving_port}
+use Rattle.port_table.specs.Ports.{EntrySeen, IsOf, PortSeen, Settles, StreamSeen}
+use Rattle.port_table.specs.declared.bases.Base.{Base}
+use Rattle.port_table.specs.declared.bases.Base.TheVariants as bases
+use Rattle.port_table.specs.declared.table.PortTable.{PortTable}
 use Rattle.desk_places.specs.declared.stations.Station.{Station}
 use Rattle.desk_places.specs.Causes.{AcceptCause, WelcomeCause}
 use Rattle.desk_places.specs.Changes.{HeldAfter, KeptFor, KeptIf, LeavesParent, LeftSo, SettledAt, SettledOut, SettlesMade, made_at, shut_answer}
@@ -45,10 +45,10 @@ one_key : (xs : List Station) (p : Place) (key other : ℕ) → base_at xs p ≡
 one_key xs p key other e f = let g : Some (bases.Made key) ≡ Some (bases.Made other) = sym e ∙ f in cc
 
 -- the made port of a place that is let go is gone, and no other
-pub let_go_gone : (xs : List Station) (p : Place) (made made' : Slab BerthSeen) (key : ℕ) → base_at xs p ≡ Some (bases.Made key) → Updates made made' key None → (other : ℕ) → base_at xs p ≡ Some (bases.Made other) → get made' other ≡ None
+pub let_go_gone : (xs : List Station) (p : Place) (made made' : Slab EntrySeen) (key : ℕ) → base_at xs p ≡ Some (bases.Made key) → Updates made made' key None → (other : ℕ) → base_at xs p ≡ Some (bases.Made other) → get made' other ≡ None
 let_go_gone xs p made made' key based updates other e = ap (get made') (one_key xs p key other based e) ∙ updates.changed
 
-pub let_go_others : (xs : List Station) (p : Place) (made made' : Slab BerthSeen) (key : ℕ) → base_at xs p ≡ Some (bases.Made key) → Updates made made' key None → (other : ℕ) → (base_at xs p ≡ Some (bases.Made other) → ⊥) → get made' other ≡ get made other
+pub let_go_others : (xs : List Station) (p : Place) (made made' : Slab EntrySeen) (key : ℕ) → base_at xs p ≡ Some (bases.Made key) → Updates made made' key None → (other : ℕ) → (base_at xs p ≡ Some (bases.Made other) → ⊥) → get made' other ≡ get made other
 let_go_others xs p made made' key based updates other away =
     updates.others other (λ same. away (based ∙ ap (λ k. Some (bases.Made k)) (sym same)))
 
@@ -67,7 +67,7 @@ not_made xs p base none e key f =
     let h : Some key ≡ None = ap key_of (sym is) ∙ none in
     absurd cc
 
-pub none_made : (made : Slab BerthSeen) (base : Base) → key_of base ≡ None → made_at made base ≡ None
+pub none_made : (made : Slab EntrySeen) (base : Base) → key_of base ≡ None → made_at made base ≡ None
 none_made made (bases.Made key) e = absurd cc
 none_made made bases.Input e = refl
 none_made made bases.Output e = refl
@@ -100,22 +100,22 @@ welcomed tells accepts.Failed peer faults faults' stalls stalls' came is dropped
 welcomed tells accepts.Memory peer faults faults' stalls stalls' came is nothing = tt
 
 -- a port that is let go was joined where that was to be, and is kept where it has a child
-kept_if : (b : Bool) (joined : Bool) (old new : BerthSeen) (before after : List BerthSeen) → new.place ≡ old.place → LeftSo joined old.port new.port → after ≡ (if b then new ∷ before else before) → KeptFor b joined old before after
+kept_if : (b : Bool) (joined : Bool) (old new : EntrySeen) (before after : List EntrySeen) → new.place ≡ old.place → LeftSo joined old.port new.port → after ≡ (if b then new ∷ before else before) → KeptFor b joined old before after
 kept_if true joined old new before after place left e =
     (new.port, left, e ∙ ap (λ p. record { place = p; port = new.port } ∷ before) place)
 kept_if false joined old new before after place left e = e
 
-pub leaves_parent : (joined : Bool) (slot : Option BerthSeen) (old new : BerthSeen) (child : Bool) (before after : List BerthSeen) → slot ≡ Some old → new.place ≡ old.place → LeftSo joined old.port new.port → child ≡ old.port.child → after ≡ (if child then new ∷ before else before) → LeavesParent joined slot before after
+pub leaves_parent : (joined : Bool) (slot : Option EntrySeen) (old new : EntrySeen) (child : Bool) (before after : List EntrySeen) → slot ≡ Some old → new.place ≡ old.place → LeftSo joined old.port new.port → child ≡ old.port.child → after ≡ (if child then new ∷ before else before) → LeavesParent joined slot before after
 leaves_parent joined slot old new child before after is place left same e =
     subst (λ x. LeavesParent joined x before after) (sym is) (subst (λ b. KeptFor b joined old before after) same (kept_if child joined old new before after place left e))
 
-kept_last : (b : Bool) (mid old : BerthSeen) (port : PortSeen) (before after : List BerthSeen) → mid.place ≡ old.place → mid.port ≡ port → KeptFor b false mid before after → KeptIf b (record { place = old.place; port = port }) before after
+kept_last : (b : Bool) (mid old : EntrySeen) (port : PortSeen) (before after : List EntrySeen) → mid.place ≡ old.place → mid.port ≡ port → KeptFor b false mid before after → KeptIf b (record { place = old.place; port = port }) before after
 kept_last true mid old port before after place is kept =
     kept.2 ∙ (ap (λ (q : Place). record { place = q; port = kept.0 } ∷ before) place ∙ ap (λ (q : PortSeen). record { place = old.place; port = q } ∷ before) (kept.1 ∙ is))
 kept_last false mid old port before after place is kept = kept
 
 -- a settling that failed, on a made port that is gone since
-settled_out : {T : Type 0} (tells : T → PortSeen) (old mid : Option BerthSeen) (parents parents' : List BerthSeen) → IfSome old (λ o. IfSome mid (λ n. (n.place ≡ o.place) × Settles o.port n.port settles.Failed)) → is_some mid ≡ is_some old → IfSome mid (λ n. IsOf tells n.port) → LeavesParent false mid parents parents' → IfSome old (λ o. SettledOut tells o parents parents')
+settled_out : {T : Type 0} (tells : T → PortSeen) (old mid : Option EntrySeen) (parents parents' : List EntrySeen) → IfSome old (λ o. IfSome mid (λ n. (n.place ≡ o.place) × Settles o.port n.port settles.Failed)) → is_some mid ≡ is_some old → IfSome mid (λ n. IsOf tells n.port) → LeavesParent false mid parents parents' → IfSome old (λ o. SettledOut tells o parents parents')
 settled_out tells None mid parents parents' call stands told left = tt
 settled_out tells (Some o) None parents parents' call stands told left = absurd cc
 settled_out tells (Some o) (Some n) parents parents' call stands told left = record {
@@ -124,7 +124,7 @@ settled_out tells (Some o) (Some n) parents parents' call stands told left = rec
   kept = subst (λ b. KeptIf b (record { place = o.place; port = tells told.state }) parents parents') call.1.child (kept_last n.port.child n o (tells told.state) parents parents' call.0 told.told left);
 }
 
-pub settle_failed : {T : Type 0} (tells : T → PortSeen) (made mid made' : Slab BerthSeen) (parents parents' : List BerthSeen) (key : ℕ) → MadeCall made mid key (λ old new. Settles old new settles.Failed) → IfSome (get mid key) (λ n. IsOf tells n.port) → LeavesParent false (get mid key) parents parents' → get made' key ≡ None → ((other : ℕ) → other ≢ key → get made' other ≡ get mid other) → SettlesMade tells made made' parents parents' key opens.Failed
+pub settle_failed : {T : Type 0} (tells : T → PortSeen) (made mid made' : Slab EntrySeen) (parents parents' : List EntrySeen) (key : ℕ) → MadeCall made mid key (λ old new. Settles old new settles.Failed) → IfSome (get mid key) (λ n. IsOf tells n.port) → LeavesParent false (get mid key) parents parents' → get made' key ≡ None → ((other : ℕ) → other ≢ key → get made' other ≡ get mid other) → SettlesMade tells made made' parents parents' key opens.Failed
 settle_failed tells made mid made' parents parents' key call told left gone others =
     (settled_out tells (get made key) (get mid key) parents parents' call.call call.stands told left, gone, λ other away. others other away ∙ call.others other away)
 
@@ -132,7 +132,7 @@ stream_on : (a b c : StreamSeen) (Call : PortSeen → PortSeen → Type 0) → S
 stream_on a b c Call call same = subst (λ (s : StreamSeen). StreamCall a s Call) (sym same) call
 
 -- a settling that failed left the place: its made port is gone, and else nothing changed
-pub settle_left : {T X I O E : Type 0} (tells : T → PortSeen) (base : Base) (a b c : Harbor X I O E) (parents parents' : List BerthSeen) → CalledAt (giving_pier base) a b (λ old new. Settles old new settles.Failed) → SameStreams b c → IfSome (made_at b.made base) (λ n. IsOf tells n.port) → LeavesParent false (made_at b.made base) parents parents' → (key_of base ≡ None → c.made ≡ b.made) → ((key : ℕ) → base ≡ bases.Made key → get c.made key ≡ None) → ((key : ℕ) → base ≡ bases.Made key → (other : ℕ) → other ≢ key → get c.made other ≡ get b.made other) → SettledAt tells (giving_pier base) a c parents parents' opens.Failed
+pub settle_left : {T X I O E : Type 0} (tells : T → PortSeen) (base : Base) (a b c : PortTable X I O E) (parents parents' : List EntrySeen) → CalledAt (giving_port base) a b (λ old new. Settles old new settles.Failed) → SameStreams b c → IfSome (made_at b.made base) (λ n. IsOf tells n.port) → LeavesParent false (made_at b.made base) parents parents' → (key_of base ≡ None → c.made ≡ b.made) → ((key : ℕ) → base ≡ bases.Made key → get c.made key ≡ None) → ((key : ℕ) → base ≡ bases.Made key → (other : ℕ) → other ≢ key → get c.made other ≡ get b.made other) → SettledAt tells (giving_port base) a c parents parents' opens.Failed
 settle_left tells (bases.Made key) a b c parents parents' call still told left same gone others = (still.input ∙ call.0, still.output ∙ call.1, still.errors ∙ call.2, settle_failed tells a.made b.made c.made parents parents' key call.3 told left (gone key refl) (others key refl))
 settle_left tells bases.Input a b c parents parents' call still told left same gone others = (stream_on a.input b.input c.input _ call.0 still.input, still.output ∙ call.1, still.errors ∙ call.2, same refl ∙ call.3, left)
 settle_left tells bases.Output a b c parents parents' call still told left same gone others = (still.input ∙ call.0, stream_on a.output b.output c.output _ call.1 still.output, still.errors ∙ call.2, same refl ∙ call.3, left)
@@ -140,13 +140,13 @@ settle_left tells bases.Both a b c parents parents' call still told left same go
 settle_left tells bases.Errors a b c parents parents' call still told left same gone others = (still.input ∙ call.0, still.output ∙ call.1, stream_on a.errors b.errors c.errors _ call.2 still.errors, same refl ∙ call.3, left)
 
 -- one that didn't fail keeps the ports that were kept
-pub settle_ready : {T X I O E : Type 0} (tells : T → PortSeen) (pier : Pier) (a b : Harbor X I O E) (parents : List BerthSeen) → CalledAt pier a b (λ old new. Settles old new settles.Ready) → SettledAt tells pier a b parents parents opens.Opened
+pub settle_ready : {T X I O E : Type 0} (tells : T → PortSeen) (id : PortId) (a b : PortTable X I O E) (parents : List EntrySeen) → CalledAt id a b (λ old new. Settles old new settles.Ready) → SettledAt tells id a b parents parents opens.Opened
 settle_ready tells Input a b parents call = (call.0, call.1, call.2, call.3, refl)
 settle_ready tells Output a b parents call = (call.0, call.1, call.2, call.3, refl)
 settle_ready tells Errors a b parents call = (call.0, call.1, call.2, call.3, refl)
 settle_ready tells (Made key) a b parents call = (call.0, call.1, call.2, (call.3, refl))
 
-pub settle_later : {T X I O E : Type 0} (tells : T → PortSeen) (pier : Pier) (a b : Harbor X I O E) (parents : List BerthSeen) → CalledAt pier a b (λ old new. Settles old new settles.NotYet) → SettledAt tells pier a b parents parents opens.Later
+pub settle_later : {T X I O E : Type 0} (tells : T → PortSeen) (id : PortId) (a b : PortTable X I O E) (parents : List EntrySeen) → CalledAt id a b (λ old new. Settles old new settles.NotYet) → SettledAt tells id a b parents parents opens.Later
 settle_later tells Input a b parents call = (call.0, call.1, call.2, call.3, refl)
 settle_later tells Output a b parents call = (call.0, call.1, call.2, call.3, refl)
 settle_later tells Errors a b parents call = (call.0, call.1, call.2, call.3, refl)

@@ -9,13 +9,13 @@ use Rattle.relay_model.specs.declared.places.Place.{Place}
 use Rattle.relay_model.specs.Places.{same_place}
 use Rattle.port_trait.specs.Hinting.{IsWithin}
 use Rattle.port_trait.specs.declared.answers.Hint.{Hint}
-use Rattle.desk_ports.specs.Bases.{IsStandard, key_of}
-use Rattle.desk_ports.specs.Harbors.{AtMade, MadeCall, Pier, Input, Output, Errors, Made, giving_pier, taking_pier}
-use Rattle.desk_ports.specs.Ports.{PortSeen, BerthSeen}
-use Rattle.desk_ports.specs.declared.bases.Base.{Base}
-use Rattle.desk_ports.specs.declared.bases.Base.TheVariants as bases
+use Rattle.port_table.specs.Bases.{IsStandard, key_of}
+use Rattle.port_table.specs.PortTables.{AtMade, MadeCall, PortId, Input, Output, Errors, Made, giving_port, taking_port}
+use Rattle.port_table.specs.Ports.{PortSeen, EntrySeen}
+use Rattle.port_table.specs.declared.bases.Base.{Base}
+use Rattle.port_table.specs.declared.bases.Base.TheVariants as bases
 use Rattle.desk_places.specs.declared.stations.Station.{Station}
-use Rattle.desk_places.specs.Footing.{IsSound, IsSoundBut, heeds, is_berthed, is_heeded, is_quiet, may_tell, stands_on, tells}
+use Rattle.desk_places.specs.Standing.{IsSound, IsSoundBut, heeds, is_entered, is_heeded, is_quiet, may_tell, stands_on, tells}
 use Rattle.desk_places.specs.Keys.{KeyTable, is_in}
 use Rattle.desk_places.specs.Stations.{station_at, base_at, with_half, SetsStation}
 use Rattle.desk_places.proofs.PlaceLemmas.{same_place-eq, same_place-same}
@@ -37,95 +37,95 @@ is_below : (a b : ℕ) → a < b → nat_lt a b ≡ true
 is_below a b lt = grind (arith, nat_tests)
 
 -- the made port is there for the place, and its key can be listed
-abbrev pub BerthedAt : Place → ℕ → ℕ → Option BerthSeen → Type 0
-BerthedAt p key covered slot = (berth : BerthSeen) × (slot ≡ Some berth) × (berth.place ≡ p) × (key < covered)
+abbrev pub EnteredAt : Place → ℕ → ℕ → Option EntrySeen → Type 0
+EnteredAt p key covered slot = (entry : EntrySeen) × (slot ≡ Some entry) × (entry.place ≡ p) × (key < covered)
 
-berthed_is : (p : Place) (key covered : ℕ) (slot : Option BerthSeen) → is_berthed p key covered slot ≡ true → BerthedAt p key covered slot
-berthed_is p key covered None e = absurd cc
-berthed_is p key covered (Some berth) e =
-    let parts = and_parts (same_place berth.place p) (nat_lt key covered) e in
-    (berth, refl, same_place-eq berth.place p parts.0, below_is key covered parts.1)
+entered_is : (p : Place) (key covered : ℕ) (slot : Option EntrySeen) → is_entered p key covered slot ≡ true → EnteredAt p key covered slot
+entered_is p key covered None e = absurd cc
+entered_is p key covered (Some entry) e =
+    let parts = and_parts (same_place entry.place p) (nat_lt key covered) e in
+    (entry, refl, same_place-eq entry.place p parts.0, below_is key covered parts.1)
 
-berthed_here : (p : Place) (key covered : ℕ) (berth : BerthSeen) → berth.place ≡ p → key < covered → is_berthed p key covered (Some berth) ≡ true
-berthed_here p key covered berth place below = and_both (same_place berth.place p) (nat_lt key covered) (ap (same_place berth.place) (sym place) ∙ same_place-same berth.place) (is_below key covered below)
+entered_here : (p : Place) (key covered : ℕ) (entry : EntrySeen) → entry.place ≡ p → key < covered → is_entered p key covered (Some entry) ≡ true
+entered_here p key covered entry place below = and_both (same_place entry.place p) (nat_lt key covered) (ap (same_place entry.place) (sym place) ∙ same_place-same entry.place) (is_below key covered below)
 
-berthed_by : (p : Place) (key covered : ℕ) (slot : Option BerthSeen) → BerthedAt p key covered slot → is_berthed p key covered slot ≡ true
-berthed_by p key covered slot at = ap (is_berthed p key covered) at.1 ∙ berthed_here p key covered at.0 at.2 at.3
+entered_by : (p : Place) (key covered : ℕ) (slot : Option EntrySeen) → EnteredAt p key covered slot → is_entered p key covered slot ≡ true
+entered_by p key covered slot at = ap (is_entered p key covered) at.1 ∙ entered_here p key covered at.0 at.2 at.3
 
 -- a made port that a station stands on
-pub stands_at : (made : Slab BerthSeen) (covered : ℕ) (p : Place) (base : Base) (key : ℕ) → base ≡ bases.Made key → stands_on made covered p base ≡ true → BerthedAt p key covered (get made key)
-stands_at made covered p base key is e = berthed_is p key covered (get made key) (sym (ap (stands_on made covered p) is) ∙ e)
+pub stands_at : (made : Slab EntrySeen) (covered : ℕ) (p : Place) (base : Base) (key : ℕ) → base ≡ bases.Made key → stands_on made covered p base ≡ true → EnteredAt p key covered (get made key)
+stands_at made covered p base key is e = entered_is p key covered (get made key) (sym (ap (stands_on made covered p) is) ∙ e)
 
 -- ---- what a call on one made port keeps
 
 -- the port of the base is still there for its place, and each other port is what it was
-pub record OnlyAt (base : Base) (made made' : Slab BerthSeen) : Type 0 where
+pub record OnlyAt (base : Base) (made made' : Slab EntrySeen) : Type 0 where
   pub others : (key : ℕ) → (base ≡ bases.Made key → ⊥) → get made' key ≡ get made key
-  pub stands : (key : ℕ) (berth : BerthSeen) → get made key ≡ Some berth → (now : BerthSeen) × (get made' key ≡ Some now) × (now.place ≡ berth.place)
+  pub stands : (key : ℕ) (entry : EntrySeen) → get made key ≡ Some entry → (now : EntrySeen) × (get made' key ≡ Some now) × (now.place ≡ entry.place)
 
-found_after : (old new : Option BerthSeen) (Call : PortSeen → PortSeen → Type 0) (berth : BerthSeen) → old ≡ Some berth → IfSome old (λ o. IfSome new (λ n. (n.place ≡ o.place) × Call o.port n.port)) → is_some new ≡ is_some old → (now : BerthSeen) × (new ≡ Some now) × (now.place ≡ berth.place)
-found_after None new Call berth e call stands = absurd cc
-found_after (Some o) None Call berth e call stands = absurd cc
-found_after (Some o) (Some n) Call berth e call stands =
-    let is : o ≡ berth = cc in
-    (n, refl, call.0 ∙ ap (λ (b : BerthSeen). b.place) is)
+found_after : (old new : Option EntrySeen) (Call : PortSeen → PortSeen → Type 0) (entry : EntrySeen) → old ≡ Some entry → IfSome old (λ o. IfSome new (λ n. (n.place ≡ o.place) × Call o.port n.port)) → is_some new ≡ is_some old → (now : EntrySeen) × (new ≡ Some now) × (now.place ≡ entry.place)
+found_after None new Call entry e call stands = absurd cc
+found_after (Some o) None Call entry e call stands = absurd cc
+found_after (Some o) (Some n) Call entry e call stands =
+    let is : o ≡ entry = cc in
+    (n, refl, call.0 ∙ ap (λ (b : EntrySeen). b.place) is)
 
-stands_either : (made made' : Slab BerthSeen) (key other : ℕ) (Call : PortSeen → PortSeen → Type 0) (berth : BerthSeen) → MadeCall made made' key Call → get made other ≡ Some berth → ((eqb other key ≡ true) × (other ≡ key)) ⊎ ((eqb other key ≡ false) × (other ≢ key)) → (now : BerthSeen) × (get made' other ≡ Some now) × (now.place ≡ berth.place)
-stands_either made made' key other Call berth call e (inl t) =
-    let found = found_after (get made key) (get made' key) Call berth (ap (get made) (sym t.1) ∙ e) call.call call.stands in
+stands_either : (made made' : Slab EntrySeen) (key other : ℕ) (Call : PortSeen → PortSeen → Type 0) (entry : EntrySeen) → MadeCall made made' key Call → get made other ≡ Some entry → ((eqb other key ≡ true) × (other ≡ key)) ⊎ ((eqb other key ≡ false) × (other ≢ key)) → (now : EntrySeen) × (get made' other ≡ Some now) × (now.place ≡ entry.place)
+stands_either made made' key other Call entry call e (inl t) =
+    let found = found_after (get made key) (get made' key) Call entry (ap (get made) (sym t.1) ∙ e) call.call call.stands in
     (found.0, ap (get made') t.1 ∙ found.1, found.2)
-stands_either made made' key other Call berth call e (inr t) = (berth, call.others other t.1 ∙ e, refl)
+stands_either made made' key other Call entry call e (inr t) = (entry, call.others other t.1 ∙ e, refl)
 
-pub call_keeps : (made made' : Slab BerthSeen) (key : ℕ) (Call : PortSeen → PortSeen → Type 0) → MadeCall made made' key Call → OnlyAt (bases.Made key) made made'
+pub call_keeps : (made made' : Slab EntrySeen) (key : ℕ) (Call : PortSeen → PortSeen → Type 0) → MadeCall made made' key Call → OnlyAt (bases.Made key) made made'
 call_keeps made made' key Call call = record {
   others = λ other away. call.others other (λ same. away (ap bases.Made (sym same)));
-  stands = λ other berth e. stands_either made made' key other Call berth call e (eqb_tells other key);
+  stands = λ other entry e. stands_either made made' key other Call entry call e (eqb_tells other key);
 }
 
-pub same_keeps : (base : Base) (made made' : Slab BerthSeen) → SameValues made made' → OnlyAt base made made'
+pub same_keeps : (base : Base) (made made' : Slab EntrySeen) → SameValues made made' → OnlyAt base made made'
 same_keeps base made made' same = record {
   others = λ other away. same other;
-  stands = λ other berth e. (berth, same other ∙ e, refl);
+  stands = λ other entry e. (entry, same other ∙ e, refl);
 }
 
--- a pier is the port of its base, whichever half
-abbrev pub PierOf : Pier → Base → Type 0
-PierOf Input base = (key : ℕ) → base ≡ bases.Made key → ⊥
-PierOf Output base = (key : ℕ) → base ≡ bases.Made key → ⊥
-PierOf Errors base = (key : ℕ) → base ≡ bases.Made key → ⊥
-PierOf (Made key) base = base ≡ bases.Made key
+-- a id is the port of its base, whichever half
+abbrev pub PortIdOf : PortId → Base → Type 0
+PortIdOf Input base = (key : ℕ) → base ≡ bases.Made key → ⊥
+PortIdOf Output base = (key : ℕ) → base ≡ bases.Made key → ⊥
+PortIdOf Errors base = (key : ℕ) → base ≡ bases.Made key → ⊥
+PortIdOf (Made key) base = base ≡ bases.Made key
 
-pub pier_keeps : (pier : Pier) (base : Base) (made made' : Slab BerthSeen) (Call : PortSeen → PortSeen → Type 0) → PierOf pier base → AtMade pier (λ key. MadeCall made made' key Call) (made' ≡ made) → OnlyAt base made made'
-pier_keeps Input base made made' Call of same = same_keeps base made made' (λ key. ap (λ m. get m key) same)
-pier_keeps Output base made made' Call of same = same_keeps base made made' (λ key. ap (λ m. get m key) same)
-pier_keeps Errors base made made' Call of same = same_keeps base made made' (λ key. ap (λ m. get m key) same)
-pier_keeps (Made key) base made made' Call of call = subst (λ b. OnlyAt b made made') (sym of) (call_keeps made made' key Call call)
+pub id_keeps : (id : PortId) (base : Base) (made made' : Slab EntrySeen) (Call : PortSeen → PortSeen → Type 0) → PortIdOf id base → AtMade id (λ key. MadeCall made made' key Call) (made' ≡ made) → OnlyAt base made made'
+id_keeps Input base made made' Call of same = same_keeps base made made' (λ key. ap (λ m. get m key) same)
+id_keeps Output base made made' Call of same = same_keeps base made made' (λ key. ap (λ m. get m key) same)
+id_keeps Errors base made made' Call of same = same_keeps base made made' (λ key. ap (λ m. get m key) same)
+id_keeps (Made key) base made made' Call of call = subst (λ b. OnlyAt b made made') (sym of) (call_keeps made made' key Call call)
 
 -- ---- another place, whose port and whose listing are what they were
 
 -- the made port of a place is what it was
-abbrev SamePort : Place → Base → ℕ → Slab BerthSeen → Slab BerthSeen → Type 0
-SamePort p on covered made made' = (key : ℕ) → on ≡ bases.Made key → BerthedAt p key covered (get made key) → get made' key ≡ get made key
+abbrev SamePort : Place → Base → ℕ → Slab EntrySeen → Slab EntrySeen → Type 0
+SamePort p on covered made made' = (key : ℕ) → on ≡ bases.Made key → EnteredAt p key covered (get made key) → get made' key ≡ get made key
 
 -- and it is listed as it was
-abbrev SameListing : Place → Base → ℕ → Slab BerthSeen → List ℕ → List ℕ → Type 0
-SameListing p on covered made keys keys' = (key : ℕ) → on ≡ bases.Made key → BerthedAt p key covered (get made key) → is_in key keys' ≡ is_in key keys
+abbrev SameListing : Place → Base → ℕ → Slab EntrySeen → List ℕ → List ℕ → Type 0
+SameListing p on covered made keys keys' = (key : ℕ) → on ≡ bases.Made key → EnteredAt p key covered (get made key) → is_in key keys' ≡ is_in key keys
 
-stands_same : (p : Place) (on : Base) (covered : ℕ) (made made' : Slab BerthSeen) → SamePort p on covered made made' → stands_on made covered p on ≡ true → stands_on made' covered p on ≡ true
+stands_same : (p : Place) (on : Base) (covered : ℕ) (made made' : Slab EntrySeen) → SamePort p on covered made made' → stands_on made covered p on ≡ true → stands_on made' covered p on ≡ true
 stands_same p (bases.Made key) covered made made' same e =
-    ap (is_berthed p key covered) (same key refl (berthed_is p key covered (get made key) e)) ∙ e
+    ap (is_entered p key covered) (same key refl (entered_is p key covered (get made key) e)) ∙ e
 stands_same p bases.Input covered made made' same e = refl
 stands_same p bases.Output covered made made' same e = refl
 stands_same p bases.Both covered made made' same e = refl
 stands_same p bases.Errors covered made made' same e = refl
 
-heeded_keys : (station : Station) (key : ℕ) (keys keys' : List ℕ) (slot : Option BerthSeen) → is_in key keys' ≡ is_in key keys → is_heeded station key keys slot ≡ true → is_heeded station key keys' slot ≡ true
+heeded_keys : (station : Station) (key : ℕ) (keys keys' : List ℕ) (slot : Option EntrySeen) → is_in key keys' ≡ is_in key keys → is_heeded station key keys slot ≡ true → is_heeded station key keys' slot ≡ true
 heeded_keys station key keys keys' None listed e = refl
-heeded_keys station key keys keys' (Some berth) listed e = ap (λ b. b || is_quiet station berth.port) listed ∙ e
+heeded_keys station key keys keys' (Some entry) listed e = ap (λ b. b || is_quiet station entry.port) listed ∙ e
 
-heeds_same : (p : Place) (station : Station) (on : Base) (covered : ℕ) (keys keys' : List ℕ) (made made' : Slab BerthSeen) → SamePort p on covered made made' → SameListing p on covered made keys keys' → stands_on made covered p on ≡ true → heeds made keys station on ≡ true → heeds made' keys' station on ≡ true
+heeds_same : (p : Place) (station : Station) (on : Base) (covered : ℕ) (keys keys' : List ℕ) (made made' : Slab EntrySeen) → SamePort p on covered made made' → SameListing p on covered made keys keys' → stands_on made covered p on ≡ true → heeds made keys station on ≡ true → heeds made' keys' station on ≡ true
 heeds_same p station (bases.Made key) covered keys keys' made made' same listed stands e =
-    let at = berthed_is p key covered (get made key) stands in
+    let at = entered_is p key covered (get made key) stands in
     ap (is_heeded station key keys') (same key refl at) ∙ heeded_keys station key keys keys' (get made key) (listed key refl at) e
 heeds_same p station bases.Input covered keys keys' made made' same listed stands e = refl
 heeds_same p station bases.Output covered keys keys' made made' same listed stands e = refl
@@ -133,27 +133,27 @@ heeds_same p station bases.Both covered keys keys' made made' same listed stands
 heeds_same p station bases.Errors covered keys keys' made made' same listed stands e = refl
 
 -- two places on one made port are the same
-one_place : (p q : Place) (key covered : ℕ) (slot : Option BerthSeen) → BerthedAt p key covered slot → BerthedAt q key covered slot → p ≡ q
+one_place : (p q : Place) (key covered : ℕ) (slot : Option EntrySeen) → EnteredAt p key covered slot → EnteredAt q key covered slot → p ≡ q
 one_place p q key covered slot h k =
     let is : h.0 ≡ k.0 = let e : Some h.0 ≡ Some k.0 = sym h.1 ∙ k.1 in cc in
-    sym h.2 ∙ (ap (λ (b : BerthSeen). b.place) is ∙ k.2)
+    sym h.2 ∙ (ap (λ (b : EntrySeen). b.place) is ∙ k.2)
 
-apart_keys : (p place : Place) (key covered : ℕ) (base : Base) (made : Slab BerthSeen) → stands_on made covered place base ≡ true → same_place place p ≡ false → BerthedAt p key covered (get made key) → base ≡ bases.Made key → ⊥
+apart_keys : (p place : Place) (key covered : ℕ) (base : Base) (made : Slab EntrySeen) → stands_on made covered place base ≡ true → same_place place p ≡ false → EnteredAt p key covered (get made key) → base ≡ bases.Made key → ⊥
 apart_keys p place key covered base made mine differ at is =
     let same : place ≡ p = one_place place p key covered (get made key) (stands_at made covered place base key is mine) at in
     true≢false (sym (same_place-same place) ∙ (ap (same_place place) same ∙ differ))
 
-abbrev BerthedSlot : Slab BerthSeen → ℕ → Place → Option Station → Type 0
-BerthedSlot made covered p slot = IfSome slot (λ s. stands_on made covered p s.base ≡ true)
+abbrev EnteredSlot : Slab EntrySeen → ℕ → Place → Option Station → Type 0
+EnteredSlot made covered p slot = IfSome slot (λ s. stands_on made covered p s.base ≡ true)
 
-abbrev HeededSlot : Slab BerthSeen → List ℕ → Option Station → Type 0
+abbrev HeededSlot : Slab EntrySeen → List ℕ → Option Station → Type 0
 HeededSlot made keys slot = IfSome slot (λ s. heeds made keys s s.base ≡ true)
 
-slot_berthed : (p : Place) (slot : Option Station) (covered : ℕ) (made made' : Slab BerthSeen) → IfSome slot (λ s. SamePort p s.base covered made made') → BerthedSlot made covered p slot → BerthedSlot made' covered p slot
-slot_berthed p None covered made made' same h = tt
-slot_berthed p (Some s) covered made made' same h = stands_same p s.base covered made made' same h
+slot_entered : (p : Place) (slot : Option Station) (covered : ℕ) (made made' : Slab EntrySeen) → IfSome slot (λ s. SamePort p s.base covered made made') → EnteredSlot made covered p slot → EnteredSlot made' covered p slot
+slot_entered p None covered made made' same h = tt
+slot_entered p (Some s) covered made made' same h = stands_same p s.base covered made made' same h
 
-slot_heeded : (p : Place) (slot : Option Station) (covered : ℕ) (keys keys' : List ℕ) (made made' : Slab BerthSeen) → IfSome slot (λ s. SamePort p s.base covered made made') → IfSome slot (λ s. SameListing p s.base covered made keys keys') → BerthedSlot made covered p slot → HeededSlot made keys slot → HeededSlot made' keys' slot
+slot_heeded : (p : Place) (slot : Option Station) (covered : ℕ) (keys keys' : List ℕ) (made made' : Slab EntrySeen) → IfSome slot (λ s. SamePort p s.base covered made made') → IfSome slot (λ s. SameListing p s.base covered made keys keys') → EnteredSlot made covered p slot → HeededSlot made keys slot → HeededSlot made' keys' slot
 slot_heeded p None covered keys keys' made made' same listed h k = tt
 slot_heeded p (Some s) covered keys keys' made made' same listed h k = heeds_same p s s.base covered keys keys' made made' same listed h k
 
@@ -173,37 +173,37 @@ either_place false place p Fact e here there = there e
 -- ---- after a call on the port of a place, and before the place is listed anew
 
 -- a place stays on its port
-stands_still : (p : Place) (on base : Base) (covered : ℕ) (made made' : Slab BerthSeen) → OnlyAt base made made' → stands_on made covered p on ≡ true → stands_on made' covered p on ≡ true
+stands_still : (p : Place) (on base : Base) (covered : ℕ) (made made' : Slab EntrySeen) → OnlyAt base made made' → stands_on made covered p on ≡ true → stands_on made' covered p on ≡ true
 stands_still p (bases.Made key) base covered made made' only e =
-    let at = berthed_is p key covered (get made key) e in
+    let at = entered_is p key covered (get made key) e in
     let now = only.stands key at.0 at.1 in
-    berthed_by p key covered (get made' key) (now.0, now.1, now.2 ∙ at.2, at.3)
+    entered_by p key covered (get made' key) (now.0, now.1, now.2 ∙ at.2, at.3)
 stands_still p bases.Input base covered made made' only e = refl
 stands_still p bases.Output base covered made made' only e = refl
 stands_still p bases.Both base covered made made' only e = refl
 stands_still p bases.Errors base covered made made' only e = refl
 
-slot_still : (p : Place) (slot : Option Station) (base : Base) (covered : ℕ) (made made' : Slab BerthSeen) → OnlyAt base made made' → BerthedSlot made covered p slot → BerthedSlot made' covered p slot
+slot_still : (p : Place) (slot : Option Station) (base : Base) (covered : ℕ) (made made' : Slab EntrySeen) → OnlyAt base made made' → EnteredSlot made covered p slot → EnteredSlot made' covered p slot
 slot_still p None base covered made made' only h = tt
 slot_still p (Some s) base covered made made' only h = stands_still p s.base base covered made made' only h
 
 of_slot : (slot : Option Station) (s : Station) (Fact : Station → Type 0) → slot ≡ Some s → IfSome slot Fact → Fact s
 of_slot slot s Fact e h = subst (λ x. IfSome x Fact) e h
 
-module _ (xs ys : List Station) (place : Place) (s s' : Station) (made made' : Slab BerthSeen) (listed : KeyTable) (at : station_at xs place ≡ Some s) (based : s'.base ≡ s.base) (sets : SetsStation place (Some s') (station_at xs) (station_at ys)) (only : OnlyAt s.base made made') (sound : IsSound xs made listed) where
+module _ (xs ys : List Station) (place : Place) (s s' : Station) (made made' : Slab EntrySeen) (listed : KeyTable) (at : station_at xs place ≡ Some s) (based : s'.base ≡ s.base) (sets : SetsStation place (Some s') (station_at xs) (station_at ys)) (only : OnlyAt s.base made made') (sound : IsSound xs made listed) where
   here_stands : stands_on made listed.covered place s.base ≡ true
-  here_stands = of_slot (station_at xs place) s (λ t. stands_on made listed.covered place t.base ≡ true) at (sound.berthed place)
+  here_stands = of_slot (station_at xs place) s (λ t. stands_on made listed.covered place t.base ≡ true) at (sound.entered place)
 
   here_still : (p : Place) → place ≡ p → stands_on made' listed.covered p s'.base ≡ true
   here_still p same =
       let there : stands_on made' listed.covered place s.base ≡ true = stands_still place s.base s.base listed.covered made made' only here_stands in
       ap (λ q. stands_on made' listed.covered q s'.base) (sym same) ∙ (ap (stands_on made' listed.covered place) based ∙ there)
 
-  call_berthed : (p : Place) → BerthedSlot made' listed.covered p (station_at ys p)
-  call_berthed p =
-      if_slot (same_place place p) (BerthedSlot made' listed.covered p) (Some s') (station_at xs p) (station_at ys p) (sets p)
+  call_entered : (p : Place) → EnteredSlot made' listed.covered p (station_at ys p)
+  call_entered p =
+      if_slot (same_place place p) (EnteredSlot made' listed.covered p) (Some s') (station_at xs p) (station_at ys p) (sets p)
       (λ same. here_still p (same_place-eq place p same))
-      (λ other. slot_still p (station_at xs p) s.base listed.covered made made' only (sound.berthed p))
+      (λ other. slot_still p (station_at xs p) s.base listed.covered made made' only (sound.entered p))
 
   call_heeded : (p : Place) → same_place place p ≡ false → HeededSlot made' listed.keys (station_at ys p)
   call_heeded p differ =
@@ -212,24 +212,24 @@ module _ (xs ys : List Station) (place : Place) (s s' : Station) (made made' : S
       (λ other. slot_heeded p (station_at xs p) listed.covered listed.keys listed.keys made made'
       (for_slot (station_at xs p) _ (λ t key is here. only.others key (apart_keys p place key listed.covered s.base made here_stands differ here)))
       (for_slot (station_at xs p) _ (λ t key is here. refl))
-      (sound.berthed p) (sound.heeded p))
+      (sound.entered p) (sound.heeded p))
 
   pub sound_but : IsSoundBut place ys made' listed
-  sound_but = record { berthed = call_berthed; heeded = call_heeded }
+  sound_but = record { entered = call_entered; heeded = call_heeded }
 
 -- the same where no station changed
 same_or : (b : Bool) (slot now : Option Station) → (b ≡ true → now ≡ slot) → now ≡ (if b then slot else now)
 same_or true slot now same = same refl
 same_or false slot now same = refl
 
-pub sound_but_still : (xs : List Station) (place : Place) (s : Station) (made made' : Slab BerthSeen) (listed : KeyTable) → station_at xs place ≡ Some s → OnlyAt s.base made made' → IsSound xs made listed → IsSoundBut place xs made' listed
+pub sound_but_still : (xs : List Station) (place : Place) (s : Station) (made made' : Slab EntrySeen) (listed : KeyTable) → station_at xs place ≡ Some s → OnlyAt s.base made made' → IsSound xs made listed → IsSoundBut place xs made' listed
 sound_but_still xs place s made made' listed at only sound =
     sound_but xs xs place s s made made' listed at refl
     (λ p. same_or (same_place place p) (Some s) (station_at xs p) (λ same. ap (station_at xs) (sym (same_place-eq place p same)) ∙ at))
     only sound
 
-pub but_of : (xs : List Station) (place : Place) (made : Slab BerthSeen) (listed : KeyTable) → IsSound xs made listed → IsSoundBut place xs made listed
-but_of xs place made listed sound = record { berthed = sound.berthed; heeded = λ p differ. sound.heeded p }
+pub but_of : (xs : List Station) (place : Place) (made : Slab EntrySeen) (listed : KeyTable) → IsSound xs made listed → IsSoundBut place xs made listed
+but_of xs place made listed sound = record { entered = sound.entered; heeded = λ p differ. sound.heeded p }
 
 -- ---- the place is listed anew
 
@@ -259,40 +259,40 @@ listed_or : (b : Bool) (s : Station) (key : ℕ) (keys : List ℕ) (port : PortS
 listed_or true s key keys port e quiet = ap (λ x. x || is_quiet s port) e
 listed_or false s key keys port e quiet = ap (λ x. x || is_quiet s port) e ∙ quiet refl
 
-heeded_by : (s : Station) (key : ℕ) (keys : List ℕ) (may : Hint) (slot : Option BerthSeen) → IfSome slot (λ berth. may ≡ berth.port.hinting) → IfSome slot (λ berth. IfSome berth.port.hints (λ hint. IsWithin may hint)) → is_in key keys ≡ ((s.reading_disarmed && may.readable) || (s.writing_disarmed && may.writable)) → is_heeded s key keys slot ≡ true
+heeded_by : (s : Station) (key : ℕ) (keys : List ℕ) (may : Hint) (slot : Option EntrySeen) → IfSome slot (λ entry. may ≡ entry.port.hinting) → IfSome slot (λ entry. IfSome entry.port.hints (λ hint. IsWithin may hint)) → is_in key keys ≡ ((s.reading_disarmed && may.readable) || (s.writing_disarmed && may.writable)) → is_heeded s key keys slot ≡ true
 heeded_by s key keys may None halves told e = refl
-heeded_by s key keys may (Some berth) halves told e =
-    let within : IfSome berth.port.hints (λ hint. IsWithin berth.port.hinting hint) = subst (λ m. IfSome berth.port.hints (λ hint. IsWithin m hint)) halves told in
-    listed_or _ s key keys berth.port e
-    (λ no. quiet_by s berth.port within (ap (λ (m : Hint). (s.reading_disarmed && m.readable) || (s.writing_disarmed && m.writable)) (sym halves) ∙ no))
+heeded_by s key keys may (Some entry) halves told e =
+    let within : IfSome entry.port.hints (λ hint. IsWithin entry.port.hinting hint) = subst (λ m. IfSome entry.port.hints (λ hint. IsWithin m hint)) halves told in
+    listed_or _ s key keys entry.port e
+    (λ no. quiet_by s entry.port within (ap (λ (m : Hint). (s.reading_disarmed && m.readable) || (s.writing_disarmed && m.writable)) (sym halves) ∙ no))
 
 -- a made port that was asked what it may hint
-pub heeds_set : (s : Station) (key covered : ℕ) (p : Place) (keys : List ℕ) (may : Hint) (made : Slab BerthSeen) → s.base ≡ bases.Made key → IfSome (get made key) (λ berth. may ≡ berth.port.hinting) → IfSome (get made key) (λ berth. IfSome berth.port.hints (λ hint. IsWithin may hint)) → (key < covered → is_in key keys ≡ ((s.reading_disarmed && may.readable) || (s.writing_disarmed && may.writable))) → stands_on made covered p s.base ≡ true → heeds made keys s s.base ≡ true
+pub heeds_set : (s : Station) (key covered : ℕ) (p : Place) (keys : List ℕ) (may : Hint) (made : Slab EntrySeen) → s.base ≡ bases.Made key → IfSome (get made key) (λ entry. may ≡ entry.port.hinting) → IfSome (get made key) (λ entry. IfSome entry.port.hints (λ hint. IsWithin may hint)) → (key < covered → is_in key keys ≡ ((s.reading_disarmed && may.readable) || (s.writing_disarmed && may.writable))) → stands_on made covered p s.base ≡ true → heeds made keys s s.base ≡ true
 heeds_set s key covered p keys may made is halves told listed stands =
     let at = stands_at made covered p s.base key is stands in
     ap (heeds made keys s) is ∙ heeded_by s key keys may (get made key) halves told (listed at.3)
 
-pub heeds_standard : (s : Station) (keys : List ℕ) (base : Base) (made : Slab BerthSeen) → key_of base ≡ None → heeds made keys s base ≡ true
+pub heeds_standard : (s : Station) (keys : List ℕ) (base : Base) (made : Slab EntrySeen) → key_of base ≡ None → heeds made keys s base ≡ true
 heeds_standard s keys (bases.Made key) made none = absurd cc
 heeds_standard s keys bases.Input made none = refl
 heeds_standard s keys bases.Output made none = refl
 heeds_standard s keys bases.Both made none = refl
 heeds_standard s keys bases.Errors made none = refl
 
-module _ (xs : List Station) (place : Place) (made : Slab BerthSeen) (listed listed' : KeyTable) (covered : listed'.covered ≡ listed.covered) (but : IsSoundBut place xs made listed) where
-  still_berthed : (p : Place) → BerthedSlot made listed'.covered p (station_at xs p)
-  still_berthed p = subst (λ c. BerthedSlot made c p (station_at xs p)) (sym covered) (but.berthed p)
+module _ (xs : List Station) (place : Place) (made : Slab EntrySeen) (listed listed' : KeyTable) (covered : listed'.covered ≡ listed.covered) (but : IsSoundBut place xs made listed) where
+  still_entered : (p : Place) → EnteredSlot made listed'.covered p (station_at xs p)
+  still_entered p = subst (λ c. EnteredSlot made c p (station_at xs p)) (sym covered) (but.entered p)
 
   module _ (s : Station) (at : station_at xs place ≡ Some s) (others : (key : ℕ) → (s.base ≡ bases.Made key → ⊥) → is_in key listed'.keys ≡ is_in key listed.keys) (here : stands_on made listed.covered place s.base ≡ true → heeds made listed'.keys s s.base ≡ true) where
     mine : stands_on made listed.covered place s.base ≡ true
-    mine = of_slot (station_at xs place) s (λ t. stands_on made listed.covered place t.base ≡ true) at (but.berthed place)
+    mine = of_slot (station_at xs place) s (λ t. stands_on made listed.covered place t.base ≡ true) at (but.entered place)
 
     other_heeded : (p : Place) → same_place place p ≡ false → HeededSlot made listed'.keys (station_at xs p)
     other_heeded p differ =
         slot_heeded p (station_at xs p) listed.covered listed.keys listed'.keys made made
         (for_slot (station_at xs p) _ (λ t key is there. refl))
         (for_slot (station_at xs p) _ (λ t key is there. others key (apart_keys p place key listed.covered s.base made mine differ there)))
-        (but.berthed p) (but.heeded p differ)
+        (but.entered p) (but.heeded p differ)
 
     listed_heeded : (p : Place) → HeededSlot made listed'.keys (station_at xs p)
     listed_heeded p =
@@ -301,12 +301,12 @@ module _ (xs : List Station) (place : Place) (made : Slab BerthSeen) (listed lis
         (other_heeded p)
 
     pub sound_listed : IsSound xs made listed'
-    sound_listed = record { berthed = still_berthed; heeded = listed_heeded }
+    sound_listed = record { entered = still_entered; heeded = listed_heeded }
 
 -- nothing is held at the place
-pub sound_unheld : (xs : List Station) (place : Place) (made : Slab BerthSeen) (listed : KeyTable) → station_at xs place ≡ None → IsSoundBut place xs made listed → IsSound xs made listed
+pub sound_unheld : (xs : List Station) (place : Place) (made : Slab EntrySeen) (listed : KeyTable) → station_at xs place ≡ None → IsSoundBut place xs made listed → IsSound xs made listed
 sound_unheld xs place made listed none but = record {
-  berthed = but.berthed;
+  entered = but.entered;
   heeded = λ p.
       either_place (same_place place p) place p (HeededSlot made listed.keys (station_at xs p)) refl
       (λ same. subst (λ slot. HeededSlot made listed.keys slot) (sym none ∙ ap (station_at xs) same) tt)
@@ -315,14 +315,14 @@ sound_unheld xs place made listed none but = record {
 
 -- ---- a place that comes
 
-standard_stands : (made : Slab BerthSeen) (covered : ℕ) (p : Place) (base : Base) → IsStandard base → stands_on made covered p base ≡ true
+standard_stands : (made : Slab EntrySeen) (covered : ℕ) (p : Place) (base : Base) → IsStandard base → stands_on made covered p base ≡ true
 standard_stands made covered p (bases.Made key) standard = elim standard [ ]
 standard_stands made covered p bases.Input standard = refl
 standard_stands made covered p bases.Output standard = refl
 standard_stands made covered p bases.Both standard = refl
 standard_stands made covered p bases.Errors standard = refl
 
-standard_heeds : (made : Slab BerthSeen) (keys : List ℕ) (s : Station) (base : Base) → IsStandard base → heeds made keys s base ≡ true
+standard_heeds : (made : Slab EntrySeen) (keys : List ℕ) (s : Station) (base : Base) → IsStandard base → heeds made keys s base ≡ true
 standard_heeds made keys s (bases.Made key) standard = elim standard [ ]
 standard_heeds made keys s bases.Input standard = refl
 standard_heeds made keys s bases.Output standard = refl
@@ -330,65 +330,65 @@ standard_heeds made keys s bases.Both standard = refl
 standard_heeds made keys s bases.Errors standard = refl
 
 -- on a standard stream
-pub sound_add : (xs ys : List Station) (s : Station) (made : Slab BerthSeen) (listed : KeyTable) → SetsStation s.place (Some s) (station_at xs) (station_at ys) → IsStandard s.base → IsSound xs made listed → IsSound ys made listed
+pub sound_add : (xs ys : List Station) (s : Station) (made : Slab EntrySeen) (listed : KeyTable) → SetsStation s.place (Some s) (station_at xs) (station_at ys) → IsStandard s.base → IsSound xs made listed → IsSound ys made listed
 sound_add xs ys s made listed sets standard sound = record {
-  berthed = λ p. if_slot (same_place s.place p) (BerthedSlot made listed.covered p) (Some s) (station_at xs p) (station_at ys p) (sets p) (λ same. standard_stands made listed.covered p s.base standard) (λ other. sound.berthed p);
+  entered = λ p. if_slot (same_place s.place p) (EnteredSlot made listed.covered p) (Some s) (station_at xs p) (station_at ys p) (sets p) (λ same. standard_stands made listed.covered p s.base standard) (λ other. sound.entered p);
   heeded = λ p. if_slot (same_place s.place p) (HeededSlot made listed.keys) (Some s) (station_at xs p) (station_at ys p) (sets p) (λ same. standard_heeds made listed.keys s s.base standard) (λ other. sound.heeded p);
 }
 
 -- on a made port that was taken in under a vacant key
-module _ (xs ys : List Station) (s : Station) (made made' : Slab BerthSeen) (listed : KeyTable) (key : ℕ) (berth : BerthSeen) (based : s.base ≡ bases.Made key) (place : berth.place ≡ s.place) (below : key < listed.covered) (sets : SetsStation s.place (Some s) (station_at xs) (station_at ys)) (vacant : get made key ≡ None) (updates : Updates made made' key (Some berth)) (sound : IsSound xs made listed) where
-  not_vacant : (p : Place) (k : ℕ) → BerthedAt p k listed.covered (get made k) → k ≢ key
+module _ (xs ys : List Station) (s : Station) (made made' : Slab EntrySeen) (listed : KeyTable) (key : ℕ) (entry : EntrySeen) (based : s.base ≡ bases.Made key) (place : entry.place ≡ s.place) (below : key < listed.covered) (sets : SetsStation s.place (Some s) (station_at xs) (station_at ys)) (vacant : get made key ≡ None) (updates : Updates made made' key (Some entry)) (sound : IsSound xs made listed) where
+  not_vacant : (p : Place) (k : ℕ) → EnteredAt p k listed.covered (get made k) → k ≢ key
   not_vacant p k at same = let e : None ≡ Some at.0 = sym vacant ∙ (ap (get made) (sym same) ∙ at.1) in absurd cc
 
   kept_port : (p : Place) (on : Base) → SamePort p on listed.covered made made'
   kept_port p on k is at = updates.others k (not_vacant p k at)
 
   new_stands : (p : Place) → s.place ≡ p → stands_on made' listed.covered p s.base ≡ true
-  new_stands p same = ap (stands_on made' listed.covered p) based ∙ berthed_by p key listed.covered (get made' key) (berth, updates.changed, place ∙ same, below)
+  new_stands p same = ap (stands_on made' listed.covered p) based ∙ entered_by p key listed.covered (get made' key) (entry, updates.changed, place ∙ same, below)
 
-  moor_berthed : (p : Place) → BerthedSlot made' listed.covered p (station_at ys p)
-  moor_berthed p =
-      if_slot (same_place s.place p) (BerthedSlot made' listed.covered p) (Some s) (station_at xs p) (station_at ys p) (sets p)
+  insert_entered : (p : Place) → EnteredSlot made' listed.covered p (station_at ys p)
+  insert_entered p =
+      if_slot (same_place s.place p) (EnteredSlot made' listed.covered p) (Some s) (station_at xs p) (station_at ys p) (sets p)
       (λ same. new_stands p (same_place-eq s.place p same))
-      (λ other. slot_berthed p (station_at xs p) listed.covered made made' (for_slot (station_at xs p) _ (λ t. kept_port p t.base)) (sound.berthed p))
+      (λ other. slot_entered p (station_at xs p) listed.covered made made' (for_slot (station_at xs p) _ (λ t. kept_port p t.base)) (sound.entered p))
 
-  moor_heeded : (p : Place) → same_place s.place p ≡ false → HeededSlot made' listed.keys (station_at ys p)
-  moor_heeded p differ =
+  insert_heeded : (p : Place) → same_place s.place p ≡ false → HeededSlot made' listed.keys (station_at ys p)
+  insert_heeded p differ =
       if_slot (same_place s.place p) (HeededSlot made' listed.keys) (Some s) (station_at xs p) (station_at ys p) (sets p)
       (λ same. absurd (true≢false (sym same ∙ differ)))
-      (λ other. slot_heeded p (station_at xs p) listed.covered listed.keys listed.keys made made' (for_slot (station_at xs p) _ (λ t. kept_port p t.base)) (for_slot (station_at xs p) _ (λ t k is at. refl)) (sound.berthed p) (sound.heeded p))
+      (λ other. slot_heeded p (station_at xs p) listed.covered listed.keys listed.keys made made' (for_slot (station_at xs p) _ (λ t. kept_port p t.base)) (for_slot (station_at xs p) _ (λ t k is at. refl)) (sound.entered p) (sound.heeded p))
 
-  pub sound_moor : IsSoundBut s.place ys made' listed
-  sound_moor = record { berthed = moor_berthed; heeded = moor_heeded }
+  pub sound_insert : IsSoundBut s.place ys made' listed
+  sound_insert = record { entered = insert_entered; heeded = insert_heeded }
 
 -- ---- a place that is let go
 
-module _ (xs ys : List Station) (place : Place) (made made' : Slab BerthSeen) (listed listed' : KeyTable) (sets : SetsStation place None (station_at xs) (station_at ys)) (covered : listed'.covered ≡ listed.covered) (but : IsSoundBut place xs made listed) where
+module _ (xs ys : List Station) (place : Place) (made made' : Slab EntrySeen) (listed listed' : KeyTable) (sets : SetsStation place None (station_at xs) (station_at ys)) (covered : listed'.covered ≡ listed.covered) (but : IsSoundBut place xs made listed) where
   module _ (same : (p : Place) (on : Base) → same_place place p ≡ false → SamePort p on listed.covered made made') (listing : (p : Place) (on : Base) → same_place place p ≡ false → SameListing p on listed.covered made listed.keys listed'.keys) where
-    left_berthed : (p : Place) → BerthedSlot made' listed'.covered p (station_at ys p)
-    left_berthed p =
-        if_slot (same_place place p) (BerthedSlot made' listed'.covered p) None (station_at xs p) (station_at ys p) (sets p)
+    left_entered : (p : Place) → EnteredSlot made' listed'.covered p (station_at ys p)
+    left_entered p =
+        if_slot (same_place place p) (EnteredSlot made' listed'.covered p) None (station_at xs p) (station_at ys p) (sets p)
         (λ gone. tt)
-        (λ other. subst (λ c. BerthedSlot made' c p (station_at xs p)) (sym covered) (slot_berthed p (station_at xs p) listed.covered made made' (for_slot (station_at xs p) _ (λ t. same p t.base other)) (but.berthed p)))
+        (λ other. subst (λ c. EnteredSlot made' c p (station_at xs p)) (sym covered) (slot_entered p (station_at xs p) listed.covered made made' (for_slot (station_at xs p) _ (λ t. same p t.base other)) (but.entered p)))
 
     left_heeded : (p : Place) → HeededSlot made' listed'.keys (station_at ys p)
     left_heeded p =
         if_slot (same_place place p) (HeededSlot made' listed'.keys) None (station_at xs p) (station_at ys p) (sets p)
         (λ gone. tt)
-        (λ other. slot_heeded p (station_at xs p) listed.covered listed.keys listed'.keys made made' (for_slot (station_at xs p) _ (λ t. same p t.base other)) (for_slot (station_at xs p) _ (λ t. listing p t.base other)) (but.berthed p) (but.heeded p other))
+        (λ other. slot_heeded p (station_at xs p) listed.covered listed.keys listed'.keys made made' (for_slot (station_at xs p) _ (λ t. same p t.base other)) (for_slot (station_at xs p) _ (λ t. listing p t.base other)) (but.entered p) (but.heeded p other))
 
     sound_left : IsSound ys made' listed'
-    sound_left = record { berthed = left_berthed; heeded = left_heeded }
+    sound_left = record { entered = left_entered; heeded = left_heeded }
 
   -- with its made port
   module _ (key : ℕ) (based : base_at xs place ≡ Some (bases.Made key)) (updates : Updates made made' key None) (others : (other : ℕ) → other ≢ key → is_in other listed'.keys ≡ is_in other listed.keys) where
-    own_stands : (slot : Option Station) → option_map (λ s. s.base) slot ≡ Some (bases.Made key) → BerthedSlot made listed.covered place slot → stands_on made listed.covered place (bases.Made key) ≡ true
+    own_stands : (slot : Option Station) → option_map (λ s. s.base) slot ≡ Some (bases.Made key) → EnteredSlot made listed.covered place slot → stands_on made listed.covered place (bases.Made key) ≡ true
     own_stands None e h = absurd cc
     own_stands (Some s) e h = let is : s.base ≡ bases.Made key = cc in sym (ap (stands_on made listed.covered place) is) ∙ h
 
-    other_key : (p : Place) (k : ℕ) → same_place place p ≡ false → BerthedAt p k listed.covered (get made k) → k ≢ key
-    other_key p k differ at is = apart_keys p place k listed.covered (bases.Made key) made (own_stands (station_at xs place) based (but.berthed place)) differ at (ap bases.Made (sym is))
+    other_key : (p : Place) (k : ℕ) → same_place place p ≡ false → EnteredAt p k listed.covered (get made k) → k ≢ key
+    other_key p k differ at is = apart_keys p place k listed.covered (bases.Made key) made (own_stands (station_at xs place) based (but.entered place)) differ at (ap bases.Made (sym is))
 
     pub sound_let_go : IsSound ys made' listed'
     sound_let_go = sound_left (λ p on differ k is at. updates.others k (other_key p k differ at)) (λ p on differ k is at. others k (other_key p k differ at))
@@ -399,25 +399,25 @@ module _ (xs ys : List Station) (place : Place) (made made' : Slab BerthSeen) (l
 
 -- ---- room, and halves that are armed
 
-wider : (p : Place) (on : Base) (covered covered' : ℕ) (made : Slab BerthSeen) → covered ≤ covered' → stands_on made covered p on ≡ true → stands_on made covered' p on ≡ true
+wider : (p : Place) (on : Base) (covered covered' : ℕ) (made : Slab EntrySeen) → covered ≤ covered' → stands_on made covered p on ≡ true → stands_on made covered' p on ≡ true
 wider p (bases.Made key) covered covered' made le e =
-    let at = berthed_is p key covered (get made key) e in
+    let at = entered_is p key covered (get made key) e in
     let below = at.3 in
-    berthed_by p key covered' (get made key) (at.0, at.1, at.2, omega (arith, below, le))
+    entered_by p key covered' (get made key) (at.0, at.1, at.2, omega (arith, below, le))
 wider p bases.Input covered covered' made le e = refl
 wider p bases.Output covered covered' made le e = refl
 wider p bases.Both covered covered' made le e = refl
 wider p bases.Errors covered covered' made le e = refl
 
-slot_wider : (p : Place) (slot : Option Station) (covered covered' : ℕ) (made : Slab BerthSeen) → covered ≤ covered' → BerthedSlot made covered p slot → BerthedSlot made covered' p slot
+slot_wider : (p : Place) (slot : Option Station) (covered covered' : ℕ) (made : Slab EntrySeen) → covered ≤ covered' → EnteredSlot made covered p slot → EnteredSlot made covered' p slot
 slot_wider p None covered covered' made le h = tt
 slot_wider p (Some s) covered covered' made le h = wider p s.base covered covered' made le h
 
 -- the same ports, the same keys, and more that can be listed
-pub sound_kept : (xs : List Station) (made made' : Slab BerthSeen) (listed listed' : KeyTable) → SameValues made made' → listed'.keys ≡ listed.keys → listed.covered ≤ listed'.covered → IsSound xs made listed → IsSound xs made' listed'
+pub sound_kept : (xs : List Station) (made made' : Slab EntrySeen) (listed listed' : KeyTable) → SameValues made made' → listed'.keys ≡ listed.keys → listed.covered ≤ listed'.covered → IsSound xs made listed → IsSound xs made' listed'
 sound_kept xs made made' listed listed' same keys le sound = record {
-  berthed = λ p. slot_wider p (station_at xs p) listed.covered listed'.covered made' le (slot_berthed p (station_at xs p) listed.covered made made' (for_slot (station_at xs p) _ (λ t k is at. same k)) (sound.berthed p));
-  heeded = λ p. slot_heeded p (station_at xs p) listed.covered listed.keys listed'.keys made made' (for_slot (station_at xs p) _ (λ t k is at. same k)) (for_slot (station_at xs p) _ (λ t k is at. ap (is_in k) keys)) (sound.berthed p) (sound.heeded p);
+  entered = λ p. slot_wider p (station_at xs p) listed.covered listed'.covered made' le (slot_entered p (station_at xs p) listed.covered made made' (for_slot (station_at xs p) _ (λ t k is at. same k)) (sound.entered p));
+  heeded = λ p. slot_heeded p (station_at xs p) listed.covered listed.keys listed'.keys made made' (for_slot (station_at xs p) _ (λ t k is at. same k)) (for_slot (station_at xs p) _ (λ t k is at. ap (is_in k) keys)) (sound.entered p) (sound.heeded p);
 }
 
 quiet_armed : (half : Half) (s : Station) (port : PortSeen) → is_quiet s port ≡ true → is_quiet (with_half half false s) port ≡ true
@@ -428,11 +428,11 @@ or_armed : (a b c : Bool) → (b ≡ true → c ≡ true) → (a || b) ≡ true 
 or_armed true b c f e = refl
 or_armed false b c f e = f e
 
-heeded_armed : (half : Half) (s : Station) (key : ℕ) (keys : List ℕ) (slot : Option BerthSeen) → is_heeded s key keys slot ≡ true → is_heeded (with_half half false s) key keys slot ≡ true
+heeded_armed : (half : Half) (s : Station) (key : ℕ) (keys : List ℕ) (slot : Option EntrySeen) → is_heeded s key keys slot ≡ true → is_heeded (with_half half false s) key keys slot ≡ true
 heeded_armed half s key keys None e = refl
-heeded_armed half s key keys (Some berth) e = or_armed (is_in key keys) (is_quiet s berth.port) (is_quiet (with_half half false s) berth.port) (quiet_armed half s berth.port) e
+heeded_armed half s key keys (Some entry) e = or_armed (is_in key keys) (is_quiet s entry.port) (is_quiet (with_half half false s) entry.port) (quiet_armed half s entry.port) e
 
-heeds_armed : (half : Half) (s : Station) (on : Base) (keys : List ℕ) (made : Slab BerthSeen) → heeds made keys s on ≡ true → heeds made keys (with_half half false s) on ≡ true
+heeds_armed : (half : Half) (s : Station) (on : Base) (keys : List ℕ) (made : Slab EntrySeen) → heeds made keys s on ≡ true → heeds made keys (with_half half false s) on ≡ true
 heeds_armed half s (bases.Made key) keys made e = heeded_armed half s key keys (get made key) e
 heeds_armed half s bases.Input keys made e = refl
 heeds_armed half s bases.Output keys made e = refl
@@ -443,21 +443,21 @@ armed_base : (half : Half) (s : Station) → (with_half half false s).base ≡ s
 armed_base ToRead s = refl
 armed_base ToWrite s = refl
 
-slot_armed : (half : Half) (p : Place) (slot : Option Station) (covered : ℕ) (made : Slab BerthSeen) → BerthedSlot made covered p slot → BerthedSlot made covered p (option_map (with_half half false) slot)
+slot_armed : (half : Half) (p : Place) (slot : Option Station) (covered : ℕ) (made : Slab EntrySeen) → EnteredSlot made covered p slot → EnteredSlot made covered p (option_map (with_half half false) slot)
 slot_armed half p None covered made h = tt
 slot_armed half p (Some s) covered made h = ap (stands_on made covered p) (armed_base half s) ∙ h
 
-slot_heeds_armed : (half : Half) (slot : Option Station) (keys : List ℕ) (made : Slab BerthSeen) → HeededSlot made keys slot → HeededSlot made keys (option_map (with_half half false) slot)
+slot_heeds_armed : (half : Half) (slot : Option Station) (keys : List ℕ) (made : Slab EntrySeen) → HeededSlot made keys slot → HeededSlot made keys (option_map (with_half half false) slot)
 slot_heeds_armed half None keys made h = tt
 slot_heeds_armed half (Some s) keys made h = ap (heeds made keys (with_half half false s)) (armed_base half s) ∙ heeds_armed half s s.base keys made h
 
 -- a half that is armed has nothing more to be listed for
-pub sound_armed : (xs ys : List Station) (place : Place) (half : Half) (made : Slab BerthSeen) (listed : KeyTable) → SetsStation place (option_map (with_half half false) (station_at xs place)) (station_at xs) (station_at ys) → IsSound xs made listed → IsSound ys made listed
+pub sound_armed : (xs ys : List Station) (place : Place) (half : Half) (made : Slab EntrySeen) (listed : KeyTable) → SetsStation place (option_map (with_half half false) (station_at xs place)) (station_at xs) (station_at ys) → IsSound xs made listed → IsSound ys made listed
 sound_armed xs ys place half made listed sets sound = record {
-  berthed = λ p.
-      if_slot (same_place place p) (BerthedSlot made listed.covered p) (option_map (with_half half false) (station_at xs place)) (station_at xs p) (station_at ys p) (sets p)
-      (λ same. subst (λ q. BerthedSlot made listed.covered q (option_map (with_half half false) (station_at xs place))) (same_place-eq place p same) (slot_armed half place (station_at xs place) listed.covered made (sound.berthed place)))
-      (λ other. sound.berthed p);
+  entered = λ p.
+      if_slot (same_place place p) (EnteredSlot made listed.covered p) (option_map (with_half half false) (station_at xs place)) (station_at xs p) (station_at ys p) (sets p)
+      (λ same. subst (λ q. EnteredSlot made listed.covered q (option_map (with_half half false) (station_at xs place))) (same_place-eq place p same) (slot_armed half place (station_at xs place) listed.covered made (sound.entered place)))
+      (λ other. sound.entered p);
   heeded = λ p.
       if_slot (same_place place p) (HeededSlot made listed.keys) (option_map (with_half half false) (station_at xs place)) (station_at xs p) (station_at ys p) (sets p)
       (λ same. slot_heeds_armed half (station_at xs place) listed.keys made (sound.heeded place))
@@ -467,14 +467,14 @@ sound_armed xs ys place half made listed sets sound = record {
 -- ---- a call on the port of a held place
 
 -- the port of either half of a base
-pub giving_of : (base : Base) → PierOf (giving_pier base) base
+pub giving_of : (base : Base) → PortIdOf (giving_port base) base
 giving_of (bases.Made key) = refl
 giving_of bases.Input = λ key is. absurd cc
 giving_of bases.Output = λ key is. absurd cc
 giving_of bases.Both = λ key is. absurd cc
 giving_of bases.Errors = λ key is. absurd cc
 
-pub taking_of : (base : Base) → PierOf (taking_pier base) base
+pub taking_of : (base : Base) → PortIdOf (taking_port base) base
 taking_of (bases.Made key) = refl
 taking_of bases.Input = λ key is. absurd cc
 taking_of bases.Output = λ key is. absurd cc
@@ -486,7 +486,7 @@ marked_base ToRead disarmed s = refl
 marked_base ToWrite disarmed s = refl
 
 -- a half is marked after it
-pub sound_marked : (xs ys : List Station) (place : Place) (s : Station) (half : Half) (disarmed : Bool) (made made' : Slab BerthSeen) (listed : KeyTable) → station_at xs place ≡ Some s → SetsStation place (option_map (with_half half disarmed) (station_at xs place)) (station_at xs) (station_at ys) → OnlyAt s.base made made' → IsSound xs made listed → IsSoundBut place ys made' listed
+pub sound_marked : (xs ys : List Station) (place : Place) (s : Station) (half : Half) (disarmed : Bool) (made made' : Slab EntrySeen) (listed : KeyTable) → station_at xs place ≡ Some s → SetsStation place (option_map (with_half half disarmed) (station_at xs place)) (station_at xs) (station_at ys) → OnlyAt s.base made made' → IsSound xs made listed → IsSoundBut place ys made' listed
 sound_marked xs ys place s half disarmed made made' listed at sets only sound =
     let Sets : Option Station → Type 0 = λ slot. SetsStation place (option_map (with_half half disarmed) slot) (station_at xs) (station_at ys) in
     sound_but xs ys place s (with_half half disarmed s) made made' listed at (marked_base half disarmed s) (subst Sets at sets) only sound

@@ -16,10 +16,10 @@ use Rattle.relay_model.specs.Holding.{Hold, Free, is_free}
 use Rattle.world_trait.specs.HoldTables.{hold_of, SetsHold}
 use Rattle.world_trait.specs.declared.tables.Standing.{Standing}
 use Rattle.world_trait.specs.declared.tables.Standing.TheVariants as standings
-use Rattle.desk_ports.specs.Bases.{is_standard}
-use Rattle.desk_ports.specs.declared.bases.Base.{Base}
+use Rattle.port_table.specs.Bases.{is_standard}
+use Rattle.port_table.specs.declared.bases.Base.{Base}
 use Rattle.desk_places.specs.declared.stations.Station.{Station}
-use Rattle.desk_places.specs.Stations.{station_at, base_at, hold_by, hold_at, base_by, with_half, AreInOrder, AreListed, IsFirstOf, IsStartOf, is_listed, listed_so, SetsStation, SameFooting, SameHold}
+use Rattle.desk_places.specs.Stations.{station_at, base_at, hold_by, hold_at, base_by, with_half, AreInOrder, AreListed, IsFirstOf, IsStartOf, is_listed, listed_so, SetsStation, SameStanding, SameHold}
 use Rattle.desk_places.proofs.PlaceLemmas.{same_place-eq, same_place-same, false_unless, apart, earlier_apart}
 
 -- ---- the station of a place after a change
@@ -286,13 +286,13 @@ abbrev asked_by : Option Base → Bool
 asked_by None = false
 asked_by (Some base) = is_standard base
 
-listed_footing : (slot slot' : Option Station) (p : Place) (places : List Place) → base_by slot' ≡ base_by slot → listed_so slot p places ≡ true → listed_so slot' p places ≡ true
-listed_footing slot None p places e h = refl
-listed_footing None (Some s') p places e h = absurd cc
-listed_footing (Some s) (Some s') p places e h = ap (λ b. not b || is_listed p places) (ap asked_by e) ∙ h
+listed_standing : (slot slot' : Option Station) (p : Place) (places : List Place) → base_by slot' ≡ base_by slot → listed_so slot p places ≡ true → listed_so slot' p places ≡ true
+listed_standing slot None p places e h = refl
+listed_standing None (Some s') p places e h = absurd cc
+listed_standing (Some s) (Some s') p places e h = ap (λ b. not b || is_listed p places) (ap asked_by e) ∙ h
 
-pub listed_on : (xs ys : List Station) (places : List Place) → SameFooting xs ys → AreListed xs places → AreListed ys places
-listed_on xs ys places same listed p = listed_footing (station_at xs p) (station_at ys p) p places (same p) (listed p)
+pub listed_on : (xs ys : List Station) (places : List Place) → SameStanding xs ys → AreListed xs places → AreListed ys places
+listed_on xs ys places same listed p = listed_standing (station_at xs p) (station_at ys p) p places (same p) (listed p)
 
 slot_asked : (slot : Option Station) (s : Station) (p : Place) (places : List Place) → slot ≡ Some s → is_standard s.base ≡ true → listed_so slot p places ≡ true → is_listed p places ≡ true
 slot_asked slot s p places e asked listed = sym (ap (λ b. not b || is_listed p places) asked) ∙ (sym (ap (λ x. listed_so x p places) e) ∙ listed)
@@ -319,14 +319,14 @@ hold_if false slot rest now e = ap hold_by e
 pub hold_sets : (xs ys : List Station) (place : Place) (slot : Option Station) → SetsStation place slot (station_at xs) (station_at ys) → SetsHold place (hold_by slot) (hold_at xs) (hold_at ys)
 hold_sets xs ys place slot sets p = hold_if (same_place place p) slot (station_at xs p) (station_at ys p) (sets p)
 
-footing_if : (b : Bool) (slot rest now : Option Station) → now ≡ (if b then slot else rest) → (b ≡ true → base_by slot ≡ base_by rest) → base_by now ≡ base_by rest
-footing_if true slot rest now e same = ap base_by e ∙ same refl
-footing_if false slot rest now e same = ap base_by e
+standing_if : (b : Bool) (slot rest now : Option Station) → now ≡ (if b then slot else rest) → (b ≡ true → base_by slot ≡ base_by rest) → base_by now ≡ base_by rest
+standing_if true slot rest now e same = ap base_by e ∙ same refl
+standing_if false slot rest now e same = ap base_by e
 
--- a place that is set to a station on the same footing leaves every place on its own
-pub sets_footing : (xs ys : List Station) (place : Place) (slot : Option Station) → SetsStation place slot (station_at xs) (station_at ys) → base_by slot ≡ base_at xs place → SameFooting xs ys
-sets_footing xs ys place slot sets same p =
-    footing_if (same_place place p) slot (station_at xs p) (station_at ys p) (sets p) (λ e. same ∙ ap (base_at xs) (same_place-eq place p e))
+-- a place that is set to a station on the same standing leaves every place on its own
+pub sets_standing : (xs ys : List Station) (place : Place) (slot : Option Station) → SetsStation place slot (station_at xs) (station_at ys) → base_by slot ≡ base_at xs place → SameStanding xs ys
+sets_standing xs ys place slot sets same p =
+    standing_if (same_place place p) slot (station_at xs p) (station_at ys p) (sets p) (λ e. same ∙ ap (base_at xs) (same_place-eq place p e))
 
 stays_step : (b : Bool) (slot now : Option Station) → (b ≡ true → now ≡ slot) → now ≡ (if b then slot else now)
 stays_step true slot now same = same refl
@@ -336,19 +336,19 @@ stays_step false slot now same = refl
 pub station_stays : (place : Place) (slot : Option Station) (table : Place → Option Station) → table place ≡ slot → SetsStation place slot table table
 station_stays place slot table is p = stays_step (same_place place p) slot (table p) (λ e. sym (ap table (same_place-eq place p e)) ∙ is)
 
-half_footing : (half : Half) (disarmed : Bool) (slot : Option Station) → base_by (option_map (with_half half disarmed) slot) ≡ base_by slot
-half_footing half disarmed None = refl
-half_footing ToRead disarmed (Some s) = refl
-half_footing ToWrite disarmed (Some s) = refl
+half_standing : (half : Half) (disarmed : Bool) (slot : Option Station) → base_by (option_map (with_half half disarmed) slot) ≡ base_by slot
+half_standing half disarmed None = refl
+half_standing ToRead disarmed (Some s) = refl
+half_standing ToWrite disarmed (Some s) = refl
 
 half_hold : (half : Half) (disarmed : Bool) (slot : Option Station) → hold_by (option_map (with_half half disarmed) slot) ≡ hold_by slot
 half_hold half disarmed None = refl
 half_hold ToRead disarmed (Some s) = refl
 half_hold ToWrite disarmed (Some s) = refl
 
--- a half that is marked leaves every place on its footing, and as it stands
-pub mark_footing : (xs ys : List Station) (place : Place) (half : Half) (disarmed : Bool) → SetsStation place (option_map (with_half half disarmed) (station_at xs place)) (station_at xs) (station_at ys) → SameFooting xs ys
-mark_footing xs ys place half disarmed sets = sets_footing xs ys place _ sets (half_footing half disarmed (station_at xs place))
+-- a half that is marked leaves every place on its standing, and as it stands
+pub mark_standing : (xs ys : List Station) (place : Place) (half : Half) (disarmed : Bool) → SetsStation place (option_map (with_half half disarmed) (station_at xs place)) (station_at xs) (station_at ys) → SameStanding xs ys
+mark_standing xs ys place half disarmed sets = sets_standing xs ys place _ sets (half_standing half disarmed (station_at xs place))
 
 same_if : (b : Bool) (hold rest now : Hold) → now ≡ (if b then hold else rest) → (b ≡ true → hold ≡ rest) → now ≡ rest
 same_if true hold rest now e same = e ∙ same refl

@@ -5,7 +5,7 @@ use Rattle.relay_model.specs.declared.places.Place.{Place}
 use Rattle.relay_model.specs.declared.commands.Single.{Single}
 use Rattle.port_trait.specs.declared.makers.AskedPlace.{AskedPlace}
 use Rattle.port_trait.specs.Counting.{Rose}
-use Rattle.desk_ports.specs.Ports.{FailsToBegin, PortSeen}
+use Rattle.port_table.specs.Ports.{FailsToBegin, PortSeen}
 use Rattle.world_trait.specs.declared.answers.OpenAnswer.{OpenAnswer}
 use Rattle.world_trait.specs.declared.answers.OpenAnswer.TheVariants as opens
 use Rattle.world_trait.specs.declared.answers.ListenAnswer.{ListenAnswer}

@@ -25,11 +25,11 @@ use Rattle.world_trait.specs.declared.answers.ListenAnswer.{ListenAnswer}
 use Rattle.world_trait.specs.declared.answers.ListenAnswer.TheVariants as listens
 use Rattle.world_trait.specs.declared.answers.AcceptAnswer.{AcceptAnswer}
 use Rattle.world_trait.specs.declared.answers.AcceptAnswer.TheVariants as accepts
-use Rattle.desk_ports.specs.Ports.{Begins, PortSeen, BerthSeen, JoinsSo, LetsIn, Reaps, Settles}
-use Rattle.desk_ports.specs.Harbors.{BeginsAt, Errors, Input, Made, MadeCall, Output, Pier, SameStreams, StreamCall}
-use Rattle.desk_ports.specs.declared.harbor.Harbor.{Harbor}
-use Rattle.desk_ports.specs.declared.bases.Base.{Base}
-use Rattle.desk_ports.specs.declared.bases.Base.TheVariants as bases
+use Rattle.port_table.specs.Ports.{Begins, PortSeen, EntrySeen, JoinsSo, LetsIn, Reaps, Settles}
+use Rattle.port_table.specs.PortTables.{BeginsAt, Errors, Input, Made, MadeCall, Output, PortId, SameStreams, StreamCall}
+use Rattle.port_table.specs.declared.table.PortTable.{PortTable}
+use Rattle.port_table.specs.declared.bases.Base.{Base}
+use Rattle.port_table.specs.declared.bases.Base.TheVariants as bases
 use Rattle.relay_model.specs.declared.acts.Why.{Why}
 use Rattle.relay_model.specs.declared.acts.Why.TheVariants as whys
 
@@ -57,18 +57,18 @@ SettlesSo before now opens.Failed = Settles before now settles.Failed
 SettlesSo before now opens.Memory = now ≡ before
 
 -- a port that has a child is kept before all that were kept earlier
-abbrev pub KeptIf : Bool → BerthSeen → List BerthSeen → List BerthSeen → Type 0
+abbrev pub KeptIf : Bool → EntrySeen → List EntrySeen → List EntrySeen → Type 0
 KeptIf true last before after = after ≡ last ∷ before
 KeptIf false last before after = after ≡ before
 
 -- a made port whose settling failed, and its state after that, which is kept where it has a child
-pub record SettledOut {T : Type 0} (tells : T → PortSeen) (old : BerthSeen) (parents parents' : List BerthSeen) : Type 0 where
+pub record SettledOut {T : Type 0} (tells : T → PortSeen) (old : EntrySeen) (parents parents' : List EntrySeen) : Type 0 where
   pub last : T
   pub call : Settles old.port (tells last) settles.Failed
   pub kept : KeptIf old.port.child (record { place = old.place; port = tells last }) parents parents'
 
 -- what a settling did with the made port of the key; one that failed is gone
-abbrev pub SettlesMade : {T : Type 0} → (T → PortSeen) → Slab BerthSeen → Slab BerthSeen → List BerthSeen → List BerthSeen → ℕ → OpenAnswer → Type 0
+abbrev pub SettlesMade : {T : Type 0} → (T → PortSeen) → Slab EntrySeen → Slab EntrySeen → List EntrySeen → List EntrySeen → ℕ → OpenAnswer → Type 0
 SettlesMade tells before now parents parents' key opens.Opened = MadeCall before now key (λ old new. Settles old new settles.Ready) × (parents' ≡ parents)
 SettlesMade tells before now parents parents' key opens.Later = MadeCall before now key (λ old new. Settles old new settles.NotYet) × (parents' ≡ parents)
 SettlesMade tells before now parents parents' key opens.Failed = IfSome (get before key) (λ old. SettledOut tells old parents parents') × (get now key ≡ None) × ((other : ℕ) → other ≢ key → get now other ≡ get before other)
@@ -76,14 +76,14 @@ SettlesMade tells before now parents parents' key opens.Memory = (now ≡ before
 
 -- the call on the giving port of a place that stands behind the answer of a settling, and what became of the made ports
 -- and of those that were kept; every other port is as it was
-abbrev pub SettledAt : {T X I O E : Type 0} → (T → PortSeen) → Pier → Harbor X I O E → Harbor X I O E → List BerthSeen → List BerthSeen → OpenAnswer → Type 0
+abbrev pub SettledAt : {T X I O E : Type 0} → (T → PortSeen) → PortId → PortTable X I O E → PortTable X I O E → List EntrySeen → List EntrySeen → OpenAnswer → Type 0
 SettledAt tells Input before now parents parents' answer = StreamCall before.input now.input (λ o n. SettlesSo o n answer) × (now.output ≡ before.output) × (now.errors ≡ before.errors) × (now.made ≡ before.made) × (parents' ≡ parents)
 SettledAt tells Output before now parents parents' answer = (now.input ≡ before.input) × StreamCall before.output now.output (λ o n. SettlesSo o n answer) × (now.errors ≡ before.errors) × (now.made ≡ before.made) × (parents' ≡ parents)
 SettledAt tells Errors before now parents parents' answer = (now.input ≡ before.input) × (now.output ≡ before.output) × StreamCall before.errors now.errors (λ o n. SettlesSo o n answer) × (now.made ≡ before.made) × (parents' ≡ parents)
 SettledAt tells (Made key) before now parents parents' answer = (now.input ≡ before.input) × (now.output ≡ before.output) × (now.errors ≡ before.errors) × SettlesMade tells before.made now.made parents parents' key answer
 
 -- one made port more, which the place stands on: it was given, it was begun, and nothing else was done with it
-pub record OneMore {T : Type 0} (tells : T → PortSeen) (place : Place) (base : Option Base) (before now : Slab BerthSeen) : Type 0 where
+pub record OneMore {T : Type 0} (tells : T → PortSeen) (place : Place) (base : Option Base) (before now : Slab EntrySeen) : Type 0 where
   pub key : ℕ
   pub vacant : get before key ≡ None
   pub given : T
@@ -93,26 +93,26 @@ pub record OneMore {T : Type 0} (tells : T → PortSeen) (place : Place) (base :
   pub based : base ≡ Some (bases.Made key)
 
 -- the made ports after the beginning of a new one for the place; one that doesn't begin is dropped
-abbrev pub BeginsMade : {T : Type 0} → (T → PortSeen) → Place → Option Base → Begun → Slab BerthSeen → Slab BerthSeen → Type 0
+abbrev pub BeginsMade : {T : Type 0} → (T → PortSeen) → Place → Option Base → Begun → Slab EntrySeen → Slab EntrySeen → Type 0
 BeginsMade tells place base begins.Begun before now = OneMore tells place base before now
 BeginsMade tells place base begins.Failed before now = SameValues before now
 BeginsMade tells place base begins.Memory before now = SameValues before now
 
 -- the made ports after an opening that isn't one of standard streams
-abbrev pub OpensMade : {T : Type 0} → (T → PortSeen) → Place → Option Base → OpenAnswer → Slab BerthSeen → Slab BerthSeen → Type 0
+abbrev pub OpensMade : {T : Type 0} → (T → PortSeen) → Place → Option Base → OpenAnswer → Slab EntrySeen → Slab EntrySeen → Type 0
 OpensMade tells place base opens.Opened before now = OneMore tells place base before now
 OpensMade tells place base opens.Later before now = OneMore tells place base before now
 OpensMade tells place base opens.Failed before now = SameValues before now
 OpensMade tells place base opens.Memory before now = SameValues before now
 
 -- after a listening
-abbrev pub ListensMade : {T : Type 0} → (T → PortSeen) → Place → Option Base → ListenAnswer → Slab BerthSeen → Slab BerthSeen → Type 0
+abbrev pub ListensMade : {T : Type 0} → (T → PortSeen) → Place → Option Base → ListenAnswer → Slab EntrySeen → Slab EntrySeen → Type 0
 ListensMade tells door base listens.Listening before now = OneMore tells door base before now
 ListensMade tells door base listens.Failed before now = SameValues before now
 ListensMade tells door base listens.Memory before now = SameValues before now
 
 -- after the peer of an accepting has come
-abbrev pub WelcomesMade : {T : Type 0} → (T → PortSeen) → Place → Option Base → AcceptAnswer → Slab BerthSeen → Slab BerthSeen → Type 0
+abbrev pub WelcomesMade : {T : Type 0} → (T → PortSeen) → Place → Option Base → AcceptAnswer → Slab EntrySeen → Slab EntrySeen → Type 0
 WelcomesMade tells place base (accepts.Accepted peer) before now = OneMore tells place base before now
 WelcomesMade tells place base accepts.NoPeer before now = ⊥
 WelcomesMade tells place base accepts.Failed before now = SameValues before now
@@ -120,25 +120,25 @@ WelcomesMade tells place base accepts.Memory before now = SameValues before now
 
 -- after an accepting at the door of this key, which moves no bytes: each other port that was there is as it was, and
 -- there is one more where a peer was accepted
-abbrev pub AcceptsMade : {T : Type 0} → (T → PortSeen) → ℕ → Place → Option Base → AcceptAnswer → Slab BerthSeen → Slab BerthSeen → Type 0
-AcceptsMade tells door place base (accepts.Accepted peer) before now = (between : Slab BerthSeen) × MadeCall before between door LetsIn × OneMore tells place base between now
+abbrev pub AcceptsMade : {T : Type 0} → (T → PortSeen) → ℕ → Place → Option Base → AcceptAnswer → Slab EntrySeen → Slab EntrySeen → Type 0
+AcceptsMade tells door place base (accepts.Accepted peer) before now = (between : Slab EntrySeen) × MadeCall before between door LetsIn × OneMore tells place base between now
 AcceptsMade tells door place base accepts.NoPeer before now = MadeCall before now door LetsIn
 AcceptsMade tells door place base accepts.Failed before now = MadeCall before now door LetsIn
 AcceptsMade tells door place base accepts.Memory before now = MadeCall before now door LetsIn
 
 -- the streams of the base were begun, standard input first, and no other; where there was no memory maybe none
-abbrev pub OpensAt : {T I O E : Type 0} → Base → Harbor T I O E → Harbor T I O E → OpenAnswer → Type 0
+abbrev pub OpensAt : {T I O E : Type 0} → Base → PortTable T I O E → PortTable T I O E → OpenAnswer → Type 0
 OpensAt base before now opens.Opened = BeginsAt base before now begins.Begun
 OpensAt base before now opens.Later = ⊥
 OpensAt base before now opens.Failed = BeginsAt base before now begins.Failed
 OpensAt base before now opens.Memory = BeginsAt base before now begins.Memory ⊎ SameStreams before now
 
 -- the first port that was kept for the place is there no longer
-abbrev pub DropsFirst : Place → List BerthSeen → List BerthSeen → Type 0
+abbrev pub DropsFirst : Place → List EntrySeen → List EntrySeen → Type 0
 DropsFirst place before after = MatchOption (position (λ b. same_place b.place place) before) (after ≡ before) (λ i. after ≡ remove before i)
 
 -- the same by the answer of a reaping
-abbrev pub ReapsOut : Place → ReapAnswer → List BerthSeen → List BerthSeen → Type 0
+abbrev pub ReapsOut : Place → ReapAnswer → List EntrySeen → List EntrySeen → Type 0
 ReapsOut place (reaped.Reaped end) before after = DropsFirst place before after
 ReapsOut place reaped.NoChild before after = DropsFirst place before after
 ReapsOut place reaped.Memory before after = after ≡ before
@@ -149,7 +149,7 @@ is_finished whys.Finished = true
 is_finished why = false
 
 -- the made port of a base; none where that is a standard stream
-abbrev pub made_at : Slab BerthSeen → Base → Option BerthSeen
+abbrev pub made_at : Slab EntrySeen → Base → Option EntrySeen
 made_at made (bases.Made key) = get made key
 made_at made bases.Input = None
 made_at made bases.Output = None
@@ -162,28 +162,28 @@ LeftSo true before last = JoinsSo before last (join_answer before.joins)
 LeftSo false before last = last ≡ before
 
 -- what the join of a port that is let go answered; none where it wasn't joined
-abbrev pub joined_answer : Bool → Option BerthSeen → Option Joining
+abbrev pub joined_answer : Bool → Option EntrySeen → Option Joining
 joined_answer joined None = None
-joined_answer true (Some berth) = Some (join_answer berth.port.joins)
-joined_answer false (Some berth) = None
+joined_answer true (Some entry) = Some (join_answer entry.port.joins)
+joined_answer false (Some entry) = None
 
 -- a port that has a child is kept for its place, before all that were kept earlier
-abbrev pub KeptFor : Bool → Bool → BerthSeen → List BerthSeen → List BerthSeen → Type 0
-KeptFor true joined berth before after = (last : PortSeen) × LeftSo joined berth.port last × (after ≡ record { place = berth.place; port = last } ∷ before)
-KeptFor false joined berth before after = after ≡ before
+abbrev pub KeptFor : Bool → Bool → EntrySeen → List EntrySeen → List EntrySeen → Type 0
+KeptFor true joined entry before after = (last : PortSeen) × LeftSo joined entry.port last × (after ≡ record { place = entry.place; port = last } ∷ before)
+KeptFor false joined entry before after = after ≡ before
 
 -- a port with a child stays, unless it was joined
-abbrev pub LeavesParent : Bool → Option BerthSeen → List BerthSeen → List BerthSeen → Type 0
+abbrev pub LeavesParent : Bool → Option EntrySeen → List EntrySeen → List EntrySeen → Type 0
 LeavesParent joined None before after = after ≡ before
-LeavesParent joined (Some berth) before after = KeptFor berth.port.child joined berth before after
+LeavesParent joined (Some entry) before after = KeptFor entry.port.child joined entry before after
 
 -- the reap of a port that was kept; without one there is no child
-abbrev pub ReapsKept : Option BerthSeen → PortReap → Type 0
+abbrev pub ReapsKept : Option EntrySeen → PortReap → Type 0
 ReapsKept None answer = answer ≡ reaps.NoChild
-ReapsKept (Some berth) answer = (last : PortSeen) × Reaps berth.port last answer
+ReapsKept (Some entry) answer = (last : PortSeen) × Reaps entry.port last answer
 
 -- the same by the answer of a world
-abbrev pub ReapsAnswered : Option BerthSeen → ReapAnswer → Type 0
+abbrev pub ReapsAnswered : Option EntrySeen → ReapAnswer → Type 0
 ReapsAnswered kept (reaped.Reaped end) = ReapsKept kept (reaps.Reaped end)
 ReapsAnswered kept reaped.NoChild = ReapsKept kept reaps.NoChild
 ReapsAnswered kept reaped.Memory = ⊤

@@ -1,7 +1,8 @@
-pub mod Bases
 pub mod Causes
 pub mod Changes
-pub mod Footing
+pub mod Standing
 pub mod Keys
 pub mod Marks
+pub mod Naming
+pub mod PlaceBases
 pub mod Stations

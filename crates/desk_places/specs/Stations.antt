@@ -8,8 +8,8 @@ use Rattle.relay_model.specs.Places.{same_place}
 use Rattle.relay_model.specs.Holding.{Hold, Free}
 use Rattle.world_trait.specs.HoldTables.{hold_of}
 use Rattle.world_trait.specs.declared.tables.Standing.TheVariants as standings
-use Rattle.desk_ports.specs.Bases.{is_standard}
-use Rattle.desk_ports.specs.declared.bases.Base.{Base}
+use Rattle.port_table.specs.Bases.{is_standard}
+use Rattle.port_table.specs.declared.bases.Base.{Base}
 use Rattle.desk_places.specs.declared.stations.Station.{Station}
 
 -- the held places in the order of their sessions, those of them on standard streams, and how many more places there is
@@ -97,5 +97,5 @@ abbrev pub SameHold : (Place → Hold) → (Place → Hold) → Type 0
 SameHold before after = (p : Place) → after p ≡ before p
 
 -- every place stands on what it stood on
-abbrev pub SameFooting : List Station → List Station → Type 0
-SameFooting before after = (p : Place) → base_at after p ≡ base_at before p
+abbrev pub SameStanding : List Station → List Station → Type 0
+SameStanding before after = (p : Place) → base_at after p ≡ base_at before p

@@ -127,7 +127,9 @@ fn exchange(order: &mut Vec<usize>, places: &mut Vec<usize>, one: usize, two: us
     requires one { one < length order.old.items }
     requires two { two < length order.old.items }
     ensures inverse { AreInverse order.new.items places.new.items }
-    ensures exchanged { (i : ℕ) → slice_get order.new.items i ≡ (if i == two then slice_get order.old.items one else if i == one then slice_get order.old.items two else slice_get order.old.items i) }
+    ensures exchanged { (i : ℕ)
+        → slice_get order.new.items i ≡ (if i == two then slice_get order.old.items one else if i == one then
+        slice_get order.old.items two else slice_get order.old.items i) }
     ensures len { length order.new.items ≡ length order.old.items }
 {
     let first = order[one];

@@ -2,9 +2,11 @@
 #![tactic(auto)]
 
 mod keys;
+mod naming;
 mod ports;
 mod stations;
 
 pub use keys::KeySet;
+pub use naming::{arm_named, name_hinting, name_keyed};
 pub use ports::Ports;
 pub use stations::{Station, Stations};

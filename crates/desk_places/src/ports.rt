@@ -3,7 +3,7 @@
 ghost use Rattle.std.specs.Prelude.{◌≡◌, ◌≢◌, ℕ, List, None, ◌<◌, ◌≤◌, ◌+◌, ◌&&◌, ◌||◌, ◌∷◌, [], Some, if◌then◌else◌, true, false, length, vec_len, vec_capacity, option_map, find, position, ◌⊎◌, IfSome, IfNone, OnOk, MatchOption};
 ghost use Rattle.std.specs.List.{remove};
 ghost use Rattle.slab.specs.Slab.{SameValues, Updates, get};
-ghost use Rattle.desk_ports.specs.declared.bases.Base.TheVariants as bases;
+ghost use Rattle.port_table.specs.declared.bases.Base.TheVariants as bases;
 ghost use Rattle.relay_model.specs.Holding.{Free, Open, Settling, is_free, is_open};
 ghost use Rattle.relay_model.specs.Places.{same_place};
 ghost use Rattle.relay_model.specs.declared.places.Place.{Place};
@@ -11,22 +11,24 @@ ghost use Rattle.world_trait.specs.Answers.{accept_act, close_act, listen_act, o
 ghost use Rattle.relay_model.specs.declared.places.Half.TheVariants.{ToRead, ToWrite};
 ghost use Rattle.port_trait.specs.Counting.{Rose};
 ghost use Rattle.desk_places.specs.Causes.{AcceptCause, AskedFor, BeginCause, ListenCause, OpenCause, StandardCause, WelcomeCause};
-ghost use Rattle.desk_ports.specs.Ports.{IsOf, JoinsSo, MovesNothing, Reads, Sends, Shuts, Writes, seen};
-ghost use Rattle.desk_ports.specs.Harbors.{AtMade, CalledAt, EndsAt, SameStreams, StreamNotes, giving_pier, taking_pier};
-ghost use Rattle.desk_ports.specs.Answers.{GotFits, SaidSo, TookFits, is_got_not_yet, is_took_not_yet, is_unsaid};
+ghost use Rattle.port_table.specs.Ports.{IsOf, JoinsSo, MovesNothing, Reads, Sends, Shuts, Writes, seen};
+ghost use Rattle.port_table.specs.PortTables.{AtMade, CalledAt, EndsAt, SameStreams, StreamNotes, giving_port, taking_port};
+ghost use Rattle.port_table.specs.Answers.{GotFits, SaidSo, TookFits, is_got_not_yet, is_took_not_yet, is_unsaid};
 ghost use Rattle.desk_places.specs.Changes.{AcceptsMade, BeginsMade, DropsFirst, ListensMade, OpensAt, OpensMade, WelcomesMade, HeldAfter, HeldSo, LeavesParent, LeftSo, ReapsKept, SettledAt, is_finished, joined_answer, made_at, shut_answer};
-ghost use Rattle.desk_places.specs.Bases.{AcceptsOn, BeginsOn, Leaves, ListensOn, OpensOn, SameBases, SettlesOn};
-ghost use Rattle.desk_places.specs.Footing.{HasBerth, IsSound, IsSoundBut};
+ghost use Rattle.desk_places.specs.PlaceBases.{AcceptsOn, BeginsOn, Leaves, ListensOn, OpensOn, SameBases, SettlesOn};
+ghost use Rattle.desk_places.specs.Standing.{HasVacancy, IsSound, IsSoundBut};
 ghost use Rattle.desk_places.specs.Keys.{is_in};
 ghost use Rattle.desk_places.specs.Marks.{AcceptMarks, BeginMarks, ListenMarks, MarksPlace, OpenMarks, SettleMarks};
 ghost use Rattle.desk_places.specs.declared.stations.Station.{Station};
-ghost use Rattle.desk_ports.specs.Bases.{IsStandard, key_of, standard_of};
+ghost use Rattle.port_table.specs.Bases.{IsStandard, key_of, standard_of};
 ghost use Rattle.port_trait.specs.Streams.{finishes};
-ghost use Rattle.desk_places.specs.Stations.{SameFooting, SameHold, SetsStation, base_at, hold_at, is_disarmed, shut_down, station_at, with_half};
+ghost use Rattle.desk_places.specs.Stations.{SameStanding, SameHold, SetsStation, base_at, hold_at, is_disarmed, shut_down, station_at, with_half};
 
 use crate::keys::KeySet;
 use crate::stations::{Station, Stations};
-use desk_ports::{Base, Berth, Harbor, Standard, Stream, accept_at, is_final, standard_base};
+use port_table::{
+    Base, PortEntry, PortTable, Standard, Stream, accept_at, is_final, standard_base,
+};
 use port_trait::{
     Begun, Got, Hint, Joining, MadePeer, Maker, Making, Port, PortReap, Settled, Shutting, Took,
 };
@@ -38,24 +40,30 @@ use world_trait::{AcceptAnswer, ListenAnswer, OpenAnswer, Standing};
 /// child that closed places left, the last one first.
 #[derive(Drop)]
 pub struct Ports<M: Maker + Drop, I: Port, O: Port, E: Port> {
-    pub harbor: Harbor<M::Made, I, O, E>,
+    pub table: PortTable<M::Made, I, O, E>,
     pub listed: KeySet,
     pub maker: M,
-    pub parents: Vec<Berth<M::Made>>,
+    pub parents: Vec<PortEntry<M::Made>>,
 }
 
 impl<M: Maker + Drop, I: Port, O: Port, E: Port> Ports<M, I, O, E> {
     /// The standard ports, and no made one; takes no memory.
     pub fn new(alloc: Global, standard: Standard<I, O, E>, maker: M) -> Ports<M, I, O, E>
-        ensures made { result.harbor.made.slots ≡ [] }
-        ensures input { (result.harbor.input.port ≡ seen I.gave I.took I.shuts I.hints I.hinting I.counts I.ended I.joins I.child standard.stdin) × (result.harbor.input.begun ≡ false) × (result.harbor.input.finished ≡ false) }
-        ensures output { (result.harbor.output.port ≡ seen O.gave O.took O.shuts O.hints O.hinting O.counts O.ended O.joins O.child standard.stdout) × (result.harbor.output.begun ≡ false) × (result.harbor.output.finished ≡ false) }
-        ensures errors { (result.harbor.errors.port ≡ seen E.gave E.took E.shuts E.hints E.hinting E.counts E.ended E.joins E.child standard.stderr) × (result.harbor.errors.begun ≡ false) × (result.harbor.errors.finished ≡ false) }
+        ensures made { result.table.made.slots ≡ [] }
+        ensures input { (result.table.input.port
+            ≡ seen I.gave I.took I.shuts I.hints I.hinting I.counts I.ended I.joins I.child standard.stdin)
+            × (result.table.input.begun ≡ false) × (result.table.input.finished ≡ false) }
+        ensures output { (result.table.output.port
+            ≡ seen O.gave O.took O.shuts O.hints O.hinting O.counts O.ended O.joins O.child standard.stdout)
+            × (result.table.output.begun ≡ false) × (result.table.output.finished ≡ false) }
+        ensures errors { (result.table.errors.port
+            ≡ seen E.gave E.took E.shuts E.hints E.hinting E.counts E.ended E.joins E.child standard.stderr)
+            × (result.table.errors.begun ≡ false) × (result.table.errors.finished ≡ false) }
         ensures parents { result.parents.items ≡ [] }
         ensures maker { result.maker ≡ maker }
     {
         Ports {
-            harbor: Harbor::new(alloc, standard),
+            table: PortTable::new(alloc, standard),
             listed: KeySet::new(alloc),
             maker,
             parents: Vec::new(alloc),
@@ -64,41 +72,44 @@ impl<M: Maker + Drop, I: Port, O: Port, E: Port> Ports<M, I, O, E> {
 
     /// The streams, at the end.
     pub fn into_streams(self) -> (Stream<I>, Stream<O>, Stream<E>)
-        ensures input { result.0 ≡ self.harbor.input }
-        ensures output { result.1 ≡ self.harbor.output }
-        ensures errors { result.2 ≡ self.harbor.errors }
+        ensures input { result.0 ≡ self.table.input }
+        ensures output { result.1 ≡ self.table.output }
+        ensures errors { result.2 ≡ self.table.errors }
     {
         let Ports {
-            harbor,
+            table,
             listed: _,
             maker: _,
             parents: _,
         } = self;
-        harbor.into_streams()
+        table.into_streams()
     }
 
     /// Makes room for one further port, and for keeping this many made ports after their places.
     #[tactic(auto, using(crate::proofs::SoundLemmas::sound_kept))]
     pub fn reserve(&mut self, kept: usize) -> Result<(), NoMemory>
-        ensures made_room { OnOk result (HasBerth self.new.harbor.made self.new.listed) }
+        ensures made_room { OnOk result (HasVacancy self.new.table.made self.new.listed) }
         ensures parents_room { OnOk result (kept + vec_len self.new.parents ≤ vec_capacity self.new.parents) }
-        ensures streams { (self.new.harbor.input ≡ self.old.harbor.input) × (self.new.harbor.output ≡ self.old.harbor.output) × (self.new.harbor.errors ≡ self.old.harbor.errors) }
-        ensures made { SameValues self.old.harbor.made self.new.harbor.made }
-        ensures sound { (stations : List Station) → IsSound stations self.old.harbor.made self.old.listed → IsSound stations self.new.harbor.made self.new.listed }
+        ensures streams { (self.new.table.input ≡ self.old.table.input) × (self.new.table.output ≡ self.old.table.output)
+            × (self.new.table.errors ≡ self.old.table.errors) }
+        ensures made { SameValues self.old.table.made self.new.table.made }
+        ensures sound { (stations : List Station) → IsSound stations self.old.table.made self.old.listed
+            → IsSound stations self.new.table.made self.new.listed }
         ensures parents { self.new.parents.items ≡ self.old.parents.items }
         ensures capacity { vec_capacity self.old.parents ≤ vec_capacity self.new.parents }
         ensures maker { self.new.maker ≡ self.old.maker }
     {
-        self.harbor.reserve()?;
-        self.listed.cover(self.harbor.next_key())?;
+        self.table.reserve()?;
+        self.listed.cover(self.table.next_key())?;
         self.parents.reserve(kept)?;
         Ok(())
     }
 
     /// Lists the made port of the place where it may hint at a disarmed half, and lists it no longer where it may not.
     fn list(&mut self, stations: &Stations, place: Place)
-        ensures sound { IsSoundBut place stations.now.entries self.old.harbor.made self.old.listed → IsSound stations.now.entries self.new.harbor.made self.new.listed }
-        ensures harbor { self.new.harbor ≡ self.old.harbor }
+        ensures sound { IsSoundBut place stations.now.entries self.old.table.made self.old.listed
+            → IsSound stations.now.entries self.new.table.made self.new.listed }
+        ensures table { self.new.table ≡ self.old.table }
         ensures maker { self.new.maker ≡ self.old.maker }
         ensures parents { self.new.parents ≡ self.old.parents }
         ensures covered { self.new.listed.covered ≡ self.old.listed.covered }
@@ -109,18 +120,20 @@ impl<M: Maker + Drop, I: Port, O: Port, E: Port> Ports<M, I, O, E> {
         let Some(key) = station.base.made_key() else {
             return;
         };
-        let may = self.harbor.may_hint(key);
+        let may = self.table.may_hint(key);
         self.listed.set(key, is_awaited(station, may));
     }
 
     /// Disarms the half of the place, or arms it, and lists its port accordingly.
     fn mark(&mut self, stations: &mut Stations, place: Place, half: Half, disarmed: bool)
-        ensures sound { IsSoundBut place stations.new.entries self.old.harbor.made self.old.listed → IsSound stations.new.entries self.new.harbor.made self.new.listed }
-        ensures set { SetsStation place (option_map (with_half half disarmed) (station_at stations.old.entries place)) (station_at stations.old.entries) (station_at stations.new.entries) }
+        ensures sound { IsSoundBut place stations.new.entries self.old.table.made self.old.listed
+            → IsSound stations.new.entries self.new.table.made self.new.listed }
+        ensures set { SetsStation place (option_map (with_half half disarmed) (station_at stations.old.entries place))
+            (station_at stations.old.entries) (station_at stations.new.entries) }
         ensures held { SameHold (hold_at stations.old.entries) (hold_at stations.new.entries) }
-        ensures footing { SameFooting stations.old.entries stations.new.entries }
+        ensures standing { SameStanding stations.old.entries stations.new.entries }
         ensures len { length stations.new.entries ≡ length stations.old.entries }
-        ensures harbor { self.new.harbor ≡ self.old.harbor }
+        ensures table { self.new.table ≡ self.old.table }
         ensures maker { self.new.maker ≡ self.old.maker }
         ensures parents { self.new.parents ≡ self.old.parents }
         ensures covered { self.new.listed.covered ≡ self.old.listed.covered }
@@ -130,7 +143,7 @@ impl<M: Maker + Drop, I: Port, O: Port, E: Port> Ports<M, I, O, E> {
     }
 
     /// Begins the new port, which goes to its key, and holds the place. A port that doesn't begin is dropped.
-    fn moor(
+    fn insert(
         &mut self,
         stations: &mut Stations,
         place: Place,
@@ -139,13 +152,20 @@ impl<M: Maker + Drop, I: Port, O: Port, E: Port> Ports<M, I, O, E> {
     ) -> Begun
         requires free { hold_at stations.old.entries place ≡ Free }
         requires stations_room { 0 < stations.old.spare }
-        requires made_room { HasBerth self.old.harbor.made self.old.listed }
-        ensures cause { BeginCause (seen M.Made.gave M.Made.took M.Made.shuts M.Made.hints M.Made.hinting M.Made.counts M.Made.ended M.Made.joins M.Made.child) port result }
-        ensures made { BeginsMade (seen M.Made.gave M.Made.took M.Made.shuts M.Made.hints M.Made.hinting M.Made.counts M.Made.ended M.Made.joins M.Made.child) place (base_at stations.new.entries place) result self.old.harbor.made self.new.harbor.made }
+        requires made_room { HasVacancy self.old.table.made self.old.listed }
+        ensures cause { BeginCause
+            (seen M.Made.gave M.Made.took M.Made.shuts M.Made.hints M.Made.hinting M.Made.counts M.Made.ended
+            M.Made.joins M.Made.child) port result }
+        ensures made { BeginsMade
+            (seen M.Made.gave M.Made.took M.Made.shuts M.Made.hints M.Made.hinting M.Made.counts M.Made.ended
+            M.Made.joins M.Made.child) place (base_at stations.new.entries place) result self.old.table.made
+            self.new.table.made }
         ensures marks { BeginMarks place settling result (is_disarmed stations.old.entries) (is_disarmed stations.new.entries) }
-        ensures streams { (self.new.harbor.input ≡ self.old.harbor.input) × (self.new.harbor.output ≡ self.old.harbor.output) × (self.new.harbor.errors ≡ self.old.harbor.errors) }
+        ensures streams { (self.new.table.input ≡ self.old.table.input) × (self.new.table.output ≡ self.old.table.output)
+            × (self.new.table.errors ≡ self.old.table.errors) }
         ensures bases { BeginsOn place (base_at stations.old.entries) (base_at stations.new.entries) result }
-        ensures sound { IsSound stations.old.entries self.old.harbor.made self.old.listed → IsSound stations.new.entries self.new.harbor.made self.new.listed }
+        ensures sound { IsSound stations.old.entries self.old.table.made self.old.listed
+            → IsSound stations.new.entries self.new.table.made self.new.listed }
         ensures held { HeldSo result settling place (hold_at stations.old.entries) (hold_at stations.new.entries) }
         ensures one_more { length stations.new.entries ≤ length stations.old.entries + 1 }
         ensures maker { self.new.maker ≡ self.old.maker }
@@ -157,7 +177,7 @@ impl<M: Maker + Drop, I: Port, O: Port, E: Port> Ports<M, I, O, E> {
             Begun::Failed => return Begun::Failed,
             Begun::Memory => return Begun::Memory,
         }
-        let base = Base::Made(self.harbor.moor(Berth::new(place, begun)));
+        let base = Base::Made(self.table.insert(PortEntry::new(place, begun)));
         stations.add(Station::begun(place, base, settling));
         self.list(stations, place);
         Begun::Begun
@@ -173,23 +193,35 @@ impl<M: Maker + Drop, I: Port, O: Port, E: Port> Ports<M, I, O, E> {
     ) -> OpenAnswer
         requires free { hold_at stations.old.entries place ≡ Free }
         requires stations_room { 0 < stations.old.spare }
-        requires made_room { HasBerth self.old.harbor.made self.old.listed }
-        ensures standard { IfSome (standard_of place single.now.target) (λ base. StandardCause (Rose self.old.harbor.input.port.counts.faults self.new.harbor.input.port.counts.faults
-            ⊎ (Rose self.old.harbor.output.port.counts.faults self.new.harbor.output.port.counts.faults
-            ⊎ Rose self.old.harbor.errors.port.counts.faults self.new.harbor.errors.port.counts.faults)) result) }
-        ensures made { IfNone (standard_of place single.now.target) (OpenCause (seen M.Made.gave M.Made.took M.Made.shuts M.Made.hints M.Made.hinting M.Made.counts M.Made.ended M.Made.joins M.Made.child) (M.faults self.old.maker) (M.faults self.new.maker) (M.stalls self.old.maker) (M.stalls self.new.maker) result) }
+        requires made_room { HasVacancy self.old.table.made self.old.listed }
+        ensures standard { IfSome (standard_of place single.now.target) (λ base. StandardCause (Rose self.old.table.input.port.counts.faults self.new.table.input.port.counts.faults
+            ⊎ (Rose self.old.table.output.port.counts.faults self.new.table.output.port.counts.faults
+            ⊎ Rose self.old.table.errors.port.counts.faults self.new.table.errors.port.counts.faults)) result) }
+        ensures made { IfNone (standard_of place single.now.target)
+            (OpenCause
+            (seen M.Made.gave M.Made.took M.Made.shuts M.Made.hints M.Made.hinting M.Made.counts M.Made.ended M.Made.joins M.Made.child)
+            (M.faults self.old.maker) (M.faults self.new.maker) (M.stalls self.old.maker)
+            (M.stalls self.new.maker) result) }
         ensures asked { IfNone (standard_of place single.now.target) (AskedFor place single.now behind (M.asked self.new.maker)) }
         ensures came { M.came self.new.maker ≡ M.came self.old.maker }
-        ensures input { MovesNothing self.old.harbor.input.port self.new.harbor.input.port }
-        ensures output { MovesNothing self.old.harbor.output.port self.new.harbor.output.port }
-        ensures errors { MovesNothing self.old.harbor.errors.port self.new.harbor.errors.port }
-        ensures ended { (self.new.harbor.input.port.ended ≡ self.old.harbor.input.port.ended) × (self.new.harbor.output.port.ended ≡ self.old.harbor.output.port.ended) × (self.new.harbor.errors.port.ended ≡ self.old.harbor.errors.port.ended) }
-        ensures begun { IfSome (standard_of place single.now.target) (λ base. OpensAt base self.old.harbor self.new.harbor result) }
-        ensures streams { IfNone (standard_of place single.now.target) (SameStreams self.old.harbor self.new.harbor) }
-        ensures ports { MatchOption (standard_of place single.now.target) (OpensMade (seen M.Made.gave M.Made.took M.Made.shuts M.Made.hints M.Made.hinting M.Made.counts M.Made.ended M.Made.joins M.Made.child) place (base_at stations.new.entries place) result self.old.harbor.made self.new.harbor.made) (λ base. SameValues self.old.harbor.made self.new.harbor.made) }
+        ensures input { MovesNothing self.old.table.input.port self.new.table.input.port }
+        ensures output { MovesNothing self.old.table.output.port self.new.table.output.port }
+        ensures errors { MovesNothing self.old.table.errors.port self.new.table.errors.port }
+        ensures ended { (self.new.table.input.port.ended ≡ self.old.table.input.port.ended)
+            × (self.new.table.output.port.ended ≡ self.old.table.output.port.ended)
+            × (self.new.table.errors.port.ended ≡ self.old.table.errors.port.ended) }
+        ensures begun { IfSome (standard_of place single.now.target) (λ base. OpensAt base self.old.table self.new.table result) }
+        ensures streams { IfNone (standard_of place single.now.target) (SameStreams self.old.table self.new.table) }
+        ensures ports { MatchOption (standard_of place single.now.target)
+            (OpensMade
+            (seen M.Made.gave M.Made.took M.Made.shuts M.Made.hints M.Made.hinting M.Made.counts M.Made.ended M.Made.joins M.Made.child)
+            place (base_at stations.new.entries place) result self.old.table.made self.new.table.made)
+            (λ base. SameValues self.old.table.made self.new.table.made) }
         ensures marks { OpenMarks place result (is_disarmed stations.old.entries) (is_disarmed stations.new.entries) }
-        ensures bases { OpensOn (standard_of place single.now.target) place (base_at stations.old.entries) (base_at stations.new.entries) result }
-        ensures sound { IsSound stations.old.entries self.old.harbor.made self.old.listed → IsSound stations.new.entries self.new.harbor.made self.new.listed }
+        ensures bases { OpensOn (standard_of place single.now.target) place (base_at stations.old.entries)
+            (base_at stations.new.entries) result }
+        ensures sound { IsSound stations.old.entries self.old.table.made self.old.listed
+            → IsSound stations.new.entries self.new.table.made self.new.listed }
         ensures held { HeldAfter (open_act place result) (hold_at stations.old.entries) (hold_at stations.new.entries) }
         ensures one_more { length stations.new.entries ≤ length stations.old.entries + 1 }
         ensures parents { self.new.parents ≡ self.old.parents }
@@ -204,24 +236,27 @@ impl<M: Maker + Drop, I: Port, O: Port, E: Port> Ports<M, I, O, E> {
         requires standard { IsStandard base }
         requires free { hold_at stations.old.entries place ≡ Free }
         requires stations_room { 0 < stations.old.spare }
-        ensures cause { StandardCause (Rose self.old.harbor.input.port.counts.faults self.new.harbor.input.port.counts.faults
-            ⊎ (Rose self.old.harbor.output.port.counts.faults self.new.harbor.output.port.counts.faults
-            ⊎ Rose self.old.harbor.errors.port.counts.faults self.new.harbor.errors.port.counts.faults)) result }
+        ensures cause { StandardCause (Rose self.old.table.input.port.counts.faults self.new.table.input.port.counts.faults
+            ⊎ (Rose self.old.table.output.port.counts.faults self.new.table.output.port.counts.faults
+            ⊎ Rose self.old.table.errors.port.counts.faults self.new.table.errors.port.counts.faults)) result }
         ensures maker { self.new.maker ≡ self.old.maker }
-        ensures input { MovesNothing self.old.harbor.input.port self.new.harbor.input.port }
-        ensures output { MovesNothing self.old.harbor.output.port self.new.harbor.output.port }
-        ensures errors { MovesNothing self.old.harbor.errors.port self.new.harbor.errors.port }
-        ensures ended { (self.new.harbor.input.port.ended ≡ self.old.harbor.input.port.ended) × (self.new.harbor.output.port.ended ≡ self.old.harbor.output.port.ended) × (self.new.harbor.errors.port.ended ≡ self.old.harbor.errors.port.ended) }
-        ensures begun { OpensAt base self.old.harbor self.new.harbor result }
-        ensures ports { SameValues self.old.harbor.made self.new.harbor.made }
+        ensures input { MovesNothing self.old.table.input.port self.new.table.input.port }
+        ensures output { MovesNothing self.old.table.output.port self.new.table.output.port }
+        ensures errors { MovesNothing self.old.table.errors.port self.new.table.errors.port }
+        ensures ended { (self.new.table.input.port.ended ≡ self.old.table.input.port.ended)
+            × (self.new.table.output.port.ended ≡ self.old.table.output.port.ended)
+            × (self.new.table.errors.port.ended ≡ self.old.table.errors.port.ended) }
+        ensures begun { OpensAt base self.old.table self.new.table result }
+        ensures ports { SameValues self.old.table.made self.new.table.made }
         ensures marks { OpenMarks place result (is_disarmed stations.old.entries) (is_disarmed stations.new.entries) }
         ensures bases { OpensOn (Some base) place (base_at stations.old.entries) (base_at stations.new.entries) result }
-        ensures sound { IsSound stations.old.entries self.old.harbor.made self.old.listed → IsSound stations.new.entries self.new.harbor.made self.new.listed }
+        ensures sound { IsSound stations.old.entries self.old.table.made self.old.listed
+            → IsSound stations.new.entries self.new.table.made self.new.listed }
         ensures held { HeldAfter (open_act place result) (hold_at stations.old.entries) (hold_at stations.new.entries) }
         ensures one_more { length stations.new.entries ≤ length stations.old.entries + 1 }
         ensures parents { self.new.parents ≡ self.old.parents }
     {
-        match self.harbor.begin(base) {
+        match self.table.begin(base) {
             Begun::Begun => {
                 stations.add(Station::open(place, base));
                 OpenAnswer::Opened
@@ -240,27 +275,35 @@ impl<M: Maker + Drop, I: Port, O: Port, E: Port> Ports<M, I, O, E> {
     ) -> OpenAnswer
         requires free { hold_at stations.old.entries place ≡ Free }
         requires stations_room { 0 < stations.old.spare }
-        requires made_room { HasBerth self.old.harbor.made self.old.listed }
-        ensures cause { OpenCause (seen M.Made.gave M.Made.took M.Made.shuts M.Made.hints M.Made.hinting M.Made.counts M.Made.ended M.Made.joins M.Made.child) (M.faults self.old.maker) (M.faults self.new.maker) (M.stalls self.old.maker) (M.stalls self.new.maker) result }
+        requires made_room { HasVacancy self.old.table.made self.old.listed }
+        ensures cause { OpenCause
+            (seen M.Made.gave M.Made.took M.Made.shuts M.Made.hints M.Made.hinting M.Made.counts M.Made.ended
+            M.Made.joins M.Made.child) (M.faults self.old.maker) (M.faults self.new.maker)
+            (M.stalls self.old.maker) (M.stalls self.new.maker) result }
         ensures asked { AskedFor place single.now behind (M.asked self.new.maker) }
         ensures came { M.came self.new.maker ≡ M.came self.old.maker }
-        ensures streams { (self.new.harbor.input ≡ self.old.harbor.input) × (self.new.harbor.output ≡ self.old.harbor.output) × (self.new.harbor.errors ≡ self.old.harbor.errors) }
-        ensures ports { OpensMade (seen M.Made.gave M.Made.took M.Made.shuts M.Made.hints M.Made.hinting M.Made.counts M.Made.ended M.Made.joins M.Made.child) place (base_at stations.new.entries place) result self.old.harbor.made self.new.harbor.made }
+        ensures streams { (self.new.table.input ≡ self.old.table.input) × (self.new.table.output ≡ self.old.table.output)
+            × (self.new.table.errors ≡ self.old.table.errors) }
+        ensures ports { OpensMade
+            (seen M.Made.gave M.Made.took M.Made.shuts M.Made.hints M.Made.hinting M.Made.counts M.Made.ended
+            M.Made.joins M.Made.child) place (base_at stations.new.entries place) result self.old.table.made
+            self.new.table.made }
         ensures marks { OpenMarks place result (is_disarmed stations.old.entries) (is_disarmed stations.new.entries) }
         ensures bases { OpensOn None place (base_at stations.old.entries) (base_at stations.new.entries) result }
-        ensures sound { IsSound stations.old.entries self.old.harbor.made self.old.listed → IsSound stations.new.entries self.new.harbor.made self.new.listed }
+        ensures sound { IsSound stations.old.entries self.old.table.made self.old.listed
+            → IsSound stations.new.entries self.new.table.made self.new.listed }
         ensures held { HeldAfter (open_act place result) (hold_at stations.old.entries) (hold_at stations.new.entries) }
         ensures one_more { length stations.new.entries ≤ length stations.old.entries + 1 }
         ensures parents { self.new.parents ≡ self.old.parents }
     {
-        let key = self.harbor.next_key();
+        let key = self.table.next_key();
         match self.maker.make(key, place, single, behind) {
-            Making::Made(port) => match self.moor(stations, place, port, false) {
+            Making::Made(port) => match self.insert(stations, place, port, false) {
                 Begun::Begun => OpenAnswer::Opened,
                 Begun::Failed => OpenAnswer::Failed,
                 Begun::Memory => OpenAnswer::Memory,
             },
-            Making::Later(port) => match self.moor(stations, place, port, true) {
+            Making::Later(port) => match self.insert(stations, place, port, true) {
                 Begun::Begun => OpenAnswer::Later,
                 Begun::Failed => OpenAnswer::Failed,
                 Begun::Memory => OpenAnswer::Memory,
@@ -274,18 +317,22 @@ impl<M: Maker + Drop, I: Port, O: Port, E: Port> Ports<M, I, O, E> {
     pub fn settle(&mut self, stations: &mut Stations, place: Place) -> OpenAnswer
         requires settling { hold_at stations.old.entries place ≡ Settling }
         requires parents_room { vec_len self.old.parents < vec_capacity self.old.parents }
-        ensures call { IfSome (base_at stations.old.entries place) (λ base. SettledAt (seen M.Made.gave M.Made.took M.Made.shuts M.Made.hints M.Made.hinting M.Made.counts M.Made.ended M.Made.joins M.Made.child) (giving_pier base) self.old.harbor self.new.harbor self.old.parents.items self.new.parents.items result) }
+        ensures call { IfSome (base_at stations.old.entries place)
+            (λ base. SettledAt
+            (seen M.Made.gave M.Made.took M.Made.shuts M.Made.hints M.Made.hinting M.Made.counts M.Made.ended M.Made.joins M.Made.child)
+            (giving_port base) self.old.table self.new.table self.old.parents.items self.new.parents.items result) }
         ensures maker { self.new.maker ≡ self.old.maker }
         ensures marks { SettleMarks place result (is_disarmed stations.old.entries) (is_disarmed stations.new.entries) }
         ensures bases { SettlesOn place (base_at stations.old.entries) (base_at stations.new.entries) result }
-        ensures sound { IsSound stations.old.entries self.old.harbor.made self.old.listed → IsSound stations.new.entries self.new.harbor.made self.new.listed }
+        ensures sound { IsSound stations.old.entries self.old.table.made self.old.listed
+            → IsSound stations.new.entries self.new.table.made self.new.listed }
         ensures held { HeldAfter (open_act place result) (hold_at stations.old.entries) (hold_at stations.new.entries) }
         ensures no_more { length stations.new.entries ≤ length stations.old.entries }
         ensures room { length stations.new.entries + vec_len self.new.parents ≤ length stations.old.entries + vec_len self.old.parents }
         ensures capacity { vec_capacity self.new.parents ≡ vec_capacity self.old.parents }
     {
         let station = stations.held(place);
-        match self.harbor.settle(station.base) {
+        match self.table.settle(station.base) {
             Settled::Ready => {
                 stations.replace(Station::open(place, station.base));
                 self.list(stations, place);
@@ -307,21 +354,28 @@ impl<M: Maker + Drop, I: Port, O: Port, E: Port> Ports<M, I, O, E> {
     pub fn listen(&mut self, stations: &mut Stations, door: Place, single: &Single) -> ListenAnswer
         requires free { hold_at stations.old.entries door ≡ Free }
         requires stations_room { 0 < stations.old.spare }
-        requires made_room { HasBerth self.old.harbor.made self.old.listed }
-        ensures cause { ListenCause (seen M.Made.gave M.Made.took M.Made.shuts M.Made.hints M.Made.hinting M.Made.counts M.Made.ended M.Made.joins M.Made.child) (M.faults self.old.maker) (M.faults self.new.maker) result }
+        requires made_room { HasVacancy self.old.table.made self.old.listed }
+        ensures cause { ListenCause
+            (seen M.Made.gave M.Made.took M.Made.shuts M.Made.hints M.Made.hinting M.Made.counts M.Made.ended
+            M.Made.joins M.Made.child) (M.faults self.old.maker) (M.faults self.new.maker) result }
         ensures came { M.came self.new.maker ≡ M.came self.old.maker }
-        ensures streams { (self.new.harbor.input ≡ self.old.harbor.input) × (self.new.harbor.output ≡ self.old.harbor.output) × (self.new.harbor.errors ≡ self.old.harbor.errors) }
-        ensures ports { ListensMade (seen M.Made.gave M.Made.took M.Made.shuts M.Made.hints M.Made.hinting M.Made.counts M.Made.ended M.Made.joins M.Made.child) door (base_at stations.new.entries door) result self.old.harbor.made self.new.harbor.made }
+        ensures streams { (self.new.table.input ≡ self.old.table.input) × (self.new.table.output ≡ self.old.table.output)
+            × (self.new.table.errors ≡ self.old.table.errors) }
+        ensures ports { ListensMade
+            (seen M.Made.gave M.Made.took M.Made.shuts M.Made.hints M.Made.hinting M.Made.counts M.Made.ended
+            M.Made.joins M.Made.child) door (base_at stations.new.entries door) result self.old.table.made
+            self.new.table.made }
         ensures marks { ListenMarks door result (is_disarmed stations.old.entries) (is_disarmed stations.new.entries) }
         ensures bases { ListensOn door (base_at stations.old.entries) (base_at stations.new.entries) result }
-        ensures sound { IsSound stations.old.entries self.old.harbor.made self.old.listed → IsSound stations.new.entries self.new.harbor.made self.new.listed }
+        ensures sound { IsSound stations.old.entries self.old.table.made self.old.listed
+            → IsSound stations.new.entries self.new.table.made self.new.listed }
         ensures held { HeldAfter (listen_act door result) (hold_at stations.old.entries) (hold_at stations.new.entries) }
         ensures one_more { length stations.new.entries ≤ length stations.old.entries + 1 }
         ensures parents { self.new.parents ≡ self.old.parents }
     {
-        let key = self.harbor.next_key();
+        let key = self.table.next_key();
         match self.maker.listen(key, single) {
-            Making::Made(port) => match self.moor(stations, door, port, false) {
+            Making::Made(port) => match self.insert(stations, door, port, false) {
                 Begun::Begun => ListenAnswer::Listening,
                 Begun::Failed => ListenAnswer::Failed,
                 Begun::Memory => ListenAnswer::Memory,
@@ -338,15 +392,20 @@ impl<M: Maker + Drop, I: Port, O: Port, E: Port> Ports<M, I, O, E> {
         requires door { hold_at stations.old.entries door ≡ Open }
         requires free { hold_at stations.old.entries place ≡ Free }
         requires stations_room { 0 < stations.old.spare }
-        requires made_room { HasBerth self.old.harbor.made self.old.listed }
-        ensures cause { AcceptCause (seen M.Made.gave M.Made.took M.Made.shuts M.Made.hints M.Made.hinting M.Made.counts M.Made.ended M.Made.joins M.Made.child) (M.faults self.old.maker) (M.faults self.new.maker) (M.stalls self.old.maker) (M.stalls self.new.maker) (M.came self.new.maker) result }
-        ensures streams { (self.new.harbor.input ≡ self.old.harbor.input) × (self.new.harbor.output ≡ self.old.harbor.output) × (self.new.harbor.errors ≡ self.old.harbor.errors) }
-        ensures ports { IfSome (base_at stations.old.entries door) (λ base. AtMade (giving_pier base)
-            (λ key. AcceptsMade (seen M.Made.gave M.Made.took M.Made.shuts M.Made.hints M.Made.hinting M.Made.counts M.Made.ended M.Made.joins M.Made.child) key place (base_at stations.new.entries place) result self.old.harbor.made self.new.harbor.made)
-            (SameValues self.old.harbor.made self.new.harbor.made)) }
+        requires made_room { HasVacancy self.old.table.made self.old.listed }
+        ensures cause { AcceptCause
+            (seen M.Made.gave M.Made.took M.Made.shuts M.Made.hints M.Made.hinting M.Made.counts M.Made.ended
+            M.Made.joins M.Made.child) (M.faults self.old.maker) (M.faults self.new.maker)
+            (M.stalls self.old.maker) (M.stalls self.new.maker) (M.came self.new.maker) result }
+        ensures streams { (self.new.table.input ≡ self.old.table.input) × (self.new.table.output ≡ self.old.table.output)
+            × (self.new.table.errors ≡ self.old.table.errors) }
+        ensures ports { IfSome (base_at stations.old.entries door) (λ base. AtMade (giving_port base)
+            (λ key. AcceptsMade (seen M.Made.gave M.Made.took M.Made.shuts M.Made.hints M.Made.hinting M.Made.counts M.Made.ended M.Made.joins M.Made.child) key place (base_at stations.new.entries place) result self.old.table.made self.new.table.made)
+            (SameValues self.old.table.made self.new.table.made)) }
         ensures marks { AcceptMarks door place result (is_disarmed stations.old.entries) (is_disarmed stations.new.entries) }
         ensures bases { AcceptsOn place (base_at stations.old.entries) (base_at stations.new.entries) result }
-        ensures sound { IsSound stations.old.entries self.old.harbor.made self.old.listed → IsSound stations.new.entries self.new.harbor.made self.new.listed }
+        ensures sound { IsSound stations.old.entries self.old.table.made self.old.listed
+            → IsSound stations.new.entries self.new.table.made self.new.listed }
         ensures held { HeldAfter (accept_act door place result) (hold_at stations.old.entries) (hold_at stations.new.entries) }
         ensures one_more { length stations.new.entries ≤ length stations.old.entries + 1 }
         ensures parents { self.new.parents ≡ self.old.parents }
@@ -355,8 +414,8 @@ impl<M: Maker + Drop, I: Port, O: Port, E: Port> Ports<M, I, O, E> {
         let Some(door_key) = station.base.made_key() else {
             return AcceptAnswer::Memory;
         };
-        let key = self.harbor.next_key();
-        let taken = accept_at(&mut self.harbor, &mut self.maker, door_key, key);
+        let key = self.table.next_key();
+        let taken = accept_at(&mut self.table, &mut self.maker, door_key, key);
         self.list(stations, door);
         match taken {
             MadePeer::Came(port, peer) => self.welcome(stations, door, place, port, peer),
@@ -383,19 +442,26 @@ impl<M: Maker + Drop, I: Port, O: Port, E: Port> Ports<M, I, O, E> {
     ) -> AcceptAnswer
         requires free { hold_at stations.old.entries place ≡ Free }
         requires stations_room { 0 < stations.old.spare }
-        requires made_room { HasBerth self.old.harbor.made self.old.listed }
-        ensures cause { WelcomeCause (seen M.Made.gave M.Made.took M.Made.shuts M.Made.hints M.Made.hinting M.Made.counts M.Made.ended M.Made.joins M.Made.child) peer result }
+        requires made_room { HasVacancy self.old.table.made self.old.listed }
+        ensures cause { WelcomeCause
+            (seen M.Made.gave M.Made.took M.Made.shuts M.Made.hints M.Made.hinting M.Made.counts M.Made.ended
+            M.Made.joins M.Made.child) peer result }
         ensures maker { self.new.maker ≡ self.old.maker }
-        ensures streams { (self.new.harbor.input ≡ self.old.harbor.input) × (self.new.harbor.output ≡ self.old.harbor.output) × (self.new.harbor.errors ≡ self.old.harbor.errors) }
-        ensures ports { WelcomesMade (seen M.Made.gave M.Made.took M.Made.shuts M.Made.hints M.Made.hinting M.Made.counts M.Made.ended M.Made.joins M.Made.child) place (base_at stations.new.entries place) result self.old.harbor.made self.new.harbor.made }
+        ensures streams { (self.new.table.input ≡ self.old.table.input) × (self.new.table.output ≡ self.old.table.output)
+            × (self.new.table.errors ≡ self.old.table.errors) }
+        ensures ports { WelcomesMade
+            (seen M.Made.gave M.Made.took M.Made.shuts M.Made.hints M.Made.hinting M.Made.counts M.Made.ended
+            M.Made.joins M.Made.child) place (base_at stations.new.entries place) result self.old.table.made
+            self.new.table.made }
         ensures marks { AcceptMarks door place result (is_disarmed stations.old.entries) (is_disarmed stations.new.entries) }
         ensures bases { AcceptsOn place (base_at stations.old.entries) (base_at stations.new.entries) result }
-        ensures sound { IsSound stations.old.entries self.old.harbor.made self.old.listed → IsSound stations.new.entries self.new.harbor.made self.new.listed }
+        ensures sound { IsSound stations.old.entries self.old.table.made self.old.listed
+            → IsSound stations.new.entries self.new.table.made self.new.listed }
         ensures held { HeldAfter (accept_act door place result) (hold_at stations.old.entries) (hold_at stations.new.entries) }
         ensures one_more { length stations.new.entries ≤ length stations.old.entries + 1 }
         ensures parents { self.new.parents ≡ self.old.parents }
     {
-        match self.moor(stations, place, port, false) {
+        match self.insert(stations, place, port, false) {
             Begun::Begun => {
                 self.mark(stations, door, Half::ToRead, false);
                 AcceptAnswer::Accepted(peer)
@@ -413,17 +479,22 @@ impl<M: Maker + Drop, I: Port, O: Port, E: Port> Ports<M, I, O, E> {
         requires open { is_open (hold_at stations.old.entries place) ≡ true }
         requires some { 0 < length into.old }
         ensures fits { GotFits (length into.new) result }
-        ensures call { IfSome (base_at stations.old.entries place) (λ base. CalledAt (giving_pier base) self.old.harbor self.new.harbor (λ old new. Reads old new into.new result)) }
+        ensures call { IfSome (base_at stations.old.entries place)
+            (λ base. CalledAt (giving_port base) self.old.table self.new.table
+            (λ old new. Reads old new into.new result)) }
         ensures maker { self.new.maker ≡ self.old.maker }
-        ensures marks { SetsStation place (option_map (with_half ToRead (is_got_not_yet result)) (station_at stations.old.entries place)) (station_at stations.old.entries) (station_at stations.new.entries) }
+        ensures marks { SetsStation place
+            (option_map (with_half ToRead (is_got_not_yet result)) (station_at stations.old.entries place))
+            (station_at stations.old.entries) (station_at stations.new.entries) }
         ensures bases { SameBases (base_at stations.old.entries) (base_at stations.new.entries) }
-        ensures sound { IsSound stations.old.entries self.old.harbor.made self.old.listed → IsSound stations.new.entries self.new.harbor.made self.new.listed }
+        ensures sound { IsSound stations.old.entries self.old.table.made self.old.listed
+            → IsSound stations.new.entries self.new.table.made self.new.listed }
         ensures held { SameHold (hold_at stations.old.entries) (hold_at stations.new.entries) }
         ensures no_more { length stations.new.entries ≤ length stations.old.entries }
         ensures parents { self.new.parents ≡ self.old.parents }
     {
         let station = stations.held(place);
-        let got = self.harbor.read(station.base, into);
+        let got = self.table.read(station.base, into);
         self.mark(stations, place, Half::ToRead, gave_not_yet(got));
         got
     }
@@ -433,17 +504,22 @@ impl<M: Maker + Drop, I: Port, O: Port, E: Port> Ports<M, I, O, E> {
         requires open { hold_at stations.old.entries place ≡ Open }
         requires some { 0 < length bytes.now }
         ensures fits { TookFits (length bytes.now) result }
-        ensures call { IfSome (base_at stations.old.entries place) (λ base. CalledAt (taking_pier base) self.old.harbor self.new.harbor (λ old new. Writes old new bytes.now result)) }
+        ensures call { IfSome (base_at stations.old.entries place)
+            (λ base. CalledAt (taking_port base) self.old.table self.new.table
+            (λ old new. Writes old new bytes.now result)) }
         ensures maker { self.new.maker ≡ self.old.maker }
-        ensures marks { SetsStation place (option_map (with_half ToWrite (is_took_not_yet result)) (station_at stations.old.entries place)) (station_at stations.old.entries) (station_at stations.new.entries) }
+        ensures marks { SetsStation place
+            (option_map (with_half ToWrite (is_took_not_yet result)) (station_at stations.old.entries place))
+            (station_at stations.old.entries) (station_at stations.new.entries) }
         ensures bases { SameBases (base_at stations.old.entries) (base_at stations.new.entries) }
-        ensures sound { IsSound stations.old.entries self.old.harbor.made self.old.listed → IsSound stations.new.entries self.new.harbor.made self.new.listed }
+        ensures sound { IsSound stations.old.entries self.old.table.made self.old.listed
+            → IsSound stations.new.entries self.new.table.made self.new.listed }
         ensures held { SameHold (hold_at stations.old.entries) (hold_at stations.new.entries) }
         ensures no_more { length stations.new.entries ≤ length stations.old.entries }
         ensures parents { self.new.parents ≡ self.old.parents }
     {
         let station = stations.held(place);
-        let took = self.harbor.write(station.base, bytes);
+        let took = self.table.write(station.base, bytes);
         self.mark(stations, place, Half::ToWrite, took_not_yet(took));
         took
     }
@@ -452,17 +528,22 @@ impl<M: Maker + Drop, I: Port, O: Port, E: Port> Ports<M, I, O, E> {
     pub fn send(&mut self, stations: &mut Stations, place: Place, bytes: &[u8]) -> Took
         requires open { hold_at stations.old.entries place ≡ Open }
         requires some { 0 < length bytes.now }
-        ensures call { IfSome (base_at stations.old.entries place) (λ base. CalledAt (taking_pier base) self.old.harbor self.new.harbor (λ old new. Sends old new bytes.now result)) }
+        ensures call { IfSome (base_at stations.old.entries place)
+            (λ base. CalledAt (taking_port base) self.old.table self.new.table
+            (λ old new. Sends old new bytes.now result)) }
         ensures maker { self.new.maker ≡ self.old.maker }
-        ensures marks { SetsStation place (option_map (with_half ToWrite (is_took_not_yet result)) (station_at stations.old.entries place)) (station_at stations.old.entries) (station_at stations.new.entries) }
+        ensures marks { SetsStation place
+            (option_map (with_half ToWrite (is_took_not_yet result)) (station_at stations.old.entries place))
+            (station_at stations.old.entries) (station_at stations.new.entries) }
         ensures bases { SameBases (base_at stations.old.entries) (base_at stations.new.entries) }
-        ensures sound { IsSound stations.old.entries self.old.harbor.made self.old.listed → IsSound stations.new.entries self.new.harbor.made self.new.listed }
+        ensures sound { IsSound stations.old.entries self.old.table.made self.old.listed
+            → IsSound stations.new.entries self.new.table.made self.new.listed }
         ensures held { SameHold (hold_at stations.old.entries) (hold_at stations.new.entries) }
         ensures no_more { length stations.new.entries ≤ length stations.old.entries }
         ensures parents { self.new.parents ≡ self.old.parents }
     {
         let station = stations.held(place);
-        let took = self.harbor.send(station.base, bytes);
+        let took = self.table.send(station.base, bytes);
         self.mark(stations, place, Half::ToWrite, took_not_yet(took));
         took
     }
@@ -470,17 +551,21 @@ impl<M: Maker + Drop, I: Port, O: Port, E: Port> Ports<M, I, O, E> {
     /// Passes an end on at the place.
     pub fn shut(&mut self, stations: &mut Stations, place: Place, how: Shut) -> Shutting
         requires { hold_at stations.old.entries place ≡ Open }
-        ensures call { IfSome (base_at stations.old.entries place) (λ base. EndsAt (finishes how) (taking_pier base) self.old.harbor self.new.harbor (λ old new. Shuts old new how result)) }
+        ensures call { IfSome (base_at stations.old.entries place)
+            (λ base. EndsAt (finishes how) (taking_port base) self.old.table self.new.table
+            (λ old new. Shuts old new how result)) }
         ensures maker { self.new.maker ≡ self.old.maker }
         ensures bases { SameBases (base_at stations.old.entries) (base_at stations.new.entries) }
-        ensures sound { IsSound stations.old.entries self.old.harbor.made self.old.listed → IsSound stations.new.entries self.new.harbor.made self.new.listed }
-        ensures station { SetsStation place (option_map (shut_down (finishes how)) (station_at stations.old.entries place)) (station_at stations.old.entries) (station_at stations.new.entries) }
+        ensures sound { IsSound stations.old.entries self.old.table.made self.old.listed
+            → IsSound stations.new.entries self.new.table.made self.new.listed }
+        ensures station { SetsStation place (option_map (shut_down (finishes how)) (station_at stations.old.entries place))
+            (station_at stations.old.entries) (station_at stations.new.entries) }
         ensures held { HeldAfter (shut_act place how (shut_answer result)) (hold_at stations.old.entries) (hold_at stations.new.entries) }
         ensures no_more { length stations.new.entries ≤ length stations.old.entries }
         ensures parents { self.new.parents ≡ self.old.parents }
     {
         let station = stations.held(place);
-        let answer = self.harbor.shut(station.base, how);
+        let answer = self.table.shut(station.base, how);
         stations.replace(Station {
             place,
             standing: Standing::ShutDown,
@@ -496,15 +581,21 @@ impl<M: Maker + Drop, I: Port, O: Port, E: Port> Ports<M, I, O, E> {
     pub fn close(&mut self, stations: &mut Stations, place: Place, why: Why) -> Option<Joining>
         requires held { is_free (hold_at stations.old.entries place) ≡ false }
         requires parents_room { vec_len self.old.parents < vec_capacity self.old.parents }
-        ensures streams { (self.new.harbor.input ≡ self.old.harbor.input) × (self.new.harbor.output ≡ self.old.harbor.output) × (self.new.harbor.errors ≡ self.old.harbor.errors) }
-        ensures gone { (key : ℕ) → base_at stations.old.entries place ≡ Some (bases.Made key) → get self.new.harbor.made key ≡ None }
-        ensures others { (key : ℕ) → (base_at stations.old.entries place ≡ Some (bases.Made key) → ⊥) → get self.new.harbor.made key ≡ get self.old.harbor.made key }
+        ensures streams { (self.new.table.input ≡ self.old.table.input) × (self.new.table.output ≡ self.old.table.output)
+            × (self.new.table.errors ≡ self.old.table.errors) }
+        ensures gone { (key : ℕ) → base_at stations.old.entries place ≡ Some (bases.Made key) → get self.new.table.made key ≡ None }
+        ensures others { (key : ℕ) → (base_at stations.old.entries place ≡ Some (bases.Made key) → ⊥)
+            → get self.new.table.made key ≡ get self.old.table.made key }
         ensures maker { self.new.maker ≡ self.old.maker }
         ensures marks { MarksPlace place false (is_disarmed stations.old.entries) (is_disarmed stations.new.entries) }
         ensures bases { Leaves place (base_at stations.old.entries) (base_at stations.new.entries) }
-        ensures sound { IsSound stations.old.entries self.old.harbor.made self.old.listed → IsSound stations.new.entries self.new.harbor.made self.new.listed }
-        ensures joined { IfSome (station_at stations.old.entries place) (λ s. result ≡ joined_answer (s.finished && is_finished why) (made_at self.old.harbor.made s.base)) }
-        ensures parents { IfSome (station_at stations.old.entries place) (λ s. LeavesParent (s.finished && is_finished why) (made_at self.old.harbor.made s.base) self.old.parents.items self.new.parents.items) }
+        ensures sound { IsSound stations.old.entries self.old.table.made self.old.listed
+            → IsSound stations.new.entries self.new.table.made self.new.listed }
+        ensures joined { IfSome (station_at stations.old.entries place)
+            (λ s. result ≡ joined_answer (s.finished && is_finished why) (made_at self.old.table.made s.base)) }
+        ensures parents { IfSome (station_at stations.old.entries place)
+            (λ s. LeavesParent (s.finished && is_finished why) (made_at self.old.table.made s.base)
+            self.old.parents.items self.new.parents.items) }
         ensures held { HeldAfter (close_act place why) (hold_at stations.old.entries) (hold_at stations.new.entries) }
         ensures room { length stations.new.entries + vec_len self.new.parents ≤ length stations.old.entries + vec_len self.old.parents }
         ensures fewer { length stations.new.entries + 1 ≤ length stations.old.entries }
@@ -525,18 +616,25 @@ impl<M: Maker + Drop, I: Port, O: Port, E: Port> Ports<M, I, O, E> {
     ) -> Option<Joining>
         requires based { base_at stations.old.entries place ≡ Some base }
         requires parents_room { vec_len self.old.parents < vec_capacity self.old.parents }
-        ensures streams { (self.new.harbor.input ≡ self.old.harbor.input) × (self.new.harbor.output ≡ self.old.harbor.output) × (self.new.harbor.errors ≡ self.old.harbor.errors) }
-        ensures gone { (key : ℕ) → base_at stations.old.entries place ≡ Some (bases.Made key) → get self.new.harbor.made key ≡ None }
-        ensures others { (key : ℕ) → (base_at stations.old.entries place ≡ Some (bases.Made key) → ⊥) → get self.new.harbor.made key ≡ get self.old.harbor.made key }
-        ensures standard { key_of base ≡ None → self.new.harbor.made ≡ self.old.harbor.made }
+        ensures streams { (self.new.table.input ≡ self.old.table.input) × (self.new.table.output ≡ self.old.table.output)
+            × (self.new.table.errors ≡ self.old.table.errors) }
+        ensures gone { (key : ℕ) → base_at stations.old.entries place ≡ Some (bases.Made key) → get self.new.table.made key ≡ None }
+        ensures others { (key : ℕ) → (base_at stations.old.entries place ≡ Some (bases.Made key) → ⊥)
+            → get self.new.table.made key ≡ get self.old.table.made key }
+        ensures standard { key_of base ≡ None → self.new.table.made ≡ self.old.table.made }
         ensures maker { self.new.maker ≡ self.old.maker }
-        ensures told { IfSome (made_at self.old.harbor.made base) (λ berth. IsOf (seen M.Made.gave M.Made.took M.Made.shuts M.Made.hints M.Made.hinting M.Made.counts M.Made.ended M.Made.joins M.Made.child) berth.port) }
+        ensures told { IfSome (made_at self.old.table.made base)
+            (λ entry. IsOf
+            (seen M.Made.gave M.Made.took M.Made.shuts M.Made.hints M.Made.hinting M.Made.counts M.Made.ended M.Made.joins M.Made.child)
+            entry.port) }
         ensures marks { MarksPlace place false (is_disarmed stations.old.entries) (is_disarmed stations.new.entries) }
         ensures bases { Leaves place (base_at stations.old.entries) (base_at stations.new.entries) }
-        ensures sound { IsSoundBut place stations.old.entries self.old.harbor.made self.old.listed → IsSound stations.new.entries self.new.harbor.made self.new.listed }
-        ensures joined { result ≡ joined_answer joined (made_at self.old.harbor.made base) }
-        ensures parents { LeavesParent joined (made_at self.old.harbor.made base) self.old.parents.items self.new.parents.items }
-        ensures held { (p : Place) → hold_at stations.new.entries p ≡ (if same_place place p then Free else hold_at stations.old.entries p) }
+        ensures sound { IsSoundBut place stations.old.entries self.old.table.made self.old.listed
+            → IsSound stations.new.entries self.new.table.made self.new.listed }
+        ensures joined { result ≡ joined_answer joined (made_at self.old.table.made base) }
+        ensures parents { LeavesParent joined (made_at self.old.table.made base) self.old.parents.items self.new.parents.items }
+        ensures held { (p : Place)
+            → hold_at stations.new.entries p ≡ (if same_place place p then Free else hold_at stations.old.entries p) }
         ensures room { length stations.new.entries + vec_len self.new.parents ≤ length stations.old.entries + vec_len self.old.parents }
         ensures fewer { length stations.new.entries + 1 ≤ length stations.old.entries }
         ensures capacity { vec_capacity self.new.parents ≡ vec_capacity self.old.parents }
@@ -551,24 +649,28 @@ impl<M: Maker + Drop, I: Port, O: Port, E: Port> Ports<M, I, O, E> {
     /// Lets the made port of the key go, which is listed no longer.
     fn let_go(&mut self, key: usize, joined: bool) -> Option<Joining>
         requires parents_room { vec_len self.old.parents < vec_capacity self.old.parents }
-        ensures streams { (self.new.harbor.input ≡ self.old.harbor.input) × (self.new.harbor.output ≡ self.old.harbor.output) × (self.new.harbor.errors ≡ self.old.harbor.errors) }
-        ensures told { IfSome (get self.old.harbor.made key) (λ berth. IsOf (seen M.Made.gave M.Made.took M.Made.shuts M.Made.hints M.Made.hinting M.Made.counts M.Made.ended M.Made.joins M.Made.child) berth.port) }
-        ensures made { Updates self.old.harbor.made self.new.harbor.made key None }
+        ensures streams { (self.new.table.input ≡ self.old.table.input) × (self.new.table.output ≡ self.old.table.output)
+            × (self.new.table.errors ≡ self.old.table.errors) }
+        ensures told { IfSome (get self.old.table.made key)
+            (λ entry. IsOf
+            (seen M.Made.gave M.Made.took M.Made.shuts M.Made.hints M.Made.hinting M.Made.counts M.Made.ended M.Made.joins M.Made.child)
+            entry.port) }
+        ensures made { Updates self.old.table.made self.new.table.made key None }
         ensures listed { (other : ℕ) → other ≢ key → is_in other self.new.listed.keys ≡ is_in other self.old.listed.keys }
         ensures covered { self.new.listed.covered ≡ self.old.listed.covered }
-        ensures joined { result ≡ joined_answer joined (get self.old.harbor.made key) }
-        ensures parents { LeavesParent joined (get self.old.harbor.made key) self.old.parents.items self.new.parents.items }
+        ensures joined { result ≡ joined_answer joined (get self.old.table.made key) }
+        ensures parents { LeavesParent joined (get self.old.table.made key) self.old.parents.items self.new.parents.items }
         ensures room { vec_len self.new.parents ≤ vec_len self.old.parents + 1 }
         ensures capacity { vec_capacity self.new.parents ≡ vec_capacity self.old.parents }
         ensures maker { self.new.maker ≡ self.old.maker }
     {
         self.listed.set(key, false);
-        match self.harbor.cast_off(key) {
+        match self.table.remove(key) {
             None => None,
-            Some(mut berth) => {
-                let parent = berth.has_child();
-                let answer = join_if(&mut berth, joined);
-                keep_if(&mut self.parents, berth, parent);
+            Some(mut entry) => {
+                let parent = entry.has_child();
+                let answer = join_if(&mut entry, joined);
+                keep_if(&mut self.parents, entry, parent);
                 answer
             }
         }
@@ -577,7 +679,7 @@ impl<M: Maker + Drop, I: Port, O: Port, E: Port> Ports<M, I, O, E> {
     /// Asks the port that the closed place left, the last one, for its child, and drops the port. Without such a port
     /// there is no child.
     pub fn reap(&mut self, place: Place) -> PortReap
-        ensures streams { (self.new.harbor ≡ self.old.harbor) × (self.new.maker ≡ self.old.maker) }
+        ensures streams { (self.new.table ≡ self.old.table) × (self.new.maker ≡ self.old.maker) }
         ensures listed { self.new.listed ≡ self.old.listed }
         ensures reaped { ReapsKept (find (λ b. same_place b.place place) self.old.parents.items) result }
         ensures dropped { DropsFirst place self.old.parents.items self.new.parents.items }
@@ -587,31 +689,31 @@ impl<M: Maker + Drop, I: Port, O: Port, E: Port> Ports<M, I, O, E> {
         match parent_of(self.parents.as_slice(), place) {
             None => PortReap::NoChild,
             Some(i) => {
-                let mut berth = self.parents.remove(i);
-                berth.reap()
+                let mut entry = self.parents.remove(i);
+                entry.reap()
             }
         }
     }
 
     /// Writes the whole text to standard error, which is begun first. None where there is no memory to begin it.
     pub fn note(&mut self, text: &[u8]) -> Option<Took>
-        ensures call { StreamNotes self.old.harbor.errors self.new.harbor.errors text.now result }
-        ensures made { self.new.harbor.made ≡ self.old.harbor.made }
+        ensures call { StreamNotes self.old.table.errors self.new.table.errors text.now result }
+        ensures made { self.new.table.made ≡ self.old.table.made }
         ensures listed { self.new.listed ≡ self.old.listed }
         ensures parents { self.new.parents ≡ self.old.parents }
-        ensures streams { (self.new.harbor.input ≡ self.old.harbor.input) × (self.new.harbor.output ≡ self.old.harbor.output) }
+        ensures streams { (self.new.table.input ≡ self.old.table.input) × (self.new.table.output ≡ self.old.table.output) }
         ensures said { SaidSo result
-            self.old.harbor.errors.port.took
-            self.new.harbor.errors.port.took
+            self.old.table.errors.port.took
+            self.new.table.errors.port.took
             text.now }
-        ensures unshut { self.new.harbor.errors.port.shuts
-            ≡ self.old.harbor.errors.port.shuts }
+        ensures unshut { self.new.table.errors.port.shuts
+            ≡ self.old.table.errors.port.shuts }
         ensures cause { is_unsaid result ≡ true → Rose
-            self.old.harbor.errors.port.counts.faults
-            self.new.harbor.errors.port.counts.faults }
+            self.old.table.errors.port.counts.faults
+            self.new.table.errors.port.counts.faults }
         ensures maker { self.new.maker ≡ self.old.maker }
     {
-        self.harbor.note(text)
+        self.table.note(text)
     }
 }
 
@@ -623,37 +725,37 @@ fn is_awaited(station: Station, may: Hint) -> bool
 }
 
 /// Joins the port where that is to be done, and tells what that answered.
-fn join_if<T: Port>(berth: &mut Berth<T>, joined: bool) -> Option<Joining>
-    ensures answer { result ≡ joined_answer joined (Some berth.old) }
-    ensures left { LeftSo joined berth.old.port berth.new.port }
-    ensures place { berth.new.place ≡ berth.old.place }
+fn join_if<T: Port>(entry: &mut PortEntry<T>, joined: bool) -> Option<Joining>
+    ensures answer { result ≡ joined_answer joined (Some entry.old) }
+    ensures left { LeftSo joined entry.old.port entry.new.port }
+    ensures place { entry.new.place ≡ entry.old.place }
 {
     if joined {
-        return Some(berth.join());
+        return Some(entry.join());
     }
     None
 }
 
 /// Keeps the port before all others where that is to be done, and drops it otherwise.
-fn keep_if<T: Port>(parents: &mut Vec<Berth<T>>, berth: Berth<T>, keep: bool)
+fn keep_if<T: Port>(parents: &mut Vec<PortEntry<T>>, entry: PortEntry<T>, keep: bool)
     requires { vec_len parents.old < vec_capacity parents.old }
-    ensures kept { parents.new.items ≡ (if keep then berth ∷ parents.old.items else parents.old.items) }
+    ensures kept { parents.new.items ≡ (if keep then entry ∷ parents.old.items else parents.old.items) }
     ensures room { vec_len parents.new ≤ vec_len parents.old + 1 }
     ensures capacity { vec_capacity parents.new ≡ vec_capacity parents.old }
 {
     if keep {
-        let Ok(()) = parents.insert(0, berth) else {
+        let Ok(()) = parents.insert(0, entry) else {
             unreachable!()
         };
     }
 }
 
 /// The index of the first port of the place.
-fn parent_of<T: Port>(parents: &[Berth<T>], place: Place) -> Option<usize>
+fn parent_of<T: Port>(parents: &[PortEntry<T>], place: Place) -> Option<usize>
     ensures is { result ≡ position (λ b. same_place b.place place) parents.now }
     ensures within { IfSome result (λ i. i < length parents.now) }
 {
-    parents.iter().position(|berth| berth.place().is(place))
+    parents.iter().position(|entry| entry.place().is(place))
 }
 
 /// Whether the session came to its end by itself.

@@ -3,11 +3,11 @@ ghost use Rattle.std.specs.Prelude.{◌≡◌, ◌++◌, ◌∷◌, vec_len, vec
 ghost use Rattle.relay_model.specs.Places.{same_place};
 ghost use Rattle.relay_model.specs.Holding.{Open, Settling, is_free};
 ghost use Rattle.world_trait.specs.HoldTables.{SetsHold};
-ghost use Rattle.desk_ports.specs.Bases.{is_standard, key_of};
-ghost use Rattle.desk_ports.specs.declared.bases.Base.TheVariants as bases;
-ghost use Rattle.desk_places.specs.Stations.{AreInOrder, AreListed, IsFirstOf, IsStartOf, SameFooting, SameHold, SetsStation, base_at, hold_at, hold_by, station_at, with_half};
+ghost use Rattle.port_table.specs.Bases.{is_standard, key_of};
+ghost use Rattle.port_table.specs.declared.bases.Base.TheVariants as bases;
+ghost use Rattle.desk_places.specs.Stations.{AreInOrder, AreListed, IsFirstOf, IsStartOf, SameStanding, SameHold, SetsStation, base_at, hold_at, hold_by, station_at, with_half};
 
-use desk_ports::Base;
+use port_table::Base;
 use relay_model::{Half, NoMemory, Place};
 use std::alloc::Global;
 use std::marker::Model;
@@ -28,7 +28,16 @@ pub struct Station {
 impl Station {
     /// An open place on this base.
     pub fn open(place: Place, base: Base) -> Station
-        ensures { result ≡ record { place = place; base = base; standing = Standing.Open; finished = false; reading_disarmed = false; writing_disarmed = false } }
+        ensures { result
+            ≡ record {
+              place = place;
+              base = base;
+              standing = Standing.Open;
+              finished = false;
+              reading_disarmed =
+                  false;
+              writing_disarmed = false;
+            } }
     {
         Station {
             place,
@@ -42,7 +51,16 @@ impl Station {
 
     /// A place on this base whose opening is under way.
     pub fn settling(place: Place, base: Base) -> Station
-        ensures { result ≡ record { place = place; base = base; standing = Standing.Settling; finished = false; reading_disarmed = true; writing_disarmed = true } }
+        ensures { result
+            ≡ record {
+              place = place;
+              base = base;
+              standing = Standing.Settling;
+              finished = false;
+              reading_disarmed =
+                  true;
+              writing_disarmed = true;
+            } }
     {
         Station {
             standing: Standing::Settling,
@@ -217,7 +235,7 @@ impl Stations {
         requires { base_at self.old.entries station.place ≡ Some station.base }
         ensures set { SetsStation station.place (Some station) (station_at self.old.entries) (station_at self.new.entries) }
         ensures held { SetsHold station.place (hold_by (Some station)) (hold_at self.old.entries) (hold_at self.new.entries) }
-        ensures footing { SameFooting self.old.entries self.new.entries }
+        ensures standing { SameStanding self.old.entries self.new.entries }
         ensures len { length self.new.entries ≡ length self.old.entries }
     {
         if let Some(i) = self.index_of(station.place) {
@@ -227,9 +245,10 @@ impl Stations {
 
     /// Disarms the half of the place, or arms it.
     pub fn mark(&mut self, place: Place, half: Half, disarmed: bool)
-        ensures set { SetsStation place (option_map (with_half half disarmed) (station_at self.old.entries place)) (station_at self.old.entries) (station_at self.new.entries) }
+        ensures set { SetsStation place (option_map (with_half half disarmed) (station_at self.old.entries place))
+            (station_at self.old.entries) (station_at self.new.entries) }
         ensures held { SameHold (hold_at self.old.entries) (hold_at self.new.entries) }
-        ensures footing { SameFooting self.old.entries self.new.entries }
+        ensures standing { SameStanding self.old.entries self.new.entries }
         ensures len { length self.new.entries ≡ length self.old.entries }
     {
         if let Some(station) = self.find(place) {

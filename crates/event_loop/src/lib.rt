@@ -1,12 +1,29 @@
-// The loop that drives one session over a world: it makes the call that the session wishes for and hands
-// the answer back, until the session is done.
+// The loop of a command with `fork`: the program door and the session of each peer, over one world.
 #![tactic(auto)]
 
-mod drivers;
-mod faults;
+mod all_sessions;
+mod asked;
+mod births;
+mod courses;
+mod departures;
+mod ended;
+mod endings;
+mod leaving;
+mod loops;
+mod many;
+mod one;
 mod outcomes;
+mod relays;
+mod rows;
+mod steps;
+mod turned;
 mod turns;
+mod vacated;
+mod waited;
+mod waits;
 
-pub use drivers::Driver;
-pub use faults::Fault;
-pub use outcomes::outcome_for;
+pub use all_sessions::Sessions;
+pub use loops::Loop;
+pub use relays::relay;
+pub use steps::Step;
+pub use turned::RunEnd;

@@ -1,165 +1,127 @@
-// The turns of a session that is driven: up to a sleep, the sleep, and so on until it is done.
-ghost use Rattle.std.specs.Prelude.{◌≡◌, ℕ, ◌+◌, ◌<◌, ◌≤◌, ◌∷◌, [], List, Option, length, true, false, IfSome, IfNone};
+// What a turn says to the door and to the sessions that it names, or to all where it says stop.
+ghost use Rattle.std.specs.Prelude.{◌≡◌, ℕ, ◌<◌, ◌≤◌, ◌+◌, ◌∷◌, [], List, length, Option, false, OnOk};
 ghost use Rattle.relay_model.specs.declared.acts.Act.{Act};
 ghost use Rattle.relay_model.specs.declared.acts.Act.TheVariants as acts;
 ghost use Rattle.relay_model.specs.declared.commands.Config.{Config as Command};
 ghost use Rattle.relay_model.specs.Readiness.{copied_list};
-ghost use Rattle.relay_model.specs.May.{Legal};
-ghost use Rattle.relay_core.specs.declared.wishes.Wish.TheVariants as wishes;
-ghost use Rattle.relay_core.specs.Sessions.{Stands, Hears, wish_of, has_ended};
 ghost use Rattle.session_direction.specs.Directions.{listed};
-ghost use Rattle.session_driver.specs.Seen.{Seen, seen};
-ghost use Rattle.relay_core.specs.States.{IsDone};
-ghost use Rattle.event_loop.specs.Answers.{AnswerTells};
-ghost use Rattle.event_loop.specs.Ended.{EndsWith};
-ghost use Rattle.event_loop.specs.declared.drivers.Pause.TheVariants as pauses;
+ghost use Rattle.relay_session.specs.declared.wishes.Wish.TheVariants as wishes;
+ghost use Rattle.relay_session.specs.Sessions.{Hears, wish_of};
+ghost use Rattle.fork_table.specs.Tables.{row_of};
+ghost use Rattle.program_door.specs.Stands.{DoorStands};
+ghost use Rattle.event_loop.specs.Rows.{Sleeping, SleepsIfLate};
+ghost use Rattle.event_loop.specs.Turns.{HearsTurn, HeardOnce, DoorHearsTurn};
 
-use crate::drivers::{Driver, Pause};
-use crate::outcomes::outcome_for;
-use exit_status::Outcome;
-use relay_core::{Answer, Session, cause_is_told, failure_is_blamed, held_is_own, stop_is_told};
-use relay_model::{Config, ReadyList, Why};
-use world_trait::{Turned, World};
+use crate::all_sessions::{Row, Sessions};
+use command_places::is_program_door;
+use fork_table::Steps;
+use program_door::Door;
+use relay_model::{Config, NoMemory, ReadyList, Why};
+use relay_session::{Answer, Session};
+use std::sync::ledger::Ledger;
 
-impl Driver {
-    ghost use Rattle.event_loop.specs.Courses.{Course, SomewhereFor, KeepsFor, TurnsFor, WaitsOnce, PauseIs, IsPause, rank};
+impl Sessions {
+    ghost use Rattle.event_loop.specs.Closings.{LooksAtRows};
+    ghost use Rattle.event_loop.specs.Turns.{RowHeard, AllHeard, AsleepRow, AllAsleep, AllUnheard, NamedHeard, RowHearsOnce, Queues, QueuesDue};
+    ghost use Rattle.event_loop.specs.Courses.{SameButWork, SameButLists};
+    ghost use Rattle.event_loop.specs.Looks.{AddsDue, CameByName, CameInTime, OnlyNamedCame, WorksFew};
 
-    /// Makes the calls that are wished for, up to a sleep or the end.
-    fn drain<W: World>(&mut self, world: &mut W, config: &Config, scratch: &mut [u8]) -> Pause
-        requires scratch { 0 < length scratch.old }
-        requires course { (n : ℕ) × SomewhereFor config.now n (seen W.told W.held W.faults W.waits W.stops W.clock world.old) self.old }
-        ensures course { KeepsFor config.now (seen W.told W.held W.faults W.waits W.stops W.clock world.old) (seen W.told W.held W.faults W.waits W.stops W.clock world.new) self.old self.new }
-        ensures pause { PauseIs self.new result }
-        ensures paused { IsPause self.new result }
-        ensures over { has_ended self.old.session ≡ true → has_ended self.new.session ≡ true }
-        ensures made { self.new.made ≡ self.old.made }
+    /// Has each session hear the last turn, which says stop.
+    pub fn stop_all<L: Ledger>(&mut self, steps: &mut Steps<L>)
+        requires { AllAsleep self.old }
+        ensures heard { AllHeard self.old self.new }
+        ensures looks { LooksAtRows self.old steps.old.ticks steps.new.ticks }
     {
-        loop {
-            if let Some(pause) = self.step(world, config, scratch) {
-                return pause;
+        let mut next = self.table.first_from(0);
+        while let Some(number) = next {
+            self.stop_row(number, steps);
+            next = self.next_after(number);
+        }
+    }
+
+    fn stop_row<L: Ledger>(&mut self, number: u32, steps: &mut Steps<L>)
+        requires { AsleepRow (row_of self.old.table number) }
+        ensures heard { RowHeard number self.old self.new }
+        ensures looks { steps.new.ticks ≤ steps.old.ticks + 1 }
+    {
+        if let Some(row) = self.table.session_mut(number, steps) {
+            hear_turn(&mut row.member.session, self.clock, &self.ready, true);
+            row.turn = self.made;
+        }
+    }
+
+    /// Has each session hear the last turn that it names a thing of.
+    pub fn hear_named<L: Ledger>(&mut self, config: &Config, steps: &mut Steps<L>)
+        requires { AllUnheard self.old }
+        ensures heard { NamedHeard config.now self.old.ready.entries self.old self.new }
+        ensures looks { steps.new.ticks ≤ steps.old.ticks + length self.old.ready.entries }
+    {
+        for i in 0..self.ready.len() {
+            let place = self.ready.get(i).place;
+            if !is_program_door(config, place) {
+                self.hear_row(place.session, steps);
             }
         }
     }
 
-    /// Sleeps as it is wished for, and hears what the turn names. False where there was no memory for a turn, which ends the
-    /// session.
-    fn wait<W: World>(&mut self, world: &mut W, until: Option<u64>, turns: u64) -> bool
-        requires few { self.old.made < turns }
-        requires pause { PauseIs self.old (pauses.Sleep until) }
-        requires paused { IsPause self.old (pauses.Sleep until) }
-        ensures course { (c : Command) → TurnsFor c turns (seen W.told W.held W.faults W.waits W.stops W.clock world.old) (seen W.told W.held W.faults W.waits W.stops W.clock world.new) self.old self.new }
-        ensures waited { result ≡ true → (c : Command) → WaitsOnce c turns (seen W.told W.held W.faults W.waits W.stops W.clock world.old) (seen W.told W.held W.faults W.waits W.stops W.clock world.new) self.old self.new }
-        ensures goes { result ≡ true → self.new.made ≡ self.old.made + 1 }
-        ensures ended { result ≡ false → has_ended self.new.session ≡ true }
-        ensures short { result ≡ false → self.new.made ≡ self.old.made }
+    /// Has the session with this number hear it, if it lives and hasn't yet.
+    fn hear_row<L: Ledger>(&mut self, number: u32, steps: &mut Steps<L>)
+        requires { SleepsIfLate self.old.made (row_of self.old.table number) }
+        ensures heard { RowHearsOnce number self.old self.new }
+        ensures looks { steps.new.ticks ≤ steps.old.ticks + 1 }
     {
-        match world.wait(until, &mut self.ready) {
-            Turned::Turned { at, stop } => {
-                self.made += 1;
-                hear_turn(&mut self.session, at, &self.ready, stop);
-                true
+        if let Some(row) = self.table.session_mut(number, steps) {
+            hear_once(row, self.made, self.clock, &self.ready);
+        }
+    }
+
+    /// Puts each session that the last turn names a thing of into the list of work. After an error some are there.
+    pub fn queue_named(&mut self, config: &Config) -> Result<(), NoMemory>
+        ensures named { OnOk result (Queues config.now self.old.ready.entries self.old self.new) }
+        ensures same { SameButWork self.old self.new }
+        ensures few { length self.new.work.items ≤ length self.old.work.items + length self.old.ready.entries }
+        ensures came { CameByName config.now self.old.ready.entries self.old self.new }
+    {
+        for i in 0..self.ready.len() {
+            let place = self.ready.get(i).place;
+            if !is_program_door(config, place) {
+                self.work.push_back(place.session)?;
             }
-            Turned::Memory => {
-                self.session.cut(Why::Memory);
-                false
-            }
         }
+        Ok(())
     }
 
-    /// Makes the calls that are wished for and then waits once. `None` where it goes on after that wait; else the session
-    /// is done for this reason, and holds nothing: by itself, for want of memory, or since `turns` turns were made.
-    pub fn turn<W: World>(
-        &mut self,
-        world: &mut W,
-        config: &Config,
-        scratch: &mut [u8],
-        turns: u64,
-    ) -> Option<Why>
-        requires scratch { 0 < length scratch.old }
-        requires course { SomewhereFor config.now turns (seen W.told W.held W.faults W.waits W.stops W.clock world.old) self.old }
-        requires within { self.old.made ≤ turns }
-        ensures course { TurnsFor config.now turns (seen W.told W.held W.faults W.waits W.stops W.clock world.old) (seen W.told W.held W.faults W.waits W.stops W.clock world.new) self.old self.new }
-        ensures done { IfSome result (λ why. IsPause self.new (pauses.Done why)) }
-        ensures waitless { IfSome result (λ why. self.new.made ≡ self.old.made) }
-        ensures waited { IfNone result (WaitsOnce config.now turns (seen W.told W.held W.faults W.waits W.stops W.clock world.old) (seen W.told W.held W.faults W.waits W.stops W.clock world.new) self.old self.new) }
-        ensures goes { IfNone result ((self.old.made < turns) × (self.new.made ≡ self.old.made + 1)) }
+    /// Puts each session into the list of work whose timer has fallen due. After an error some are there.
+    pub fn queue_due(&mut self) -> Result<(), NoMemory>
+        ensures due { OnOk result (QueuesDue self.old self.new) }
+        ensures same { SameButLists self.old self.new }
+        ensures few { WorksFew 0 self.old self.new }
+        ensures alone { OnlyNamedCame 0 self.old self.new }
+        ensures came { CameInTime self.old self.new }
+        ensures parts { OnOk result (AddsDue self.old self.new) }
     {
-        match self.drain(world, config, scratch) {
-            Pause::Done(why) => Some(why),
-            Pause::Sleep(until) => self.sleep(world, config, scratch, until, turns),
+        while let Some(number) = self.timers.due(self.clock) {
+            self.work.push_back(number)?;
         }
+        Ok(())
     }
+}
 
-    /// Waits once, where a turn is left and there is memory for it, and else ends the relay.
-    fn sleep<W: World>(
-        &mut self,
-        world: &mut W,
-        config: &Config,
-        scratch: &mut [u8],
-        until: Option<u64>,
-        turns: u64,
-    ) -> Option<Why>
-        requires scratch { 0 < length scratch.old }
-        requires course { SomewhereFor config.now turns (seen W.told W.held W.faults W.waits W.stops W.clock world.old) self.old }
-        requires pause { PauseIs self.old (pauses.Sleep until) }
-        requires paused { IsPause self.old (pauses.Sleep until) }
-        requires within { self.old.made ≤ turns }
-        ensures course { TurnsFor config.now turns (seen W.told W.held W.faults W.waits W.stops W.clock world.old) (seen W.told W.held W.faults W.waits W.stops W.clock world.new) self.old self.new }
-        ensures done { IfSome result (λ why. IsPause self.new (pauses.Done why)) }
-        ensures waitless { IfSome result (λ why. self.new.made ≡ self.old.made) }
-        ensures waited { IfNone result (WaitsOnce config.now turns (seen W.told W.held W.faults W.waits W.stops W.clock world.old) (seen W.told W.held W.faults W.waits W.stops W.clock world.new) self.old self.new) }
-        ensures goes { IfNone result ((self.old.made < turns) × (self.new.made ≡ self.old.made + 1)) }
-    {
-        if self.made < turns {
-            if self.wait(world, until, turns) {
-                return None;
-            }
-            return Some(self.close_all(world, config, scratch));
-        }
-        self.session.cut(Why::Stopped);
-        Some(self.close_all(world, config, scratch))
+/// Has the session of this row hear the last turn, if it hasn't yet.
+fn hear_once(row: &mut Row, made: u64, at: u64, ready: &ReadyList)
+    requires { row.old.turn < made → Sleeping row.old.member.session }
+    ensures { HeardOnce made at ready.now row.old row.new }
+{
+    if row.turn < made {
+        hear_turn(&mut row.member.session, at, ready, false);
     }
-
-    /// Closes what is held after the session has ended.
-    fn close_all<W: World>(&mut self, world: &mut W, config: &Config, scratch: &mut [u8]) -> Why
-        requires scratch { 0 < length scratch.old }
-        requires course { (n : ℕ) × SomewhereFor config.now n (seen W.told W.held W.faults W.waits W.stops W.clock world.old) self.old }
-        requires over { has_ended self.old.session ≡ true }
-        ensures course { KeepsFor config.now (seen W.told W.held W.faults W.waits W.stops W.clock world.old) (seen W.told W.held W.faults W.waits W.stops W.clock world.new) self.old self.new }
-        ensures done { IsPause self.new (pauses.Done result) }
-        ensures made { self.new.made ≡ self.old.made }
-    {
-        match self.drain(world, config, scratch) {
-            Pause::Done(why) => why,
-            Pause::Sleep(_) => unreachable!(),
-        }
-    }
-
-    /// How the run ended, once the session is done for this reason.
-    pub fn outcome(&self, why: Why) -> Outcome
-        ensures { (c : Command) (n : ℕ) (start now : Seen) (past : List Act) → Course c n start now self.now past → IsDone c n past 0 why → EndsWith c n past result }
-    {
-        cause_is_told();
-        failure_is_blamed();
-        held_is_own();
-        stop_is_told();
-        self.answer(why)
-    }
-
-    /// The answer that what the session tells at its end makes.
-    fn answer(&self, why: Why) -> Outcome
-        ensures { (c : Command) (n : ℕ) (past : List Act) → Stands c n past 0 self.now.session → Legal c n past → AnswerTells c past why self.now.fault self.now.made result }
-    {
-        let listening = self.session.failed_listening();
-        let opening = self.session.failed_opening();
-        outcome_for(why, listening, opening, self.fault, self.made)
-    }
+    row.turn = made;
 }
 
 /// Hears a turn: its moment, the halves that it names, and whether it says stop.
 fn hear_turn(session: &mut Session, at: u64, ready: &ReadyList, stop: bool)
     requires { (until : Option ℕ) × (wish_of session.old ≡ wishes.Sleep until) }
-    ensures { (c : Command) (n : ℕ) (past : List Act) (until : Option ℕ) → wish_of session.old ≡ wishes.Sleep until → Stands c n past 0 session.old → Stands c n (acts.Turn until at (copied_list ready.now) stop ∷ past) 0 session.new }
+    ensures { HearsTurn at ready.now stop session.old session.new }
 {
     session.heard(at, Answer::Woken);
     name_all(session, ready);
@@ -170,9 +132,24 @@ fn hear_turn(session: &mut Session, at: u64, ready: &ReadyList, stop: bool)
 
 /// Tells the session each half that the turn names.
 fn name_all(session: &mut Session, ready: &ReadyList)
-    ensures { (c : Command) (n : ℕ) (past : List Act) (until : Option ℕ) (at : ℕ) → Hears c n (acts.Turn until at (listed []) false ∷ past) 0 session.old → Hears c n (acts.Turn until at (listed ready.now.entries) false ∷ past) 0 session.new }
+    ensures { (c : Command) (n : ℕ) (past : List Act) (s : ℕ) (until : Option ℕ) (at : ℕ)
+        → Hears c n (acts.Turn until at (listed []) false ∷ past) s session.old
+        → Hears c n (acts.Turn until at (listed ready.now.entries) false ∷ past) s session.new }
 {
     for i in 0..ready.len() {
         session.ready(ready.get(i));
+    }
+}
+
+/// The door hears it too.
+pub fn hear_door(door: &mut Door, ready: &ReadyList, stop: bool)
+    ensures { DoorHearsTurn ready.now stop door.old door.new }
+{
+    door.woken();
+    for i in 0..ready.len() {
+        door.ready(ready.get(i));
+    }
+    if stop {
+        door.cut(Why::Stopped);
     }
 }

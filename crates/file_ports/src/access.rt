@@ -64,7 +64,16 @@ impl Access {
 
     /// What is there, to be read or written.
     pub(crate) fn plain(read: bool, write: bool) -> Access
-        ensures { result ≡ record { read = read; write = write; append = false; truncate = false; empty = false; create = false; create_new = false } }
+        ensures { result
+            ≡ record {
+              read = read;
+              write = write;
+              append = false;
+              truncate = false;
+              empty = false;
+              create = false;
+              create_new = false;
+            } }
     {
         Access {
             read,

@@ -59,11 +59,15 @@ pub fn open_file<C: FileCalls>(
     single: &Single,
     part: Part,
 ) -> Making<OpenedFile>
-    ensures made { OnMade result (λ opened. IsOpened (C.opens calls.new) (C.empties calls.new) (C.copies calls.new) single.now part opened.ends opened.removal) }
+    ensures made { OnMade result
+        (λ opened. IsOpened (C.opens calls.new) (C.empties calls.new) (C.copies calls.new) single.now part opened.ends
+        opened.removal) }
     ensures unlinked { UnlinksEntry single.now result (C.unlinked calls.old) (C.unlinked calls.new) }
     ensures other { file_named single.now.target ≡ None → result ≡ makings.Failed }
     ensures unnamed { IfSome (file_named single.now.target) (λ file. ¬ (IsUtf8 file.1) → result ≡ makings.Failed) }
-    ensures unfit { IfSome (file_named single.now.target) (λ file. ¬ (IsValidOptions (options_of (access_of file.0 single.now.options.file part))) → result ≡ makings.Failed) }
+    ensures unfit { IfSome (file_named single.now.target)
+        (λ file. ¬ (IsValidOptions (options_of (access_of file.0 single.now.options.file part)))
+        → result ≡ makings.Failed) }
 {
     let Some((kind, name)) = file_of(&single.target) else {
         return Making::Failed;

@@ -34,7 +34,9 @@ impl<T> Model for ForkTable<T> {
 
     ghost view = { λ t. record { numbers = t.numbers; rows = t.rows; admitted = t.admitted; live = t.live; max_children = t.max_children; stop_after = t.stop_after } };
 
-    ghost invariant = { λ t. IsTable (record { numbers = t.numbers; rows = t.rows; admitted = t.admitted; live = t.live; max_children = t.max_children; stop_after = t.stop_after }) };
+    ghost invariant = { λ t. IsTable
+        (record
+        { numbers = t.numbers; rows = t.rows; admitted = t.admitted; live = t.live; max_children = t.max_children; stop_after = t.stop_after }) };
 }
 
 impl<T> ForkTable<T> {

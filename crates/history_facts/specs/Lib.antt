@@ -1,3 +1,4 @@
 pub mod Answers
 pub mod Pasts
+pub mod Tables
 pub mod Told

@@ -11,9 +11,9 @@ use Rattle.relay_model.specs.Sessions.{admitted}
 use Rattle.relay_model.specs.Moments.{moved_at}
 use Rattle.relay_model.specs.Cause.{closed_why}
 use Rattle.relay_model.specs.declared.acts.Why.{Why}
-use Rattle.fact_tables.specs.declared.placed.Placed.{Placed}
-use Rattle.fact_tables.specs.declared.numbered.Numbered.{Numbered}
-use Rattle.fact_tables.specs.Tables.{numbered, placed}
+use Rattle.history_facts.specs.declared.placed.Placed.{Placed}
+use Rattle.history_facts.specs.declared.numbered.Numbered.{Numbered}
+use Rattle.history_facts.specs.Tables.{numbered, placed}
 use Rattle.history_facts.specs.declared.clock.Clock.{Clock}
 use Rattle.history_facts.specs.declared.traffic.Traffic.{Traffic}
 use Rattle.history_facts.specs.declared.sessions.Sessions.{Sessions}

@@ -8,12 +8,12 @@ ghost use Rattle.relay_model.specs.declared.acts.Act.{Act};
 ghost use Rattle.relay_model.specs.Places.{same_place};
 ghost use Rattle.relay_model.specs.Configs.{input, output};
 ghost use Rattle.relay_model.specs.History.{now, turns};
-ghost use Rattle.fact_tables.specs.Tables.{placed};
+ghost use Rattle.history_facts.specs.Tables.{placed};
 ghost use Rattle.history_facts.specs.Told.{ReadArmingsTold, WriteArmingsTold, AcceptArmingsTold, ReadsAsked, WritesAsked, AcceptsAsked, AskedBefore, ArmingsTold};
 
 use crate::naming::name_all;
+use crate::placed::Placed;
 use command_places::{accepting_door, input, output, way_from};
-use fact_tables::Placed;
 use relay_model::{Act, Config, Half, NoMemory, Place};
 use std::alloc::Global;
 

@@ -8,8 +8,10 @@ mod choices;
 mod clock;
 mod history;
 mod naming;
+mod numbered;
 mod openings;
 mod past;
+mod placed;
 mod sessions;
 mod traffic;
 
@@ -25,7 +27,9 @@ pub use history::{
     met_end, moved_at, next_due, now, put_length, read_fault_at, served, shut_at, stage_of,
     stop_said, turns, was_closed, was_reaped, woken, write_fault_at,
 };
+pub use numbered::Numbered;
 pub use openings::{Openings, Stage};
 pub use past::Past;
+pub use placed::Placed;
 pub use sessions::{Sessions, permits};
 pub use traffic::Traffic;

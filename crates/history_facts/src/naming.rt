@@ -3,9 +3,9 @@ ghost use Rattle.std.specs.Prelude.{◌≡◌, ◌&&◌, if◌then◌else◌, On
 ghost use Rattle.relay_model.specs.declared.places.Place.{Place};
 ghost use Rattle.relay_model.specs.Readiness.{names};
 ghost use Rattle.relay_model.specs.Places.{same_place, same_half};
-ghost use Rattle.fact_tables.specs.Tables.{placed};
+ghost use Rattle.history_facts.specs.Tables.{placed};
 
-use fact_tables::Placed;
+use crate::placed::Placed;
 use relay_model::{Half, NoMemory, ReadyAt, ReadyList};
 
 fn is_half(one: Half, other: Half) -> bool

@@ -5,7 +5,7 @@ ghost use Rattle.relay_model.specs.History.{now};
 ghost use Rattle.history_facts.specs.Told.{StagesTold, FailuresCounted, LastFailuresTold, WokenTold, AcceptsFailedTold, ClosedTold, ReapedTold, OpeningsTold};
 
 use crate::naming::name_all;
-use fact_tables::Placed;
+use crate::placed::Placed;
 use relay_model::{Act, Half, NoMemory, Peer, Why};
 use std::alloc::Global;
 

@@ -6,11 +6,11 @@ ghost use Rattle.relay_model.specs.Configs.{is_place_of, is_of};
 ghost use Rattle.relay_model.specs.History.{now};
 ghost use Rattle.relay_model.specs.Sessions.{permits, is_admission};
 ghost use Rattle.relay_model.specs.Cause.{is_end};
-ghost use Rattle.fact_tables.specs.Tables.{numbered};
+ghost use Rattle.history_facts.specs.Tables.{numbered};
 ghost use Rattle.history_facts.specs.Told.{MovesTold, CausesTold, AdmittedTold, SessionsTold};
 
+use crate::numbered::Numbered;
 use command_places::{has_fork, is_left, is_of, is_place_of, options_of};
-use fact_tables::Numbered;
 use peer_filter::Filter;
 use relay_model::{Act, Config, NoMemory, Peer, Place, Why};
 use std::alloc::Global;

@@ -4,10 +4,10 @@ ghost use Rattle.relay_model.specs.declared.places.Place.{Place};
 ghost use Rattle.relay_model.specs.declared.acts.Act.{Act};
 ghost use Rattle.relay_model.specs.Places.{same_place};
 ghost use Rattle.relay_model.specs.History.{now};
-ghost use Rattle.fact_tables.specs.Tables.{placed};
+ghost use Rattle.history_facts.specs.Tables.{placed};
 ghost use Rattle.history_facts.specs.Told.{ReadTold, WrittenTold, EndsTold, EmptiesTold, ShutsTold, ReadFaultsTold, WriteFaultsTold, TrafficTold};
 
-use fact_tables::Placed;
+use crate::placed::Placed;
 use relay_model::{Act, NoMemory, Place};
 use std::alloc::Global;
 

@@ -66,7 +66,9 @@ impl HostAddresses {
     /// The one that an address of the family connects to, at this port: where it has no family the IPv4 one, and the
     /// IPv6 one where there is no IPv4. `None` where there is no such address.
     pub fn at(&self, family: Family, port: u16) -> Option<SocketAddr>
-        ensures found { IsAtPort port (chosen family (option_map (λ addr. sockets.V4 addr) self.now.ipv4) (option_map (λ addr. sockets.V6 addr) self.now.ipv6)) result }
+        ensures found { IsAtPort port
+            (chosen family (option_map (λ addr. sockets.V4 addr) self.now.ipv4)
+            (option_map (λ addr. sockets.V6 addr) self.now.ipv6)) result }
         ensures port { IfSome result (λ addr. socket_port addr ≡ port) }
         ensures family { IfSome result (IsOfFamily family) }
     {

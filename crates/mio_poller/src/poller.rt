@@ -21,13 +21,13 @@ use std::time::{Clock, Duration};
 
 /// Ends the poller's sleep. Between two polls it writes at most once to the system's counter (eventfd(2)).
 #[derive(Drop)]
-struct Bell {
+struct WakeSignal {
     waker: Waker,
     // 1 from a ring to the end of the poll that hears it
     rung: AtomicU64,
 }
 
-impl Bell {
+impl WakeSignal {
     fn ring(&self) {
         if self.rung.load(Ordering::SeqCst) == 0 && self.rung.swap(1, Ordering::SeqCst) == 0 {
             let _ = self.waker.wake();
@@ -42,14 +42,14 @@ impl Bell {
 /// Wakes the poller from any thread.
 #[derive(Drop)]
 pub struct MioWake {
-    bell: Arc<Bell, Global>,
+    wake_signal: Arc<WakeSignal, Global>,
 }
 
 impl MioWake {
     /// Wakes the same poller.
     pub fn another(&self) -> Result<MioWake, NoMemory> {
-        match Arc::try_clone(&self.bell) {
-            Ok(bell) => Ok(MioWake { bell }),
+        match Arc::try_clone(&self.wake_signal) {
+            Ok(wake_signal) => Ok(MioWake { wake_signal }),
             Err(_) => Err(NoMemory),
         }
     }
@@ -57,7 +57,7 @@ impl MioWake {
 
 impl Wake for MioWake {
     fn wake(&self) {
-        self.bell.ring();
+        self.wake_signal.ring();
     }
 }
 
@@ -65,7 +65,7 @@ impl Wake for MioWake {
 #[derive(Drop)]
 pub struct SystemPoller<S> {
     system: S,
-    bell: Arc<Bell, Global>,
+    wake_signal: Arc<WakeSignal, Global>,
     watches: Watches,
     at: u64,
     asked: Option<u64>,
@@ -101,14 +101,14 @@ impl<R: Net + Clock + Drop> SystemPoller<System<R>> {
         };
         match Arc::new(
             alloc,
-            Bell {
+            WakeSignal {
                 waker,
                 rung: AtomicU64::new(0),
             },
         ) {
-            Ok(bell) => Making::Made(SystemPoller {
+            Ok(wake_signal) => Making::Made(SystemPoller {
                 system,
-                bell,
+                wake_signal,
                 watches,
                 at: 0,
                 asked: None,
@@ -121,8 +121,8 @@ impl<R: Net + Clock + Drop> SystemPoller<System<R>> {
     pub fn wake(&self) -> Making<MioWake>
         ensures { IsAtOnce result }
     {
-        match Arc::try_clone(&self.bell) {
-            Ok(bell) => Making::Made(MioWake { bell }),
+        match Arc::try_clone(&self.wake_signal) {
+            Ok(wake_signal) => Making::Made(MioWake { wake_signal }),
             Err(_) => Making::Memory,
         }
     }
@@ -165,7 +165,7 @@ impl<S: Readiness> Poller for SystemPoller<S> {
         ready.clear();
         self.asked = until;
         self.at = wait_once(&mut self.system, self.at, until);
-        self.bell.hear();
+        self.wake_signal.hear();
         let events = self.system.events();
         self.watches.hear(events);
         name_events(events, ready);

@@ -1,4 +1,5 @@
 pub mod Hubs
 pub mod Links
 pub mod Rows
+pub mod Stories
 pub mod Tables

@@ -63,8 +63,11 @@ impl<L: Link> Hub<L> {
     pub fn read_row(&mut self, row: u32, into: &mut [u8]) -> Got
         requires live { IsLive self.old.table.rows row }
         requires room { 0 < length into.old }
-        ensures taken { (mid : TableState) × (more : List Packet) × Takes self.old.table mid (L.gave self.old.link) (L.gave self.new.link) more × ReadsRow mid self.new.table row into.new result }
-        ensures drained { Drains (read_failed result) self.new.left_off (L.stalls self.old.link) (L.stalls self.new.link) (L.packets self.old.link) (L.packets self.new.link) }
+        ensures taken { (mid : TableState) × (more : List Packet)
+            × Takes self.old.table mid (L.gave self.old.link) (L.gave self.new.link) more
+            × ReadsRow mid self.new.table row into.new result }
+        ensures drained { Drains (read_failed result) self.new.left_off (L.stalls self.old.link) (L.stalls self.new.link)
+            (L.packets self.old.link) (L.packets self.new.link) }
         ensures faults { L.faults self.new.link ≡ risen_if (read_failed result) (L.faults self.old.link) }
         ensures sent { L.sent self.new.link ≡ L.sent self.old.link }
     {
@@ -89,8 +92,11 @@ impl<L: Link> Hub<L> {
     /// Takes what the socket has, and then hands out the first row that wasn't. `Failed` comes exactly where the socket
     /// failed.
     pub fn accept_row(&mut self) -> RowPeer
-        ensures taken { (mid : TableState) × (more : List Packet) × Takes self.old.table mid (L.gave self.old.link) (L.gave self.new.link) more × AcceptsRow mid self.new.table result }
-        ensures drained { Drains (accept_failed result) self.new.left_off (L.stalls self.old.link) (L.stalls self.new.link) (L.packets self.old.link) (L.packets self.new.link) }
+        ensures taken { (mid : TableState) × (more : List Packet)
+            × Takes self.old.table mid (L.gave self.old.link) (L.gave self.new.link) more
+            × AcceptsRow mid self.new.table result }
+        ensures drained { Drains (accept_failed result) self.new.left_off (L.stalls self.old.link) (L.stalls self.new.link)
+            (L.packets self.old.link) (L.packets self.new.link) }
         ensures faults { L.faults self.new.link ≡ risen_if (accept_failed result) (L.faults self.old.link) }
         ensures sent { L.sent self.new.link ≡ L.sent self.old.link }
     {
@@ -117,7 +123,9 @@ impl<L: Link> Hub<L> {
     pub fn send_row(&mut self, row: u32, bytes: &[u8]) -> Took
         requires live { IsLive self.old.table.rows row }
         requires few { length bytes.now ≤ longest_packet }
-        ensures sent { (place : ℕ) × Stands self.old.table.rows row place × Sends (L.sent self.old.link) (L.sent self.new.link) (row_at self.old.table.rows place).peer bytes.now result }
+        ensures sent { (place : ℕ) × Stands self.old.table.rows row place
+            × Sends (L.sent self.old.link) (L.sent self.new.link) (row_at self.old.table.rows
+            place).peer bytes.now result }
         ensures table { self.new.table ≡ self.old.table }
         ensures left_off { self.new.left_off ≡ self.old.left_off }
         ensures gave { L.gave self.new.link ≡ L.gave self.old.link }
@@ -154,7 +162,8 @@ impl<L: Link> Hub<L> {
     /// Whether the live row holds a packet.
     pub fn has_packets(&self, row: u32) -> bool
         requires { IsLive self.now.table.rows row }
-        ensures { (place : ℕ) × Stands self.now.table.rows row place × (IsTrue result ↔ (0 < length (row_at self.now.table.rows place).packets)) }
+        ensures { (place : ℕ) × Stands self.now.table.rows row place
+            × (IsTrue result ↔ (0 < length (row_at self.now.table.rows place).packets)) }
     {
         self.table.has_packets(row)
     }
@@ -210,7 +219,8 @@ impl<L: Link> Hub<L> {
     pub fn fill(&mut self) -> bool
         ensures taken { (more : List Packet) × Takes self.old.table self.new.table (L.gave self.old.link) (L.gave self.new.link) more }
         ensures lives { (row : ℕ) → IsLive self.old.table.rows row → IsLive self.new.table.rows row }
-        ensures drained { Drains (not result) self.new.left_off (L.stalls self.old.link) (L.stalls self.new.link) (L.packets self.old.link) (L.packets self.new.link) }
+        ensures drained { Drains (not result) self.new.left_off (L.stalls self.old.link) (L.stalls self.new.link)
+            (L.packets self.old.link) (L.packets self.new.link) }
         ensures faults { L.faults self.new.link ≡ risen_if (not result) (L.faults self.old.link) }
         ensures sent { L.sent self.new.link ≡ L.sent self.old.link }
     {

@@ -178,7 +178,9 @@ impl Demux {
 
     /// Where the row of the sender stands. In a table that doesn't sort by senders no row is looked for.
     fn place_of_sender(&self, from: Peer) -> Option<usize>
-        ensures found { IfSome result (λ place. (self.now.mode ≡ modes.ByPeer) × (place < length self.now.rows) × ((row_at self.now.rows place).peer ≡ from)) }
+        ensures found { IfSome result
+            (λ place. (self.now.mode ≡ modes.ByPeer) × (place < length self.now.rows)
+            × ((row_at self.now.rows place).peer ≡ from)) }
         ensures none { IfNone result (IsUnknown self.now from) }
     {
         match self.mode {

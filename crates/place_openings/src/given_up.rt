@@ -10,7 +10,7 @@ ghost use Rattle.place_openings.specs.Stands.{AreOpenings, Each, IsOpening};
 ghost use Rattle.place_openings.specs.States.{state_of};
 
 use crate::calls::GivenUp;
-use crate::one_place::{Opening, is_same};
+use crate::one_place::Opening;
 use crate::session_openings::Openings;
 use relay_model::Side;
 use retry_plan::NextTry;
@@ -19,7 +19,8 @@ impl Openings {
     /// The first place, in opening order, at which no try is left; where the place has an own door its door's tries
     /// are not meant.
     pub fn failed_opening(&self) -> Option<GivenUp>
-        ensures first { (c : Command) (past : List Act) (s : ℕ) → AreOpenings c past s self.now → result ≡ first_unopened c past (places c s) }
+        ensures first { (c : Command) (past : List Act) (s : ℕ) → AreOpenings c past s self.now
+            → result ≡ first_unopened c past (places c s) }
         ensures can_count { (c : Command) (past : List Act) (s : ℕ) → AreOpenings c past s self.now → FirstCanCount c past (places c s) }
     {
         first_given_up(self.as_slice(), false)
@@ -27,7 +28,8 @@ impl Openings {
 
     /// How many listenings failed at the first own door, in opening order, at which no try is left.
     pub fn failed_listening(&self) -> Option<u64>
-        ensures first { (c : Command) (past : List Act) (s : ℕ) → AreOpenings c past s self.now → result ≡ first_unlistened c past (own_doors c s) }
+        ensures first { (c : Command) (past : List Act) (s : ℕ) → AreOpenings c past s self.now
+            → result ≡ first_unlistened c past (own_doors c s) }
         ensures can_count { (c : Command) (past : List Act) (s : ℕ) → AreOpenings c past s self.now → FirstCanCount c past (own_doors c s) }
     {
         attempts_told(first_given_up(self.as_slice(), true))
@@ -39,20 +41,22 @@ impl Opening {
     pub fn given_up(&self, has_door: bool) -> Option<GivenUp>
         ensures { (c : Command) (past : List Act) (p : At) → IsOpening c past p (state_of self.now) → GivesUp c past has_door p result }
     {
-        let is_meant = is_same(self.has_door, has_door);
+        let is_meant = self.has_door == has_door;
         given_up_by(self.place.side, is_meant, self.spent_attempts())
     }
 
     /// How many tries failed, if none is left.
     fn spent_attempts(&self) -> Option<u64>
-        ensures { (retry : ℕ) (forever : Bool) (interval : ℕ) (failures : List ℕ) → PlanIs retry forever interval failures self.now.plan → Spends retry forever failures result }
+        ensures { (retry : ℕ) (forever : Bool) (interval : ℕ) (failures : List ℕ)
+            → PlanIs retry forever interval failures self.now.plan → Spends retry forever failures result }
     {
         attempts_in(self.plan.next())
     }
 }
 
 fn first_given_up(openings: &[Opening], has_door: bool) -> Option<GivenUp>
-    ensures { (c : Command) (past : List Act) (ps : List At) → Each c past ps (map state_of openings.now) → FirstGivesUp c past has_door ps result }
+    ensures { (c : Command) (past : List Act) (ps : List At) → Each c past ps (map state_of openings.now)
+        → FirstGivesUp c past has_door ps result }
 {
     for opening in openings {
         if let Some(given_up) = opening.given_up(has_door) {

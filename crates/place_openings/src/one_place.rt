@@ -95,7 +95,9 @@ impl Opening {
 
     /// A further try, once it is due and while tries are left.
     fn try_again(&self, wanted: Call, at: u64) -> Call
-        ensures { (retry : ℕ) (forever : Bool) (interval : ℕ) (failures : List ℕ) → PlanIs retry forever interval failures self.now.plan → as_call result ≡ try_call retry forever interval failures at (as_call wanted) }
+        ensures { (retry : ℕ) (forever : Bool) (interval : ℕ) (failures : List ℕ)
+            → PlanIs retry forever interval failures self.now.plan
+            → as_call result ≡ try_call retry forever interval failures at (as_call wanted) }
     {
         once_due(self.plan.next(), wanted, at)
     }
@@ -104,12 +106,13 @@ impl Opening {
     pub fn gave_up(&self, has_door: bool) -> bool
         ensures { (c : Command) (past : List Act) (p : At) → IsTried c past p (state_of self.now) → result ≡ gave_up c past has_door p }
     {
-        both(is_same(self.has_door, has_door), self.gives_up())
+        (self.has_door == has_door) & self.gives_up()
     }
 
     /// Whether no try is left.
     fn gives_up(&self) -> bool
-        ensures { (retry : ℕ) (forever : Bool) (interval : ℕ) (failures : List ℕ) → PlanIs retry forever interval failures self.now.plan → result ≡ is_out_of_tries retry forever failures }
+        ensures { (retry : ℕ) (forever : Bool) (interval : ℕ) (failures : List ℕ)
+            → PlanIs retry forever interval failures self.now.plan → result ≡ is_out_of_tries retry forever failures }
     {
         is_end_of_tries(self.plan.next())
     }
@@ -132,7 +135,8 @@ impl Opening {
 
     /// An opening, a settling once a turn named the place, or a further try.
     fn opening_call(&self, at: u64) -> Call
-        ensures { (c : Command) (past : List Act) (p : At) → IsOpening c past p (state_of self.now) → self.now.has_door ≡ false → at ≡ moment past → as_call result ≡ opening_call c past p (stage past p) }
+        ensures { (c : Command) (past : List Act) (p : At) → IsOpening c past p (state_of self.now)
+            → self.now.has_door ≡ false → at ≡ moment past → as_call result ≡ opening_call c past p (stage past p) }
     {
         match self.stage {
             Stage::Untried => Call::Open(self.place),
@@ -144,7 +148,9 @@ impl Opening {
 
     /// A listening, a further try of one, or an accepting where the door is armed.
     fn listening_call(&self, at: u64) -> Call
-        ensures { (c : Command) (past : List Act) (p : At) → IsOpening c past p (state_of self.now) → self.now.has_door ≡ true → at ≡ moment past → as_call result ≡ listening_call c past (door_of p) p (stage past (door_of p)) }
+        ensures { (c : Command) (past : List Act) (p : At) → IsOpening c past p (state_of self.now)
+            → self.now.has_door ≡ true → at ≡ moment past
+            → as_call result ≡ listening_call c past (door_of p) p (stage past (door_of p)) }
     {
         let door = self.place.own_door();
         match self.door {
@@ -160,7 +166,8 @@ impl Opening {
 
     /// A peer that isn't permitted is refused; after a permitted one the own door has served.
     fn peer_call(&self, at: u64) -> Call
-        ensures { (c : Command) (past : List Act) (p : At) → IsOpening c past p (state_of self.now) → self.now.has_door ≡ true → at ≡ moment past → as_call result ≡ peer_call c past p (stage past p) }
+        ensures { (c : Command) (past : List Act) (p : At) → IsOpening c past p (state_of self.now)
+            → self.now.has_door ≡ true → at ≡ moment past → as_call result ≡ peer_call c past p (stage past p) }
     {
         match self.stage {
             Stage::Met(peer) if !self.filter.permits(peer) => Call::Refuse(self.place),
@@ -173,7 +180,8 @@ impl Opening {
     /// What the place calls for at this moment. With `fork` a left place calls for nothing, since its peer comes by
     /// the program door.
     pub fn call(&self, at: u64) -> Call
-        ensures { (c : Command) (past : List Act) (p : At) → IsOpening c past p (state_of self.now) → at ≡ moment past → as_call result ≡ place_call c past p }
+        ensures { (c : Command) (past : List Act) (p : At) → IsOpening c past p (state_of self.now) → at ≡ moment past
+            → as_call result ≡ place_call c past p }
     {
         if self.has_door {
             self.peer_call(at)
@@ -222,9 +230,13 @@ impl Opening {
 
     /// The place was opened.
     pub fn opened(&mut self, place: Place)
-        ensures goes { (c : Command) (past : List Act) (p : At) → IsOpening c past p (state_of self.old) → IsOpening c (acts.Opened place ∷ past) p (state_of self.new) }
-        ensures apart { is_place place (state_of self.old) ≡ false → is_own_door place (state_of self.old) ≡ false → state_of self.new ≡ state_of self.old }
-        ensures fewer { is_place place (state_of self.old) ≡ true → is_own_door place (state_of self.old) ≡ false → stage_weight (as_stage self.old.stage) self.old.woken self.old.tried ≡ 2 → steps_of (state_of self.new) < steps_of (state_of self.old) }
+        ensures goes { (c : Command) (past : List Act) (p : At) → IsOpening c past p (state_of self.old)
+            → IsOpening c (acts.Opened place ∷ past) p (state_of self.new) }
+        ensures apart { is_place place (state_of self.old) ≡ false → is_own_door place (state_of self.old) ≡ false
+            → state_of self.new ≡ state_of self.old }
+        ensures fewer { is_place place (state_of self.old) ≡ true → is_own_door place (state_of self.old) ≡ false
+            → stage_weight (as_stage self.old.stage) self.old.woken self.old.tried ≡ 2
+            → steps_of (state_of self.new) < steps_of (state_of self.old) }
         ensures asked { (p : At) → asked_by p (state_of self.new) ≡ asked_by p (state_of self.old) }
     {
         self.stage = self.stage.after(place.is(self.place), Stage::Usable);
@@ -233,9 +245,13 @@ impl Opening {
 
     /// The opening of the place is under way.
     pub fn opened_later(&mut self, place: Place)
-        ensures goes { (c : Command) (past : List Act) (p : At) → IsOpening c past p (state_of self.old) → IsOpening c (acts.OpenLater place ∷ past) p (state_of self.new) }
-        ensures apart { is_place place (state_of self.old) ≡ false → is_own_door place (state_of self.old) ≡ false → state_of self.new ≡ state_of self.old }
-        ensures fewer { is_place place (state_of self.old) ≡ true → is_own_door place (state_of self.old) ≡ false → stage_weight (as_stage self.old.stage) self.old.woken self.old.tried ≡ 2 → steps_of (state_of self.new) < steps_of (state_of self.old) }
+        ensures goes { (c : Command) (past : List Act) (p : At) → IsOpening c past p (state_of self.old)
+            → IsOpening c (acts.OpenLater place ∷ past) p (state_of self.new) }
+        ensures apart { is_place place (state_of self.old) ≡ false → is_own_door place (state_of self.old) ≡ false
+            → state_of self.new ≡ state_of self.old }
+        ensures fewer { is_place place (state_of self.old) ≡ true → is_own_door place (state_of self.old) ≡ false
+            → stage_weight (as_stage self.old.stage) self.old.woken self.old.tried ≡ 2
+            → steps_of (state_of self.new) < steps_of (state_of self.old) }
         ensures asked { (p : At) → asked_by p (state_of self.new) ≡ asked_by p (state_of self.old) }
     {
         self.stage = self.stage.after(place.is(self.place), Stage::Unsettled);
@@ -245,9 +261,14 @@ impl Opening {
 
     /// The opening of a place that doesn't listen failed at this moment.
     pub fn open_failed(&mut self, place: Place, at: u64)
-        ensures goes { (c : Command) (past : List Act) (p : At) → IsOpening c past p (state_of self.old) → listens_at c place ≡ false → at ≡ moment past → IsOpening c (acts.OpenFailed place ∷ past) p (state_of self.new) }
-        ensures apart { is_place place (state_of self.old) ≡ false → is_own_door place (state_of self.old) ≡ false → state_of self.new ≡ state_of self.old }
-        ensures fewer { is_place place (state_of self.old) ≡ true → is_own_door place (state_of self.old) ≡ false → self.old.has_door ≡ false → stage_weight (as_stage self.old.stage) self.old.woken self.old.tried ≡ 2 → steps_of (state_of self.new) < steps_of (state_of self.old) }
+        ensures goes { (c : Command) (past : List Act) (p : At) → IsOpening c past p (state_of self.old)
+            → listens_at c place ≡ false → at ≡ moment past
+            → IsOpening c (acts.OpenFailed place ∷ past) p (state_of self.new) }
+        ensures apart { is_place place (state_of self.old) ≡ false → is_own_door place (state_of self.old) ≡ false
+            → state_of self.new ≡ state_of self.old }
+        ensures fewer { is_place place (state_of self.old) ≡ true → is_own_door place (state_of self.old) ≡ false
+            → self.old.has_door ≡ false → stage_weight (as_stage self.old.stage) self.old.woken self.old.tried ≡ 2
+            → steps_of (state_of self.new) < steps_of (state_of self.old) }
         ensures asked { (p : At) → asked_by p (state_of self.new) ≡ asked_by p (state_of self.old) }
     {
         self.stage = self.stage.after(place.is(self.place), Stage::Failed);
@@ -260,21 +281,29 @@ impl Opening {
 
     /// A door listens.
     pub fn listening(&mut self, door: Place)
-        ensures goes { (c : Command) (past : List Act) (p : At) → IsOpening c past p (state_of self.old) → IsOpening c (acts.Listening door ∷ past) p (state_of self.new) }
-        ensures apart { is_place door (state_of self.old) ≡ false → is_own_door door (state_of self.old) ≡ false → state_of self.new ≡ state_of self.old }
-        ensures fewer { is_place door (state_of self.old) ≡ false → is_own_door door (state_of self.old) ≡ true → stage_weight (as_stage self.old.door) false self.old.tried ≡ 2 → steps_of (state_of self.new) < steps_of (state_of self.old) }
+        ensures goes { (c : Command) (past : List Act) (p : At) → IsOpening c past p (state_of self.old)
+            → IsOpening c (acts.Listening door ∷ past) p (state_of self.new) }
+        ensures apart { is_place door (state_of self.old) ≡ false → is_own_door door (state_of self.old) ≡ false
+            → state_of self.new ≡ state_of self.old }
+        ensures fewer { is_place door (state_of self.old) ≡ false → is_own_door door (state_of self.old) ≡ true
+            → stage_weight (as_stage self.old.door) false self.old.tried ≡ 2
+            → steps_of (state_of self.new) < steps_of (state_of self.old) }
         ensures asked { (p : At) → asked_by p (state_of self.new) ≡ asked_by p (state_of self.old) }
     {
         self.stage = self.stage.after(door.is(self.place), Stage::Waiting);
         self.door = self.door.after(self.is_own_door(door), Stage::Waiting);
-        self.armed = either(self.is_own_door(door), self.armed);
+        self.armed = self.is_own_door(door) | self.armed;
     }
 
     /// The listening of a door failed at this moment.
     pub fn listen_failed(&mut self, door: Place, at: u64)
-        ensures goes { (c : Command) (past : List Act) (p : At) → IsOpening c past p (state_of self.old) → door.door ≡ true → at ≡ moment past → IsOpening c (acts.ListenFailed door ∷ past) p (state_of self.new) }
-        ensures apart { is_place door (state_of self.old) ≡ false → is_own_door door (state_of self.old) ≡ false → state_of self.new ≡ state_of self.old }
-        ensures fewer { is_place door (state_of self.old) ≡ false → is_own_door door (state_of self.old) ≡ true → stage_weight (as_stage self.old.door) false self.old.tried ≡ 2 → steps_of (state_of self.new) < steps_of (state_of self.old) }
+        ensures goes { (c : Command) (past : List Act) (p : At) → IsOpening c past p (state_of self.old) → door.door ≡ true
+            → at ≡ moment past → IsOpening c (acts.ListenFailed door ∷ past) p (state_of self.new) }
+        ensures apart { is_place door (state_of self.old) ≡ false → is_own_door door (state_of self.old) ≡ false
+            → state_of self.new ≡ state_of self.old }
+        ensures fewer { is_place door (state_of self.old) ≡ false → is_own_door door (state_of self.old) ≡ true
+            → stage_weight (as_stage self.old.door) false self.old.tried ≡ 2
+            → steps_of (state_of self.new) < steps_of (state_of self.old) }
         ensures asked { (p : At) → asked_by p (state_of self.new) ≡ asked_by p (state_of self.old) }
     {
         self.stage = self.stage.after(door.is(self.place), Stage::Failed);
@@ -288,21 +317,27 @@ impl Opening {
     /// A peer was accepted for the place.
     #[tactic(auto, using(crate::proofs::PlaceLemmas::accepts_for))]
     pub fn accepted(&mut self, place: Place, peer: Peer)
-        ensures goes { (c : Command) (past : List Act) (p : At) → IsOpening c past p (state_of self.old) → place.door ≡ false → IsOpening c (acts.Accepted place peer ∷ past) p (state_of self.new) }
-        ensures apart { is_place place (state_of self.old) ≡ false → is_own_door place (state_of self.old) ≡ false → state_of self.new ≡ state_of self.old }
-        ensures fewer { is_place place (state_of self.old) ≡ true → is_own_door place (state_of self.old) ≡ false → self.old.asked ≡ false → steps_of (state_of self.new) < steps_of (state_of self.old) }
+        ensures goes { (c : Command) (past : List Act) (p : At) → IsOpening c past p (state_of self.old) → place.door ≡ false
+            → IsOpening c (acts.Accepted place peer ∷ past) p (state_of self.new) }
+        ensures apart { is_place place (state_of self.old) ≡ false → is_own_door place (state_of self.old) ≡ false
+            → state_of self.new ≡ state_of self.old }
+        ensures fewer { is_place place (state_of self.old) ≡ true → is_own_door place (state_of self.old) ≡ false
+            → self.old.asked ≡ false → steps_of (state_of self.new) < steps_of (state_of self.old) }
         ensures asked { (p : At) → asked_by p (state_of self.new) ≡ asked_by p (state_of self.old) }
     {
         self.stage = self.stage.after(place.is(self.place), Stage::Met(peer));
         self.door = self.door.after(self.is_own_door(place), Stage::Met(peer));
-        self.asked = either(place.is(self.place), self.asked);
+        self.asked = place.is(self.place) | self.asked;
     }
 
     /// No peer stood at the door.
     pub fn no_peer(&mut self, door: Place)
-        ensures goes { (c : Command) (past : List Act) (p : At) → IsOpening c past p (state_of self.old) → IsOpening c (acts.NoPeer door ∷ past) p (state_of self.new) }
-        ensures apart { is_place door (state_of self.old) ≡ false → is_own_door door (state_of self.old) ≡ false → state_of self.new ≡ state_of self.old }
-        ensures fewer { is_place door (state_of self.old) ≡ false → is_own_door door (state_of self.old) ≡ true → self.old.asked ≡ false → steps_of (state_of self.new) < steps_of (state_of self.old) }
+        ensures goes { (c : Command) (past : List Act) (p : At) → IsOpening c past p (state_of self.old)
+            → IsOpening c (acts.NoPeer door ∷ past) p (state_of self.new) }
+        ensures apart { is_place door (state_of self.old) ≡ false → is_own_door door (state_of self.old) ≡ false
+            → state_of self.new ≡ state_of self.old }
+        ensures fewer { is_place door (state_of self.old) ≡ false → is_own_door door (state_of self.old) ≡ true
+            → self.old.asked ≡ false → steps_of (state_of self.new) < steps_of (state_of self.old) }
         ensures asked { (p : At) → asked_by p (state_of self.new) ≡ asked_by p (state_of self.old) }
         ensures still { Alike (state_of self.old) (state_of self.new) }
     {
@@ -313,21 +348,28 @@ impl Opening {
 
     /// An accepting failed at the door.
     pub fn accept_failed(&mut self, door: Place)
-        ensures goes { (c : Command) (past : List Act) (p : At) → IsOpening c past p (state_of self.old) → IsOpening c (acts.AcceptFailed door ∷ past) p (state_of self.new) }
-        ensures apart { is_place door (state_of self.old) ≡ false → is_own_door door (state_of self.old) ≡ false → state_of self.new ≡ state_of self.old }
-        ensures fewer { is_place door (state_of self.old) ≡ false → is_own_door door (state_of self.old) ≡ true → self.old.asked ≡ false → steps_of (state_of self.new) < steps_of (state_of self.old) }
+        ensures goes { (c : Command) (past : List Act) (p : At) → IsOpening c past p (state_of self.old)
+            → IsOpening c (acts.AcceptFailed door ∷ past) p (state_of self.new) }
+        ensures apart { is_place door (state_of self.old) ≡ false → is_own_door door (state_of self.old) ≡ false
+            → state_of self.new ≡ state_of self.old }
+        ensures fewer { is_place door (state_of self.old) ≡ false → is_own_door door (state_of self.old) ≡ true
+            → self.old.asked ≡ false → steps_of (state_of self.new) < steps_of (state_of self.old) }
         ensures asked { (p : At) → asked_by p (state_of self.new) ≡ asked_by p (state_of self.old) }
         ensures still { Alike (state_of self.old) (state_of self.new) }
     {
-        self.asked = either(self.is_own_door(door), self.asked);
+        self.asked = self.is_own_door(door) | self.asked;
     }
 
     /// The place or door was closed.
     pub fn closed(&mut self, thing: Place, why: Why)
-        ensures goes { (c : Command) (past : List Act) (p : At) → IsOpening c past p (state_of self.old) → IsOpening c (acts.Closed thing why ∷ past) p (state_of self.new) }
-        ensures apart { is_place thing (state_of self.old) ≡ false → is_own_door thing (state_of self.old) ≡ false → state_of self.new ≡ state_of self.old }
-        ensures fewer_places { is_place thing (state_of self.old) ≡ true → is_own_door thing (state_of self.old) ≡ false → holds_at (as_stage self.old.stage) ≡ true → steps_of (state_of self.new) < steps_of (state_of self.old) }
-        ensures fewer_doors { is_place thing (state_of self.old) ≡ false → is_own_door thing (state_of self.old) ≡ true → holds_at (as_stage self.old.door) ≡ true → steps_of (state_of self.new) < steps_of (state_of self.old) }
+        ensures goes { (c : Command) (past : List Act) (p : At) → IsOpening c past p (state_of self.old)
+            → IsOpening c (acts.Closed thing why ∷ past) p (state_of self.new) }
+        ensures apart { is_place thing (state_of self.old) ≡ false → is_own_door thing (state_of self.old) ≡ false
+            → state_of self.new ≡ state_of self.old }
+        ensures fewer_places { is_place thing (state_of self.old) ≡ true → is_own_door thing (state_of self.old) ≡ false
+            → holds_at (as_stage self.old.stage) ≡ true → steps_of (state_of self.new) < steps_of (state_of self.old) }
+        ensures fewer_doors { is_place thing (state_of self.old) ≡ false → is_own_door thing (state_of self.old) ≡ true
+            → holds_at (as_stage self.old.door) ≡ true → steps_of (state_of self.new) < steps_of (state_of self.old) }
         ensures asked { (p : At) → asked_by p (state_of self.new) ≡ asked_by p (state_of self.old) }
     {
         self.stage = self.stage.after(thing.is(self.place), Stage::Gone(why));
@@ -337,8 +379,10 @@ impl Opening {
 
     /// The child of the place was reaped, or there was none.
     pub fn reaped(&mut self, place: Place)
-        ensures goes { (c : Command) (past : List Act) (p : At) (end : Ending) → IsOpening c past p (state_of self.old) → IsOpening c (acts.Reaped place end ∷ past) p (state_of self.new) }
-        ensures childless { (c : Command) (past : List Act) (p : At) → IsOpening c past p (state_of self.old) → IsOpening c past p (state_of self.new) }
+        ensures goes { (c : Command) (past : List Act) (p : At) (end : Ending) → IsOpening c past p (state_of self.old)
+            → IsOpening c (acts.Reaped place end ∷ past) p (state_of self.new) }
+        ensures childless { (c : Command) (past : List Act) (p : At) → IsOpening c past p (state_of self.old)
+            → IsOpening c past p (state_of self.new) }
         ensures apart { asks_child place (state_of self.old) ≡ false → state_of self.new ≡ state_of self.old }
         ensures fewer { asks_child place (state_of self.old) ≡ true → steps_of (state_of self.new) < steps_of (state_of self.old) }
         ensures asked { (p : At) → asked_by p (state_of self.new) ≡ true → (asked_by p (state_of self.old) || same_place place p) ≡ true }
@@ -349,7 +393,9 @@ impl Opening {
 
     /// A wait has returned that names nothing yet.
     pub fn woken(&mut self)
-        ensures goes { (c : Command) (past : List Act) (p : At) (until : Option ℕ) (at : ℕ) → IsOpening c past p (state_of self.old) → IsOpening c (acts.Turn until at (kept []) false ∷ past) p (state_of self.new) }
+        ensures goes { (c : Command) (past : List Act) (p : At) (until : Option ℕ) (at : ℕ)
+            → IsOpening c past p (state_of self.old)
+            → IsOpening c (acts.Turn until at (kept []) false ∷ past) p (state_of self.new) }
         ensures asked { (p : At) → asked_by p (state_of self.new) ≡ asked_by p (state_of self.old) }
         ensures still { Alike (state_of self.old) (state_of self.new) }
     {
@@ -359,13 +405,15 @@ impl Opening {
 
     /// The last turn names this half too.
     pub fn named(&mut self, entry: ReadyAt)
-        ensures goes { (c : Command) (past : List Act) (p : At) (until : Option ℕ) (at : ℕ) (names : List Entry) → IsOpening c (acts.Turn until at (kept names) false ∷ past) p (state_of self.old) → IsOpening c (acts.Turn until at (kept (names ++ entry ∷ [])) false ∷ past) p (state_of self.new) }
+        ensures goes { (c : Command) (past : List Act) (p : At) (until : Option ℕ) (at : ℕ) (names : List Entry)
+            → IsOpening c (acts.Turn until at (kept names) false ∷ past) p (state_of self.old)
+            → IsOpening c (acts.Turn until at (kept (names ++ entry ∷ [])) false ∷ past) p (state_of self.new) }
         ensures asked { (p : At) → asked_by p (state_of self.new) ≡ asked_by p (state_of self.old) }
         ensures still { Alike (state_of self.old) (state_of self.new) }
     {
-        let is_armed = both(self.is_own_door(entry.place), is_to_read(entry.half));
-        self.woken = either(self.woken, entry.place.is(self.place));
-        self.armed = either(self.armed, is_armed);
+        let is_armed = self.is_own_door(entry.place) & is_to_read(entry.half);
+        self.woken |= entry.place.is(self.place);
+        self.armed |= is_armed;
     }
 }
 
@@ -389,19 +437,6 @@ fn is_end_of_tries(next: NextTry) -> bool
     }
 }
 
-pub(crate) fn is_same(one: bool, other: bool) -> bool
-    ensures { result ≡ same_bool one other }
-{
-    if one { other } else { !other }
-}
-
-/// Whether one of the two holds.
-fn either(one: bool, other: bool) -> bool
-    ensures { result ≡ (one || other) }
-{
-    one || other
-}
-
 fn is_to_read(half: Half) -> bool
     ensures { result ≡ same_half half ToRead }
 {
@@ -409,11 +444,4 @@ fn is_to_read(half: Half) -> bool
         Half::ToRead => true,
         Half::ToWrite => false,
     }
-}
-
-/// Whether both hold.
-fn both(one: bool, other: bool) -> bool
-    ensures { result ≡ (one && other) }
-{
-    one && other
 }

@@ -90,7 +90,8 @@ impl Openings {
 
     /// What the first place that isn't ready calls for at this moment.
     pub fn call(&self, at: u64) -> Call
-        ensures { (c : Command) (past : List Act) (s : ℕ) → AreOpenings c past s self.now → at ≡ moment past → as_call result ≡ first_call c past (places c s) }
+        ensures { (c : Command) (past : List Act) (s : ℕ) → AreOpenings c past s self.now → at ≡ moment past
+            → as_call result ≡ first_call c past (places c s) }
     {
         if self.summary.ready {
             return Call::Nothing;
@@ -103,7 +104,8 @@ impl Openings {
 
     /// Where an accepting is called for, whether the door was asked since the last turn.
     pub fn has_asked(&self) -> bool
-        ensures { (c : Command) (past : List Act) (s : ℕ) (door place : At) → AreOpenings c past s self.now → first_call c past (places c s) ≡ calls.Accept door place → result ≡ asked_to_accept c past door }
+        ensures { (c : Command) (past : List Act) (s : ℕ) (door place : At) → AreOpenings c past s self.now
+            → first_call c past (places c s) ≡ calls.Accept door place → result ≡ asked_to_accept c past door }
     {
         match first_unready(self.as_slice()) {
             Some(opening) => opening.asked,
@@ -120,14 +122,17 @@ impl Openings {
 
     /// Why the session ends, where no try is left at one of its places or doors.
     pub fn given_up(&self) -> Option<Why>
-        ensures { (c : Command) (past : List Act) (s : ℕ) → AreOpenings c past s self.now → result ≡ or_else (only_if (listening_failed c past s) whys.ListenFailed) (only_if (opening_failed c past s) whys.OpenFailed) }
+        ensures { (c : Command) (past : List Act) (s : ℕ) → AreOpenings c past s self.now
+            → result ≡ or_else (only_if (listening_failed c past s) whys.ListenFailed) (only_if
+            (opening_failed c past s) whys.OpenFailed) }
     {
         self.summary.given_up
     }
 
     /// A place or own door of the session that is held.
     pub fn held(&self) -> Option<Place>
-        ensures some { (c : Command) (past : List Act) (s : ℕ) (q : At) → AreOpenings c past s self.now → result ≡ Some q → (held past q ≡ true) × (is_of c s q ≡ true) }
+        ensures some { (c : Command) (past : List Act) (s : ℕ) (q : At) → AreOpenings c past s self.now → result ≡ Some q
+            → (held past q ≡ true) × (is_of c s q ≡ true) }
         ensures none { (c : Command) (past : List Act) (s : ℕ) → AreOpenings c past s self.now → result ≡ None → holds c past s ≡ false }
     {
         first_held(self.as_slice())
@@ -135,7 +140,9 @@ impl Openings {
 
     /// A child that was closed and wasn't asked for yet.
     pub fn child(&self) -> Option<Place>
-        ensures some { (c : Command) (past : List Act) (s : ℕ) (p : At) → AreOpenings c past s self.now → result ≡ Some p → (is_program (medium_of c p) ≡ true) × (was_closed past p ≡ true) × (was_reaped past p ≡ false) × (is_place_of c s p ≡ true) }
+        ensures some { (c : Command) (past : List Act) (s : ℕ) (p : At) → AreOpenings c past s self.now → result ≡ Some p
+            → (is_program (medium_of c p) ≡ true) × (was_closed past p ≡ true) × (was_reaped past p
+            ≡ false) × (is_place_of c s p ≡ true) }
         ensures none { result ≡ None → first_of child_by self.now ≡ None }
         ensures state { result ≡ first_of child_by self.now }
     {
@@ -162,9 +169,12 @@ impl Openings {
 
     /// The place was opened.
     pub fn opened(&mut self, place: Place)
-        ensures goes { (c : Command) (past : List Act) (s : ℕ) → AreOpenings c past s self.old → AreOpenings c (acts.Opened place ∷ past) s self.new }
-        ensures fewer_opening { (c : Command) (past : List Act) (s : ℕ) → AreOpenings c past s self.old → first_call c past (places c s) ≡ calls.Open place → steps_in self.new < steps_in self.old }
-        ensures fewer_settling { (c : Command) (past : List Act) (s : ℕ) → AreOpenings c past s self.old → first_call c past (places c s) ≡ calls.Settle place → steps_in self.new < steps_in self.old }
+        ensures goes { (c : Command) (past : List Act) (s : ℕ) → AreOpenings c past s self.old
+            → AreOpenings c (acts.Opened place ∷ past) s self.new }
+        ensures fewer_opening { (c : Command) (past : List Act) (s : ℕ) → AreOpenings c past s self.old
+            → first_call c past (places c s) ≡ calls.Open place → steps_in self.new < steps_in self.old }
+        ensures fewer_settling { (c : Command) (past : List Act) (s : ℕ) → AreOpenings c past s self.old
+            → first_call c past (places c s) ≡ calls.Settle place → steps_in self.new < steps_in self.old }
         ensures asked { (p : At) → has_asked self.new p ≡ true → has_asked self.old p ≡ true }
     {
         self.take(Step::Opened(place));
@@ -172,9 +182,12 @@ impl Openings {
 
     /// The opening of the place is under way.
     pub fn opened_later(&mut self, place: Place)
-        ensures goes { (c : Command) (past : List Act) (s : ℕ) → AreOpenings c past s self.old → AreOpenings c (acts.OpenLater place ∷ past) s self.new }
-        ensures fewer_opening { (c : Command) (past : List Act) (s : ℕ) → AreOpenings c past s self.old → first_call c past (places c s) ≡ calls.Open place → steps_in self.new < steps_in self.old }
-        ensures fewer_settling { (c : Command) (past : List Act) (s : ℕ) → AreOpenings c past s self.old → first_call c past (places c s) ≡ calls.Settle place → steps_in self.new < steps_in self.old }
+        ensures goes { (c : Command) (past : List Act) (s : ℕ) → AreOpenings c past s self.old
+            → AreOpenings c (acts.OpenLater place ∷ past) s self.new }
+        ensures fewer_opening { (c : Command) (past : List Act) (s : ℕ) → AreOpenings c past s self.old
+            → first_call c past (places c s) ≡ calls.Open place → steps_in self.new < steps_in self.old }
+        ensures fewer_settling { (c : Command) (past : List Act) (s : ℕ) → AreOpenings c past s self.old
+            → first_call c past (places c s) ≡ calls.Settle place → steps_in self.new < steps_in self.old }
         ensures asked { (p : At) → has_asked self.new p ≡ true → has_asked self.old p ≡ true }
     {
         self.take(Step::OpenedLater(place));
@@ -182,9 +195,12 @@ impl Openings {
 
     /// The opening of a place that doesn't listen failed at this moment.
     pub fn open_failed(&mut self, place: Place, at: u64)
-        ensures goes { (c : Command) (past : List Act) (s : ℕ) → AreOpenings c past s self.old → listens_at c place ≡ false → at ≡ moment past → AreOpenings c (acts.OpenFailed place ∷ past) s self.new }
-        ensures fewer_opening { (c : Command) (past : List Act) (s : ℕ) → AreOpenings c past s self.old → first_call c past (places c s) ≡ calls.Open place → steps_in self.new < steps_in self.old }
-        ensures fewer_settling { (c : Command) (past : List Act) (s : ℕ) → AreOpenings c past s self.old → first_call c past (places c s) ≡ calls.Settle place → steps_in self.new < steps_in self.old }
+        ensures goes { (c : Command) (past : List Act) (s : ℕ) → AreOpenings c past s self.old → listens_at c place ≡ false
+            → at ≡ moment past → AreOpenings c (acts.OpenFailed place ∷ past) s self.new }
+        ensures fewer_opening { (c : Command) (past : List Act) (s : ℕ) → AreOpenings c past s self.old
+            → first_call c past (places c s) ≡ calls.Open place → steps_in self.new < steps_in self.old }
+        ensures fewer_settling { (c : Command) (past : List Act) (s : ℕ) → AreOpenings c past s self.old
+            → first_call c past (places c s) ≡ calls.Settle place → steps_in self.new < steps_in self.old }
         ensures asked { (p : At) → has_asked self.new p ≡ true → has_asked self.old p ≡ true }
     {
         self.take(Step::OpenFailed { place, at });
@@ -192,8 +208,10 @@ impl Openings {
 
     /// A door listens.
     pub fn listening(&mut self, door: Place)
-        ensures goes { (c : Command) (past : List Act) (s : ℕ) → AreOpenings c past s self.old → AreOpenings c (acts.Listening door ∷ past) s self.new }
-        ensures fewer { (c : Command) (past : List Act) (s : ℕ) → AreOpenings c past s self.old → first_call c past (places c s) ≡ calls.Listen door → steps_in self.new < steps_in self.old }
+        ensures goes { (c : Command) (past : List Act) (s : ℕ) → AreOpenings c past s self.old
+            → AreOpenings c (acts.Listening door ∷ past) s self.new }
+        ensures fewer { (c : Command) (past : List Act) (s : ℕ) → AreOpenings c past s self.old
+            → first_call c past (places c s) ≡ calls.Listen door → steps_in self.new < steps_in self.old }
         ensures asked { (p : At) → has_asked self.new p ≡ true → has_asked self.old p ≡ true }
     {
         self.take(Step::Listening(door));
@@ -201,8 +219,10 @@ impl Openings {
 
     /// The listening of a door failed at this moment.
     pub fn listen_failed(&mut self, door: Place, at: u64)
-        ensures goes { (c : Command) (past : List Act) (s : ℕ) → AreOpenings c past s self.old → door.door ≡ true → at ≡ moment past → AreOpenings c (acts.ListenFailed door ∷ past) s self.new }
-        ensures fewer { (c : Command) (past : List Act) (s : ℕ) → AreOpenings c past s self.old → first_call c past (places c s) ≡ calls.Listen door → steps_in self.new < steps_in self.old }
+        ensures goes { (c : Command) (past : List Act) (s : ℕ) → AreOpenings c past s self.old → door.door ≡ true
+            → at ≡ moment past → AreOpenings c (acts.ListenFailed door ∷ past) s self.new }
+        ensures fewer { (c : Command) (past : List Act) (s : ℕ) → AreOpenings c past s self.old
+            → first_call c past (places c s) ≡ calls.Listen door → steps_in self.new < steps_in self.old }
         ensures asked { (p : At) → has_asked self.new p ≡ true → has_asked self.old p ≡ true }
     {
         self.take(Step::ListenFailed { door, at });
@@ -210,8 +230,11 @@ impl Openings {
 
     /// A peer was accepted for the place.
     pub fn accepted(&mut self, place: Place, peer: Peer)
-        ensures goes { (c : Command) (past : List Act) (s : ℕ) → AreOpenings c past s self.old → place.door ≡ false → AreOpenings c (acts.Accepted place peer ∷ past) s self.new }
-        ensures fewer { (c : Command) (past : List Act) (s : ℕ) (door : At) → AreOpenings c past s self.old → first_call c past (places c s) ≡ calls.Accept door place → asked_to_accept c past door ≡ false → steps_in self.new < steps_in self.old }
+        ensures goes { (c : Command) (past : List Act) (s : ℕ) → AreOpenings c past s self.old → place.door ≡ false
+            → AreOpenings c (acts.Accepted place peer ∷ past) s self.new }
+        ensures fewer { (c : Command) (past : List Act) (s : ℕ) (door : At) → AreOpenings c past s self.old
+            → first_call c past (places c s) ≡ calls.Accept door place → asked_to_accept c past door ≡ false
+            → steps_in self.new < steps_in self.old }
         ensures asked { (p : At) → has_asked self.new p ≡ true → has_asked self.old p ≡ true }
     {
         self.take(Step::Accepted { place, peer });
@@ -219,8 +242,11 @@ impl Openings {
 
     /// No peer stood at the door.
     pub fn no_peer(&mut self, door: Place)
-        ensures goes { (c : Command) (past : List Act) (s : ℕ) → AreOpenings c past s self.old → AreOpenings c (acts.NoPeer door ∷ past) s self.new }
-        ensures fewer { (c : Command) (past : List Act) (s : ℕ) (place : At) → AreOpenings c past s self.old → first_call c past (places c s) ≡ calls.Accept door place → asked_to_accept c past door ≡ false → steps_in self.new < steps_in self.old }
+        ensures goes { (c : Command) (past : List Act) (s : ℕ) → AreOpenings c past s self.old
+            → AreOpenings c (acts.NoPeer door ∷ past) s self.new }
+        ensures fewer { (c : Command) (past : List Act) (s : ℕ) (place : At) → AreOpenings c past s self.old
+            → first_call c past (places c s) ≡ calls.Accept door place → asked_to_accept c past door ≡ false
+            → steps_in self.new < steps_in self.old }
         ensures asked { (p : At) → has_asked self.new p ≡ true → has_asked self.old p ≡ true }
     {
         self.take(Step::NoPeer(door));
@@ -228,8 +254,11 @@ impl Openings {
 
     /// An accepting failed at the door.
     pub fn accept_failed(&mut self, door: Place)
-        ensures goes { (c : Command) (past : List Act) (s : ℕ) → AreOpenings c past s self.old → AreOpenings c (acts.AcceptFailed door ∷ past) s self.new }
-        ensures fewer { (c : Command) (past : List Act) (s : ℕ) (place : At) → AreOpenings c past s self.old → first_call c past (places c s) ≡ calls.Accept door place → asked_to_accept c past door ≡ false → steps_in self.new < steps_in self.old }
+        ensures goes { (c : Command) (past : List Act) (s : ℕ) → AreOpenings c past s self.old
+            → AreOpenings c (acts.AcceptFailed door ∷ past) s self.new }
+        ensures fewer { (c : Command) (past : List Act) (s : ℕ) (place : At) → AreOpenings c past s self.old
+            → first_call c past (places c s) ≡ calls.Accept door place → asked_to_accept c past door ≡ false
+            → steps_in self.new < steps_in self.old }
         ensures asked { (p : At) → has_asked self.new p ≡ true → has_asked self.old p ≡ true }
     {
         self.take(Step::AcceptFailed(door));
@@ -237,10 +266,14 @@ impl Openings {
 
     /// The place or door was closed.
     pub fn closed(&mut self, thing: Place, why: Why)
-        ensures goes { (c : Command) (past : List Act) (s : ℕ) → AreOpenings c past s self.old → AreOpenings c (acts.Closed thing why ∷ past) s self.new }
-        ensures fewer { (c : Command) (past : List Act) (s : ℕ) → AreOpenings c past s self.old → held past thing ≡ true → is_of c s thing ≡ true → steps_in self.new < steps_in self.old }
-        ensures fewer_refusing { (c : Command) (past : List Act) (s : ℕ) → AreOpenings c past s self.old → first_call c past (places c s) ≡ calls.Refuse thing → steps_in self.new < steps_in self.old }
-        ensures fewer_serving { (c : Command) (past : List Act) (s : ℕ) → AreOpenings c past s self.old → first_call c past (places c s) ≡ calls.Serve thing → steps_in self.new < steps_in self.old }
+        ensures goes { (c : Command) (past : List Act) (s : ℕ) → AreOpenings c past s self.old
+            → AreOpenings c (acts.Closed thing why ∷ past) s self.new }
+        ensures fewer { (c : Command) (past : List Act) (s : ℕ) → AreOpenings c past s self.old → held past thing ≡ true
+            → is_of c s thing ≡ true → steps_in self.new < steps_in self.old }
+        ensures fewer_refusing { (c : Command) (past : List Act) (s : ℕ) → AreOpenings c past s self.old
+            → first_call c past (places c s) ≡ calls.Refuse thing → steps_in self.new < steps_in self.old }
+        ensures fewer_serving { (c : Command) (past : List Act) (s : ℕ) → AreOpenings c past s self.old
+            → first_call c past (places c s) ≡ calls.Serve thing → steps_in self.new < steps_in self.old }
         ensures asked { (p : At) → has_asked self.new p ≡ true → has_asked self.old p ≡ true }
     {
         self.take(Step::Closed { thing, why });
@@ -248,7 +281,8 @@ impl Openings {
 
     /// The child of the place was reaped, whatever became of it, or there was none. It isn't asked for again.
     pub fn reaped(&mut self, place: Place)
-        ensures goes { (c : Command) (past : List Act) (s : ℕ) (end : Ending) → AreOpenings c past s self.old → AreOpenings c (acts.Reaped place end ∷ past) s self.new }
+        ensures goes { (c : Command) (past : List Act) (s : ℕ) (end : Ending) → AreOpenings c past s self.old
+            → AreOpenings c (acts.Reaped place end ∷ past) s self.new }
         ensures childless { (c : Command) (past : List Act) (s : ℕ) → AreOpenings c past s self.old → AreOpenings c past s self.new }
         ensures fewer { first_of child_by self.old ≡ Some place → steps_in self.new < steps_in self.old }
         ensures asked { (p : At) → has_asked self.new p ≡ true → (has_asked self.old p || same_place place p) ≡ true }
@@ -258,7 +292,8 @@ impl Openings {
 
     /// A wait has returned that names nothing yet.
     pub fn woken(&mut self)
-        ensures goes { (c : Command) (past : List Act) (s : ℕ) (until : Option ℕ) (at : ℕ) → AreOpenings c past s self.old → AreOpenings c (acts.Turn until at (kept []) false ∷ past) s self.new }
+        ensures goes { (c : Command) (past : List Act) (s : ℕ) (until : Option ℕ) (at : ℕ) → AreOpenings c past s self.old
+            → AreOpenings c (acts.Turn until at (kept []) false ∷ past) s self.new }
         ensures asked { (p : At) → has_asked self.new p ≡ true → has_asked self.old p ≡ true }
     {
         self.take(Step::Woken);
@@ -266,7 +301,9 @@ impl Openings {
 
     /// The last turn names this half too.
     pub fn named(&mut self, entry: ReadyAt)
-        ensures goes { (c : Command) (past : List Act) (s : ℕ) (until : Option ℕ) (at : ℕ) (names : List Entry) → AreOpenings c (acts.Turn until at (kept names) false ∷ past) s self.old → AreOpenings c (acts.Turn until at (kept (names ++ entry ∷ [])) false ∷ past) s self.new }
+        ensures goes { (c : Command) (past : List Act) (s : ℕ) (until : Option ℕ) (at : ℕ) (names : List Entry)
+            → AreOpenings c (acts.Turn until at (kept names) false ∷ past) s self.old
+            → AreOpenings c (acts.Turn until at (kept (names ++ entry ∷ [])) false ∷ past) s self.new }
         ensures asked { (p : At) → has_asked self.new p ≡ true → has_asked self.old p ≡ true }
     {
         self.take(Step::Named(entry));
@@ -274,8 +311,11 @@ impl Openings {
 
     /// A law: an act that doesn't touch the openings leaves them, and so does a stop that a turn tells of.
     pub fn unmoved(&self)
-        ensures stopped { (c : Command) (past : List Act) (s : ℕ) (until : Option ℕ) (at : ℕ) (ready : Listed) → AreOpenings c (acts.Turn until at ready false ∷ past) s self.now → AreOpenings c (acts.Turn until at ready true ∷ past) s self.now }
-        ensures elsewhere { (c : Command) (past : List Act) (s : ℕ) (act : Act) → AreOpenings c past s self.now → touches c s act ≡ false → AreOpenings c (act ∷ past) s self.now }
+        ensures stopped { (c : Command) (past : List Act) (s : ℕ) (until : Option ℕ) (at : ℕ) (ready : Listed)
+            → AreOpenings c (acts.Turn until at ready false ∷ past) s self.now
+            → AreOpenings c (acts.Turn until at ready true ∷ past) s self.now }
+        ensures elsewhere { (c : Command) (past : List Act) (s : ℕ) (act : Act) → AreOpenings c past s self.now
+            → touches c s act ≡ false → AreOpenings c (act ∷ past) s self.now }
     {}
 
     /// One step of each.

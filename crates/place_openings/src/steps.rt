@@ -47,7 +47,8 @@ impl Step {
 impl Opening {
     /// The step, as far as it is at this place or its door.
     pub fn take(&mut self, step: Step)
-        ensures goes { (c : Command) (past later : List Act) (p : At) → Follows c step past later → IsOpening c past p (state_of self.old) → IsOpening c later p (state_of self.new) }
+        ensures goes { (c : Command) (past later : List Act) (p : At) → Follows c step past later
+            → IsOpening c past p (state_of self.old) → IsOpening c later p (state_of self.new) }
         ensures apart { Apart step (state_of self.old) → state_of self.new ≡ state_of self.old }
         ensures fewer { Lower step (state_of self.old) → steps_of (state_of self.new) < steps_of (state_of self.old) }
         ensures asked { (p : At) → asked_by p (state_of self.new) ≡ true → (asked_by p (state_of self.old) || asks_at step p) ≡ true }

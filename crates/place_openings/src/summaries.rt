@@ -37,7 +37,8 @@ impl Summary {
 
     /// What these openings say after the step, where this is what they said before it.
     pub fn after(self, step: Step, openings: &[Opening]) -> Summary
-        ensures { (os : List OpeningState) → Sums self os → TookEach step os (map state_of openings.now) → Sums result (map state_of openings.now) }
+        ensures { (os : List OpeningState) → Sums self os → TookEach step os (map state_of openings.now)
+            → Sums result (map state_of openings.now) }
     {
         if step.is_still() {
             self
@@ -75,7 +76,8 @@ fn why_given_up(openings: &[Opening]) -> Option<Why>
 }
 
 fn some_gave_up(openings: &[Opening], has_door: bool) -> bool
-    ensures { (c : Command) (past : List Act) (ps : List At) → EachTried c past ps (map state_of openings.now) → result ≡ list_any (gave_up c past has_door) ps }
+    ensures { (c : Command) (past : List Act) (ps : List At) → EachTried c past ps (map state_of openings.now)
+        → result ≡ list_any (gave_up c past has_door) ps }
 {
     for opening in openings {
         if opening.gave_up(has_door) {

@@ -13,14 +13,15 @@ use Rattle.port_trait.specs.declared.answers.Took.TheVariants as tooks
 use Rattle.port_trait.specs.declared.answers.Shutting.{Shutting}
 use Rattle.port_trait.specs.declared.answers.Shutting.TheVariants as shuttings
 use Rattle.world_trait.specs.Answers.{Answered, AnsweredAsking, ReadFits, WriteFits, read_act, send_act, write_act}
-use Rattle.desk_ports.specs.declared.bases.Base.{Base}
+use Rattle.port_table.specs.declared.bases.Base.{Base}
 use Rattle.port_desk.specs.Calls.{ReadsSo, WritesSo, SendsSo, ShutsSo}
-use Rattle.desk_ports.specs.Harbors.{CalledAt, EndsAt, Pier, Input, Output, Errors, Made}
-use Rattle.desk_ports.specs.declared.harbor.Harbor.{Harbor}
-use Rattle.desk_ports.proofs.CalledLemmas.{called_map}
-use Rattle.desk_ports.specs.Answers.{GotFits, TookFits}
-use Rattle.desk_ports.specs.Ports.{BerthSeen, PortSeen, Reads, Sends, Shuts, Writes}
+use Rattle.port_table.specs.PortTables.{CalledAt, EndsAt, PortId, Input, Output, Errors, Made}
+use Rattle.port_table.specs.declared.table.PortTable.{PortTable}
+use Rattle.port_table.proofs.CalledLemmas.{called_map}
+use Rattle.port_table.specs.Answers.{GotFits, TookFits}
+use Rattle.port_table.specs.Ports.{EntrySeen, PortSeen, Reads, Sends, Shuts, Writes}
 use Rattle.port_trait.specs.Streams.{finishes}
+use Rattle.world_trait.specs.Seen.{Seen}
 use Rattle.world_trait.specs.declared.answers.OpenAnswer.TheVariants as opens
 use Rattle.desk_places.specs.Changes.{HeldAfter, SettledAt, shut_answer}
 use Rattle.port_desk.specs.Desks.{shut_ends}
@@ -44,41 +45,41 @@ sends_so (tooks.Took n) bytes before now call = (n, call)
 sends_so tooks.NotYet bytes before now call = call
 sends_so tooks.Failed bytes before now call = call
 
--- a call at the pier of a base, as the desk answers it
-pub called_so : {T I O E : Type 0} (slot : Option Base) (pier : Base → Pier) (before now : Harbor T I O E) (C D : PortSeen → PortSeen → Type 0) → ((o n : PortSeen) → C o n → D o n) → IfSome slot (λ base. CalledAt (pier base) before now C) → IfSome slot (λ base. CalledAt (pier base) before now D)
-called_so None pier before now C D f h = tt
-called_so (Some base) pier before now C D f h = called_map false (pier base) before now C D f h
+-- a call at the id of a base, as the desk answers it
+pub called_so : {T I O E : Type 0} (slot : Option Base) (id : Base → PortId) (before now : PortTable T I O E) (C D : PortSeen → PortSeen → Type 0) → ((o n : PortSeen) → C o n → D o n) → IfSome slot (λ base. CalledAt (id base) before now C) → IfSome slot (λ base. CalledAt (id base) before now D)
+called_so None id before now C D f h = tt
+called_so (Some base) id before now C D f h = called_map false (id base) before now C D f h
 
-same_slot : (slot : Option BerthSeen) → IfSome slot (λ o. IfSome slot (λ n. (n.place ≡ o.place) × (n.port ≡ o.port)))
+same_slot : (slot : Option EntrySeen) → IfSome slot (λ o. IfSome slot (λ n. (n.place ≡ o.place) × (n.port ≡ o.port)))
 same_slot None = tt
-same_slot (Some berth) = (refl, refl)
+same_slot (Some entry) = (refl, refl)
 
-not_called_at : {T I O E : Type 0} (pier : Pier) (harbor : Harbor T I O E) → CalledAt pier harbor harbor (λ o n. n ≡ o)
-not_called_at Input harbor = (record { call = refl; begun = refl; finished = refl }, refl, refl, refl)
-not_called_at Output harbor = (refl, record { call = refl; begun = refl; finished = refl }, refl, refl)
-not_called_at Errors harbor = (refl, refl, record { call = refl; begun = refl; finished = refl }, refl)
-not_called_at (Made key) harbor = (refl, refl, refl, record { call = same_slot (get harbor.made key); stands = refl; others = λ other away. refl })
+not_called_at : {T I O E : Type 0} (id : PortId) (table : PortTable T I O E) → CalledAt id table table (λ o n. n ≡ o)
+not_called_at Input table = (record { call = refl; begun = refl; finished = refl }, refl, refl, refl)
+not_called_at Output table = (refl, record { call = refl; begun = refl; finished = refl }, refl, refl)
+not_called_at Errors table = (refl, refl, record { call = refl; begun = refl; finished = refl }, refl)
+not_called_at (Made key) table = (refl, refl, refl, record { call = same_slot (get table.made key); stands = refl; others = λ other away. refl })
 
 -- a desk without memory made no call
-pub not_called : {T I O E : Type 0} (slot : Option Base) (pier : Base → Pier) (harbor : Harbor T I O E) → IfSome slot (λ base. CalledAt (pier base) harbor harbor (λ o n. n ≡ o))
-not_called None pier harbor = tt
-not_called (Some base) pier harbor = not_called_at (pier base) harbor
+pub not_called : {T I O E : Type 0} (slot : Option Base) (id : Base → PortId) (table : PortTable T I O E) → IfSome slot (λ base. CalledAt (id base) table table (λ o n. n ≡ o))
+not_called None id table = tt
+not_called (Some base) id table = not_called_at (id base) table
 
--- a shut at the pier of a base, as the desk answers it
-pub shut_so : {T I O E : Type 0} (slot : Option Base) (pier : Base → Pier) (before now : Harbor T I O E) (how : Shut) (answer : Shutting) → IfSome slot (λ base. EndsAt (finishes how) (pier base) before now (λ o n. Shuts o n how answer)) → IfSome slot (λ base. EndsAt (shut_ends how (shut_answer answer)) (pier base) before now (ShutsSo how (shut_answer answer)))
-shut_so slot pier before now how shuttings.Done h = h
-shut_so slot pier before now how shuttings.Failed h = h
+-- a shut at the id of a base, as the desk answers it
+pub shut_so : {T I O E : Type 0} (slot : Option Base) (id : Base → PortId) (before now : PortTable T I O E) (how : Shut) (answer : Shutting) → IfSome slot (λ base. EndsAt (finishes how) (id base) before now (λ o n. Shuts o n how answer)) → IfSome slot (λ base. EndsAt (shut_ends how (shut_answer answer)) (id base) before now (ShutsSo how (shut_answer answer)))
+shut_so slot id before now how shuttings.Done h = h
+shut_so slot id before now how shuttings.Failed h = h
 
-unsettled_at : {T X I O E : Type 0} (tells : T → PortSeen) (pier : Pier) (harbor : Harbor X I O E) (parents : List BerthSeen) → SettledAt tells pier harbor harbor parents parents opens.Memory
-unsettled_at tells Input harbor parents = (record { call = refl; begun = refl; finished = refl }, refl, refl, refl, refl)
-unsettled_at tells Output harbor parents = (refl, record { call = refl; begun = refl; finished = refl }, refl, refl, refl)
-unsettled_at tells Errors harbor parents = (refl, refl, record { call = refl; begun = refl; finished = refl }, refl, refl)
-unsettled_at tells (Made key) harbor parents = (refl, refl, refl, (refl, refl))
+unsettled_at : {T X I O E : Type 0} (tells : T → PortSeen) (id : PortId) (table : PortTable X I O E) (parents : List EntrySeen) → SettledAt tells id table table parents parents opens.Memory
+unsettled_at tells Input table parents = (record { call = refl; begun = refl; finished = refl }, refl, refl, refl, refl)
+unsettled_at tells Output table parents = (refl, record { call = refl; begun = refl; finished = refl }, refl, refl, refl)
+unsettled_at tells Errors table parents = (refl, refl, record { call = refl; begun = refl; finished = refl }, refl, refl)
+unsettled_at tells (Made key) table parents = (refl, refl, refl, (refl, refl))
 
 -- a settling without memory made none
-pub unsettled : {T X I O E : Type 0} (tells : T → PortSeen) (slot : Option Base) (pier : Base → Pier) (harbor : Harbor X I O E) (parents : List BerthSeen) → IfSome slot (λ base. SettledAt tells (pier base) harbor harbor parents parents opens.Memory)
-unsettled tells None pier harbor parents = tt
-unsettled tells (Some base) pier harbor parents = unsettled_at tells (pier base) harbor parents
+pub unsettled : {T X I O E : Type 0} (tells : T → PortSeen) (slot : Option Base) (id : Base → PortId) (table : PortTable X I O E) (parents : List EntrySeen) → IfSome slot (λ base. SettledAt tells (id base) table table parents parents opens.Memory)
+unsettled tells None id table parents = tt
+unsettled tells (Some base) id table parents = unsettled_at tells (id base) table parents
 
 pub read_fits : (got : Got) (room : ℕ) → GotFits room got → ReadFits room (read_answer got)
 read_fits (gots.Bytes n) room fits = fits
@@ -111,10 +112,10 @@ send_holds tooks.NotYet place bytes before after same = same
 send_holds tooks.Failed place bytes before after same = same
 
 -- what a call did, from what was told and how places stand
-pub answered : (act : Option Act) (told told' : Option History) (before after : Place → Hold) → Tells act told told' → HeldAfter act before after → Answered told told' before after act
-answered None told told' before after tells held = record { told = tells; held = held }
-answered (Some act) told told' before after tells held = record { told = tells; held = held }
+pub answered : (act : Option Act) (old new : Seen) → Tells act old.told new.told → HeldAfter act old.held new.held → Answered old new act
+answered None old new tells held = record { told = tells; held = held }
+answered (Some act) old new tells held = record { told = tells; held = held }
 
-pub answered_asking : (asking : Asking) (act : Option Act) (told told' : Option History) (before after : Place → Hold) → TellsAsking asking act told told' → HeldAfter act before after → AnsweredAsking asking told told' before after act
-answered_asking asking None told told' before after tells held = record { told = tells; held = held }
-answered_asking asking (Some act) told told' before after tells held = record { told = tells; held = held }
+pub answered_asking : (asking : Asking) (act : Option Act) (old new : Seen) → TellsAsking asking act old.told new.told → HeldAfter act old.held new.held → AnsweredAsking asking old new act
+answered_asking asking None old new tells held = record { told = tells; held = held }
+answered_asking asking (Some act) old new tells held = record { told = tells; held = held }

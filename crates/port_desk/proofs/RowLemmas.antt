@@ -8,9 +8,9 @@ use Rattle.port_trait.specs.declared.answers.Got.{Got}
 use Rattle.port_trait.specs.declared.answers.Got.TheVariants as gots
 use Rattle.port_trait.specs.declared.answers.Took.{Took}
 use Rattle.port_trait.specs.declared.answers.Took.TheVariants as tooks
-use Rattle.desk_ports.specs.Answers.{is_got_not_yet, is_took_not_yet}
+use Rattle.port_table.specs.Answers.{is_got_not_yet, is_took_not_yet}
 use Rattle.desk_places.specs.declared.stations.Station.{Station}
-use Rattle.desk_places.specs.Bases.{SameBases}
+use Rattle.desk_places.specs.PlaceBases.{SameBases}
 use Rattle.desk_places.specs.Stations.{SetsStation, base_at, base_by, station_at, with_half}
 use Rattle.desk_places.proofs.PlaceLemmas.{same_place-eq}
 use Rattle.port_desk.specs.Desks.{Marked, read_mark, send_mark, write_mark}

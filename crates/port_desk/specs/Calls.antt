@@ -7,8 +7,8 @@ use Rattle.relay_model.specs.declared.places.Half.{Half}
 use Rattle.relay_model.specs.declared.places.Place.{Place}
 use Rattle.relay_model.specs.declared.readiness.ReadyAt.{ReadyAt}
 use Rattle.desk_places.specs.Marks.{SameMarks}
-use Rattle.desk_ports.specs.Harbors.{StreamNotes}
-use Rattle.desk_ports.specs.Ports.{PortSeen, StreamSeen, Reads, Writes, Sends, Shuts}
+use Rattle.port_table.specs.PortTables.{StreamNotes}
+use Rattle.port_table.specs.Ports.{PortSeen, StreamSeen, Reads, Writes, Sends, Shuts}
 use Rattle.port_trait.specs.declared.answers.Got.TheVariants as gots
 use Rattle.port_trait.specs.declared.answers.Took.TheVariants as tooks
 use Rattle.port_trait.specs.declared.answers.Shutting.TheVariants as shuttings

@@ -1,14 +1,13 @@
 -- What a call makes of a desk, in one word for each thing that it may change: what is kept of it, and the ports.
 use Rattle.std.specs.Prelude.{◌≡◌, Bool, true, false, Option, None, Some, IfSome, option_map}
-use Rattle.relay_model.specs.declared.acts.Act.{Act}
 use Rattle.relay_model.specs.declared.acts.Shut.{Shut}
 use Rattle.relay_model.specs.declared.places.Half.{Half}
 use Rattle.relay_model.specs.declared.places.Place.{Place}
-use Rattle.world_trait.specs.Answers.{Answered, Rose}
-use Rattle.desk_ports.specs.Harbors.{CalledAt, EndsAt, Pier}
-use Rattle.desk_ports.specs.Ports.{PortSeen}
-use Rattle.desk_ports.specs.declared.bases.Base.{Base}
-use Rattle.desk_places.specs.Stations.{SetsStation, base_at, hold_at, station_at, with_half}
+use Rattle.world_trait.specs.Answers.{Rose}
+use Rattle.port_table.specs.PortTables.{CalledAt, EndsAt, PortId}
+use Rattle.port_table.specs.Ports.{PortSeen}
+use Rattle.port_table.specs.declared.bases.Base.{Base}
+use Rattle.desk_places.specs.Stations.{SetsStation, base_at, station_at, with_half}
 use Rattle.desk_places.specs.declared.stations.Station.{Station}
 use Rattle.world_trait.specs.declared.answers.ReadAnswer.{ReadAnswer}
 use Rattle.world_trait.specs.declared.answers.ReadAnswer.TheVariants as reads
@@ -59,18 +58,14 @@ send_mark sends.NotYet = Some true
 send_mark sends.Failed = Some false
 send_mark sends.Memory = None
 
--- the act of an answer is told where acts are told, and places stand as it leaves them
-abbrev pub Did : Option Act → Log → Log → Type 0
-Did act before now = Answered before.recording.told now.recording.told (hold_at before.stations.entries) (hold_at now.stations.entries) act
-
 -- one fault more where the call failed, and else none
 pub record Faults (failed : Bool) (before now : Log) : Type 0 where
   pub cause : Rose before.faults now.faults failed
   pub exact : CountsOnce before.faults now.faults failed
 
 -- the call was made on the port of this half of the place, and every other port is as it was
-abbrev pub Calls : {A B C D E : Type 0} → (Base → Pier) → Place → Log → Ports A B C D E → Ports A B C D E → (PortSeen → PortSeen → Type 0) → Type 0
-Calls pier place log before now Call = IfSome (bases_of log place) (λ base. CalledAt (pier base) before.harbor now.harbor Call)
+abbrev pub Calls : {A B C D E : Type 0} → (Base → PortId) → Place → Log → Ports A B C D E → Ports A B C D E → (PortSeen → PortSeen → Type 0) → Type 0
+Calls id place log before now Call = IfSome (bases_of log place) (λ base. CalledAt (id base) before.table now.table Call)
 
 -- whether a shut finished the output; not where there was no memory
 abbrev pub shut_ends : Shut → ShutAnswer → Bool
@@ -80,5 +75,5 @@ shut_ends how shuts.Memory = false
 
 -- the call was made on the port of this half of the place, and finished the output there or not; every other port is as it
 -- was
-abbrev pub Ends : {A B C D E : Type 0} → Bool → (Base → Pier) → Place → Log → Ports A B C D E → Ports A B C D E → (PortSeen → PortSeen → Type 0) → Type 0
-Ends ends pier place log before now Call = IfSome (bases_of log place) (λ base. EndsAt ends (pier base) before.harbor now.harbor Call)
+abbrev pub Ends : {A B C D E : Type 0} → Bool → (Base → PortId) → Place → Log → Ports A B C D E → Ports A B C D E → (PortSeen → PortSeen → Type 0) → Type 0
+Ends ends id place log before now Call = IfSome (bases_of log place) (λ base. EndsAt ends (id base) before.table now.table Call)

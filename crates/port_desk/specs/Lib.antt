@@ -1,4 +1,5 @@
 pub mod Calls
 pub mod Clocks
 pub mod Desks
+pub mod Following
 pub mod Records

@@ -5,24 +5,23 @@ ghost use Rattle.slab.specs.Slab.{SameValues};
 ghost use Rattle.world_trait.specs.Answers.{NamesHeld};
 ghost use Rattle.world_trait.specs.HoldTables.{hold_found};
 ghost use Rattle.world_trait.specs.Recordings.{HasAskingRoom, HasRoom, KeepsNothing, told_by};
-ghost use Rattle.world_trait.specs.Runs.{IsFresh};
+ghost use Rattle.world_trait.specs.Seen.{IsFresh};
 ghost use Rattle.relay_model.specs.Holding.{Free};
 ghost use Rattle.relay_model.specs.declared.places.Place.{Place};
 ghost use Rattle.port_trait.specs.Counting.{Counted};
 ghost use Rattle.port_trait.specs.Meanings.{Behind};
-ghost use Rattle.desk_ports.specs.Endings.{EndsSo, OnJoinedBack, handed, is_left};
-ghost use Rattle.desk_ports.specs.Ports.{seen};
-ghost use Rattle.desk_ports.specs.Harbors.{SameStreams};
-ghost use Rattle.desk_places.specs.Footing.{HasBerth, IsSound};
+ghost use Rattle.port_table.specs.Endings.{EndsSo, OnJoinedBack, handed, is_left};
+ghost use Rattle.port_table.specs.Ports.{seen};
+ghost use Rattle.port_table.specs.PortTables.{SameStreams};
+ghost use Rattle.desk_places.specs.Standing.{HasVacancy, IsSound};
 ghost use Rattle.desk_places.specs.Stations.{hold_at};
-ghost use Rattle.desk_naming.specs.Naming.{NamesHinting, NamesKeyed, NamesOnly, PollsUntil, WaitsIdle, told_by as hints_told};
+ghost use Rattle.desk_places.specs.Naming.{NamesHinting, NamesKeyed, NamesOnly, PollsUntil, WaitsIdle, told_by as hints_told};
 
 use crate::clocks::Clock;
 use crate::endings::{Backs, Counts, Ended};
 use crate::records::Log;
-use desk_naming::{name_hinting, name_keyed};
-use desk_places::Ports;
-use desk_ports::Standard;
+use desk_places::{Ports, name_hinting, name_keyed};
+use port_table::Standard;
 use port_trait::{Joining, Maker, Polled, Poller, Port};
 use relay_model::{Kept, NoMemory, Place, ReadyList, Single};
 use std::alloc::Global;
@@ -39,7 +38,7 @@ pub struct Desk<M: Maker + Drop, P: Poller + Drop, I: Port, O: Port, E: Port> {
     pub(crate) stops: u64,
     // what the join of the port that the last closing let go answered; none where it wasn't joined
     pub(crate) joined: Option<Joining>,
-    ghost sound: { IsSound log.stations.entries ports.harbor.made ports.listed } by { Prim.hlevel props },
+    ghost sound: { IsSound log.stations.entries ports.table.made ports.listed } by { Prim.hlevel props },
     ghost parents_room: { length log.stations.entries + vec_len ports.parents ≤ vec_capacity ports.parents },
 }
 
@@ -52,12 +51,12 @@ impl<M: Maker + Drop, P: Poller + Drop, I: Port, O: Port, E: Port> Desk<M, P, I,
         poller: P,
         recorder: Recorder,
     ) -> Result<Desk<M, P, I, O, E>, NoMemory>
-        ensures told { IfOk result (λ desk. ⟦<Desk<M, P, I, O, E> as World>⟧.told desk ≡ told_by recorder (record { acts = []; spare = 0 }) (record { pairs = []; spare = 0 })) }
-        ensures fresh { let w = ⟦<Desk<M, P, I, O, E> as World>⟧ in IfOk result (λ desk. IsFresh (w.held desk) (w.faults desk) (w.waits desk) (w.stops desk) (w.clock desk)) }
+        ensures told { IfOk result (λ desk. (⟦<Desk<M, P, I, O, E> as World>⟧.seen desk).told ≡ told_by recorder (record { acts = []; spare = 0 }) (record { pairs = []; spare = 0 })) }
+        ensures fresh { IfOk result (λ desk. IsFresh (⟦<Desk<M, P, I, O, E> as World>⟧.seen desk)) }
         ensures untouched { IfOk result (λ desk. desk.log.acted ≡ false) }
-        ensures stdin { IfOk result (λ desk. (desk.ports.harbor.input.port ≡ seen I.gave I.took I.shuts I.hints I.hinting I.counts I.ended I.joins I.child standard.stdin) × (desk.ports.harbor.input.begun ≡ false) × (desk.ports.harbor.input.finished ≡ false)) }
-        ensures stdout { IfOk result (λ desk. (desk.ports.harbor.output.port ≡ seen O.gave O.took O.shuts O.hints O.hinting O.counts O.ended O.joins O.child standard.stdout) × (desk.ports.harbor.output.begun ≡ false) × (desk.ports.harbor.output.finished ≡ false)) }
-        ensures stderr { IfOk result (λ desk. (desk.ports.harbor.errors.port ≡ seen E.gave E.took E.shuts E.hints E.hinting E.counts E.ended E.joins E.child standard.stderr) × (desk.ports.harbor.errors.begun ≡ false) × (desk.ports.harbor.errors.finished ≡ false)) }
+        ensures stdin { IfOk result (λ desk. (desk.ports.table.input.port ≡ seen I.gave I.took I.shuts I.hints I.hinting I.counts I.ended I.joins I.child standard.stdin) × (desk.ports.table.input.begun ≡ false) × (desk.ports.table.input.finished ≡ false)) }
+        ensures stdout { IfOk result (λ desk. (desk.ports.table.output.port ≡ seen O.gave O.took O.shuts O.hints O.hinting O.counts O.ended O.joins O.child standard.stdout) × (desk.ports.table.output.begun ≡ false) × (desk.ports.table.output.finished ≡ false)) }
+        ensures stderr { IfOk result (λ desk. (desk.ports.table.errors.port ≡ seen E.gave E.took E.shuts E.hints E.hinting E.counts E.ended E.joins E.child standard.stderr) × (desk.ports.table.errors.begun ≡ false) × (desk.ports.table.errors.finished ≡ false)) }
     {
         Ok(Desk {
             ports: Ports::new(alloc, standard, maker),
@@ -73,7 +72,7 @@ impl<M: Maker + Drop, P: Poller + Drop, I: Port, O: Port, E: Port> Desk<M, P, I,
     pub fn keep(&mut self)
         requires untouched { self.old.log.acted ≡ false }
         requires free { self.old.log.stations.entries ≡ [] }
-        ensures told { ⟦<Desk<M, P, I, O, E> as World>⟧.told self.new ≡ Some (record { acts = []; asked = [] }) }
+        ensures told { (⟦<Desk<M, P, I, O, E> as World>⟧.seen self.new).told ≡ Some (record { acts = []; asked = [] }) }
         ensures untouched { self.new.log.acted ≡ false }
         ensures ports { self.new.ports ≡ self.old.ports }
         ensures stations { self.new.log.stations ≡ self.old.log.stations }
@@ -87,7 +86,7 @@ impl<M: Maker + Drop, P: Poller + Drop, I: Port, O: Port, E: Port> Desk<M, P, I,
 
     /// How the place stands; none where nothing is held there.
     pub fn standing(&self, place: Place) -> Option<Standing>
-        ensures { hold_found result ≡ ⟦<Desk<M, P, I, O, E> as World>⟧.held self.now place }
+        ensures { hold_found result ≡ (⟦<Desk<M, P, I, O, E> as World>⟧.seen self.now).held place }
     {
         match self.log.stations.find(place) {
             None => None,
@@ -97,8 +96,8 @@ impl<M: Maker + Drop, P: Poller + Drop, I: Port, O: Port, E: Port> Desk<M, P, I,
 
     /// What was kept; nothing by a desk that skips.
     pub fn kept(&self) -> &Kept
-        ensures skipped { is_some (⟦<Desk<M, P, I, O, E> as World>⟧.told self.now) ≡ false → KeepsNothing result.now }
-        ensures told { let w = ⟦<Desk<M, P, I, O, E> as World>⟧ in is_some (w.told self.now) ≡ true → w.told self.now ≡ Some (record { acts = result.now.journal.acts; asked = result.now.asked.pairs }) }
+        ensures skipped { is_some (⟦<Desk<M, P, I, O, E> as World>⟧.seen self.now).told ≡ false → KeepsNothing result.now }
+        ensures told { let now = ⟦<Desk<M, P, I, O, E> as World>⟧.seen self.now in is_some now.told ≡ true → now.told ≡ Some (record { acts = result.now.journal.acts; asked = result.now.asked.pairs }) }
     {
         self.log.recording.kept()
     }
@@ -106,16 +105,16 @@ impl<M: Maker + Drop, P: Poller + Drop, I: Port, O: Port, E: Port> Desk<M, P, I,
     /// Ends the desk, at which nothing is held. Each standard port that has begun and wasn't told the end of its output
     /// is shut with `Close`; then each is joined. Takes no memory.
     pub fn end(self) -> Ended<I, O, E>
-        requires { (p : Place) → ⟦<Desk<M, P, I, O, E> as World>⟧.held self p ≡ Free }
-        ensures stdin { EndsSo (self.ports.harbor.input.begun && not self.ports.harbor.input.finished) self.ports.harbor.input.port (is_left result.standard.stdin) (seen I.gave I.took I.shuts I.hints I.hinting I.counts I.ended I.joins I.child (handed result.standard.stdin)) }
+        requires { (p : Place) → (⟦<Desk<M, P, I, O, E> as World>⟧.seen self).held p ≡ Free }
+        ensures stdin { EndsSo (self.ports.table.input.begun && not self.ports.table.input.finished) self.ports.table.input.port (is_left result.standard.stdin) (seen I.gave I.took I.shuts I.hints I.hinting I.counts I.ended I.joins I.child (handed result.standard.stdin)) }
         ensures stdin_behind { OnJoinedBack (λ port. Behind (I.gave port) (I.took port) (I.behind_gave port) (I.behind_took port) (I.behind_left port) (I.behind_faults port) (I.ended port)) result.standard.stdin }
-        ensures stdout { EndsSo (self.ports.harbor.output.begun && not self.ports.harbor.output.finished) self.ports.harbor.output.port (is_left result.standard.stdout) (seen O.gave O.took O.shuts O.hints O.hinting O.counts O.ended O.joins O.child (handed result.standard.stdout)) }
+        ensures stdout { EndsSo (self.ports.table.output.begun && not self.ports.table.output.finished) self.ports.table.output.port (is_left result.standard.stdout) (seen O.gave O.took O.shuts O.hints O.hinting O.counts O.ended O.joins O.child (handed result.standard.stdout)) }
         ensures stdout_behind { OnJoinedBack (λ port. Behind (O.gave port) (O.took port) (O.behind_gave port) (O.behind_took port) (O.behind_left port) (O.behind_faults port) (O.ended port)) result.standard.stdout }
-        ensures stderr { EndsSo (self.ports.harbor.errors.begun && not self.ports.harbor.errors.finished) self.ports.harbor.errors.port (is_left result.standard.stderr) (seen E.gave E.took E.shuts E.hints E.hinting E.counts E.ended E.joins E.child (handed result.standard.stderr)) }
+        ensures stderr { EndsSo (self.ports.table.errors.begun && not self.ports.table.errors.finished) self.ports.table.errors.port (is_left result.standard.stderr) (seen E.gave E.took E.shuts E.hints E.hinting E.counts E.ended E.joins E.child (handed result.standard.stderr)) }
         ensures stderr_behind { OnJoinedBack (λ port. Behind (E.gave port) (E.took port) (E.behind_gave port) (E.behind_took port) (E.behind_left port) (E.behind_faults port) (E.ended port)) result.standard.stderr }
-        ensures skipped { is_some (⟦<Desk<M, P, I, O, E> as World>⟧.told self) ≡ false → KeepsNothing result.kept }
-        ensures kept { let w = ⟦<Desk<M, P, I, O, E> as World>⟧ in is_some (w.told self) ≡ true → w.told self ≡ Some (record { acts = result.kept.journal.acts; asked = result.kept.asked.pairs }) }
-        ensures counts { let w = ⟦<Desk<M, P, I, O, E> as World>⟧ in result.counts ≡ record { faults = w.faults self; waits = w.waits self; stops = w.stops self } }
+        ensures skipped { is_some (⟦<Desk<M, P, I, O, E> as World>⟧.seen self).told ≡ false → KeepsNothing result.kept }
+        ensures kept { let now = ⟦<Desk<M, P, I, O, E> as World>⟧.seen self in is_some now.told ≡ true → now.told ≡ Some (record { acts = result.kept.journal.acts; asked = result.kept.asked.pairs }) }
+        ensures counts { let now = ⟦<Desk<M, P, I, O, E> as World>⟧.seen self in result.counts ≡ record { faults = now.faults; waits = now.waits; stops = now.stops } }
     {
         let counts = Counts::new(self.log.faults, self.waits, self.stops);
         let Desk {
@@ -142,13 +141,13 @@ impl<M: Maker + Drop, P: Poller + Drop, I: Port, O: Port, E: Port> Desk<M, P, I,
     pub(crate) fn prepare_port(&mut self) -> Result<(), NoMemory>
         ensures acts_room { OnOk result (HasRoom (length self.new.log.stations.entries + 2) self.new.log.recording) }
         ensures stations_room { OnOk result (0 < self.new.log.stations.spare) }
-        ensures made_room { OnOk result (HasBerth self.new.ports.harbor.made self.new.ports.listed) }
+        ensures made_room { OnOk result (HasVacancy self.new.ports.table.made self.new.ports.listed) }
         ensures parents_room { OnOk result (length self.new.log.stations.entries + 1 + vec_len self.new.ports.parents ≤ vec_capacity self.new.ports.parents) }
         ensures entries { self.new.log.stations.entries ≡ self.old.log.stations.entries }
         ensures told { self.new.log.recording.told ≡ self.old.log.recording.told }
         ensures faults { self.new.log.faults ≡ self.old.log.faults }
-        ensures streams { (self.new.ports.harbor.input ≡ self.old.ports.harbor.input) × (self.new.ports.harbor.output ≡ self.old.ports.harbor.output) × (self.new.ports.harbor.errors ≡ self.old.ports.harbor.errors) }
-        ensures made { SameValues self.old.ports.harbor.made self.new.ports.harbor.made }
+        ensures streams { (self.new.ports.table.input ≡ self.old.ports.table.input) × (self.new.ports.table.output ≡ self.old.ports.table.output) × (self.new.ports.table.errors ≡ self.old.ports.table.errors) }
+        ensures made { SameValues self.old.ports.table.made self.new.ports.table.made }
         ensures maker { self.new.ports.maker ≡ self.old.ports.maker }
         ensures parents { self.new.ports.parents.items ≡ self.old.ports.parents.items }
         ensures waits { self.new.waits ≡ self.old.waits }
@@ -166,13 +165,13 @@ impl<M: Maker + Drop, P: Poller + Drop, I: Port, O: Port, E: Port> Desk<M, P, I,
         ensures asking_room { OnOk result (HasAskingRoom 1 self.new.log.recording) }
         ensures copied { IfOk result (λ copy. MatchOption copy (self.new.log.recording.told ≡ None) (λ kept. kept ≡ single.now)) }
         ensures stations_room { OnOk result (0 < self.new.log.stations.spare) }
-        ensures made_room { OnOk result (HasBerth self.new.ports.harbor.made self.new.ports.listed) }
+        ensures made_room { OnOk result (HasVacancy self.new.ports.table.made self.new.ports.listed) }
         ensures parents_room { OnOk result (length self.new.log.stations.entries + 1 + vec_len self.new.ports.parents ≤ vec_capacity self.new.ports.parents) }
         ensures entries { self.new.log.stations.entries ≡ self.old.log.stations.entries }
         ensures told { self.new.log.recording.told ≡ self.old.log.recording.told }
         ensures faults { self.new.log.faults ≡ self.old.log.faults }
-        ensures streams { (self.new.ports.harbor.input ≡ self.old.ports.harbor.input) × (self.new.ports.harbor.output ≡ self.old.ports.harbor.output) × (self.new.ports.harbor.errors ≡ self.old.ports.harbor.errors) }
-        ensures made { SameValues self.old.ports.harbor.made self.new.ports.harbor.made }
+        ensures streams { (self.new.ports.table.input ≡ self.old.ports.table.input) × (self.new.ports.table.output ≡ self.old.ports.table.output) × (self.new.ports.table.errors ≡ self.old.ports.table.errors) }
+        ensures made { SameValues self.old.ports.table.made self.new.ports.table.made }
         ensures maker { self.new.ports.maker ≡ self.old.ports.maker }
         ensures parents { self.new.ports.parents.items ≡ self.old.ports.parents.items }
         ensures waits { self.new.waits ≡ self.old.waits }
@@ -190,14 +189,14 @@ impl<M: Maker + Drop, P: Poller + Drop, I: Port, O: Port, E: Port> Desk<M, P, I,
         requires empty { ready.old.entries ≡ [] }
         ensures room { ready.new.room ≡ ready.old.room }
         ensures named { NamesHeld (hold_at self.new.log.stations.entries) ready.new.entries }
-        ensures hinted { NamesHinting (hints_told self.old.ports.harbor) self.old.log.stations.entries ready.new.entries }
-        ensures until { PollsUntil (hints_told self.old.ports.harbor) self.old.log.stations.entries ready.new.entries self.old.clock.last until self.new.clock.asked }
-        ensures idle { WaitsIdle (hints_told self.old.ports.harbor) self.old.log.stations.entries until self.new.clock.asked }
-        ensures only { NamesOnly self.new.clock.keys (hints_told self.old.ports.harbor) self.old.log.stations.entries ready.new.entries }
+        ensures hinted { NamesHinting (hints_told self.old.ports.table) self.old.log.stations.entries ready.new.entries }
+        ensures until { PollsUntil (hints_told self.old.ports.table) self.old.log.stations.entries ready.new.entries self.old.clock.last until self.new.clock.asked }
+        ensures idle { WaitsIdle (hints_told self.old.ports.table) self.old.log.stations.entries until self.new.clock.asked }
+        ensures only { NamesOnly self.new.clock.keys (hints_told self.old.ports.table) self.old.log.stations.entries ready.new.entries }
         ensures keys { IfSome self.new.clock.named (λ entries. entries ≡ self.new.clock.keys) }
         ensures keyed { NamesKeyed self.new.clock.keys self.old.log.stations.entries ready.new.entries }
-        ensures streams { SameStreams self.old.ports.harbor self.new.ports.harbor }
-        ensures made { SameValues self.old.ports.harbor.made self.new.ports.harbor.made }
+        ensures streams { SameStreams self.old.ports.table self.new.ports.table }
+        ensures made { SameValues self.old.ports.table.made self.new.ports.table.made }
         ensures maker { self.new.ports.maker ≡ self.old.ports.maker }
         ensures parents { self.new.ports.parents ≡ self.old.ports.parents }
         ensures log { self.new.log ≡ self.old.log }

@@ -1,7 +1,7 @@
 // What a desk leaves.
 ghost use Rattle.std.specs.Prelude.{◌≡◌};
 
-use desk_ports::Back;
+use port_table::Back;
 use relay_model::Kept;
 
 /// The three standard ports.

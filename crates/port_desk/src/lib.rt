@@ -4,9 +4,11 @@
 mod clocks;
 mod desk;
 mod endings;
+mod followed;
 mod records;
 mod worlds;
 
 pub use desk::Desk;
-pub use desk_ports::{Back, Standard};
 pub use endings::{Backs, Counts, Ended};
+pub use followed::{Beginning, Followed};
+pub use port_table::{Back, Standard};

@@ -3,7 +3,7 @@ ghost use Rattle.std.specs.Prelude.{◌≡◌, ◌||◌, ◌≤◌, ◌<◌, ◌
 ghost use Rattle.relay_model.specs.Readiness.{copied_list};
 ghost use Rattle.world_trait.specs.Recordings.{HasRoom, HasAskingRoom, KeepsNothing, told_by, with_act, with_asking};
 ghost use Rattle.world_trait.specs.Answers.{ReadFits, Rose, WriteFits, accept_act, is_accept_fault, is_listen_fault, is_open_fault, is_read_fault, is_send_fault, is_shut_fault, is_write_fault, listen_act, open_act, read_act, reap_act, send_act, shut_act, write_act};
-ghost use Rattle.desk_ports.specs.Answers.{GotFits, TookFits};
+ghost use Rattle.port_table.specs.Answers.{GotFits, TookFits};
 ghost use Rattle.desk_places.specs.Changes.{shut_answer};
 ghost use Rattle.port_desk.specs.Records.{CountsOnce, has_no_acts, Tells, TellsAsking, read_answer, reap_answer, send_answer, write_answer};
 

@@ -7,24 +7,25 @@ ghost use Rattle.relay_model.specs.declared.places.Half.TheVariants.{ToRead, ToW
 ghost use Rattle.relay_model.specs.Holding.{Free, Open, Settling, is_free, is_open};
 ghost use Rattle.relay_model.specs.Places.{same_place};
 ghost use Rattle.world_trait.specs.Answers.{Answered, AnsweredAsking, OnlyHeldNamed, NotReaped, OnlyWhereTold, ReadFits, Rose, WaitCounts, WriteFits, accept_act, close_act, is_accept_fault, is_listen_fault, is_note_fault, is_open_fault, is_read_fault, is_send_fault, is_shut_fault, is_write_fault, listen_act, note_act, open_act, read_act, reap_act, send_act, shut_act, wait_act, wants_read_memory, wants_send_memory, wants_shut_memory, wants_turn_memory, wants_write_memory, write_act};
+ghost use Rattle.world_trait.specs.Seen.{Waitless};
 ghost use Rattle.port_trait.specs.Streams.{finishes};
-ghost use Rattle.desk_places.specs.Bases.{AcceptsOn, Leaves, ListensOn, OpensOn, SameBases, SettlesOn};
+ghost use Rattle.desk_places.specs.PlaceBases.{AcceptsOn, Leaves, ListensOn, OpensOn, SameBases, SettlesOn};
 ghost use Rattle.port_desk.specs.Calls.{NotesAs, OnShut, OnTurned, ReadsSo, SaysStop, SendsSo, ShutsSo, StopsAs, TurnMarks, WritesSo};
-ghost use Rattle.port_desk.specs.Desks.{Calls, Did, Ends, Faults, Marked, read_mark, row_of, send_mark, shut_ends, write_mark};
+ghost use Rattle.port_desk.specs.Desks.{Calls, Ends, Faults, Marked, read_mark, row_of, send_mark, shut_ends, write_mark};
 ghost use Rattle.desk_places.specs.Causes.{AcceptCause, ListenCause, OpenAsks, OpenCause, StandardCause};
 ghost use Rattle.port_trait.specs.Counting.{Rose as Rises};
-ghost use Rattle.desk_ports.specs.Bases.{standard_of};
-ghost use Rattle.desk_ports.specs.Harbors.{AtMade, SameStreams, giving_pier, taking_pier};
+ghost use Rattle.port_table.specs.Bases.{standard_of};
+ghost use Rattle.port_table.specs.PortTables.{AtMade, SameStreams, giving_port, taking_port};
 ghost use Rattle.desk_places.specs.Changes.{AcceptsMade, LeavesParent, ListensMade, OpensAt, OpensMade, ReapsAnswered, ReapsOut, SettledAt, is_finished, joined_answer, made_at};
 ghost use Rattle.desk_places.specs.Marks.{AcceptMarks, ListenMarks, MarksPlace, OpenMarks, SameMarks, SettleMarks};
-ghost use Rattle.desk_naming.specs.Naming.{NamesHinting, NamesKeyed, NamesOnly, PollsUntil, WaitsIdle, told_by};
-ghost use Rattle.desk_ports.specs.Ports.{MovesNothing, seen};
+ghost use Rattle.desk_places.specs.Naming.{NamesHinting, NamesKeyed, NamesOnly, PollsUntil, WaitsIdle, told_by};
+ghost use Rattle.port_table.specs.Ports.{MovesNothing, seen};
 ghost use Rattle.port_desk.specs.Records.{CountsOnce, CountsStop, NotedSo};
 ghost use Rattle.desk_places.specs.Stations.{SetsStation, base_at, hold_at, is_disarmed, shut_down, station_at};
-ghost use Rattle.desk_ports.specs.declared.bases.Base.TheVariants as bases;
+ghost use Rattle.port_table.specs.declared.bases.Base.TheVariants as bases;
 
 use crate::desk::Desk;
-use desk_naming::arm_named;
+use desk_places::arm_named;
 use port_trait::{Maker, Poller, Port, Took};
 use relay_model::{Act, Peer, Place, ReadyList, Shut, Single, Why};
 use world_trait::{
@@ -33,24 +34,14 @@ use world_trait::{
 };
 
 impl<M: Maker + Drop, P: Poller + Drop, I: Port, O: Port, E: Port> World for Desk<M, P, I, O, E> {
-    ghost told = { λ d. d.log.recording.told };
-
-    ghost held = { λ d. hold_at d.log.stations.entries };
-
-    ghost faults = { λ d. d.log.faults };
-
-    ghost waits = { λ d. d.waits };
-
-    ghost stops = { λ d. d.stops };
-
-    ghost clock = { λ d. d.clock.last };
+    ghost seen = { λ d. record { told = d.log.recording.told; held = hold_at d.log.stations.entries; faults = d.log.faults; waits = d.waits; stops = d.stops; clock = d.clock.last } };
 
     /// Names the halves that hint, and those whose key the poller names. Where one hints, the poller doesn't wait.
     fn wait(&mut self, until: Option<u64>, ready: &mut ReadyList) -> Turned
         requires { 256 ≤ ready.old.room }
         ensures room { 256 ≤ ready.new.room }
-        ensures act { Answered self.old.log.recording.told self.new.log.recording.told (hold_at self.old.log.stations.entries) (hold_at self.new.log.stations.entries) (wait_act until ready.new result) }
-        ensures counts { WaitCounts self.old.waits self.new.waits self.old.stops self.new.stops self.old.clock.last self.new.clock.last result }
+        ensures act { let seen = ⟦<Desk<M, P, I, O, E> as World>⟧.seen in Answered (seen self.old) (seen self.new) (wait_act until ready.new result) }
+        ensures counts { let seen = ⟦<Desk<M, P, I, O, E> as World>⟧.seen in WaitCounts (seen self.old) (seen self.new) result }
         ensures exact { self.new.log.faults ≡ self.old.log.faults }
         ensures stopped { CountsStop self.old.stops self.new.stops result }
         ensures faults { self.old.log.faults ≤ self.new.log.faults }
@@ -58,13 +49,13 @@ impl<M: Maker + Drop, P: Poller + Drop, I: Port, O: Port, E: Port> World for Des
         ensures memory { OnlyWhereTold self.old.log.recording.told (wants_turn_memory result) }
         ensures keys { OnTurned result (IfSome self.new.clock.named (λ entries. entries ≡ self.new.clock.keys)) }
         ensures keyed { OnTurned result (NamesKeyed self.new.clock.keys self.old.log.stations.entries ready.new.entries) }
-        ensures hinted { OnTurned result (NamesHinting (told_by self.old.ports.harbor) self.old.log.stations.entries ready.new.entries) }
-        ensures only { OnTurned result (NamesOnly self.new.clock.keys (told_by self.old.ports.harbor) self.old.log.stations.entries ready.new.entries) }
-        ensures until { OnTurned result (PollsUntil (told_by self.old.ports.harbor) self.old.log.stations.entries ready.new.entries self.old.clock.last until self.new.clock.asked) }
-        ensures idle { OnTurned result (WaitsIdle (told_by self.old.ports.harbor) self.old.log.stations.entries until self.new.clock.asked) }
+        ensures hinted { OnTurned result (NamesHinting (told_by self.old.ports.table) self.old.log.stations.entries ready.new.entries) }
+        ensures only { OnTurned result (NamesOnly self.new.clock.keys (told_by self.old.ports.table) self.old.log.stations.entries ready.new.entries) }
+        ensures until { OnTurned result (PollsUntil (told_by self.old.ports.table) self.old.log.stations.entries ready.new.entries self.old.clock.last until self.new.clock.asked) }
+        ensures idle { OnTurned result (WaitsIdle (told_by self.old.ports.table) self.old.log.stations.entries until self.new.clock.asked) }
         ensures armed { TurnMarks result ready.new.entries (is_disarmed self.old.log.stations.entries) (is_disarmed self.new.log.stations.entries) }
-        ensures streams { SameStreams self.old.ports.harbor self.new.ports.harbor }
-        ensures made { SameValues self.old.ports.harbor.made self.new.ports.harbor.made }
+        ensures streams { SameStreams self.old.ports.table self.new.ports.table }
+        ensures made { SameValues self.old.ports.table.made self.new.ports.table.made }
         ensures rest { (self.new.ports.maker ≡ self.old.ports.maker) × (self.new.ports.parents.items ≡ self.old.ports.parents.items) }
         ensures stopping { SaysStop self.new.clock.stopped result }
         ensures said { StopsAs self.old.clock.stops self.new.clock.stops result }
@@ -91,25 +82,23 @@ impl<M: Maker + Drop, P: Poller + Drop, I: Port, O: Port, E: Port> World for Des
 
     fn open_place(&mut self, place: Place, single: &Single, behind: Option<Peer>) -> OpenAnswer
         requires { hold_at self.old.log.stations.entries place ≡ Free }
-        ensures act { AnsweredAsking (place, single.now) self.old.log.recording.told self.new.log.recording.told (hold_at self.old.log.stations.entries) (hold_at self.new.log.stations.entries) (open_act place result) }
+        ensures act { let seen = ⟦<Desk<M, P, I, O, E> as World>⟧.seen in AnsweredAsking (place, single.now) (seen self.old) (seen self.new) (open_act place result) }
         ensures cause { Rose self.old.log.faults self.new.log.faults (is_open_fault result) }
         ensures exact { CountsOnce self.old.log.faults self.new.log.faults (is_open_fault result) }
-        ensures waits { self.new.waits ≡ self.old.waits }
-        ensures stops { self.old.stops ≤ self.new.stops }
+        ensures waitless { let seen = ⟦<Desk<M, P, I, O, E> as World>⟧.seen in Waitless (seen self.old) (seen self.new) }
         ensures unstopped { self.new.stops ≡ self.old.stops }
-        ensures clock { self.new.clock.last ≡ self.old.clock.last }
-        ensures input { MovesNothing self.old.ports.harbor.input.port self.new.ports.harbor.input.port }
-        ensures output { MovesNothing self.old.ports.harbor.output.port self.new.ports.harbor.output.port }
-        ensures errors { MovesNothing self.old.ports.harbor.errors.port self.new.ports.harbor.errors.port }
-        ensures ended { (self.new.ports.harbor.input.port.ended ≡ self.old.ports.harbor.input.port.ended) × (self.new.ports.harbor.output.port.ended ≡ self.old.ports.harbor.output.port.ended) × (self.new.ports.harbor.errors.port.ended ≡ self.old.ports.harbor.errors.port.ended) }
-        ensures standard { IfSome (standard_of place single.now.target) (λ base. StandardCause (Rises self.old.ports.harbor.input.port.counts.faults self.new.ports.harbor.input.port.counts.faults
-            ⊎ (Rises self.old.ports.harbor.output.port.counts.faults self.new.ports.harbor.output.port.counts.faults
-            ⊎ Rises self.old.ports.harbor.errors.port.counts.faults self.new.ports.harbor.errors.port.counts.faults)) result) }
+        ensures input { MovesNothing self.old.ports.table.input.port self.new.ports.table.input.port }
+        ensures output { MovesNothing self.old.ports.table.output.port self.new.ports.table.output.port }
+        ensures errors { MovesNothing self.old.ports.table.errors.port self.new.ports.table.errors.port }
+        ensures ended { (self.new.ports.table.input.port.ended ≡ self.old.ports.table.input.port.ended) × (self.new.ports.table.output.port.ended ≡ self.old.ports.table.output.port.ended) × (self.new.ports.table.errors.port.ended ≡ self.old.ports.table.errors.port.ended) }
+        ensures standard { IfSome (standard_of place single.now.target) (λ base. StandardCause (Rises self.old.ports.table.input.port.counts.faults self.new.ports.table.input.port.counts.faults
+            ⊎ (Rises self.old.ports.table.output.port.counts.faults self.new.ports.table.output.port.counts.faults
+            ⊎ Rises self.old.ports.table.errors.port.counts.faults self.new.ports.table.errors.port.counts.faults)) result) }
         ensures asked { IfNone (standard_of place single.now.target) (OpenAsks place single.now behind (M.asked self.new.ports.maker) result) }
         ensures made { IfNone (standard_of place single.now.target) (OpenCause (seen M.Made.gave M.Made.took M.Made.shuts M.Made.hints M.Made.hinting M.Made.counts M.Made.ended M.Made.joins M.Made.child) (M.faults self.old.ports.maker) (M.faults self.new.ports.maker) (M.stalls self.old.ports.maker) (M.stalls self.new.ports.maker) result) }
-        ensures begun { IfSome (standard_of place single.now.target) (λ base. OpensAt base self.old.ports.harbor self.new.ports.harbor result) }
-        ensures streams { IfNone (standard_of place single.now.target) (SameStreams self.old.ports.harbor self.new.ports.harbor) }
-        ensures ports { MatchOption (standard_of place single.now.target) (OpensMade (seen M.Made.gave M.Made.took M.Made.shuts M.Made.hints M.Made.hinting M.Made.counts M.Made.ended M.Made.joins M.Made.child) place (base_at self.new.log.stations.entries place) result self.old.ports.harbor.made self.new.ports.harbor.made) (λ base. SameValues self.old.ports.harbor.made self.new.ports.harbor.made) }
+        ensures begun { IfSome (standard_of place single.now.target) (λ base. OpensAt base self.old.ports.table self.new.ports.table result) }
+        ensures streams { IfNone (standard_of place single.now.target) (SameStreams self.old.ports.table self.new.ports.table) }
+        ensures ports { MatchOption (standard_of place single.now.target) (OpensMade (seen M.Made.gave M.Made.took M.Made.shuts M.Made.hints M.Made.hinting M.Made.counts M.Made.ended M.Made.joins M.Made.child) place (base_at self.new.log.stations.entries place) result self.old.ports.table.made self.new.ports.table.made) (λ base. SameValues self.old.ports.table.made self.new.ports.table.made) }
         ensures parents { self.new.ports.parents.items ≡ self.old.ports.parents.items }
         ensures marks { OpenMarks place result (is_disarmed self.old.log.stations.entries) (is_disarmed self.new.log.stations.entries) }
         ensures bases { OpensOn (standard_of place single.now.target) place (base_at self.old.log.stations.entries) (base_at self.new.log.stations.entries) result }
@@ -126,14 +115,12 @@ impl<M: Maker + Drop, P: Poller + Drop, I: Port, O: Port, E: Port> World for Des
 
     fn settle(&mut self, place: Place) -> OpenAnswer
         requires { hold_at self.old.log.stations.entries place ≡ Settling }
-        ensures act { Answered self.old.log.recording.told self.new.log.recording.told (hold_at self.old.log.stations.entries) (hold_at self.new.log.stations.entries) (open_act place result) }
+        ensures act { let seen = ⟦<Desk<M, P, I, O, E> as World>⟧.seen in Answered (seen self.old) (seen self.new) (open_act place result) }
         ensures cause { Rose self.old.log.faults self.new.log.faults (is_open_fault result) }
         ensures exact { CountsOnce self.old.log.faults self.new.log.faults (is_open_fault result) }
-        ensures waits { self.new.waits ≡ self.old.waits }
-        ensures stops { self.old.stops ≤ self.new.stops }
+        ensures waitless { let seen = ⟦<Desk<M, P, I, O, E> as World>⟧.seen in Waitless (seen self.old) (seen self.new) }
         ensures unstopped { self.new.stops ≡ self.old.stops }
-        ensures clock { self.new.clock.last ≡ self.old.clock.last }
-        ensures call { IfSome (base_at self.old.log.stations.entries place) (λ base. SettledAt (seen M.Made.gave M.Made.took M.Made.shuts M.Made.hints M.Made.hinting M.Made.counts M.Made.ended M.Made.joins M.Made.child) (giving_pier base) self.old.ports.harbor self.new.ports.harbor self.old.ports.parents.items self.new.ports.parents.items result) }
+        ensures call { IfSome (base_at self.old.log.stations.entries place) (λ base. SettledAt (seen M.Made.gave M.Made.took M.Made.shuts M.Made.hints M.Made.hinting M.Made.counts M.Made.ended M.Made.joins M.Made.child) (giving_port base) self.old.ports.table self.new.ports.table self.old.ports.parents.items self.new.ports.parents.items result) }
         ensures maker { self.new.ports.maker ≡ self.old.ports.maker }
         ensures marks { SettleMarks place result (is_disarmed self.old.log.stations.entries) (is_disarmed self.new.log.stations.entries) }
         ensures bases { SettlesOn place (base_at self.old.log.stations.entries) (base_at self.new.log.stations.entries) result }
@@ -148,16 +135,14 @@ impl<M: Maker + Drop, P: Poller + Drop, I: Port, O: Port, E: Port> World for Des
 
     fn listen(&mut self, door: Place, single: &Single) -> ListenAnswer
         requires { hold_at self.old.log.stations.entries door ≡ Free }
-        ensures act { AnsweredAsking (door, single.now) self.old.log.recording.told self.new.log.recording.told (hold_at self.old.log.stations.entries) (hold_at self.new.log.stations.entries) (listen_act door result) }
+        ensures act { let seen = ⟦<Desk<M, P, I, O, E> as World>⟧.seen in AnsweredAsking (door, single.now) (seen self.old) (seen self.new) (listen_act door result) }
         ensures cause { Rose self.old.log.faults self.new.log.faults (is_listen_fault result) }
         ensures exact { CountsOnce self.old.log.faults self.new.log.faults (is_listen_fault result) }
-        ensures waits { self.new.waits ≡ self.old.waits }
-        ensures stops { self.old.stops ≤ self.new.stops }
+        ensures waitless { let seen = ⟦<Desk<M, P, I, O, E> as World>⟧.seen in Waitless (seen self.old) (seen self.new) }
         ensures unstopped { self.new.stops ≡ self.old.stops }
-        ensures clock { self.new.clock.last ≡ self.old.clock.last }
-        ensures streams { (self.new.ports.harbor.input ≡ self.old.ports.harbor.input) × (self.new.ports.harbor.output ≡ self.old.ports.harbor.output) × (self.new.ports.harbor.errors ≡ self.old.ports.harbor.errors) }
+        ensures streams { (self.new.ports.table.input ≡ self.old.ports.table.input) × (self.new.ports.table.output ≡ self.old.ports.table.output) × (self.new.ports.table.errors ≡ self.old.ports.table.errors) }
         ensures made { ListenCause (seen M.Made.gave M.Made.took M.Made.shuts M.Made.hints M.Made.hinting M.Made.counts M.Made.ended M.Made.joins M.Made.child) (M.faults self.old.ports.maker) (M.faults self.new.ports.maker) result }
-        ensures ports { ListensMade (seen M.Made.gave M.Made.took M.Made.shuts M.Made.hints M.Made.hinting M.Made.counts M.Made.ended M.Made.joins M.Made.child) door (base_at self.new.log.stations.entries door) result self.old.ports.harbor.made self.new.ports.harbor.made }
+        ensures ports { ListensMade (seen M.Made.gave M.Made.took M.Made.shuts M.Made.hints M.Made.hinting M.Made.counts M.Made.ended M.Made.joins M.Made.child) door (base_at self.new.log.stations.entries door) result self.old.ports.table.made self.new.ports.table.made }
         ensures parents { self.new.ports.parents.items ≡ self.old.ports.parents.items }
         ensures marks { ListenMarks door result (is_disarmed self.old.log.stations.entries) (is_disarmed self.new.log.stations.entries) }
         ensures bases { ListensOn door (base_at self.old.log.stations.entries) (base_at self.new.log.stations.entries) result }
@@ -173,18 +158,16 @@ impl<M: Maker + Drop, P: Poller + Drop, I: Port, O: Port, E: Port> World for Des
     fn accept(&mut self, door: Place, place: Place) -> AcceptAnswer
         requires door { hold_at self.old.log.stations.entries door ≡ Open }
         requires place { hold_at self.old.log.stations.entries place ≡ Free }
-        ensures act { Answered self.old.log.recording.told self.new.log.recording.told (hold_at self.old.log.stations.entries) (hold_at self.new.log.stations.entries) (accept_act door place result) }
+        ensures act { let seen = ⟦<Desk<M, P, I, O, E> as World>⟧.seen in Answered (seen self.old) (seen self.new) (accept_act door place result) }
         ensures cause { Rose self.old.log.faults self.new.log.faults (is_accept_fault result) }
         ensures exact { CountsOnce self.old.log.faults self.new.log.faults (is_accept_fault result) }
-        ensures waits { self.new.waits ≡ self.old.waits }
-        ensures stops { self.old.stops ≤ self.new.stops }
+        ensures waitless { let seen = ⟦<Desk<M, P, I, O, E> as World>⟧.seen in Waitless (seen self.old) (seen self.new) }
         ensures unstopped { self.new.stops ≡ self.old.stops }
-        ensures clock { self.new.clock.last ≡ self.old.clock.last }
-        ensures streams { (self.new.ports.harbor.input ≡ self.old.ports.harbor.input) × (self.new.ports.harbor.output ≡ self.old.ports.harbor.output) × (self.new.ports.harbor.errors ≡ self.old.ports.harbor.errors) }
+        ensures streams { (self.new.ports.table.input ≡ self.old.ports.table.input) × (self.new.ports.table.output ≡ self.old.ports.table.output) × (self.new.ports.table.errors ≡ self.old.ports.table.errors) }
         ensures made { AcceptCause (seen M.Made.gave M.Made.took M.Made.shuts M.Made.hints M.Made.hinting M.Made.counts M.Made.ended M.Made.joins M.Made.child) (M.faults self.old.ports.maker) (M.faults self.new.ports.maker) (M.stalls self.old.ports.maker) (M.stalls self.new.ports.maker) (M.came self.new.ports.maker) result }
-        ensures ports { IfSome (base_at self.old.log.stations.entries door) (λ base. AtMade (giving_pier base)
-            (λ key. AcceptsMade (seen M.Made.gave M.Made.took M.Made.shuts M.Made.hints M.Made.hinting M.Made.counts M.Made.ended M.Made.joins M.Made.child) key place (base_at self.new.log.stations.entries place) result self.old.ports.harbor.made self.new.ports.harbor.made)
-            (SameValues self.old.ports.harbor.made self.new.ports.harbor.made)) }
+        ensures ports { IfSome (base_at self.old.log.stations.entries door) (λ base. AtMade (giving_port base)
+            (λ key. AcceptsMade (seen M.Made.gave M.Made.took M.Made.shuts M.Made.hints M.Made.hinting M.Made.counts M.Made.ended M.Made.joins M.Made.child) key place (base_at self.new.log.stations.entries place) result self.old.ports.table.made self.new.ports.table.made)
+            (SameValues self.old.ports.table.made self.new.ports.table.made)) }
         ensures parents { self.new.ports.parents.items ≡ self.old.ports.parents.items }
         ensures marks { AcceptMarks door place result (is_disarmed self.old.log.stations.entries) (is_disarmed self.new.log.stations.entries) }
         ensures bases { AcceptsOn place (base_at self.old.log.stations.entries) (base_at self.new.log.stations.entries) result }
@@ -201,11 +184,11 @@ impl<M: Maker + Drop, P: Poller + Drop, I: Port, O: Port, E: Port> World for Des
         requires open { is_open (hold_at self.old.log.stations.entries place) ≡ true }
         requires room { 0 < length into.old }
         ensures fits { ReadFits (length into.old) result }
-        ensures act { Did (read_act place into.new result) self.old.log self.new.log }
+        ensures act { let seen = ⟦<Desk<M, P, I, O, E> as World>⟧.seen in Answered (seen self.old) (seen self.new) (read_act place into.new result) }
         ensures faults { Faults (is_read_fault result) self.old.log self.new.log }
         ensures memory { OnlyWhereTold self.old.log.recording.told (wants_read_memory result) }
         ensures turns { (self.new.waits ≡ self.old.waits) × (self.new.stops ≡ self.old.stops) × (self.new.clock ≡ self.old.clock) }
-        ensures call { Calls giving_pier place self.old.log self.old.ports self.new.ports (ReadsSo into.new result) }
+        ensures call { Calls giving_port place self.old.log self.old.ports self.new.ports (ReadsSo into.new result) }
         ensures rest { (self.new.ports.maker ≡ self.old.ports.maker) × (self.new.ports.parents.items ≡ self.old.ports.parents.items) }
         ensures row { Marked place ToRead (read_mark result) (row_of self.old.log) (row_of self.new.log) }
     {
@@ -220,11 +203,11 @@ impl<M: Maker + Drop, P: Poller + Drop, I: Port, O: Port, E: Port> World for Des
         requires open { hold_at self.old.log.stations.entries place ≡ Open }
         requires some { 0 < length bytes.now }
         ensures fits { WriteFits (length bytes.now) result }
-        ensures act { Did (write_act place bytes.now result) self.old.log self.new.log }
+        ensures act { let seen = ⟦<Desk<M, P, I, O, E> as World>⟧.seen in Answered (seen self.old) (seen self.new) (write_act place bytes.now result) }
         ensures faults { Faults (is_write_fault result) self.old.log self.new.log }
         ensures memory { OnlyWhereTold self.old.log.recording.told (wants_write_memory result) }
         ensures turns { (self.new.waits ≡ self.old.waits) × (self.new.stops ≡ self.old.stops) × (self.new.clock ≡ self.old.clock) }
-        ensures call { Calls taking_pier place self.old.log self.old.ports self.new.ports (WritesSo bytes.now result) }
+        ensures call { Calls taking_port place self.old.log self.old.ports self.new.ports (WritesSo bytes.now result) }
         ensures rest { (self.new.ports.maker ≡ self.old.ports.maker) × (self.new.ports.parents.items ≡ self.old.ports.parents.items) }
         ensures row { Marked place ToWrite (write_mark result) (row_of self.old.log) (row_of self.new.log) }
     {
@@ -239,11 +222,11 @@ impl<M: Maker + Drop, P: Poller + Drop, I: Port, O: Port, E: Port> World for Des
         requires open { hold_at self.old.log.stations.entries place ≡ Open }
         requires some { 0 < length bytes.now }
         requires packet { length bytes.now ≤ longest_packet }
-        ensures act { Did (send_act place bytes.now result) self.old.log self.new.log }
+        ensures act { let seen = ⟦<Desk<M, P, I, O, E> as World>⟧.seen in Answered (seen self.old) (seen self.new) (send_act place bytes.now result) }
         ensures faults { Faults (is_send_fault result) self.old.log self.new.log }
         ensures memory { OnlyWhereTold self.old.log.recording.told (wants_send_memory result) }
         ensures turns { (self.new.waits ≡ self.old.waits) × (self.new.stops ≡ self.old.stops) × (self.new.clock ≡ self.old.clock) }
-        ensures call { Calls taking_pier place self.old.log self.old.ports self.new.ports (SendsSo bytes.now result) }
+        ensures call { Calls taking_port place self.old.log self.old.ports self.new.ports (SendsSo bytes.now result) }
         ensures rest { (self.new.ports.maker ≡ self.old.ports.maker) × (self.new.ports.parents.items ≡ self.old.ports.parents.items) }
         ensures row { Marked place ToWrite (send_mark result) (row_of self.old.log) (row_of self.new.log) }
     {
@@ -256,15 +239,13 @@ impl<M: Maker + Drop, P: Poller + Drop, I: Port, O: Port, E: Port> World for Des
 
     fn shut(&mut self, place: Place, how: Shut) -> ShutAnswer
         requires { hold_at self.old.log.stations.entries place ≡ Open }
-        ensures act { Answered self.old.log.recording.told self.new.log.recording.told (hold_at self.old.log.stations.entries) (hold_at self.new.log.stations.entries) (shut_act place how result) }
+        ensures act { let seen = ⟦<Desk<M, P, I, O, E> as World>⟧.seen in Answered (seen self.old) (seen self.new) (shut_act place how result) }
         ensures cause { Rose self.old.log.faults self.new.log.faults (is_shut_fault result) }
         ensures exact { CountsOnce self.old.log.faults self.new.log.faults (is_shut_fault result) }
-        ensures waits { self.new.waits ≡ self.old.waits }
-        ensures stops { self.old.stops ≤ self.new.stops }
+        ensures waitless { let seen = ⟦<Desk<M, P, I, O, E> as World>⟧.seen in Waitless (seen self.old) (seen self.new) }
         ensures unstopped { self.new.stops ≡ self.old.stops }
-        ensures clock { self.new.clock.last ≡ self.old.clock.last }
         ensures memory { OnlyWhereTold self.old.log.recording.told (wants_shut_memory result) }
-        ensures call { Ends (shut_ends how result) taking_pier place self.old.log self.old.ports self.new.ports (ShutsSo how result) }
+        ensures call { Ends (shut_ends how result) taking_port place self.old.log self.old.ports self.new.ports (ShutsSo how result) }
         ensures rest { (self.new.ports.maker ≡ self.old.ports.maker) × (self.new.ports.parents.items ≡ self.old.ports.parents.items) }
         ensures station { OnShut result (SetsStation place (option_map (shut_down (finishes how)) (station_at self.old.log.stations.entries place)) (station_at self.old.log.stations.entries) (station_at self.new.log.stations.entries)) }
         ensures marks { SameMarks (is_disarmed self.old.log.stations.entries) (is_disarmed self.new.log.stations.entries) }
@@ -280,19 +261,17 @@ impl<M: Maker + Drop, P: Poller + Drop, I: Port, O: Port, E: Port> World for Des
     /// With the cause `Finished` it joins a made port whose output was finished, and may wait for that.
     fn close(&mut self, place: Place, why: Why)
         requires { is_free (hold_at self.old.log.stations.entries place) ≡ false }
-        ensures act { Answered self.old.log.recording.told self.new.log.recording.told (hold_at self.old.log.stations.entries) (hold_at self.new.log.stations.entries) (close_act place why) }
+        ensures act { let seen = ⟦<Desk<M, P, I, O, E> as World>⟧.seen in Answered (seen self.old) (seen self.new) (close_act place why) }
         ensures exact { self.new.log.faults ≡ self.old.log.faults }
         ensures faults { self.old.log.faults ≤ self.new.log.faults }
-        ensures waits { self.new.waits ≡ self.old.waits }
-        ensures stops { self.old.stops ≤ self.new.stops }
+        ensures waitless { let seen = ⟦<Desk<M, P, I, O, E> as World>⟧.seen in Waitless (seen self.old) (seen self.new) }
         ensures unstopped { self.new.stops ≡ self.old.stops }
-        ensures clock { self.new.clock.last ≡ self.old.clock.last }
-        ensures streams { (self.new.ports.harbor.input ≡ self.old.ports.harbor.input) × (self.new.ports.harbor.output ≡ self.old.ports.harbor.output) × (self.new.ports.harbor.errors ≡ self.old.ports.harbor.errors) }
-        ensures joined { IfSome (station_at self.old.log.stations.entries place) (λ s. self.new.joined ≡ joined_answer (s.finished && is_finished why) (made_at self.old.ports.harbor.made s.base)) }
-        ensures parents { IfSome (station_at self.old.log.stations.entries place) (λ s. LeavesParent (s.finished && is_finished why) (made_at self.old.ports.harbor.made s.base) self.old.ports.parents.items self.new.ports.parents.items) }
+        ensures streams { (self.new.ports.table.input ≡ self.old.ports.table.input) × (self.new.ports.table.output ≡ self.old.ports.table.output) × (self.new.ports.table.errors ≡ self.old.ports.table.errors) }
+        ensures joined { IfSome (station_at self.old.log.stations.entries place) (λ s. self.new.joined ≡ joined_answer (s.finished && is_finished why) (made_at self.old.ports.table.made s.base)) }
+        ensures parents { IfSome (station_at self.old.log.stations.entries place) (λ s. LeavesParent (s.finished && is_finished why) (made_at self.old.ports.table.made s.base) self.old.ports.parents.items self.new.ports.parents.items) }
         ensures maker { self.new.ports.maker ≡ self.old.ports.maker }
-        ensures gone { (key : ℕ) → base_at self.old.log.stations.entries place ≡ Some (bases.Made key) → get self.new.ports.harbor.made key ≡ None }
-        ensures others { (key : ℕ) → (base_at self.old.log.stations.entries place ≡ Some (bases.Made key) → ⊥) → get self.new.ports.harbor.made key ≡ get self.old.ports.harbor.made key }
+        ensures gone { (key : ℕ) → base_at self.old.log.stations.entries place ≡ Some (bases.Made key) → get self.new.ports.table.made key ≡ None }
+        ensures others { (key : ℕ) → (base_at self.old.log.stations.entries place ≡ Some (bases.Made key) → ⊥) → get self.new.ports.table.made key ≡ get self.old.ports.table.made key }
         ensures marks { MarksPlace place false (is_disarmed self.old.log.stations.entries) (is_disarmed self.new.log.stations.entries) }
         ensures bases { Leaves place (base_at self.old.log.stations.entries) (base_at self.new.log.stations.entries) }
     {
@@ -302,25 +281,23 @@ impl<M: Maker + Drop, P: Poller + Drop, I: Port, O: Port, E: Port> World for Des
 
     /// Writes the text to standard error, which is begun first.
     fn note(&mut self, text: &[u8]) -> NoteAnswer
-        ensures act { Answered self.old.log.recording.told self.new.log.recording.told (hold_at self.old.log.stations.entries) (hold_at self.new.log.stations.entries) (note_act text.now result) }
+        ensures act { let seen = ⟦<Desk<M, P, I, O, E> as World>⟧.seen in Answered (seen self.old) (seen self.new) (note_act text.now result) }
         ensures cause { Rose self.old.log.faults self.new.log.faults (is_note_fault result) }
         ensures exact { CountsOnce self.old.log.faults self.new.log.faults (is_note_fault result) }
-        ensures waits { self.new.waits ≡ self.old.waits }
-        ensures stops { self.old.stops ≤ self.new.stops }
+        ensures waitless { let seen = ⟦<Desk<M, P, I, O, E> as World>⟧.seen in Waitless (seen self.old) (seen self.new) }
         ensures unstopped { self.new.stops ≡ self.old.stops }
-        ensures clock { self.new.clock.last ≡ self.old.clock.last }
-        ensures streams { (self.new.ports.harbor.input ≡ self.old.ports.harbor.input) × (self.new.ports.harbor.output ≡ self.old.ports.harbor.output) × (self.new.ports.harbor.made ≡ self.old.ports.harbor.made) }
+        ensures streams { (self.new.ports.table.input ≡ self.old.ports.table.input) × (self.new.ports.table.output ≡ self.old.ports.table.output) × (self.new.ports.table.made ≡ self.old.ports.table.made) }
         ensures said { NotedSo result
-            self.old.ports.harbor.errors.port.took
-            self.new.ports.harbor.errors.port.took
+            self.old.ports.table.errors.port.took
+            self.new.ports.table.errors.port.took
             text.now }
-        ensures call { NotesAs result self.old.ports.harbor.errors self.new.ports.harbor.errors text.now }
+        ensures call { NotesAs result self.old.ports.table.errors self.new.ports.table.errors text.now }
         ensures rest { (self.new.ports.maker ≡ self.old.ports.maker) × (self.new.ports.parents.items ≡ self.old.ports.parents.items) }
-        ensures unshut { self.new.ports.harbor.errors.port.shuts
-            ≡ self.old.ports.harbor.errors.port.shuts }
+        ensures unshut { self.new.ports.table.errors.port.shuts
+            ≡ self.old.ports.table.errors.port.shuts }
         ensures errors { is_note_fault result ≡ true → Rises
-            self.old.ports.harbor.errors.port.counts.faults
-            self.new.ports.harbor.errors.port.counts.faults }
+            self.old.ports.table.errors.port.counts.faults
+            self.new.ports.table.errors.port.counts.faults }
         ensures marks { SameMarks (is_disarmed self.old.log.stations.entries) (is_disarmed self.new.log.stations.entries) }
         ensures bases { SameBases (base_at self.old.log.stations.entries) (base_at self.new.log.stations.entries) }
     {
@@ -345,14 +322,12 @@ impl<M: Maker + Drop, P: Poller + Drop, I: Port, O: Port, E: Port> World for Des
     fn reap(&mut self, place: Place) -> ReapAnswer
         requires free { hold_at self.old.log.stations.entries place ≡ Free }
         requires once { NotReaped self.old.log.recording.told place }
-        ensures act { Answered self.old.log.recording.told self.new.log.recording.told (hold_at self.old.log.stations.entries) (hold_at self.new.log.stations.entries) (reap_act place result) }
+        ensures act { let seen = ⟦<Desk<M, P, I, O, E> as World>⟧.seen in Answered (seen self.old) (seen self.new) (reap_act place result) }
         ensures exact { self.new.log.faults ≡ self.old.log.faults }
         ensures faults { self.old.log.faults ≤ self.new.log.faults }
-        ensures waits { self.new.waits ≡ self.old.waits }
-        ensures stops { self.old.stops ≤ self.new.stops }
+        ensures waitless { let seen = ⟦<Desk<M, P, I, O, E> as World>⟧.seen in Waitless (seen self.old) (seen self.new) }
         ensures unstopped { self.new.stops ≡ self.old.stops }
-        ensures clock { self.new.clock.last ≡ self.old.clock.last }
-        ensures ports { (self.new.ports.harbor ≡ self.old.ports.harbor) × (self.new.ports.maker ≡ self.old.ports.maker) }
+        ensures ports { (self.new.ports.table ≡ self.old.ports.table) × (self.new.ports.maker ≡ self.old.ports.maker) }
         ensures reaped { ReapsAnswered (find (λ b. same_place b.place place) self.old.ports.parents.items) result }
         ensures parents { ReapsOut place result self.old.ports.parents.items self.new.ports.parents.items }
         ensures marks { SameMarks (is_disarmed self.old.log.stations.entries) (is_disarmed self.new.log.stations.entries) }

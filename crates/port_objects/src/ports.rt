@@ -52,7 +52,9 @@ impl MemPort {
     /// Appends the item, or changes nothing. Bytes are at least one.
     pub fn add(&mut self, item: PortItem) -> Result<(), NoMemory>
         requires { IsFilled item }
-        ensures ok { OnOk result (self.new ≡ record self.old { script = record self.old.script { items = self.old.script.items ++ item ∷ [] } }) }
+        ensures ok { OnOk result
+            (self.new
+            ≡ record self.old { script = record self.old.script { items = self.old.script.items ++ item ∷ [] } }) }
         ensures given { given_of self.new.script ≡ given_of self.old.script }
         ensures err { OnErr result (self.new ≡ self.old) }
     {
@@ -112,8 +114,11 @@ impl Port for MemPort {
     /// Uses the next item, long bytes in parts.
     fn read(&mut self, into: &mut [u8]) -> Got
         requires { 0 < length into.old }
-        ensures answer { result ≡ scripted_read (slice_get self.old.script.items self.old.script.next) self.old.script.at (length into.new) }
-        ensures used { self.new.script ≡ after_read (slice_get self.old.script.items self.old.script.next) self.old.script (length into.new) }
+        ensures answer { result
+            ≡ scripted_read (slice_get self.old.script.items self.old.script.next) self.old.script.at (length
+            into.new) }
+        ensures used { self.new.script
+            ≡ after_read (slice_get self.old.script.items self.old.script.next) self.old.script (length into.new) }
         ensures gives { Gives (Some (given_of self.old.script)) (Some (given_of self.new.script)) into.new result }
         ensures kept { (self.new.intake ≡ self.old.intake) × (self.new.begun ≡ self.old.begun) }
         ensures ended { self.new.ended ≡ is_end result }

@@ -34,7 +34,8 @@ impl Model for Script {
 
     ghost view = { λ script. record { items = script.items.items; next = script.next; at = script.at } };
 
-    ghost invariant = { λ script. AllFilled script.items.items × (script.next ≤ length script.items.items) × IsWithin (slice_get script.items.items script.next) script.at };
+    ghost invariant = { λ script. AllFilled script.items.items × (script.next ≤ length script.items.items)
+        × IsWithin (slice_get script.items.items script.next) script.at };
 }
 
 impl Script {

@@ -1,9 +1,12 @@
+pub mod Calls
+pub mod Counted
 pub mod Counting
 pub mod Direct
 pub mod Hinting
 pub mod Keys
 pub mod Made
 pub mod Meanings
+pub mod Passages
 pub mod Serving
 pub mod Streams
 pub mod Tasks

@@ -1,5 +1,5 @@
 -- What the calls of a port do to what it gave and took. A meaning that isn't told is None before and after.
-use Rattle.std.specs.Prelude.{◌≡◌, ℕ, ◌≤◌, Bool, true, false, List, [], ◌∷◌, ◌++◌, length, take, Option, None, Some, option_map, IfSome, if◌then◌else◌}
+use Rattle.std.specs.Prelude.{◌≡◌, ℕ, ◌+◌, ◌≤◌, Bool, true, false, List, [], ◌∷◌, ◌++◌, length, take, Option, None, Some, option_map, IfSome, if◌then◌else◌}
 use Rattle.relay_model.specs.declared.acts.Shut.{Shut}
 use Rattle.port_trait.specs.declared.answers.Begun.{Begun as BeginAnswer}
 use Rattle.port_trait.specs.declared.answers.Begun.TheVariants as begins
@@ -62,6 +62,14 @@ is_end reads.Empty = false
 is_end reads.NotYet = false
 is_end reads.Failed = false
 
+-- a read met an empty packet
+abbrev pub is_empty : Got → Bool
+is_empty reads.Empty = true
+is_empty (reads.Bytes n) = false
+is_empty reads.End = false
+is_empty reads.NotYet = false
+is_empty reads.Failed = false
+
 -- a write failed
 abbrev pub is_write_fault : WriteAnswer → Bool
 is_write_fault (writes.Took n) = false
@@ -84,6 +92,10 @@ IsOfStream reads.Failed = Unit {0}
 -- one way more that an end was passed on
 abbrev pub noted : Shut → Option (List Shut) → Option (List Shut)
 noted how before = option_map (λ all. all ++ how ∷ []) before
+
+-- one empty packet more, where this answer is one
+abbrev pub emptied : Got → Option ℕ → Option ℕ
+emptied got before = option_map (λ n. if is_empty got then n + 1 else n) before
 
 -- these bytes were added to what is told
 abbrev pub Adds : Option (List ℕ) → Option (List ℕ) → List ℕ → Type 0

@@ -56,6 +56,12 @@ abbrev pub WriterTakes : Option (List ℕ) → Option (List ℕ) → List ℕ �
 WriterTakes before now bytes (takes.Took n) = Appends before now (take n bytes)
 WriterTakes before now bytes takes.Failed = Keeps before now
 
+-- what it holds after all of the bytes were to be written: all of them more, or those before a fault
+abbrev pub WriterTakesAll : Option (List ℕ) → Option (List ℕ) → List ℕ → WriteAnswer → Type 0
+WriterTakesAll before now bytes (writes.Took n) = (n ≡ length bytes) × Appends before now bytes
+WriterTakesAll before now bytes writes.NotYet = ⊥
+WriterTakesAll before now bytes writes.Failed = (n : ℕ) × (n ≤ length bytes) × Appends before now (take n bytes)
+
 -- the answer of a source that stands behind this answer of a port
 abbrev pub as_source_answer : Got → SourceGot
 as_source_answer (reads.Bytes n) = gives.Bytes n

@@ -1,10 +1,11 @@
 // Ports that call their source or sink in the call itself, which may block.
-ghost use Rattle.std.specs.Prelude.{◌≡◌, ◌≢◌, ◌<◌, ◌≤◌, ◌++◌, Bool, true, false, not, length, take, option_map};
+ghost use Rattle.std.specs.Prelude.{◌≡◌, ◌≢◌, ◌<◌, Bool, true, false, not, length};
 ghost use Rattle.port_trait.specs.Counting.{Tallied, Counted};
 ghost use Rattle.port_trait.specs.Direct.{fresh_reading, fresh_writing, with_fault};
 ghost use Rattle.port_trait.specs.Hinting.{no_hint};
 ghost use Rattle.port_trait.specs.Meanings.{AcceptsAll, is_end, read_event, write_event, shut_event, is_write_fault, is_shut_fault, IsOfStream};
-ghost use Rattle.port_trait.specs.Streams.{SourceGives, SinkTakes, source_failed, source_ended, sink_failed, as_source_answer, as_sink_answer, finishes};
+ghost use Rattle.port_trait.specs.Streams.{SourceGives, SinkTakes, ReaderGives, WriterTakes, WriterTakesAll, source_failed, source_ended, sink_failed, as_source_answer, as_sink_answer, finishes};
+ghost use Rattle.std.specs.Io.KnownBytes.{Keeps};
 ghost use Rattle.port_trait.specs.declared.answers.Begun.TheVariants as begins;
 ghost use Rattle.port_trait.specs.declared.answers.Settled.TheVariants as settles;
 ghost use Rattle.port_trait.specs.declared.answers.Got.TheVariants as reads;
@@ -19,6 +20,7 @@ use crate::answers::{
 use crate::counts::Counts;
 use crate::ports::Port;
 use crate::streams::{Sink, Source};
+use crate::texts::write_front;
 use relay_model::Shut;
 use std::marker::Model;
 
@@ -85,6 +87,7 @@ impl<S: Source + Drop> Port for DirectReader<S> {
     fn read(&mut self, into: &mut [u8]) -> Got
         requires { 0 < length into.old }
         ensures source { SourceGives (S.left self.old.source) (S.left self.new.source) into.new (as_source_answer result) }
+        ensures rest { ReaderGives (S.rest self.old.source) (S.rest self.new.source) into.new (as_source_answer result) }
         ensures source_faults { Counted (source_failed (as_source_answer result)) (S.faults self.old.source) (S.faults self.new.source) }
         ensures source_ends { Counted (source_ended (as_source_answer result)) (S.ends self.old.source) (S.ends self.new.source) }
         ensures stream { IsOfStream result }
@@ -252,6 +255,7 @@ impl<K: Sink + Drop> Port for DirectWriter<K> {
     fn write(&mut self, bytes: &[u8]) -> Took
         requires { 0 < length bytes.now }
         ensures sink { SinkTakes (K.took self.old.sink) (K.took self.new.sink) bytes.now (as_sink_answer result) }
+        ensures held { WriterTakes (K.holds self.old.sink) (K.holds self.new.sink) bytes.now (as_sink_answer result) }
         ensures sink_faults { Counted (sink_failed (as_sink_answer result)) (K.faults self.old.sink) (K.faults self.new.sink) }
         ensures no_stall { result ≢ writes.NotYet }
         ensures kept { (self.new.begun ≡ self.old.begun) × (self.new.ended ≡ self.old.ended) }
@@ -278,6 +282,7 @@ impl<K: Sink + Drop> Port for DirectWriter<K> {
     /// Writes all bytes to the sink, one write after another, or as many as it takes before its first fault.
     fn put_all(&mut self, bytes: &[u8]) -> Took
         ensures sink { AcceptsAll (K.took self.old.sink) (K.took self.new.sink) bytes.now result }
+        ensures held { WriterTakesAll (K.holds self.old.sink) (K.holds self.new.sink) bytes.now result }
         ensures sink_faults { Counted (is_write_fault result) (K.faults self.old.sink) (K.faults self.new.sink) }
         ensures kept { (self.new.begun ≡ self.old.begun) × (self.new.ended ≡ self.old.ended) }
         ensures counts { Tallied (write_event result) self.old.counts self.new.counts }
@@ -293,6 +298,7 @@ impl<K: Sink + Drop> Port for DirectWriter<K> {
     /// Finishes the sink at `Down` and `Close`.
     fn shut(&mut self, how: Shut) -> Shutting
         ensures sink { K.took self.new.sink ≡ K.took self.old.sink }
+        ensures held { Keeps (K.holds self.old.sink) (K.holds self.new.sink) }
         ensures finished { finishes how ≡ true → K.finished self.new.sink ≡ not (is_shut_fault result) }
         ensures sink_faults { Counted (is_shut_fault result) (K.faults self.old.sink) (K.faults self.new.sink) }
         ensures untouched { finishes how ≡ false → (result ≡ shuts.Done) × (self.new ≡ self.old) }
@@ -343,21 +349,4 @@ impl<K: Sink + Drop> Port for DirectWriter<K> {
     {
         Joining::Joined
     }
-}
-
-/// Writes until all bytes are taken or the sink fails, and counts what it took.
-fn write_front<K: Sink>(sink: &mut K, bytes: &[u8]) -> (usize, bool)
-    ensures bound { result.0 ≤ length bytes.now }
-    ensures all { result.1 ≡ false → result.0 ≡ length bytes.now }
-    ensures taken { K.took sink.new ≡ option_map (λ all. all ++ take result.0 bytes.now) (K.took sink.old) }
-    ensures faults { Counted result.1 (K.faults sink.old) (K.faults sink.new) }
-{
-    let mut count = 0;
-    while count < bytes.len() {
-        match sink.write(&bytes[count..]) {
-            SinkTook::Took(more) => count += more,
-            SinkTook::Failed => return (count, true),
-        }
-    }
-    (count, false)
 }

@@ -2,7 +2,9 @@
 // ports, waits and wakes. The words of their contracts stand in `specs/`.
 #![tactic(auto)]
 
+mod account;
 mod answers;
+mod call;
 mod counts;
 mod direct;
 mod keys;
@@ -11,10 +13,14 @@ mod pollers;
 mod ports;
 mod spawning;
 mod streams;
+mod tallies;
+mod texts;
 
+pub use account::Account;
 pub use answers::{
     Begun, Got, Hint, Joining, PortReap, Settled, Shutting, SinkTook, SourceGot, Took,
 };
+pub use call::Call;
 pub use counts::Counts;
 pub use direct::{DirectReader, DirectWriter};
 pub use keys::KeyList;
@@ -23,3 +29,7 @@ pub use pollers::{Polled, Poller};
 pub use ports::Port;
 pub use spawning::{Spawner, StdSpawner, Task, Wake};
 pub use streams::{Sink, Source, StdSink, StdSource, copy_front};
+pub use tallies::{
+    count_beginning, count_reading, count_settling, count_shutting, count_writing, is_end,
+};
+pub use texts::{write_front, write_whole};

@@ -23,12 +23,12 @@ use Rattle.relay_model.specs.May.{Legal}
 use Rattle.relay_model.specs.Laws.{DoorTells}
 use Rattle.relay_model.specs.Frames.{is_at, is_turn, is_common, IsForeign}
 use Rattle.relay_model.specs.Rest.{SessionRests}
-use Rattle.legal_steps.proofs.PlaceLemmas.{same_place_equal, same_place_self}
-use Rattle.legal_steps.proofs.Elsewhere.{elsewhere, steps_leave}
-use Rattle.legal_steps.proofs.Admissions.{door_says, door_called}
-use Rattle.legal_steps.proofs.OwnThings.{place_own}
+use Rattle.history_lemmas.proofs.PlaceLemmas.{same_place_equal, same_place_self}
+use Rattle.history_lemmas.proofs.Elsewhere.{elsewhere, steps_leave}
+use Rattle.history_lemmas.proofs.Admissions.{door_says, door_called}
+use Rattle.history_lemmas.proofs.OwnThings.{place_own}
 use Rattle.relay_laws.proofs.Apart.{closed_step}
-use Rattle.legal_steps.proofs.Resting.{silent}
+use Rattle.history_lemmas.proofs.Resting.{silent}
 use Rattle.program_door.specs.declared.doors.Door.{Door}
 use Rattle.program_door.specs.Causes.{door_cause, cut_after}
 use Rattle.program_door.specs.Stands.{DoorStands}
@@ -210,9 +210,9 @@ closes c past q why door s p =
 not_below : (n : ℕ) → nat_lt n n ≡ false
 not_below n = false_from_ne_true (nat_lt n n) (λ e. let h = ltb-true n n e in let x : ⊥ = omega (arith, h) in x)
 
-unborn : (fork b : Bool) (n : ℕ) → fork ≡ true → cond fork (nat_lt n n && b) (n == 0) ≡ false
-unborn true b n e = ap (λ x. x && b) (not_below n)
-unborn false b n e = cc
+pending_session : (fork b : Bool) (n : ℕ) → fork ≡ true → cond fork (nat_lt n n && b) (n == 0) ≡ false
+pending_session true b n e = ap (λ x. x && b) (not_below n)
+pending_session false b n e = cc
 
 pub next_rests : (c : Config) (past : List Act) → has_fork c ≡ true → holds c past (admitted c past) ≡ false → SessionRests c past (admitted c past)
-next_rests c past fork none = silent c past (admitted c past) (unborn (has_fork c) (holds c past (admitted c past)) (admitted c past) fork) none
+next_rests c past fork none = silent c past (admitted c past) (pending_session (has_fork c) (holds c past (admitted c past)) (admitted c past) fork) none

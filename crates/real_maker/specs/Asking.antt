@@ -1,5 +1,5 @@
 -- What a proxy is asked for.
-use Rattle.std.specs.Prelude.{◌≡◌, ℕ, Bool, true, false, List}
+use Rattle.std.specs.Prelude.{◌≡◌, ◌<◌, ℕ, Bool, true, false, List, length}
 use Rattle.std.specs.Net.Addr.{ipv4_octets}
 use Rattle.std.specs.declared.net.ip_addr.IpAddr.TheVariants as ips
 use Rattle.std.specs.declared.net.ipv4_addr.Ipv4Addr.{Ipv4Addr}
@@ -7,8 +7,8 @@ use Rattle.host_lookup.specs.Hosts.{IsNameOf, WritesIp}
 use Rattle.relay_model.specs.declared.commands.Options.{Options}
 use Rattle.relay_model.specs.declared.commands.Target.{Target}
 use Rattle.relay_model.specs.declared.commands.Target.TheVariants as targets
-use Rattle.socks_port.specs.Requests.{socks4, socks4a}
-use Rattle.connect_port.specs.Requests.{connect_request}
+use Rattle.tunnel_port.specs.SocksRequests.{socks4, socks4a}
+use Rattle.tunnel_port.specs.ConnectRequests.{connect_request}
 use Rattle.real_maker.specs.declared.socks.SocksStage.{SocksStage}
 use Rattle.real_maker.specs.declared.socks.SocksStage.TheVariants as stages
 use Rattle.real_maker.specs.declared.ports.RealPort.{RealPort}
@@ -27,12 +27,12 @@ AsksAt false host wanted user (stages.Talking port) = IsWrittenRequest host want
 AsksAt false host wanted user (stages.Asking asked) = IsNameOf host asked.name × (asked.port ≡ wanted) × (asked.user ≡ user)
 AsksAt false host wanted user stages.Over = ⊥
 
--- once the host is found, the server is asked for these octets, at the port and in the name of the user that are kept; a
--- user may be too long
+-- once the host is found, the server is asked for these octets, at the port and in the name of the user that are kept.
+-- Only a user of more than 255 bytes isn't told
 abbrev pub AsksFound : List ℕ → SocksStage → SocksStage → Type 0
 AsksFound octets (stages.Asking asked) (stages.Talking port) = port.talk.request ≡ socks4 octets asked.port asked.user
 AsksFound octets (stages.Asking asked) (stages.Asking other) = ⊥
-AsksFound octets (stages.Asking asked) stages.Over = Unit {0}
+AsksFound octets (stages.Asking asked) stages.Over = 255 < length asked.user
 AsksFound octets _ now = Unit {0}
 
 -- the port asks one

@@ -6,8 +6,8 @@ use Rattle.file_ports.specs.Halves.{HalvesState}
 use Rattle.file_ports.specs.declared.stream.FileStream.{FileStream}
 use Rattle.tunnel_port.specs.Tunnels.{TunnelState}
 use Rattle.real_maker.specs.SocksStages.{OpeningState}
-use Rattle.connect_port.specs.Replies.{ConnectState}
-use Rattle.peer_ports.specs.Ports.{PeerState}
+use Rattle.tunnel_port.specs.ConnectReplies.{ConnectState}
+use Rattle.socket_ports.specs.Ports.{PeerState}
 use Rattle.socket_ports.specs.Sockets.{PortState}
 use Rattle.socket_maker.specs.declared.port.HostPort.{HostPort}
 

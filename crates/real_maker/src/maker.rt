@@ -13,7 +13,7 @@ ghost use Rattle.socket_kinds.specs.Kinds.{Listening};
 ghost use Rattle.socket_maker.specs.Makings.{opened_sort};
 ghost use Rattle.socket_maker.specs.Ports.{is_door_port, is_unix_door_port, port_sort};
 ghost use Rattle.socket_maker.specs.declared.port.HostPort.{HostPort};
-ghost use Rattle.peer_ports.specs.Ports.{PeerState};
+ghost use Rattle.socket_ports.specs.Ports.{PeerState};
 ghost use Rattle.file_ports.specs.Opened.{OnMade};
 ghost use Rattle.mio_poller.specs.Pollers.{is_reserved};
 ghost use Rattle.real_maker.specs.Made.{lacking_of, is_shared};
@@ -28,14 +28,14 @@ use crate::opening::{OfSocket, make_echo};
 use crate::ports::RealPort;
 use crate::proxied::{Through, through_proxy, through_socks};
 use crate::reserve::Reserve;
-use child_ports::{Nursery, make_child};
+use child_ports::{UnreapedChildren, make_child};
 use file_ports::{PipeOpenings, make_file};
 use mio::{Poll, Registry};
 use mio_poller::{MioPoller, is_reserved};
-use peer_ports::{Gathering, PeerPoller, PeerPort};
 use port_trait::{MadePeer, Maker, Making, Port};
 use relay_model::{NoMemory, Part, Peer, Place, Single, Target};
 use socket_maker::{SocketMaker, bind_door, door_address};
+use socket_ports::{Gathering, PeerPoller, PeerPort};
 use std::alloc::Global;
 use std::fs::Files;
 use std::marker::Model;
@@ -57,7 +57,7 @@ pub struct RealMaker<R> {
     // none where no poller reports what is made
     sockets: Option<SocketMaker<R>>,
     reserve: Reserve,
-    nursery: Nursery<SystemProcess>,
+    unreaped: UnreapedChildren<SystemProcess>,
     openings: PipeOpenings,
     faults: u64,
     stalls: u64,
@@ -158,7 +158,7 @@ where
     ) -> Result<RealMaker<R>, NoMemory>
         ensures { IfOk result IsFreshMaker }
     {
-        let nursery = Nursery::new(alloc)?;
+        let unreaped = UnreapedChildren::new(alloc)?;
         let registry = Rc::new(alloc, registry)?;
         let reserve = Reserve::of(alloc, registry.clone()?);
         Ok(RealMaker {
@@ -169,7 +169,7 @@ where
             gathering,
             sockets,
             reserve,
-            nursery,
+            unreaped,
             openings,
             faults: 0,
             stalls: 0,
@@ -237,7 +237,7 @@ where
         ensures same { self.new ≡ self.old }
         ensures kind { OnPort (IsOpenedFor single.now.target) result }
     {
-        self.nursery.ask_all();
+        self.unreaped.ask_all();
         match kind_of(&self.system, single) {
             Kind::Echo => make_echo(self.alloc),
             Kind::Socket => self.open_socket(key, place, single),
@@ -280,7 +280,7 @@ where
     ) -> Making<RealPort>
         ensures { OnPort (IsOpenedFor single.now.target) result }
     {
-        let (registry, nursery) = (&self.registry, &self.nursery);
+        let (registry, unreaped) = (&self.registry, &self.unreaped);
         let target = &single.target;
         let mut system = self.system;
         match make_child(
@@ -288,7 +288,7 @@ where
             self.alloc,
             registry,
             key,
-            nursery,
+            unreaped,
             target,
             part,
             behind,

@@ -4,11 +4,11 @@ ghost use Rattle.real_maker.specs.Ports.{of_port};
 use crate::opening::OfSocket;
 use crate::socks::SocksOpening;
 use child_ports::ChildPort;
-use connect_port::ConnectPort;
 use file_ports::{EchoPort, FilePort};
-use peer_ports::PeerPort;
 use port_trait::{Begun, Got, Hint, Joining, Port, PortReap, Settled, Shutting, Took};
 use relay_model::Shut;
+use socket_ports::PeerPort;
+use tunnel_port::ConnectPort;
 
 /// The echo pipe, a socket, a file, a program, a connection through a proxy, or a door of datagrams or its peer. Each
 /// call is that call on the port that it is. It has no type parameters: where a maker stands for one, a port without

@@ -11,17 +11,16 @@ ghost use Rattle.real_maker.specs.Kinds.{IsOpenedFor, is_proxy, is_socks};
 use crate::opening::OfSocket;
 use crate::ports::RealPort;
 use crate::socks::{AskedLater, MOST, SocksOpening, SocksStage, request_to};
-use connect_port::ConnectPort;
 use host_lookup::{Lookup, Written, written_host};
 use port_trait::Making;
 use relay_model::{Options, Text};
 use socket_maker::SocketMaker;
-use socks_port::{Request, SocksPort, request4a};
 use std::alloc::Global;
 use std::fs::Files;
 use std::net::{IpAddr, Ipv4Addr, Net};
 use std::thread::Threads;
 use std::time::Clock;
+use tunnel_port::{ConnectPort, Request, SocksPort, request4a};
 
 /// The proxy's host, and the host and port that it is asked for.
 #[derive(Clone, Copy)]

@@ -1,22 +1,22 @@
 // A connection through a SOCKS server, also while the host that it is asked for is looked up.
-ghost use Rattle.std.specs.Prelude.{◌≡◌, None, true, false, IfSome};
+ghost use Rattle.std.specs.Prelude.{◌≡◌, ◌<◌, None, true, false, IfSome, length};
 ghost use Rattle.std.specs.Net.Addr.{ipv4_octets};
 ghost use Rattle.std.specs.Net.Socket.{v4_ip};
-ghost use Rattle.socks_port.specs.Requests.{socks4};
+ghost use Rattle.tunnel_port.specs.SocksRequests.{socks4};
 ghost use Rattle.real_maker.specs.Asking.{AsksFound};
 ghost use Rattle.real_maker.specs.SocksStages.{stage_gave, stage_hinting, stage_hints, stage_took};
 
 use crate::opening::OfSocket;
-use answer_counts::{
-    count_beginning, count_reading, count_settling, count_shutting, count_writing, is_end,
-};
 use host_lookup::{Looked, Lookup};
-use port_trait::{Begun, Counts, Got, Hint, Joining, Port, PortReap, Settled, Shutting, Took};
+use port_trait::{
+    Begun, Counts, Got, Hint, Joining, Port, PortReap, Settled, Shutting, Took, count_beginning,
+    count_reading, count_settling, count_shutting, count_writing, is_end,
+};
 use relay_model::{Shut, Text};
-use socks_port::{Request, SocksPort, request4};
 use std::marker::Model;
 use std::mem;
 use std::net::SocketAddrV4;
+use tunnel_port::{Request, SocksPort, request4};
 
 /// The most bytes of a user and of a host that a proxy is told.
 pub(crate) const MOST: usize = 255;
@@ -40,7 +40,8 @@ impl Model for AskedLater {
 
 /// The request of SOCKS4 to be connected to this address (socat(1), `SOCKS4`). `None` where the user is too long.
 pub(crate) fn request_to(addr: [u8; 4], port: u16, user: &[u8]) -> Option<Request>
-    ensures { IfSome result (λ request. request ≡ socks4 addr port user.now) }
+    ensures asked { IfSome result (λ request. request ≡ socks4 addr port user.now) }
+    ensures too_long { result ≡ None → 255 < length user.now }
 {
     if user.len() > MOST {
         return None;

@@ -13,7 +13,7 @@ use Rattle.cmd_words.specs.declared.commands.Command.TheVariants.{Relay}
 use Rattle.cmd_words.specs.Commands.{command}
 use Rattle.relay_audit.specs.declared.verdicts.Verdict.{Verdict}
 use Rattle.relay_audit.specs.declared.verdicts.Verdict.TheVariants.{Yes, BadLine, BadWords, Illegal}
-use Rattle.legal_judge.specs.Judging.{IsFirstIllegal}
+use Rattle.relay_audit.specs.Judging.{IsFirstIllegal}
 use Rattle.relay_audit.specs.Verdicts.{Reads, IsVerdictOn, IsVerdictFor, IsVerdictOf}
 
 -- what is known of texts and of legal histories

@@ -1,2 +1,4 @@
+pub mod Judging
+pub mod Pasts
 pub mod Reports
 pub mod Verdicts

@@ -5,9 +5,8 @@ ghost use Rattle.relay_audit.specs.declared.reports.Unread.TheVariants as unread
 ghost use Rattle.relay_audit.specs.Reports.{IsReportOf, yes_line, line_of_verdict, line_of, status_of_verdict, status_of, Reported, ReportedBeneath, HasRead, HasReadBeneath, WhyUnread};
 
 use crate::verdicts::{Verdict, audit};
-use port_trait::{Sink, Source, SourceGot};
+use port_trait::{Sink, Source, SourceGot, write_whole};
 use relay_model::{NoMemory, Text};
-use sink_texts::write_whole;
 use std::alloc::{AllocError, Global};
 
 /// What the auditor reports of what a source gives.
@@ -48,7 +47,8 @@ impl From<AllocError> for Unread {
 
 /// Reads the source to its end, or until it has given more than is audited.
 fn read_text<S: Source>(alloc: Global, source: &mut S) -> Result<Vec<u8>, Unread>
-    ensures text { IfOk result (λ text. HasRead text.items (S.left source.old) (S.left source.new) (S.ends source.old) (S.ends source.new)) }
+    ensures text { IfOk result
+        (λ text. HasRead text.items (S.left source.old) (S.left source.new) (S.ends source.old) (S.ends source.new)) }
     ensures beneath { IfOk result (λ text. HasReadBeneath text.items (S.rest source.old) (S.rest source.new)) }
     ensures unread { IfErr result (WhyUnread (S.faults source.old) (S.faults source.new)) }
 {
@@ -125,8 +125,12 @@ pub fn audit_run<S: Source, K: Sink>(
     turns: u64,
 ) -> u8
     ensures known { result < 4 }
-    ensures reported { result < 2 → Reported words.now turns (S.left source.old) (S.left source.new) (S.ends source.old) (S.ends source.new) (K.took sink.old) (K.took sink.new) result }
-    ensures beneath { result < 2 → ReportedBeneath words.now turns (S.rest source.old) (S.rest source.new) (K.holds sink.old) (K.holds sink.new) result }
+    ensures reported { result < 2
+        → Reported words.now turns (S.left source.old) (S.left source.new) (S.ends source.old) (S.ends
+        source.new) (K.took sink.old) (K.took sink.new) result }
+    ensures beneath { result < 2
+        → ReportedBeneath words.now turns (S.rest source.old) (S.rest source.new) (K.holds sink.old) (K.holds
+        sink.new) result }
     ensures finished { result < 2 → K.finished sink.new ≡ true }
     ensures failed { result ≡ 3 → (Rose (S.faults source.old) (S.faults source.new)) ⊎ (Rose (K.faults sink.old) (K.faults sink.new)) }
 {

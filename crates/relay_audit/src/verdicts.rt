@@ -4,9 +4,9 @@ ghost use Rattle.cmd_words.specs.declared.commands.Command.TheVariants.{Relay};
 ghost use Rattle.cmd_words.specs.Commands.{command};
 ghost use Rattle.relay_audit.specs.Verdicts.{IsRelayOf, IsVerdictOn, IsVerdictFor, IsVerdictOf};
 
+use crate::judging::{Judgement, judge};
 use cmd_words::{Command, CommandFault, command_of};
 use journal_text::{JournalFault, read_journal};
-use legal_judge::{Judgement, judge};
 use relay_model::{Config, Journal, NoMemory, Text};
 use std::alloc::Global;
 

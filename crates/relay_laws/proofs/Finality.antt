@@ -33,12 +33,12 @@ use Rattle.relay_model.specs.Rest.{is_going}
 use Rattle.relay_model.specs.May.{Legal, Licensed, by_cause, by_refusal, by_service, by_door, by_memory, by_turns}
 use Rattle.relay_model.specs.Laws.{uses, DoorTells}
 use Rattle.relay_model.specs.Frames.{is_at, reaps, fails_to_open, fails_to_accept, fails_to_read, fails_to_write}
-use Rattle.legal_steps.proofs.PlaceLemmas.{same_place_equal, same_place_self}
-use Rattle.legal_steps.proofs.Elsewhere.{steps_leave}
-use Rattle.legal_steps.proofs.Holdings.{used_held, moves_running}
+use Rattle.history_lemmas.proofs.PlaceLemmas.{same_place_equal, same_place_self}
+use Rattle.history_lemmas.proofs.Elsewhere.{steps_leave}
+use Rattle.history_lemmas.proofs.Holdings.{used_held, moves_running}
 use Rattle.relay_laws.proofs.Served.{is_gone, gone_free, called_unserved, Unserved, not_opened, refused}
-use Rattle.legal_steps.proofs.OwnThings.{EachOwn, each_place, each_door, each_thing, among_own, place_own}
-use Rattle.legal_steps.proofs.Admissions.{door_says, door_called, admission_tells, call_of_dead, call_of_ended, no_open, no_listen}
+use Rattle.history_lemmas.proofs.OwnThings.{EachOwn, each_place, each_door, each_thing, among_own, place_own}
+use Rattle.history_lemmas.proofs.Admissions.{door_says, door_called, admission_tells, call_of_dead, call_of_ended, no_open, no_listen}
 
 -- ---- acts at what is gone
 
@@ -137,8 +137,8 @@ admitted_lasts : (c : Config) (later past : List Act) → admitted c past ≤ ad
 admitted_lasts c [] past = let r : admitted c past ≤ admitted c past = omega arith in r
 admitted_lasts c (act ∷ later) past = le_trans (admitted_lasts c later past) (admitted_after c act (later ++ past))
 
-unborn : (c : Config) (past : List Act) (s : ℕ) → has_fork c ≡ true → admitted c past ≤ s → live c past s ≡ false
-unborn c past s fork below =
+pending_session : (c : Config) (past : List Act) (s : ℕ) → has_fork c ≡ true → admitted c past ≤ s → live c past s ≡ false
+pending_session c past s fork below =
     let early : nat_lt s (admitted c past) ≡ false = false_from_ne_true (nat_lt s (admitted c past)) (λ e. let l = ltb-true s (admitted c past) e in omega (arith, l, below)) in
     ap (λ f. cond f (nat_lt s (admitted c past) && holds c past s) (s == 0)) fork ∙ and_left (nat_lt s (admitted c past)) (holds c past s) early
 
@@ -147,7 +147,7 @@ no_motion c past q p w fork below e m =
     let there : admitted c past ≤ q.session = subst (λ (x : Place). admitted c past ≤ x.session) (sym (same_place_equal q p e)) below in
     let r = moves_running c past q.session w m in
     let alive = (and_parts (live c past q.session) (ready c past q.session) (and_parts (live c past q.session && ready c past q.session) (is_none (cause c past q.session)) r).0).0 in
-    true≢false (sym alive ∙ unborn c past q.session fork there)
+    true≢false (sym alive ∙ pending_session c past q.session fork there)
 
 no_wait : (c : Config) (past : List Act) (q : Place) → call c past q.session ≡ Nothing → is_program_door c q ≡ false → ((p : Place) × (called_at c past q ≡ Accept q p)) → ⊥
 no_wait c past q nothing own (p, e) = go (is_left q && has_fork c) refl e
@@ -185,7 +185,7 @@ no_work :
 no_work c n act past p legal fork below own at work = refute act legal at work
   where
     none : call c past p.session ≡ Nothing
-    none = call_of_dead c past p.session (unborn c past p.session fork below)
+    none = call_of_dead c past p.session (pending_session c past p.session fork below)
 
     refute : (a : Act) → Legal c n (a ∷ past) → is_at a p ≡ true → is_called_for a ≡ true → ⊥
     refute (Opened q) l e k = no_open c past p none (subst (λ x. (called_at c past x ≡ Open x) ⊎ (called_at c past x ≡ Settle x)) (same_place_equal q p e) l.0.1)
@@ -333,7 +333,7 @@ unclosed_stays c n (Closed q why) past s legal fork below uncut uncaused f = go 
     go true k =
         let a = and_parts (is_of c s q) (is_end q why) k in
         let own = among_own c s q (things c s) (each_thing c s) a.0 in
-        let none : call c past q.session ≡ Nothing = ap (call c past) own.0 ∙ call_of_dead c past s (unborn c past s fork below) in
+        let none : call c past q.session ≡ Nothing = ap (call c past) own.0 ∙ call_of_dead c past s (pending_session c past s fork below) in
         absurd (unlicensed c n past s q why none uncut uncaused own.0 own.1 a.1 legal.0.licensed)
     go false k = f
 unclosed_stays c n act past s legal fork below uncut uncaused f = f

@@ -1,4 +1,6 @@
 pub mod Examples
 pub mod Holdings
+pub mod Laws
 pub mod Packets
+pub mod Sleeps
 pub mod Stories

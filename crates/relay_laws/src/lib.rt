@@ -5,6 +5,7 @@ mod doors;
 mod frames;
 mod histories;
 mod packets;
+mod sleepers;
 mod waits;
 
 pub use doors::{
@@ -22,4 +23,5 @@ pub use histories::{
     used_is_held, written_is_due,
 };
 pub use packets::{packets_are_due, packets_keep_borders};
+pub use sleepers::{gone_rests, rests_through, slept_is_tick, slept_through, wakes_alike};
 pub use waits::{rest_is_of_parts, until_is_least};

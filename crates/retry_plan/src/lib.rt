@@ -56,7 +56,8 @@ impl Plan {
 
     /// A try failed at this moment.
     pub fn failed(&mut self, at: u64)
-        ensures { (retry : ℕ) (forever : Bool) (interval : ℕ) (failures : List ℕ) → PlanIs retry forever interval failures self.old → PlanIs retry forever interval (at ∷ failures) self.new }
+        ensures { (retry : ℕ) (forever : Bool) (interval : ℕ) (failures : List ℕ)
+            → PlanIs retry forever interval failures self.old → PlanIs retry forever interval (at ∷ failures) self.new }
     {
         self.attempts = self.attempts.saturating_add(1);
         self.last = Some(at);
@@ -64,7 +65,8 @@ impl Plan {
 
     /// When the next try comes.
     pub fn next(&self) -> NextTry
-        ensures { (retry : ℕ) (forever : Bool) (interval : ℕ) (failures : List ℕ) → PlanIs retry forever interval failures self.now → result ≡ next_try retry forever interval failures }
+        ensures { (retry : ℕ) (forever : Bool) (interval : ℕ) (failures : List ℕ)
+            → PlanIs retry forever interval failures self.now → result ≡ next_try retry forever interval failures }
     {
         let Some(last) = self.last else {
             return NextTry::Now;

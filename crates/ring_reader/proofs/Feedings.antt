@@ -6,15 +6,15 @@ use Rattle.std.proofs.lemmas.List.{append-nil, length-append}
 use Rattle.std.proofs.lemmas.Bool.{false≢true}
 use Rattle.std.specs.Io.KnownBytes.{Keeps, Consumes}
 use Rattle.port_trait.specs.Streams.{Loses}
-use Rattle.ordered_queue.specs.declared.roles.View.{View}
-use Rattle.ordered_queue.specs.Order.{view_of}
-use Rattle.ring_items.specs.declared.items.RingItem.{RingItem}
-use Rattle.ring_items.specs.declared.items.RingItem.TheVariants as items
-use Rattle.ring_items.specs.declared.words.Word.{Word}
-use Rattle.ring_items.specs.Items.{item_bytes, bytes_of, is_mark, is_end_mark, is_fault_mark, last_is, marks, end_marks, fault_marks, told, AddsChunks}
+use Rattle.ring_queue.specs.declared.roles.View.{View}
+use Rattle.ring_queue.specs.Order.{view_of}
+use Rattle.ring_queue.specs.declared.items.RingItem.{RingItem}
+use Rattle.ring_queue.specs.declared.items.RingItem.TheVariants as items
+use Rattle.ring_queue.specs.declared.words.Word.{Word}
+use Rattle.ring_queue.specs.Items.{item_bytes, bytes_of, is_mark, is_end_mark, is_fault_mark, last_is, marks, end_marks, fault_marks, told, AddsChunks}
 use Rattle.ring_reader.specs.Feeding.{EndsMarked, SendsLost, Works}
-use Rattle.ring_items.specs.Tallies.{RoseTimes}
-use Rattle.ring_items.proofs.ItemLists.{bytes_snoc, count_snoc, one_counted, last_snoc}
+use Rattle.ring_queue.specs.Tallies.{RoseTimes}
+use Rattle.ring_queue.proofs.ItemLists.{bytes_snoc, count_snoc, one_counted, last_snoc}
 
 -- what went off the front of what is left, and then more of it
 loses_more : (a b c : Option (List ℕ)) (xs ys : List ℕ) → Loses a b xs → Loses b c ys → Loses a c (xs ++ ys)

@@ -9,21 +9,21 @@ use Rattle.port_trait.specs.declared.counts.Counts.{Counts}
 use Rattle.port_trait.specs.Meanings.{Gives, Behind}
 use Rattle.port_trait.specs.Streams.{Loses}
 use Rattle.port_trait.specs.Serving.{rise}
-use Rattle.ordered_queue.specs.declared.roles.View.{View}
-use Rattle.ordered_queue.specs.Order.{view_of}
-use Rattle.ring_items.specs.declared.items.RingItem.{RingItem}
-use Rattle.ring_items.specs.declared.items.RingItem.TheVariants as kinds
-use Rattle.ring_items.specs.declared.lines.Lines.{Lines}
-use Rattle.ring_items.specs.declared.words.Word.{Word}
-use Rattle.ring_items.specs.declared.words.Word.TheVariants as words
+use Rattle.ring_queue.specs.declared.roles.View.{View}
+use Rattle.ring_queue.specs.Order.{view_of}
+use Rattle.ring_queue.specs.declared.items.RingItem.{RingItem}
+use Rattle.ring_queue.specs.declared.items.RingItem.TheVariants as kinds
+use Rattle.ring_queue.specs.declared.lines.Lines.{Lines}
+use Rattle.ring_queue.specs.declared.words.Word.{Word}
+use Rattle.ring_queue.specs.declared.words.Word.TheVariants as words
 use Rattle.ring_reader.specs.declared.reader_stage.Stage.{Stage}
 use Rattle.ring_reader.specs.declared.reader_stage.Stage.TheVariants as stages
-use Rattle.ring_items.specs.Items.{item_bytes, bytes_of, is_mark, is_end_mark, is_fault_mark, last_is, marks, end_marks, fault_marks}
-use Rattle.ring_items.specs.Words.{asks, is_ask}
+use Rattle.ring_queue.specs.Items.{item_bytes, bytes_of, is_mark, is_end_mark, is_fault_mark, last_is, marks, end_marks, fault_marks}
+use Rattle.ring_queue.specs.Words.{asks, is_ask}
 use Rattle.ring_reader.specs.Feeding.{Feeds, marks_sent}
-use Rattle.ring_items.specs.Tallies.{RoseTimes, IsTallied}
+use Rattle.ring_queue.specs.Tallies.{RoseTimes, IsTallied}
 use Rattle.ring_reader.specs.Readers.{AtStage, IsReading, ReaderState, SourceBehind, GivesStep, given, gone, source_behind, behind_of, is_begun, is_running}
-use Rattle.ring_items.proofs.ItemLists.{bytes_snoc, count_append, count_snoc, one_counted, last_snoc, drained}
+use Rattle.ring_queue.proofs.ItemLists.{bytes_snoc, count_append, count_snoc, one_counted, last_snoc, drained}
 
 -- a thread that sent no more marks than were asked for, and one last, sent what was taken
 pub all_taken : (sent taken rest : List RingItem) (asked heard more : List Word) → sent ≡ taken ++ rest → asked ++ words.Stop ∷ [] ≡ heard ++ more → last_is is_mark sent ≡ true → marks sent ≡ asks heard + 1 → marks taken ≡ asks asked + 1 → sent ≡ taken

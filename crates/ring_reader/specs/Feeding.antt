@@ -2,16 +2,16 @@
 use Rattle.std.specs.Prelude.{◌≡◌, ℕ, ◌+◌, ◌-◌, ◌^◌, ◌≤◌, min, Bool, true, false, List, [], ◌++◌, Option, IfSome}
 use Rattle.std.specs.Io.KnownBytes.{Consumes}
 use Rattle.port_trait.specs.Streams.{Loses}
-use Rattle.ring_items.specs.Tallies.{RoseTimes}
-use Rattle.ordered_queue.specs.declared.roles.View.{View}
-use Rattle.ordered_queue.specs.Order.{view_of}
-use Rattle.ring_items.specs.declared.items.RingItem.{RingItem}
-use Rattle.ring_items.specs.declared.words.Word.{Word}
-use Rattle.ring_items.specs.declared.words.Word.TheVariants as words
+use Rattle.ring_queue.specs.Tallies.{RoseTimes}
+use Rattle.ring_queue.specs.declared.roles.View.{View}
+use Rattle.ring_queue.specs.Order.{view_of}
+use Rattle.ring_queue.specs.declared.items.RingItem.{RingItem}
+use Rattle.ring_queue.specs.declared.words.Word.{Word}
+use Rattle.ring_queue.specs.declared.words.Word.TheVariants as words
 use Rattle.ring_reader.specs.declared.reader_thread.Turned.{Turned}
 use Rattle.ring_reader.specs.declared.reader_thread.Turned.TheVariants as turns
-use Rattle.ring_items.specs.Items.{bytes_of, is_mark, is_end_mark, last_is, marks, end_marks, fault_marks, told}
-use Rattle.ring_items.specs.Words.{asks}
+use Rattle.ring_queue.specs.Items.{bytes_of, is_mark, is_end_mark, last_is, marks, end_marks, fault_marks, told}
+use Rattle.ring_queue.specs.Words.{asks}
 
 -- a source and its counts as they stood and as they stand, and what was sent: the source gave just those bytes, and
 -- failed and ended at least as often as the marks tell

@@ -9,24 +9,24 @@ use Rattle.port_trait.specs.declared.counts.Counts.{Counts}
 use Rattle.port_trait.specs.Streams.{Loses}
 use Rattle.port_trait.specs.Serving.{Serving, rise}
 use Rattle.crossbeam_queue.specs.Fifo.{Held}
-use Rattle.ordered_queue.specs.declared.roles.View.{View}
-use Rattle.ordered_queue.specs.Order.{IsSound}
-use Rattle.ring_items.specs.declared.items.RingItem.{RingItem}
-use Rattle.ring_items.specs.declared.items.RingItem.TheVariants as kinds
-use Rattle.ring_items.specs.declared.lines.Lines.{Lines}
-use Rattle.ring_items.specs.declared.words.Word.{Word}
-use Rattle.ring_items.specs.declared.tallies.Tally.{Tally}
+use Rattle.ring_queue.specs.declared.roles.View.{View}
+use Rattle.ring_queue.specs.Order.{IsSound}
+use Rattle.ring_queue.specs.declared.items.RingItem.{RingItem}
+use Rattle.ring_queue.specs.declared.items.RingItem.TheVariants as kinds
+use Rattle.ring_queue.specs.declared.lines.Lines.{Lines}
+use Rattle.ring_queue.specs.declared.words.Word.{Word}
+use Rattle.ring_queue.specs.declared.tallies.Tally.{Tally}
 use Rattle.port_trait.specs.declared.spawning.Task.{Task}
 use Rattle.ring_reader.specs.declared.reader_thread.Fed.{Fed}
-use Rattle.ring_items.specs.declared.ending.Ending.{Ending}
+use Rattle.ring_queue.specs.declared.ending.Ending.{Ending}
 use Rattle.ring_reader.specs.declared.reader_start.FeedPromise.{FeedPromise}
 use Rattle.ring_reader.specs.declared.reader_stage.Stage.{Stage}
 use Rattle.ring_reader.specs.declared.reader_stage.Stage.TheVariants as stages
-use Rattle.ring_items.specs.Items.{bytes_of, is_mark, is_end_mark, last_is, marks, end_marks, fault_marks, told, Follows}
-use Rattle.ring_items.specs.Words.{asks}
+use Rattle.ring_queue.specs.Items.{bytes_of, is_mark, is_end_mark, last_is, marks, end_marks, fault_marks, told, Follows}
+use Rattle.ring_queue.specs.Words.{asks}
 use Rattle.ring_reader.specs.Feeding.{Feeds, marks_sent}
 use Rattle.ring_reader.specs.Starting.{WillFeed}
-use Rattle.ring_items.specs.Tallies.{IsTallied, no_tally, with_misuse}
+use Rattle.ring_queue.specs.Tallies.{IsTallied, no_tally, with_misuse}
 
 -- a source behind a reader: what it gave since the thread began, what it has left, and how far its counts rose
 pub record SourceBehind : Type 0 where

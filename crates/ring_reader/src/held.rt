@@ -2,7 +2,7 @@
 ghost use Rattle.std.specs.Prelude.{◌≡◌, ◌<◌, ◌↔◌, [], length, min, take, drop, IsTrue};
 
 use port_trait::copy_front;
-use ring_items::{Chunk, Pages, Spent};
+use ring_queue::{Chunk, Pages, Spent};
 use std::marker::Model;
 use std::mem;
 use std::sync::Wait;
@@ -17,7 +17,7 @@ pub(crate) struct Held {
 
 impl Model for Held {
     ghost use Rattle.std.specs.Prelude.{List, ℕ};
-    ghost use Rattle.ring_items.specs.Stores.{rest_of, Within};
+    ghost use Rattle.ring_queue.specs.Stores.{rest_of, Within};
 
     ghost Value = { List ℕ };
 

@@ -8,11 +8,9 @@ use crate::reader_stage::Stage;
 use crate::reader_start::launch;
 use crate::reader_steps::Pace;
 use crate::reader_thread::{Block, Feeder};
-use ordered_queue::OrderedPass;
-use port_account::Account;
-use port_trait::{Source, Spawner, Wake};
+use port_trait::{Account, Source, Spawner, Wake};
 use relay_model::NoMemory;
-use ring_items::{Hold, Lines, RingItem, Tally, Word, make_lines};
+use ring_queue::{Hold, Lines, OrderedPass, RingItem, Tally, Word, make_lines};
 use std::alloc::Global;
 use std::marker::Model;
 use std::snapshot::Snapshot;
@@ -56,7 +54,9 @@ where
 
     ghost view = { λ r. record { had = S.left r.start.value; taken = (known r.items).taken; held = r.held; marked = r.marked; ended = r.ended; begun = is_begun r.stage; refused = is_refused r.stage; tally = r.tally; behind = behind_of S.left S.faults S.ends r.start.value (known r.items).taken r.stage; shuts = r.account.passed.shuts } };
 
-    ghost invariant = { λ r. IsPassOf r.lines.value.items r.items × IsPassOf r.lines.value.back r.words × IsReading S.left S.faults S.ends r.lines.value r.start.value (known r.items) (known r.words) r.held r.marked r.ended r.tally.misuses r.tally.counts r.stage };
+    ghost invariant = { λ r. IsPassOf r.lines.value.items r.items × IsPassOf r.lines.value.back r.words
+        × IsReading S.left S.faults S.ends r.lines.value r.start.value (known r.items) (known
+        r.words) r.held r.marked r.ended r.tally.misuses r.tally.counts r.stage };
 }
 
 impl<S, R> RingReader<S, R>

@@ -15,12 +15,12 @@ ghost use Rattle.ring_reader.specs.Readers.{given_of, joins_of, gave_behind, lef
 use crate::reader::RingReader;
 use crate::reader_stage::Stage;
 use crate::reader_steps::{ask_again, find_empty, finish, has_some, next};
-use port_account::{Account, Call};
 use port_trait::{
-    Begun, Counts, Got, Hint, Joining, Port, PortReap, Settled, Shutting, Source, Took,
+    Account, Begun, Call, Counts, Got, Hint, Joining, Port, PortReap, Settled, Shutting, Source,
+    Took,
 };
 use relay_model::Shut;
-use ring_items::RingItem;
+use ring_queue::RingItem;
 use std::mem;
 use std::sync::Wait;
 use std::thread::Threads;
@@ -90,7 +90,8 @@ where
     fn settle(&mut self) -> Settled
         ensures ready { result ≡ settles.Ready }
         ensures same { self.new ≡ self.old }
-        ensures kept { (Some (given_of self.new) ≡ Some (given_of self.old)) × (self.new.begun ≡ self.old.begun) × (self.new.ended ≡ self.old.ended) }
+        ensures kept { (Some (given_of self.new) ≡ Some (given_of self.old)) × (self.new.begun ≡ self.old.begun)
+            × (self.new.ended ≡ self.old.ended) }
         ensures counts { Tallied (settle_event result) self.old.tally.counts self.new.tally.counts }
     {
         Settled::Ready
@@ -145,7 +146,8 @@ where
         ensures failed { result ≡ writes.Failed }
         ensures same { self.new ≡ misused_reader self.old }
         ensures accepts { Accepts None None bytes.now result }
-        ensures kept { (Some (given_of self.new) ≡ Some (given_of self.old)) × (self.new.begun ≡ self.old.begun) × (self.new.ended ≡ self.old.ended) }
+        ensures kept { (Some (given_of self.new) ≡ Some (given_of self.old)) × (self.new.begun ≡ self.old.begun)
+            × (self.new.ended ≡ self.old.ended) }
         ensures counts { Tallied (write_event result) self.old.tally.counts self.new.tally.counts }
     {
         let _ = bytes;
@@ -157,7 +159,8 @@ where
         ensures failed { result ≡ writes.Failed }
         ensures same { self.new ≡ misused_reader self.old }
         ensures accepts { AcceptsWhole None None bytes.now result }
-        ensures kept { (Some (given_of self.new) ≡ Some (given_of self.old)) × (self.new.begun ≡ self.old.begun) × (self.new.ended ≡ self.old.ended) }
+        ensures kept { (Some (given_of self.new) ≡ Some (given_of self.old)) × (self.new.begun ≡ self.old.begun)
+            × (self.new.ended ≡ self.old.ended) }
         ensures counts { Tallied (write_event result) self.old.tally.counts self.new.tally.counts }
     {
         let _ = bytes;
@@ -169,7 +172,8 @@ where
         ensures failed { result ≡ writes.Failed }
         ensures same { self.new ≡ misused_reader self.old }
         ensures accepts { AcceptsAll None None bytes.now result }
-        ensures kept { (Some (given_of self.new) ≡ Some (given_of self.old)) × (self.new.begun ≡ self.old.begun) × (self.new.ended ≡ self.old.ended) }
+        ensures kept { (Some (given_of self.new) ≡ Some (given_of self.old)) × (self.new.begun ≡ self.old.begun)
+            × (self.new.ended ≡ self.old.ended) }
         ensures counts { Tallied (write_event result) self.old.tally.counts self.new.tally.counts }
     {
         let _ = bytes;
@@ -180,7 +184,8 @@ where
     fn shut(&mut self, how: Shut) -> Shutting
         ensures done { result ≡ shuts.Done }
         ensures same { self.new ≡ record self.old { shuts = self.old.shuts ++ how ∷ [] } }
-        ensures kept { (Some (given_of self.new) ≡ Some (given_of self.old)) × (self.new.begun ≡ self.old.begun) × (self.new.ended ≡ self.old.ended) }
+        ensures kept { (Some (given_of self.new) ≡ Some (given_of self.old)) × (self.new.begun ≡ self.old.begun)
+            × (self.new.ended ≡ self.old.ended) }
         ensures counts { Tallied (shut_event result) self.old.tally.counts self.new.tally.counts }
     {
         self.account = self.account.with(&Call::Shut(how));
@@ -189,8 +194,13 @@ where
 
     fn hint(&mut self) -> Hint
         ensures same { self.new ≡ self.old }
-        ensures kept { (Some (given_of self.new) ≡ Some (given_of self.old)) × (self.new.tally.counts ≡ self.old.tally.counts) × (self.new.begun ≡ self.old.begun) × (self.new.ended ≡ self.old.ended) × (joins_of self.new ≡ joins_of self.old) }
-        ensures behind { (gave_behind self.new.behind ≡ gave_behind self.old.behind) × (faults_behind self.new.behind ≡ faults_behind self.old.behind) × (ends_behind self.new.behind ≡ ends_behind self.old.behind) × (left_behind self.new.behind ≡ left_behind self.old.behind) }
+        ensures kept { (Some (given_of self.new) ≡ Some (given_of self.old)) × (self.new.tally.counts ≡ self.old.tally.counts)
+            × (self.new.begun ≡ self.old.begun) × (self.new.ended ≡ self.old.ended)
+            × (joins_of self.new ≡ joins_of self.old) }
+        ensures behind { (gave_behind self.new.behind ≡ gave_behind self.old.behind)
+            × (faults_behind self.new.behind ≡ faults_behind self.old.behind)
+            × (ends_behind self.new.behind ≡ ends_behind self.old.behind)
+            × (left_behind self.new.behind ≡ left_behind self.old.behind) }
     {
         Hint {
             readable: !self.held.is_empty() || has_some(&self.lines, &mut self.items),
@@ -213,7 +223,8 @@ where
     fn reap(&mut self) -> PortReap
         ensures reaped { result ≡ reaps.NoChild }
         ensures same { self.new ≡ self.old }
-        ensures kept { (Some (given_of self.new) ≡ Some (given_of self.old)) × (self.new.begun ≡ self.old.begun) × (self.new.ended ≡ self.old.ended) }
+        ensures kept { (Some (given_of self.new) ≡ Some (given_of self.old)) × (self.new.begun ≡ self.old.begun)
+            × (self.new.ended ≡ self.old.ended) }
         ensures counts { Tallied None self.old.tally.counts self.new.tally.counts }
     {
         PortReap::NoChild
@@ -223,9 +234,15 @@ where
     fn join(&mut self) -> Joining
         ensures joined { result ≡ join_answer (joins_of self.old) }
         ensures same { self.new ≡ record self.old { behind = self.new.behind } }
-        ensures kept { (Some (given_of self.new) ≡ Some (given_of self.old)) × (self.new.tally.counts ≡ self.old.tally.counts) × (self.new.begun ≡ self.old.begun) × (self.new.ended ≡ self.old.ended) × (joins_of self.new ≡ joins_of self.old) }
-        ensures behind { OnJoined result (Behind (Some (given_of self.new)) None (gave_behind self.new.behind) None (left_behind self.new.behind) (faults_behind self.new.behind) self.new.ended) }
-        ensures explained { OnJoined result (Explained (Some (served_of self.new)) self.new.tally.counts (faults_behind self.new.behind) (ends_behind self.new.behind)) }
+        ensures kept { (Some (given_of self.new) ≡ Some (given_of self.old)) × (self.new.tally.counts ≡ self.old.tally.counts)
+            × (self.new.begun ≡ self.old.begun) × (self.new.ended ≡ self.old.ended)
+            × (joins_of self.new ≡ joins_of self.old) }
+        ensures behind { OnJoined result
+            (Behind (Some (given_of self.new)) None (gave_behind self.new.behind) None (left_behind self.new.behind)
+            (faults_behind self.new.behind) self.new.ended) }
+        ensures explained { OnJoined result
+            (Explained (Some (served_of self.new)) self.new.tally.counts (faults_behind self.new.behind)
+            (ends_behind self.new.behind)) }
         ensures source { OnJoined result (TellsSource self.new) }
     {
         if !self.stage.is_begun() {

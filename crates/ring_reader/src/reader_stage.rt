@@ -5,7 +5,7 @@ ghost use Rattle.ring_reader.specs.Readers.{is_begun, is_running, stage_of};
 use crate::reader_start::FeedPromise;
 use crate::reader_thread::Fed;
 use port_trait::{Source, Task};
-use ring_items::Ending;
+use ring_queue::Ending;
 
 /// The thread that waits for the begin, a thread that couldn't be started, the thread at work, and the source
 /// that it handed back.

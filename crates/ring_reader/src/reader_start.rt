@@ -2,13 +2,13 @@
 ghost use Rattle.std.specs.Prelude.{◌≡◌, ◌≤◌, None, IfSome};
 ghost use Rattle.crossbeam_queue.specs.Passes.{view, IsPassOf};
 ghost use Rattle.port_trait.specs.Counting.{Rose};
-ghost use Rattle.ring_items.specs.Endings.{OnDone};
+ghost use Rattle.ring_queue.specs.Endings.{OnDone};
 ghost use Rattle.ring_reader.specs.Feeding.{Works, HasFed};
 ghost use Rattle.ring_reader.specs.Starting.{FedBy, WillFeed};
 
 use crate::reader_thread::{Fed, Feeder};
 use port_trait::{Source, Spawner, Task, Wake};
-use ring_items::{Ending, Lines, Word};
+use ring_queue::{Ending, Lines, Word};
 use std::snapshot::Snapshot;
 use std::sync::Wait;
 use std::thread::{Promise, Threads};
@@ -35,7 +35,8 @@ where
     R: Wait + Copy + Send + 'static,
     W: Wake + Send + Drop + 'static,
     requires queues { IsPassOf feeder.lines.value.items feeder.items × IsPassOf feeder.lines.value.back feeder.words }
-    requires works { Works (S.left feeder.source) (S.left feeder.source) (S.faults feeder.source) (S.faults feeder.source) (S.ends feeder.source) (S.ends feeder.source) feeder.count 0 (view feeder.items) (view feeder.words) }
+    requires works { Works (S.left feeder.source) (S.left feeder.source) (S.faults feeder.source) (S.faults feeder.source)
+        (S.ends feeder.source) (S.ends feeder.source) feeder.count 0 (view feeder.items) (view feeder.words) }
     ensures grows { P.faults spawner.old ≤ P.faults spawner.new }
     ensures started { IfSome result (WillFeed S.left S.faults S.ends feeder.lines.value feeder.source) }
     ensures refused { result ≡ None → Rose (P.faults spawner.old) (P.faults spawner.new) }
@@ -46,7 +47,8 @@ where
     };
     let work = move || -> Ending<Fed<S>>
         requires queues { IsPassOf feeder.lines.value.items feeder.items × IsPassOf feeder.lines.value.back feeder.words }
-        requires works { Works (S.left feeder.source) (S.left feeder.source) (S.faults feeder.source) (S.faults feeder.source) (S.ends feeder.source) (S.ends feeder.source) feeder.count 0 (view feeder.items) (view feeder.words) }
+        requires works { Works (S.left feeder.source) (S.left feeder.source) (S.faults feeder.source) (S.faults feeder.source)
+            (S.ends feeder.source) (S.ends feeder.source) feeder.count 0 (view feeder.items) (view feeder.words) }
         ensures { OnDone (FedBy S.left S.faults S.ends feeder.lines.value feeder.source) result }
     { feeder.run() };
     match spawner.start(promise, work) {

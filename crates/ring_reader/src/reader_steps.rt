@@ -2,17 +2,16 @@
 ghost use Rattle.std.specs.Prelude.{◌≡◌, ◌+◌, ◌++◌, ◌∷◌, [], true, IfSome, MatchOption};
 ghost use Rattle.crossbeam_queue.specs.Fifo.{Held};
 ghost use Rattle.crossbeam_queue.specs.Passes.{view, IsPassOf, IsSamePass};
-ghost use Rattle.ordered_queue.specs.Order.{HasTaken, view_of};
-ghost use Rattle.ring_items.specs.Items.{Follows, is_mark, is_end_mark, last_is, marks};
-ghost use Rattle.ring_items.specs.Words.{asks};
+ghost use Rattle.ring_queue.specs.Order.{HasTaken, view_of};
+ghost use Rattle.ring_queue.specs.Items.{Follows, is_mark, is_end_mark, last_is, marks};
+ghost use Rattle.ring_queue.specs.Words.{asks};
 ghost use Rattle.ring_reader.specs.Feeding.{Feeds, marks_sent};
 ghost use Rattle.ring_reader.specs.Starting.{WillFeed};
 
 use crate::reader_start::{FeedPromise, land};
 use crate::reader_thread::Fed;
-use ordered_queue::{OrderedPass, is_empty, take};
 use port_trait::{Source, Task};
-use ring_items::{Ending, Lines, RingItem, Word, send, take_in};
+use ring_queue::{Ending, Lines, OrderedPass, RingItem, Word, is_empty, send, take, take_in};
 use std::mem;
 use std::snapshot::Snapshot;
 use std::sync::Wait;
@@ -71,7 +70,10 @@ pub(crate) fn next<R: Wait>(
     requires queue { IsPassOf lines.now.items items.old }
     requires takes { (view items.old).takes ≡ true }
     ensures queue { IsSamePass items.old items.new }
-    ensures taken { MatchOption result ((view items.new ≡ view items.old) × Held 0 (HasTaken Follows (view items.old))) (λ item. (view items.new ≡ view_of (view items.old).sends (view items.old).takes (view items.old).sent ((view items.old).taken ++ item ∷ [])) × Follows (view items.old).taken item) }
+    ensures taken { MatchOption result ((view items.new ≡ view items.old) × Held 0 (HasTaken Follows (view items.old)))
+        (λ item. (view items.new
+        ≡ view_of (view items.old).sends (view items.old).takes (view items.old).sent ((view items.old).taken ++ item ∷ []))
+        × Follows (view items.old).taken item) }
 {
     if let Some(item) = take(rt, &lines.items, items) {
         if pace.step() {
@@ -133,7 +135,8 @@ where
     ensures queues { IsPassOf lines.now.items items.new × IsPassOf lines.now.back words.new }
     ensures sides { ((view items.new).takes ≡ true) × ((view words.new).sends ≡ true) }
     ensures taken { (view items.new).taken ≡ (view items.old).taken }
-    ensures feeds { Feeds (S.left start.now.value) (S.left result) (S.faults start.now.value) (S.faults result) (S.ends start.now.value) (S.ends result) (view items.old).taken }
+    ensures feeds { Feeds (S.left start.now.value) (S.left result) (S.faults start.now.value) (S.faults result)
+        (S.ends start.now.value) (S.ends result) (view items.old).taken }
     ensures spent { last_is is_end_mark (view items.old).taken ≡ true → IfSome (S.left result) (λ rest. rest ≡ []) }
 {
     send(rt, &lines.back, &lines.port, words, Word::Stop);

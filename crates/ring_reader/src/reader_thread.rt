@@ -1,17 +1,18 @@
 // The thread of a reader: it reads its source and sends what came.
 ghost use Rattle.std.specs.Prelude.{◌≡◌, ◌<◌, ◌≤◌, ◌++◌, ◌∷◌, [], true, false, length, take, vec_len, IfSome};
 ghost use Rattle.crossbeam_queue.specs.Passes.{view, IsPassOf, IsSamePass};
-ghost use Rattle.ordered_queue.specs.Order.{view_of};
-ghost use Rattle.ring_items.specs.Items.{Follows, bytes_of, told, AddsChunks};
+ghost use Rattle.ring_queue.specs.Order.{view_of};
+ghost use Rattle.ring_queue.specs.Items.{Follows, bytes_of, told, AddsChunks};
 ghost use Rattle.ring_reader.specs.declared.reader_thread.Turned.TheVariants as turns;
-ghost use Rattle.ring_items.specs.Endings.{OnDone};
+ghost use Rattle.ring_queue.specs.Endings.{OnDone};
 ghost use Rattle.ring_reader.specs.Feeding.{Works, EndsMarked, SendsLost, OnTurned, ahead_after};
 ghost use Rattle.ring_reader.specs.Starting.{FedBy};
 
-use ordered_queue::OrderedPass;
 use port_trait::{Source, SourceGot, Wake};
 use relay_model::NoMemory;
-use ring_items::{Ending, Lines, Ready, RingItem, SendingSide, Word, receive, send_to_port};
+use ring_queue::{
+    Ending, Lines, OrderedPass, Ready, RingItem, SendingSide, Word, receive, send_to_port,
+};
 use std::alloc::Global;
 use std::snapshot::Snapshot;
 use std::sync::{Arc, Wait};
@@ -75,7 +76,9 @@ fn send_item<W: Wake, R: Wait>(
     requires sends { (view pass.old).sends ≡ true }
     requires follows { Follows (view pass.old).sent item }
     ensures queue { IsSamePass pass.old pass.new }
-    ensures sent { result ≡ true → view pass.new ≡ view_of (view pass.old).sends (view pass.old).takes ((view pass.old).sent ++ item ∷ []) (view pass.old).taken }
+    ensures sent { result ≡ true
+        → view pass.new ≡ view_of (view pass.old).sends (view pass.old).takes ((view pass.old).sent ++ item ∷
+        []) (view pass.old).taken }
 {
     if !send_to_port(rt, &lines.items, &lines.thread, &lines.state, pass, item) {
         return false;
@@ -98,7 +101,9 @@ fn send_chunks<W: Wake, R: Wait>(
     requires queue { IsPassOf lines.now.items pass.old }
     requires sends { (view pass.old).sends ≡ true }
     ensures queue { result ≡ true → IsSamePass pass.old pass.new }
-    ensures view { result ≡ true → view pass.new ≡ view_of (view pass.old).sends (view pass.old).takes (view pass.new).sent (view pass.old).taken }
+    ensures view { result ≡ true
+        → view pass.new ≡ view_of (view pass.old).sends (view pass.old).takes (view pass.new).sent (view
+        pass.old).taken }
     ensures sent { result ≡ true → AddsChunks (view pass.old).sent (view pass.new).sent bytes.now }
 {
     let mut at = 0;
@@ -129,7 +134,18 @@ where
         block: Block,
         side: SendingSide<Word>,
     ) -> Feeder<S, W, R>
-        ensures { result ≡ record { rt = rt; lines = lines; source = source; wake = wake; items = side.items; words = side.back; block = block; ready = side.ready; count = 0 } }
+        ensures { result
+            ≡ record {
+              rt = rt;
+              lines = lines;
+              source = source;
+              wake = wake;
+              items = side.items;
+              words = side.back;
+              block = block;
+              ready = side.ready;
+              count = 0;
+            } }
     {
         Feeder {
             rt,
@@ -147,11 +163,18 @@ where
     /// Reads once, and sends what came. `start` is the source as it was when the thread began.
     fn turn(&mut self, start: &Snapshot<S>) -> Turned
         requires queues { IsPassOf self.old.lines.value.items self.old.items × IsPassOf self.old.lines.value.back self.old.words }
-        requires works { Works (S.left start.now.value) (S.left self.old.source) (S.faults start.now.value) (S.faults self.old.source) (S.ends start.now.value) (S.ends self.old.source) self.old.count 0 (view self.old.items) (view self.old.words) }
+        requires works { Works (S.left start.now.value) (S.left self.old.source) (S.faults start.now.value)
+            (S.faults self.old.source) (S.ends start.now.value) (S.ends self.old.source) self.old.count 0
+            (view self.old.items) (view self.old.words) }
         ensures kept { (self.new.lines.value ≡ self.old.lines.value) × (self.new.words ≡ self.old.words) }
         ensures queue { OnTurned result (λ _. IsSamePass self.old.items self.new.items) }
-        ensures works { OnTurned result (λ ahead. Works (S.left start.now.value) (S.left self.new.source) (S.faults start.now.value) (S.faults self.new.source) (S.ends start.now.value) (S.ends self.new.source) self.new.count ahead (view self.new.items) (view self.new.words)) }
-        ensures lost { OnTurned result (λ _. SendsLost (S.rest self.old.source) (S.rest self.new.source) (view self.old.items).sent (view self.new.items).sent) }
+        ensures works { OnTurned result
+            (λ ahead. Works (S.left start.now.value) (S.left self.new.source) (S.faults start.now.value)
+            (S.faults self.new.source) (S.ends start.now.value) (S.ends self.new.source) self.new.count ahead
+            (view self.new.items) (view self.new.words)) }
+        ensures lost { OnTurned result
+            (λ _. SendsLost (S.rest self.old.source) (S.rest self.new.source) (view self.old.items).sent
+            (view self.new.items).sent) }
         ensures marked { result ≡ turns.Marked → EndsMarked (S.left self.new.source) (view self.new.items).sent }
     {
         if self.lines.state.is_gone() {
@@ -194,10 +217,16 @@ where
     /// Waits for the word that a mark asks for. None where the port is gone.
     fn hear(&mut self, start: &Snapshot<S>) -> Option<Word>
         requires queues { IsPassOf self.old.lines.value.items self.old.items × IsPassOf self.old.lines.value.back self.old.words }
-        requires works { Works (S.left start.now.value) (S.left self.old.source) (S.faults start.now.value) (S.faults self.old.source) (S.ends start.now.value) (S.ends self.old.source) self.old.count 1 (view self.old.items) (view self.old.words) }
-        ensures kept { (self.new.lines.value ≡ self.old.lines.value) × (self.new.source ≡ self.old.source) × (self.new.items ≡ self.old.items) }
+        requires works { Works (S.left start.now.value) (S.left self.old.source) (S.faults start.now.value)
+            (S.faults self.old.source) (S.ends start.now.value) (S.ends self.old.source) self.old.count 1
+            (view self.old.items) (view self.old.words) }
+        ensures kept { (self.new.lines.value ≡ self.old.lines.value) × (self.new.source ≡ self.old.source)
+            × (self.new.items ≡ self.old.items) }
         ensures queue { IsSamePass self.old.words self.new.words }
-        ensures works { IfSome result (λ word. Works (S.left start.now.value) (S.left self.new.source) (S.faults start.now.value) (S.faults self.new.source) (S.ends start.now.value) (S.ends self.new.source) self.new.count (ahead_after word) (view self.new.items) (view self.new.words)) }
+        ensures works { IfSome result
+            (λ word. Works (S.left start.now.value) (S.left self.new.source) (S.faults start.now.value)
+            (S.faults self.new.source) (S.ends start.now.value) (S.ends self.new.source) self.new.count
+            (ahead_after word) (view self.new.items) (view self.new.words)) }
     {
         receive(
             &self.rt,
@@ -211,7 +240,8 @@ where
     /// Waits until the port begins, and feeds it.
     pub(crate) fn run(self) -> Ending<Fed<S>>
         requires queues { IsPassOf self.lines.value.items self.items × IsPassOf self.lines.value.back self.words }
-        requires works { Works (S.left self.source) (S.left self.source) (S.faults self.source) (S.faults self.source) (S.ends self.source) (S.ends self.source) self.count 0 (view self.items) (view self.words) }
+        requires works { Works (S.left self.source) (S.left self.source) (S.faults self.source) (S.faults self.source)
+            (S.ends self.source) (S.ends self.source) self.count 0 (view self.items) (view self.words) }
         ensures { OnDone (FedBy S.left S.faults S.ends self.lines.value self.source) result }
     {
         let rt = self.rt;
@@ -224,7 +254,8 @@ where
     /// Reads to the next mark and beyond, as often as the port asks, until it says stop or is gone.
     fn feed(self) -> Ending<Fed<S>>
         requires queues { IsPassOf self.lines.value.items self.items × IsPassOf self.lines.value.back self.words }
-        requires works { Works (S.left self.source) (S.left self.source) (S.faults self.source) (S.faults self.source) (S.ends self.source) (S.ends self.source) self.count 0 (view self.items) (view self.words) }
+        requires works { Works (S.left self.source) (S.left self.source) (S.faults self.source) (S.faults self.source)
+            (S.ends self.source) (S.ends self.source) self.count 0 (view self.items) (view self.words) }
         ensures { OnDone (FedBy S.left S.faults S.ends self.lines.value self.source) result }
     {
         let start = Snapshot::of(&self.source);

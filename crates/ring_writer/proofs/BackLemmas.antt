@@ -5,19 +5,19 @@ use Rattle.std.proofs.lemmas.List.{append-nil, take-append-drop, take-append-le,
 use Rattle.std.proofs.lemmas.Option.{same_Some}
 use Rattle.std.proofs.lemmas.Bool.{false≢true}
 use Rattle.port_trait.specs.Meanings.{IsFront}
-use Rattle.ring_items.specs.declared.items.RingItem.{RingItem}
-use Rattle.ring_items.specs.declared.items.RingItem.TheVariants as items
-use Rattle.ring_items.specs.declared.words.SinkFault.{SinkFault}
+use Rattle.ring_queue.specs.declared.items.RingItem.{RingItem}
+use Rattle.ring_queue.specs.declared.items.RingItem.TheVariants as items
+use Rattle.ring_queue.specs.declared.words.SinkFault.{SinkFault}
 use Rattle.ring_writer.specs.declared.writer_outlet.Outlet.{Outlet}
-use Rattle.ring_items.specs.Items.{bytes_of, is_mark, is_end_mark, last_is, marks}
+use Rattle.ring_queue.specs.Items.{bytes_of, is_mark, is_end_mark, last_is, marks}
 use Rattle.ring_writer.specs.Writer.{Delivered, Delivers, KeepsUp}
 use Rattle.ring_writer.specs.WriterThread.{IsTrueToSink}
 use Rattle.crossbeam_queue.specs.Passes.{view}
 use Rattle.ring_writer.specs.declared.writer_stages.WriterBack.{WriterBack}
 use Rattle.ring_writer.specs.WriterRing.{gained, unless_failed, behind_of, GrewBy, IsBack, IsBehind}
 use Rattle.ring_writer.proofs.Delivery.{kept_more}
-use Rattle.ring_items.proofs.ItemLists.{last_counted, drained}
-use Rattle.ring_items.proofs.Rises.{seen_in_rise}
+use Rattle.ring_queue.proofs.ItemLists.{last_counted, drained}
+use Rattle.ring_queue.proofs.Rises.{seen_in_rise}
 
 -- a last end mark is a last mark
 pub ends_with_mark : (xs : List RingItem) → last_is is_end_mark xs ≡ true → last_is is_mark xs ≡ true

@@ -1,10 +1,10 @@
 -- What a chunk or an end mark adds to what a writer's port put.
 use Rattle.std.proofs.Common.{◌≡◌, ℕ, ◌+◌, ◌-◌, ◌^◌, ◌≤◌, min, true, false, List, [], ◌∷◌, ◌++◌, length, length-append, take, drop, refl, sym, ap, ◌∙◌, arith}
 use Rattle.std.proofs.lemmas.List.{append-nil, length-take}
-use Rattle.ring_items.specs.declared.items.RingItem.{RingItem}
-use Rattle.ring_items.specs.declared.items.RingItem.TheVariants as items
-use Rattle.ring_items.specs.Items.{bytes_of, is_mark, is_end_mark, last_is, marks, told, AddsChunks}
-use Rattle.ring_items.proofs.ItemLists.{bytes_snoc, last_snoc, count_snoc, chunk_more}
+use Rattle.ring_queue.specs.declared.items.RingItem.{RingItem}
+use Rattle.ring_queue.specs.declared.items.RingItem.TheVariants as items
+use Rattle.ring_queue.specs.Items.{bytes_of, is_mark, is_end_mark, last_is, marks, told, AddsChunks}
+use Rattle.ring_queue.proofs.ItemLists.{bytes_snoc, last_snoc, count_snoc, chunk_more}
 
 module _ (sent sent' : List RingItem) where
   pub chunk_told : (bytes : List ℕ) (count count' n : ℕ) → sent' ≡ sent ++ items.Chunk bytes ∷ [] → count ≡ told (bytes_of sent) → count' ≡ min (count + n) (2 ^ 64 - 1) → n ≡ length bytes → count' ≡ told (bytes_of sent')

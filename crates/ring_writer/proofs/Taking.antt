@@ -1,9 +1,9 @@
 -- What one more item adds to those that a writer's thread took.
 use Rattle.std.proofs.Common.{◌≡◌, ℕ, ◌+◌, ◌*◌, ◌≤◌, Bool, true, List, [], ◌∷◌, ◌++◌, length, length-append, sym, ap, ◌∙◌, append_assoc, arith}
-use Rattle.ring_items.specs.declared.items.RingItem.{RingItem}
-use Rattle.ring_items.specs.declared.items.RingItem.TheVariants as items
-use Rattle.ring_items.specs.Items.{item_bytes, bytes_of, last_is, Follows}
-use Rattle.ring_items.proofs.ItemLists.{bytes_snoc, last_snoc}
+use Rattle.ring_queue.specs.declared.items.RingItem.{RingItem}
+use Rattle.ring_queue.specs.declared.items.RingItem.TheVariants as items
+use Rattle.ring_queue.specs.Items.{item_bytes, bytes_of, last_is, Follows}
+use Rattle.ring_queue.proofs.ItemLists.{bytes_snoc, last_snoc}
 
 -- what is gathered goes on with the bytes of the item
 pub gathers_on : (start xs : List RingItem) (x : RingItem) (held gathered gathered' : List ℕ) (taken' : List RingItem) → taken' ≡ xs ++ x ∷ [] → gathered' ≡ gathered ++ item_bytes x

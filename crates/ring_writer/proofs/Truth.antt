@@ -2,14 +2,14 @@
 use Rattle.std.proofs.Common.{◌≡◌, ℕ, ◌+◌, ◌<◌, ◌≤◌, Bool, true, false, not, List, ◌++◌, length, refl, sym, ap, ◌∙◌, subst, arith}
 use Rattle.std.specs.Prelude.{Option}
 use Rattle.port_trait.specs.Counting.{Counted}
-use Rattle.ring_items.specs.declared.items.RingItem.{RingItem}
-use Rattle.ring_items.specs.declared.words.SinkFault.{SinkFault}
+use Rattle.ring_queue.specs.declared.items.RingItem.{RingItem}
+use Rattle.ring_queue.specs.declared.words.SinkFault.{SinkFault}
 use Rattle.ring_writer.specs.declared.writer_outlet.Outlet.{Outlet}
-use Rattle.ring_items.specs.declared.lines.Lines.{Lines}
+use Rattle.ring_queue.specs.declared.lines.Lines.{Lines}
 use Rattle.ring_writer.specs.declared.writer_thread.WriterWork.{WriterWork}
 use Rattle.ring_writer.specs.declared.writer_thread.WriterDone.{WriterDone}
 use Rattle.crossbeam_queue.specs.Passes.{view}
-use Rattle.ring_items.specs.Items.{bytes_of, is_end_mark, last_is}
+use Rattle.ring_queue.specs.Items.{bytes_of, is_end_mark, last_is}
 use Rattle.ring_writer.specs.Writer.{Delivers, KeepsUp, faults_after}
 use Rattle.ring_writer.specs.WriterThread.{IsTrueToSink, IsFinished, HoldsSides, CanWork, ThreadEnded}
 use Rattle.ring_writer.proofs.Delivery.{dropped, kept_drops}

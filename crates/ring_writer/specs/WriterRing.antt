@@ -9,18 +9,18 @@ use Rattle.port_trait.specs.declared.answers.Took.{Took as WriteAnswer}
 use Rattle.port_trait.specs.declared.answers.Took.TheVariants as writes
 use Rattle.port_trait.specs.declared.spawning.Task.{Task}
 use Rattle.port_trait.specs.declared.spawning.Task.TheVariants.{Running, Ended}
-use Rattle.ring_items.specs.declared.items.RingItem.{RingItem}
-use Rattle.ring_items.specs.declared.words.SinkFault.{SinkFault}
-use Rattle.ring_items.specs.declared.lines.Lines.{Lines}
-use Rattle.ring_items.specs.declared.ending.Ending.{Ending}
+use Rattle.ring_queue.specs.declared.items.RingItem.{RingItem}
+use Rattle.ring_queue.specs.declared.words.SinkFault.{SinkFault}
+use Rattle.ring_queue.specs.declared.lines.Lines.{Lines}
+use Rattle.ring_queue.specs.declared.ending.Ending.{Ending}
 use Rattle.ring_writer.specs.declared.writer_outlet.Outlet.{Outlet}
 use Rattle.ring_writer.specs.declared.writer_thread.WriterDone.{WriterDone}
 use Rattle.ring_writer.specs.declared.writer_thread.WriterPromise.{WriterPromise}
 use Rattle.ring_writer.specs.declared.writer_stages.WriterBack.{WriterBack}
 use Rattle.ring_writer.specs.declared.writer_stages.Stage.{Stage}
 use Rattle.ring_writer.specs.declared.writer_stages.Stage.TheVariants as stages
-use Rattle.ring_items.specs.Endings.{OnDone}
-use Rattle.ring_items.specs.Items.{bytes_of, is_end_mark, last_is}
+use Rattle.ring_queue.specs.Endings.{OnDone}
+use Rattle.ring_queue.specs.Items.{bytes_of, is_end_mark, last_is}
 use Rattle.ring_writer.specs.Writer.{KeptUp}
 use Rattle.ring_writer.specs.WriterPuts.{IsPutting, PutsChunk, WasFull}
 use Rattle.ring_writer.specs.WriterThread.{IsTrueToSink, IsFinished, ThreadEnded}

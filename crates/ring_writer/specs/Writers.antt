@@ -6,10 +6,10 @@ use Rattle.port_trait.specs.declared.answers.Begun.{Begun as BeginAnswer}
 use Rattle.port_trait.specs.declared.answers.Begun.TheVariants as begins
 use Rattle.port_trait.specs.declared.answers.Took.{Took as WriteAnswer}
 use Rattle.port_trait.specs.declared.answers.Took.TheVariants as writes
-use Rattle.ring_items.specs.declared.items.RingItem.TheVariants as items
-use Rattle.ring_items.specs.declared.tallies.Tally.{Tally}
-use Rattle.ring_items.specs.Items.{bytes_of, told, AddsChunks}
-use Rattle.ring_items.specs.Tallies.{no_tally, with_misuse}
+use Rattle.ring_queue.specs.declared.items.RingItem.TheVariants as items
+use Rattle.ring_queue.specs.declared.tallies.Tally.{Tally}
+use Rattle.ring_queue.specs.Items.{bytes_of, told, AddsChunks}
+use Rattle.ring_queue.specs.Tallies.{no_tally, with_misuse}
 use Rattle.ring_writer.specs.WriterRing.{WriterLine, WriterBehind, WritesChunk, fresh_line, is_open, is_shut}
 
 -- how its line stands, what was counted, and each shut

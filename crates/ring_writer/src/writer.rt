@@ -11,7 +11,7 @@ ghost use Rattle.port_trait.specs.declared.answers.Took.TheVariants as writes;
 ghost use Rattle.port_trait.specs.declared.answers.Settled.TheVariants as settles;
 ghost use Rattle.port_trait.specs.declared.answers.Shutting.TheVariants as shuts;
 ghost use Rattle.port_trait.specs.declared.answers.PortReap.TheVariants as reaps;
-ghost use Rattle.ring_items.specs.Items.{bytes_of};
+ghost use Rattle.ring_queue.specs.Items.{bytes_of};
 ghost use Rattle.ring_writer.specs.WriterRing.{IsBehind, is_open, is_shut, may_join};
 ghost use Rattle.ring_writer.specs.Writers.{misused_writer, served_of, ends_behind, finished_behind, WriterBeginStep, WriterWrites, WriterPutsAll, fresh_writer, took_of, took_behind, faults_behind, line_after_shut};
 
@@ -19,12 +19,12 @@ use crate::writer_outlet::Outlet;
 use crate::writer_puts::Putter;
 use crate::writer_stages::{Stage, start_thread};
 use crate::writer_thread::{GATHERED, WriterWork};
-use port_account::{Account, Call};
 use port_trait::{
-    Begun, Got, Hint, Joining, Port, PortReap, Settled, Shutting, Sink, Spawner, Took, Wake,
+    Account, Begun, Call, Got, Hint, Joining, Port, PortReap, Settled, Shutting, Sink, Spawner,
+    Took, Wake,
 };
 use relay_model::{NoMemory, Shut};
-use ring_items::{Hold, SinkFault, Tally, make_lines};
+use ring_queue::{Hold, SinkFault, Tally, make_lines};
 use std::alloc::Global;
 use std::marker::Model;
 use std::mem;
@@ -57,11 +57,12 @@ where
     ghost Value = { WriterState };
 
     ghost use Rattle.ring_writer.specs.WriterRing.{Stands, line_of};
-    ghost use Rattle.ring_items.specs.Tallies.{IsTallied};
+    ghost use Rattle.ring_queue.specs.Tallies.{IsTallied};
 
     ghost view = { λ w. record { line = line_of K.took K.faults K.finished w.stage; tally = w.tally; shuts = w.account.passed.shuts } };
 
-    ghost invariant = { λ w. Stands K.took K.faults K.finished w.stage × IsTallied w.tally.misuses (line_of K.took K.faults K.finished w.stage).marks 0 w.tally.counts };
+    ghost invariant = { λ w. Stands K.took K.faults K.finished w.stage
+        × IsTallied w.tally.misuses (line_of K.took K.faults K.finished w.stage).marks 0 w.tally.counts };
 }
 
 impl<K, R> RingWriter<K, R>
@@ -275,8 +276,10 @@ where
     /// Writable where there is room, or where the next write tells of a fault.
     fn hint(&mut self) -> Hint
         ensures same { self.new ≡ self.old }
-        ensures kept { (Some (took_of self.new) ≡ Some (took_of self.old)) × (self.new.tally.counts ≡ self.old.tally.counts) × (self.new.line.begun ≡ self.old.line.begun) × (may_join self.new.line ≡ may_join self.old.line) }
-        ensures behind { (took_behind self.new.line.behind ≡ took_behind self.old.line.behind) × (faults_behind self.new.line.behind ≡ faults_behind self.old.line.behind) }
+        ensures kept { (Some (took_of self.new) ≡ Some (took_of self.old)) × (self.new.tally.counts ≡ self.old.tally.counts)
+            × (self.new.line.begun ≡ self.old.line.begun) × (may_join self.new.line ≡ may_join self.old.line) }
+        ensures behind { (took_behind self.new.line.behind ≡ took_behind self.old.line.behind)
+            × (faults_behind self.new.line.behind ≡ faults_behind self.old.line.behind) }
     {
         Hint {
             readable: false,
@@ -312,9 +315,14 @@ where
         ensures knows { OnJoined result (self.new.line.begun ≡ true → IsSome self.new.line.behind) }
         ensures shows { OnJoined result (IfSome self.new.line.behind (IsBehind self.new.line)) }
         ensures no_ends { self.new.tally.counts.ends ≡ 0 }
-        ensures explained { OnJoined result (Explained (Some (served_of self.new)) self.new.tally.counts (faults_behind self.new.line.behind) (ends_behind self.new.line.behind)) }
-        ensures kept { (Some (took_of self.new) ≡ Some (took_of self.old)) × (self.new.tally.counts ≡ self.old.tally.counts) × (self.new.line.begun ≡ self.old.line.begun) × (may_join self.new.line ≡ may_join self.old.line) }
-        ensures behind { OnJoined result (Behind None (Some (took_of self.new)) None (took_behind self.new.line.behind) None (faults_behind self.new.line.behind) false) }
+        ensures explained { OnJoined result
+            (Explained (Some (served_of self.new)) self.new.tally.counts (faults_behind self.new.line.behind)
+            (ends_behind self.new.line.behind)) }
+        ensures kept { (Some (took_of self.new) ≡ Some (took_of self.old)) × (self.new.tally.counts ≡ self.old.tally.counts)
+            × (self.new.line.begun ≡ self.old.line.begun) × (may_join self.new.line ≡ may_join self.old.line) }
+        ensures behind { OnJoined result
+            (Behind None (Some (took_of self.new)) None (took_behind self.new.line.behind) None
+            (faults_behind self.new.line.behind) false) }
         ensures finished { OnJoined result (FinishedBehind (faults_behind self.new.line.behind) (finished_behind self.new.line.behind)) }
     {
         if !self.stage.may_join() {

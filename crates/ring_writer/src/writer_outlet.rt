@@ -1,10 +1,10 @@
 // A sink that bytes are given to one after another, and what it took of them before its first fault.
-ghost use Rattle.std.specs.Prelude.{◌≡◌, ℕ, true, false, List, Option, ◌++◌, ◌+◌, ◌-◌, ◌^◌, ◌<◌, ◌≤◌, min, length, not, take, option_map};
-ghost use Rattle.std.specs.Io.KnownBytes.{Appends, Keeps};
+ghost use Rattle.std.specs.Prelude.{◌≡◌, ℕ, List, Option, ◌++◌, ◌+◌, ◌-◌, ◌^◌, ◌<◌, ◌≤◌, min, length, not};
+ghost use Rattle.std.specs.Io.KnownBytes.{Keeps};
 ghost use Rattle.port_trait.specs.Counting.{Counted};
 ghost use Rattle.ring_writer.specs.Writer.{Delivers, KeepsUp, HoldsFront, spare_after, faults_after};
 
-use port_trait::{Sink, SinkTook};
+use port_trait::{Sink, write_front};
 
 /// A sink, how many bytes it took before it first failed, and how often it did. The numbers stay at their last
 /// values.
@@ -30,8 +30,11 @@ impl<K: Sink> Outlet<K> {
 
     /// Writes all bytes, or those before a fault; the rest is dropped. False where the sink failed.
     pub(crate) fn give(&mut self, bytes: &[u8]) -> bool
-        ensures delivered { (before : Option (List ℕ)) (given : List ℕ) → Delivers K.took before self.old given → Delivers K.took before self.new (given ++ bytes.now) }
-        ensures kept_up { (before : Option (List ℕ)) (given : List ℕ) → length bytes.now ≤ 32768 → KeepsUp K.took before self.old 0 given → KeepsUp K.took before self.new (spare_after result) (given ++ bytes.now) }
+        ensures delivered { (before : Option (List ℕ)) (given : List ℕ) → Delivers K.took before self.old given
+            → Delivers K.took before self.new (given ++ bytes.now) }
+        ensures kept_up { (before : Option (List ℕ)) (given : List ℕ) → length bytes.now ≤ 32768
+            → KeepsUp K.took before self.old 0 given
+            → KeepsUp K.took before self.new (spare_after result) (given ++ bytes.now) }
         ensures held { HoldsFront result (K.holds self.old.sink) (K.holds self.new.sink) bytes.now }
         ensures faults { Counted (not result) (K.faults self.old.sink) (K.faults self.new.sink) }
         ensures seen { self.new.faults ≡ faults_after result self.old.faults }
@@ -47,8 +50,10 @@ impl<K: Sink> Outlet<K> {
 
     /// Nothing more will be given. False where the sink failed.
     pub(crate) fn finish(&mut self) -> bool
-        ensures delivered { (before : Option (List ℕ)) (given : List ℕ) → Delivers K.took before self.old given → Delivers K.took before self.new given }
-        ensures kept_up { (before : Option (List ℕ)) (given : List ℕ) → KeepsUp K.took before self.old 0 given → KeepsUp K.took before self.new 0 given }
+        ensures delivered { (before : Option (List ℕ)) (given : List ℕ) → Delivers K.took before self.old given
+            → Delivers K.took before self.new given }
+        ensures kept_up { (before : Option (List ℕ)) (given : List ℕ) → KeepsUp K.took before self.old 0 given
+            → KeepsUp K.took before self.new 0 given }
         ensures faults { Counted (not result) (K.faults self.old.sink) (K.faults self.new.sink) }
         ensures seen { self.new.faults ≡ faults_after result self.old.faults }
         ensures held { Keeps (K.holds self.old.sink) (K.holds self.new.sink) }
@@ -71,22 +76,4 @@ fn sound_after(sound: u64, faults: u64, count: u64) -> u64
         return sound;
     }
     sound.saturating_add(count)
-}
-
-/// Writes until all bytes are taken or the sink fails, and counts what it took.
-fn write_front<K: Sink>(sink: &mut K, bytes: &[u8]) -> (usize, bool)
-    ensures bound { result.0 ≤ length bytes.now }
-    ensures all { result.1 ≡ false → result.0 ≡ length bytes.now }
-    ensures taken { K.took sink.new ≡ option_map (λ all. all ++ take result.0 bytes.now) (K.took sink.old) }
-    ensures held { Appends (K.holds sink.old) (K.holds sink.new) (take result.0 bytes.now) }
-    ensures faults { Counted result.1 (K.faults sink.old) (K.faults sink.new) }
-{
-    let mut count = 0;
-    while count < bytes.len() {
-        match sink.write(&bytes[count..]) {
-            SinkTook::Took(more) => count += more,
-            SinkTook::Failed => return (count, true),
-        }
-    }
-    (count, false)
 }

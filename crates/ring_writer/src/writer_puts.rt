@@ -2,13 +2,15 @@
 ghost use Rattle.std.specs.Prelude.{◌≡◌, ◌≢◌, ◌<◌, ◌≤◌, ◌+◌, ◌++◌, ◌∷◌, [], true, false, length, take, MatchOption, if◌then◌else◌};
 ghost use Rattle.crossbeam_queue.specs.Passes.{view};
 ghost use Rattle.port_trait.specs.declared.answers.Took.TheVariants as writes;
-ghost use Rattle.ring_items.specs.declared.items.RingItem.TheVariants as ring_items;
-ghost use Rattle.ring_items.specs.Items.{bytes_of, told, AddsChunks};
+ghost use Rattle.ring_queue.specs.declared.items.RingItem.TheVariants as ring_items;
+ghost use Rattle.ring_queue.specs.Items.{bytes_of, told, AddsChunks};
 ghost use Rattle.ring_writer.specs.WriterPuts.{IsPutting, PutsChunk, FullWhereNoRoom, WasFull, marks_after};
 
-use ordered_queue::{OrderedPass, is_empty, is_full, put, take as take_mark};
 use port_trait::Took;
-use ring_items::{Lines, Ready, RingItem, SendingSide, SinkFault, send};
+use ring_queue::{
+    Lines, OrderedPass, Ready, RingItem, SendingSide, SinkFault, is_empty, is_full, put, send,
+    take as take_mark,
+};
 use std::alloc::Global;
 use std::sync::{Arc, Wait};
 
@@ -71,7 +73,9 @@ impl Putter {
         requires some { 0 < length bytes.now }
         ensures putting { IsPutting self.new }
         ensures kept { (self.new.lines ≡ self.old.lines) × (self.new.ended ≡ self.old.ended) × (self.new.taker ≡ self.old.taker) }
-        ensures put { MatchOption result (((view self.new.sender).sent ≡ (view self.old.sender).sent) × WasFull (view self.old.sender).sent) (λ n. PutsChunk (view self.old.sender).sent (view self.new.sender).sent bytes.now (writes.Took n)) }
+        ensures put { MatchOption result
+            (((view self.new.sender).sent ≡ (view self.old.sender).sent) × WasFull (view self.old.sender).sent)
+            (λ n. PutsChunk (view self.old.sender).sent (view self.new.sender).sent bytes.now (writes.Took n)) }
     {
         let chunk = self.ready.chunk_of(rt, &self.lines.pages, bytes);
         let count = chunk.as_slice().len();
@@ -158,7 +162,8 @@ impl Putter {
         ensures putting { IsPutting self.new }
         ensures kept { (self.new.lines ≡ self.old.lines) × (self.new.taker ≡ self.old.taker) }
         ensures ended { self.new.ended ≡ true }
-        ensures sent { (view self.new.sender).sent ≡ (view self.old.sender).sent ++ ring_items.End (told (bytes_of (view self.old.sender).sent)) ∷ [] }
+        ensures sent { (view self.new.sender).sent
+            ≡ (view self.old.sender).sent ++ ring_items.End (told (bytes_of (view self.old.sender).sent)) ∷ [] }
     {
         let mark = RingItem::End(self.count);
         send(
@@ -177,7 +182,8 @@ impl Putter {
     pub(crate) fn is_ready(&mut self) -> bool
         requires putting { IsPutting self.old }
         ensures putting { IsPutting self.new }
-        ensures kept { (self.new.lines ≡ self.old.lines) × (self.new.ended ≡ self.old.ended) × (view self.new.sender ≡ view self.old.sender) × (view self.new.taker ≡ view self.old.taker) }
+        ensures kept { (self.new.lines ≡ self.old.lines) × (self.new.ended ≡ self.old.ended)
+            × (view self.new.sender ≡ view self.old.sender) × (view self.new.taker ≡ view self.old.taker) }
     {
         if self.looks_ready() {
             return true;
@@ -189,7 +195,8 @@ impl Putter {
     fn looks_ready(&mut self) -> bool
         requires putting { IsPutting self.old }
         ensures putting { IsPutting self.new }
-        ensures kept { (self.new.lines ≡ self.old.lines) × (self.new.ended ≡ self.old.ended) × (view self.new.sender ≡ view self.old.sender) × (view self.new.taker ≡ view self.old.taker) }
+        ensures kept { (self.new.lines ≡ self.old.lines) × (self.new.ended ≡ self.old.ended)
+            × (view self.new.sender ≡ view self.old.sender) × (view self.new.taker ≡ view self.old.taker) }
     {
         let full = is_full(&self.lines.items, &mut self.sender);
         let sound = is_empty(&self.lines.back, &mut self.taker);

@@ -3,9 +3,9 @@ ghost use Rattle.std.specs.Prelude.{◌≡◌, ◌<◌, ◌≤◌, ◌+◌, ◌+
 ghost use Rattle.crossbeam_queue.specs.Passes.{view};
 ghost use Rattle.port_trait.specs.Counting.{Rose};
 ghost use Rattle.port_trait.specs.declared.answers.Begun.TheVariants as begins;
-ghost use Rattle.ring_items.specs.declared.items.RingItem.TheVariants as ring_items;
-ghost use Rattle.ring_items.specs.Items.{bytes_of, told, AddsChunks};
-ghost use Rattle.ring_items.specs.Endings.{OnDone};
+ghost use Rattle.ring_queue.specs.declared.items.RingItem.TheVariants as ring_items;
+ghost use Rattle.ring_queue.specs.Items.{bytes_of, told, AddsChunks};
+ghost use Rattle.ring_queue.specs.Endings.{OnDone};
 ghost use Rattle.ring_writer.specs.WriterThread.{IsToBegin, ThreadEnded};
 ghost use Rattle.ring_writer.specs.WriterPuts.{IsPutting};
 ghost use Rattle.ring_writer.specs.WriterRing.{Stands, TaskStands, IsBack, IsBehind, LineBegins, WritesChunk, fresh_line, line_of, is_open, may_join};
@@ -13,9 +13,8 @@ ghost use Rattle.ring_writer.specs.WriterRing.{Stands, TaskStands, IsBack, IsBeh
 use crate::writer_outlet::Outlet;
 use crate::writer_puts::Putter;
 use crate::writer_thread::{WriterDone, WriterPromise, WriterWork};
-use ordered_queue::{OrderedPass, settle};
 use port_trait::{Begun, Sink, Spawner, Task, Took, Wake};
-use ring_items::{Ending, RingItem, SinkFault};
+use ring_queue::{Ending, OrderedPass, RingItem, SinkFault, settle};
 use std::mem;
 use std::snapshot::Snapshot;
 use std::sync::Wait;
@@ -52,7 +51,8 @@ impl<K: Sink + Drop> Stage<K> {
         requires none { ((view putter.sender).sent ≡ []) × ((view putter.taker).taken ≡ []) }
         requires task { IfSome task (TaskStands K.took K.faults K.finished putter.lines.value begun.value) }
         ensures stands { Stands K.took K.faults K.finished result }
-        ensures line { line_of K.took K.faults K.finished result ≡ fresh_line (K.took begun.value) (line_of K.took K.faults K.finished result).refused }
+        ensures line { line_of K.took K.faults K.finished result
+            ≡ fresh_line (K.took begun.value) (line_of K.took K.faults K.finished result).refused }
         ensures refused { (line_of K.took K.faults K.finished result).refused ≡ true → task ≡ None }
     {
         match task {
@@ -87,9 +87,12 @@ impl<K: Sink + Drop> Stage<K> {
     pub(crate) fn begin(&mut self) -> Begun
         requires { Stands K.took K.faults K.finished self.old }
         ensures stands { Stands K.took K.faults K.finished self.new }
-        ensures again { (line_of K.took K.faults K.finished self.old).begun ≡ true → (result ≡ begins.Begun) × (line_of K.took K.faults K.finished self.new ≡ line_of K.took K.faults K.finished self.old) }
+        ensures again { (line_of K.took K.faults K.finished self.old).begun ≡ true
+            → (result ≡ begins.Begun) × (line_of K.took K.faults K.finished self.new
+            ≡ line_of K.took K.faults K.finished self.old) }
         ensures line { LineBegins (line_of K.took K.faults K.finished self.old) (line_of K.took K.faults K.finished self.new) result }
-        ensures untold { (line_of K.took K.faults K.finished self.old).begun ≡ false → (line_of K.took K.faults K.finished self.old).marks ≡ 0 }
+        ensures untold { (line_of K.took K.faults K.finished self.old).begun ≡ false
+            → (line_of K.took K.faults K.finished self.old).marks ≡ 0 }
     {
         match mem::replace(self, Stage::Refused) {
             Stage::Ready(putter, begun, task) => {
@@ -114,7 +117,8 @@ impl<K: Sink + Drop> Stage<K> {
         requires open { is_open (line_of K.took K.faults K.finished self.old) ≡ true }
         requires some { 0 < length bytes.now }
         ensures stands { Stands K.took K.faults K.finished self.new }
-        ensures writes { WritesChunk (line_of K.took K.faults K.finished self.old) (line_of K.took K.faults K.finished self.new) bytes.now result }
+        ensures writes { WritesChunk (line_of K.took K.faults K.finished self.old) (line_of K.took K.faults K.finished self.new)
+            bytes.now result }
     {
         let Stage::Working(putter, _, _) = self else {
             unreachable!()
@@ -131,8 +135,15 @@ impl<K: Sink + Drop> Stage<K> {
         ensures bound { result.0 ≤ length bytes.now }
         ensures all { result.1 ≡ false → result.0 ≡ length bytes.now }
         ensures open { is_open (line_of K.took K.faults K.finished self.new) ≡ true }
-        ensures put { AddsChunks (line_of K.took K.faults K.finished self.old).sent (line_of K.took K.faults K.finished self.new).sent (take result.0 bytes.now) }
-        ensures kept { line_of K.took K.faults K.finished self.new ≡ record (line_of K.took K.faults K.finished self.old) { sent = (line_of K.took K.faults K.finished self.new).sent; marks = (line_of K.took K.faults K.finished self.old).marks + (if result.1 then 1 else 0) } }
+        ensures put { AddsChunks (line_of K.took K.faults K.finished self.old).sent
+            (line_of K.took K.faults K.finished self.new).sent (take result.0 bytes.now) }
+        ensures kept { line_of K.took K.faults K.finished self.new
+            ≡ record (line_of K.took K.faults K.finished self.old) {
+              sent =
+                  (line_of K.took K.faults K.finished self.new).sent;
+              marks =
+                  (line_of K.took K.faults K.finished self.old).marks + (if result.1 then 1 else 0);
+            } }
     {
         let Stage::Working(putter, _, _) = self else {
             unreachable!()
@@ -145,7 +156,12 @@ impl<K: Sink + Drop> Stage<K> {
         requires stands { Stands K.took K.faults K.finished self.old }
         requires open { is_open (line_of K.took K.faults K.finished self.old) ≡ true }
         ensures stands { Stands K.took K.faults K.finished self.new }
-        ensures line { line_of K.took K.faults K.finished self.new ≡ record (line_of K.took K.faults K.finished self.old) { sent = (line_of K.took K.faults K.finished self.old).sent ++ ring_items.End (told (bytes_of (line_of K.took K.faults K.finished self.old).sent)) ∷ [] } }
+        ensures line { line_of K.took K.faults K.finished self.new
+            ≡ record (line_of K.took K.faults K.finished self.old) {
+              sent =
+                  (line_of K.took K.faults K.finished self.old).sent ++ ring_items.End
+                  (told (bytes_of (line_of K.took K.faults K.finished self.old).sent)) ∷ [];
+            } }
     {
         let Stage::Working(putter, _, _) = self else {
             unreachable!()
@@ -170,8 +186,13 @@ impl<K: Sink + Drop> Stage<K> {
         requires stands { Stands K.took K.faults K.finished self }
         requires may { may_join (line_of K.took K.faults K.finished self) ≡ true }
         ensures stands { Stands K.took K.faults K.finished result }
-        ensures kept { line_of K.took K.faults K.finished result ≡ record (line_of K.took K.faults K.finished self) { behind = (line_of K.took K.faults K.finished result).behind } }
-        ensures joined { (line_of K.took K.faults K.finished self).begun ≡ true → IsSome (line_of K.took K.faults K.finished result).behind }
+        ensures kept { line_of K.took K.faults K.finished result
+            ≡ record (line_of K.took K.faults K.finished self) {
+              behind =
+                  (line_of K.took K.faults K.finished result).behind;
+            } }
+        ensures joined { (line_of K.took K.faults K.finished self).begun ≡ true
+            → IsSome (line_of K.took K.faults K.finished result).behind }
         ensures behind { IfSome (line_of K.took K.faults K.finished result).behind (IsBehind (line_of K.took K.faults K.finished result)) }
     {
         match self {

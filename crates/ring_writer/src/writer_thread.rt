@@ -1,16 +1,18 @@
 // The thread of a writer: it takes what the port put, and gives it to the sink.
 ghost use Rattle.std.specs.Prelude.{◌≡◌, ℕ, List, [], true, false, ◌++◌, ◌∷◌, ◌+◌, ◌≤◌, length, vec_len, vec_capacity, MatchOption};
 ghost use Rattle.crossbeam_queue.specs.Passes.{view, IsPassOf, IsSamePass};
-ghost use Rattle.ordered_queue.specs.Order.{view_of};
+ghost use Rattle.ring_queue.specs.Order.{view_of};
 ghost use Rattle.ring_writer.specs.declared.writer_thread.Progress.TheVariants as steps;
-ghost use Rattle.ring_items.specs.Endings.{OnDone};
-ghost use Rattle.ring_items.specs.Items.{Follows, item_bytes, bytes_of, is_end_mark, last_is};
+ghost use Rattle.ring_queue.specs.Endings.{OnDone};
+ghost use Rattle.ring_queue.specs.Items.{Follows, item_bytes, bytes_of, is_end_mark, last_is};
 ghost use Rattle.ring_writer.specs.WriterThread.{IsFinished, CanWork, KeepsTrue, IsToBegin, ThreadEnded};
 
 use crate::writer_outlet::Outlet;
-use ordered_queue::{OrderedPass, OrderedQueue, put, take};
 use port_trait::{Sink, Wake};
-use ring_items::{CHUNK, Ending, Lines, Pages, RingItem, SinkFault, Spent, receive};
+use ring_queue::{
+    CHUNK, Ending, Lines, OrderedPass, OrderedQueue, Pages, RingItem, SinkFault, Spent, put,
+    receive, take,
+};
 use std::alloc::Global;
 use std::hint;
 use std::snapshot::Snapshot;
@@ -204,7 +206,8 @@ fn gather_ready<R: Wait>(
     ensures pass { IsPassOf lines.now.items taker.new }
     ensures takes { (view taker.new).takes ≡ true }
     ensures room { GATHERED ≤ vec_capacity buffer.new }
-    ensures taken { (before : List ℕ) → bytes_of (view taker.old).taken ≡ before ++ buffer.old.items → bytes_of (view taker.new).taken ≡ before ++ buffer.new.items }
+    ensures taken { (before : List ℕ) → bytes_of (view taker.old).taken ≡ before ++ buffer.old.items
+        → bytes_of (view taker.new).taken ≡ before ++ buffer.new.items }
     ensures short { vec_len buffer.new ≤ 32768 }
     ensures ended { result ≡ steps.Ended → last_is is_end_mark (view taker.new).taken ≡ true }
 {
@@ -230,7 +233,10 @@ fn take_soon<R: Wait>(
     requires pass { IsPassOf items.now taker.old }
     requires takes { (view taker.old).takes ≡ true }
     ensures queue { IsSamePass taker.old taker.new }
-    ensures taken { MatchOption result (view taker.new ≡ view taker.old) (λ item. (view taker.new ≡ view_of (view taker.old).sends (view taker.old).takes (view taker.old).sent ((view taker.old).taken ++ item ∷ [])) × Follows (view taker.old).taken item) }
+    ensures taken { MatchOption result (view taker.new ≡ view taker.old)
+        (λ item. (view taker.new
+        ≡ view_of (view taker.old).sends (view taker.old).takes (view taker.old).sent ((view taker.old).taken ++ item ∷ []))
+        × Follows (view taker.old).taken item) }
 {
     if let Some(item) = take(rt, items, taker) {
         return Some(item);

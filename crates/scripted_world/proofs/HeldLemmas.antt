@@ -9,14 +9,14 @@ use Rattle.relay_model.specs.declared.places.Half.TheVariants.{ToRead, ToWrite}
 use Rattle.relay_model.specs.declared.readiness.ReadyAt.{ReadyAt}
 use Rattle.relay_model.specs.Places.{same_place}
 use Rattle.relay_model.specs.Holding.{Hold, Free, Settling, Open, ShutDown, is_free, is_open}
-use Rattle.world_scripts.specs.declared.looking.Looked.{Looked}
-use Rattle.world_scripts.specs.declared.looking.Watch.{Watch}
-use Rattle.world_scripts.specs.declared.looking.Watch.TheVariants as watches
-use Rattle.world_scripts.specs.declared.script.Script.{Script}
+use Rattle.scripted_world.specs.declared.looking.Looked.{Looked}
+use Rattle.scripted_world.specs.declared.looking.Watch.{Watch}
+use Rattle.scripted_world.specs.declared.looking.Watch.TheVariants as watches
+use Rattle.scripted_world.specs.declared.script.Script.{Script}
 use Rattle.world_trait.specs.Answers.{NamesHeld}
 use Rattle.world_trait.specs.HoldTables.{SetsHold}
-use Rattle.world_scripts.specs.Looks.{LooksAtHeld, elsewhere, name_of, openings_at, openings_by}
-use Rattle.world_scripts.specs.Scripts.{is_ready, ready_ones}
+use Rattle.scripted_world.specs.Looks.{LooksAtHeld, elsewhere, name_of, openings_at, openings_by}
+use Rattle.scripted_world.specs.Scripts.{is_ready, ready_ones}
 use Rattle.world_trait.proofs.TableLemmas.{same_place-eq, same_place-same, sets_here}
 
 abbrev AtHeld : (Place → Hold) → Looked → Type 0

@@ -22,23 +22,23 @@ use Rattle.world_trait.specs.declared.answers.ShutAnswer.{ShutAnswer}
 use Rattle.world_trait.specs.declared.answers.ShutAnswer.TheVariants as shuts
 use Rattle.world_trait.specs.declared.answers.ReapAnswer.{ReapAnswer}
 use Rattle.world_trait.specs.declared.answers.ReapAnswer.TheVariants as reaps
-use Rattle.world_scripts.specs.declared.accepting.Coming.{Coming}
-use Rattle.world_scripts.specs.declared.accepting.Coming.TheVariants as coming
-use Rattle.world_scripts.specs.declared.items.OpenItem.{OpenItem}
-use Rattle.world_scripts.specs.declared.items.OpenItem.TheVariants as items
-use Rattle.world_scripts.specs.declared.looking.Watch.TheVariants as watches
-use Rattle.world_scripts.specs.declared.reading.Given.{Given}
-use Rattle.world_scripts.specs.declared.reading.Given.TheVariants as given
-use Rattle.world_scripts.specs.declared.writing.Taken.{Taken}
-use Rattle.world_scripts.specs.declared.writing.Taken.TheVariants as taken
-use Rattle.world_scripts.specs.declared.script.Script.{Script}
-use Rattle.world_scripts.specs.Lines.{next_of, used_up}
-use Rattle.world_scripts.specs.Looks.{elsewhere, looked_after, unnamed}
-use Rattle.world_scripts.specs.Marks.{shut_fails}
-use Rattle.world_scripts.specs.Peers.{peer_given, peers_left}
-use Rattle.world_scripts.specs.Reads.{GivesBytes, next_bytes, read_given, reads_left}
-use Rattle.world_scripts.specs.Scripts.{at_of, is_failing, is_stop, looked_opening, opening, ready_ones}
-use Rattle.world_scripts.specs.Writes.{write_taken, writes_left}
+use Rattle.scripted_world.specs.declared.accepting.Coming.{Coming}
+use Rattle.scripted_world.specs.declared.accepting.Coming.TheVariants as coming
+use Rattle.scripted_world.specs.declared.items.OpenItem.{OpenItem}
+use Rattle.scripted_world.specs.declared.items.OpenItem.TheVariants as items
+use Rattle.scripted_world.specs.declared.looking.Watch.TheVariants as watches
+use Rattle.scripted_world.specs.declared.reading.Given.{Given}
+use Rattle.scripted_world.specs.declared.reading.Given.TheVariants as given
+use Rattle.scripted_world.specs.declared.writing.Taken.{Taken}
+use Rattle.scripted_world.specs.declared.writing.Taken.TheVariants as taken
+use Rattle.scripted_world.specs.declared.script.Script.{Script}
+use Rattle.scripted_world.specs.Lines.{next_of, used_up}
+use Rattle.scripted_world.specs.Looks.{elsewhere, looked_after, unnamed}
+use Rattle.scripted_world.specs.Marks.{shut_fails}
+use Rattle.scripted_world.specs.Peers.{peer_given, peers_left}
+use Rattle.scripted_world.specs.Reads.{GivesBytes, next_bytes, read_given, reads_left}
+use Rattle.scripted_world.specs.Scripts.{at_of, is_failing, is_stop, looked_opening, opening, ready_ones}
+use Rattle.scripted_world.specs.Writes.{write_taken, writes_left}
 
 -- ---- reads
 

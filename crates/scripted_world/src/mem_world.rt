@@ -4,22 +4,24 @@ ghost use Rattle.relay_model.specs.Conversions.{longest_packet};
 ghost use Rattle.relay_model.specs.Holding.{Free, Open, Settling, is_free, is_open};
 ghost use Rattle.world_trait.specs.Answers.{Answered, AnsweredAsking, Rose, RaisesCounts, says_stop, OnlyHeldNamed, OnlyWhereTold, NotReaped, WaitCounts, ReadFits, WriteFits, wait_act, open_act, listen_act, accept_act, read_act, write_act, send_act, shut_act, close_act, note_act, reap_act, is_open_fault, is_listen_fault, is_accept_fault, is_read_fault, is_write_fault, is_send_fault, is_shut_fault, is_note_fault, wants_turn_memory, wants_read_memory, wants_write_memory, wants_send_memory, wants_shut_memory};
 ghost use Rattle.world_trait.specs.HoldTables.{hold_found, lookup};
-ghost use Rattle.world_scripts.specs.Looks.{LooksAtHeld};
-ghost use Rattle.world_scripts.specs.Reads.{HasBytes, reading_of};
+ghost use Rattle.scripted_world.specs.Looks.{LooksAtHeld};
+ghost use Rattle.scripted_world.specs.Reads.{HasBytes, reading_of};
 ghost use Rattle.world_trait.specs.Recordings.{told_kept};
-ghost use Rattle.world_trait.specs.Runs.{IsFresh, SameRun};
+ghost use Rattle.world_trait.specs.Seen.{Waitless, IsFresh, SameRun};
 ghost use Rattle.scripted_world.specs.Scripted.{TurnScripted, OpenScripted, ListenScripted, AcceptScripted, ReadScripted, WriteScripted, SendScripted, ShutScripted, CloseScripted, ReapScripted};
-ghost use Rattle.world_scripts.specs.Scripts.{OpensSo, empty_script};
-ghost use Rattle.world_scripts.specs.Writes.{HasCount, writing_of};
+ghost use Rattle.scripted_world.specs.Scripts.{OpensSo, empty_script};
+ghost use Rattle.scripted_world.specs.Writes.{HasCount, writing_of};
 
+use crate::accepting::{Coming, DuePeer, who_comes};
+use crate::items::{OpenItem, PeerItem, ReadItem, WriteItem};
+use crate::looking::Watch;
+use crate::reading::{DueRead, Given, Reading, look, use_bytes};
+use crate::script::Script;
+use crate::writing::{DueWrite, Taken, Writing, room, use_write};
 use relay_model::{
     Act, Bytes, ChildEnd, Journal, Kept, NoMemory, Peer, Place, ReadyList, Shut, Single, Why,
 };
 use std::alloc::Global;
-use world_scripts::{
-    Coming, DuePeer, DueRead, DueWrite, Given, OpenItem, PeerItem, ReadItem, Reading, Script,
-    Taken, Watch, WriteItem, Writing, look, room, use_bytes, use_write, who_comes,
-};
 use world_trait::{
     AcceptAnswer, Holdings, ListenAnswer, NoteAnswer, OpenAnswer, ReadAnswer, ReapAnswer,
     SendAnswer, ShutAnswer, Standing, Turned, World, WriteAnswer,
@@ -42,8 +44,8 @@ pub struct MemWorld {
 impl MemWorld {
     /// A world with no items, in which nothing was done; takes no memory.
     pub fn new(alloc: Global) -> MemWorld
-        ensures told { ⟦<MemWorld as World>⟧.told result ≡ Some (record { acts = []; asked = [] }) }
-        ensures fresh { let w = ⟦<MemWorld as World>⟧ in IsFresh (w.held result) (w.faults result) (w.waits result) (w.stops result) (w.clock result) }
+        ensures told { (⟦<MemWorld as World>⟧.seen result).told ≡ Some (record { acts = []; asked = [] }) }
+        ensures fresh { IsFresh (⟦<MemWorld as World>⟧.seen result) }
         ensures script { result.script ≡ empty_script }
     {
         MemWorld {
@@ -61,8 +63,16 @@ impl MemWorld {
     /// the moment of its next item, or with none left, answers `NotYet`.
     pub fn add_read(&mut self, place: Place, at: u64, item: ReadItem) -> Result<(), NoMemory>
         requires { HasBytes item }
-        ensures run { let w = ⟦<MemWorld as World>⟧ in SameRun (w.told self.old) (w.told self.new) (w.held self.old) (w.held self.new) (w.faults self.old) (w.faults self.new) (w.waits self.old) (w.waits self.new) (w.stops self.old) (w.stops self.new) (w.clock self.old) (w.clock self.new) }
-        ensures added { OnOk result (self.new.script ≡ record self.old.script { reads = self.old.script.reads ++ record { place = place; item = record { at = at; reading = reading_of item } } ∷ [] }) }
+        ensures run { SameRun (⟦<MemWorld as World>⟧.seen self.old) (⟦<MemWorld as World>⟧.seen self.new) }
+        ensures added { OnOk result
+            (self.new.script
+            ≡ record self.old.script {
+              reads = self.old.script.reads ++ record {
+                place = place;
+                item = record
+                    { at = at; reading = reading_of item };
+              } ∷ [];
+            }) }
         ensures kept { OnErr result (self.new.script ≡ self.old.script) }
     {
         let reading = Reading::of(item);
@@ -73,8 +83,16 @@ impl MemWorld {
     /// taken. Where an item takes some bytes, a sending has all of its bytes taken.
     pub fn add_write(&mut self, place: Place, at: u64, item: WriteItem) -> Result<(), NoMemory>
         requires { HasCount item }
-        ensures run { let w = ⟦<MemWorld as World>⟧ in SameRun (w.told self.old) (w.told self.new) (w.held self.old) (w.held self.new) (w.faults self.old) (w.faults self.new) (w.waits self.old) (w.waits self.new) (w.stops self.old) (w.stops self.new) (w.clock self.old) (w.clock self.new) }
-        ensures added { OnOk result (self.new.script ≡ record self.old.script { writes = self.old.script.writes ++ record { place = place; item = record { at = at; writing = writing_of item } } ∷ [] }) }
+        ensures run { SameRun (⟦<MemWorld as World>⟧.seen self.old) (⟦<MemWorld as World>⟧.seen self.new) }
+        ensures added { OnOk result
+            (self.new.script
+            ≡ record self.old.script {
+              writes = self.old.script.writes ++ record {
+                place = place;
+                item = record
+                    { at = at; writing = writing_of item };
+              } ∷ [];
+            }) }
         ensures kept { OnErr result (self.new.script ≡ self.old.script) }
     {
         let writing = Writing::of(item);
@@ -85,8 +103,15 @@ impl MemWorld {
     /// With none left it opens. None is later at a door.
     pub fn add_open(&mut self, place: Place, at: u64, item: OpenItem) -> Result<(), NoMemory>
         requires { OpensSo place item }
-        ensures run { let w = ⟦<MemWorld as World>⟧ in SameRun (w.told self.old) (w.told self.new) (w.held self.old) (w.held self.new) (w.faults self.old) (w.faults self.new) (w.waits self.old) (w.waits self.new) (w.stops self.old) (w.stops self.new) (w.clock self.old) (w.clock self.new) }
-        ensures added { OnOk result (self.new.script ≡ record self.old.script { opens = self.old.script.opens ++ record { place = place; item = item } ∷ [] }) }
+        ensures run { SameRun (⟦<MemWorld as World>⟧.seen self.old) (⟦<MemWorld as World>⟧.seen self.new) }
+        ensures added { OnOk result
+            (self.new.script
+            ≡ record self.old.script {
+              opens = self.old.script.opens ++ record {
+                place = place;
+                item = item;
+              } ∷ [];
+            }) }
         ensures kept { OnErr result (self.new.script ≡ self.old.script) }
     {
         let _moment = at;
@@ -95,8 +120,16 @@ impl MemWorld {
 
     /// The next peer of the door. An accepting before its moment, or with none left, answers `NoPeer`.
     pub fn add_peer(&mut self, door: Place, at: u64, item: PeerItem) -> Result<(), NoMemory>
-        ensures run { let w = ⟦<MemWorld as World>⟧ in SameRun (w.told self.old) (w.told self.new) (w.held self.old) (w.held self.new) (w.faults self.old) (w.faults self.new) (w.waits self.old) (w.waits self.new) (w.stops self.old) (w.stops self.new) (w.clock self.old) (w.clock self.new) }
-        ensures added { OnOk result (self.new.script ≡ record self.old.script { peers = self.old.script.peers ++ record { place = door; item = record { at = at; item = item } } ∷ [] }) }
+        ensures run { SameRun (⟦<MemWorld as World>⟧.seen self.old) (⟦<MemWorld as World>⟧.seen self.new) }
+        ensures added { OnOk result
+            (self.new.script
+            ≡ record self.old.script {
+              peers = self.old.script.peers ++ record {
+                place = door;
+                item = record
+                    { at = at; item = item };
+              } ∷ [];
+            }) }
         ensures kept { OnErr result (self.new.script ≡ self.old.script) }
     {
         self.script.peers.add(door, DuePeer { at, item })
@@ -104,7 +137,7 @@ impl MemWorld {
 
     /// From now on each shut of the place fails.
     pub fn add_shut_fault(&mut self, place: Place) -> Result<(), NoMemory>
-        ensures run { let w = ⟦<MemWorld as World>⟧ in SameRun (w.told self.old) (w.told self.new) (w.held self.old) (w.held self.new) (w.faults self.old) (w.faults self.new) (w.waits self.old) (w.waits self.new) (w.stops self.old) (w.stops self.new) (w.clock self.old) (w.clock self.new) }
+        ensures run { SameRun (⟦<MemWorld as World>⟧.seen self.old) (⟦<MemWorld as World>⟧.seen self.new) }
         ensures added { OnOk result (self.new.script ≡ record self.old.script { shut_faults = self.old.script.shut_faults ++ place ∷ [] }) }
         ensures kept { OnErr result (self.new.script ≡ self.old.script) }
     {
@@ -113,8 +146,15 @@ impl MemWorld {
 
     /// What the next reaping of the place answers. With none left there is no child.
     pub fn add_reap(&mut self, place: Place, end: ChildEnd) -> Result<(), NoMemory>
-        ensures run { let w = ⟦<MemWorld as World>⟧ in SameRun (w.told self.old) (w.told self.new) (w.held self.old) (w.held self.new) (w.faults self.old) (w.faults self.new) (w.waits self.old) (w.waits self.new) (w.stops self.old) (w.stops self.new) (w.clock self.old) (w.clock self.new) }
-        ensures added { OnOk result (self.new.script ≡ record self.old.script { reaps = self.old.script.reaps ++ record { place = place; item = end } ∷ [] }) }
+        ensures run { SameRun (⟦<MemWorld as World>⟧.seen self.old) (⟦<MemWorld as World>⟧.seen self.new) }
+        ensures added { OnOk result
+            (self.new.script
+            ≡ record self.old.script {
+              reaps = self.old.script.reaps ++ record {
+                place = place;
+                item = end;
+              } ∷ [];
+            }) }
         ensures kept { OnErr result (self.new.script ≡ self.old.script) }
     {
         self.script.reaps.add(place, end)
@@ -122,7 +162,7 @@ impl MemWorld {
 
     /// From this moment on each wait answers a stop.
     pub fn add_stop(&mut self, at: u64) -> Result<(), NoMemory>
-        ensures run { let w = ⟦<MemWorld as World>⟧ in SameRun (w.told self.old) (w.told self.new) (w.held self.old) (w.held self.new) (w.faults self.old) (w.faults self.new) (w.waits self.old) (w.waits self.new) (w.stops self.old) (w.stops self.new) (w.clock self.old) (w.clock self.new) }
+        ensures run { SameRun (⟦<MemWorld as World>⟧.seen self.old) (⟦<MemWorld as World>⟧.seen self.new) }
         ensures added { OnOk result (self.new.script ≡ record self.old.script { stops = self.old.script.stops ++ at ∷ [] }) }
         ensures kept { OnErr result (self.new.script ≡ self.old.script) }
     {
@@ -131,39 +171,37 @@ impl MemWorld {
 
     /// How the place stands; none where nothing is held there.
     pub fn standing(&self, place: Place) -> Option<Standing>
-        ensures { hold_found result ≡ ⟦<MemWorld as World>⟧.held self.now place }
+        ensures { hold_found result ≡ (⟦<MemWorld as World>⟧.seen self.now).held place }
     {
         self.held.standing_at(place)
     }
 
     /// What was done so far.
     pub fn journal(&self) -> &Journal
-        ensures { option_map (λ history. history.acts) (⟦<MemWorld as World>⟧.told self.now) ≡ Some result.now.acts }
+        ensures { option_map (λ history. history.acts) (⟦<MemWorld as World>⟧.seen self.now).told ≡ Some result.now.acts }
     {
         self.kept.journal()
     }
 }
 
 impl World for MemWorld {
-    ghost told = { λ w. told_kept w.kept };
-
-    ghost held = { λ w. lookup w.held.entries };
-
-    ghost faults = { λ w. w.faults };
-
-    ghost waits = { λ w. w.waits };
-
-    ghost stops = { λ w. w.stops };
-
-    ghost clock = { λ w. w.clock };
+    ghost seen = { λ w. record {
+      told = told_kept w.kept;
+      held = lookup w.held.entries;
+      faults = w.faults;
+      waits = w.waits;
+      stops = w.stops;
+      clock = w.clock;
+    } };
 
     /// Looks at what was last answered with nothing yet, and that no turn has named since. What finds no room in the
     /// list stays looked at. Where nothing will ever happen, it answers a stop.
     fn wait(&mut self, until: Option<u64>, ready: &mut ReadyList) -> Turned
         requires { 256 ≤ ready.old.room }
         ensures room { 256 ≤ ready.new.room }
-        ensures act { Answered (told_kept self.old.kept) (told_kept self.new.kept) (lookup self.old.held.entries) (lookup self.new.held.entries) (wait_act until ready.new result) }
-        ensures counts { WaitCounts self.old.waits self.new.waits self.old.stops self.new.stops self.old.clock self.new.clock result }
+        ensures act { Answered (⟦<MemWorld as World>⟧.seen self.old) (⟦<MemWorld as World>⟧.seen self.new)
+            (wait_act until ready.new result) }
+        ensures counts { WaitCounts (⟦<MemWorld as World>⟧.seen self.old) (⟦<MemWorld as World>⟧.seen self.new) result }
         ensures faults { self.old.faults ≤ self.new.faults }
         ensures named { OnlyHeldNamed (lookup self.new.held.entries) ready.new.entries result }
         ensures memory { OnlyWhereTold (told_kept self.old.kept) (wants_turn_memory result) }
@@ -197,11 +235,10 @@ impl World for MemWorld {
 
     fn open_place(&mut self, place: Place, single: &Single, _behind: Option<Peer>) -> OpenAnswer
         requires { lookup self.old.held.entries place ≡ Free }
-        ensures act { AnsweredAsking (place, single.now) (told_kept self.old.kept) (told_kept self.new.kept) (lookup self.old.held.entries) (lookup self.new.held.entries) (open_act place result) }
+        ensures act { AnsweredAsking (place, single.now) (⟦<MemWorld as World>⟧.seen self.old)
+            (⟦<MemWorld as World>⟧.seen self.new) (open_act place result) }
         ensures cause { Rose self.old.faults self.new.faults (is_open_fault result) }
-        ensures waits { self.new.waits ≡ self.old.waits }
-        ensures stops { self.old.stops ≤ self.new.stops }
-        ensures clock { self.new.clock ≡ self.old.clock }
+        ensures waitless { Waitless (⟦<MemWorld as World>⟧.seen self.old) (⟦<MemWorld as World>⟧.seen self.new) }
         ensures script { OpenScripted self.old.script self.new.script place result }
         ensures counted { RaisesCounts self.old.faults self.new.faults self.old.stops self.new.stops (is_open_fault result) false }
     {
@@ -250,11 +287,9 @@ impl World for MemWorld {
     /// Uses an opening item of the place, as an opening does.
     fn settle(&mut self, place: Place) -> OpenAnswer
         requires { lookup self.old.held.entries place ≡ Settling }
-        ensures act { Answered (told_kept self.old.kept) (told_kept self.new.kept) (lookup self.old.held.entries) (lookup self.new.held.entries) (open_act place result) }
+        ensures act { Answered (⟦<MemWorld as World>⟧.seen self.old) (⟦<MemWorld as World>⟧.seen self.new) (open_act place result) }
         ensures cause { Rose self.old.faults self.new.faults (is_open_fault result) }
-        ensures waits { self.new.waits ≡ self.old.waits }
-        ensures stops { self.old.stops ≤ self.new.stops }
-        ensures clock { self.new.clock ≡ self.old.clock }
+        ensures waitless { Waitless (⟦<MemWorld as World>⟧.seen self.old) (⟦<MemWorld as World>⟧.seen self.new) }
         ensures script { OpenScripted self.old.script self.new.script place result }
         ensures counted { RaisesCounts self.old.faults self.new.faults self.old.stops self.new.stops (is_open_fault result) false }
     {
@@ -291,11 +326,10 @@ impl World for MemWorld {
 
     fn listen(&mut self, door: Place, single: &Single) -> ListenAnswer
         requires { lookup self.old.held.entries door ≡ Free }
-        ensures act { AnsweredAsking (door, single.now) (told_kept self.old.kept) (told_kept self.new.kept) (lookup self.old.held.entries) (lookup self.new.held.entries) (listen_act door result) }
+        ensures act { AnsweredAsking (door, single.now) (⟦<MemWorld as World>⟧.seen self.old)
+            (⟦<MemWorld as World>⟧.seen self.new) (listen_act door result) }
         ensures cause { Rose self.old.faults self.new.faults (is_listen_fault result) }
-        ensures waits { self.new.waits ≡ self.old.waits }
-        ensures stops { self.old.stops ≤ self.new.stops }
-        ensures clock { self.new.clock ≡ self.old.clock }
+        ensures waitless { Waitless (⟦<MemWorld as World>⟧.seen self.old) (⟦<MemWorld as World>⟧.seen self.new) }
         ensures script { ListenScripted self.old.script self.new.script door result }
         ensures counted { RaisesCounts self.old.faults self.new.faults self.old.stops self.new.stops (is_listen_fault result) false }
     {
@@ -332,11 +366,9 @@ impl World for MemWorld {
     fn accept(&mut self, door: Place, place: Place) -> AcceptAnswer
         requires door { lookup self.old.held.entries door ≡ Open }
         requires place { lookup self.old.held.entries place ≡ Free }
-        ensures act { Answered (told_kept self.old.kept) (told_kept self.new.kept) (lookup self.old.held.entries) (lookup self.new.held.entries) (accept_act door place result) }
+        ensures act { Answered (⟦<MemWorld as World>⟧.seen self.old) (⟦<MemWorld as World>⟧.seen self.new) (accept_act door place result) }
         ensures cause { Rose self.old.faults self.new.faults (is_accept_fault result) }
-        ensures waits { self.new.waits ≡ self.old.waits }
-        ensures stops { self.old.stops ≤ self.new.stops }
-        ensures clock { self.new.clock ≡ self.old.clock }
+        ensures waitless { Waitless (⟦<MemWorld as World>⟧.seen self.old) (⟦<MemWorld as World>⟧.seen self.new) }
         ensures script { AcceptScripted self.old.script self.new.script door self.old.clock result }
         ensures counted { RaisesCounts self.old.faults self.new.faults self.old.stops self.new.stops (is_accept_fault result) false }
     {
@@ -375,11 +407,10 @@ impl World for MemWorld {
         requires open { is_open (lookup self.old.held.entries place) ≡ true }
         requires room { 0 < length into.old }
         ensures fits { ReadFits (length into.old) result }
-        ensures act { Answered (told_kept self.old.kept) (told_kept self.new.kept) (lookup self.old.held.entries) (lookup self.new.held.entries) (read_act place into.new result) }
+        ensures act { Answered (⟦<MemWorld as World>⟧.seen self.old) (⟦<MemWorld as World>⟧.seen self.new)
+            (read_act place into.new result) }
         ensures cause { Rose self.old.faults self.new.faults (is_read_fault result) }
-        ensures waits { self.new.waits ≡ self.old.waits }
-        ensures stops { self.old.stops ≤ self.new.stops }
-        ensures clock { self.new.clock ≡ self.old.clock }
+        ensures waitless { Waitless (⟦<MemWorld as World>⟧.seen self.old) (⟦<MemWorld as World>⟧.seen self.new) }
         ensures memory { OnlyWhereTold (told_kept self.old.kept) (wants_read_memory result) }
         ensures script { ReadScripted self.old.script self.new.script place self.old.clock (length into.old) into.new result }
         ensures counted { RaisesCounts self.old.faults self.new.faults self.old.stops self.new.stops (is_read_fault result) false }
@@ -430,11 +461,10 @@ impl World for MemWorld {
         requires open { lookup self.old.held.entries place ≡ Open }
         requires some { 0 < length bytes.now }
         ensures fits { WriteFits (length bytes.now) result }
-        ensures act { Answered (told_kept self.old.kept) (told_kept self.new.kept) (lookup self.old.held.entries) (lookup self.new.held.entries) (write_act place bytes.now result) }
+        ensures act { Answered (⟦<MemWorld as World>⟧.seen self.old) (⟦<MemWorld as World>⟧.seen self.new)
+            (write_act place bytes.now result) }
         ensures cause { Rose self.old.faults self.new.faults (is_write_fault result) }
-        ensures waits { self.new.waits ≡ self.old.waits }
-        ensures stops { self.old.stops ≤ self.new.stops }
-        ensures clock { self.new.clock ≡ self.old.clock }
+        ensures waitless { Waitless (⟦<MemWorld as World>⟧.seen self.old) (⟦<MemWorld as World>⟧.seen self.new) }
         ensures memory { OnlyWhereTold (told_kept self.old.kept) (wants_write_memory result) }
         ensures script { WriteScripted self.old.script self.new.script place self.old.clock (length bytes.now) result }
         ensures counted { RaisesCounts self.old.faults self.new.faults self.old.stops self.new.stops (is_write_fault result) false }
@@ -475,11 +505,10 @@ impl World for MemWorld {
         requires open { lookup self.old.held.entries place ≡ Open }
         requires some { 0 < length bytes.now }
         requires packet { length bytes.now ≤ longest_packet }
-        ensures act { Answered (told_kept self.old.kept) (told_kept self.new.kept) (lookup self.old.held.entries) (lookup self.new.held.entries) (send_act place bytes.now result) }
+        ensures act { Answered (⟦<MemWorld as World>⟧.seen self.old) (⟦<MemWorld as World>⟧.seen self.new)
+            (send_act place bytes.now result) }
         ensures cause { Rose self.old.faults self.new.faults (is_send_fault result) }
-        ensures waits { self.new.waits ≡ self.old.waits }
-        ensures stops { self.old.stops ≤ self.new.stops }
-        ensures clock { self.new.clock ≡ self.old.clock }
+        ensures waitless { Waitless (⟦<MemWorld as World>⟧.seen self.old) (⟦<MemWorld as World>⟧.seen self.new) }
         ensures memory { OnlyWhereTold (told_kept self.old.kept) (wants_send_memory result) }
         ensures script { SendScripted self.old.script self.new.script place self.old.clock (length bytes.now) result }
         ensures counted { RaisesCounts self.old.faults self.new.faults self.old.stops self.new.stops (is_send_fault result) false }
@@ -517,11 +546,9 @@ impl World for MemWorld {
 
     fn shut(&mut self, place: Place, how: Shut) -> ShutAnswer
         requires { lookup self.old.held.entries place ≡ Open }
-        ensures act { Answered (told_kept self.old.kept) (told_kept self.new.kept) (lookup self.old.held.entries) (lookup self.new.held.entries) (shut_act place how result) }
+        ensures act { Answered (⟦<MemWorld as World>⟧.seen self.old) (⟦<MemWorld as World>⟧.seen self.new) (shut_act place how result) }
         ensures cause { Rose self.old.faults self.new.faults (is_shut_fault result) }
-        ensures waits { self.new.waits ≡ self.old.waits }
-        ensures stops { self.old.stops ≤ self.new.stops }
-        ensures clock { self.new.clock ≡ self.old.clock }
+        ensures waitless { Waitless (⟦<MemWorld as World>⟧.seen self.old) (⟦<MemWorld as World>⟧.seen self.new) }
         ensures memory { OnlyWhereTold (told_kept self.old.kept) (wants_shut_memory result) }
         ensures script { ShutScripted self.old.script self.new.script place result }
         ensures counted { RaisesCounts self.old.faults self.new.faults self.old.stops self.new.stops (is_shut_fault result) false }
@@ -541,11 +568,9 @@ impl World for MemWorld {
 
     fn close(&mut self, place: Place, why: Why)
         requires { is_free (lookup self.old.held.entries place) ≡ false }
-        ensures act { Answered (told_kept self.old.kept) (told_kept self.new.kept) (lookup self.old.held.entries) (lookup self.new.held.entries) (close_act place why) }
+        ensures act { Answered (⟦<MemWorld as World>⟧.seen self.old) (⟦<MemWorld as World>⟧.seen self.new) (close_act place why) }
         ensures faults { self.old.faults ≤ self.new.faults }
-        ensures waits { self.new.waits ≡ self.old.waits }
-        ensures stops { self.old.stops ≤ self.new.stops }
-        ensures clock { self.new.clock ≡ self.old.clock }
+        ensures waitless { Waitless (⟦<MemWorld as World>⟧.seen self.old) (⟦<MemWorld as World>⟧.seen self.new) }
         ensures script { CloseScripted self.old.script self.new.script place }
         ensures counted { RaisesCounts self.old.faults self.new.faults self.old.stops self.new.stops false false }
     {
@@ -556,12 +581,10 @@ impl World for MemWorld {
 
     /// Each note is taken.
     fn note(&mut self, text: &[u8]) -> NoteAnswer
-        ensures act { Answered (told_kept self.old.kept) (told_kept self.new.kept) (lookup self.old.held.entries) (lookup self.new.held.entries) (note_act text.now result) }
+        ensures act { Answered (⟦<MemWorld as World>⟧.seen self.old) (⟦<MemWorld as World>⟧.seen self.new) (note_act text.now result) }
         ensures cause { Rose self.old.faults self.new.faults (is_note_fault result) }
         ensures noted { is_note_fault result ≡ false }
-        ensures waits { self.new.waits ≡ self.old.waits }
-        ensures stops { self.old.stops ≤ self.new.stops }
-        ensures clock { self.new.clock ≡ self.old.clock }
+        ensures waitless { Waitless (⟦<MemWorld as World>⟧.seen self.old) (⟦<MemWorld as World>⟧.seen self.new) }
         ensures script { self.new.script ≡ self.old.script }
         ensures counted { RaisesCounts self.old.faults self.new.faults self.old.stops self.new.stops (is_note_fault result) false }
     {
@@ -578,11 +601,9 @@ impl World for MemWorld {
     fn reap(&mut self, place: Place) -> ReapAnswer
         requires free { lookup self.old.held.entries place ≡ Free }
         requires once { NotReaped (told_kept self.old.kept) place }
-        ensures act { Answered (told_kept self.old.kept) (told_kept self.new.kept) (lookup self.old.held.entries) (lookup self.new.held.entries) (reap_act place result) }
+        ensures act { Answered (⟦<MemWorld as World>⟧.seen self.old) (⟦<MemWorld as World>⟧.seen self.new) (reap_act place result) }
         ensures faults { self.old.faults ≤ self.new.faults }
-        ensures waits { self.new.waits ≡ self.old.waits }
-        ensures stops { self.old.stops ≤ self.new.stops }
-        ensures clock { self.new.clock ≡ self.old.clock }
+        ensures waitless { Waitless (⟦<MemWorld as World>⟧.seen self.old) (⟦<MemWorld as World>⟧.seen self.new) }
         ensures script { ReapScripted self.old.script self.new.script place result }
         ensures counted { RaisesCounts self.old.faults self.new.faults self.old.stops self.new.stops false false }
     {

@@ -153,7 +153,8 @@ impl Direction {
     /// Whether the end was passed on; an end that couldn't be counts too.
     pub fn has_passed(&self) -> bool
         ensures state { result ≡ is_some self.now.passed_at }
-        ensures stands { (c : Command) (past : List Act) (s : ℕ) (w : WayOf) → IsDirection c past s w self.now → result ≡ passed c past s w }
+        ensures stands { (c : Command) (past : List Act) (s : ℕ) (w : WayOf) → IsDirection c past s w self.now
+            → result ≡ passed c past s w }
     {
         self.passed_at.is_some()
     }
@@ -161,7 +162,8 @@ impl Direction {
     /// Whether a fault broke it.
     pub fn is_broken(&self) -> bool
         ensures state { result ≡ is_some self.now.broken_at }
-        ensures stands { (c : Command) (past : List Act) (s : ℕ) (w : WayOf) → IsDirection c past s w self.now → result ≡ broken c past s w }
+        ensures stands { (c : Command) (past : List Act) (s : ℕ) (w : WayOf) → IsDirection c past s w self.now
+            → result ≡ broken c past s w }
     {
         self.broken_at.is_some()
     }
@@ -189,7 +191,8 @@ impl Direction {
     /// How many bytes wait.
     pub fn waiting(&self) -> usize
         ensures state { result ≡ length self.now.flow.backlog }
-        ensures stands { (c : Command) (past : List Act) (s : ℕ) (w : WayOf) → IsDirection c past s w self.now → result ≡ backlog c past s w }
+        ensures stands { (c : Command) (past : List Act) (s : ℕ) (w : WayOf) → IsDirection c past s w self.now
+            → result ≡ backlog c past s w }
     {
         self.flow.waiting()
     }
@@ -197,7 +200,8 @@ impl Direction {
     /// How many bytes may be read next.
     pub fn room(&self) -> usize
         ensures state { result ≡ room_in self.now.flow }
-        ensures stands { (c : Command) (past : List Act) (s : ℕ) (w : WayOf) → IsDirection c past s w self.now → over c past (input c s w) ≡ false → result ≡ greatest_read c past s w }
+        ensures stands { (c : Command) (past : List Act) (s : ℕ) (w : WayOf) → IsDirection c past s w self.now
+            → over c past (input c s w) ≡ false → result ≡ greatest_read c past s w }
     {
         self.flow.room()
     }
@@ -205,7 +209,8 @@ impl Direction {
     /// Whether each piece that was read goes out as one packet.
     pub fn keeps_borders(&self) -> bool
         ensures state { result ≡ is_some self.now.flow.lane.packets }
-        ensures stands { (c : Command) (past : List Act) (s : ℕ) (w : WayOf) → IsDirection c past s w self.now → result ≡ keeps_borders c w }
+        ensures stands { (c : Command) (past : List Act) (s : ℕ) (w : WayOf) → IsDirection c past s w self.now
+            → result ≡ keeps_borders c w }
     {
         self.terms.packets.is_some()
     }
@@ -214,7 +219,8 @@ impl Direction {
 
     /// Whether nothing more counts of what may come.
     fn is_over(&self) -> bool
-        ensures { (c : Command) (past : List Act) (s : ℕ) (w : WayOf) → IsDirection c past s w self.now → result ≡ over c past (input c s w) }
+        ensures { (c : Command) (past : List Act) (s : ℕ) (w : WayOf) → IsDirection c past s w self.now
+            → result ≡ over c past (input c s w) }
     {
         self.ended || self.flow.over()
     }
@@ -228,7 +234,8 @@ impl Direction {
 
     /// Whether bytes wait for an output that is armed.
     fn may_write(&self) -> bool
-        ensures { (c : Command) (past : List Act) (s : ℕ) (w : WayOf) → IsDirection c past s w self.now → running c past s ≡ true → broken c past s w ≡ false → result ≡ owes_write c past s w }
+        ensures { (c : Command) (past : List Act) (s : ℕ) (w : WayOf) → IsDirection c past s w self.now
+            → running c past s ≡ true → broken c past s w ≡ false → result ≡ owes_write c past s w }
     {
         self.armed_out && !self.flow.spent()
     }
@@ -260,7 +267,8 @@ impl Direction {
 
     /// A write of the bytes that wait.
     fn want_to_write(&self) -> Want
-        ensures wants { (c : Command) (past : List Act) (s : ℕ) (w : WayOf) → IsDirection c past s w self.now → passed c past s w ≡ false → owes_write c past s w ≡ true → Wants c past s w result }
+        ensures wants { (c : Command) (past : List Act) (s : ℕ) (w : WayOf) → IsDirection c past s w self.now
+            → passed c past s w ≡ false → owes_write c past s w ≡ true → Wants c past s w result }
         ensures affords { can_write self.now ≡ true → Affords self.now result }
         ensures fits { FitsRoom self.now result }
     {
@@ -273,7 +281,8 @@ impl Direction {
 
     /// What is to be done next while the session runs, where `at` is the moment of the last turn.
     pub fn want(&self, at: u64) -> Want
-        ensures wants { (c : Command) (past : List Act) (s : ℕ) (w : WayOf) → IsDirection c past s w self.now → at ≡ now past → running c past s ≡ true → 1 ≤ c.block → Wants c past s w result }
+        ensures wants { (c : Command) (past : List Act) (s : ℕ) (w : WayOf) → IsDirection c past s w self.now → at ≡ now past
+            → running c past s ≡ true → 1 ≤ c.block → Wants c past s w result }
         ensures affords { Affords self.now result }
         ensures fits { FitsRoom self.now result }
     {
@@ -319,15 +328,22 @@ impl Direction {
 
     /// Whether the input is armed, and more of it counts.
     fn is_worth_asking(&self, at: u64) -> bool
-        ensures { (c : Command) (past : List Act) (s : ℕ) (w : WayOf) → IsDirection c past s w self.now → at ≡ now past → result ≡ (armed_to_read past (input c s w) && not (over c past (input c s w))) }
+        ensures { (c : Command) (past : List Act) (s : ℕ) (w : WayOf) → IsDirection c past s w self.now → at ≡ now past
+            → result ≡ (armed_to_read past (input c s w) && not (over c past (input c s w))) }
     {
         self.arming.is_armed(at) && !self.is_over()
     }
 
     /// A read, where the input is worth asking. While more than a block waits in one piece, nothing more is read.
     fn want_to_read(&self, at: u64) -> Want
-        ensures wants { (c : Command) (past : List Act) (s : ℕ) (w : WayOf) → IsDirection c past s w self.now → at ≡ now past → running c past s ≡ true → 1 ≤ c.block → broken c past s w ≡ false → passed c past s w ≡ false → is_spent c past s w ≡ false → (owes_write c past s w ≡ true → asked_to_write past (input c s w) (output c s w) ≡ true) → Wants c past s w result }
-        ensures reads { (c : Command) (past : List Act) (s : ℕ) (w : WayOf) (n : ℕ) → IsDirection c past s w self.now → at ≡ now past → running c past s ≡ true → broken c past s w ≡ false → passed c past s w ≡ false → result ≡ wants.Read n → WantsRead c past s w n }
+        ensures wants { (c : Command) (past : List Act) (s : ℕ) (w : WayOf) → IsDirection c past s w self.now → at ≡ now past
+            → running c past s ≡ true → 1 ≤ c.block → broken c past s w ≡ false → passed c past s w ≡ false
+            → is_spent c past s w ≡ false
+            → (owes_write c past s w ≡ true → asked_to_write past (input c s w) (output c s w) ≡ true)
+            → Wants c past s w result }
+        ensures reads { (c : Command) (past : List Act) (s : ℕ) (w : WayOf) (n : ℕ) → IsDirection c past s w self.now
+            → at ≡ now past → running c past s ≡ true → broken c past s w ≡ false → passed c past s w ≡ false
+            → result ≡ wants.Read n → WantsRead c past s w n }
         ensures affords { Affords self.now result }
         ensures fits { FitsRoom self.now result }
     {
@@ -349,7 +365,8 @@ impl Direction {
 
     /// Whether an armed half has work left, so that a wait must return at once.
     pub fn works(&self, at: u64) -> bool
-        ensures { (c : Command) (past : List Act) (s : ℕ) (w : WayOf) → IsDirection c past s w self.now → at ≡ now past → running c past s ≡ true → result ≡ way_work c past s w }
+        ensures { (c : Command) (past : List Act) (s : ℕ) (w : WayOf) → IsDirection c past s w self.now → at ≡ now past
+            → running c past s ≡ true → result ≡ way_work c past s w }
     {
         if self.is_broken() {
             return false;
@@ -363,7 +380,8 @@ impl Direction {
 
     /// The moment, later than this one, from which an input that met an end is asked again.
     pub fn moment(&self, at: u64) -> Option<u64>
-        ensures { (c : Command) (past : List Act) (s : ℕ) (w : WayOf) → IsDirection c past s w self.now → at ≡ now past → running c past s ≡ true → result ≡ later (now past) (input_moment c past s w) }
+        ensures { (c : Command) (past : List Act) (s : ℕ) (w : WayOf) → IsDirection c past s w self.now → at ≡ now past
+            → running c past s ≡ true → result ≡ later (now past) (input_moment c past s w) }
     {
         if self.is_broken() || self.is_over() {
             None
@@ -376,18 +394,21 @@ impl Direction {
 
     /// A place was opened, or a peer was accepted there.
     pub fn opened(&mut self, place: Place)
-        ensures opened { (c : Command) (past : List Act) (s : ℕ) (w : WayOf) → IsDirection c past s w self.old → IsDirection c (acts.Opened place ∷ past) s w self.new }
-        ensures accepted { (c : Command) (past : List Act) (s : ℕ) (w : WayOf) (peer : Peer) → IsDirection c past s w self.old → IsDirection c (acts.Accepted place peer ∷ past) s w self.new }
+        ensures opened { (c : Command) (past : List Act) (s : ℕ) (w : WayOf) → IsDirection c past s w self.old
+            → IsDirection c (acts.Opened place ∷ past) s w self.new }
+        ensures accepted { (c : Command) (past : List Act) (s : ℕ) (w : WayOf) (peer : Peer) → IsDirection c past s w self.old
+            → IsDirection c (acts.Accepted place peer ∷ past) s w self.new }
         ensures same { steps_in self.new ≡ steps_in self.old }
     {
         self.arming = self.arming.armed_where(place.is(self.source));
-        self.armed_out = either(place.is(self.sink), self.armed_out);
+        self.armed_out = place.is(self.sink) | self.armed_out;
     }
 
     /// Bytes were read.
     pub fn read(&mut self, bytes: &[u8])
         requires { length bytes.now ≤ room_in self.old.flow }
-        ensures goes { (c : Command) (past : List Act) (s : ℕ) (w : WayOf) → IsDirection c past s w self.old → passed c past s w ≡ false → IsDirection c (acts.Read (input c s w) bytes.now ∷ past) s w self.new }
+        ensures goes { (c : Command) (past : List Act) (s : ℕ) (w : WayOf) → IsDirection c past s w self.old
+            → passed c past s w ≡ false → IsDirection c (acts.Read (input c s w) bytes.now ∷ past) s w self.new }
         ensures fewer { can_read self.old ≡ true → steps_in self.new < steps_in self.old }
     {
         self.extra = left_after(self.asked_in, self.read_price(), self.extra);
@@ -398,28 +419,31 @@ impl Direction {
 
     /// An empty packet was read.
     pub fn read_empty(&mut self)
-        ensures goes { (c : Command) (past : List Act) (s : ℕ) (w : WayOf) → IsDirection c past s w self.old → IsDirection c (acts.ReadEmpty (input c s w) ∷ past) s w self.new }
+        ensures goes { (c : Command) (past : List Act) (s : ℕ) (w : WayOf) → IsDirection c past s w self.old
+            → IsDirection c (acts.ReadEmpty (input c s w) ∷ past) s w self.new }
         ensures fewer { can_read self.old ≡ true → steps_in self.new < steps_in self.old }
     {
         self.extra = left_after(self.asked_in, self.read_price(), self.extra);
         self.asked_in = true;
-        self.ended = either(self.ends_at_empty, self.ended);
+        self.ended = self.ends_at_empty | self.ended;
     }
 
     /// The end of the input was read.
     pub fn ended(&mut self, at: u64)
-        ensures goes { (c : Command) (past : List Act) (s : ℕ) (w : WayOf) → IsDirection c past s w self.old → at ≡ now past → IsDirection c (acts.ReadEnd (input c s w) ∷ past) s w self.new }
+        ensures goes { (c : Command) (past : List Act) (s : ℕ) (w : WayOf) → IsDirection c past s w self.old → at ≡ now past
+            → IsDirection c (acts.ReadEnd (input c s w) ∷ past) s w self.new }
         ensures fewer { can_read self.old ≡ true → steps_in self.new < steps_in self.old }
     {
         self.extra = left_after(self.asked_in, self.read_price(), self.extra);
         self.asked_in = true;
         self.arming = Arming::AtEnd(at);
-        self.ended = either(!self.ignores_end, self.ended);
+        self.ended = !self.ignores_end | self.ended;
     }
 
     /// A read found nothing yet.
     pub fn read_not_yet(&mut self)
-        ensures goes { (c : Command) (past : List Act) (s : ℕ) (w : WayOf) → IsDirection c past s w self.old → IsDirection c (acts.ReadNotYet (input c s w) ∷ past) s w self.new }
+        ensures goes { (c : Command) (past : List Act) (s : ℕ) (w : WayOf) → IsDirection c past s w self.old
+            → IsDirection c (acts.ReadNotYet (input c s w) ∷ past) s w self.new }
         ensures fewer { can_read self.old ≡ true → steps_in self.new < steps_in self.old }
     {
         self.extra = left_after(self.asked_in, self.read_price(), self.extra);
@@ -429,7 +453,8 @@ impl Direction {
 
     /// A read failed, which breaks a sloppy direction.
     pub fn read_failed(&mut self, at: u64)
-        ensures goes { (c : Command) (past : List Act) (s : ℕ) (w : WayOf) → IsDirection c past s w self.old → at ≡ now past → IsDirection c (acts.ReadFault (input c s w) ∷ past) s w self.new }
+        ensures goes { (c : Command) (past : List Act) (s : ℕ) (w : WayOf) → IsDirection c past s w self.old → at ≡ now past
+            → IsDirection c (acts.ReadFault (input c s w) ∷ past) s w self.new }
         ensures fewer { can_read self.old ≡ true → steps_in self.new < steps_in self.old }
     {
         self.extra = left_after(self.asked_in, self.read_price(), self.extra);
@@ -441,8 +466,11 @@ impl Direction {
     pub fn wrote(&mut self, count: usize)
         requires within { count ≤ length self.old.flow.backlog }
         requires whole { is_some self.old.flow.lane.packets ≡ true → count ≡ length self.old.flow.backlog }
-        ensures goes { (c : Command) (past : List Act) (s : ℕ) (w : WayOf) → IsDirection c past s w self.old → 1 ≤ count → passed c past s w ≡ false → IsDirection c (acts.Wrote (output c s w) (take count self.old.flow.backlog) ∷ past) s w self.new }
-        ensures may { (c : Command) (past : List Act) (s : ℕ) (w : WayOf) → IsDirection c past s w self.old → 1 ≤ count → MayOffer c past (output c s w) → MayWrite c past (output c s w) (take count self.old.flow.backlog) }
+        ensures goes { (c : Command) (past : List Act) (s : ℕ) (w : WayOf) → IsDirection c past s w self.old → 1 ≤ count
+            → passed c past s w ≡ false
+            → IsDirection c (acts.Wrote (output c s w) (take count self.old.flow.backlog) ∷ past) s w self.new }
+        ensures may { (c : Command) (past : List Act) (s : ℕ) (w : WayOf) → IsDirection c past s w self.old → 1 ≤ count
+            → MayOffer c past (output c s w) → MayWrite c past (output c s w) (take count self.old.flow.backlog) }
         ensures fewer { can_write self.old ≡ true → steps_in self.new < steps_in self.old }
     {
         self.extra = left_after(self.asked_out, PRICE, self.extra);
@@ -452,7 +480,8 @@ impl Direction {
 
     /// The output takes nothing yet.
     pub fn write_not_yet(&mut self)
-        ensures goes { (c : Command) (past : List Act) (s : ℕ) (w : WayOf) → IsDirection c past s w self.old → IsDirection c (acts.WriteNotYet (output c s w) ∷ past) s w self.new }
+        ensures goes { (c : Command) (past : List Act) (s : ℕ) (w : WayOf) → IsDirection c past s w self.old
+            → IsDirection c (acts.WriteNotYet (output c s w) ∷ past) s w self.new }
         ensures fewer { can_write self.old ≡ true → steps_in self.new < steps_in self.old }
     {
         self.extra = left_after(self.asked_out, PRICE, self.extra);
@@ -462,7 +491,8 @@ impl Direction {
 
     /// A write failed, which breaks a sloppy direction.
     pub fn write_failed(&mut self, at: u64)
-        ensures goes { (c : Command) (past : List Act) (s : ℕ) (w : WayOf) → IsDirection c past s w self.old → at ≡ now past → broken c past s w ≡ false → IsDirection c (acts.WriteFault (output c s w) ∷ past) s w self.new }
+        ensures goes { (c : Command) (past : List Act) (s : ℕ) (w : WayOf) → IsDirection c past s w self.old → at ≡ now past
+            → broken c past s w ≡ false → IsDirection c (acts.WriteFault (output c s w) ∷ past) s w self.new }
         ensures fewer { can_write self.old ≡ true → steps_in self.new < steps_in self.old }
     {
         self.extra = left_after(self.asked_out, PRICE, self.extra);
@@ -472,8 +502,12 @@ impl Direction {
 
     /// The end was passed on, or failed to be.
     pub fn passed(&mut self, at: u64)
-        ensures shut { (c : Command) (past : List Act) (s : ℕ) (w : WayOf) (way : Shutting) → IsDirection c past s w self.old → at ≡ now past → MayShut c past (output c s w) way → IsDirection c (acts.Shut (output c s w) way ∷ past) s w self.new }
-        ensures failed { (c : Command) (past : List Act) (s : ℕ) (w : WayOf) (way : Shutting) → IsDirection c past s w self.old → at ≡ now past → MayShut c past (output c s w) way → IsDirection c (acts.ShutFault (output c s w) way ∷ past) s w self.new }
+        ensures shut { (c : Command) (past : List Act) (s : ℕ) (w : WayOf) (way : Shutting) → IsDirection c past s w self.old
+            → at ≡ now past → MayShut c past (output c s w) way
+            → IsDirection c (acts.Shut (output c s w) way ∷ past) s w self.new }
+        ensures failed { (c : Command) (past : List Act) (s : ℕ) (w : WayOf) (way : Shutting) → IsDirection c past s w self.old
+            → at ≡ now past → MayShut c past (output c s w) way
+            → IsDirection c (acts.ShutFault (output c s w) way ∷ past) s w self.new }
         ensures fewer { is_some self.old.passed_at ≡ false → steps_in self.new < steps_in self.old }
     {
         self.passed_at = Some(at);
@@ -481,7 +515,9 @@ impl Direction {
 
     /// A wait has returned, and names nothing yet.
     pub fn woken(&mut self)
-        ensures { (c : Command) (past : List Act) (s : ℕ) (w : WayOf) (until : Option ℕ) (at : ℕ) → IsDirection c past s w self.old → IsDirection c (acts.Turn until at (listed []) false ∷ past) s w self.new }
+        ensures { (c : Command) (past : List Act) (s : ℕ) (w : WayOf) (until : Option ℕ) (at : ℕ)
+            → IsDirection c past s w self.old
+            → IsDirection c (acts.Turn until at (listed []) false ∷ past) s w self.new }
     {
         self.asked_in = false;
         self.asked_out = false;
@@ -490,19 +526,24 @@ impl Direction {
 
     /// The last turn names this half too, which may be one of the direction's.
     pub fn named(&mut self, entry: ReadyAt)
-        ensures goes { (c : Command) (past : List Act) (s : ℕ) (w : WayOf) (until : Option ℕ) (at : ℕ) (names : List Entry) → IsDirection c (acts.Turn until at (listed names) false ∷ past) s w self.old → IsDirection c (acts.Turn until at (listed (names ++ entry ∷ [])) false ∷ past) s w self.new }
+        ensures goes { (c : Command) (past : List Act) (s : ℕ) (w : WayOf) (until : Option ℕ) (at : ℕ) (names : List Entry)
+            → IsDirection c (acts.Turn until at (listed names) false ∷ past) s w self.old
+            → IsDirection c (acts.Turn until at (listed (names ++ entry ∷ [])) false ∷ past) s w self.new }
         ensures same { steps_in self.new ≡ steps_in self.old }
     {
         match entry.half {
             Half::ToRead => self.arming = self.arming.armed_where(entry.place.is(self.source)),
-            Half::ToWrite => self.armed_out = either(entry.place.is(self.sink), self.armed_out),
+            Half::ToWrite => self.armed_out = entry.place.is(self.sink) | self.armed_out,
         }
     }
 
     /// A law: an act that doesn't touch the direction leaves it, and so does a stop that a turn tells of.
     pub fn unmoved(&self)
-        ensures untouched { (c : Command) (past : List Act) (s : ℕ) (w : WayOf) (act : Act) → touches c s w act ≡ false → IsDirection c past s w self.now → IsDirection c (act ∷ past) s w self.now }
-        ensures stopped { (c : Command) (past : List Act) (s : ℕ) (w : WayOf) (until : Option ℕ) (at : ℕ) (ready : Listed) → IsDirection c (acts.Turn until at ready false ∷ past) s w self.now → IsDirection c (acts.Turn until at ready true ∷ past) s w self.now }
+        ensures untouched { (c : Command) (past : List Act) (s : ℕ) (w : WayOf) (act : Act) → touches c s w act ≡ false
+            → IsDirection c past s w self.now → IsDirection c (act ∷ past) s w self.now }
+        ensures stopped { (c : Command) (past : List Act) (s : ℕ) (w : WayOf) (until : Option ℕ) (at : ℕ) (ready : Listed)
+            → IsDirection c (acts.Turn until at ready false ∷ past) s w self.now
+            → IsDirection c (acts.Turn until at ready true ∷ past) s w self.now }
     {}
 }
 
@@ -570,11 +611,4 @@ fn broken_by_fault(sloppy: bool, at: u64) -> Option<u64>
     ensures { result ≡ (if sloppy then Some at else None) }
 {
     if sloppy { Some(at) } else { None }
-}
-
-/// Whether one of the two holds.
-fn either(one: bool, other: bool) -> bool
-    ensures { result ≡ (one || other) }
-{
-    one || other
 }

@@ -16,10 +16,10 @@ use Rattle.relay_model.specs.Dumps.{dump_of}
 use Rattle.relay_model.specs.History.{got}
 use Rattle.relay_model.specs.Rest.{owed}
 use Rattle.relay_model.specs.Frames.{reads_bytes}
-use Rattle.legal_steps.proofs.PlaceLemmas.{same_place_equal, same_place_self}
-use Rattle.relay_core.specs.declared.sessions.Session.{Session}
-use Rattle.relay_core.specs.Sessions.{Stands}
-use Rattle.session_driver.specs.Seen.{Seen}
+use Rattle.history_lemmas.proofs.PlaceLemmas.{same_place_equal, same_place_self}
+use Rattle.relay_session.specs.declared.sessions.Session.{Session}
+use Rattle.relay_session.specs.Sessions.{Stands}
+use Rattle.world_trait.specs.Seen.{Seen}
 use Rattle.session_driver.specs.Steps.{Acts}
 use Rattle.session_driver.specs.Noted.{note_of}
 use Rattle.session_driver.specs.Dumpers.{Counted, Counts, Settled, counted_at, counted_after}

@@ -10,12 +10,13 @@ use Rattle.relay_model.specs.Journals.{History, Asking}
 use Rattle.relay_model.specs.History.{reaped_since}
 use Rattle.world_trait.specs.declared.answers.ReapAnswer.{ReapAnswer}
 use Rattle.world_trait.specs.declared.answers.ReapAnswer.TheVariants as reaps
+use Rattle.world_trait.specs.Seen.{Seen}
 use Rattle.world_trait.specs.Answers.{Answered, NotReaped, reap_act, DidNothing}
-use Rattle.relay_core.specs.declared.sessions.Session.{Session}
-use Rattle.relay_core.specs.declared.wishes.Wish.{Wish}
-use Rattle.relay_core.specs.declared.wishes.Answer.{Answer}
-use Rattle.relay_core.specs.Wishes.{Fits, act_of}
-use Rattle.relay_core.specs.Sessions.{Heard, HeardBy, wish_of, waiting_of}
+use Rattle.relay_session.specs.declared.sessions.Session.{Session}
+use Rattle.relay_session.specs.declared.wishes.Wish.{Wish}
+use Rattle.relay_session.specs.declared.wishes.Answer.{Answer}
+use Rattle.relay_session.specs.Wishes.{Fits, act_of}
+use Rattle.relay_session.specs.Sessions.{Heard, HeardBy, wish_of, waiting_of}
 use Rattle.session_driver.specs.Steps.{extend}
 
 -- an answer, heard as one to the wish that there was
@@ -33,9 +34,9 @@ pub heard_bytes : (c : Config) (n : ℕ) (past : List Act) (s : ℕ) (p : Place)
 heard_bytes c n past s p bytes others old new e heard = let P : List ℕ → Type 0 = λ x. Heard c n past s (acts.Wrote p x) old new in subst P (sym e) heard
 
 -- where no child is known of, nothing was done
-pub unreaped : (place : Place) (answer : ReapAnswer) (told told' : Option History) (held held' : Place → Hold) → (answer ≡ reaps.NoChild) ⊎ (answer ≡ reaps.Memory) → Answered told told' held held' (reap_act place answer) → DidNothing told told' held held'
-unreaped place answer told told' held held' (inl e) did = let P : ReapAnswer → Type 0 = λ x. Answered told told' held held' (reap_act place x) in subst P e did
-unreaped place answer told told' held held' (inr e) did = let P : ReapAnswer → Type 0 = λ x. Answered told told' held held' (reap_act place x) in subst P e did
+pub unreaped : (place : Place) (answer : ReapAnswer) (old new : Seen) → (answer ≡ reaps.NoChild) ⊎ (answer ≡ reaps.Memory) → Answered old new (reap_act place answer) → DidNothing old new
+unreaped place answer old new (inl e) did = let P : ReapAnswer → Type 0 = λ x. Answered old new (reap_act place x) in subst P e did
+unreaped place answer old new (inr e) did = let P : ReapAnswer → Type 0 = λ x. Answered old new (reap_act place x) in subst P e did
 
 -- no child was reaped of what a world told before, and since then
 pub unreaped_told : (past : List Act) (pairs : List Asking) (p : Place) (start told : Option History) → told ≡ option_map (extend past pairs) start → ((older : List Act) → reaped_since (past ++ older) p ≡ false) → NotReaped told p

@@ -1,4 +1,5 @@
 pub mod Counting
+pub mod Doors
 pub mod Hearing
 pub mod Noting
 pub mod Owning

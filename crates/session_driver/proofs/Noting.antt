@@ -15,17 +15,17 @@ use Rattle.relay_model.specs.Journals.{Asking}
 use Rattle.relay_model.specs.History.{held}
 use Rattle.relay_model.specs.Cause.{closed_why}
 use Rattle.relay_model.specs.May.{Legal}
-use Rattle.relay_core.specs.declared.states.State.{State}
-use Rattle.relay_core.specs.declared.sessions.Session.{Session}
-use Rattle.relay_core.specs.declared.wishes.Wish.{Wish}
-use Rattle.relay_core.specs.declared.wishes.Wish.TheVariants as wishes
-use Rattle.relay_core.specs.States.{Allowed, ClosesFor}
-use Rattle.relay_core.specs.Sessions.{Stands, wish_of, left_of, ending_of, has_ended}
-use Rattle.relay_core.specs.Endings.{EndingIs}
-use Rattle.legal_steps.proofs.Holdings.{standing_held}
-use Rattle.relay_core.proofs.Held.{among}
-use Rattle.relay_core.proofs.Possible.{child_over}
-use Rattle.session_driver.specs.Seen.{Seen}
+use Rattle.relay_session.specs.declared.states.State.{State}
+use Rattle.relay_session.specs.declared.sessions.Session.{Session}
+use Rattle.relay_session.specs.declared.wishes.Wish.{Wish}
+use Rattle.relay_session.specs.declared.wishes.Wish.TheVariants as wishes
+use Rattle.relay_session.specs.States.{Allowed, ClosesFor}
+use Rattle.relay_session.specs.Sessions.{Stands, wish_of, left_of, ending_of, has_ended}
+use Rattle.relay_session.specs.Endings.{EndingIs}
+use Rattle.history_lemmas.proofs.Holdings.{standing_held}
+use Rattle.relay_session.proofs.Held.{among}
+use Rattle.relay_session.proofs.Possible.{child_over}
+use Rattle.world_trait.specs.Seen.{Seen}
 use Rattle.session_driver.specs.Steps.{Acts, ClosesAsWished, DidFor, IsOwn, StepIs}
 use Rattle.session_driver.specs.Noted.{GivesUp, MeetsHeld, MeetsUnowed, NotedStep, Untouched, UnreadIs}
 use Rattle.session_driver.specs.Noted as noting

@@ -11,14 +11,14 @@ use Rattle.relay_model.specs.Openings.{Nothing, first_call}
 use Rattle.relay_model.specs.Openings as calls
 use Rattle.relay_model.specs.Cause.{cause}
 use Rattle.relay_model.specs.Calls.{call}
-use Rattle.legal_steps.proofs.PlaceLemmas.{same_place_equal}
-use Rattle.legal_steps.proofs.OwnThings.{among_own, each_thing, input_own, output_own}
-use Rattle.relay_core.specs.declared.sessions.Session.{Session}
-use Rattle.relay_core.specs.declared.wishes.Wish.{Wish}
-use Rattle.relay_core.specs.declared.wishes.Wish.TheVariants as wishes
-use Rattle.relay_core.specs.States.{Wished}
-use Rattle.relay_core.specs.Sessions.{Stands, wish_of}
-use Rattle.relay_core.proofs.Own.{NamesOwn, names_own}
+use Rattle.history_lemmas.proofs.PlaceLemmas.{same_place_equal}
+use Rattle.history_lemmas.proofs.OwnThings.{among_own, each_thing, input_own, output_own}
+use Rattle.relay_session.specs.declared.sessions.Session.{Session}
+use Rattle.relay_session.specs.declared.wishes.Wish.{Wish}
+use Rattle.relay_session.specs.declared.wishes.Wish.TheVariants as wishes
+use Rattle.relay_session.specs.States.{Wished}
+use Rattle.relay_session.specs.Sessions.{Stands, wish_of}
+use Rattle.relay_session.proofs.Own.{NamesOwn, names_own}
 use Rattle.session_driver.specs.Steps.{IsActOf, ClosesAsWished, ReadsAsWished}
 
 -- the place or door is the session's own

@@ -1,5 +1,5 @@
+pub mod DoorSteps
 pub mod Dumpers
 pub mod Noted
 pub mod Owing
-pub mod Seen
 pub mod Steps

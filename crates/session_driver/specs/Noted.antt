@@ -15,11 +15,11 @@ use Rattle.relay_model.specs.Rest.{owed}
 use Rattle.relay_model.specs.May.{Legal}
 use Rattle.relay_model.specs.Frames.{reads_bytes}
 use Rattle.world_trait.specs.Answers.{Answered, DidNothing, Rose}
-use Rattle.relay_core.specs.declared.sessions.Session.{Session}
-use Rattle.relay_core.specs.declared.wishes.Wish.TheVariants as wishes
-use Rattle.relay_core.specs.Sessions.{Stands, wish_of, left_of, has_ended}
-use Rattle.session_driver.specs.Seen.{Seen}
-use Rattle.session_driver.specs.Steps.{Acts, IsFaultless, Meets, StepIs, Waitless}
+use Rattle.relay_session.specs.declared.sessions.Session.{Session}
+use Rattle.relay_session.specs.declared.wishes.Wish.TheVariants as wishes
+use Rattle.relay_session.specs.Sessions.{Stands, wish_of, left_of, has_ended}
+use Rattle.world_trait.specs.Seen.{Seen, Waitless}
+use Rattle.session_driver.specs.Steps.{Acts, IsFaultless, Meets, StepIs}
 use Rattle.session_driver.specs.Dumpers.{Counts, counted_at}
 use Rattle.session_driver.specs.declared.dumpers.Dumper.{Dumper}
 use Rattle.session_driver.specs.declared.stepped.Stepped.{Stepped}
@@ -63,13 +63,13 @@ note_of true text = NoteFault text
 -- the dump of bytes that were just read at this place was noted
 pub record Notes (c : Config) (old new : Seen) (dumper : Dumper) (p : Place) (bytes : List ℕ) : Type 0 where
   pub failed : Bool
-  pub did : Answered old.told new.told old.held new.held (Some (note_of failed (dump_of c.dump (way_from p.side) (counted_at dumper p.side) bytes)))
+  pub did : Answered old new (Some (note_of failed (dump_of c.dump (way_from p.side) (counted_at dumper p.side) bytes)))
   pub rose : Rose old.faults new.faults failed
   pub waitless : Waitless old new
 
 -- nothing was done
 pub record Untouched (old new : Seen) : Type 0 where
-  pub did : DidNothing old.told new.told old.held new.held
+  pub did : DidNothing old new
   pub rose : Rose old.faults new.faults false
   pub waitless : Waitless old new
 

@@ -9,10 +9,10 @@ use Rattle.relay_model.specs.declared.commands.Config.{Config}
 use Rattle.relay_model.specs.declared.commands.Dump.TheVariants as dumps
 use Rattle.relay_model.specs.Holding.{is_free}
 use Rattle.relay_model.specs.Cause.{closed_why}
-use Rattle.relay_core.specs.declared.sessions.Session.{Session}
-use Rattle.relay_core.specs.declared.wishes.Wish.TheVariants as wishes
-use Rattle.relay_core.specs.Sessions.{Stands, wish_of, left_of, has_ended}
-use Rattle.session_driver.specs.Seen.{Seen}
+use Rattle.relay_session.specs.declared.sessions.Session.{Session}
+use Rattle.relay_session.specs.declared.wishes.Wish.TheVariants as wishes
+use Rattle.relay_session.specs.Sessions.{Stands, wish_of, left_of, has_ended}
+use Rattle.world_trait.specs.Seen.{Seen}
 use Rattle.session_driver.specs.Steps.{Acts, StepIs}
 use Rattle.session_driver.specs.Dumpers.{Counts}
 use Rattle.session_driver.specs.Noted.{ReadNoted, UnreadIs, Untouched}

@@ -13,13 +13,13 @@ use Rattle.relay_model.specs.May.{Legal}
 use Rattle.relay_model.specs.Frames.{is_at, is_turn, is_closing, reads_bytes}
 use Rattle.relay_model.specs.Outcome.{first_fault}
 use Rattle.world_trait.specs.Answers.{Answered, AnsweredAsking, DidNothing, Rose}
-use Rattle.relay_core.specs.declared.sessions.Session.{Session}
-use Rattle.relay_core.specs.declared.wishes.Wish.{Wish}
-use Rattle.relay_core.specs.declared.wishes.Wish.TheVariants as wishes
-use Rattle.relay_core.specs.Sessions.{Stands, Heard, wish_of, left_of, ending_of, has_ended}
-use Rattle.relay_core.specs.Blames.{is_blamed}
-use Rattle.relay_core.specs.Told.{stop_turned}
-use Rattle.session_driver.specs.Seen.{Seen}
+use Rattle.relay_session.specs.declared.sessions.Session.{Session}
+use Rattle.relay_session.specs.declared.wishes.Wish.{Wish}
+use Rattle.relay_session.specs.declared.wishes.Wish.TheVariants as wishes
+use Rattle.relay_session.specs.Sessions.{Stands, Heard, wish_of, left_of, ending_of, has_ended}
+use Rattle.relay_session.specs.Blames.{is_blamed}
+use Rattle.relay_session.specs.Told.{stop_turned}
+use Rattle.world_trait.specs.Seen.{Seen, Waitless}
 use Rattle.session_driver.specs.declared.stepped.Stepped.{Stepped}
 use Rattle.session_driver.specs.declared.stepped.Stepped.TheVariants as steps
 
@@ -39,16 +39,10 @@ pub record Meets (c : Config) (now : Seen) (session : Session) : Type 0 where
   pub told : now.told ≡ option_map (extend past pairs) start
   pub holds : (p : Place) → now.held p ≡ standing past p
 
--- no count of waits, and no clock, moves by a call that is no wait
-pub record Waitless (old new : Seen) : Type 0 where
-  pub waits : new.waits ≡ old.waits
-  pub stops : old.stops ≤ new.stops
-  pub clock : new.clock ≡ old.clock
-
 -- what a call did, which asked for something or for nothing
 abbrev pub DidFor : Option Asking → Seen → Seen → Act → Type 0
-DidFor None old new act = Answered old.told new.told old.held new.held (Some act)
-DidFor (Some asking) old new act = AnsweredAsking asking old.told new.told old.held new.held (Some act)
+DidFor None old new act = Answered old new (Some act)
+DidFor (Some asking) old new act = AnsweredAsking asking old new (Some act)
 
 -- what it asked for is the session's own, with its address
 abbrev pub OwnAsking : Config → ℕ → Option Asking → Type 0
@@ -106,7 +100,7 @@ IsOwn c session p = (n : ℕ) (past : List Act) (s : ℕ) → Stands c n past s 
 
 -- nothing was done, and the session stands for what it stood for
 pub record Idles (c : Config) (old new : Seen) (before after : Session) : Type 0 where
-  pub did : DidNothing old.told new.told old.held new.held
+  pub did : DidNothing old new
   pub stands : (n : ℕ) (past : List Act) (s : ℕ) → Stands c n past s before → Stands c n past s after
   pub ending : (n : ℕ) (past : List Act) (s : ℕ) → Stands c n past s before → has_ended before ≡ true → ending_of after ≡ ending_of before
   pub rose : Rose old.faults new.faults false

@@ -4,17 +4,16 @@ ghost use Rattle.relay_model.specs.declared.acts.Act.{Act};
 ghost use Rattle.relay_model.specs.Configs.{is_of};
 ghost use Rattle.relay_model.specs.Holding.{Free, Settling, Open, is_free, is_open};
 ghost use Rattle.world_trait.specs.Answers.{NotReaped};
-ghost use Rattle.relay_core.specs.declared.wishes.Wish.TheVariants as wishes;
-ghost use Rattle.relay_core.specs.Sessions.{Stands, wish_of, has_ended};
+ghost use Rattle.relay_session.specs.declared.wishes.Wish.TheVariants as wishes;
+ghost use Rattle.relay_session.specs.Sessions.{Stands, wish_of, has_ended};
 ghost use Rattle.session_driver.specs.Noted.{FetchIs};
-ghost use Rattle.session_driver.specs.Seen.{seen};
 ghost use Rattle.session_driver.specs.Steps.{IsCut, IsOwn, Meets, StepIs};
 ghost use Rattle.session_driver.specs.declared.stepped.Stepped.TheVariants as steps;
 
 use crate::stepped::{Fetched, Stepped};
 use command_places::single;
-use relay_core::{Answer, Session};
 use relay_model::{Config, Place, Shut, Why};
+use relay_session::{Answer, Session};
 use world_trait::{
     AcceptAnswer, ListenAnswer, OpenAnswer, ReadAnswer, ReapAnswer, SendAnswer, ShutAnswer, World,
     WriteAnswer,
@@ -37,10 +36,10 @@ pub fn open<W: World>(
     place: Place,
 ) -> Stepped
     requires wish { wish_of session.old ≡ wishes.Open place }
-    requires free { W.held world.old place ≡ Free }
+    requires free { (W.seen world.old).held place ≡ Free }
     requires own { (n : ℕ) (past : List Act) (s : ℕ) → Stands config.now n past s session.old → is_of config.now s place ≡ true }
     requires going { has_ended session.old ≡ false }
-    ensures { StepIs config.now (seen W.told W.held W.faults W.waits W.stops W.clock world.old) (seen W.told W.held W.faults W.waits W.stops W.clock world.new) session.old session.new result }
+    ensures { StepIs config.now (W.seen world.old) (W.seen world.new) session.old session.new result }
 {
     let behind = session.peer();
     match world.open_place(place, single(config, place), behind) {
@@ -68,9 +67,9 @@ pub fn settle<W: World>(
     place: Place,
 ) -> Stepped
     requires wish { wish_of session.old ≡ wishes.Settle place }
-    requires settling { W.held world.old place ≡ Settling }
+    requires settling { (W.seen world.old).held place ≡ Settling }
     requires going { has_ended session.old ≡ false }
-    ensures { StepIs config.now (seen W.told W.held W.faults W.waits W.stops W.clock world.old) (seen W.told W.held W.faults W.waits W.stops W.clock world.new) session.old session.new result }
+    ensures { StepIs config.now (W.seen world.old) (W.seen world.new) session.old session.new result }
 {
     match world.settle(place) {
         OpenAnswer::Opened => {
@@ -97,10 +96,10 @@ pub fn listen<W: World>(
     door: Place,
 ) -> Stepped
     requires wish { wish_of session.old ≡ wishes.Listen door }
-    requires free { W.held world.old door ≡ Free }
+    requires free { (W.seen world.old).held door ≡ Free }
     requires own { (n : ℕ) (past : List Act) (s : ℕ) → Stands config.now n past s session.old → is_of config.now s door ≡ true }
     requires going { has_ended session.old ≡ false }
-    ensures { StepIs config.now (seen W.told W.held W.faults W.waits W.stops W.clock world.old) (seen W.told W.held W.faults W.waits W.stops W.clock world.new) session.old session.new result }
+    ensures { StepIs config.now (W.seen world.old) (W.seen world.new) session.old session.new result }
 {
     match world.listen(door, single(config, door)) {
         ListenAnswer::Listening => {
@@ -124,10 +123,10 @@ pub fn accept<W: World>(
     place: Place,
 ) -> Stepped
     requires wish { wish_of session.old ≡ wishes.Accept door place }
-    requires door { W.held world.old door ≡ Open }
-    requires place { W.held world.old place ≡ Free }
+    requires door { (W.seen world.old).held door ≡ Open }
+    requires place { (W.seen world.old).held place ≡ Free }
     requires going { has_ended session.old ≡ false }
-    ensures { StepIs config.now (seen W.told W.held W.faults W.waits W.stops W.clock world.old) (seen W.told W.held W.faults W.waits W.stops W.clock world.new) session.old session.new result }
+    ensures { StepIs config.now (W.seen world.old) (W.seen world.new) session.old session.new result }
 {
     match world.accept(door, place) {
         AcceptAnswer::Accepted(peer) => {
@@ -156,12 +155,12 @@ pub fn read<W: World>(
     at_most: usize,
 ) -> Stepped
     requires wish { wish_of session.old ≡ wishes.Read place at_most }
-    requires open { is_open (W.held world.old place) ≡ true }
+    requires open { is_open ((W.seen world.old).held place) ≡ true }
     requires some { 0 < at_most }
     requires own { IsOwn config.now session.old place }
     requires scratch { 0 < length scratch.old }
     requires going { has_ended session.old ≡ false }
-    ensures step { StepIs config.now (seen W.told W.held W.faults W.waits W.stops W.clock world.old) (seen W.told W.held W.faults W.waits W.stops W.clock world.new) session.old session.new result }
+    ensures step { StepIs config.now (W.seen world.old) (W.seen world.new) session.old session.new result }
     ensures scratch { length scratch.new ≡ length scratch.old }
 {
     let most = at_most.min(scratch.len());
@@ -182,12 +181,12 @@ pub fn fetch<W: World>(
     at_most: usize,
 ) -> Fetched
     requires wish { wish_of session.old ≡ wishes.Read place at_most }
-    requires open { is_open (W.held world.old place) ≡ true }
+    requires open { is_open ((W.seen world.old).held place) ≡ true }
     requires own { IsOwn config.now session.old place }
     requires some { 0 < length into.old }
     requires room { length into.old ≤ at_most }
     requires going { has_ended session.old ≡ false }
-    ensures step { FetchIs config.now (seen W.told W.held W.faults W.waits W.stops W.clock world.old) (seen W.told W.held W.faults W.waits W.stops W.clock world.new) session.old session.new place into.new result }
+    ensures step { FetchIs config.now (W.seen world.old) (W.seen world.new) session.old session.new place into.new result }
     ensures into { length into.new ≡ length into.old }
 {
     match world.read(place, into) {
@@ -223,11 +222,11 @@ pub fn write<W: World>(
     place: Place,
 ) -> Stepped
     requires wish { wish_of session.old ≡ wishes.Write place }
-    requires open { W.held world.old place ≡ Open }
+    requires open { (W.seen world.old).held place ≡ Open }
     requires own { IsOwn config.now session.old place }
     requires going { has_ended session.old ≡ false }
-    requires meets { Meets config.now (seen W.told W.held W.faults W.waits W.stops W.clock world.old) session.old }
-    ensures { StepIs config.now (seen W.told W.held W.faults W.waits W.stops W.clock world.old) (seen W.told W.held W.faults W.waits W.stops W.clock world.new) session.old session.new result }
+    requires meets { Meets config.now (W.seen world.old) session.old }
+    ensures { StepIs config.now (W.seen world.old) (W.seen world.new) session.old session.new result }
 {
     match world.write(place, session.pending()) {
         WriteAnswer::Took(count) => {
@@ -254,11 +253,11 @@ pub fn send<W: World>(
     place: Place,
 ) -> Stepped
     requires wish { wish_of session.old ≡ wishes.Send place }
-    requires open { W.held world.old place ≡ Open }
+    requires open { (W.seen world.old).held place ≡ Open }
     requires own { IsOwn config.now session.old place }
     requires going { has_ended session.old ≡ false }
-    requires meets { Meets config.now (seen W.told W.held W.faults W.waits W.stops W.clock world.old) session.old }
-    ensures { StepIs config.now (seen W.told W.held W.faults W.waits W.stops W.clock world.old) (seen W.told W.held W.faults W.waits W.stops W.clock world.new) session.old session.new result }
+    requires meets { Meets config.now (W.seen world.old) session.old }
+    ensures { StepIs config.now (W.seen world.old) (W.seen world.new) session.old session.new result }
 {
     let packet = session.pending();
     let count = packet.len();
@@ -288,9 +287,9 @@ pub fn shut<W: World>(
     how: Shut,
 ) -> Stepped
     requires wish { wish_of session.old ≡ wishes.Shut place how }
-    requires open { W.held world.old place ≡ Open }
+    requires open { (W.seen world.old).held place ≡ Open }
     requires going { has_ended session.old ≡ false }
-    ensures { StepIs config.now (seen W.told W.held W.faults W.waits W.stops W.clock world.old) (seen W.told W.held W.faults W.waits W.stops W.clock world.new) session.old session.new result }
+    ensures { StepIs config.now (W.seen world.old) (W.seen world.new) session.old session.new result }
 {
     match world.shut(place, how) {
         ShutAnswer::Done => {
@@ -314,9 +313,9 @@ pub fn close<W: World>(
     why: Why,
 ) -> Stepped
     requires wish { wish_of session.old ≡ wishes.Close place why }
-    requires held { is_free (W.held world.old place) ≡ false }
+    requires held { is_free ((W.seen world.old).held place) ≡ false }
     ensures acted { result ≡ steps.Acted }
-    ensures step { StepIs config.now (seen W.told W.held W.faults W.waits W.stops W.clock world.old) (seen W.told W.held W.faults W.waits W.stops W.clock world.new) session.old session.new result }
+    ensures step { StepIs config.now (W.seen world.old) (W.seen world.new) session.old session.new result }
 {
     world.close(place, why);
     session.heard(0, Answer::Done);
@@ -331,9 +330,9 @@ pub fn reap<W: World>(
     place: Place,
 ) -> Stepped
     requires wish { wish_of session.old ≡ wishes.Reap place }
-    requires free { W.held world.old place ≡ Free }
-    requires once { NotReaped (W.told world.old) place }
-    ensures { StepIs config.now (seen W.told W.held W.faults W.waits W.stops W.clock world.old) (seen W.told W.held W.faults W.waits W.stops W.clock world.new) session.old session.new result }
+    requires free { (W.seen world.old).held place ≡ Free }
+    requires once { NotReaped (W.seen world.old).told place }
+    ensures { StepIs config.now (W.seen world.old) (W.seen world.new) session.old session.new result }
 {
     match world.reap(place) {
         ReapAnswer::Reaped(end) => {

@@ -37,7 +37,9 @@ impl Dumper {
     pub fn dump(&mut self, config: &Config, place: Place, bytes: &[u8]) -> Result<(), NoMemory>
         requires dumped { config.now.dump ≢ Dump.Off }
         requires some { 0 < length bytes.now }
-        ensures text { OnOk result (text_of self.new ≡ dump_of config.now.dump (begins_at place.side) (counted_at self.old place.side) bytes.now) }
+        ensures text { OnOk result
+            (text_of self.new
+            ≡ dump_of config.now.dump (begins_at place.side) (counted_at self.old place.side) bytes.now) }
         ensures counts { Counts place.side (length bytes.now) self.old self.new }
     {
         let from = self.count(place.side, bytes.len());

@@ -4,11 +4,16 @@
 #![tactic(auto)]
 
 mod calls;
+mod door_calls;
+mod door_stepped;
+mod door_steps;
 mod dumpers;
 mod noted_steps;
 mod stepped;
 mod steps;
 
+pub use door_stepped::DoorStepped;
+pub use door_steps::step_door;
 pub use dumpers::Dumper;
 pub use noted_steps::{step_noted, step_owing};
 pub use stepped::Stepped;

@@ -2,9 +2,8 @@
 // is no memory for that, a closing for want of memory is the one act that may come instead.
 ghost use Rattle.std.specs.Prelude.{◌≡◌, ◌≢◌, ◌<◌, ◌≤◌, length, true, false};
 ghost use Rattle.relay_model.specs.Holding.{is_open};
-ghost use Rattle.relay_core.specs.Sessions.{wish_of, has_ended};
-ghost use Rattle.relay_core.specs.declared.wishes.Wish.TheVariants as wishes;
-ghost use Rattle.session_driver.specs.Seen.{seen};
+ghost use Rattle.relay_session.specs.Sessions.{wish_of, has_ended};
+ghost use Rattle.relay_session.specs.declared.wishes.Wish.TheVariants as wishes;
 ghost use Rattle.session_driver.specs.Steps.{IsOwn};
 ghost use Rattle.session_driver.specs.Dumpers.{Counts};
 ghost use Rattle.session_driver.specs.Noted.{MeetsUnowed, NotedStep, NoteIs};
@@ -14,8 +13,8 @@ use crate::calls::{close, fetch};
 use crate::dumpers::Dumper;
 use crate::stepped::{Fetched, Stepped};
 use crate::steps::step;
-use relay_core::{Session, Wish};
 use relay_model::{Config, Dump, Place, Why};
+use relay_session::{Session, Wish};
 use world_trait::{NoteAnswer, World};
 
 /// Makes the next call that the session wishes for, and has it hear the answer. What was read is noted at once where the
@@ -28,8 +27,8 @@ pub fn step_noted<W: World>(
     dumper: &mut Dumper,
 ) -> Stepped
     requires scratch { 0 < length scratch.old }
-    requires meets { MeetsUnowed config.now (seen W.told W.held W.faults W.waits W.stops W.clock world.old) session.old }
-    ensures step { NotedStep config.now (seen W.told W.held W.faults W.waits W.stops W.clock world.old) (seen W.told W.held W.faults W.waits W.stops W.clock world.new) session.old session.new dumper.old dumper.new result }
+    requires meets { MeetsUnowed config.now (W.seen world.old) session.old }
+    ensures step { NotedStep config.now (W.seen world.old) (W.seen world.new) session.old session.new dumper.old dumper.new result }
     ensures scratch { length scratch.new ≡ length scratch.old }
 {
     match step_owing(session, world, config, scratch, dumper) {
@@ -52,8 +51,8 @@ pub fn step_owing<W: World>(
     dumper: &mut Dumper,
 ) -> Option<Stepped>
     requires scratch { 0 < length scratch.old }
-    requires meets { MeetsUnowed config.now (seen W.told W.held W.faults W.waits W.stops W.clock world.old) session.old }
-    ensures step { OwingStep config.now (seen W.told W.held W.faults W.waits W.stops W.clock world.old) (seen W.told W.held W.faults W.waits W.stops W.clock world.new) session.old session.new dumper.old dumper.new result }
+    requires meets { MeetsUnowed config.now (W.seen world.old) session.old }
+    ensures step { OwingStep config.now (W.seen world.old) (W.seen world.new) session.old session.new dumper.old dumper.new result }
     ensures scratch { length scratch.new ≡ length scratch.old }
 {
     match config.dump {
@@ -72,8 +71,8 @@ fn step_dumped<W: World>(
 ) -> Option<Stepped>
     requires dumped { config.now.dump ≢ Dump.Off }
     requires scratch { 0 < length scratch.old }
-    requires meets { MeetsUnowed config.now (seen W.told W.held W.faults W.waits W.stops W.clock world.old) session.old }
-    ensures step { OwingStep config.now (seen W.told W.held W.faults W.waits W.stops W.clock world.old) (seen W.told W.held W.faults W.waits W.stops W.clock world.new) session.old session.new dumper.old dumper.new result }
+    requires meets { MeetsUnowed config.now (W.seen world.old) session.old }
+    ensures step { OwingStep config.now (W.seen world.old) (W.seen world.new) session.old session.new dumper.old dumper.new result }
     ensures scratch { length scratch.new ≡ length scratch.old }
 {
     match session.wish() {
@@ -98,13 +97,13 @@ fn read_noted<W: World>(
 ) -> Option<Stepped>
     requires dumped { config.now.dump ≢ Dump.Off }
     requires wish { wish_of session.old ≡ wishes.Read place at_most }
-    requires open { is_open (W.held world.old place) ≡ true }
+    requires open { is_open ((W.seen world.old).held place) ≡ true }
     requires own { IsOwn config.now session.old place }
     requires some { 0 < length into.old }
     requires room { length into.old ≤ at_most }
     requires going { has_ended session.old ≡ false }
-    requires meets { MeetsUnowed config.now (seen W.told W.held W.faults W.waits W.stops W.clock world.old) session.old }
-    ensures step { OwingStep config.now (seen W.told W.held W.faults W.waits W.stops W.clock world.old) (seen W.told W.held W.faults W.waits W.stops W.clock world.new) session.old session.new dumper.old dumper.new result }
+    requires meets { MeetsUnowed config.now (W.seen world.old) session.old }
+    ensures step { OwingStep config.now (W.seen world.old) (W.seen world.new) session.old session.new dumper.old dumper.new result }
     ensures scratch { length into.new ≡ length into.old }
 {
     match fetch(session, world, config, into, place, at_most) {
@@ -131,7 +130,7 @@ fn note<W: World>(
 ) -> bool
     requires dumped { config.now.dump ≢ Dump.Off }
     requires some { 0 < length bytes.now }
-    ensures note { NoteIs config.now (seen W.told W.held W.faults W.waits W.stops W.clock world.old) (seen W.told W.held W.faults W.waits W.stops W.clock world.new) dumper.old place bytes.now result }
+    ensures note { NoteIs config.now (W.seen world.old) (W.seen world.new) dumper.old place bytes.now result }
     ensures counts { Counts place.side (length bytes.now) dumper.old dumper.new }
 {
     if dumper.dump(config, place, bytes).is_err() {
@@ -146,8 +145,8 @@ fn note<W: World>(
 
 /// Closes the first thing that a session holds which was cut for want of memory.
 fn close_first<W: World>(session: &mut Session, world: &mut W, config: &Config)
-    requires { IsShort (seen W.told W.held W.faults W.waits W.stops W.clock world.old) session.old }
-    ensures { ClosesShort config.now (seen W.told W.held W.faults W.waits W.stops W.clock world.old) (seen W.told W.held W.faults W.waits W.stops W.clock world.new) session.old session.new }
+    requires { IsShort (W.seen world.old) session.old }
+    ensures { ClosesShort config.now (W.seen world.old) (W.seen world.new) session.old session.new }
 {
     match session.wish() {
         Wish::Close(thing, why) => {

@@ -1,12 +1,11 @@
 // The next step of a session.
 ghost use Rattle.std.specs.Prelude.{◌≡◌, ◌<◌, length};
-ghost use Rattle.session_driver.specs.Seen.{seen};
 ghost use Rattle.session_driver.specs.Steps.{Meets, StepIs};
 
 use crate::calls::{accept, close, listen, open, read, reap, send, settle, shut, write};
 use crate::stepped::Stepped;
-use relay_core::{Session, Wish};
 use relay_model::Config;
+use relay_session::{Session, Wish};
 use world_trait::World;
 
 /// Makes the next call that the session wishes for, and has it hear the answer.
@@ -17,8 +16,8 @@ pub fn step<W: World>(
     scratch: &mut [u8],
 ) -> Stepped
     requires scratch { 0 < length scratch.old }
-    requires meets { Meets config.now (seen W.told W.held W.faults W.waits W.stops W.clock world.old) session.old }
-    ensures step { StepIs config.now (seen W.told W.held W.faults W.waits W.stops W.clock world.old) (seen W.told W.held W.faults W.waits W.stops W.clock world.new) session.old session.new result }
+    requires meets { Meets config.now (W.seen world.old) session.old }
+    ensures step { StepIs config.now (W.seen world.old) (W.seen world.new) session.old session.new result }
     ensures scratch { length scratch.new ≡ length scratch.old }
 {
     match session.wish() {

@@ -3,14 +3,21 @@
 
 mod calls;
 mod causes;
+mod conversions;
+mod ledger;
+mod listed;
 mod moments;
 mod openings;
 mod outcome;
+mod owings;
 mod sessions;
+mod transfers;
 
 pub use calls::{called_at, door_call, door_cut, known_call};
 pub use causes::{cause, running};
+pub use ledger::Ledger;
 pub use moments::{broken, closing_moment, idle_moment, passed};
 pub use openings::{Call, ready};
 pub use outcome::{Outcome, has_outcome, outcome_of};
 pub use sessions::{holds, live, numbers};
+pub use transfers::{backlog, due_after, greatest_read, is_spent, over};

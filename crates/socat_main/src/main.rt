@@ -6,17 +6,17 @@ mod parts;
 mod runs;
 
 use blocking_streams::{Blocking, InputSource};
-use journal_file::{Disk, DiskJournal};
 use parts::{Lack, bare_streams, closed_streams, lacking, polling, told};
 use port_desk::Standard;
 use port_trait::{StdSink, StdSpawner};
 use program_words::program_words;
+use ring_reader::RingReader;
+use ring_writer::RingWriter;
 use runs::{answered, asks_for_relay, relayed};
-use socat_top::journal_flag;
+use socat_top::{Disk, DiskJournal, journal_flag};
 use standard_ports::{FreshErrors, FreshInput, FreshOutput, direct_input, direct_output};
 use std::io::IsTerminal;
 use std::process::ExitCode;
-use thread_rings::{RingReader, RingWriter};
 
 // The rings are made here: only here is the runtime a known one, and so what is made may go to a thread.
 fn main(rt: HostRuntime) -> ExitCode {

@@ -6,6 +6,7 @@ use mio_poller::{MioPoller, MioWake};
 use port_desk::Standard;
 use port_trait::{DirectReader, DirectWriter, Making, Sink, StdSink, StdSource};
 use relay_model::NoMemory;
+use standard_ports::{Failures, ToldSink};
 use std::alloc::Global;
 use std::fs::{Files, OpenOptions};
 use std::io::{Stderr, Stdin, Stdout, Write};
@@ -14,7 +15,6 @@ use std::os::fd::AsRawFd;
 use std::process::ExitCode;
 use std::rt::HostRuntime;
 use std::time::Clock;
-use told_sink::{Failures, ToldSink};
 
 /// The status where the system refuses the poller or what is registered with it.
 const FAILED: u8 = 1;

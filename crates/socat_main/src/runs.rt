@@ -3,7 +3,7 @@ ghost use Rattle.std.specs.Prelude.{◌≡◌, ◌-◌, ◌^◌, [], false, Some
 ghost use Rattle.relay_model.specs.declared.places.Place.{Place as Spot};
 ghost use Rattle.relay_model.specs.Holding.{Free};
 ghost use Rattle.relay_model.specs.Journals.{History};
-ghost use Rattle.event_loop.specs.Headline.{StopCause};
+ghost use Rattle.session_loop.specs.Headline.{StopCause};
 ghost use Rattle.socat_top.specs.Kept.{history_of};
 ghost use Rattle.socat_top.specs.Headline.{Leaves};
 ghost use Rattle.socat_top.specs.Tasks.{task};
@@ -12,15 +12,15 @@ ghost use Rattle.socat_main.specs.Ends.{is_relaying, last_status};
 
 use crate::parts::{Lack, NO_MEMORY, made};
 use cmd_words::{Command, CommandFault, command_of};
-use journal_file::JournalFile;
 use mio_poller::MioPoller;
-use peer_ports::PeerPoller;
 use port_desk::{Desk, Standard};
 use port_objects::{MemMaker, MemPoller};
 use port_trait::{Maker, Poller, Port};
 use real_maker::RealMaker;
 use relay_model::{Act, Journal, NoMemory, Text};
-use socat_top::{Saving, Written, journal_flag, run_written};
+use socat_top::{JournalFile, Saving, Written, journal_flag, run_written};
+use socket_ports::PeerPoller;
+use standard_ports::Failures;
 use std::alloc::Global;
 use std::fs::Files;
 use std::io::Write;
@@ -28,7 +28,6 @@ use std::net::Net;
 use std::rt::HostRuntime;
 use std::thread::Threads;
 use std::time::Clock;
-use told_sink::Failures;
 use world_trait::{Recorder, World};
 
 /// The most turns of a run.
@@ -69,14 +68,15 @@ pub fn run_of_program<M, P, I: Port, O: Port, E: Port, F: JournalFile>(
 where
     M: Maker + Drop,
     P: Poller + Drop,
-    requires free { (p : Spot) → ⟦<Desk<M, P, I, O, E> as World>⟧.held desk p ≡ Free }
+    requires free { (p : Spot) → (⟦<Desk<M, P, I, O, E> as World>⟧.seen desk).held p ≡ Free }
     requires untouched { desk.log.acted ≡ false }
-    requires given { IfSome desk.ports.harbor.input.port.gave (λ all. all ≡ []) }
-    requires taken { IfSome desk.ports.harbor.output.port.took (λ all. all ≡ []) }
-    requires silent { IfSome desk.ports.harbor.errors.port.took (λ all. all ≡ []) }
+    requires given { IfSome desk.ports.table.input.port.gave (λ all. all ≡ []) }
+    requires taken { IfSome desk.ports.table.output.port.took (λ all. all ≡ []) }
+    requires silent { IfSome desk.ports.table.errors.port.took (λ all. all ≡ []) }
     ensures status { result.status ≡ status_with result.shipped.status result.saving }
-    ensures headline { (before : History) → told_before (asks_for_journal words.now) (⟦<Desk<M, P, I, O, E> as World>⟧.told desk) ≡ Some before → Leaves (task (words_of_run words.now)) (2 ^ 64 - 1) before (Some (history_of result.shipped.kept)) result.shipped.outcome }
-    ensures stopped { let w = ⟦<Desk<M, P, I, O, E> as World>⟧ in StopCause (2 ^ 64 - 1) (w.waits desk) result.shipped.counts.waits (w.stops desk) result.shipped.counts.stops result.shipped.outcome }
+    ensures headline { (before : History) → told_before (asks_for_journal words.now) (⟦<Desk<M, P, I, O, E> as World>⟧.seen desk).told ≡ Some before → Leaves (task (words_of_run words.now)) (2 ^ 64 - 1) before (Some (history_of result.shipped.kept)) result.shipped.outcome }
+    ensures stopped { let before = ⟦<Desk<M, P, I, O, E> as World>⟧.seen desk in
+        StopCause (2 ^ 64 - 1) before.waits result.shipped.counts.waits before.stops result.shipped.counts.stops result.shipped.outcome }
 {
     run_written(alloc, desk, words, TURNS, journal)
 }

@@ -6,8 +6,8 @@ use Rattle.exit_status.specs.declared.outcomes.Outcome.{Outcome}
 use Rattle.exit_status.specs.declared.outcomes.Outcome.TheVariants as outcomes
 use Rattle.exit_status.specs.Lines.{line}
 use Rattle.session_driver.specs.Steps.{extend}
-use Rattle.event_loop.specs.Headline as relayed
-use Rattle.event_loop.specs.Headline.{is_relayed}
+use Rattle.session_loop.specs.Headline as relayed
+use Rattle.session_loop.specs.Headline.{is_relayed}
 use Rattle.exit_status.specs.Outcomes.{IsOutcome}
 use Rattle.relay_model.specs.declared.acts.Act.{Act}
 use Rattle.socat_top.specs.Notes.{Said, Tail}

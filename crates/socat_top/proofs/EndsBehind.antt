@@ -2,8 +2,8 @@
 use Rattle.std.proofs.Common.{ℕ, Bool, List, Option}
 use Rattle.relay_model.specs.declared.acts.Act.{Act}
 use Rattle.port_trait.specs.Meanings.{Behind}
-use Rattle.stream_ends.specs.Behind.{far_bytes, far_faults}
-use Rattle.stream_ends.proofs.BehindLemmas.{behind}
+use Rattle.socat_top.specs.Behind.{far_bytes, far_faults}
+use Rattle.socat_top.proofs.BehindLemmas.{behind}
 use Rattle.socat_top.specs.Tasks.{Task, Relaying, Telling, Loading, Refusing, Unread}
 use Rattle.socat_top.specs.Headline.{TaskEnds, TaskEndsBehind}
 

@@ -8,11 +8,11 @@ use Rattle.relay_model.specs.Journals.{Asking, History}
 use Rattle.relay_model.specs.May.{Legal}
 use Rattle.exit_status.specs.declared.outcomes.Outcome.{Outcome}
 use Rattle.exit_status.specs.Lines.{line}
-use Rattle.event_loop.specs.Courses.{OnlyOwn}
-use Rattle.desk_history.specs.Following.{AllOwn, AreElsewhere, Passed, PassedBy}
-use Rattle.stream_ends.specs.Ends.{Ends}
-use Rattle.stream_ends.proofs.CallLemmas.{elsewhere}
-use Rattle.stream_ends.proofs.EndLemmas.{ends, fault_ends, note_ends}
+use Rattle.session_loop.specs.Courses.{OnlyOwn}
+use Rattle.port_desk.specs.Following.{AllOwn, AreElsewhere, Passed, PassedBy}
+use Rattle.socat_top.specs.Ends.{Ends}
+use Rattle.socat_top.proofs.CallLemmas.{elsewhere}
+use Rattle.socat_top.proofs.EndLemmas.{ends, fault_ends, note_ends}
 use Rattle.socat_top.specs.Notes.{Said, Tail}
 use Rattle.socat_top.specs.Tasks.{Task, Relaying, Telling, Loading, Refusing, Unread}
 use Rattle.socat_top.specs.Headline.{Leaves, TaskEnds}

@@ -1,9 +1,9 @@
 -- What the standard streams passed, at the end of a desk.
 use Rattle.std.proofs.Common.{◌≡◌, ℕ, Bool, true, false, List, Option, None, Some, IfSome, is_some, refl, sym, ap, subst, ◌∙◌}
 use Rattle.relay_model.specs.Journals.{History}
-use Rattle.desk_ports.specs.Endings.{EndsSo, PassedEnd}
-use Rattle.desk_ports.specs.Ports.{PortSeen}
-use Rattle.desk_history.specs.Following.{Passed}
+use Rattle.port_table.specs.Endings.{EndsSo, PassedEnd}
+use Rattle.port_table.specs.Ports.{PortSeen}
+use Rattle.port_desk.specs.Following.{Passed}
 
 end_still : (passes : Bool) (before now : PortSeen) → PassedEnd passes before now → (now.gave ≡ before.gave) × (now.took ≡ before.took) × (now.ended ≡ before.ended)
 end_still true before now passed = (passed.1.gave, passed.1.took, passed.1.ended)

@@ -9,16 +9,16 @@ use Rattle.exit_status.specs.declared.outcomes.Outcome.TheVariants as outcomes
 use Rattle.relay_model.specs.History.{held}
 use Rattle.relay_model.specs.May.{Legal}
 use Rattle.exit_status.specs.Outcomes.{IsOutcome}
-use Rattle.event_loop.specs.Courses.{OnlyOwn}
+use Rattle.session_loop.specs.Courses.{OnlyOwn}
 use Rattle.session_driver.specs.Steps.{extend}
-use Rattle.stream_ends.specs.Ends.{Ends}
-use Rattle.stream_ends.specs.Behind.{EndsBehind}
-use Rattle.event_loop.specs.Headline as relayed
-use Rattle.event_loop.specs.Headline.{is_relayed}
+use Rattle.socat_top.specs.Ends.{Ends}
+use Rattle.socat_top.specs.Behind.{EndsBehind}
+use Rattle.session_loop.specs.Headline as relayed
+use Rattle.session_loop.specs.Headline.{is_relayed}
 use Rattle.socat_top.specs.Notes.{Said, Tail}
-use Rattle.generated_run.specs.declared.summaries.Summary.{Summary}
-use Rattle.generated_run.specs.Runs.{GeneratedRun}
-use Rattle.generated_run.specs.Summaries.{summary_line}
+use Rattle.socat_top.specs.declared.summaries.Summary.{Summary}
+use Rattle.socat_top.specs.Runs.{GeneratedRun}
+use Rattle.socat_top.specs.Summaries.{summary_line}
 use Rattle.socat_top.specs.Tasks.{Task, Relaying, Telling, Loading, Refusing, Unread}
 
 -- the world told `before`, and tells `told` now: the acts of the relay between are legal, nothing is held after them,

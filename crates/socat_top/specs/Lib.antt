@@ -1,5 +1,17 @@
+pub mod Behind
+pub mod Command
+pub mod Creating
+pub mod Ends
 pub mod Headline
 pub mod Kept
+pub mod Left
 pub mod Notes
+pub mod Numbered
+pub mod Runs
+pub mod Scripts
+pub mod Stream
+pub mod Summaries
+pub mod Sums
 pub mod Tasks
+pub mod Words
 pub mod Written

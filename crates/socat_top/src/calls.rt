@@ -5,17 +5,17 @@ ghost use Rattle.relay_model.specs.declared.places.Place.{Place as Spot};
 ghost use Rattle.relay_model.specs.Holding.{Free};
 ghost use Rattle.relay_model.specs.Journals.{History};
 ghost use Rattle.cmd_words.specs.Commands.{IsFit};
-ghost use Rattle.event_loop.specs.Courses.{Risen};
+ghost use Rattle.session_loop.specs.Courses.{Risen};
 ghost use Rattle.relay_model.specs.Configs.{Fit};
-ghost use Rattle.event_loop.specs.Headline.{Completes, StopCause, is_failure, is_relayed};
+ghost use Rattle.session_loop.specs.Headline.{Completes, StopCause, is_failure, is_relayed};
 ghost use Rattle.socat_top.specs.Headline.{Answers, CompletesTask, Headline, Leaves, Loads};
 ghost use Rattle.socat_top.specs.Tasks.{task, command_task, task_of};
 
+use crate::generated::generated_run;
 use crate::notes::{conclude, print};
 use cmd_words::{Command, CommandFault, command_of};
+use event_loop::relay;
 use exit_status::{Outcome, usage_text, version_text};
-use generated_run::generated_run;
-use relay_loop::relay;
 use relay_model::{Config, NoMemory, Text};
 use std::alloc::Global;
 use world_trait::World;
@@ -23,14 +23,14 @@ use world_trait::World;
 /// Does what the words ask, over any world, with at most `turns` waits. The words don't include the program's name.
 /// Words that are refused open nothing. The line of the outcome is noted at the end, where it has one.
 pub fn socat<W: World>(alloc: Global, world: &mut W, words: &[Text], turns: u64) -> Outcome
-    requires free { (p : Spot) → W.held world.old p ≡ Free }
-    ensures free { (p : Spot) → W.held world.new p ≡ Free }
-    ensures headline { (before : History) → W.told world.old ≡ Some before → Leaves (task words.now) turns before (W.told world.new) result }
+    requires free { (p : Spot) → (W.seen world.old).held p ≡ Free }
+    ensures free { (p : Spot) → (W.seen world.new).held p ≡ Free }
+    ensures headline { (before : History) → (W.seen world.old).told ≡ Some before → Leaves (task words.now) turns before (W.seen world.new).told result }
     ensures answers { Answers (task words.now) result }
-    ensures tells { is_some (W.told world.new) ≡ is_some (W.told world.old) }
-    ensures failed { is_failure result ≡ true → Risen (W.faults world.old) (W.faults world.new) }
-    ensures stopped { StopCause turns (W.waits world.old) (W.waits world.new) (W.stops world.old) (W.stops world.new) result }
-    ensures complete { CompletesTask (task words.now) turns (W.faults world.old) (W.faults world.new) (W.waits world.old) (W.waits world.new) (W.stops world.old) (W.stops world.new) result }
+    ensures tells { is_some (W.seen world.new).told ≡ is_some (W.seen world.old).told }
+    ensures failed { is_failure result ≡ true → Risen (W.seen world.old).faults (W.seen world.new).faults }
+    ensures stopped { StopCause turns (W.seen world.old).waits (W.seen world.new).waits (W.seen world.old).stops (W.seen world.new).stops result }
+    ensures complete { CompletesTask (task words.now) turns (W.seen world.old).faults (W.seen world.new).faults (W.seen world.old).waits (W.seen world.new).waits (W.seen world.old).stops (W.seen world.new).stops result }
 {
     match command_of(alloc, words) {
         Ok(command) => obey(alloc, world, &command, turns),
@@ -42,14 +42,14 @@ pub fn socat<W: World>(alloc: Global, world: &mut W, words: &[Text], turns: u64)
 /// Runs a command, and notes the line of its outcome.
 fn obey<W: World>(alloc: Global, world: &mut W, command: &Command, turns: u64) -> Outcome
     requires fit { IsFit command.now }
-    requires free { (p : Spot) → W.held world.old p ≡ Free }
-    ensures free { (p : Spot) → W.held world.new p ≡ Free }
-    ensures headline { (before : History) → W.told world.old ≡ Some before → Leaves (command_task command.now) turns before (W.told world.new) result }
+    requires free { (p : Spot) → (W.seen world.old).held p ≡ Free }
+    ensures free { (p : Spot) → (W.seen world.new).held p ≡ Free }
+    ensures headline { (before : History) → (W.seen world.old).told ≡ Some before → Leaves (command_task command.now) turns before (W.seen world.new).told result }
     ensures answers { Answers (command_task command.now) result }
-    ensures tells { is_some (W.told world.new) ≡ is_some (W.told world.old) }
-    ensures failed { is_failure result ≡ true → Risen (W.faults world.old) (W.faults world.new) }
-    ensures stopped { StopCause turns (W.waits world.old) (W.waits world.new) (W.stops world.old) (W.stops world.new) result }
-    ensures complete { CompletesTask (command_task command.now) turns (W.faults world.old) (W.faults world.new) (W.waits world.old) (W.waits world.new) (W.stops world.old) (W.stops world.new) result }
+    ensures tells { is_some (W.seen world.new).told ≡ is_some (W.seen world.old).told }
+    ensures failed { is_failure result ≡ true → Risen (W.seen world.old).faults (W.seen world.new).faults }
+    ensures stopped { StopCause turns (W.seen world.old).waits (W.seen world.new).waits (W.seen world.old).stops (W.seen world.new).stops result }
+    ensures complete { CompletesTask (command_task command.now) turns (W.seen world.old).faults (W.seen world.new).faults (W.seen world.old).waits (W.seen world.new).waits (W.seen world.old).stops (W.seen world.new).stops result }
 {
     match command {
         Command::Relay(config) => run_relay(alloc, world, config, turns),
@@ -61,13 +61,13 @@ fn obey<W: World>(alloc: Global, world: &mut W, command: &Command, turns: u64) -
 
 /// Makes the generated run of this number, which does nothing outside, and notes its summary.
 fn load<W: World>(alloc: Global, world: &mut W, number: u64) -> Outcome
-    ensures headline { (before : History) → W.told world.old ≡ Some before → Loads number (Some before) (W.told world.new) result }
+    ensures headline { (before : History) → (W.seen world.old).told ≡ Some before → Loads number (Some before) (W.seen world.new).told result }
     ensures answers { (result ≡ outcomes.Loaded) ⊎ (result ≡ outcomes.Memory) }
-    ensures held { (p : Spot) → W.held world.new p ≡ W.held world.old p }
-    ensures faults { W.faults world.old ≤ W.faults world.new }
-    ensures waits { W.waits world.new ≡ W.waits world.old }
-    ensures stops { W.stops world.old ≤ W.stops world.new }
-    ensures tells { is_some (W.told world.new) ≡ is_some (W.told world.old) }
+    ensures held { (p : Spot) → (W.seen world.new).held p ≡ (W.seen world.old).held p }
+    ensures faults { (W.seen world.old).faults ≤ (W.seen world.new).faults }
+    ensures waits { (W.seen world.new).waits ≡ (W.seen world.old).waits }
+    ensures stops { (W.seen world.old).stops ≤ (W.seen world.new).stops }
+    ensures tells { is_some (W.seen world.new).told ≡ is_some (W.seen world.old).told }
 {
     match generated_run(alloc, number) {
         Ok(summary) => print(alloc, world, summary.line(alloc), Outcome::Loaded),
@@ -78,14 +78,14 @@ fn load<W: World>(alloc: Global, world: &mut W, number: u64) -> Outcome
 /// Relays, and notes the line of the outcome.
 fn run_relay<W: World>(alloc: Global, world: &mut W, config: &Config, turns: u64) -> Outcome
     requires fit { Fit config.now }
-    requires free { (p : Spot) → W.held world.old p ≡ Free }
-    ensures free { (p : Spot) → W.held world.new p ≡ Free }
-    ensures headline { (before : History) → W.told world.old ≡ Some before → Headline config.now turns before (W.told world.new) result }
+    requires free { (p : Spot) → (W.seen world.old).held p ≡ Free }
+    ensures free { (p : Spot) → (W.seen world.new).held p ≡ Free }
+    ensures headline { (before : History) → (W.seen world.old).told ≡ Some before → Headline config.now turns before (W.seen world.new).told result }
     ensures answers { is_relayed result ≡ true }
-    ensures tells { is_some (W.told world.new) ≡ is_some (W.told world.old) }
-    ensures failed { is_failure result ≡ true → Risen (W.faults world.old) (W.faults world.new) }
-    ensures stopped { StopCause turns (W.waits world.old) (W.waits world.new) (W.stops world.old) (W.stops world.new) result }
-    ensures complete { Completes turns (W.faults world.old) (W.faults world.new) (W.waits world.old) (W.waits world.new) (W.stops world.old) (W.stops world.new) result }
+    ensures tells { is_some (W.seen world.new).told ≡ is_some (W.seen world.old).told }
+    ensures failed { is_failure result ≡ true → Risen (W.seen world.old).faults (W.seen world.new).faults }
+    ensures stopped { StopCause turns (W.seen world.old).waits (W.seen world.new).waits (W.seen world.old).stops (W.seen world.new).stops result }
+    ensures complete { Completes turns (W.seen world.old).faults (W.seen world.new).faults (W.seen world.old).waits (W.seen world.new).waits (W.seen world.old).stops (W.seen world.new).stops result }
 {
     let outcome = relay(alloc, world, config, turns);
     conclude(alloc, world, outcome)

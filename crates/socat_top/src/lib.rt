@@ -2,10 +2,32 @@
 #![tactic(auto)]
 
 mod calls;
+mod commands;
+mod creating;
+mod disk;
+mod ends;
+mod files;
+mod generated;
+mod load_worlds;
 mod notes;
+mod numbered_worlds;
 mod runs;
+mod streams;
+mod summaries;
+mod words;
 mod written;
 
 pub use calls::socat;
+pub use commands::load_command;
+pub use creating::{Disk, FileCreator};
+pub use disk::DiskJournal;
+pub use ends::{behind_is_due, passed_ends};
+pub use files::JournalFile;
+pub use generated::generated_run;
+pub use load_worlds::load_world;
+pub use numbered_worlds::NumberedWorld;
 pub use runs::{Shipped, run};
+pub use streams::Generator;
+pub use summaries::Summary;
+pub use words::command_is_of_words;
 pub use written::{Saving, Written, journal_flag, run_written};

@@ -15,12 +15,12 @@ const OUT_OF_MEMORY: &[u8] = b"socat: out of memory\n";
 
 /// Notes the text, where there is one, and gives the answer; want of memory takes its place.
 fn say<W: World>(world: &mut W, text: &[u8], answer: Outcome) -> Outcome
-    ensures said { ((result ≡ answer) × Said text.now (W.told world.old) (W.told world.new)) ⊎ ((result ≡ outcomes.Memory) × (W.told world.new ≡ W.told world.old)) }
-    ensures held { (p : Spot) → W.held world.new p ≡ W.held world.old p }
-    ensures faults { W.faults world.old ≤ W.faults world.new }
-    ensures waits { W.waits world.new ≡ W.waits world.old }
-    ensures stops { W.stops world.old ≤ W.stops world.new }
-    ensures tells { is_some (W.told world.new) ≡ is_some (W.told world.old) }
+    ensures said { ((result ≡ answer) × Said text.now (W.seen world.old).told (W.seen world.new).told) ⊎ ((result ≡ outcomes.Memory) × ((W.seen world.new).told ≡ (W.seen world.old).told)) }
+    ensures held { (p : Spot) → (W.seen world.new).held p ≡ (W.seen world.old).held p }
+    ensures faults { (W.seen world.old).faults ≤ (W.seen world.new).faults }
+    ensures waits { (W.seen world.new).waits ≡ (W.seen world.old).waits }
+    ensures stops { (W.seen world.old).stops ≤ (W.seen world.new).stops }
+    ensures tells { is_some (W.seen world.new).told ≡ is_some (W.seen world.old).told }
 {
     if text.is_empty() {
         return answer;
@@ -34,12 +34,12 @@ fn say<W: World>(world: &mut W, text: &[u8], answer: Outcome) -> Outcome
 /// Notes the line of an outcome, where it has one. Where there is no memory for it, the answer is that.
 pub fn conclude<W: World>(alloc: Global, world: &mut W, outcome: Outcome) -> Outcome
     ensures answer { (result ≡ outcome) ⊎ (result ≡ outcomes.Memory) }
-    ensures tail { Tail result (W.told world.old) (W.told world.new) }
-    ensures held { (p : Spot) → W.held world.new p ≡ W.held world.old p }
-    ensures faults { W.faults world.old ≤ W.faults world.new }
-    ensures waits { W.waits world.new ≡ W.waits world.old }
-    ensures stops { W.stops world.old ≤ W.stops world.new }
-    ensures tells { is_some (W.told world.new) ≡ is_some (W.told world.old) }
+    ensures tail { Tail result (W.seen world.old).told (W.seen world.new).told }
+    ensures held { (p : Spot) → (W.seen world.new).held p ≡ (W.seen world.old).held p }
+    ensures faults { (W.seen world.old).faults ≤ (W.seen world.new).faults }
+    ensures waits { (W.seen world.new).waits ≡ (W.seen world.old).waits }
+    ensures stops { (W.seen world.old).stops ≤ (W.seen world.new).stops }
+    ensures tells { is_some (W.seen world.new).told ≡ is_some (W.seen world.old).told }
 {
     match line_of(alloc, &outcome) {
         Ok(line) => say(world, line.as_slice(), outcome),
@@ -54,13 +54,13 @@ pub fn print<W: World>(
     text: Result<Bytes, NoMemory>,
     done: Outcome,
 ) -> Outcome
-    ensures printed { (wanted : List ℕ) → IfOk text (λ bytes. bytes ≡ wanted) → Printed done wanted (W.told world.old) (W.told world.new) result }
+    ensures printed { (wanted : List ℕ) → IfOk text (λ bytes. bytes ≡ wanted) → Printed done wanted (W.seen world.old).told (W.seen world.new).told result }
     ensures answer { (result ≡ done) ⊎ (result ≡ outcomes.Memory) }
-    ensures held { (p : Spot) → W.held world.new p ≡ W.held world.old p }
-    ensures faults { W.faults world.old ≤ W.faults world.new }
-    ensures waits { W.waits world.new ≡ W.waits world.old }
-    ensures stops { W.stops world.old ≤ W.stops world.new }
-    ensures tells { is_some (W.told world.new) ≡ is_some (W.told world.old) }
+    ensures held { (p : Spot) → (W.seen world.new).held p ≡ (W.seen world.old).held p }
+    ensures faults { (W.seen world.old).faults ≤ (W.seen world.new).faults }
+    ensures waits { (W.seen world.new).waits ≡ (W.seen world.old).waits }
+    ensures stops { (W.seen world.old).stops ≤ (W.seen world.new).stops }
+    ensures tells { is_some (W.seen world.new).told ≡ is_some (W.seen world.old).told }
 {
     match text {
         Ok(text) => say(world, text.as_slice(), done),

@@ -4,26 +4,25 @@ ghost use Rattle.std.specs.Bool.{OnTrue, OnFalse};
 ghost use Rattle.relay_model.specs.declared.places.Place.{Place as Spot};
 ghost use Rattle.relay_model.specs.Holding.{Free};
 ghost use Rattle.relay_model.specs.Journals.{History};
-ghost use Rattle.event_loop.specs.Courses.{Risen};
-ghost use Rattle.event_loop.specs.Headline.{StopCause, is_failure};
+ghost use Rattle.session_loop.specs.Courses.{Risen};
+ghost use Rattle.session_loop.specs.Headline.{StopCause, is_failure};
 ghost use Rattle.exit_status.specs.Statuses.{exit_code};
 ghost use Rattle.socat_top.specs.declared.written.Saving.TheVariants as savings;
 ghost use Rattle.port_trait.specs.Meanings.{Behind};
-ghost use Rattle.desk_ports.specs.Endings.{OnJoinedBack, handed};
-ghost use Rattle.desk_history.specs.Following.{IsUnused, Passed};
-ghost use Rattle.stream_ends.specs.Behind.{far_bytes, far_faults, told_behind};
+ghost use Rattle.port_table.specs.Endings.{OnJoinedBack, handed};
+ghost use Rattle.port_desk.specs.Following.{IsUnused, Passed};
+ghost use Rattle.socat_top.specs.Behind.{far_bytes, far_faults, told_behind};
 ghost use Rattle.socat_top.specs.Kept.{history_of};
 ghost use Rattle.socat_top.specs.Headline.{Answers, CompletesTask, Leaves, TaskEnds, TaskEndsBehind};
 ghost use Rattle.socat_top.specs.Tasks.{task};
 ghost use Rattle.socat_top.specs.Written.{TookText, asks_for_journal, is_asked, is_note, journal_name, status_with, told_before, without_last_note, words_of_run};
 
+use crate::files::JournalFile;
 use crate::runs::{Shipped, run};
-use journal_file::JournalFile;
 use journal_text::write_front;
 use port_desk::Desk;
-use port_trait::{Maker, Poller, Port};
+use port_trait::{Maker, Poller, Port, write_whole};
 use relay_model::{Act, Journal, Text};
-use sink_texts::write_whole;
 use std::alloc::Global;
 use world_trait::World;
 
@@ -61,7 +60,7 @@ pub fn run_written<M, P, I: Port, O: Port, E: Port, F: JournalFile>(
 where
     M: Maker + Drop,
     P: Poller + Drop,
-    requires free { (p : Spot) → ⟦<Desk<M, P, I, O, E> as World>⟧.held desk p ≡ Free }
+    requires free { (p : Spot) → (⟦<Desk<M, P, I, O, E> as World>⟧.seen desk).held p ≡ Free }
     requires untouched { desk.log.acted ≡ false }
     ensures asked { is_asked result.saving ≡ asks_for_journal words.now }
     ensures named { result.saving ≡ savings.Saved → (made : F) × F.creates file.old (journal_name words.now) made }
@@ -71,16 +70,18 @@ where
     ensures unsaved { result.saving ≡ savings.Failed → Risen (F.faults file.old) (F.faults file.new) }
     ensures status { result.status ≡ status_with result.shipped.status result.saving }
     ensures run_status { result.shipped.status ≡ exit_code result.shipped.outcome }
-    ensures headline { (before : History) → told_before (asks_for_journal words.now) (⟦<Desk<M, P, I, O, E> as World>⟧.told desk) ≡ Some before → Leaves (task (words_of_run words.now)) turns before (Some (history_of result.shipped.kept)) result.shipped.outcome }
-    ensures passed { (before : History) → told_before (asks_for_journal words.now) (⟦<Desk<M, P, I, O, E> as World>⟧.told desk) ≡ Some before → IsUnused desk.ports.harbor.input.port.gave desk.ports.harbor.output.port.took desk.ports.harbor.errors.port.took → Passed (history_of result.shipped.kept) (I.gave (handed result.shipped.standard.stdin)) (O.took (handed result.shipped.standard.stdout)) (E.took (handed result.shipped.standard.stderr)) (I.ended (handed result.shipped.standard.stdin)) }
-    ensures ends { told_before (asks_for_journal words.now) (⟦<Desk<M, P, I, O, E> as World>⟧.told desk) ≡ Some (record { acts = []; asked = [] }) → IsUnused desk.ports.harbor.input.port.gave desk.ports.harbor.output.port.took desk.ports.harbor.errors.port.took → TaskEnds (task (words_of_run words.now)) result.shipped.kept.journal.acts (I.gave (handed result.shipped.standard.stdin)) (O.took (handed result.shipped.standard.stdout)) (I.ended (handed result.shipped.standard.stdin)) }
+    ensures headline { (before : History) → told_before (asks_for_journal words.now) (⟦<Desk<M, P, I, O, E> as World>⟧.seen desk).told ≡ Some before → Leaves (task (words_of_run words.now)) turns before (Some (history_of result.shipped.kept)) result.shipped.outcome }
+    ensures passed { (before : History) → told_before (asks_for_journal words.now) (⟦<Desk<M, P, I, O, E> as World>⟧.seen desk).told ≡ Some before → IsUnused desk.ports.table.input.port.gave desk.ports.table.output.port.took desk.ports.table.errors.port.took → Passed (history_of result.shipped.kept) (I.gave (handed result.shipped.standard.stdin)) (O.took (handed result.shipped.standard.stdout)) (E.took (handed result.shipped.standard.stderr)) (I.ended (handed result.shipped.standard.stdin)) }
+    ensures ends { told_before (asks_for_journal words.now) (⟦<Desk<M, P, I, O, E> as World>⟧.seen desk).told ≡ Some (record { acts = []; asked = [] }) → IsUnused desk.ports.table.input.port.gave desk.ports.table.output.port.took desk.ports.table.errors.port.took → TaskEnds (task (words_of_run words.now)) result.shipped.kept.journal.acts (I.gave (handed result.shipped.standard.stdin)) (O.took (handed result.shipped.standard.stdout)) (I.ended (handed result.shipped.standard.stdin)) }
     ensures stdin_behind { OnJoinedBack (λ port. Behind (I.gave port) (I.took port) (I.behind_gave port) (I.behind_took port) (I.behind_left port) (I.behind_faults port) (I.ended port)) result.shipped.standard.stdin }
     ensures stdout_behind { OnJoinedBack (λ port. Behind (O.gave port) (O.took port) (O.behind_gave port) (O.behind_took port) (O.behind_left port) (O.behind_faults port) (O.ended port)) result.shipped.standard.stdout }
-    ensures behind { told_before (asks_for_journal words.now) (⟦<Desk<M, P, I, O, E> as World>⟧.told desk) ≡ Some (record { acts = []; asked = [] }) → IsUnused desk.ports.harbor.input.port.gave desk.ports.harbor.output.port.took desk.ports.harbor.errors.port.took → TaskEndsBehind (task (words_of_run words.now)) result.shipped.kept.journal.acts (far_bytes (I.gave (handed result.shipped.standard.stdin)) (told_behind I.behind_gave result.shipped.standard.stdin)) (far_bytes (O.took (handed result.shipped.standard.stdout)) (told_behind O.behind_took result.shipped.standard.stdout)) (told_behind I.behind_left result.shipped.standard.stdin) (far_faults (told_behind O.behind_took result.shipped.standard.stdout) (told_behind O.behind_faults result.shipped.standard.stdout)) }
+    ensures behind { told_before (asks_for_journal words.now) (⟦<Desk<M, P, I, O, E> as World>⟧.seen desk).told ≡ Some (record { acts = []; asked = [] }) → IsUnused desk.ports.table.input.port.gave desk.ports.table.output.port.took desk.ports.table.errors.port.took → TaskEndsBehind (task (words_of_run words.now)) result.shipped.kept.journal.acts (far_bytes (I.gave (handed result.shipped.standard.stdin)) (told_behind I.behind_gave result.shipped.standard.stdin)) (far_bytes (O.took (handed result.shipped.standard.stdout)) (told_behind O.behind_took result.shipped.standard.stdout)) (told_behind I.behind_left result.shipped.standard.stdin) (far_faults (told_behind O.behind_took result.shipped.standard.stdout) (told_behind O.behind_faults result.shipped.standard.stdout)) }
     ensures answers { Answers (task (words_of_run words.now)) result.shipped.outcome }
-    ensures complete { let w = ⟦<Desk<M, P, I, O, E> as World>⟧ in CompletesTask (task (words_of_run words.now)) turns (w.faults desk) result.shipped.counts.faults (w.waits desk) result.shipped.counts.waits (w.stops desk) result.shipped.counts.stops result.shipped.outcome }
-    ensures failed { is_failure result.shipped.outcome ≡ true → Risen (⟦<Desk<M, P, I, O, E> as World>⟧.faults desk) result.shipped.counts.faults }
-    ensures stopped { let w = ⟦<Desk<M, P, I, O, E> as World>⟧ in StopCause turns (w.waits desk) result.shipped.counts.waits (w.stops desk) result.shipped.counts.stops result.shipped.outcome }
+    ensures complete { let before = ⟦<Desk<M, P, I, O, E> as World>⟧.seen desk in
+        CompletesTask (task (words_of_run words.now)) turns before.faults result.shipped.counts.faults before.waits result.shipped.counts.waits before.stops result.shipped.counts.stops result.shipped.outcome }
+    ensures failed { is_failure result.shipped.outcome ≡ true → Risen (⟦<Desk<M, P, I, O, E> as World>⟧.seen desk).faults result.shipped.counts.faults }
+    ensures stopped { let before = ⟦<Desk<M, P, I, O, E> as World>⟧.seen desk in
+        StopCause turns before.waits result.shipped.counts.waits before.stops result.shipped.counts.stops result.shipped.outcome }
 {
     let Some((name, words)) = journal_flag(words) else {
         return with_saving(run(alloc, desk, words, turns), Saving::NotAsked);

@@ -149,7 +149,8 @@ impl<U: PacketWire> DatagramSocket<U> {
     fn fetch_one(&mut self) -> Fetched
         ensures asked { Asks U.receives U.receives_from self.old.partner self.old.wire self.new.wire self.new.packet result }
         ensures held { self.new.rest ≡ held_after result self.new.packet }
-        ensures same { (self.new.partner ≡ self.old.partner) × (self.new.cut_short ≡ self.old.cut_short) × (self.new.single ≡ self.old.single) }
+        ensures same { (self.new.partner ≡ self.old.partner) × (self.new.cut_short ≡ self.old.cut_short)
+            × (self.new.single ≡ self.old.single) }
     {
         let fetched = self.packet.fetch(&mut self.wire, self.partner);
         self.waiting = fetched == Fetched::Datagram;
@@ -204,7 +205,8 @@ impl<U> DatagramSocket<U> {
         requires some { 0 < length into.old }
         requires waiting { is_some self.old.rest ≡ true }
         ensures given { IfSome self.old.rest (λ bytes. IsGiven bytes into.new self.new.rest result) }
-        ensures same { (self.new.wire ≡ self.old.wire) × (self.new.partner ≡ self.old.partner) × (self.new.cut_short ≡ self.old.cut_short) × (self.new.single ≡ self.old.single) }
+        ensures same { (self.new.wire ≡ self.old.wire) × (self.new.partner ≡ self.old.partner)
+            × (self.new.cut_short ≡ self.old.cut_short) × (self.new.single ≡ self.old.single) }
         ensures gives { Gives None None into.new result }
         ensures some { gives_none result ≡ false }
     {
@@ -233,7 +235,8 @@ impl<U: PacketWire> Socket for DatagramSocket<U> {
     fn receive(&mut self, into: &mut [u8]) -> Got
         requires { 0 < length into.old }
         ensures rest { IfSome self.old.rest (λ bytes. IsGiven bytes into.new self.new.rest result) }
-        ensures next { self.old.rest ≡ None → self.old.single ≡ false → ReadsNext U.receives U.receives_from self.old.partner self.old.wire self.new.wire into.new self.new.rest result }
+        ensures next { self.old.rest ≡ None → self.old.single ≡ false
+            → ReadsNext U.receives U.receives_from self.old.partner self.old.wire self.new.wire into.new self.new.rest result }
         ensures unasked { (is_some self.old.rest || self.old.single) ≡ true → self.new.wire ≡ self.old.wire }
         ensures partner { (self.new.partner ≡ self.old.partner) × (self.new.single ≡ self.old.single) }
         ensures end { (result ≡ reads.End) ↔ ((self.old.rest ≡ None) × (self.old.single ≡ true)) }
@@ -258,7 +261,9 @@ impl<U: PacketWire> Socket for DatagramSocket<U> {
     /// Sends at most 65,507 bytes as one datagram to the partner.
     fn transmit(&mut self, bytes: &[u8]) -> Took
         requires { 0 < length bytes.now }
-        ensures once { Answers (Sends U.sends U.sends_to self.old.partner self.old.wire self.new.wire (take (min (length bytes.now) 65507) bytes.now)) (λ sent. IsAccepted sent result) }
+        ensures once { Answers
+            (Sends U.sends U.sends_to self.old.partner self.old.wire self.new.wire
+            (take (min (length bytes.now) 65507) bytes.now)) (λ sent. IsAccepted sent result) }
         ensures accepts { Accepts None None bytes.now result }
         ensures kept { self.new ≡ record self.old { wire = self.new.wire } }
     {
@@ -268,7 +273,8 @@ impl<U: PacketWire> Socket for DatagramSocket<U> {
     /// Sends the bytes as one datagram to the partner.
     fn transmit_packet(&mut self, bytes: &[u8]) -> Took
         requires { 0 < length bytes.now }
-        ensures once { Answers (Sends U.sends U.sends_to self.old.partner self.old.wire self.new.wire bytes.now) (λ sent. IsSentWhole (length bytes.now) sent result) }
+        ensures once { Answers (Sends U.sends U.sends_to self.old.partner self.old.wire self.new.wire bytes.now)
+            (λ sent. IsSentWhole (length bytes.now) sent result) }
         ensures accepts { AcceptsWhole None None bytes.now result }
         ensures kept { self.new ≡ record self.old { wire = self.new.wire } }
     {
@@ -288,7 +294,9 @@ impl<U: PacketWire> Socket for DatagramSocket<U> {
     /// Sends an empty datagram at `Null` (socat(1), `shut-null`). The other ways do nothing, since a datagram has no
     /// end.
     fn finish(&mut self, how: Shut) -> Shutting
-        ensures empty { how ≡ ways.Null → Answers (Sends U.sends U.sends_to self.old.partner self.old.wire self.new.wire []) (λ sent. IsSentEmpty sent result) }
+        ensures empty { how ≡ ways.Null
+            → Answers (Sends U.sends U.sends_to self.old.partner self.old.wire self.new.wire []) (λ sent. IsSentEmpty
+            sent result) }
         ensures untouched { how ≢ ways.Null → (result ≡ shuts.Done) × (self.new ≡ self.old) }
         ensures kept { self.new ≡ record self.old { wire = self.new.wire } }
     {

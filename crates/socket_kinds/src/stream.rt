@@ -187,7 +187,9 @@ impl<S: Wire> Socket for StreamSocket<S> {
     /// Asks the system while the connection is under way. What it came to then stays.
     fn settle(&mut self) -> Settled
         ensures answer { result ≡ settling_of self.new.connection }
-        ensures asked { self.old.connection ≡ connections.UnderWay → Answers (S.tells_error self.old.stream) (λ kept. (known : Bool) × S.knows_peer self.old.stream known × (self.new.connection ≡ connection_of kept known)) }
+        ensures asked { self.old.connection ≡ connections.UnderWay
+            → Answers (S.tells_error self.old.stream) (λ kept. (known : Bool) × S.knows_peer self.old.stream known
+            × (self.new.connection ≡ connection_of kept known)) }
         ensures stays { self.old.connection ≢ connections.UnderWay → self.new ≡ self.old }
         ensures stream { self.new.stream ≡ self.old.stream }
     {
@@ -231,7 +233,8 @@ impl<S: Wire> Socket for StreamSocket<S> {
     /// Shuts the writing half at `Down` and `Close`, so that the peer reads to its end and can still answer. What
     /// `Close` closes besides is closed where the socket is dropped.
     fn finish(&mut self, how: Shut) -> Shutting
-        ensures ended { finishes how ≡ true → Answers (S.shuts_half self.old.stream self.new.stream halves.Write) (λ done. IsShutDown done result) }
+        ensures ended { finishes how ≡ true
+            → Answers (S.shuts_half self.old.stream self.new.stream halves.Write) (λ done. IsShutDown done result) }
         ensures silent { Keeps (S.contents self.old.stream) (S.contents self.new.stream) }
         ensures untouched { finishes how ≡ false → (result ≡ shuts.Done) × (self.new ≡ self.old) }
         ensures kept { self.new.connection ≡ self.old.connection }

@@ -1,7 +1,7 @@
 -- What contracts see of the maker of sockets.
 use Rattle.std.specs.Prelude.{ℕ, Bool, Option, if◌then◌else◌}
 use Rattle.relay_model.specs.declared.acts.Peer.{Peer}
-use Rattle.answer_counts.specs.Counted.{risen}
+use Rattle.port_trait.specs.Counted.{risen}
 
 -- its counts, and the peer that it accepted last
 pub record MakerState : Type 0 where

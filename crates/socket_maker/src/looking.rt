@@ -1,6 +1,6 @@
 // A socket whose host is being looked up.
 ghost use Rattle.std.specs.Prelude.{◌≡◌, false, List, ℕ, None, Some, IfSome};
-ghost use Rattle.answer_counts.specs.Counted.{counted};
+ghost use Rattle.port_trait.specs.Counted.{counted};
 ghost use Rattle.port_trait.specs.Counting.{Tallied};
 ghost use Rattle.port_trait.specs.Meanings.{Accepts, AcceptsWhole, Gives, is_end, read_event, settle_event, write_event};
 ghost use Rattle.port_trait.specs.declared.answers.Settled.TheVariants as settles;
@@ -11,10 +11,12 @@ ghost use Rattle.socket_maker.specs.Aims.{way_sort};
 
 use crate::aims::Aim;
 use crate::reaching::reach;
-use answer_counts::{count_reading, count_settling, count_writing};
 use host_lookup::{HostAddresses, Looked, Lookup};
 use mio::Registry;
-use port_trait::{Counts, Got, Hint, Making, Settled, Shutting, Took};
+use port_trait::{
+    Counts, Got, Hint, Making, Settled, Shutting, Took, count_reading, count_settling,
+    count_writing,
+};
 use relay_model::Shut;
 use socket_kinds::AnySocket;
 use std::alloc::Global;

@@ -4,7 +4,7 @@ ghost use Rattle.port_trait.specs.Counting.{Counted};
 ghost use Rattle.port_trait.specs.Made.{making_failed, making_stalled, IsAtOnce, peer_failed, peer_stalled, came_after};
 ghost use Rattle.port_trait.specs.declared.makers.Making.TheVariants as makings;
 ghost use Rattle.socket_maker.specs.Makers.{risen_if};
-ghost use Rattle.answer_counts.specs.Counted.{risen};
+ghost use Rattle.port_trait.specs.Counted.{risen};
 ghost use Rattle.port_trait.specs.declared.makers.MadePeer.TheVariants as peers;
 ghost use Rattle.relay_model.specs.declared.acts.Peer.TheVariants as whose;
 ghost use Rattle.socket_kinds.specs.Kinds.{Listening};
@@ -210,7 +210,8 @@ where
         ensures fresh { OnPort IsFreshPort result }
         ensures sort { IfSome (port_sort result) (λ sort. opened_sort single.now.target ≡ Some sort) }
         ensures other { opened_sort single.now.target ≡ None → result ≡ makings.Failed }
-        ensures aims { IfSome (aim_of single.now.target single.now.options.socket) (λ aim. IfSome (host_of single.now.target) (λ host. OnPort (Aims aim host) result)) }
+        ensures aims { IfSome (aim_of single.now.target single.now.options.socket)
+            (λ aim. IfSome (host_of single.now.target) (λ host. OnPort (Aims aim host) result)) }
     {
         match aim_at(single) {
             Some((aim, host)) => self.open_host(key, host, aim),
@@ -268,7 +269,8 @@ where
         ensures fresh { OnPort IsFreshPort result }
         ensures sort { IfSome (port_sort result) (λ sort. opened_sort single.now.target ≡ Some sort) }
         ensures other { opened_sort single.now.target ≡ None → result ≡ makings.Failed }
-        ensures aims { IfSome (aim_of single.now.target single.now.options.socket) (λ aim. IfSome (host_of single.now.target) (λ host. OnPort (Aims aim host) result)) }
+        ensures aims { IfSome (aim_of single.now.target single.now.options.socket)
+            (λ aim. IfSome (host_of single.now.target) (λ host. OnPort (Aims aim host) result)) }
         ensures came { self.new.came ≡ self.old.came }
         ensures faults { Counted (making_failed result) self.old.faults self.new.faults }
         ensures stalls { Counted (making_stalled result) self.old.stalls self.new.stalls }

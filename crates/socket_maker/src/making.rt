@@ -102,7 +102,8 @@ where
 pub(crate) fn nameless(making: Making<AnySocket>) -> Making<HostPort>
     ensures fresh { OnPort IsFreshPort result }
     ensures sort { port_sort result ≡ socket_sort making }
-    ensures aims { (aim : Aim) (host : List ℕ) → IfSome (socket_sort making) (λ sort. sort ≡ way_sort aim.way) → OnPort (Aims aim host) result }
+    ensures aims { (aim : Aim) (host : List ℕ) → IfSome (socket_sort making) (λ sort. sort ≡ way_sort aim.way)
+        → OnPort (Aims aim host) result }
     ensures at_once { IsAtOnce making → IsAtOnce result }
 {
     match making {

@@ -5,8 +5,9 @@ ghost use Rattle.port_trait.specs.Meanings.{settle_event};
 ghost use Rattle.socket_maker.specs.Ports.{Follows, begun_at, counts_at, ended_at, hints_at, may_hint_at};
 
 use crate::looking::LookingPort;
-use answer_counts::count_writing;
-use port_trait::{Begun, Got, Hint, Joining, Port, PortReap, Settled, Shutting, Took};
+use port_trait::{
+    Begun, Got, Hint, Joining, Port, PortReap, Settled, Shutting, Took, count_writing,
+};
 use relay_model::Shut;
 use socket_kinds::AnySocket;
 use socket_ports::{Removal, SocketPort};

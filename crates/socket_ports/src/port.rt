@@ -5,11 +5,13 @@ ghost use Rattle.port_trait.specs.Meanings.{Gives, Accepts, AcceptsWhole, Accept
 ghost use Rattle.port_trait.specs.declared.answers.Begun.TheVariants as begins;
 ghost use Rattle.port_trait.specs.declared.answers.PortReap.TheVariants as reaps;
 ghost use Rattle.port_trait.specs.declared.answers.Joining.TheVariants as joining;
-ghost use Rattle.answer_counts.specs.Counted.{counted};
+ghost use Rattle.port_trait.specs.Counted.{counted};
 ghost use Rattle.socket_ports.specs.Sockets.{fresh_port};
 
-use answer_counts::{count_reading, count_settling, count_shutting, count_writing, is_end};
-use port_trait::{Begun, Counts, Got, Hint, Joining, Port, PortReap, Settled, Shutting, Took};
+use port_trait::{
+    Begun, Counts, Got, Hint, Joining, Port, PortReap, Settled, Shutting, Took, count_reading,
+    count_settling, count_shutting, count_writing, is_end,
+};
 use relay_model::Shut;
 use socket_kinds::Socket;
 use std::marker::Model;
@@ -100,7 +102,8 @@ impl<S: Socket, G: Drop> Port for SocketPort<S, G> {
     /// The socket is asked once.
     fn settle(&mut self) -> Settled
         ensures asked { S.answers_settle self.old.socket self.new.socket result }
-        ensures kept { (S.gave self.new.socket ≡ S.gave self.old.socket) × (S.took self.new.socket ≡ S.took self.old.socket) × (self.new.begun ≡ self.old.begun) × (self.new.ended ≡ self.old.ended) }
+        ensures kept { (S.gave self.new.socket ≡ S.gave self.old.socket) × (S.took self.new.socket ≡ S.took self.old.socket)
+            × (self.new.begun ≡ self.old.begun) × (self.new.ended ≡ self.old.ended) }
         ensures unshut { S.shuts self.new.socket ≡ S.shuts self.old.socket }
         ensures counted { self.new.counts ≡ counted (settle_event result) self.old.counts }
         ensures counts { Tallied (settle_event result) self.old.counts self.new.counts }
@@ -128,7 +131,8 @@ impl<S: Socket, G: Drop> Port for SocketPort<S, G> {
     fn write(&mut self, bytes: &[u8]) -> Took
         requires { 0 < length bytes.now }
         ensures accepts { Accepts (S.took self.old.socket) (S.took self.new.socket) bytes.now result }
-        ensures kept { (S.gave self.new.socket ≡ S.gave self.old.socket) × (self.new.begun ≡ self.old.begun) × (self.new.ended ≡ self.old.ended) }
+        ensures kept { (S.gave self.new.socket ≡ S.gave self.old.socket) × (self.new.begun ≡ self.old.begun)
+            × (self.new.ended ≡ self.old.ended) }
         ensures unshut { S.shuts self.new.socket ≡ S.shuts self.old.socket }
         ensures counted { self.new.counts ≡ counted (write_event result) self.old.counts }
         ensures counts { Tallied (write_event result) self.old.counts self.new.counts }
@@ -141,7 +145,8 @@ impl<S: Socket, G: Drop> Port for SocketPort<S, G> {
     fn send(&mut self, bytes: &[u8]) -> Took
         requires { 0 < length bytes.now }
         ensures accepts { AcceptsWhole (S.took self.old.socket) (S.took self.new.socket) bytes.now result }
-        ensures kept { (S.gave self.new.socket ≡ S.gave self.old.socket) × (self.new.begun ≡ self.old.begun) × (self.new.ended ≡ self.old.ended) }
+        ensures kept { (S.gave self.new.socket ≡ S.gave self.old.socket) × (self.new.begun ≡ self.old.begun)
+            × (self.new.ended ≡ self.old.ended) }
         ensures unshut { S.shuts self.new.socket ≡ S.shuts self.old.socket }
         ensures counted { self.new.counts ≡ counted (write_event result) self.old.counts }
         ensures counts { Tallied (write_event result) self.old.counts self.new.counts }
@@ -154,7 +159,8 @@ impl<S: Socket, G: Drop> Port for SocketPort<S, G> {
     /// Writes until all is accepted. Where the socket would block it fails, since no call of a socket waits.
     fn put_all(&mut self, bytes: &[u8]) -> Took
         ensures accepts { AcceptsAll (S.took self.old.socket) (S.took self.new.socket) bytes.now result }
-        ensures kept { (S.gave self.new.socket ≡ S.gave self.old.socket) × (self.new.begun ≡ self.old.begun) × (self.new.ended ≡ self.old.ended) }
+        ensures kept { (S.gave self.new.socket ≡ S.gave self.old.socket) × (self.new.begun ≡ self.old.begun)
+            × (self.new.ended ≡ self.old.ended) }
         ensures unshut { S.shuts self.new.socket ≡ S.shuts self.old.socket }
         ensures counted { self.new.counts ≡ counted (write_event result) self.old.counts }
         ensures counts { Tallied (write_event result) self.old.counts self.new.counts }
@@ -170,7 +176,8 @@ impl<S: Socket, G: Drop> Port for SocketPort<S, G> {
     fn shut(&mut self, how: Shut) -> Shutting
         ensures asked { S.answers_finish self.old.socket self.new.socket how result }
         ensures told { S.shuts self.new.socket ≡ noted how (S.shuts self.old.socket) }
-        ensures kept { (S.gave self.new.socket ≡ S.gave self.old.socket) × (S.took self.new.socket ≡ S.took self.old.socket) × (self.new.begun ≡ self.old.begun) × (self.new.ended ≡ self.old.ended) }
+        ensures kept { (S.gave self.new.socket ≡ S.gave self.old.socket) × (S.took self.new.socket ≡ S.took self.old.socket)
+            × (self.new.begun ≡ self.old.begun) × (self.new.ended ≡ self.old.ended) }
         ensures counted { self.new.counts ≡ counted (shut_event result) self.old.counts }
         ensures counts { Tallied (shut_event result) self.old.counts self.new.counts }
     {

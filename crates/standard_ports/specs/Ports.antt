@@ -10,7 +10,7 @@ use Rattle.file_ports.specs.Halves.{HalvesState}
 use Rattle.ring_reader.specs.Readers.{ReaderState, given_of}
 use Rattle.ring_writer.specs.Writers.{WriterState, took_of}
 use Rattle.socket_ports.specs.Sockets.{PortState}
-use Rattle.port_account.specs.Passages.{Passage}
+use Rattle.port_trait.specs.Passages.{Passage}
 use Rattle.standard_ports.specs.Told.{ToldState}
 
 -- what a port in the loop tells

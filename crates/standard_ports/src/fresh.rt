@@ -16,12 +16,12 @@ use blocking_streams::Blocking;
 use file_ports::Halves;
 use mio_poller::Watch;
 use port_trait::{Port, StdSink};
+use ring_writer::RingWriter;
 use socket_ports::SocketPort;
 use std::fs::File;
 use std::io::{Stderr, Stdin, Stdout};
 use std::sync::Wait;
 use std::thread::Threads;
-use thread_rings::RingWriter;
 
 /// Standard error behind a ring.
 pub type ErrorRing<R> = RingWriter<StdSink<Blocking<Stderr>>, R>;

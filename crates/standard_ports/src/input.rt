@@ -5,10 +5,10 @@ use crate::direct::DirectPort;
 use blocking_streams::{Blocking, InputSource};
 use port_trait::{Begun, Got, Hint, Joining, Port, PortReap, Settled, Shutting, Took};
 use relay_model::Shut;
+use ring_reader::RingReader;
 use std::io::Stdin;
 use std::sync::Wait;
 use std::thread::Threads;
-use thread_rings::RingReader;
 
 /// Standard input behind a ring.
 pub type InputRing<R> = RingReader<InputSource<Blocking<Stdin>>, R>;

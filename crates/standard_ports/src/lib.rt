@@ -9,6 +9,7 @@ mod opening;
 mod output;
 mod piped;
 mod told;
+mod told_sink;
 
 pub use direct::{DirectPort, SharedPort};
 pub use fresh::{ErrorRing, FreshDirect, FreshErrors, FreshInput, FreshOutput};
@@ -17,3 +18,4 @@ pub use opening::{direct_input, direct_output};
 pub use output::{OutputPort, OutputRing};
 pub use piped::PipePort;
 pub use told::ToldSocket;
+pub use told_sink::{Failures, ToldSink};

@@ -2,14 +2,14 @@
 ghost use Rattle.standard_ports.specs.Ports.{of_output};
 
 use crate::direct::DirectPort;
+use crate::told_sink::ToldSink;
 use blocking_streams::Blocking;
 use port_trait::{Begun, Got, Hint, Joining, Port, PortReap, Settled, Shutting, StdSink, Took};
 use relay_model::Shut;
+use ring_writer::RingWriter;
 use std::io::Stdout;
 use std::sync::Wait;
 use std::thread::Threads;
-use thread_rings::RingWriter;
-use told_sink::ToldSink;
 
 /// Standard output behind a ring, whose late failures are told.
 pub type OutputRing<R> = RingWriter<ToldSink<StdSink<Blocking<Stdout>>>, R>;

@@ -2,8 +2,7 @@
 ghost use Rattle.std.specs.Prelude.{◌≡◌, ◌<◌, length};
 ghost use Rattle.standard_ports.specs.Told.{fresh_told, told_or};
 
-use port_account::{Account, Call};
-use port_trait::{Got, Hint, Settled, Shutting, Took};
+use port_trait::{Account, Call, Got, Hint, Settled, Shutting, Took};
 use relay_model::Shut;
 use socket_kinds::Socket;
 use std::marker::Model;

@@ -39,7 +39,8 @@ impl Heap {
         ensures len { vec_len self.old.timers ≤ vec_len self.new.timers }
         ensures more { vec_len self.new.timers ≤ max (vec_len self.old.timers) (self.old.live + n) }
         ensures live { self.new.live ≡ self.old.live }
-        ensures timers { (place : ℕ) → place < vec_len self.old.timers → timer_at self.new.timers.items place ≡ timer_at self.old.timers.items place }
+        ensures timers { (place : ℕ) → place < vec_len self.old.timers
+            → timer_at self.new.timers.items place ≡ timer_at self.old.timers.items place }
     {
         let more = n.saturating_sub(self.timers.len() - self.live);
         self.timers.reserve(more)?;
@@ -60,7 +61,8 @@ impl Heap {
         ensures capacity { vec_capacity self.old.timers ≤ vec_capacity self.new.timers }
         ensures places_capacity { vec_capacity self.old.places ≤ vec_capacity self.new.places }
         ensures live { self.new.live ≡ self.old.live }
-        ensures timers { (place : ℕ) → place < vec_len self.old.timers → timer_at self.new.timers.items place ≡ timer_at self.old.timers.items place }
+        ensures timers { (place : ℕ) → place < vec_len self.old.timers
+            → timer_at self.new.timers.items place ≡ timer_at self.old.timers.items place }
     {
         let place = self.timers.len();
         let slot = self.places.len();
@@ -75,7 +77,9 @@ impl Heap {
     /// The timer that falls due first.
     pub(crate) fn first(&self) -> Option<(u64, u32)>
         ensures none { IfNone result (self.now.live ≡ 0) }
-        ensures some { IfSome result (λ first. (0 < self.now.live) × (first.0 ≡ (timer_at self.now.timers.items 0).at) × (first.1 ≡ (timer_at self.now.timers.items 0).key)) }
+        ensures some { IfSome result
+            (λ first. (0 < self.now.live) × (first.0 ≡ (timer_at self.now.timers.items 0).at)
+            × (first.1 ≡ (timer_at self.now.timers.items 0).key)) }
     {
         if self.live == 0 {
             return None;
@@ -90,7 +94,8 @@ impl Heap {
         requires heap { IsHeap self.old.timers.items self.old.live }
         ensures slot { result ≡ (timer_at self.old.timers.items self.old.live).slot }
         ensures heap { IsHeap self.new.timers.items self.new.live }
-        ensures timers { IsShuffled (slice_set self.old.timers.items self.old.live (record { at = at; key = key; slot = result })) self.new.timers.items (self.old.live + 1) }
+        ensures timers { IsShuffled (slice_set self.old.timers.items self.old.live (record { at = at; key = key; slot = result }))
+            self.new.timers.items (self.old.live + 1) }
         ensures len { vec_len self.new.timers ≡ vec_len self.old.timers }
         ensures live { self.new.live ≡ self.old.live + 1 }
     {
@@ -108,7 +113,8 @@ impl Heap {
         requires place { slice_index self.old.places.items slot < self.old.live }
         requires heap { IsHeap self.old.timers.items self.old.live }
         ensures heap { IsHeap self.new.timers.items self.new.live }
-        ensures timers { IsShuffled (with_moment self.old.timers.items (slice_index self.old.places.items slot) at) self.new.timers.items self.old.live }
+        ensures timers { IsShuffled (with_moment self.old.timers.items (slice_index self.old.places.items slot) at)
+            self.new.timers.items self.old.live }
         ensures len { vec_len self.new.timers ≡ vec_len self.old.timers }
         ensures live { self.new.live ≡ self.old.live }
     {

@@ -1,5 +1,5 @@
 -- How far a talk at the front of a port has come, and what the port beneath gave and took of it.
-use Rattle.std.specs.Prelude.{◌≡◌, ℕ, ◌<◌, ◌≤◌, ◌⊎◌, Bool, true, false, List, [], ◌++◌, length, take, drop, Option, option_map}
+use Rattle.std.specs.Prelude.{◌≡◌, ◌≢◌, ℕ, ◌<◌, ◌≤◌, ◌⊎◌, Bool, true, false, List, [], ◌++◌, length, take, drop, Option, option_map}
 use Rattle.port_trait.specs.declared.answers.Settled.{Settled}
 use Rattle.port_trait.specs.declared.answers.Settled.TheVariants as settles
 use Rattle.port_trait.specs.declared.answers.Got.{Got}
@@ -8,6 +8,7 @@ use Rattle.port_trait.specs.declared.answers.Took.{Took as WriteAnswer}
 use Rattle.port_trait.specs.declared.answers.Took.TheVariants as writes
 use Rattle.port_trait.specs.declared.counts.Counts.{Counts}
 use Rattle.port_trait.specs.Counting.{Rose}
+use Rattle.port_trait.specs.Meanings.{emptied}
 use Rattle.tunnel_port.specs.declared.stage.Stage.{Stage}
 use Rattle.tunnel_port.specs.declared.stage.Stage.TheVariants as stages
 use Rattle.tunnel_port.specs.declared.talk.Heard.{Heard}
@@ -96,6 +97,12 @@ pub record InTalk (took gave : Option (List ℕ)) (asks heard : List ℕ) (said 
   pub asked : Told (is_passed stage) (take said asks) took
   pub answered : Told (is_passed stage) heard gave
 
+-- once the request is granted, what was taken is the request and then what followed, and what was given the reply and
+-- then what followed
+abbrev pub FollowsTalk : Option (List ℕ) → Option (List ℕ) → List ℕ → List ℕ → Stage → Type 0
+FollowsTalk took gave asks heard stage =
+    is_passed stage ≡ true → Follows asks took (behind_talk (is_passed stage) asks took) × Follows heard gave (behind_talk (is_passed stage) heard gave)
+
 -- the reply goes on, and has fewer bytes than it may have
 abbrev pub StillHears : (Heard → Type 0) → List ℕ → ℕ → Type 0
 StillHears judges heard limit = (length heard < limit) × ((heard ≡ []) ⊎ judges hearing.More)
@@ -126,6 +133,30 @@ IsCutByEnd stages.Talking before now old new = now ≡ true → before ≡ true
 IsCutByEnd stages.Passed before now old new = now ≡ true → before ≡ true
 IsCutByEnd stages.Faulted before now old new = now ≡ true → before ≡ true
 IsCutByEnd stages.Refused before now old new = now ≡ true → before ≡ true
+
+-- no empty packet of the port beneath was passed over: the talk was cut by the first that came
+abbrev pub NonePassedOver : Stage → Option ℕ → Option ℕ → Type 0
+NonePassedOver stages.Cut before now = (now ≡ before) ⊎ (now ≡ emptied reads.Empty before)
+NonePassedOver stages.Joining before now = now ≡ before
+NonePassedOver stages.Talking before now = now ≡ before
+NonePassedOver stages.Passed before now = now ≡ before
+NonePassedOver stages.Faulted before now = now ≡ before
+NonePassedOver stages.Refused before now = now ≡ before
+
+-- how far a talk comes by this answer of a settling, which left the port beneath so
+abbrev pub JoinedBy : {P : Type 0} → Settled → P → P → Stage → Type 0
+JoinedBy settles.Ready left now stage = stage ≢ stages.Joining
+JoinedBy settles.NotYet left now stage = (stage ≡ stages.Joining) × (now ≡ left)
+JoinedBy settles.Failed left now stage = (stage ≡ stages.Faulted) × (now ≡ left)
+
+-- before the port beneath was ready it is asked whether it is, once
+abbrev pub AsksBeneath : {P : Type 0} → (P → P → Settled → Type 0) → Stage → P → P → Stage → Type 0
+AsksBeneath {P = P} answers stages.Joining before now stage = (left : P) × (settled : Settled) × answers before left settled × JoinedBy settled left now stage
+AsksBeneath answers stages.Talking before now stage = Unit {0}
+AsksBeneath answers stages.Passed before now stage = Unit {0}
+AsksBeneath answers stages.Faulted before now stage = Unit {0}
+AsksBeneath answers stages.Refused before now stage = Unit {0}
+AsksBeneath answers stages.Cut before now stage = Unit {0}
 
 -- what kept the request from being written
 abbrev pub Paused : Settled → Counts → Counts → Type 0

@@ -1,6 +1,5 @@
 -- What contracts see of a port behind a talk.
-use Rattle.std.specs.Prelude.{ℕ, Bool, true, false, Option, None}
-use Rattle.port_trait.specs.declared.answers.Hint.{Hint}
+use Rattle.std.specs.Prelude.{ℕ, Bool, false}
 use Rattle.port_trait.specs.declared.counts.Counts.{Counts}
 use Rattle.tunnel_port.specs.declared.stage.Stage.{Stage}
 use Rattle.tunnel_port.specs.declared.stage.Stage.TheVariants as stages

@@ -2,20 +2,20 @@
 ghost use Rattle.std.specs.Prelude.{◌≡◌, ◌<◌, true, false, [], length, IfSome};
 ghost use Rattle.port_trait.specs.Counting.{Tallied};
 ghost use Rattle.port_trait.specs.Hinting.{IsWithin};
-ghost use Rattle.answer_counts.specs.Counted.{counted};
+ghost use Rattle.port_trait.specs.Counted.{counted};
 ghost use Rattle.port_trait.specs.Meanings.{Gives, Accepts, AcceptsAll, ReapsChild, begun_after, is_end, begin_event, settle_event, read_event, write_event, shut_event, noted, join_answer};
 ghost use Rattle.port_trait.specs.declared.answers.Begun.TheVariants as begins;
 ghost use Rattle.port_trait.specs.declared.answers.Took.TheVariants as writes;
-ghost use Rattle.tunnel_port.specs.Talks.{is_passed, is_over, settled_at, read_at, write_at, IsOnly, behind_talk, InTalk, IsJudged, HasCause, IsCutByEnd};
+ghost use Rattle.tunnel_port.specs.Talks.{is_passed, is_over, settled_at, read_at, write_at, IsOnly, behind_talk, InTalk, FollowsTalk, IsJudged, HasCause, IsCutByEnd, NonePassedOver, AsksBeneath};
 ghost use Rattle.tunnel_port.specs.Tunnels.{fresh_tunnel};
 
 use crate::progress::go_on;
 use crate::stage::Stage;
 use crate::talk::Talk;
-use answer_counts::{
-    count_beginning, count_reading, count_settling, count_shutting, count_writing, is_end,
+use port_trait::{
+    Begun, Counts, Got, Hint, Joining, Port, PortReap, Settled, Shutting, Took, count_beginning,
+    count_reading, count_settling, count_shutting, count_writing, is_end,
 };
-use port_trait::{Begun, Counts, Got, Hint, Joining, Port, PortReap, Settled, Shutting, Took};
 use relay_model::Shut;
 use std::marker::Model;
 
@@ -40,12 +40,13 @@ impl<P: Port, T: Talk> Model for TunnelPort<P, T> {
 
     ghost view = { λ port. record { inner = port.inner; talk = port.talk; said = port.said; stage = port.stage; counts = port.counts; ended = port.ended } };
 
-    ghost invariant = { λ port. InTalk (P.took port.inner) (P.gave port.inner) (T.asks port.talk) (T.heard port.talk) port.said port.stage × IsJudged (T.judges port.talk) (T.heard port.talk) T.limit port.stage };
+    ghost invariant = { λ port. InTalk (P.took port.inner) (P.gave port.inner) (T.asks port.talk) (T.heard port.talk) port.said port.stage
+        × IsJudged (T.judges port.talk) (T.heard port.talk) T.limit port.stage };
 }
 
 impl<P: Port, T: Talk> TunnelPort<P, T> {
     /// The port behind this talk, of which nothing was said or heard yet. Nothing went through the port beneath.
-    pub fn new(inner: P, talk: T) -> TunnelPort<P, T>
+    pub fn over(inner: P, talk: T) -> TunnelPort<P, T>
         requires untaken { IsOnly [] (P.took inner) }
         requires ungiven { IsOnly [] (P.gave inner) }
         requires unheard { T.heard talk ≡ [] }
@@ -93,6 +94,10 @@ impl<P: Port, T: Talk> Port for TunnelPort<P, T> {
 
     ghost shuts = { λ port. P.shuts port.inner };
 
+    ghost answers_settle = { λ old new settled. AsksBeneath P.answers_settle old.stage old.inner new.inner new.stage };
+
+    ghost answers_shut = { λ old new how shutting. P.answers_shut old.inner new.inner how shutting };
+
     ghost hints = { λ port. P.hints port.inner };
 
     ghost hinting = { λ port. P.hinting port.inner };
@@ -125,17 +130,25 @@ impl<P: Port, T: Talk> Port for TunnelPort<P, T> {
 
     /// Settles the port beneath, and then goes on with the talk as far as that port lets it. It is ready once the
     /// reply has granted the request; after a failure each further call fails.
+    #[tactic(auto, using(crate::proofs::Passing::talk_follows))]
     fn settle(&mut self) -> Settled
         ensures answer { result ≡ settled_at self.new.stage }
         ensures cause { is_over self.old.stage ≡ false → HasCause self.new.stage (P.counts self.old.inner) (P.counts self.new.inner) }
-        ensures cut { is_over self.old.stage ≡ false → IsCutByEnd self.new.stage (P.ended self.old.inner) (P.ended self.new.inner) (P.counts self.old.inner) (P.counts self.new.inner) }
+        ensures cut { is_over self.old.stage ≡ false
+            → IsCutByEnd self.new.stage (P.ended self.old.inner) (P.ended self.new.inner) (P.counts self.old.inner) (P.counts self.new.inner) }
+        ensures packets { NonePassedOver self.new.stage (P.empty_packets self.old.inner) (P.empty_packets self.new.inner) }
+        ensures asked { AsksBeneath P.answers_settle self.old.stage self.old.inner self.new.inner self.new.stage }
         ensures over { is_over self.old.stage ≡ true → self.new ≡ record self.old { counts = self.new.counts } }
         ensures talk { InTalk (P.took self.new.inner) (P.gave self.new.inner) (T.asks self.new.talk) (T.heard self.new.talk) self.new.said self.new.stage }
+        ensures follows { FollowsTalk (P.took self.new.inner) (P.gave self.new.inner) (T.asks self.new.talk) (T.heard self.new.talk) self.new.stage }
         ensures judged { IsJudged (T.judges self.new.talk) (T.heard self.new.talk) T.limit self.new.stage }
         ensures asks { T.asks self.new.talk ≡ T.asks self.old.talk }
-        ensures took { behind_talk (is_passed self.new.stage) (T.asks self.new.talk) (P.took self.new.inner) ≡ behind_talk (is_passed self.old.stage) (T.asks self.old.talk) (P.took self.old.inner) }
-        ensures gave { behind_talk (is_passed self.new.stage) (T.heard self.new.talk) (P.gave self.new.inner) ≡ behind_talk (is_passed self.old.stage) (T.heard self.old.talk) (P.gave self.old.inner) }
-        ensures kept { (P.begun self.new.inner ≡ P.begun self.old.inner) × (P.child self.new.inner ≡ P.child self.old.inner) × (self.new.ended ≡ self.old.ended) }
+        ensures took { behind_talk (is_passed self.new.stage) (T.asks self.new.talk) (P.took self.new.inner)
+            ≡ behind_talk (is_passed self.old.stage) (T.asks self.old.talk) (P.took self.old.inner) }
+        ensures gave { behind_talk (is_passed self.new.stage) (T.heard self.new.talk) (P.gave self.new.inner)
+            ≡ behind_talk (is_passed self.old.stage) (T.heard self.old.talk) (P.gave self.old.inner) }
+        ensures kept { (P.begun self.new.inner ≡ P.begun self.old.inner) × (P.child self.new.inner ≡ P.child self.old.inner)
+            × (self.new.ended ≡ self.old.ended) }
         ensures unshut { P.shuts self.new.inner ≡ P.shuts self.old.inner }
         ensures counted { self.new.counts ≡ counted (settle_event result) self.old.counts }
         ensures counts { Tallied (settle_event result) self.old.counts self.new.counts }
@@ -147,16 +160,21 @@ impl<P: Port, T: Talk> Port for TunnelPort<P, T> {
     }
 
     /// Reads what lies behind the reply.
-    #[tactic(auto, using(crate::proofs::Passing::talk_given))]
+    #[tactic(auto, using(crate::proofs::Passing::talk_given, crate::proofs::Passing::talk_follows))]
     fn read(&mut self, into: &mut [u8]) -> Got
         requires { 0 < length into.old }
-        ensures barred { is_passed self.old.stage ≡ false → (result ≡ read_at self.old.stage) × (self.new ≡ record self.old { counts = self.new.counts; ended = false }) }
-        ensures beneath { is_passed self.old.stage ≡ true → Gives (P.gave self.old.inner) (P.gave self.new.inner) into.new result × Tallied (read_event result) (P.counts self.old.inner) (P.counts self.new.inner) }
+        ensures barred { is_passed self.old.stage ≡ false → (result ≡ read_at self.old.stage)
+            × (self.new ≡ record self.old { counts = self.new.counts; ended = false }) }
+        ensures beneath { is_passed self.old.stage ≡ true → Gives (P.gave self.old.inner) (P.gave self.new.inner) into.new result
+            × Tallied (read_event result) (P.counts self.old.inner) (P.counts self.new.inner) }
         ensures talk { InTalk (P.took self.new.inner) (P.gave self.new.inner) (T.asks self.new.talk) (T.heard self.new.talk) self.new.said self.new.stage }
-        ensures gives { Gives (behind_talk (is_passed self.old.stage) (T.heard self.old.talk) (P.gave self.old.inner)) (behind_talk (is_passed self.new.stage) (T.heard self.new.talk) (P.gave self.new.inner)) into.new result }
+        ensures follows { FollowsTalk (P.took self.new.inner) (P.gave self.new.inner) (T.asks self.new.talk) (T.heard self.new.talk) self.new.stage }
+        ensures gives { Gives (behind_talk (is_passed self.old.stage) (T.heard self.old.talk) (P.gave self.old.inner))
+            (behind_talk (is_passed self.new.stage) (T.heard self.new.talk) (P.gave self.new.inner)) into.new result }
         ensures ended { self.new.ended ≡ is_end result }
         ensures kept { self.new ≡ record self.old { inner = self.new.inner; counts = self.new.counts; ended = self.new.ended } }
-        ensures same { (P.took self.new.inner ≡ P.took self.old.inner) × (P.begun self.new.inner ≡ P.begun self.old.inner) × (P.child self.new.inner ≡ P.child self.old.inner) }
+        ensures same { (P.took self.new.inner ≡ P.took self.old.inner) × (P.begun self.new.inner ≡ P.begun self.old.inner)
+            × (P.child self.new.inner ≡ P.child self.old.inner) }
         ensures unshut { P.shuts self.new.inner ≡ P.shuts self.old.inner }
         ensures counted { self.new.counts ≡ counted (read_event result) self.old.counts }
         ensures counts { Tallied (read_event result) self.old.counts self.new.counts }
@@ -174,15 +192,19 @@ impl<P: Port, T: Talk> Port for TunnelPort<P, T> {
     }
 
     /// Writes behind the request.
-    #[tactic(auto, using(crate::proofs::Passing::talk_accepted))]
+    #[tactic(auto, using(crate::proofs::Passing::talk_accepted, crate::proofs::Passing::talk_follows))]
     fn write(&mut self, bytes: &[u8]) -> Took
         requires { 0 < length bytes.now }
         ensures barred { is_passed self.old.stage ≡ false → (result ≡ write_at self.old.stage) × (self.new ≡ record self.old { counts = self.new.counts }) }
-        ensures beneath { is_passed self.old.stage ≡ true → Accepts (P.took self.old.inner) (P.took self.new.inner) bytes.now result × Tallied (write_event result) (P.counts self.old.inner) (P.counts self.new.inner) }
+        ensures beneath { is_passed self.old.stage ≡ true → Accepts (P.took self.old.inner) (P.took self.new.inner) bytes.now result
+            × Tallied (write_event result) (P.counts self.old.inner) (P.counts self.new.inner) }
         ensures talk { InTalk (P.took self.new.inner) (P.gave self.new.inner) (T.asks self.new.talk) (T.heard self.new.talk) self.new.said self.new.stage }
-        ensures accepts { Accepts (behind_talk (is_passed self.old.stage) (T.asks self.old.talk) (P.took self.old.inner)) (behind_talk (is_passed self.new.stage) (T.asks self.new.talk) (P.took self.new.inner)) bytes.now result }
+        ensures follows { FollowsTalk (P.took self.new.inner) (P.gave self.new.inner) (T.asks self.new.talk) (T.heard self.new.talk) self.new.stage }
+        ensures accepts { Accepts (behind_talk (is_passed self.old.stage) (T.asks self.old.talk) (P.took self.old.inner))
+            (behind_talk (is_passed self.new.stage) (T.asks self.new.talk) (P.took self.new.inner)) bytes.now result }
         ensures kept { self.new ≡ record self.old { inner = self.new.inner; counts = self.new.counts } }
-        ensures same { (P.gave self.new.inner ≡ P.gave self.old.inner) × (P.begun self.new.inner ≡ P.begun self.old.inner) × (P.child self.new.inner ≡ P.child self.old.inner) }
+        ensures same { (P.gave self.new.inner ≡ P.gave self.old.inner) × (P.begun self.new.inner ≡ P.begun self.old.inner)
+            × (P.child self.new.inner ≡ P.child self.old.inner) }
         ensures unshut { P.shuts self.new.inner ≡ P.shuts self.old.inner }
         ensures counted { self.new.counts ≡ counted (write_event result) self.old.counts }
         ensures counts { Tallied (write_event result) self.old.counts self.new.counts }
@@ -210,14 +232,18 @@ impl<P: Port, T: Talk> Port for TunnelPort<P, T> {
     }
 
     /// Writes all bytes behind the request. It fails before the request is granted.
-    #[tactic(auto, using(crate::proofs::Passing::talk_accepted_all))]
+    #[tactic(auto, using(crate::proofs::Passing::talk_accepted_all, crate::proofs::Passing::talk_follows))]
     fn put_all(&mut self, bytes: &[u8]) -> Took
         ensures barred { is_passed self.old.stage ≡ false → (result ≡ writes.Failed) × (self.new ≡ record self.old { counts = self.new.counts }) }
-        ensures beneath { is_passed self.old.stage ≡ true → AcceptsAll (P.took self.old.inner) (P.took self.new.inner) bytes.now result × Tallied (write_event result) (P.counts self.old.inner) (P.counts self.new.inner) }
+        ensures beneath { is_passed self.old.stage ≡ true → AcceptsAll (P.took self.old.inner) (P.took self.new.inner) bytes.now result
+            × Tallied (write_event result) (P.counts self.old.inner) (P.counts self.new.inner) }
         ensures talk { InTalk (P.took self.new.inner) (P.gave self.new.inner) (T.asks self.new.talk) (T.heard self.new.talk) self.new.said self.new.stage }
-        ensures accepts { AcceptsAll (behind_talk (is_passed self.old.stage) (T.asks self.old.talk) (P.took self.old.inner)) (behind_talk (is_passed self.new.stage) (T.asks self.new.talk) (P.took self.new.inner)) bytes.now result }
+        ensures follows { FollowsTalk (P.took self.new.inner) (P.gave self.new.inner) (T.asks self.new.talk) (T.heard self.new.talk) self.new.stage }
+        ensures accepts { AcceptsAll (behind_talk (is_passed self.old.stage) (T.asks self.old.talk) (P.took self.old.inner))
+            (behind_talk (is_passed self.new.stage) (T.asks self.new.talk) (P.took self.new.inner)) bytes.now result }
         ensures kept { self.new ≡ record self.old { inner = self.new.inner; counts = self.new.counts } }
-        ensures same { (P.gave self.new.inner ≡ P.gave self.old.inner) × (P.begun self.new.inner ≡ P.begun self.old.inner) × (P.child self.new.inner ≡ P.child self.old.inner) }
+        ensures same { (P.gave self.new.inner ≡ P.gave self.old.inner) × (P.begun self.new.inner ≡ P.begun self.old.inner)
+            × (P.child self.new.inner ≡ P.child self.old.inner) }
         ensures unshut { P.shuts self.new.inner ≡ P.shuts self.old.inner }
         ensures counted { self.new.counts ≡ counted (write_event result) self.old.counts }
         ensures counts { Tallied (write_event result) self.old.counts self.new.counts }
@@ -235,10 +261,12 @@ impl<P: Port, T: Talk> Port for TunnelPort<P, T> {
     /// Shuts the port beneath.
     #[tactic(auto, using(crate::proofs::Passing::talk_kept))]
     fn shut(&mut self, how: Shut) -> Shutting
+        ensures asked { P.answers_shut self.old.inner self.new.inner how result }
         ensures beneath { Tallied (shut_event result) (P.counts self.old.inner) (P.counts self.new.inner) }
         ensures told { P.shuts self.new.inner ≡ noted how (P.shuts self.old.inner) }
         ensures kept { self.new ≡ record self.old { inner = self.new.inner; counts = self.new.counts } }
-        ensures same { (P.gave self.new.inner ≡ P.gave self.old.inner) × (P.took self.new.inner ≡ P.took self.old.inner) × (P.begun self.new.inner ≡ P.begun self.old.inner) × (P.child self.new.inner ≡ P.child self.old.inner) }
+        ensures same { (P.gave self.new.inner ≡ P.gave self.old.inner) × (P.took self.new.inner ≡ P.took self.old.inner)
+            × (P.begun self.new.inner ≡ P.begun self.old.inner) × (P.child self.new.inner ≡ P.child self.old.inner) }
         ensures counted { self.new.counts ≡ counted (shut_event result) self.old.counts }
         ensures counts { Tallied (shut_event result) self.old.counts self.new.counts }
     {
@@ -254,7 +282,10 @@ impl<P: Port, T: Talk> Port for TunnelPort<P, T> {
         ensures within { IsWithin (P.hinting self.old.inner) result }
         ensures hinting { P.hinting self.new.inner ≡ P.hinting self.old.inner }
         ensures kept { self.new ≡ record self.old { inner = self.new.inner } }
-        ensures same { (P.gave self.new.inner ≡ P.gave self.old.inner) × (P.took self.new.inner ≡ P.took self.old.inner) × (P.hints self.new.inner ≡ P.hints self.old.inner) × (P.counts self.new.inner ≡ P.counts self.old.inner) × (P.begun self.new.inner ≡ P.begun self.old.inner) × (P.joins self.new.inner ≡ P.joins self.old.inner) × (P.child self.new.inner ≡ P.child self.old.inner) }
+        ensures same { (P.gave self.new.inner ≡ P.gave self.old.inner) × (P.took self.new.inner ≡ P.took self.old.inner)
+            × (P.hints self.new.inner ≡ P.hints self.old.inner) × (P.counts self.new.inner ≡ P.counts self.old.inner)
+            × (P.begun self.new.inner ≡ P.begun self.old.inner) × (P.joins self.new.inner ≡ P.joins self.old.inner)
+            × (P.child self.new.inner ≡ P.child self.old.inner) }
         ensures unshut { P.shuts self.new.inner ≡ P.shuts self.old.inner }
     {
         self.inner.hint()
@@ -278,7 +309,8 @@ impl<P: Port, T: Talk> Port for TunnelPort<P, T> {
     fn reap(&mut self) -> PortReap
         ensures reaped { ReapsChild (P.child self.old.inner) result }
         ensures kept { self.new ≡ record self.old { inner = self.new.inner } }
-        ensures same { (P.gave self.new.inner ≡ P.gave self.old.inner) × (P.took self.new.inner ≡ P.took self.old.inner) × (P.begun self.new.inner ≡ P.begun self.old.inner) × (P.child self.new.inner ≡ P.child self.old.inner) }
+        ensures same { (P.gave self.new.inner ≡ P.gave self.old.inner) × (P.took self.new.inner ≡ P.took self.old.inner)
+            × (P.begun self.new.inner ≡ P.begun self.old.inner) × (P.child self.new.inner ≡ P.child self.old.inner) }
         ensures unshut { P.shuts self.new.inner ≡ P.shuts self.old.inner }
     {
         self.inner.reap()
@@ -289,7 +321,9 @@ impl<P: Port, T: Talk> Port for TunnelPort<P, T> {
     fn join(&mut self) -> Joining
         ensures joined { result ≡ join_answer (P.joins self.old.inner) }
         ensures kept { self.new ≡ record self.old { inner = self.new.inner } }
-        ensures same { (P.gave self.new.inner ≡ P.gave self.old.inner) × (P.took self.new.inner ≡ P.took self.old.inner) × (P.begun self.new.inner ≡ P.begun self.old.inner) × (P.joins self.new.inner ≡ P.joins self.old.inner) × (P.child self.new.inner ≡ P.child self.old.inner) }
+        ensures same { (P.gave self.new.inner ≡ P.gave self.old.inner) × (P.took self.new.inner ≡ P.took self.old.inner)
+            × (P.begun self.new.inner ≡ P.begun self.old.inner) × (P.joins self.new.inner ≡ P.joins self.old.inner)
+            × (P.child self.new.inner ≡ P.child self.old.inner) }
         ensures unshut { P.shuts self.new.inner ≡ P.shuts self.old.inner }
     {
         self.inner.join()

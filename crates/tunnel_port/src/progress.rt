@@ -1,9 +1,9 @@
 // How a talk goes on over the port beneath, as far as that lets it.
-ghost use Rattle.std.specs.Prelude.{◌≡◌, ◌<◌, ◌≤◌, ◌+◌, true, false, length, take, None, IfSome};
+ghost use Rattle.std.specs.Prelude.{◌≡◌, ◌≢◌, ◌<◌, ◌≤◌, ◌+◌, true, false, length, take, None, IfSome};
 ghost use Rattle.port_trait.specs.Counting.{Grew};
 ghost use Rattle.port_trait.specs.declared.answers.Settled.TheVariants as settles;
 ghost use Rattle.tunnel_port.specs.declared.stage.Stage.TheVariants as stages;
-ghost use Rattle.tunnel_port.specs.Talks.{is_passed, is_over, IsOnly, behind_talk, InTalk, IsJudged, HasCause, IsCutByEnd, StillHears, Paused, nothing_of};
+ghost use Rattle.tunnel_port.specs.Talks.{is_passed, is_over, IsOnly, behind_talk, InTalk, IsJudged, HasCause, IsCutByEnd, NonePassedOver, AsksBeneath, StillHears, Paused, nothing_of};
 
 use crate::stage::Stage;
 use crate::talk::{Heard, Talk};
@@ -20,8 +20,10 @@ fn ask<P: Port>(inner: &mut P, request: &[u8], said: usize) -> (usize, Settled)
     ensures cause { Paused result.1 (P.counts inner.old) (P.counts inner.new) }
     ensures grew { Grew (P.counts inner.old) (P.counts inner.new) }
     ensures unsaid { nothing_of (P.took inner.new) ≡ nothing_of (P.took inner.old) }
-    ensures kept { (P.gave inner.new ≡ P.gave inner.old) × (P.ended inner.new ≡ P.ended inner.old) × (P.begun inner.new ≡ P.begun inner.old) × (P.child inner.new ≡ P.child inner.old) }
+    ensures kept { (P.gave inner.new ≡ P.gave inner.old) × (P.ended inner.new ≡ P.ended inner.old)
+        × (P.begun inner.new ≡ P.begun inner.old) × (P.child inner.new ≡ P.child inner.old) }
     ensures unshut { P.shuts inner.new ≡ P.shuts inner.old }
+    ensures unemptied { P.empty_packets inner.new ≡ P.empty_packets inner.old }
 {
     let mut count = said;
     while count < request.len() {
@@ -39,12 +41,15 @@ fn ask<P: Port>(inner: &mut P, request: &[u8], said: usize) -> (usize, Settled)
 fn hear_byte<P: Port, T: Talk>(inner: &mut P, talk: &mut T) -> Option<Stage>
     requires hears { StillHears (T.judges talk.old) (T.heard talk.old) T.limit }
     requires heard { IsOnly (T.heard talk.old) (P.gave inner.old) }
-    ensures more { result ≡ None → StillHears (T.judges talk.new) (T.heard talk.new) T.limit × IsOnly (T.heard talk.new) (P.gave inner.new) × (length (T.heard talk.new) ≡ length (T.heard talk.old) + 1) }
+    ensures more { result ≡ None → StillHears (T.judges talk.new) (T.heard talk.new) T.limit
+        × IsOnly (T.heard talk.new) (P.gave inner.new) × (length (T.heard talk.new) ≡ length (T.heard talk.old) + 1) }
     ensures judged { IfSome result (λ stage. IsJudged (T.judges talk.new) (T.heard talk.new) T.limit stage) }
     ensures heard { IfSome result (λ stage. IsOnly (T.heard talk.new) (P.gave inner.new)) }
     ensures cause { IfSome result (λ stage. HasCause stage (P.counts inner.old) (P.counts inner.new)) }
     ensures cut { IfSome result (λ stage. IsCutByEnd stage (P.ended inner.old) (P.ended inner.new) (P.counts inner.old) (P.counts inner.new)) }
-    ensures unended { result ≡ None → P.ended inner.new ≡ false }
+    ensures packets { IfSome result (λ stage. NonePassedOver stage (P.empty_packets inner.old) (P.empty_packets inner.new)) }
+    ensures joined { IfSome result (λ stage. stage ≢ stages.Joining) }
+    ensures unended { result ≡ None → (P.ended inner.new ≡ false) × (P.empty_packets inner.new ≡ P.empty_packets inner.old) }
     ensures grew { Grew (P.counts inner.old) (P.counts inner.new) }
     ensures unheard { nothing_of (P.gave inner.new) ≡ nothing_of (P.gave inner.old) }
     ensures asks { T.asks talk.new ≡ T.asks talk.old }
@@ -72,6 +77,8 @@ fn listen<P: Port, T: Talk>(inner: &mut P, talk: &mut T) -> Stage
     ensures heard { IsOnly (T.heard talk.new) (P.gave inner.new) }
     ensures cause { HasCause result (P.counts inner.old) (P.counts inner.new) }
     ensures cut { IsCutByEnd result (P.ended inner.old) (P.ended inner.new) (P.counts inner.old) (P.counts inner.new) }
+    ensures packets { NonePassedOver result (P.empty_packets inner.old) (P.empty_packets inner.new) }
+    ensures joined { result ≢ stages.Joining }
     ensures unheard { nothing_of (P.gave inner.new) ≡ nothing_of (P.gave inner.old) }
     ensures asks { T.asks talk.new ≡ T.asks talk.old }
     ensures kept { (P.took inner.new ≡ P.took inner.old) × (P.begun inner.new ≡ P.begun inner.old) × (P.child inner.new ≡ P.child inner.old) }
@@ -93,6 +100,8 @@ fn talk_on<P: Port, T: Talk>(inner: &mut P, talk: &mut T, said: &mut usize) -> S
     ensures judged { IsJudged (T.judges talk.new) (T.heard talk.new) T.limit result }
     ensures cause { HasCause result (P.counts inner.old) (P.counts inner.new) }
     ensures cut { IsCutByEnd result (P.ended inner.old) (P.ended inner.new) (P.counts inner.old) (P.counts inner.new) }
+    ensures packets { NonePassedOver result (P.empty_packets inner.old) (P.empty_packets inner.new) }
+    ensures joined { result ≢ stages.Joining }
     ensures unsaid { behind_talk (is_passed result) (T.asks talk.new) (P.took inner.new) ≡ nothing_of (P.took inner.old) }
     ensures unheard { behind_talk (is_passed result) (T.heard talk.new) (P.gave inner.new) ≡ nothing_of (P.gave inner.old) }
     ensures asks { T.asks talk.new ≡ T.asks talk.old }
@@ -122,9 +131,12 @@ pub(crate) fn go_on<P: Port, T: Talk>(
     ensures judged { IsJudged (T.judges talk.new) (T.heard talk.new) T.limit result }
     ensures cause { is_over stage ≡ false → HasCause result (P.counts inner.old) (P.counts inner.new) }
     ensures cut { is_over stage ≡ false → IsCutByEnd result (P.ended inner.old) (P.ended inner.new) (P.counts inner.old) (P.counts inner.new) }
+    ensures packets { NonePassedOver result (P.empty_packets inner.old) (P.empty_packets inner.new) }
+    ensures beneath { AsksBeneath P.answers_settle stage inner.old inner.new result }
     ensures over { is_over stage ≡ true → (result ≡ stage) × (inner.new ≡ inner.old) × (talk.new ≡ talk.old) × (said.new ≡ said.old) }
     ensures unsaid { behind_talk (is_passed result) (T.asks talk.new) (P.took inner.new) ≡ behind_talk (is_passed stage) (T.asks talk.old) (P.took inner.old) }
-    ensures unheard { behind_talk (is_passed result) (T.heard talk.new) (P.gave inner.new) ≡ behind_talk (is_passed stage) (T.heard talk.old) (P.gave inner.old) }
+    ensures unheard { behind_talk (is_passed result) (T.heard talk.new) (P.gave inner.new)
+        ≡ behind_talk (is_passed stage) (T.heard talk.old) (P.gave inner.old) }
     ensures asks { T.asks talk.new ≡ T.asks talk.old }
     ensures kept { (P.begun inner.new ≡ P.begun inner.old) × (P.child inner.new ≡ P.child inner.old) }
     ensures unshut { P.shuts inner.new ≡ P.shuts inner.old }

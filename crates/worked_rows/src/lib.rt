@@ -2,18 +2,24 @@
 #![tactic(auto)]
 
 mod checks;
+mod desk_rows;
 mod faults;
 mod files;
 mod lines;
 mod outcomes;
 mod rows;
 mod runs;
+mod scripts;
+mod seen;
 mod spelling;
 mod told;
 mod wants;
 
+pub use desk_rows::{ROOM, Run, Streams, carried_out};
 pub use faults::RowFault;
 pub use files::check_files;
 pub use rows::{Line, Row};
 pub use runs::{Parted, Ran, part};
+pub use scripts::{port_of, source_of};
+pub use seen::{Look, taken_line};
 pub use spelling::{act_of, place_of, push_digits, unquoted};

@@ -12,6 +12,7 @@ use Rattle.relay_model.specs.History.{reaped_since}
 use Rattle.relay_model.specs.Readiness.{Listed, copied_list}
 use Rattle.relay_model.specs.Journals.{History, Asking}
 use Rattle.world_trait.specs.Recordings.{with_act, with_asking}
+use Rattle.world_trait.specs.Seen.{Seen, Waitless}
 use Rattle.world_trait.specs.declared.answers.Turned.{Turned}
 use Rattle.world_trait.specs.declared.answers.Turned.TheVariants as turns
 use Rattle.world_trait.specs.declared.answers.OpenAnswer.{OpenAnswer}
@@ -104,29 +105,29 @@ reap_act place reaps.NoChild = None
 reap_act place reaps.Memory = None
 
 -- the act is told, where the world tells its acts, and changes how its place stands
-pub record Did (told_old told_new : Option History) (held_old held_new : Place → Hold) (act : Act) : Type 0 where
-  pub told : told_new ≡ option_map (with_act act) told_old
-  pub held : (p : Place) → held_new p ≡ hold_after act p (held_old p)
+pub record Did (old new : Seen) (act : Act) : Type 0 where
+  pub told : new.told ≡ option_map (with_act act) old.told
+  pub held : (p : Place) → new.held p ≡ hold_after act p (old.held p)
 
 -- the same, and what was asked is told too
-pub record DidAsking (asking : Asking) (told_old told_new : Option History) (held_old held_new : Place → Hold) (act : Act) : Type 0 where
-  pub told : told_new ≡ option_map (with_asking act asking) told_old
-  pub held : (p : Place) → held_new p ≡ hold_after act p (held_old p)
+pub record DidAsking (asking : Asking) (old new : Seen) (act : Act) : Type 0 where
+  pub told : new.told ≡ option_map (with_asking act asking) old.told
+  pub held : (p : Place) → new.held p ≡ hold_after act p (old.held p)
 
 -- the world tells and holds what it did before
-pub record DidNothing (told_old told_new : Option History) (held_old held_new : Place → Hold) : Type 0 where
-  pub told : told_new ≡ told_old
-  pub held : (p : Place) → held_new p ≡ held_old p
+pub record DidNothing (old new : Seen) : Type 0 where
+  pub told : new.told ≡ old.told
+  pub held : (p : Place) → new.held p ≡ old.held p
 
 -- what a call did, by the act of its answer
-abbrev pub Answered : Option History → Option History → (Place → Hold) → (Place → Hold) → Option Act → Type 0
-Answered told told' held held' (Some act) = Did told told' held held' act
-Answered told told' held held' None = DidNothing told told' held held'
+abbrev pub Answered : Seen → Seen → Option Act → Type 0
+Answered old new (Some act) = Did old new act
+Answered old new None = DidNothing old new
 
 -- the same of a call that asks for something to be opened
-abbrev pub AnsweredAsking : Asking → Option History → Option History → (Place → Hold) → (Place → Hold) → Option Act → Type 0
-AnsweredAsking asking told told' held held' (Some act) = DidAsking asking told told' held held' act
-AnsweredAsking asking told told' held held' None = DidNothing told told' held held'
+abbrev pub AnsweredAsking : Asking → Seen → Seen → Option Act → Type 0
+AnsweredAsking asking old new (Some act) = DidAsking asking old new act
+AnsweredAsking asking old new None = DidNothing old new
 
 -- a count never falls, and rises where something failed; it stays at its last value
 pub record Rose (before now : ℕ) (failed : Bool) : Type 0 where
@@ -226,22 +227,16 @@ NotReaped None place = ⊤
 NotReaped (Some history) place = reaped_since history.acts place ≡ false
 
 -- a turn is counted, its moment is the clock's, and a stop comes only where the count of stops rose
-pub record TurnCounts (waits waits' stops stops' clock clock' at : ℕ) (stop : Bool) : Type 0 where
-  pub waits_is : waits' ≡ min (waits + 1) (2 ^ 64 - 1)
-  pub stops_is : Rose stops stops' stop
-  pub clock_is : clock' ≡ at
-  pub later : clock ≤ at
-
--- a call that is no wait leaves the count of waits and the clock
-pub record NoTurnCounts (waits waits' stops stops' clock clock' : ℕ) : Type 0 where
-  pub waits_is : waits' ≡ waits
-  pub stops_is : stops ≤ stops'
-  pub clock_is : clock' ≡ clock
+pub record TurnCounts (old new : Seen) (at : ℕ) (stop : Bool) : Type 0 where
+  pub waits_is : new.waits ≡ min (old.waits + 1) (2 ^ 64 - 1)
+  pub stops_is : Rose old.stops new.stops stop
+  pub clock_is : new.clock ≡ at
+  pub later : old.clock ≤ at
 
 -- how a wait changes the counts and the clock
-abbrev pub WaitCounts : ℕ → ℕ → ℕ → ℕ → ℕ → ℕ → Turned → Type 0
-WaitCounts waits waits' stops stops' clock clock' (turns.Turned at stop) = TurnCounts waits waits' stops stops' clock clock' at stop
-WaitCounts waits waits' stops stops' clock clock' turns.Memory = NoTurnCounts waits waits' stops stops' clock clock'
+abbrev pub WaitCounts : Seen → Seen → Turned → Type 0
+WaitCounts old new (turns.Turned at stop) = TurnCounts old new at stop
+WaitCounts old new turns.Memory = Waitless old new
 
 -- each of these entries names a place or door that is held
 abbrev pub NamesHeld : (Place → Hold) → List ReadyAt → Type 0

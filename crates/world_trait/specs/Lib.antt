@@ -1,4 +1,4 @@
 pub mod Answers
 pub mod HoldTables
 pub mod Recordings
-pub mod Runs
+pub mod Seen

@@ -1,6 +1,6 @@
 use Rattle.std.proofs.Common.{sym, subst, ◌||◌, ◌∙◌, ap, cond}
 use Rattle.relay_model.specs.Places.{same_place}
-use Rattle.fact_tables.specs.Tables.{placed}
+use Rattle.history_facts.specs.Tables.{placed}
 use Rattle.history_facts.specs.Told.{AskedBefore}
 use Rattle.history_facts.proofs.Asked.{asked_more}
 use Rattle.history_facts.proofs.armings.ask.Goals as goal

@@ -1,7 +1,7 @@
 use Rattle.std.proofs.Common.{sym, subst, ap, ◌∙◌, ◌&&◌, not, cond, suc}
 use Rattle.relay_model.specs.Places.{same_place}
 use Rattle.relay_model.specs.Configs.{input, output}
-use Rattle.fact_tables.specs.Tables.{placed}
+use Rattle.history_facts.specs.Tables.{placed}
 use Rattle.history_facts.specs.Told.{AskedBefore}
 use Rattle.history_facts.proofs.Asked.{asked_less, forgets}
 use Rattle.history_facts.proofs.armings.forget_output.Goals as goal

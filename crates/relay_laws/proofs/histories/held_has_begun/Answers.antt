@@ -1,5 +1,5 @@
 -- By induction on the list.
-use Rattle.legal_steps.proofs.Begun.{begun}
+use Rattle.history_lemmas.proofs.Begun.{begun}
 use Rattle.relay_laws.proofs.histories.held_has_begun.Goals as goal
 
 pub returns : goal.returns

@@ -3,11 +3,11 @@ use Rattle.std.specs.Prelude.{Option}
 use Rattle.port_trait.specs.declared.spawning.Task.{Task}
 use Rattle.port_trait.specs.declared.spawning.Task.TheVariants as tasks
 use Rattle.port_trait.specs.Tasks.{TaskKeeps}
-use Rattle.ring_items.specs.declared.lines.Lines.{Lines}
-use Rattle.ring_items.specs.declared.words.Word.{Word}
-use Rattle.ring_items.specs.declared.ending.Ending.{Ending}
+use Rattle.ring_queue.specs.declared.lines.Lines.{Lines}
+use Rattle.ring_queue.specs.declared.words.Word.{Word}
+use Rattle.ring_queue.specs.declared.ending.Ending.{Ending}
 use Rattle.ring_reader.specs.declared.reader_thread.Fed.{Fed}
-use Rattle.ring_items.specs.Endings.{OnDone}
+use Rattle.ring_queue.specs.Endings.{OnDone}
 use Rattle.ring_reader.specs.declared.reader_start.FeedPromise.{FeedPromise}
 use Rattle.ring_reader.specs.Starting.{FedBy, WillFeed}
 use Rattle.ring_reader.proofs.reader_start.launch.Goals as goal

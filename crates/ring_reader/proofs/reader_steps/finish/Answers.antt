@@ -1,9 +1,9 @@
 use Rattle.std.proofs.Common.{◌++◌, ap, sym, ◌∙◌}
 use Rattle.crossbeam_queue.specs.Passes.{view}
-use Rattle.ordered_queue.specs.declared.roles.View.{View}
-use Rattle.ring_items.specs.declared.items.RingItem.{RingItem}
-use Rattle.ring_items.specs.declared.words.Word.{Word}
-use Rattle.ring_items.specs.Items.{is_end_mark, last_is}
+use Rattle.ring_queue.specs.declared.roles.View.{View}
+use Rattle.ring_queue.specs.declared.items.RingItem.{RingItem}
+use Rattle.ring_queue.specs.declared.words.Word.{Word}
+use Rattle.ring_queue.specs.Items.{is_end_mark, last_is}
 use Rattle.ring_reader.proofs.Readings.{all_taken, feeds_of}
 use Rattle.ring_reader.proofs.reader_steps.finish.Goals as goal
 

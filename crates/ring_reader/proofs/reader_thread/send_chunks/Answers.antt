@@ -1,8 +1,8 @@
 use Rattle.std.proofs.Common.{rules, take, length, length-drop, ap, ◌∙◌, arith}
 use Rattle.crossbeam_queue.specs.Passes.{view}
-use Rattle.ordered_queue.specs.declared.roles.View.{View}
-use Rattle.ring_items.specs.declared.items.RingItem.{RingItem}
-use Rattle.ring_items.proofs.ItemLists.{chunk_more}
+use Rattle.ring_queue.specs.declared.roles.View.{View}
+use Rattle.ring_queue.specs.declared.items.RingItem.{RingItem}
+use Rattle.ring_queue.proofs.ItemLists.{chunk_more}
 use Rattle.ring_reader.proofs.reader_thread.send_chunks.Goals as goal
 
 pub loop-at-preserved : goal.loop-at-preserved

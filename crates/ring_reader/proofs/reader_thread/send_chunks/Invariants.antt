@@ -1,7 +1,7 @@
 use Rattle.std.proofs.Common.{◌≡◌, ◌-◌, ◌≤◌, length, take}
 use Rattle.crossbeam_queue.specs.Passes.{view, IsSamePass}
-use Rattle.ordered_queue.specs.Order.{view_of}
-use Rattle.ring_items.specs.Items.{AddsChunks}
+use Rattle.ring_queue.specs.Order.{view_of}
+use Rattle.ring_queue.specs.Items.{AddsChunks}
 use Rattle.ring_reader.proofs.reader_thread.send_chunks.Given as goal
 
 abbrev pub invariant-loop-at : goal.invariant-loop-at

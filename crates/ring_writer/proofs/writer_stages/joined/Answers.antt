@@ -1,9 +1,9 @@
 use Rattle.std.proofs.Common.{◌≡◌, ap, ◌∙◌, sym, if◌then◌else◌}
 use Rattle.crossbeam_queue.specs.Passes.{view}
-use Rattle.ordered_queue.specs.declared.roles.View.{View}
-use Rattle.ring_items.specs.declared.items.RingItem.{RingItem}
-use Rattle.ring_items.specs.declared.words.SinkFault.{SinkFault}
-use Rattle.ring_items.specs.Items.{is_end_mark, last_is}
+use Rattle.ring_queue.specs.declared.roles.View.{View}
+use Rattle.ring_queue.specs.declared.items.RingItem.{RingItem}
+use Rattle.ring_queue.specs.declared.words.SinkFault.{SinkFault}
+use Rattle.ring_queue.specs.Items.{is_end_mark, last_is}
 use Rattle.ring_writer.proofs.BackLemmas.{all_taken, hears_less}
 use Rattle.ring_writer.proofs.writer_stages.joined.Goals as goal
 

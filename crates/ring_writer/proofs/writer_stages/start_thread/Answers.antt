@@ -3,11 +3,11 @@ use Rattle.std.specs.Prelude.{Option}
 use Rattle.port_trait.specs.declared.spawning.Task.{Task}
 use Rattle.port_trait.specs.declared.spawning.Task.TheVariants as tasks
 use Rattle.port_trait.specs.Tasks.{TaskKeeps}
-use Rattle.ring_items.specs.declared.lines.Lines.{Lines}
-use Rattle.ring_items.specs.declared.words.SinkFault.{SinkFault}
-use Rattle.ring_items.specs.declared.ending.Ending.{Ending}
+use Rattle.ring_queue.specs.declared.lines.Lines.{Lines}
+use Rattle.ring_queue.specs.declared.words.SinkFault.{SinkFault}
+use Rattle.ring_queue.specs.declared.ending.Ending.{Ending}
 use Rattle.ring_writer.specs.declared.writer_thread.WriterDone.{WriterDone}
-use Rattle.ring_items.specs.Endings.{OnDone}
+use Rattle.ring_queue.specs.Endings.{OnDone}
 use Rattle.ring_writer.specs.declared.writer_thread.WriterPromise.{WriterPromise}
 use Rattle.ring_writer.specs.WriterThread.{ThreadEnded}
 use Rattle.ring_writer.specs.WriterRing.{TaskStands}

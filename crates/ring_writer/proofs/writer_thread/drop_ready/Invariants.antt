@@ -1,6 +1,6 @@
 use Rattle.std.proofs.Common.{◌≡◌, ℕ, ◌*◌, ◌≤◌, List, true, ◌++◌, length}
 use Rattle.crossbeam_queue.specs.Passes.{view, IsPassOf}
-use Rattle.ring_items.specs.Items.{bytes_of}
+use Rattle.ring_queue.specs.Items.{bytes_of}
 use Rattle.ring_writer.proofs.writer_thread.drop_ready.Given as goal
 
 abbrev pub invariant-loop-i : goal.invariant-loop-i

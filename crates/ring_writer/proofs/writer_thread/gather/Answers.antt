@@ -1,8 +1,8 @@
 use Rattle.std.proofs.Common.{ap}
 use Rattle.crossbeam_queue.specs.Passes.{view}
-use Rattle.ordered_queue.specs.declared.roles.View.{View}
-use Rattle.ring_items.specs.declared.items.RingItem.{RingItem}
-use Rattle.ring_items.specs.Items.{bytes_of, is_end_mark}
+use Rattle.ring_queue.specs.declared.roles.View.{View}
+use Rattle.ring_queue.specs.declared.items.RingItem.{RingItem}
+use Rattle.ring_queue.specs.Items.{bytes_of, is_end_mark}
 use Rattle.ring_writer.proofs.Taking.{gathers_first, last_taken}
 use Rattle.ring_writer.proofs.writer_thread.gather.Goals as goal
 

@@ -1,6 +1,6 @@
 use Rattle.std.proofs.Common.{◌≡◌, ℕ, List, true, ◌++◌, ◌*◌, ◌≤◌, vec_len, vec_capacity}
 use Rattle.crossbeam_queue.specs.Passes.{view, IsPassOf}
-use Rattle.ring_items.specs.Items.{bytes_of}
+use Rattle.ring_queue.specs.Items.{bytes_of}
 use Rattle.ring_writer.proofs.writer_thread.gather_ready.Given as goal
 
 abbrev pub invariant-loop-i : goal.invariant-loop-i

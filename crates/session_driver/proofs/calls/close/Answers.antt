@@ -21,7 +21,7 @@ returns-clause-step g c = (
     no_turn = record { turns_same = λ past. refl; stops_same = λ past. refl };
     rose = record { later = c.close.ensures.faults; rose = λ e. absurd (false≢true e) };
     blameless = λ e past. refl;
-    waitless = record { waits = c.close.ensures.waits; stops = c.close.ensures.stops; clock = c.close.ensures.clock };
+    waitless = c.close.ensures.waitless;
     over = λ n past s st e. c.heard.ensures.over c.args.config.now n past s st e;
     ending = λ n past s st e. c.heard.ensures.ending c.args.config.now n past s st e;
   },

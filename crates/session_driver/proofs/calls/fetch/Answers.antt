@@ -21,7 +21,7 @@ returns-in-Bytes-clause-step g c = (
     no_turn = record { turns_same = λ past. refl; stops_same = λ past. refl };
     rose = c.in-Bytes.ensures.cause;
     blameless = λ e past. refl;
-    waitless = record { waits = c.in-Bytes.ensures.waits; stops = c.in-Bytes.ensures.stops; clock = c.in-Bytes.ensures.clock };
+    waitless = c.in-Bytes.ensures.waitless;
     over = λ n past s st e. c.heard.ensures.over c.args.config.now n past s st e;
     ending = λ n past s st e. c.heard.ensures.ending c.args.config.now n past s st e;
   },
@@ -44,7 +44,7 @@ returns-in-Empty-clause-step g c = (
     no_turn = record { turns_same = λ past. refl; stops_same = λ past. refl };
     rose = c.in-Empty.ensures.cause;
     blameless = λ e past. refl;
-    waitless = record { waits = c.in-Empty.ensures.waits; stops = c.in-Empty.ensures.stops; clock = c.in-Empty.ensures.clock };
+    waitless = c.in-Empty.ensures.waitless;
     over = λ n past s st e. c.heard-in-Empty.ensures.over c.args.config.now n past s st e;
     ending = λ n past s st e. c.heard-in-Empty.ensures.ending c.args.config.now n past s st e;
   },
@@ -67,7 +67,7 @@ returns-in-End-clause-step g c = (
     no_turn = record { turns_same = λ past. refl; stops_same = λ past. refl };
     rose = c.in-End.ensures.cause;
     blameless = λ e past. refl;
-    waitless = record { waits = c.in-End.ensures.waits; stops = c.in-End.ensures.stops; clock = c.in-End.ensures.clock };
+    waitless = c.in-End.ensures.waitless;
     over = λ n past s st e. c.heard-in-End.ensures.over c.args.config.now n past s st e;
     ending = λ n past s st e. c.heard-in-End.ensures.ending c.args.config.now n past s st e;
   },
@@ -90,7 +90,7 @@ returns-in-NotYet-clause-step g c = (
     no_turn = record { turns_same = λ past. refl; stops_same = λ past. refl };
     rose = c.in-NotYet.ensures.cause;
     blameless = λ e past. refl;
-    waitless = record { waits = c.in-NotYet.ensures.waits; stops = c.in-NotYet.ensures.stops; clock = c.in-NotYet.ensures.clock };
+    waitless = c.in-NotYet.ensures.waitless;
     over = λ n past s st e. c.heard-in-NotYet.ensures.over c.args.config.now n past s st e;
     ending = λ n past s st e. c.heard-in-NotYet.ensures.ending c.args.config.now n past s st e;
   },
@@ -111,7 +111,7 @@ returns-in-Failed-clause-step g c = (
     no_turn = record { turns_same = λ past. refl; stops_same = λ past. refl };
     rose = c.in-Failed.ensures.cause;
     blameless = λ e past. absurd (true≢false e);
-    waitless = record { waits = c.in-Failed.ensures.waits; stops = c.in-Failed.ensures.stops; clock = c.in-Failed.ensures.clock };
+    waitless = c.in-Failed.ensures.waitless;
     over = λ n past s st e. c.heard-in-Failed.ensures.over c.args.config.now n past s st e;
     ending = λ n past s st e. c.heard-in-Failed.ensures.ending c.args.config.now n past s st e;
   },
@@ -124,7 +124,7 @@ returns-in-Memory-clause-step g c = rw c.want.ensures.memory (
     stands = λ n past s st. c.want.ensures.cut.stands c.args.config.now n past s st c.requires.going;
     ending = λ n past s st e. absurd (true≢false (sym e ∙ c.requires.going));
     rose = c.in-Memory.ensures.cause;
-    waitless = record { waits = c.in-Memory.ensures.waits; stops = c.in-Memory.ensures.stops; clock = c.in-Memory.ensures.clock };
+    waitless = c.in-Memory.ensures.waitless;
   },
   c.requires.going,
   c.want.ensures.cut.over,

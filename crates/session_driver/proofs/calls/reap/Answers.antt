@@ -21,7 +21,7 @@ returns-in-Reaped g c = (
     no_turn = record { turns_same = λ past. refl; stops_same = λ past. refl };
     rose = record { later = c.in-Reaped.ensures.faults; rose = λ e. absurd (false≢true e) };
     blameless = λ e past. refl;
-    waitless = record { waits = c.in-Reaped.ensures.waits; stops = c.in-Reaped.ensures.stops; clock = c.in-Reaped.ensures.clock };
+    waitless = c.in-Reaped.ensures.waitless;
     over = λ n past s st e. c.heard.ensures.over c.args.config.now n past s st e;
     ending = λ n past s st e. c.heard.ensures.ending c.args.config.now n past s st e;
   },
@@ -30,11 +30,11 @@ returns-in-Reaped g c = (
 pub returns-in-NoChild : goal.returns-in-NoChild
 returns-in-NoChild g c = (
   record {
-    did = unreaped c.args.place c.reap.result _ _ _ _ c.in-NoChild.is c.reap.ensures.act;
+    did = unreaped c.args.place c.reap.result _ _ c.in-NoChild.is c.reap.ensures.act;
     stands = λ n past s st. (c.heard-in-NoChild.ensures.childless c.args.config.now n past s st refl).0;
     ending = λ n past s st e. c.heard-in-NoChild.ensures.ending c.args.config.now n past s st e;
     rose = record { later = c.reap.ensures.faults; rose = λ e. absurd (false≢true e) };
-    waitless = record { waits = c.reap.ensures.waits; stops = c.reap.ensures.stops; clock = c.reap.ensures.clock };
+    waitless = c.reap.ensures.waitless;
   },
   λ n past s st. ((c.heard-in-NoChild.ensures.childless c.args.config.now n past s st refl).1, c.heard-in-NoChild.ensures.over c.args.config.now n past s st),
 )

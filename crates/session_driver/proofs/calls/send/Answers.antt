@@ -1,7 +1,7 @@
 use Rattle.std.proofs.Common.{refl, ap, true, false, length, None, sym, ◌∙◌}
 use Rattle.std.proofs.lemmas.Bool.{true≢false}
 use Rattle.relay_model.specs.declared.acts.Act.TheVariants as acts
-use Rattle.relay_core.specs.Conditions.{is_writing}
+use Rattle.relay_session.specs.Conditions.{is_writing}
 use Rattle.session_driver.proofs.Hearing.{heard_as, heard_bytes, fits_as}
 use Rattle.session_driver.proofs.Owning.{own_by, at_own, closes_as, reads_as}
 use Rattle.session_driver.proofs.calls.send.Goals as goal
@@ -22,7 +22,7 @@ returns-in-Sent g c = (
     no_turn = record { turns_same = λ past. refl; stops_same = λ past. refl };
     rose = c.in-Sent.ensures.cause;
     blameless = λ e past. refl;
-    waitless = record { waits = c.in-Sent.ensures.waits; stops = c.in-Sent.ensures.stops; clock = c.in-Sent.ensures.clock };
+    waitless = c.in-Sent.ensures.waitless;
     over = λ n past s st e. c.heard.ensures.over c.args.config.now n past s st e;
     ending = λ n past s st e. c.heard.ensures.ending c.args.config.now n past s st e;
   },
@@ -44,7 +44,7 @@ returns-in-NotYet g c = (
     no_turn = record { turns_same = λ past. refl; stops_same = λ past. refl };
     rose = c.in-NotYet.ensures.cause;
     blameless = λ e past. refl;
-    waitless = record { waits = c.in-NotYet.ensures.waits; stops = c.in-NotYet.ensures.stops; clock = c.in-NotYet.ensures.clock };
+    waitless = c.in-NotYet.ensures.waitless;
     over = λ n past s st e. c.heard-in-NotYet.ensures.over c.args.config.now n past s st e;
     ending = λ n past s st e. c.heard-in-NotYet.ensures.ending c.args.config.now n past s st e;
   },
@@ -65,7 +65,7 @@ returns-in-Failed g c = (
     no_turn = record { turns_same = λ past. refl; stops_same = λ past. refl };
     rose = c.in-Failed.ensures.cause;
     blameless = λ e past. absurd (true≢false e);
-    waitless = record { waits = c.in-Failed.ensures.waits; stops = c.in-Failed.ensures.stops; clock = c.in-Failed.ensures.clock };
+    waitless = c.in-Failed.ensures.waitless;
     over = λ n past s st e. c.heard-in-Failed.ensures.over c.args.config.now n past s st e;
     ending = λ n past s st e. c.heard-in-Failed.ensures.ending c.args.config.now n past s st e;
   },
@@ -78,7 +78,7 @@ returns-in-Memory g c = rw c.want.ensures.memory (
     stands = λ n past s st. c.want.ensures.cut.stands c.args.config.now n past s st c.requires.going;
     ending = λ n past s st e. absurd (true≢false (sym e ∙ c.requires.going));
     rose = c.in-Memory.ensures.cause;
-    waitless = record { waits = c.in-Memory.ensures.waits; stops = c.in-Memory.ensures.stops; clock = c.in-Memory.ensures.clock };
+    waitless = c.in-Memory.ensures.waitless;
   },
   c.requires.going,
   c.want.ensures.cut.over,

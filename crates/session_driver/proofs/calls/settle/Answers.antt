@@ -21,7 +21,7 @@ returns-in-Opened g c = (
     no_turn = record { turns_same = λ past. refl; stops_same = λ past. refl };
     rose = c.in-Opened.ensures.cause;
     blameless = λ e past. refl;
-    waitless = record { waits = c.in-Opened.ensures.waits; stops = c.in-Opened.ensures.stops; clock = c.in-Opened.ensures.clock };
+    waitless = c.in-Opened.ensures.waitless;
     over = λ n past s st e. c.heard.ensures.over c.args.config.now n past s st e;
     ending = λ n past s st e. c.heard.ensures.ending c.args.config.now n past s st e;
   },
@@ -43,7 +43,7 @@ returns-in-Later g c = (
     no_turn = record { turns_same = λ past. refl; stops_same = λ past. refl };
     rose = c.in-Later.ensures.cause;
     blameless = λ e past. refl;
-    waitless = record { waits = c.in-Later.ensures.waits; stops = c.in-Later.ensures.stops; clock = c.in-Later.ensures.clock };
+    waitless = c.in-Later.ensures.waitless;
     over = λ n past s st e. c.heard-in-Later.ensures.over c.args.config.now n past s st e;
     ending = λ n past s st e. c.heard-in-Later.ensures.ending c.args.config.now n past s st e;
   },
@@ -65,7 +65,7 @@ returns-in-Failed g c = (
     no_turn = record { turns_same = λ past. refl; stops_same = λ past. refl };
     rose = c.in-Failed.ensures.cause;
     blameless = λ e past. absurd (true≢false e);
-    waitless = record { waits = c.in-Failed.ensures.waits; stops = c.in-Failed.ensures.stops; clock = c.in-Failed.ensures.clock };
+    waitless = c.in-Failed.ensures.waitless;
     over = λ n past s st e. c.heard-in-Failed.ensures.over c.args.config.now n past s st e;
     ending = λ n past s st e. c.heard-in-Failed.ensures.ending c.args.config.now n past s st e;
   },
@@ -78,7 +78,7 @@ returns-in-Memory g c = rw c.want.ensures.memory (
     stands = λ n past s st. c.want.ensures.cut.stands c.args.config.now n past s st c.requires.going;
     ending = λ n past s st e. absurd (true≢false (sym e ∙ c.requires.going));
     rose = c.in-Memory.ensures.cause;
-    waitless = record { waits = c.in-Memory.ensures.waits; stops = c.in-Memory.ensures.stops; clock = c.in-Memory.ensures.clock };
+    waitless = c.in-Memory.ensures.waitless;
   },
   c.requires.going,
   c.want.ensures.cut.over,

@@ -4,7 +4,7 @@ use Rattle.socat_top.proofs.calls.socat.Goals as goal
 
 pub returns-in-Err-Memory-clause-headline : goal.returns-in-Err-Memory-clause-headline
 returns-in-Err-Memory-clause-headline g c = λ before told.
-    lacking (task c.args.words.now) c.args.turns before (g.W.World.told c.args.world.now) (g.W.World.told c.conclude-in-Err-Memory.new.world) c.conclude-in-Err-Memory.result
+    lacking (task c.args.words.now) c.args.turns before (g.W.World.seen c.args.world.now).told (g.W.World.seen c.conclude-in-Err-Memory.new.world).told c.conclude-in-Err-Memory.result
     (either c.conclude-in-Err-Memory.ensures.answer) told c.conclude-in-Err-Memory.ensures.tail
 
 pub returns-in-Err-Memory-clause-answers : goal.returns-in-Err-Memory-clause-answers

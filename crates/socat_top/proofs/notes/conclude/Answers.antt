@@ -5,4 +5,4 @@ use Rattle.socat_top.proofs.notes.conclude.Goals as goal
 
 pub returns-in-Err-clause-tail : goal.returns-in-Err-clause-tail
 unfolding line
-returns-in-Err-clause-tail g c = memory_tail _ c.say-in-Err.result (g.W.World.told c.args.world.now) (g.W.World.told c.say-in-Err.new.world) refl c.say-in-Err.ensures.said
+returns-in-Err-clause-tail g c = memory_tail _ c.say-in-Err.result (g.W.World.seen c.args.world.now).told (g.W.World.seen c.say-in-Err.new.world).told refl c.say-in-Err.ensures.said

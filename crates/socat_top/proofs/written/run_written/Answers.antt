@@ -1,5 +1,5 @@
 use Rattle.std.proofs.Common.{◌≡◌, [], Some, refl, subst, sym, ◌∙◌}
-use Rattle.desk_history.proofs.FollowLemmas.{no_acts, unused_passed}
+use Rattle.port_desk.proofs.FollowLemmas.{no_acts, unused_passed}
 use Rattle.relay_model.specs.declared.places.Place.{Place}
 use Rattle.relay_model.specs.Holding.{Free}
 use Rattle.desk_places.specs.Stations.{StationTable, hold_at}

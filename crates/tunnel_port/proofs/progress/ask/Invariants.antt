@@ -12,6 +12,7 @@ invariant-loop-count g l =
     × (nothing_of (g.P.Port.took l.inner) ≡ nothing_of (g.P.Port.took l.fn.inner))
     × (g.P.Port.gave l.inner ≡ g.P.Port.gave l.fn.inner)
     × (g.P.Port.ended l.inner ≡ g.P.Port.ended l.fn.inner)
+    × (g.P.Port.empty_packets l.inner ≡ g.P.Port.empty_packets l.fn.inner)
     × (g.P.Port.shuts l.inner ≡ g.P.Port.shuts l.fn.inner)
     × (g.P.Port.begun l.inner ≡ g.P.Port.begun l.fn.inner)
     × (g.P.Port.child l.inner ≡ g.P.Port.child l.fn.inner)

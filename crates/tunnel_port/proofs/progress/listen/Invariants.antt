@@ -13,6 +13,7 @@ invariant-loop-stage g l =
     × (g.T.Talk.asks l.talk ≡ g.T.Talk.asks l.fn.talk)
     × (g.P.Port.took l.inner ≡ g.P.Port.took l.fn.inner)
     × (g.P.Port.ended l.inner ≡ true → g.P.Port.ended l.fn.inner ≡ true)
+    × (g.P.Port.empty_packets l.inner ≡ g.P.Port.empty_packets l.fn.inner)
     × (g.P.Port.shuts l.inner ≡ g.P.Port.shuts l.fn.inner)
     × (g.P.Port.begun l.inner ≡ g.P.Port.begun l.fn.inner)
     × (g.P.Port.child l.inner ≡ g.P.Port.child l.fn.inner)

@@ -12,7 +12,7 @@ pub held-station-requires : goal.held-station-requires
 held-station-requires g c = ap is_free c.requires.door
 
 pub welcome-requires-clause-made_room : goal.welcome-requires-clause-made_room
-welcome-requires-clause-made_room g c = rw c.list.ensures.harbor (record { room = c.accept_at-taken.ensures.room c.requires.made_room.room; covered = rw (c.list.ensures.covered, c.accept_at-taken.ensures.next) c.requires.made_room.covered })
+welcome-requires-clause-made_room g c = rw c.list.ensures.table (record { room = c.accept_at-taken.ensures.room c.requires.made_room.room; covered = rw (c.list.ensures.covered, c.accept_at-taken.ensures.next) c.requires.made_room.covered })
 
 pub returns-in-Came-clause-cause : goal.returns-in-Came-clause-cause
 returns-in-Came-clause-cause g c = rw (c.welcome.ensures.maker, c.list.ensures.maker) (welcomed _ c.welcome.result c.in-Came.peer _ _ _ _ _ c.in-Came.ensures.came c.welcome.ensures.cause)
@@ -20,60 +20,60 @@ returns-in-Came-clause-cause g c = rw (c.welcome.ensures.maker, c.list.ensures.m
 pub returns-in-Came-clause-sound : goal.returns-in-Came-clause-sound
 returns-in-Came-clause-sound g c = λ sound.
     let is = key_made c.held-station.result.base c.in-Some.door_key (sym c.made_key.ensures ∙ c.in-Some.is) in
-    let only = subst (λ b. OnlyAt b c.args.self.now.harbor.made c.accept_at-taken.new.harbor.made) (sym is) (call_keeps c.args.self.now.harbor.made c.accept_at-taken.new.harbor.made c.in-Some.door_key _ c.accept_at-taken.ensures.door) in
-    let listed = c.list.ensures.sound (sound_but_still c.args.stations.now.entries c.args.door c.held-station.result c.args.self.now.harbor.made c.accept_at-taken.new.harbor.made c.args.self.now.listed c.held-station.ensures only sound) in
+    let only = subst (λ b. OnlyAt b c.args.self.now.table.made c.accept_at-taken.new.table.made) (sym is) (call_keeps c.args.self.now.table.made c.accept_at-taken.new.table.made c.in-Some.door_key _ c.accept_at-taken.ensures.door) in
+    let listed = c.list.ensures.sound (sound_but_still c.args.stations.now.entries c.args.door c.held-station.result c.args.self.now.table.made c.accept_at-taken.new.table.made c.args.self.now.listed c.held-station.ensures only sound) in
     c.welcome.ensures.sound listed
 
 pub returns-in-NoPeer-clause-sound : goal.returns-in-NoPeer-clause-sound
 returns-in-NoPeer-clause-sound g c = λ sound.
     let is = key_made c.held-station.result.base c.in-Some.door_key (sym c.made_key.ensures ∙ c.in-Some.is) in
-    let only = subst (λ b. OnlyAt b c.args.self.now.harbor.made c.accept_at-taken.new.harbor.made) (sym is) (call_keeps c.args.self.now.harbor.made c.accept_at-taken.new.harbor.made c.in-Some.door_key _ c.accept_at-taken.ensures.door) in
-    let listed = c.list.ensures.sound (sound_but_still c.args.stations.now.entries c.args.door c.held-station.result c.args.self.now.harbor.made c.accept_at-taken.new.harbor.made c.args.self.now.listed c.held-station.ensures only sound) in
-    c.mark.ensures.sound (sound_marked c.args.stations.now.entries c.mark.new.stations.entries c.args.door c.held-station.result ToRead true c.list.new.self.harbor.made c.list.new.self.harbor.made c.list.new.self.listed c.held-station.ensures c.mark.ensures.set (same_keeps c.held-station.result.base c.list.new.self.harbor.made c.list.new.self.harbor.made (λ key. refl)) listed)
+    let only = subst (λ b. OnlyAt b c.args.self.now.table.made c.accept_at-taken.new.table.made) (sym is) (call_keeps c.args.self.now.table.made c.accept_at-taken.new.table.made c.in-Some.door_key _ c.accept_at-taken.ensures.door) in
+    let listed = c.list.ensures.sound (sound_but_still c.args.stations.now.entries c.args.door c.held-station.result c.args.self.now.table.made c.accept_at-taken.new.table.made c.args.self.now.listed c.held-station.ensures only sound) in
+    c.mark.ensures.sound (sound_marked c.args.stations.now.entries c.mark.new.stations.entries c.args.door c.held-station.result ToRead true c.list.new.self.table.made c.list.new.self.table.made c.list.new.self.listed c.held-station.ensures c.mark.ensures.set (same_keeps c.held-station.result.base c.list.new.self.table.made c.list.new.self.table.made (λ key. refl)) listed)
 
 pub returns-in-Failed-clause-sound : goal.returns-in-Failed-clause-sound
 returns-in-Failed-clause-sound g c = λ sound.
     let is = key_made c.held-station.result.base c.in-Some.door_key (sym c.made_key.ensures ∙ c.in-Some.is) in
-    let only = subst (λ b. OnlyAt b c.args.self.now.harbor.made c.accept_at-taken.new.harbor.made) (sym is) (call_keeps c.args.self.now.harbor.made c.accept_at-taken.new.harbor.made c.in-Some.door_key _ c.accept_at-taken.ensures.door) in
-    let listed = c.list.ensures.sound (sound_but_still c.args.stations.now.entries c.args.door c.held-station.result c.args.self.now.harbor.made c.accept_at-taken.new.harbor.made c.args.self.now.listed c.held-station.ensures only sound) in
-    c.mark-in-Failed.ensures.sound (sound_marked c.args.stations.now.entries c.mark-in-Failed.new.stations.entries c.args.door c.held-station.result ToRead false c.list.new.self.harbor.made c.list.new.self.harbor.made c.list.new.self.listed c.held-station.ensures c.mark-in-Failed.ensures.set (same_keeps c.held-station.result.base c.list.new.self.harbor.made c.list.new.self.harbor.made (λ key. refl)) listed)
+    let only = subst (λ b. OnlyAt b c.args.self.now.table.made c.accept_at-taken.new.table.made) (sym is) (call_keeps c.args.self.now.table.made c.accept_at-taken.new.table.made c.in-Some.door_key _ c.accept_at-taken.ensures.door) in
+    let listed = c.list.ensures.sound (sound_but_still c.args.stations.now.entries c.args.door c.held-station.result c.args.self.now.table.made c.accept_at-taken.new.table.made c.args.self.now.listed c.held-station.ensures only sound) in
+    c.mark-in-Failed.ensures.sound (sound_marked c.args.stations.now.entries c.mark-in-Failed.new.stations.entries c.args.door c.held-station.result ToRead false c.list.new.self.table.made c.list.new.self.table.made c.list.new.self.listed c.held-station.ensures c.mark-in-Failed.ensures.set (same_keeps c.held-station.result.base c.list.new.self.table.made c.list.new.self.table.made (λ key. refl)) listed)
 
 pub returns-in-Memory-clause-sound : goal.returns-in-Memory-clause-sound
 returns-in-Memory-clause-sound g c = λ sound.
     let is = key_made c.held-station.result.base c.in-Some.door_key (sym c.made_key.ensures ∙ c.in-Some.is) in
-    let only = subst (λ b. OnlyAt b c.args.self.now.harbor.made c.accept_at-taken.new.harbor.made) (sym is) (call_keeps c.args.self.now.harbor.made c.accept_at-taken.new.harbor.made c.in-Some.door_key _ c.accept_at-taken.ensures.door) in
-    let listed = c.list.ensures.sound (sound_but_still c.args.stations.now.entries c.args.door c.held-station.result c.args.self.now.harbor.made c.accept_at-taken.new.harbor.made c.args.self.now.listed c.held-station.ensures only sound) in
+    let only = subst (λ b. OnlyAt b c.args.self.now.table.made c.accept_at-taken.new.table.made) (sym is) (call_keeps c.args.self.now.table.made c.accept_at-taken.new.table.made c.in-Some.door_key _ c.accept_at-taken.ensures.door) in
+    let listed = c.list.ensures.sound (sound_but_still c.args.stations.now.entries c.args.door c.held-station.result c.args.self.now.table.made c.accept_at-taken.new.table.made c.args.self.now.listed c.held-station.ensures only sound) in
     listed
 
 pub returns-in-NoPeer-clause-bases : goal.returns-in-NoPeer-clause-bases
-returns-in-NoPeer-clause-bases g c = same_bases c.args.stations.now.entries c.mark.new.stations.entries c.mark.ensures.footing
+returns-in-NoPeer-clause-bases g c = same_bases c.args.stations.now.entries c.mark.new.stations.entries c.mark.ensures.standing
 
 pub returns-in-Failed-clause-bases : goal.returns-in-Failed-clause-bases
-returns-in-Failed-clause-bases g c = same_bases c.args.stations.now.entries c.mark-in-Failed.new.stations.entries c.mark-in-Failed.ensures.footing
+returns-in-Failed-clause-bases g c = same_bases c.args.stations.now.entries c.mark-in-Failed.new.stations.entries c.mark-in-Failed.ensures.standing
 
 pub returns-in-Came-clause-ports : goal.returns-in-Came-clause-ports
 returns-in-Came-clause-ports g c =
     let is = key_made c.held-station.result.base c.in-Some.door_key (sym c.made_key.ensures ∙ c.in-Some.is) in
     at_base c.args.stations.now.entries c.args.door c.held-station.result _ c.held-station.ensures
-    (at_made c.held-station.result.base c.in-Some.door_key _ _ is (accepts_made _ c.welcome.result c.in-Some.door_key c.args.place _ c.args.self.now.harbor.made c.accept_at-taken.new.harbor.made _ c.accept_at-taken.ensures.door (rw c.list.ensures.harbor at c.welcome.ensures.ports)))
+    (at_made c.held-station.result.base c.in-Some.door_key _ _ is (accepts_made _ c.welcome.result c.in-Some.door_key c.args.place _ c.args.self.now.table.made c.accept_at-taken.new.table.made _ c.accept_at-taken.ensures.door (rw c.list.ensures.table at c.welcome.ensures.ports)))
 
 pub returns-in-NoPeer-clause-ports : goal.returns-in-NoPeer-clause-ports
 returns-in-NoPeer-clause-ports g c =
     let is = key_made c.held-station.result.base c.in-Some.door_key (sym c.made_key.ensures ∙ c.in-Some.is) in
     at_base c.args.stations.now.entries c.args.door c.held-station.result _ c.held-station.ensures
-    (at_made c.held-station.result.base c.in-Some.door_key _ _ is (rw (c.mark.ensures.harbor, c.list.ensures.harbor) c.accept_at-taken.ensures.door))
+    (at_made c.held-station.result.base c.in-Some.door_key _ _ is (rw (c.mark.ensures.table, c.list.ensures.table) c.accept_at-taken.ensures.door))
 
 pub returns-in-Failed-clause-ports : goal.returns-in-Failed-clause-ports
 returns-in-Failed-clause-ports g c =
     let is = key_made c.held-station.result.base c.in-Some.door_key (sym c.made_key.ensures ∙ c.in-Some.is) in
     at_base c.args.stations.now.entries c.args.door c.held-station.result _ c.held-station.ensures
-    (at_made c.held-station.result.base c.in-Some.door_key _ _ is (rw (c.mark-in-Failed.ensures.harbor, c.list.ensures.harbor) c.accept_at-taken.ensures.door))
+    (at_made c.held-station.result.base c.in-Some.door_key _ _ is (rw (c.mark-in-Failed.ensures.table, c.list.ensures.table) c.accept_at-taken.ensures.door))
 
 pub returns-in-Memory-clause-ports : goal.returns-in-Memory-clause-ports
 returns-in-Memory-clause-ports g c =
     let is = key_made c.held-station.result.base c.in-Some.door_key (sym c.made_key.ensures ∙ c.in-Some.is) in
     at_base c.args.stations.now.entries c.args.door c.held-station.result _ c.held-station.ensures
-    (at_made c.held-station.result.base c.in-Some.door_key _ _ is (rw c.list.ensures.harbor c.accept_at-taken.ensures.door))
+    (at_made c.held-station.result.base c.in-Some.door_key _ _ is (rw c.list.ensures.table c.accept_at-taken.ensures.door))
 
 pub returns-in_default-clause-ports : goal.returns-in_default-clause-ports
 returns-in_default-clause-ports g c =

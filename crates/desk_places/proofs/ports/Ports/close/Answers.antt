@@ -6,7 +6,7 @@ pub leave-requires-clause-based : goal.leave-requires-clause-based
 leave-requires-clause-based g c = found_base c.args.stations.now.entries c.args.place c.held-station.result c.held-station.ensures
 
 pub returns-clause-sound : goal.returns-clause-sound
-returns-clause-sound g c = λ sound. c.leave.ensures.sound (but_of c.args.stations.now.entries c.args.place c.args.self.now.harbor.made c.args.self.now.listed sound)
+returns-clause-sound g c = λ sound. c.leave.ensures.sound (but_of c.args.stations.now.entries c.args.place c.args.self.now.table.made c.args.self.now.listed sound)
 
 pub returns-clause-held : goal.returns-clause-held
 returns-clause-held g c = c.leave.ensures.held

@@ -14,7 +14,7 @@ add-requires-clause-free g c = rw c.open.ensures (free_station c.args.stations.n
 pub returns-in-Begun-clause-sound : goal.returns-in-Begun-clause-sound
 returns-in-Begun-clause-sound g c = λ sound.
     rw c.begin.ensures.made
-    (sound_add c.args.stations.now.entries c.add.new.self.entries c.open.result c.args.self.now.harbor.made c.args.self.now.listed c.add.ensures.set (rw c.open.ensures c.requires.standard) sound)
+    (sound_add c.args.stations.now.entries c.add.new.self.entries c.open.result c.args.self.now.table.made c.args.self.now.listed c.add.ensures.set (rw c.open.ensures c.requires.standard) sound)
 
 pub returns-in-Begun-clause-held : goal.returns-in-Begun-clause-held
 returns-in-Begun-clause-held g c = rw c.open.ensures at c.add.ensures.held

@@ -1,19 +1,19 @@
 use Rattle.desk_places.proofs.BaseLemmas.{same_bases}
 use Rattle.std.proofs.Common.{Bool, false, option_map, subst}
 use Rattle.relay_model.specs.declared.places.Half.TheVariants.{ToRead}
-use Rattle.desk_ports.specs.Harbors.{giving_pier}
-use Rattle.desk_ports.proofs.CalledLemmas.{called_made}
+use Rattle.port_table.specs.PortTables.{giving_port}
+use Rattle.port_table.proofs.CalledLemmas.{called_made}
 use Rattle.desk_places.specs.Stations.{hold_at, SetsStation, station_at, with_half}
 use Rattle.desk_places.proofs.PortLemmas.{open_held}
 use Rattle.desk_places.proofs.PortLemmas.{at_base}
-use Rattle.desk_places.proofs.SoundLemmas.{giving_of, pier_keeps, sound_marked}
+use Rattle.desk_places.proofs.SoundLemmas.{giving_of, id_keeps, sound_marked}
 use Rattle.desk_places.proofs.ports.Ports.read.Goals as goal
 
 pub held-station-requires : goal.held-station-requires
 held-station-requires g c = open_held (hold_at c.args.stations.now.entries c.args.place) c.requires.open
 
 pub returns-clause-call : goal.returns-clause-call
-returns-clause-call g c = rw c.mark.ensures.harbor (at_base c.args.stations.now.entries c.args.place c.held-station.result _ c.held-station.ensures c.read-got.ensures.call)
+returns-clause-call g c = rw c.mark.ensures.table (at_base c.args.stations.now.entries c.args.place c.held-station.result _ c.held-station.ensures c.read-got.ensures.call)
 
 pub returns-clause-marks : goal.returns-clause-marks
 returns-clause-marks g c =
@@ -23,9 +23,9 @@ returns-clause-marks g c =
 pub returns-clause-sound : goal.returns-clause-sound
 returns-clause-sound g c = λ sound.
     c.mark.ensures.sound
-    (sound_marked c.args.stations.now.entries c.mark.new.stations.entries c.args.place c.held-station.result ToRead c.gave_not_yet.result c.args.self.now.harbor.made c.read-got.new.self.made c.args.self.now.listed c.held-station.ensures c.mark.ensures.set
-    (pier_keeps (giving_pier c.held-station.result.base) c.held-station.result.base c.args.self.now.harbor.made c.read-got.new.self.made _ (giving_of c.held-station.result.base) (called_made false (giving_pier c.held-station.result.base) c.args.self.now.harbor c.read-got.new.self _ c.read-got.ensures.call))
+    (sound_marked c.args.stations.now.entries c.mark.new.stations.entries c.args.place c.held-station.result ToRead c.gave_not_yet.result c.args.self.now.table.made c.read-got.new.self.made c.args.self.now.listed c.held-station.ensures c.mark.ensures.set
+    (id_keeps (giving_port c.held-station.result.base) c.held-station.result.base c.args.self.now.table.made c.read-got.new.self.made _ (giving_of c.held-station.result.base) (called_made false (giving_port c.held-station.result.base) c.args.self.now.table c.read-got.new.self _ c.read-got.ensures.call))
     sound)
 
 pub returns-clause-bases : goal.returns-clause-bases
-returns-clause-bases g c = same_bases c.args.stations.now.entries c.mark.new.stations.entries c.mark.ensures.footing
+returns-clause-bases g c = same_bases c.args.stations.now.entries c.mark.new.stations.entries c.mark.ensures.standing

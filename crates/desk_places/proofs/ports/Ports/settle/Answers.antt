@@ -4,11 +4,11 @@ use Rattle.desk_places.proofs.PortLemmas.{at_base, on_another, settle_later, set
 use Rattle.std.proofs.Common.{Some, ap, false, subst, true, ◌∙◌}
 use Rattle.desk_places.specs.Marks.{MarksPlace}
 use Rattle.relay_model.specs.Holding.{is_free}
-use Rattle.desk_ports.specs.Harbors.{giving_pier}
-use Rattle.desk_ports.proofs.CalledLemmas.{called_made}
+use Rattle.port_table.specs.PortTables.{giving_port}
+use Rattle.port_table.proofs.CalledLemmas.{called_made}
 use Rattle.desk_places.specs.declared.stations.Station.{Station}
 use Rattle.desk_places.specs.Stations.{SetsStation, is_disarmed, station_at}
-use Rattle.desk_places.proofs.SoundLemmas.{giving_of, pier_keeps, sound_but, sound_but_still}
+use Rattle.desk_places.proofs.SoundLemmas.{giving_of, id_keeps, sound_but, sound_but_still}
 use Rattle.desk_places.proofs.StationLemmas.{found_base}
 use Rattle.desk_places.proofs.ports.Ports.settle.Goals as goal
 
@@ -27,10 +27,10 @@ leave-requires-clause-based g c = found_base c.args.stations.now.entries c.args.
 pub returns-in-Ready-clause-sound : goal.returns-in-Ready-clause-sound
 returns-in-Ready-clause-sound g c = λ sound.
     c.list.ensures.sound
-    (sound_but c.args.stations.now.entries c.replace.new.self.entries c.args.place c.held-station.result c.open.result c.args.self.now.harbor.made c.settle.new.self.made c.args.self.now.listed c.held-station.ensures
+    (sound_but c.args.stations.now.entries c.replace.new.self.entries c.args.place c.held-station.result c.open.result c.args.self.now.table.made c.settle.new.self.made c.args.self.now.listed c.held-station.ensures
     (ap (λ (s : Station). s.base) c.open.ensures)
     (subst (λ q. SetsStation q (Some c.open.result) (station_at c.args.stations.now.entries) (station_at c.replace.new.self.entries)) (ap (λ (s : Station). s.place) c.open.ensures) c.replace.ensures.set)
-    (pier_keeps (giving_pier c.held-station.result.base) c.held-station.result.base c.args.self.now.harbor.made c.settle.new.self.made _ (giving_of c.held-station.result.base) (called_made false (giving_pier c.held-station.result.base) c.args.self.now.harbor c.settle.new.self _ c.settle.ensures))
+    (id_keeps (giving_port c.held-station.result.base) c.held-station.result.base c.args.self.now.table.made c.settle.new.self.made _ (giving_of c.held-station.result.base) (called_made false (giving_port c.held-station.result.base) c.args.self.now.table c.settle.new.self _ c.settle.ensures))
     sound)
 
 pub returns-in-Ready-clause-held : goal.returns-in-Ready-clause-held
@@ -39,10 +39,10 @@ returns-in-Ready-clause-held g c = rw c.open.ensures at c.replace.ensures.held
 pub returns-in-NotYet-clause-sound : goal.returns-in-NotYet-clause-sound
 returns-in-NotYet-clause-sound g c = λ sound.
     c.list-in-NotYet.ensures.sound
-    (sound_but c.args.stations.now.entries c.replace-in-NotYet.new.self.entries c.args.place c.held-station.result c.settling.result c.args.self.now.harbor.made c.settle.new.self.made c.args.self.now.listed c.held-station.ensures
+    (sound_but c.args.stations.now.entries c.replace-in-NotYet.new.self.entries c.args.place c.held-station.result c.settling.result c.args.self.now.table.made c.settle.new.self.made c.args.self.now.listed c.held-station.ensures
     (ap (λ (s : Station). s.base) c.settling.ensures)
     (subst (λ q. SetsStation q (Some c.settling.result) (station_at c.args.stations.now.entries) (station_at c.replace-in-NotYet.new.self.entries)) (ap (λ (s : Station). s.place) c.settling.ensures) c.replace-in-NotYet.ensures.set)
-    (pier_keeps (giving_pier c.held-station.result.base) c.held-station.result.base c.args.self.now.harbor.made c.settle.new.self.made _ (giving_of c.held-station.result.base) (called_made false (giving_pier c.held-station.result.base) c.args.self.now.harbor c.settle.new.self _ c.settle.ensures))
+    (id_keeps (giving_port c.held-station.result.base) c.held-station.result.base c.args.self.now.table.made c.settle.new.self.made _ (giving_of c.held-station.result.base) (called_made false (giving_port c.held-station.result.base) c.args.self.now.table c.settle.new.self _ c.settle.ensures))
     sound)
 
 pub returns-in-NotYet-clause-held : goal.returns-in-NotYet-clause-held
@@ -51,18 +51,18 @@ returns-in-NotYet-clause-held g c = rw c.settling.ensures at c.replace-in-NotYet
 pub returns-in-Failed-clause-sound : goal.returns-in-Failed-clause-sound
 returns-in-Failed-clause-sound g c = λ sound.
     c.leave.ensures.sound
-    (sound_but_still c.args.stations.now.entries c.args.place c.held-station.result c.args.self.now.harbor.made c.settle.new.self.made c.args.self.now.listed c.held-station.ensures
-    (pier_keeps (giving_pier c.held-station.result.base) c.held-station.result.base c.args.self.now.harbor.made c.settle.new.self.made _ (giving_of c.held-station.result.base) (called_made false (giving_pier c.held-station.result.base) c.args.self.now.harbor c.settle.new.self _ c.settle.ensures))
+    (sound_but_still c.args.stations.now.entries c.args.place c.held-station.result c.args.self.now.table.made c.settle.new.self.made c.args.self.now.listed c.held-station.ensures
+    (id_keeps (giving_port c.held-station.result.base) c.held-station.result.base c.args.self.now.table.made c.settle.new.self.made _ (giving_of c.held-station.result.base) (called_made false (giving_port c.held-station.result.base) c.args.self.now.table c.settle.new.self _ c.settle.ensures))
     sound)
 
 pub returns-in-Failed-clause-held : goal.returns-in-Failed-clause-held
 returns-in-Failed-clause-held g c = c.leave.ensures.held
 
 pub returns-in-Ready-clause-bases : goal.returns-in-Ready-clause-bases
-returns-in-Ready-clause-bases g c = same_bases c.args.stations.now.entries c.replace.new.self.entries c.replace.ensures.footing
+returns-in-Ready-clause-bases g c = same_bases c.args.stations.now.entries c.replace.new.self.entries c.replace.ensures.standing
 
 pub returns-in-NotYet-clause-bases : goal.returns-in-NotYet-clause-bases
-returns-in-NotYet-clause-bases g c = same_bases c.args.stations.now.entries c.replace-in-NotYet.new.self.entries c.replace-in-NotYet.ensures.footing
+returns-in-NotYet-clause-bases g c = same_bases c.args.stations.now.entries c.replace-in-NotYet.new.self.entries c.replace-in-NotYet.ensures.standing
 
 pub returns-in-Failed-clause-bases : goal.returns-in-Failed-clause-bases
 returns-in-Failed-clause-bases g c = c.leave.ensures.bases
@@ -81,14 +81,14 @@ pub returns-in-Failed-clause-call : goal.returns-in-Failed-clause-call
 returns-in-Failed-clause-call g c =
     let based = found_base c.args.stations.now.entries c.args.place c.held-station.result c.held-station.ensures in
     at_base c.args.stations.now.entries c.args.place c.held-station.result _ c.held-station.ensures
-    (settle_left _ c.held-station.result.base c.args.self.now.harbor c.settle.new.self c.leave.new.self.harbor c.args.self.now.parents.items c.leave.new.self.parents.items c.in-Failed.ensures
+    (settle_left _ c.held-station.result.base c.args.self.now.table c.settle.new.self c.leave.new.self.table c.args.self.now.parents.items c.leave.new.self.parents.items c.in-Failed.ensures
     (record { input = c.leave.ensures.streams.0; output = c.leave.ensures.streams.1; errors = c.leave.ensures.streams.2 })
     c.leave.ensures.told c.leave.ensures.parents c.leave.ensures.standard
     (λ key is. c.leave.ensures.gone key (based ∙ ap Some is))
     (λ key is other away. c.leave.ensures.others other (on_another c.args.stations.now.entries c.args.place c.held-station.result.base key other based is away)))
 
 pub returns-in-Ready-clause-call : goal.returns-in-Ready-clause-call
-returns-in-Ready-clause-call g c = rw (c.list.ensures.harbor, c.list.ensures.parents) (at_base c.args.stations.now.entries c.args.place c.held-station.result _ c.held-station.ensures (settle_ready _ (giving_pier c.held-station.result.base) c.args.self.now.harbor c.settle.new.self c.args.self.now.parents.items c.in-Ready.ensures))
+returns-in-Ready-clause-call g c = rw (c.list.ensures.table, c.list.ensures.parents) (at_base c.args.stations.now.entries c.args.place c.held-station.result _ c.held-station.ensures (settle_ready _ (giving_port c.held-station.result.base) c.args.self.now.table c.settle.new.self c.args.self.now.parents.items c.in-Ready.ensures))
 
 pub returns-in-NotYet-clause-call : goal.returns-in-NotYet-clause-call
-returns-in-NotYet-clause-call g c = rw (c.list-in-NotYet.ensures.harbor, c.list-in-NotYet.ensures.parents) (at_base c.args.stations.now.entries c.args.place c.held-station.result _ c.held-station.ensures (settle_later _ (giving_pier c.held-station.result.base) c.args.self.now.harbor c.settle.new.self c.args.self.now.parents.items c.in-NotYet.ensures))
+returns-in-NotYet-clause-call g c = rw (c.list-in-NotYet.ensures.table, c.list-in-NotYet.ensures.parents) (at_base c.args.stations.now.entries c.args.place c.held-station.result _ c.held-station.ensures (settle_later _ (giving_port c.held-station.result.base) c.args.self.now.table c.settle.new.self c.args.self.now.parents.items c.in-NotYet.ensures))

@@ -6,11 +6,11 @@ use Rattle.std.proofs.Common.{refl, sym}
 use Rattle.relay_model.specs.declared.places.Place.{Place}
 use Rattle.std.proofs.Common.{ap}
 use Rattle.relay_model.specs.Holding.{is_free}
-use Rattle.desk_ports.specs.Harbors.{taking_pier}
-use Rattle.desk_ports.proofs.CalledLemmas.{called_made}
+use Rattle.port_table.specs.PortTables.{taking_port}
+use Rattle.port_table.proofs.CalledLemmas.{called_made}
 use Rattle.desk_places.specs.Stations.{hold_at}
 use Rattle.desk_places.proofs.PortLemmas.{at_base, shut_holds}
-use Rattle.desk_places.proofs.SoundLemmas.{pier_keeps, sound_but, taking_of}
+use Rattle.desk_places.proofs.SoundLemmas.{id_keeps, sound_but, taking_of}
 use Rattle.desk_places.proofs.StationLemmas.{found_base, found_place}
 use Rattle.desk_places.proofs.ports.Ports.shut.Goals as goal
 
@@ -26,8 +26,8 @@ returns-clause-held g c = shut_holds c.shut-answer.result c.args.place c.args.ho
 pub returns-clause-sound : goal.returns-clause-sound
 returns-clause-sound g c = λ sound.
     c.list.ensures.sound
-    (sound_but c.args.stations.now.entries c.replace.new.self.entries c.args.place c.held-station.result _ c.args.self.now.harbor.made c.shut-answer.new.self.made c.args.self.now.listed c.held-station.ensures refl c.replace.ensures.set
-    (pier_keeps (taking_pier c.held-station.result.base) c.held-station.result.base c.args.self.now.harbor.made c.shut-answer.new.self.made _ (taking_of c.held-station.result.base) (called_made (finishes c.args.how) (taking_pier c.held-station.result.base) c.args.self.now.harbor c.shut-answer.new.self _ c.shut-answer.ensures))
+    (sound_but c.args.stations.now.entries c.replace.new.self.entries c.args.place c.held-station.result _ c.args.self.now.table.made c.shut-answer.new.self.made c.args.self.now.listed c.held-station.ensures refl c.replace.ensures.set
+    (id_keeps (taking_port c.held-station.result.base) c.held-station.result.base c.args.self.now.table.made c.shut-answer.new.self.made _ (taking_of c.held-station.result.base) (called_made (finishes c.args.how) (taking_port c.held-station.result.base) c.args.self.now.table c.shut-answer.new.self _ c.shut-answer.ensures))
     sound)
 
 pub returns-clause-station : goal.returns-clause-station
@@ -36,7 +36,7 @@ returns-clause-station g c =
     set_as c.args.stations.now.entries c.replace.new.self.entries c.args.place c.held-station.result _ (shut_down (finishes c.args.how)) c.held-station.ensures (ap (λ (q : Place). record (shut_down (finishes c.args.how) c.held-station.result) { place = q }) (sym (found_place c.args.stations.now.entries c.args.place c.held-station.result c.held-station.ensures))) refl sets
 
 pub returns-clause-bases : goal.returns-clause-bases
-returns-clause-bases g c = same_bases c.args.stations.now.entries c.replace.new.self.entries c.replace.ensures.footing
+returns-clause-bases g c = same_bases c.args.stations.now.entries c.replace.new.self.entries c.replace.ensures.standing
 
 pub returns-clause-call : goal.returns-clause-call
-returns-clause-call g c = rw c.list.ensures.harbor (at_base c.args.stations.now.entries c.args.place c.held-station.result _ c.held-station.ensures c.shut-answer.ensures)
+returns-clause-call g c = rw c.list.ensures.table (at_base c.args.stations.now.entries c.args.place c.held-station.result _ c.held-station.ensures c.shut-answer.ensures)

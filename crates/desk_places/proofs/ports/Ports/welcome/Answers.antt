@@ -8,19 +8,19 @@ use Rattle.desk_places.proofs.ports.Ports.welcome.Goals as goal
 
 pub returns-in-Begun-clause-marks : goal.returns-in-Begun-clause-marks
 returns-in-Begun-clause-marks g c =
-    arms_both c.args.door c.args.place (is_disarmed c.args.stations.now.entries) (is_disarmed c.moor.new.stations.entries) (is_disarmed c.mark.new.stations.entries) c.in-Begun.ensures.marks
-    (arms_half c.moor.new.stations.entries c.mark.new.stations.entries c.args.door ToRead c.mark.ensures.set)
+    arms_both c.args.door c.args.place (is_disarmed c.args.stations.now.entries) (is_disarmed c.insert.new.stations.entries) (is_disarmed c.mark.new.stations.entries) c.in-Begun.ensures.marks
+    (arms_half c.insert.new.stations.entries c.mark.new.stations.entries c.args.door ToRead c.mark.ensures.set)
 
 pub returns-in-Failed-clause-marks : goal.returns-in-Failed-clause-marks
 returns-in-Failed-clause-marks g c =
-    marks_after c.args.door ToRead false (is_disarmed c.args.stations.now.entries) (is_disarmed c.moor.new.stations.entries) (is_disarmed c.mark-in-Failed.new.stations.entries) c.in-Failed.ensures.marks
-    (arms_half c.moor.new.stations.entries c.mark-in-Failed.new.stations.entries c.args.door ToRead c.mark-in-Failed.ensures.set)
+    marks_after c.args.door ToRead false (is_disarmed c.args.stations.now.entries) (is_disarmed c.insert.new.stations.entries) (is_disarmed c.mark-in-Failed.new.stations.entries) c.in-Failed.ensures.marks
+    (arms_half c.insert.new.stations.entries c.mark-in-Failed.new.stations.entries c.args.door ToRead c.mark-in-Failed.ensures.set)
 
 pub returns-in-Begun-clause-sound : goal.returns-in-Begun-clause-sound
 returns-in-Begun-clause-sound g c = λ sound.
     c.mark.ensures.sound
-    (but_of c.mark.new.stations.entries c.args.door c.moor.new.self.harbor.made c.moor.new.self.listed
-    (sound_armed c.moor.new.stations.entries c.mark.new.stations.entries c.args.door ToRead c.moor.new.self.harbor.made c.moor.new.self.listed c.mark.ensures.set (c.moor.ensures.sound sound)))
+    (but_of c.mark.new.stations.entries c.args.door c.insert.new.self.table.made c.insert.new.self.listed
+    (sound_armed c.insert.new.stations.entries c.mark.new.stations.entries c.args.door ToRead c.insert.new.self.table.made c.insert.new.self.listed c.mark.ensures.set (c.insert.ensures.sound sound)))
 
 pub returns-in-Begun-clause-ports : goal.returns-in-Begun-clause-ports
-returns-in-Begun-clause-ports g c = rw c.mark.ensures.harbor (more_based _ c.args.place (base_at c.moor.new.stations.entries c.args.place) (base_at c.mark.new.stations.entries c.args.place) c.args.self.now.harbor.made c.moor.new.self.harbor.made (c.mark.ensures.footing c.args.place) c.in-Begun.ensures.made)
+returns-in-Begun-clause-ports g c = rw c.mark.ensures.table (more_based _ c.args.place (base_at c.insert.new.stations.entries c.args.place) (base_at c.mark.new.stations.entries c.args.place) c.args.self.now.table.made c.insert.new.self.table.made (c.mark.ensures.standing c.args.place) c.in-Begun.ensures.made)

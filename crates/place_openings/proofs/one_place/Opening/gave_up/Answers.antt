@@ -8,4 +8,4 @@ use Rattle.place_openings.proofs.one_place.Opening.gave_up.Goals as goal
 pub returns : goal.returns
 returns c = λ cfg past p i.
     let e = c.gives_up.ensures _ _ _ _ i.tries_are in
-    rw (c.both.ensures, c.is_same.ensures, e, out_by c.args.self.now.has_door cfg past p) (ap (λ b. same_bool b c.args.has_door && out_of_tries cfg past (tried_at b p)) i.has_door_is)
+    rw (e, out_by c.args.self.now.has_door cfg past p) (ap (λ b. same_bool b c.args.has_door && out_of_tries cfg past (tried_at b p)) i.has_door_is)

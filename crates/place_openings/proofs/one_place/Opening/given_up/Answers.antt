@@ -1,10 +1,10 @@
-use Rattle.std.proofs.Common.{sym, subst, ap, ◌∙◌}
-use Rattle.place_openings.specs.Attempts.{given_up_by, GivesUp}
+use Rattle.std.proofs.Common.{sym, subst}
+use Rattle.place_openings.specs.Attempts.{GivesUp}
 use Rattle.place_openings.specs.States.{state_of}
 use Rattle.place_openings.proofs.GivingUp.{gives}
 use Rattle.place_openings.proofs.one_place.Opening.given_up.Goals as goal
 
 pub returns : goal.returns
 returns c = λ cfg past p i.
-    let e = c.given_up_by.ensures ∙ ap (λ b. given_up_by c.args.self.now.place.side b c.spent_attempts.result) c.is_same-is_meant.ensures in
+    let e = c.given_up_by.ensures in
     subst (GivesUp cfg past c.args.has_door p) (sym e) (gives cfg past p (state_of c.args.self.now) c.args.has_door c.spent_attempts.result i (c.spent_attempts.ensures _ _ _ _ i.tries_are))

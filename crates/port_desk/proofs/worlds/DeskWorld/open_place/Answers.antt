@@ -1,21 +1,21 @@
-use Rattle.desk_ports.specs.Bases.{standard_of}
+use Rattle.port_table.specs.Bases.{standard_of}
 use Rattle.port_desk.proofs.OpenLemmas.{no_ports, opened_from, ports_from, unopened}
 use Rattle.port_desk.proofs.worlds.DeskWorld.open_place.Goals as goal
 
 pub returns-clause-begun : goal.returns-clause-begun
 returns-clause-begun g c =
-    opened_from (standard_of c.args.place c.args.single.now.target) c.open-answer.result c.args.self.now.ports.harbor c.prepare_opening.new.self.ports.harbor c.open-answer.new.self.harbor
+    opened_from (standard_of c.args.place c.args.single.now.target) c.open-answer.result c.args.self.now.ports.table c.prepare_opening.new.self.ports.table c.open-answer.new.self.table
     (record { input = c.prepare_opening.ensures.streams.0; output = c.prepare_opening.ensures.streams.1; errors = c.prepare_opening.ensures.streams.2 })
     c.open-answer.ensures.begun
 
 pub returns-clause-ports : goal.returns-clause-ports
 returns-clause-ports g c =
-    rw c.keep_opening.ensures.stations (ports_from _ (standard_of c.args.place c.args.single.now.target) c.open-answer.result c.args.place _ c.args.self.now.ports.harbor.made c.prepare_opening.new.self.ports.harbor.made c.open-answer.new.self.harbor.made c.prepare_opening.ensures.made c.open-answer.ensures.ports)
+    rw c.keep_opening.ensures.stations (ports_from _ (standard_of c.args.place c.args.single.now.target) c.open-answer.result c.args.place _ c.args.self.now.ports.table.made c.prepare_opening.new.self.ports.table.made c.open-answer.new.self.table.made c.prepare_opening.ensures.made c.open-answer.ensures.ports)
 
 pub returns-in_default-clause-begun : goal.returns-in_default-clause-begun
 returns-in_default-clause-begun g c =
-    unopened (standard_of c.args.place c.args.single.now.target) c.args.self.now.ports.harbor c.prepare_opening.new.self.ports.harbor
+    unopened (standard_of c.args.place c.args.single.now.target) c.args.self.now.ports.table c.prepare_opening.new.self.ports.table
     (record { input = c.prepare_opening.ensures.streams.0; output = c.prepare_opening.ensures.streams.1; errors = c.prepare_opening.ensures.streams.2 })
 
 pub returns-in_default-clause-ports : goal.returns-in_default-clause-ports
-returns-in_default-clause-ports g c = no_ports (standard_of c.args.place c.args.single.now.target) c.args.self.now.ports.harbor.made c.prepare_opening.new.self.ports.harbor.made c.prepare_opening.ensures.made
+returns-in_default-clause-ports g c = no_ports (standard_of c.args.place c.args.single.now.target) c.args.self.now.ports.table.made c.prepare_opening.new.self.ports.table.made c.prepare_opening.ensures.made

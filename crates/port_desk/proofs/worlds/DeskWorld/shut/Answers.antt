@@ -1,6 +1,6 @@
 use Rattle.port_trait.specs.Streams.{finishes}
 use Rattle.desk_places.proofs.MarkLemmas.{marks_shut}
-use Rattle.desk_ports.specs.Harbors.{taking_pier}
+use Rattle.port_table.specs.PortTables.{taking_port}
 use Rattle.desk_places.specs.Stations.{base_at}
 use Rattle.port_desk.proofs.CallLemmas.{not_called, shut_so}
 use Rattle.port_desk.proofs.worlds.DeskWorld.shut.Goals as goal
@@ -13,8 +13,8 @@ returns-clause-marks g c =
 pub returns-clause-call : goal.returns-clause-call
 returns-clause-call g c =
     rw c.keep_shut.ensures.answer
-    (shut_so (base_at c.args.self.now.log.stations.entries c.args.place) taking_pier c.args.self.now.ports.harbor c.shut-answer.new.self.harbor c.args.how c.shut-answer.result
+    (shut_so (base_at c.args.self.now.log.stations.entries c.args.place) taking_port c.args.self.now.ports.table c.shut-answer.new.self.table c.args.how c.shut-answer.result
     (rw c.reserve.ensures.stations at c.shut-answer.ensures.call))
 
 pub returns-in_default-clause-call : goal.returns-in_default-clause-call
-returns-in_default-clause-call g c = not_called (base_at c.args.self.now.log.stations.entries c.args.place) taking_pier c.args.self.now.ports.harbor
+returns-in_default-clause-call g c = not_called (base_at c.args.self.now.log.stations.entries c.args.place) taking_port c.args.self.now.ports.table

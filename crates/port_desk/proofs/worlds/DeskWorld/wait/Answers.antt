@@ -1,5 +1,5 @@
 use Rattle.desk_places.specs.Stations.{hold_at}
-use Rattle.desk_naming.proofs.NamingLemmas.{names_on}
+use Rattle.desk_places.proofs.NamingLemmas.{names_on}
 use Rattle.port_desk.proofs.worlds.DeskWorld.wait.Goals as goal
 
 pub returns-then-stop-clause-named : goal.returns-then-stop-clause-named

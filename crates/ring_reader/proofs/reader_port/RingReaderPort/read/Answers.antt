@@ -3,9 +3,9 @@ use Rattle.std.specs.Prelude.{Some}
 use Rattle.std.proofs.lemmas.Bool.{false≢true}
 use Rattle.port_trait.specs.declared.counts.Counts.{Counts}
 use Rattle.crossbeam_queue.specs.Passes.{view}
-use Rattle.ordered_queue.specs.declared.roles.View.{View}
-use Rattle.ring_items.specs.declared.items.RingItem.{RingItem}
-use Rattle.ring_items.specs.declared.items.RingItem.TheVariants as kinds
+use Rattle.ring_queue.specs.declared.roles.View.{View}
+use Rattle.ring_queue.specs.declared.items.RingItem.{RingItem}
+use Rattle.ring_queue.specs.declared.items.RingItem.TheVariants as kinds
 use Rattle.ring_reader.proofs.Readings.{gives_held, takes_chunk, takes_end, takes_fault, gives_of_held, gives_of_chunk, given_mark, gave_some}
 use Rattle.ring_reader.proofs.reader_port.RingReaderPort.read.Goals as goal
 

@@ -1,10 +1,10 @@
 use Rattle.std.proofs.Common.{◌++◌, take, ap, ◌∙◌}
 use Rattle.std.specs.Prelude.{Some}
-use Rattle.ring_items.specs.declared.items.RingItem.TheVariants as items
-use Rattle.ring_items.specs.Items.{bytes_of}
+use Rattle.ring_queue.specs.declared.items.RingItem.TheVariants as items
+use Rattle.ring_queue.specs.Items.{bytes_of}
 use Rattle.ring_writer.specs.WriterRing.{line_of}
 use Rattle.ring_writer.specs.Writers.{took_of}
-use Rattle.ring_items.proofs.ItemLists.{bytes_snoc}
+use Rattle.ring_queue.proofs.ItemLists.{bytes_snoc}
 use Rattle.ring_writer.proofs.writer.RingWriterPort.write.Goals as goal
 
 pub returns-in-Took-clause-accepts : goal.returns-in-Took-clause-accepts

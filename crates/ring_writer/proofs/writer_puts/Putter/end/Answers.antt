@@ -1,9 +1,9 @@
 use Rattle.std.proofs.Common.{rules, ◌≡◌, ◌+◌, [], ◌∷◌, ◌++◌, ap, ◌∙◌, sym, if◌then◌else◌}
 use Rattle.crossbeam_queue.specs.Passes.{view}
-use Rattle.ordered_queue.specs.declared.roles.View.{View}
-use Rattle.ring_items.specs.declared.items.RingItem.{RingItem}
-use Rattle.ring_items.specs.declared.items.RingItem.TheVariants as items
-use Rattle.ring_items.specs.Items.{told}
+use Rattle.ring_queue.specs.declared.roles.View.{View}
+use Rattle.ring_queue.specs.declared.items.RingItem.{RingItem}
+use Rattle.ring_queue.specs.declared.items.RingItem.TheVariants as items
+use Rattle.ring_queue.specs.Items.{told}
 use Rattle.ring_writer.proofs.Putting.{end_bytes, end_marked, end_last}
 use Rattle.ring_writer.proofs.writer_puts.Putter.end.Goals as goal
 

@@ -1,6 +1,6 @@
 use Rattle.std.proofs.Common.{◌≡◌, ◌-◌, ◌≤◌, length, take}
 use Rattle.crossbeam_queue.specs.Passes.{view}
-use Rattle.ring_items.specs.Items.{AddsChunks}
+use Rattle.ring_queue.specs.Items.{AddsChunks}
 use Rattle.ring_writer.specs.WriterPuts.{IsPutting}
 use Rattle.ring_writer.proofs.writer_puts.Putter.put_all.Given as goal
 

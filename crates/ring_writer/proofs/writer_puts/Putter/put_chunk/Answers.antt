@@ -1,8 +1,8 @@
 use Rattle.std.proofs.Common.{rules, length, ◌≡◌, [], ◌∷◌, ◌++◌, sym, ap, ◌∙◌}
 use Rattle.crossbeam_queue.specs.Passes.{view}
-use Rattle.ordered_queue.specs.declared.roles.View.{View}
-use Rattle.ring_items.specs.declared.items.RingItem.{RingItem}
-use Rattle.ring_items.specs.declared.items.RingItem.TheVariants as items
+use Rattle.ring_queue.specs.declared.roles.View.{View}
+use Rattle.ring_queue.specs.declared.items.RingItem.{RingItem}
+use Rattle.ring_queue.specs.declared.items.RingItem.TheVariants as items
 use Rattle.ring_writer.proofs.Putting.{chunk_told, chunk_marks, chunk_last}
 use Rattle.ring_writer.proofs.writer_puts.Putter.put_chunk.Goals as goal
 

@@ -1,8 +1,8 @@
 use Rattle.std.proofs.Common.{refl, ap, ◌∙◌}
-use Rattle.ordered_queue.specs.declared.roles.View.{View}
+use Rattle.ring_queue.specs.declared.roles.View.{View}
 use Rattle.crossbeam_queue.specs.Passes.{Pass, view}
-use Rattle.ring_items.specs.declared.items.RingItem.{RingItem}
-use Rattle.ring_items.specs.Items.{is_end_mark, last_is}
+use Rattle.ring_queue.specs.declared.items.RingItem.{RingItem}
+use Rattle.ring_queue.specs.Items.{is_end_mark, last_is}
 use Rattle.ring_writer.proofs.Truth.{ends_true}
 use Rattle.ring_writer.proofs.writer_thread.WriterWork.run.Goals as goal
 

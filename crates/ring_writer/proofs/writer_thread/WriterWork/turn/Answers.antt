@@ -1,6 +1,6 @@
 use Rattle.std.proofs.Common.{◌<◌, ◌≤◌, length, arith}
 use Rattle.crossbeam_queue.specs.Passes.{view}
-use Rattle.ring_items.specs.Items.{bytes_of}
+use Rattle.ring_queue.specs.Items.{bytes_of}
 use Rattle.ring_writer.proofs.Truth.{fails_true, gathered, dropped_too, gathered_up, dropped_up}
 use Rattle.ring_writer.proofs.writer_thread.WriterWork.turn.Goals as goal
 

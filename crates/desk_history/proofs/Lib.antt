@@ -1,3 +1,0 @@
-pub mod FollowCalled
-pub mod FollowLemmas
-pub mod FollowSteps

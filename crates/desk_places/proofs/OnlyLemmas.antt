@@ -1,0 +1,91 @@
+-- What a turn names and nothing else: halves whose key was named, and disarmed ones whose port hints so.
+use Rattle.std.proofs.Common.{◌≡◌, ◌≤◌, ◌<◌, ◌⊎◌, inl, inr, ℕ, Bool, true, false, List, [], ◌∷◌, ◌++◌, length, slice_get, Option, Some, None, IfSome, sym, ap, subst, ◌∙◌, arith}
+use Rattle.std.specs.Bool.{OnTrue, OnFalse}
+use Rattle.slab.specs.Slab.{SameValues}
+use Rattle.relay_model.specs.declared.places.Place.{Place}
+use Rattle.relay_model.specs.declared.places.Half.{Half}
+use Rattle.relay_model.specs.declared.places.Half.TheVariants.{ToRead, ToWrite}
+use Rattle.relay_model.specs.declared.readiness.ReadyAt.{ReadyAt}
+use Rattle.relay_model.specs.Readiness.{Listed}
+use Rattle.port_trait.specs.declared.answers.Hint.{Hint}
+use Rattle.port_table.specs.PortTables.{PortId, SameStreams, giving_port, taking_port}
+use Rattle.port_table.specs.Ports.{StreamSeen}
+use Rattle.port_table.specs.declared.bases.Base.TheVariants as bases
+use Rattle.port_table.specs.declared.table.PortTable.{PortTable}
+use Rattle.desk_places.specs.declared.stations.Station.{Station}
+use Rattle.desk_places.specs.Stations.{base_at, half_disarmed, station_at}
+use Rattle.desk_places.specs.Naming.{HintsOnly, IsDue, IsKeyed, MayHint, NamesOnly, WaitsIdle, half_port, is_hinted, told_by}
+use Rattle.desk_places.proofs.TurnLemmas.{told_same}
+
+only_last : (keys : List (ℕ × Half)) (told : PortId → Option Hint) (stations : List Station) (xs : List ReadyAt) (e : ReadyAt) → IsDue keys told stations e.place e.half → NamesOnly keys told stations xs → NamesOnly keys told stations (xs ++ e ∷ [])
+only_last keys told stations [] e due only = (due, tt)
+only_last keys told stations (x ∷ xs) e due only = (only.0, only_last keys told stations xs e due only.1)
+
+-- one more entry, full or not
+pub push_only : (b : Bool) (old new : Listed) (e : ReadyAt) → OnTrue b (new ≡ record old { entries = old.entries ++ e ∷ [] }) → OnFalse b (new ≡ old) → (keys : List (ℕ × Half)) (told : PortId → Option Hint) (stations : List Station) → IsDue keys told stations e.place e.half → NamesOnly keys told stations old.entries → NamesOnly keys told stations new.entries
+push_only true old new e pushed refused keys told stations due only = rw pushed (only_last keys told stations old.entries e due only)
+push_only false old new e pushed refused keys told stations due only = rw refused only
+
+-- the first entry of a list
+pub first_due : (keys : List (ℕ × Half)) (told : PortId → Option Hint) (stations : List Station) (entries : List ReadyAt) (e : ReadyAt) → NamesOnly keys told stations entries → slice_get entries 0 ≡ Some e → IsDue keys told stations e.place e.half
+first_due keys told stations [] e only first = absurd cc
+first_due keys told stations (x ∷ xs) e only first = let same : x ≡ e = cc in subst (λ (it : ReadyAt). IsDue keys told stations it.place it.half) same only.0
+
+-- an empty list names nothing else
+pub only_none : (keys : List (ℕ × Half)) (told : PortId → Option Hint) (stations : List Station) (entries : List ReadyAt) → entries ≡ [] → NamesOnly keys told stations entries
+only_none keys told stations entries none = subst (λ xs. NamesOnly keys told stations xs) (sym none) tt
+
+may_read : (slot : Option Hint) (hint : Hint) → IfSome slot (λ told. hint.readable ≡ told.readable) → hint.readable ≡ true → IfSome slot (λ told. told.readable ≡ true)
+may_read None hint same is = tt
+may_read (Some told) hint same is = sym same ∙ is
+
+may_write : (slot : Option Hint) (hint : Hint) → IfSome slot (λ told. hint.writable ≡ told.writable) → hint.writable ≡ true → IfSome slot (λ told. told.writable ≡ true)
+may_write None hint same is = tt
+may_write (Some told) hint same is = sym same ∙ is
+
+-- a half that the hint of its port finds ready
+pub station_due : (keys : List (ℕ × Half)) (told : PortId → Option Hint) (stations : List Station) (station : Station) (hint : Hint) → station_at stations station.place ≡ Some station → IfSome (told (giving_port station.base)) (λ h. hint.readable ≡ h.readable) → IfSome (told (taking_port station.base)) (λ h. hint.writable ≡ h.writable) → (half : Half) → half_disarmed half (Some station) ≡ true → is_hinted half hint ≡ true → IsDue keys told stations station.place half
+station_due keys told stations station hint here reading writing ToRead off is = inr (subst (λ slot. MayHint told slot ToRead) (sym here) (off, may_read (told (giving_port station.base)) hint reading is))
+station_due keys told stations station hint here reading writing ToWrite off is = inr (subst (λ slot. MayHint told slot ToWrite) (sym here) (off, may_write (told (taking_port station.base)) hint writing is))
+
+may_as : (told told' : PortId → Option Hint) (slot : Option Station) (half : Half) → ((id : PortId) → told' id ≡ told id) → MayHint told' slot half → MayHint told slot half
+may_as told told' None half same may = may
+may_as told told' (Some station) half same may = (may.0, subst (λ o. IfSome o (λ hint. is_hinted half hint ≡ true)) (same (half_port half station.base)) may.1)
+
+due_as : (keys : List (ℕ × Half)) (told told' : PortId → Option Hint) (stations : List Station) (p : Place) (half : Half) → ((id : PortId) → told' id ≡ told id) → IsDue keys told' stations p half → IsDue keys told stations p half
+due_as keys told told' stations p half same (inl keyed) = inl keyed
+due_as keys told told' stations p half same (inr may) = inr (may_as told told' (station_at stations p) half same may)
+
+-- ports that tell the same hints
+pub only_as : (keys : List (ℕ × Half)) (told told' : PortId → Option Hint) (stations : List Station) (xs : List ReadyAt) → ((id : PortId) → told' id ≡ told id) → NamesOnly keys told' stations xs → NamesOnly keys told stations xs
+only_as keys told told' stations [] same only = tt
+only_as keys told told' stations (x ∷ xs) same only = (due_as keys told told' stations x.place x.half same only.0, only_as keys told told' stations xs same only.1)
+
+-- a table whose ports tell what they told
+pub told_still : {T I O E : Type 0} (a b : PortTable T I O E) → SameStreams a b → SameValues a.made b.made → (id : PortId) → told_by b id ≡ told_by a id
+told_still a b same made =
+    told_same a.input.port.hints a.output.port.hints a.errors.port.hints b.input.port.hints b.output.port.hints b.errors.port.hints a.made b.made
+    (ap (λ (s : StreamSeen). s.port.hints) same.input) (ap (λ (s : StreamSeen). s.port.hints) same.output) (ap (λ (s : StreamSeen). s.port.hints) same.errors) made
+
+-- and told it before
+pub told_back : {T I O E : Type 0} (a b : PortTable T I O E) → SameStreams a b → SameValues a.made b.made → (id : PortId) → told_by a id ≡ told_by b id
+told_back a b same made id = sym (told_still a b same made id)
+
+-- one more step, of ports that tell what they told
+pub only_step : {T I O E : Type 0} (keys : List (ℕ × Half)) (a b : PortTable T I O E) (stations : List Station) (xs ys : List ReadyAt) → SameStreams a b → SameValues a.made b.made → (NamesOnly keys (told_by b) stations xs → NamesOnly keys (told_by b) stations ys) → NamesOnly keys (told_by a) stations xs → NamesOnly keys (told_by a) stations ys
+only_step keys a b stations xs ys same made step only =
+    only_as keys (told_by a) (told_by b) stations ys (told_still a b same made) (step (only_as keys (told_by b) (told_by a) stations xs (told_back a b same made) only))
+
+pub still_then : {T I O E : Type 0} (a b c : PortTable T I O E) → SameStreams a b → SameStreams b c → SameStreams a c
+still_then a b c first then = record { input = then.input ∙ first.input; output = then.output ∙ first.output; errors = then.errors ∙ first.errors }
+
+unkeyed : (stations : List Station) (p : Place) (half : Half) → IsKeyed [] stations p half → ⊥
+unkeyed stations p half keyed = let e = keyed.entry in absurd cc
+
+none_due : (told : PortId → Option Hint) (stations : List Station) (p : Place) (half : Half) → ((q : Place) (h : Half) → MayHint told (station_at stations q) h → ⊥) → IsDue [] told stations p half → ⊥
+none_due told stations p half none (inl keyed) = unkeyed stations p half keyed
+none_due told stations p half none (inr may) = none p half may
+
+-- where a half was named by a hint, the poll needn't wait
+pub never_idle : (told : PortId → Option Hint) (stations : List Station) (entries : List ReadyAt) (e : ReadyAt) (until asked : Option ℕ) → NamesOnly [] told stations entries → slice_get entries 0 ≡ Some e → WaitsIdle told stations until asked
+never_idle told stations entries e until asked only first = λ none. absurd (none_due told stations e.place e.half none (first_due [] told stations entries e only first))

@@ -1,0 +1,121 @@
+-- What a turn is to name: halves whose key a poller named, and disarmed ones whose port hints that they are ready.
+use Rattle.std.specs.Prelude.{◌≡◌, ◌≤◌, ◌⊎◌, ℕ, Bool, true, List, [], ◌∷◌, length, slice_get, Option, None, Some, IfSome, ⊤}
+use Rattle.relay_model.specs.declared.places.Place.{Place}
+use Rattle.relay_model.specs.declared.places.Half.{Half}
+use Rattle.relay_model.specs.declared.places.Half.TheVariants.{ToRead, ToWrite}
+use Rattle.relay_model.specs.declared.readiness.ReadyAt.{ReadyAt}
+use Rattle.relay_model.specs.Readiness.{names}
+use Rattle.port_trait.specs.declared.answers.Hint.{Hint}
+use Rattle.slab.specs.Slab.{Slab, get}
+use Rattle.port_table.specs.Bases.{is_standard}
+use Rattle.port_table.specs.PortTables.{PortId, giving_port, hint_told, place_of, taking_port}
+use Rattle.port_table.specs.Ports.{EntrySeen}
+use Rattle.port_table.specs.declared.bases.Base.{Base}
+use Rattle.port_table.specs.declared.bases.Base.TheVariants as bases
+use Rattle.port_table.specs.declared.table.PortTable.{PortTable}
+use Rattle.desk_places.specs.declared.stations.Station.{Station}
+use Rattle.desk_places.specs.Stations.{base_at, half_disarmed, station_at}
+
+-- the hint that each port of the table tells
+abbrev pub told_by : {T I O E : Type 0} → PortTable T I O E → PortId → Option Hint
+told_by table = hint_told table.input.port.hints table.output.port.hints table.errors.port.hints table.made
+
+-- the half is named, unless the list is full
+abbrev pub IsNamed : List ReadyAt → Place → Half → Type 0
+IsNamed ready p half = (names ready p half ≡ true) ⊎ (256 ≤ length ready)
+
+-- what was named stays so
+pub record Grown (before now : List ReadyAt) : Type 0 where
+  pub kept : (p : Place) (half : Half) → names before p half ≡ true → names now p half ≡ true
+  pub longer : length before ≤ length now
+
+-- a half whose key the poller named is named for the place that stands on that key
+abbrev pub KeyNamed : ℕ × Half → List Station → List ReadyAt → Type 0
+KeyNamed e stations ready = (p : Place) → base_at stations p ≡ Some (bases.Made e.0) → names ready p e.1 ≡ true
+
+-- each half whose key was named stands in the list
+abbrev pub NamesKeyed : List (ℕ × Half) → List Station → List ReadyAt → Type 0
+NamesKeyed entries stations ready = (i : ℕ) (e : ℕ × Half) → slice_get entries i ≡ Some e → KeyNamed e stations ready
+
+-- the port of a half of a place
+abbrev pub half_port : Half → Base → PortId
+half_port ToRead base = giving_port base
+half_port ToWrite base = taking_port base
+
+-- the hint tells of this half
+abbrev pub is_hinted : Half → Hint → Bool
+is_hinted ToRead hint = hint.readable
+is_hinted ToWrite hint = hint.writable
+
+-- the disarmed halves of the station that the hint finds ready are named
+abbrev pub HintNamed : Station → Hint → List ReadyAt → Type 0
+HintNamed station hint ready = (half : Half) → half_disarmed half (Some station) ≡ true → is_hinted half hint ≡ true → IsNamed ready station.place half
+
+-- the disarmed halves of the station whose port tells that they are ready are named
+abbrev pub StationNamed : (PortId → Option Hint) → Station → List ReadyAt → Type 0
+StationNamed told station ready = (half : Half) → half_disarmed half (Some station) ≡ true → IfSome (told (half_port half station.base)) (λ hint. is_hinted half hint ≡ true → IsNamed ready station.place half)
+
+-- the same of the station of a place, if it is held
+abbrev pub PlaceNamed : (PortId → Option Hint) → List Station → Place → List ReadyAt → Type 0
+PlaceNamed told stations p ready = IfSome (station_at stations p) (λ station. StationNamed told station ready)
+
+-- each disarmed half on a standard stream that tells that it is ready is named
+abbrev pub NamesStandard : (PortId → Option Hint) → List Station → List ReadyAt → Type 0
+NamesStandard told stations ready = (p : Place) → IfSome (station_at stations p) (λ station. is_standard station.base ≡ true → StationNamed told station ready)
+
+-- each disarmed half on a made port of these keys that tells that it is ready is named
+abbrev pub NamesListed : (PortId → Option Hint) → List Station → Slab EntrySeen → List ℕ → List ReadyAt → Type 0
+NamesListed told stations made keys ready = (i : ℕ) (key : ℕ) → slice_get keys i ≡ Some key → IfSome (place_of (get made key)) (λ place. PlaceNamed told stations place ready)
+
+-- each disarmed half whose port tells that it is ready is named
+abbrev pub NamesHinting : (PortId → Option Hint) → List Station → List ReadyAt → Type 0
+NamesHinting told stations ready = (p : Place) → PlaceNamed told stations p ready
+
+-- a hint that is told tells of this half
+abbrev pub IsHinted : Half → Option Hint → Type 0
+IsHinted half None = ⊥
+IsHinted half (Some hint) = is_hinted half hint ≡ true
+
+-- the half of the station is disarmed, and its port tells that it is ready
+abbrev pub IsHinting : (PortId → Option Hint) → Option Station → Half → Type 0
+IsHinting told None half = ⊥
+IsHinting told (Some station) half = (half_disarmed half (Some station) ≡ true) × IsHinted half (told (half_port half station.base))
+
+-- the poller named the key that the place stands on, and this half of it
+pub record IsKeyed (keys : List (ℕ × Half)) (stations : List Station) (p : Place) (half : Half) : Type 0 where
+  pub index : ℕ
+  pub key : ℕ
+  pub entry : slice_get keys index ≡ Some (key, half)
+  pub based : base_at stations p ≡ Some (bases.Made key)
+
+-- the half of the station is disarmed, and its port tells that it is ready, or doesn't tell
+abbrev pub MayHint : (PortId → Option Hint) → Option Station → Half → Type 0
+MayHint told None half = ⊥
+MayHint told (Some station) half = (half_disarmed half (Some station) ≡ true) × IfSome (told (half_port half station.base)) (λ hint. is_hinted half hint ≡ true)
+
+-- a half may be named where its key was, or where it is disarmed and its port hints so
+abbrev pub IsDue : List (ℕ × Half) → (PortId → Option Hint) → List Station → Place → Half → Type 0
+IsDue keys told stations p half = IsKeyed keys stations p half ⊎ MayHint told (station_at stations p) half
+
+-- no other half is named
+abbrev pub NamesOnly : List (ℕ × Half) → (PortId → Option Hint) → List Station → List ReadyAt → Type 0
+NamesOnly keys told stations [] = ⊤
+NamesOnly keys told stations (e ∷ ready) = IsDue keys told stations e.place e.half × NamesOnly keys told stations ready
+
+-- of a station the halves are named that are disarmed and that the hint finds ready, and no others
+abbrev pub HintsOnly : Station → Hint → List ReadyAt → List ReadyAt → Type 0
+HintsOnly station hint before now =
+    (keys : List (ℕ × Half)) (told : PortId → Option Hint) (stations : List Station) →
+    ((half : Half) → half_disarmed half (Some station) ≡ true → is_hinted half hint ≡ true → IsDue keys told stations station.place half) →
+    NamesOnly keys told stations before → NamesOnly keys told stations now
+
+-- where no half can hint, the poll is asked to wait as the turn asks
+abbrev pub WaitsIdle : (PortId → Option Hint) → List Station → Option ℕ → Option ℕ → Type 0
+WaitsIdle told stations until asked = ((p : Place) (half : Half) → MayHint told (station_at stations p) half → ⊥) → asked ≡ until
+
+-- until when a poll is asked to wait: where a half hints it is asked for the moment of the last turn, and so doesn't
+-- wait, and where nothing came to be named it was asked as the turn was
+pub record PollsUntil (told : PortId → Option Hint) (stations : List Station) (ready : List ReadyAt) (last : ℕ) (until asked : Option ℕ) : Type 0 where
+  pub at_once : (p : Place) (half : Half) → IsHinting told (station_at stations p) half → asked ≡ Some last
+  pub waits : ready ≡ [] → asked ≡ until
+  pub either : (asked ≡ Some last) ⊎ (asked ≡ until)

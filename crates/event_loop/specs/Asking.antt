@@ -1,0 +1,57 @@
+-- What the calls of the program door make of the loop.
+use Rattle.std.specs.Prelude.{◌≡◌, ℕ, ◌<◌, List, Option, Some, None}
+use Rattle.relay_model.specs.declared.commands.Config.{Config}
+use Rattle.relay_model.specs.declared.acts.Act.{Act}
+use Rattle.relay_model.specs.Sessions.{admitted}
+use Rattle.relay_session.specs.declared.sessions.PendingSession.{PendingSession}
+use Rattle.relay_session.specs.Sessions.{IsPendingSession}
+use Rattle.program_door.specs.declared.wishes.DoorWish.TheVariants as wishes
+use Rattle.program_door.specs.Steps.{steps_of}
+use Rattle.program_door.specs.Wishes.{Wished}
+use Rattle.fork_table.specs.Tables.{HasRoom, SameBounds, row_of}
+use Rattle.world_trait.specs.Seen.{Seen}
+use Rattle.event_loop.specs.declared.all_sessions.Sessions.{Sessions}
+use Rattle.event_loop.specs.declared.asked.Asked.{Asked}
+use Rattle.event_loop.specs.declared.asked.Asked.TheVariants as asks
+use Rattle.event_loop.specs.Courses.{NextIs, Course, Keeps, NoWork, SameLists}
+use Rattle.event_loop.specs.Endings.{MayEnd}
+
+-- the next session is taken out, and nothing else changed
+pub record SameButNext (before after : Sessions) : Type 0 where
+  pub door_same : after.door ≡ before.door
+  pub clock_same : after.clock ≡ before.clock
+  pub made_same : after.made ≡ before.made
+  pub admitted_same : after.table.admitted ≡ before.table.admitted
+  pub bounds_same : SameBounds before.table after.table
+  pub rows_same : (s : ℕ) → row_of after.table s ≡ row_of before.table s
+  pub lists : SameLists before after
+  pub next : (c : Config) (past : List Act) → NextIs c past before.pending_session → NextIs c past after.pending_session
+
+-- it is the next one, and there is room for it
+pub record TakesNext (c : Config) (pending_session : PendingSession) (before after : Sessions) : Type 0 where
+  pub is_next : (past : List Act) → NextIs c past before.pending_session → before.table.admitted ≡ admitted c past → IsPendingSession c (admitted c past) pending_session
+  pub room : HasRoom after.table
+  pub taken : after.pending_session ≡ None
+
+-- the door waits until this moment
+pub record DoorWaits (c : Config) (n : ℕ) (start now : Seen) (until : Option ℕ) (sessions : Sessions) : Type 0 where
+  pub past : List Act
+  pub course : Course c n start now past sessions
+  pub wished : Wished c past (wishes.Sleep until)
+
+-- the door is over
+pub record DoorIsOver (c : Config) (n : ℕ) (start now : Seen) (sessions : Sessions) : Type 0 where
+  pub past : List Act
+  pub course : Course c n start now past sessions
+  pub wished : Wished c past wishes.Done
+
+-- the door and all sessions came to this
+abbrev pub AskedIs : Config → Seen → Seen → Sessions → Sessions → Asked → Type 0
+AskedIs c old new before after (asks.Waits until) = ((n : ℕ) (start : Seen) (past : List Act) → Course c n start old past before → DoorWaits c n start new until after) × NoWork after × (after.made ≡ before.made)
+AskedIs c old new before after asks.Over = ((n : ℕ) (start : Seen) (past : List Act) → Course c n start old past before → DoorIsOver c n start new after) × NoWork after × (after.made ≡ before.made)
+AskedIs c old new before after (asks.Ends why) = (n : ℕ) (start : Seen) (past : List Act) → Course c n start old past before → MayEnd c n start new why after
+
+-- they did, or one more call of the door was made
+abbrev pub GoesOn : Config → Seen → Seen → Sessions → Sessions → Option Asked → Type 0
+GoesOn c old new before after None = Keeps c old new before after × NoWork after × (steps_of after.door < steps_of before.door) × (after.made ≡ before.made)
+GoesOn c old new before after (Some asked) = AskedIs c old new before after asked

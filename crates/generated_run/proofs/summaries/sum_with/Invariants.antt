@@ -1,5 +1,0 @@
-use Rattle.std.proofs.Common.{◌≡◌, ◌+◌, take, sum}
-use Rattle.generated_run.proofs.summaries.sum_with.Given as goal
-
-abbrev pub invariant-loop-byte : goal.invariant-loop-byte
-invariant-loop-byte l = l.total ≡ l.before + sum (take l.byte-index l.bytes)

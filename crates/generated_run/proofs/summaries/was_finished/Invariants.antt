@@ -1,6 +1,0 @@
-use Rattle.std.proofs.Common.{◌≡◌, ◌-◌, false, length, drop}
-use Rattle.generated_run.specs.Sums.{was_finished}
-use Rattle.generated_run.proofs.summaries.was_finished.Given as goal
-
-abbrev pub invariant-loop-i : goal.invariant-loop-i
-invariant-loop-i l = was_finished (drop (length l.journal.acts - l.i) l.journal.acts) l.session ≡ false

@@ -1,0 +1,11 @@
+pub mod Admissions
+pub mod Begun
+pub mod CallLemmas
+pub mod Elsewhere
+pub mod Growth
+pub mod Holdings
+pub mod OwnThings
+pub mod Permitted
+pub mod PlaceLemmas
+pub mod Resting
+pub mod Untouched

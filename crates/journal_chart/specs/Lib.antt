@@ -1,0 +1,3 @@
+pub mod Timelines
+pub mod Elements
+pub mod Pictures

@@ -1,0 +1,3 @@
+pub mod Dumped
+pub mod Lines
+pub mod Faults

@@ -1,0 +1,4 @@
+pub mod Sources
+pub mod Views
+pub mod Shown
+pub mod Runs

@@ -1,0 +1,4 @@
+pub mod Visits
+pub mod Told
+pub mod Rows
+pub mod Streams

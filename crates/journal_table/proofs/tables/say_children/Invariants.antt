@@ -1,0 +1,9 @@
+use Rattle.std.proofs.Common.{◌≡◌, length}
+use Rattle.journal_table.specs.Tables.{children_beside}
+use Rattle.journal_table.proofs.tables.say_children.Given as goal
+
+abbrev pub invariant-loop-places : goal.invariant-loop-places
+invariant-loop-places l = children_beside l.overview.acts l.page l.places ≡ children_beside l.overview.acts l.initial.page l.initial.places
+
+abbrev pub decreases-loop-places : goal.decreases-loop-places
+decreases-loop-places l = length l.places

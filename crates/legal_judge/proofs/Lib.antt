@@ -1,6 +1,0 @@
-pub mod Counts
-pub mod Holding
-pub mod Implied
-pub mod Judged
-pub mod Lists
-pub mod Pieces

@@ -1,6 +1,0 @@
--- Call by call.
-use Rattle.peer_laws.proofs.Waking.{nobody_waits}
-use Rattle.peer_laws.proofs.nobody_waits_in_vain.Goals as goal
-
-pub returns : goal.returns
-returns c = nobody_waits

@@ -1,6 +1,0 @@
--- Call by call.
-use Rattle.peer_laws.proofs.Kept.{nothing_lost}
-use Rattle.peer_laws.proofs.nothing_is_lost.Goals as goal
-
-pub returns : goal.returns
-returns c = nothing_lost

@@ -1,6 +1,0 @@
-use Rattle.std.proofs.Common.{◌≡◌, ℕ, take, false}
-use Rattle.peer_ports.specs.Pollers.{has_shared}
-use Rattle.peer_ports.proofs.poller.has_shared.Given as goal
-
-abbrev pub invariant-loop-i : goal.invariant-loop-i
-invariant-loop-i l = has_shared (take l.i l.ready.entries) ≡ false

@@ -1,4 +1,0 @@
-pub mod Crowds
-pub mod Links
-pub mod Pollers
-pub mod Ports

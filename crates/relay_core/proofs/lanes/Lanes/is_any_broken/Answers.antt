@@ -1,6 +1,0 @@
-use Rattle.std.proofs.Common.{◌∙◌, ◌||◌}
-use Rattle.relay_model.specs.declared.places.Way.TheVariants.{LeftToRight, RightToLeft}
-use Rattle.relay_core.proofs.lanes.Lanes.is_any_broken.Goals as goal
-
-pub returns : goal.returns
-returns c = λ k past s l. c.either.ensures ∙ (λ i. c.is_broken.ensures k past s LeftToRight l.to_right_is i || c.is_broken-2.ensures k past s RightToLeft l.to_left_is i)

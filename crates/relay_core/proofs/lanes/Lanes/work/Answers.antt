@@ -1,6 +1,0 @@
-use Rattle.std.proofs.Common.{◌∙◌, ◌||◌}
-use Rattle.relay_model.specs.declared.places.Way.TheVariants.{LeftToRight, RightToLeft}
-use Rattle.relay_core.proofs.lanes.Lanes.work.Goals as goal
-
-pub returns : goal.returns
-returns c = λ k past s l now runs. c.either.ensures ∙ (λ i. c.works.ensures k past s LeftToRight l.to_right_is now runs i || c.works-2.ensures k past s RightToLeft l.to_left_is now runs i)

@@ -1,6 +1,0 @@
--- The outcome asks for the same events in the same order.
-use Rattle.relay_core.proofs.Ended.{ended}
-use Rattle.relay_core.proofs.laws.cause_is_told.Goals as goal
-
-pub returns : goal.returns
-returns c = ended

@@ -1,6 +1,0 @@
--- Only the one session calls for anything.
-use Rattle.relay_core.proofs.Held.{held_own}
-use Rattle.relay_core.proofs.laws.held_is_own.Goals as goal
-
-pub returns : goal.returns
-returns c = held_own

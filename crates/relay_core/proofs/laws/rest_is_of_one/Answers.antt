@@ -1,6 +1,0 @@
--- The program door and the next session rest, since neither has begun.
-use Rattle.relay_core.proofs.Waiting.{rest_of}
-use Rattle.relay_core.proofs.laws.rest_is_of_one.Goals as goal
-
-pub returns : goal.returns
-returns c = rest_of

@@ -1,6 +1,0 @@
--- Only a shut leaves an open thing shut down.
-use Rattle.relay_core.proofs.Standings.{open_where_unshut}
-use Rattle.relay_core.proofs.laws.unshut_is_open.Goals as goal
-
-pub returns : goal.returns
-returns c = open_where_unshut

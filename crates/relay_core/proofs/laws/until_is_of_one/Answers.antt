@@ -1,6 +1,0 @@
--- No other session and no program door has a moment.
-use Rattle.relay_core.proofs.Waiting.{until_alone}
-use Rattle.relay_core.proofs.laws.until_is_of_one.Goals as goal
-
-pub returns : goal.returns
-returns c = until_alone

@@ -1,2 +1,0 @@
-pub mod BothRuns
-pub mod Ending

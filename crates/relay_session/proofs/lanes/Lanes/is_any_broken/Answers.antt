@@ -1,0 +1,6 @@
+use Rattle.std.proofs.Common.{◌||◌}
+use Rattle.relay_model.specs.declared.places.Way.TheVariants.{LeftToRight, RightToLeft}
+use Rattle.relay_session.proofs.lanes.Lanes.is_any_broken.Goals as goal
+
+pub returns : goal.returns
+returns c = λ k past s l. (λ i. c.is_broken.ensures k past s LeftToRight l.to_right_is i || c.is_broken-2.ensures k past s RightToLeft l.to_left_is i)

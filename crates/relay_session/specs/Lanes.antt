@@ -1,0 +1,126 @@
+-- The two directions of a session, each where the command forms it.
+use Rattle.std.specs.Prelude.{◌≡◌, ℕ, ◌+◌, Bool, true, false, List, [], Option, Some, None, is_some}
+use Rattle.relay_model.specs.declared.places.Place.{Place}
+use Rattle.relay_model.specs.declared.places.Way.{Way}
+use Rattle.relay_model.specs.declared.places.Way.TheVariants.{LeftToRight, RightToLeft}
+use Rattle.relay_model.specs.declared.commands.Config.{Config}
+use Rattle.relay_model.specs.declared.acts.Act.{Act}
+use Rattle.relay_model.specs.Configs.{formed, way_from, way_to}
+use Rattle.relay_buffer.specs.Flows.{room_in}
+use Rattle.session_direction.specs.States.{can_read, can_write, steps_in}
+use Rattle.relay_model.specs.declared.acts.Shut.{Shut as Shutting}
+use Rattle.relay_model.specs.Configs.{keeps_borders}
+use Rattle.relay_model.specs.Transfers.{greatest_read}
+use Rattle.relay_model.specs.May.{MayRead, MayTryWrite, MayShut}
+use Rattle.session_direction.specs.Directions.{IsDirection, WantsNothing}
+use Rattle.relay_session.specs.declared.wishes.Wish.{Wish}
+use Rattle.relay_session.specs.declared.wishes.Wish.TheVariants as wishes
+use Rattle.relay_session.specs.declared.lanes.Lane.{Lane}
+use Rattle.relay_session.specs.declared.lanes.Lane.TheVariants.{Unformed, Formed}
+use Rattle.relay_session.specs.declared.lanes.Lanes.{Lanes}
+
+-- a lane stands for a direction, or the command forms none
+abbrev pub IsLane : Config → List Act → ℕ → Way → Lane → Type 0
+IsLane c past s w Unformed = formed c w ≡ false
+IsLane c past s w (Formed d) = IsDirection c past s w d
+
+-- the two lanes stand for the two directions
+pub record AreLanes (c : Config) (past : List Act) (s : ℕ) (lanes : Lanes) : Type 0 where
+  pub to_right_is : IsLane c past s LeftToRight lanes.to_right
+  pub to_left_is : IsLane c past s RightToLeft lanes.to_left
+
+-- the lane of a direction
+abbrev pub lane_at : Lanes → Way → Lane
+lane_at lanes LeftToRight = lanes.to_right
+lane_at lanes RightToLeft = lanes.to_left
+
+-- the bytes that wait in a lane, and how many more it has room for
+abbrev pub waiting_in : Lane → List ℕ
+waiting_in Unformed = []
+waiting_in (Formed d) = d.flow.backlog
+
+-- how many bytes may be read next in a lane
+abbrev pub room_of : Lane → ℕ
+room_of Unformed = 0
+room_of (Formed d) = room_in d.flow
+
+-- how many steps they take at most before the next turn
+abbrev pub lane_steps : Lane → ℕ
+lane_steps Unformed = 0
+lane_steps (Formed d) = steps_in d
+
+-- how many calls both lanes take at most before the next turn
+abbrev pub lanes_steps : Lanes → ℕ
+lanes_steps lanes = lane_steps lanes.to_right + lane_steps lanes.to_left
+
+-- its input may be asked before the next turn, and its output
+abbrev pub can_read_in : Lane → Bool
+can_read_in Unformed = false
+can_read_in (Formed d) = can_read d
+
+-- a lane can pay for a write
+abbrev pub can_write_in : Lane → Bool
+can_write_in Unformed = false
+can_write_in (Formed d) = can_write d
+
+-- each piece of the lane goes out as one packet
+abbrev pub keeps_pieces : Lane → Bool
+keeps_pieces Unformed = false
+keeps_pieces (Formed d) = is_some d.flow.lane.packets
+
+-- what waits to be written at a place, and how many bytes may be read there
+abbrev pub waiting_at : Lanes → Place → List ℕ
+waiting_at lanes p = waiting_in (lane_at lanes (way_to p.side))
+
+-- how many bytes may be read next at a place
+abbrev pub room_at : Lanes → Place → ℕ
+room_at lanes p = room_of (lane_at lanes (way_from p.side))
+
+-- borders are kept at a place
+abbrev pub keeps_at : Lanes → Place → Bool
+keeps_at lanes p = keeps_pieces (lane_at lanes (way_to p.side))
+
+-- a place may be asked for bytes before the next turn, and offered some
+abbrev pub can_read_at : Lanes → Place → Bool
+can_read_at lanes p = can_read_in (lane_at lanes (way_from p.side))
+
+-- a write at the place can be paid for
+abbrev pub can_write_at : Lanes → Place → Bool
+can_write_at lanes p = can_write_in (lane_at lanes (way_to p.side))
+
+-- ---- what a lane wishes for
+
+-- so many bytes may be read at a place of the session
+pub record Reads (c : Config) (past : List Act) (s : ℕ) (p : Place) (n : ℕ) : Type 0 where
+  pub own : p.session ≡ s
+  pub may : MayRead c past p n
+  pub size : n ≡ greatest_read c past s (way_from p.side)
+
+-- what waits may be offered to a place of the session
+pub record Offers (c : Config) (past : List Act) (s : ℕ) (p : Place) (borders : Bool) : Type 0 where
+  pub own : p.session ≡ s
+  pub may : MayTryWrite c past p
+  pub keeps : keeps_borders c (way_to p.side) ≡ borders
+
+-- the end may be passed on at a place of the session
+pub record Shuts (c : Config) (past : List Act) (s : ℕ) (p : Place) (how : Shutting) : Type 0 where
+  pub own : p.session ≡ s
+  pub may : MayShut c past p how
+
+-- a read is at the lane's input and a write at its output, which weren't asked since the last turn or can be paid for
+abbrev pub LaneWishes : Config → List Act → ℕ → Way → Lane → Option Wish → Type 0
+LaneWishes c past s w lane None = WantsNothing c past s w
+LaneWishes c past s w lane (Some (wishes.Read p n)) = Reads c past s p n × (way_from p.side ≡ w) × (can_read_in lane ≡ true)
+LaneWishes c past s w lane (Some (wishes.Write p)) = Offers c past s p false × (way_to p.side ≡ w) × (can_write_in lane ≡ true)
+LaneWishes c past s w lane (Some (wishes.Send p)) = Offers c past s p true × (way_to p.side ≡ w) × (can_write_in lane ≡ true)
+LaneWishes c past s w lane (Some (wishes.Shut p how)) = Shuts c past s p how
+LaneWishes c past s w lane (Some other) = ⊥
+
+-- what both directions want: nothing, or the call that one of them wishes for
+abbrev pub LanesWish : Config → List Act → ℕ → Lanes → Option Wish → Type 0
+LanesWish c past s lanes None = (w : Way) → WantsNothing c past s w
+LanesWish c past s lanes (Some (wishes.Read p n)) = Reads c past s p n × (can_read_at lanes p ≡ true)
+LanesWish c past s lanes (Some (wishes.Write p)) = Offers c past s p false × (can_write_at lanes p ≡ true)
+LanesWish c past s lanes (Some (wishes.Send p)) = Offers c past s p true × (can_write_at lanes p ≡ true)
+LanesWish c past s lanes (Some (wishes.Shut p how)) = Shuts c past s p how
+LanesWish c past s lanes (Some other) = ⊥

@@ -1,0 +1,454 @@
+// The two directions of a session, each where the command forms it.
+ghost use Rattle.std.specs.Prelude.{◌≡◌, if◌then◌else◌, ℕ, ◌+◌, ◌<◌, ◌≤◌, ◌&&◌, ◌||◌, ◌∷◌, ◌++◌, [], not, List, Option, length, take, true, false, is_some, IfOk};
+ghost use Rattle.relay_model.specs.declared.acts.Act.{Act};
+ghost use Rattle.relay_model.specs.declared.acts.Act.TheVariants as acts;
+ghost use Rattle.relay_model.specs.declared.acts.Peer.{Peer as Visitor};
+ghost use Rattle.relay_model.specs.declared.acts.Shut.{Shut as Shutting};
+ghost use Rattle.relay_model.specs.declared.commands.Config.{Config as Command};
+ghost use Rattle.relay_model.specs.declared.places.Way.{Way as Direct};
+ghost use Rattle.relay_model.specs.declared.places.Way.TheVariants.{LeftToRight, RightToLeft};
+ghost use Rattle.relay_model.specs.declared.readiness.ReadyAt.{ReadyAt as Entry};
+ghost use Rattle.relay_model.specs.Configs.{formed as forms, Fit};
+ghost use Rattle.relay_model.specs.History.{now as last_moment};
+ghost use Rattle.relay_model.specs.Choices.{later, earlier};
+ghost use Rattle.relay_model.specs.Moments.{passed, broken, done, done_at};
+ghost use Rattle.relay_model.specs.Cause.{running, each_formed, some_formed};
+ghost use Rattle.relay_model.specs.Rest.{way_work, input_moment};
+ghost use Rattle.relay_model.specs.May.{MayRead, MayTryWrite, MayShut};
+ghost use Rattle.relay_model.specs.Places.{same_place};
+ghost use Rattle.relay_model.specs.Configs.{way_to};
+ghost use Rattle.session_direction.specs.Directions.{listed, IsDirection};
+ghost use Rattle.session_direction.specs.States.{steps_in};
+ghost use Rattle.session_direction.specs.Touches.{touches};
+ghost use Rattle.relay_model.specs.Readiness.{Listed};
+ghost use Rattle.relay_session.specs.Timers.{one_done_at};
+ghost use Rattle.relay_model.specs.Moments.{is_unfinished};
+ghost use Rattle.relay_session.specs.Transfers.{transfer_act, MayTransfer, affords, affords_at, is_read, place_for, way_of, opposite};
+
+use crate::moments::{earlier as lesser, one_of};
+use crate::transfers::Transfer;
+use crate::wishes::Wish;
+use command_places::formed;
+use relay_model::{Config, NoMemory, Place, ReadyAt, Side, Way};
+use session_direction::{Direction, Want};
+use std::alloc::Global;
+
+/// A direction, where the command forms it.
+#[derive(Drop)]
+pub enum Lane {
+    Unformed,
+    Formed(Direction),
+}
+
+impl Lane {
+    ghost use Rattle.relay_session.specs.Lanes.{IsLane, waiting_in, keeps_pieces, lane_steps, LaneWishes};
+
+    /// A direction of the session with this number, at the beginning; only one that is formed takes memory.
+    pub fn new(alloc: Global, config: &Config, number: u32, way: Way) -> Result<Lane, NoMemory>
+        requires { Fit config.now }
+        ensures { IfOk result (λ lane. IsLane config.now [] number way lane) }
+    {
+        if formed(config, way) {
+            Ok(Lane::Formed(Direction::new(alloc, config, number, way)?))
+        } else {
+            Ok(Lane::Unformed)
+        }
+    }
+
+    /// The call that it wishes for while the session runs, if there is one.
+    pub fn wish(&self, now: u64) -> Option<Wish>
+        ensures { (c : Command) (past : List Act) (s : ℕ) (w : Direct) → IsLane c past s w self.now → now ≡ last_moment past
+            → running c past s ≡ true → Fit c → LaneWishes c past s w self.now result }
+    {
+        let Lane::Formed(direction) = self else {
+            return None;
+        };
+        match direction.want(now) {
+            Want::Shut(how) => Some(Wish::Shut(direction.sink(), how)),
+            Want::Write => Some(Wish::Write(direction.sink())),
+            Want::Send => Some(Wish::Send(direction.sink())),
+            Want::Read(at_most) => Some(Wish::Read {
+                place: direction.source(),
+                at_most,
+            }),
+            Want::Nothing => None,
+        }
+    }
+
+    pub fn is_formed(&self) -> bool
+        ensures { (c : Command) (past : List Act) (s : ℕ) (w : Direct) → IsLane c past s w self.now → result ≡ forms c w }
+    {
+        match self {
+            Lane::Unformed => false,
+            Lane::Formed(_direction) => true,
+        }
+    }
+
+    /// Whether it has passed its end on, or isn't formed.
+    fn has_passed_if_formed(&self) -> bool
+        ensures { (c : Command) (past : List Act) (s : ℕ) (w : Direct) → IsLane c past s w self.now
+            → result ≡ (not (forms c w) || passed c past s w) }
+    {
+        match self {
+            Lane::Unformed => true,
+            Lane::Formed(direction) => direction.has_passed(),
+        }
+    }
+
+    /// Whether it is done, or isn't formed.
+    fn is_done_if_formed(&self) -> bool
+        ensures { (c : Command) (past : List Act) (s : ℕ) (w : Direct) → IsLane c past s w self.now
+            → result ≡ (not (forms c w) || done c past s w) }
+    {
+        match self {
+            Lane::Unformed => true,
+            Lane::Formed(direction) => direction.done_at().is_some(),
+        }
+    }
+
+    /// Whether it is formed and a fault broke it.
+    fn is_broken(&self) -> bool
+        ensures { (c : Command) (past : List Act) (s : ℕ) (w : Direct) → IsLane c past s w self.now
+            → result ≡ (forms c w && broken c past s w) }
+    {
+        match self {
+            Lane::Unformed => false,
+            Lane::Formed(direction) => direction.is_broken(),
+        }
+    }
+
+    /// The moment at which it was done: it had passed its end or was broken.
+    pub fn done_at(&self) -> Option<u64>
+        ensures { (c : Command) (past : List Act) (s : ℕ) (w : Direct) → IsLane c past s w self.now → forms c w ≡ true
+            → result ≡ done_at c past s w }
+    {
+        match self {
+            Lane::Unformed => None,
+            Lane::Formed(direction) => direction.done_at(),
+        }
+    }
+
+    /// Whether armed work is left, so that a wait must return at once.
+    pub fn works(&self, now: u64) -> bool
+        ensures { (c : Command) (past : List Act) (s : ℕ) (w : Direct) → IsLane c past s w self.now → now ≡ last_moment past
+            → running c past s ≡ true → result ≡ way_work c past s w }
+    {
+        match self {
+            Lane::Unformed => false,
+            Lane::Formed(direction) => direction.works(now),
+        }
+    }
+
+    /// The moment, later than now, at which its input is asked again after an end.
+    pub fn moment(&self, now: u64) -> Option<u64>
+        ensures { (c : Command) (past : List Act) (s : ℕ) (w : Direct) → IsLane c past s w self.now → now ≡ last_moment past
+            → running c past s ≡ true → result ≡ later (last_moment past) (input_moment c past s w) }
+    {
+        match self {
+            Lane::Unformed => None,
+            Lane::Formed(direction) => direction.moment(now),
+        }
+    }
+
+    /// The front of what waits.
+    pub fn pending(&self) -> &[u8]
+        ensures front { result.now ≡ take (length result.now) (waiting_in self.now) }
+        ensures some { result.now ≡ [] → waiting_in self.now ≡ [] }
+        ensures whole { keeps_pieces self.now ≡ true → result.now ≡ waiting_in self.now }
+    {
+        match self {
+            Lane::Unformed => &[],
+            Lane::Formed(direction) => direction.pending(),
+        }
+    }
+
+    /// A place was opened, or a peer was accepted there.
+    pub fn opened(&mut self, place: Place)
+        ensures opened { (c : Command) (past : List Act) (s : ℕ) (w : Direct) → IsLane c past s w self.old
+            → IsLane c (acts.Opened place ∷ past) s w self.new }
+        ensures accepted { (c : Command) (past : List Act) (s : ℕ) (w : Direct) (peer : Visitor) → IsLane c past s w self.old
+            → IsLane c (acts.Accepted place peer ∷ past) s w self.new }
+        ensures same { lane_steps self.new ≡ lane_steps self.old }
+    {
+        if let Lane::Formed(direction) = self {
+            direction.opened(place);
+        }
+    }
+
+    /// A read, a write or a shut was answered at a place, this direction's or another.
+    pub fn hear(&mut self, now: u64, place: Place, transfer: Transfer<'_>)
+        ensures goes { (c : Command) (past : List Act) (s : ℕ) (w : Direct) (waiting : List ℕ) → IsLane c past s w self.old
+            → now ≡ last_moment past → place.session ≡ s → (way_to place.side ≡ w → waiting ≡ waiting_in self.old)
+            → MayTransfer c past place waiting transfer.entry
+            → IsLane c (transfer_act place waiting transfer.entry ∷ past) s w self.new }
+        ensures fewer { (c : Command) (past : List Act) (s : ℕ) (w : Direct) (waiting : List ℕ) → IsLane c past s w self.old
+            → place.session ≡ s → way_of place transfer.entry ≡ w
+            → (way_to place.side ≡ w → waiting ≡ waiting_in self.old)
+            → MayTransfer c past place waiting transfer.entry → affords self.old transfer.entry ≡ true
+            → lane_steps self.new < lane_steps self.old }
+        ensures same { (c : Command) (past : List Act) (s : ℕ) (w : Direct) → IsLane c past s w self.old
+            → way_of place transfer.entry ≡ opposite w → lane_steps self.new ≡ lane_steps self.old }
+    {
+        if let Lane::Formed(direction) = self {
+            if concerns(direction, place, transfer) {
+                hear(direction, now, transfer);
+            } else {
+                direction.unmoved();
+            }
+        }
+    }
+
+    /// A law: an act that doesn't touch the direction leaves it, and so does a stop that a turn tells of.
+    fn unmoved(&self)
+        ensures untouched { (c : Command) (past : List Act) (s : ℕ) (w : Direct) (act : Act) → IsLane c past s w self.now
+            → touches c s w act ≡ false → IsLane c (act ∷ past) s w self.now }
+        ensures stopped { (c : Command) (past : List Act) (s : ℕ) (w : Direct) (until : Option ℕ) (at : ℕ) (ready : Listed)
+            → IsLane c (acts.Turn until at ready false ∷ past) s w self.now
+            → IsLane c (acts.Turn until at ready true ∷ past) s w self.now }
+    {
+        if let Lane::Formed(direction) = self {
+            direction.unmoved();
+        }
+    }
+
+    /// A wait has returned that names nothing yet.
+    pub fn woken(&mut self)
+        ensures { (c : Command) (past : List Act) (s : ℕ) (w : Direct) (until : Option ℕ) (at : ℕ)
+            → IsLane c past s w self.old → IsLane c (acts.Turn until at (listed []) false ∷ past) s w self.new }
+    {
+        if let Lane::Formed(direction) = self {
+            direction.woken();
+        }
+    }
+
+    /// The last turn names this half too.
+    pub fn named(&mut self, entry: ReadyAt)
+        ensures { (c : Command) (past : List Act) (s : ℕ) (w : Direct) (until : Option ℕ) (at : ℕ) (names : List Entry)
+            → IsLane c (acts.Turn until at (listed names) false ∷ past) s w self.old
+            → IsLane c (acts.Turn until at (listed (names ++ entry ∷ [])) false ∷ past) s w self.new }
+    {
+        if let Lane::Formed(direction) = self {
+            direction.named(entry);
+        }
+    }
+}
+
+/// The direction from left to right and the one from right to left.
+#[derive(Drop)]
+pub struct Lanes {
+    pub to_right: Lane,
+    pub to_left: Lane,
+}
+
+impl Lanes {
+    ghost use Rattle.relay_session.specs.Lanes.{AreLanes, LanesWish, lanes_steps, waiting_at, keeps_at};
+
+    /// Both directions of the session with this number, at the beginning.
+    pub fn new(alloc: Global, config: &Config, number: u32) -> Result<Lanes, NoMemory>
+        requires { Fit config.now }
+        ensures { IfOk result (λ lanes. AreLanes config.now [] number lanes) }
+    {
+        let to_right = Lane::new(alloc, config, number, Way::LeftToRight)?;
+        let to_left = Lane::new(alloc, config, number, Way::RightToLeft)?;
+        Ok(Lanes { to_right, to_left })
+    }
+
+    /// The call that a direction wishes for while the session runs, the one to the right first.
+    pub fn wish(&self, now: u64) -> Option<Wish>
+        ensures { (c : Command) (past : List Act) (s : ℕ) → AreLanes c past s self.now → now ≡ last_moment past
+            → running c past s ≡ true → Fit c → LanesWish c past s self.now result }
+    {
+        match self.to_right.wish(now) {
+            Some(wish) => Some(wish),
+            None => self.to_left.wish(now),
+        }
+    }
+
+    /// Whether each formed direction has passed its end on.
+    pub fn have_passed(&self) -> bool
+        ensures { (c : Command) (past : List Act) (s : ℕ) → AreLanes c past s self.now → result ≡ each_formed c (passed c past s) }
+    {
+        self.to_right.has_passed_if_formed() & self.to_left.has_passed_if_formed()
+    }
+
+    /// Whether each formed direction is done: it has passed its end on or is broken.
+    pub fn are_done(&self) -> bool
+        ensures each { (c : Command) (past : List Act) (s : ℕ) → AreLanes c past s self.now → result ≡ each_formed c (done c past s) }
+        ensures unfinished { (c : Command) (past : List Act) (s : ℕ) → AreLanes c past s self.now → not result ≡ is_unfinished c past s }
+    {
+        self.to_right.is_done_if_formed() & self.to_left.is_done_if_formed()
+    }
+
+    /// Whether a fault broke a direction.
+    pub fn is_any_broken(&self) -> bool
+        ensures { (c : Command) (past : List Act) (s : ℕ) → AreLanes c past s self.now → result ≡ some_formed c (broken c past s) }
+    {
+        self.to_right.is_broken() | self.to_left.is_broken()
+    }
+
+    /// Where exactly one of two directions is done, the moment at which it was.
+    pub fn one_done_at(&self) -> Option<u64>
+        ensures { (c : Command) (past : List Act) (s : ℕ) → AreLanes c past s self.now → result ≡ one_done_at c past s }
+    {
+        let both_formed = self.to_right.is_formed() & self.to_left.is_formed();
+        if both_formed {
+            one_of(self.to_right.done_at(), self.to_left.done_at())
+        } else {
+            None
+        }
+    }
+
+    /// Whether armed work is left in a direction.
+    pub fn work(&self, now: u64) -> bool
+        ensures { (c : Command) (past : List Act) (s : ℕ) → AreLanes c past s self.now → now ≡ last_moment past
+            → running c past s ≡ true → result ≡ (way_work c past s LeftToRight || way_work c past s RightToLeft) }
+    {
+        self.to_right.works(now) | self.to_left.works(now)
+    }
+
+    /// The least moment, later than now, at which an input is asked again after an end.
+    pub fn moment(&self, now: u64) -> Option<u64>
+        ensures { (c : Command) (past : List Act) (s : ℕ) → AreLanes c past s self.now → now ≡ last_moment past
+            → running c past s ≡ true
+            → result ≡ earlier (later (last_moment past) (input_moment c past s LeftToRight)) (later
+            (last_moment past) (input_moment c past s RightToLeft)) }
+    {
+        lesser(self.to_right.moment(now), self.to_left.moment(now))
+    }
+
+    /// The front of what waits to be written at the place.
+    pub fn pending(&self, place: Place) -> &[u8]
+        ensures front { result.now ≡ take (length result.now) (waiting_at self.now place) }
+        ensures some { result.now ≡ [] → waiting_at self.now place ≡ [] }
+        ensures whole { keeps_at self.now place ≡ true → result.now ≡ waiting_at self.now place }
+    {
+        match place.side {
+            Side::Right => self.to_right.pending(),
+            Side::Left => self.to_left.pending(),
+        }
+    }
+
+    /// A place was opened, or a peer was accepted there.
+    pub fn opened(&mut self, place: Place)
+        ensures opened { (c : Command) (past : List Act) (s : ℕ) → AreLanes c past s self.old
+            → AreLanes c (acts.Opened place ∷ past) s self.new }
+        ensures accepted { (c : Command) (past : List Act) (s : ℕ) (peer : Visitor) → AreLanes c past s self.old
+            → AreLanes c (acts.Accepted place peer ∷ past) s self.new }
+        ensures same { lanes_steps self.new ≡ lanes_steps self.old }
+    {
+        self.to_right.opened(place);
+        self.to_left.opened(place);
+    }
+
+    /// A read, a write or a shut was answered at the place.
+    pub fn hear(&mut self, now: u64, place: Place, transfer: Transfer<'_>)
+        ensures goes { (c : Command) (past : List Act) (s : ℕ) → AreLanes c past s self.old → now ≡ last_moment past
+            → place.session ≡ s → MayTransfer c past place (waiting_at self.old place) transfer.entry
+            → AreLanes c (transfer_act place (waiting_at self.old place) transfer.entry ∷ past) s self.new }
+        ensures fewer { (c : Command) (past : List Act) (s : ℕ) → AreLanes c past s self.old → place.session ≡ s
+            → MayTransfer c past place (waiting_at self.old place) transfer.entry
+            → affords_at self.old place transfer.entry ≡ true → lanes_steps self.new < lanes_steps self.old }
+    {
+        self.to_right.hear(now, place, transfer);
+        self.to_left.hear(now, place, transfer);
+    }
+
+    /// A wait has returned that names nothing yet.
+    pub fn woken(&mut self)
+        ensures { (c : Command) (past : List Act) (s : ℕ) (until : Option ℕ) (at : ℕ) → AreLanes c past s self.old
+            → AreLanes c (acts.Turn until at (listed []) false ∷ past) s self.new }
+    {
+        self.to_right.woken();
+        self.to_left.woken();
+    }
+
+    /// The last turn names this half too.
+    pub fn named(&mut self, entry: ReadyAt)
+        ensures { (c : Command) (past : List Act) (s : ℕ) (until : Option ℕ) (at : ℕ) (names : List Entry)
+            → AreLanes c (acts.Turn until at (listed names) false ∷ past) s self.old
+            → AreLanes c (acts.Turn until at (listed (names ++ entry ∷ [])) false ∷ past) s self.new }
+    {
+        self.to_right.named(entry);
+        self.to_left.named(entry);
+    }
+
+    /// A law: an act that touches no direction leaves them, and so does a stop that a turn tells of.
+    pub fn unmoved(&self)
+        ensures untouched { (c : Command) (past : List Act) (s : ℕ) (act : Act) → AreLanes c past s self.now
+            → touches c s LeftToRight act ≡ false → touches c s RightToLeft act ≡ false
+            → AreLanes c (act ∷ past) s self.now }
+        ensures stopped { (c : Command) (past : List Act) (s : ℕ) (until : Option ℕ) (at : ℕ) (ready : Listed)
+            → AreLanes c (acts.Turn until at ready false ∷ past) s self.now
+            → AreLanes c (acts.Turn until at ready true ∷ past) s self.now }
+    {
+        self.to_right.unmoved();
+        self.to_left.unmoved();
+    }
+}
+
+/// Whether a transfer at a place is one of this direction's.
+fn concerns(direction: &Direction, place: Place, transfer: Transfer<'_>) -> bool
+    ensures { result ≡ (if is_read transfer.entry then same_place place direction.now.source else same_place place direction.now.sink) }
+{
+    match transfer {
+        Transfer::Read(_)
+        | Transfer::ReadEmpty
+        | Transfer::ReadEnd
+        | Transfer::ReadNotYet
+        | Transfer::ReadFailed => place.is(direction.source()),
+        Transfer::Wrote(_)
+        | Transfer::WriteNotYet
+        | Transfer::WriteFailed
+        | Transfer::Shut(_)
+        | Transfer::ShutFailed(_) => place.is(direction.sink()),
+    }
+}
+
+/// Takes in a transfer of this direction.
+fn hear(direction: &mut Direction, now: u64, transfer: Transfer<'_>)
+    ensures goes { (c : Command) (past : List Act) (s : ℕ) (w : Direct) → IsDirection c past s w direction.old
+        → now ≡ last_moment past
+        → MayTransfer c past (place_for c s w transfer.entry) direction.old.flow.backlog transfer.entry
+        → IsDirection c (transfer_act (place_for c s w transfer.entry) direction.old.flow.backlog transfer.entry ∷
+        past) s w direction.new }
+    ensures fewer { (c : Command) (past : List Act) (s : ℕ) (w : Direct) → IsDirection c past s w direction.old
+        → MayTransfer c past (place_for c s w transfer.entry) direction.old.flow.backlog transfer.entry
+        → affords (Lane.Formed direction.old) transfer.entry ≡ true → steps_in direction.new < steps_in direction.old }
+{
+    match transfer {
+        Transfer::Read(bytes) => direction.read(fitting(bytes, direction.room())),
+        Transfer::ReadEmpty => direction.read_empty(),
+        Transfer::ReadEnd => direction.ended(now),
+        Transfer::ReadNotYet => direction.read_not_yet(),
+        Transfer::ReadFailed => direction.read_failed(now),
+        Transfer::Wrote(count) => direction.wrote(taken(direction, count)),
+        Transfer::WriteNotYet => direction.write_not_yet(),
+        Transfer::WriteFailed => direction.write_failed(now),
+        Transfer::Shut(_how) => direction.passed(now),
+        Transfer::ShutFailed(_how) => direction.passed(now),
+    }
+}
+
+/// The bytes, of which there is room for all.
+fn fitting(bytes: &[u8], room: usize) -> &[u8]
+    ensures within { length result.now ≤ room }
+    ensures same { length bytes.now ≤ room → result.now ≡ bytes.now }
+{
+    &bytes[..bytes.len().min(room)]
+}
+
+/// The number of bytes that were taken of those that wait: all, where they go out as one packet.
+fn taken(direction: &Direction, count: usize) -> usize
+    ensures within { result ≤ length direction.now.flow.backlog }
+    ensures whole { is_some direction.now.flow.lane.packets ≡ true → result ≡ length direction.now.flow.backlog }
+    ensures same { count ≤ length direction.now.flow.backlog
+        → (is_some direction.now.flow.lane.packets ≡ true → count ≡ length direction.now.flow.backlog)
+        → result ≡ count }
+{
+    let waiting = direction.waiting();
+    if direction.keeps_borders() {
+        waiting
+    } else {
+        count.min(waiting)
+    }
+}

@@ -1,5 +1,0 @@
-pub mod Endings
-pub mod Items
-pub mod Stores
-pub mod Tallies
-pub mod Words

@@ -1,0 +1,3 @@
+pub mod ItemLists
+pub mod Moves
+pub mod Rises

@@ -1,0 +1,35 @@
+// What a ring counts.
+ghost use Rattle.std.specs.Prelude.{◌≡◌, Some};
+ghost use Rattle.port_trait.specs.Counting.{Tallied, Fault};
+ghost use Rattle.ring_queue.specs.Tallies.{no_tally, with_misuse};
+
+use port_trait::Counts;
+
+/// The answers of a ring that need a cause, and how many of its faults are calls that it doesn't serve. The number
+/// stays at its last value.
+#[derive(Clone, Copy, Debug, PartialEq)]
+pub struct Tally {
+    pub counts: Counts,
+    pub misuses: u64,
+}
+
+impl Tally {
+    /// Nothing was counted yet.
+    pub fn new() -> Tally
+        ensures { result ≡ no_tally }
+    {
+        Tally {
+            counts: Counts::new(),
+            misuses: 0,
+        }
+    }
+
+    /// Counts a call that the ring doesn't serve.
+    pub fn count_misuse(&mut self)
+        ensures misused { self.new ≡ with_misuse self.old }
+        ensures counted { Tallied (Some Fault) self.old.counts self.new.counts }
+    {
+        self.counts.count_fault();
+        self.misuses = self.misuses.saturating_add(1);
+    }
+}

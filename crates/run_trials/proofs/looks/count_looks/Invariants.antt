@@ -1,0 +1,5 @@
+use Rattle.event_loop.specs.Loops.{Somewhere}
+use Rattle.run_trials.proofs.looks.count_looks.Given as goal
+
+abbrev pub invariant-loop : goal.invariant-loop
+invariant-loop g l = Somewhere (g.W.World.seen l.world) l.whole

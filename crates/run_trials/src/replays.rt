@@ -1,0 +1,64 @@
+// A command and the answers to its session: how many fitted, the wish after them with what it offers, and the history.
+ghost use Rattle.std.specs.Prelude.{◌≡◌, false};
+ghost use Rattle.relay_model.specs.declared.commands.Dump.TheVariants as dumps;
+ghost use Rattle.relay_model.specs.Configs.{Fit, has_fork};
+
+use crate::replies::{reply_of, tell_wish};
+use case_rows::{Answered, Answers, Inputs, RowFault, bytes_of};
+use cmd_words::{Command, command_of};
+use command_places::has_fork;
+use journal_text::write_journal;
+use relay_model::{Config, Dump, Text, Texts};
+use session_replay::{Reply, replay};
+use std::alloc::Global;
+
+pub(crate) fn ask(alloc: Global, inputs: &mut Inputs<'_>, answers: &mut Answers) -> Answered {
+    let words = words_of(alloc, inputs)?;
+    let replies = replies_of(alloc, inputs)?;
+    match command_of(alloc, words.as_slice()) {
+        Ok(Command::Relay(config)) => tell(alloc, &config, replies.as_slice(), answers),
+        _ => Err(RowFault::NoRow),
+    }
+}
+
+/// The words of the command, up to `answers`.
+fn words_of(alloc: Global, inputs: &mut Inputs<'_>) -> Result<Texts, RowFault> {
+    let mut words = Texts::new(alloc);
+    for _ in 0..u64::MAX {
+        let word = inputs.word()?;
+        if word == "answers" {
+            return Ok(words);
+        }
+        words.push(text_of(alloc, word)?)?;
+    }
+    Err(RowFault::NoRow)
+}
+
+fn text_of(alloc: Global, word: &str) -> Result<Text, RowFault> {
+    let bytes = bytes_of(alloc, word)?;
+    Ok(Text::of(alloc, bytes.as_slice())?)
+}
+
+fn replies_of(alloc: Global, inputs: &mut Inputs<'_>) -> Result<Vec<Reply>, RowFault> {
+    let mut replies = Vec::new(alloc);
+    for _ in 0..u64::MAX {
+        let Some(word) = inputs.step() else {
+            break;
+        };
+        replies.push(reply_of(alloc, word)?)?;
+    }
+    Ok(replies)
+}
+
+fn tell(alloc: Global, config: &Config, replies: &[Reply], answers: &mut Answers) -> Answered
+    requires { Fit config.now }
+{
+    if has_fork(config) || config.dump != Dump::Off {
+        return Err(RowFault::NoRow);
+    }
+    let replayed = replay(alloc, config, replies)?;
+    answers.number(replayed.taken)?;
+    tell_wish(&replayed.last, answers)?;
+    answers.bytes(replayed.offered.as_slice())?;
+    answers.bytes(write_journal(alloc, &replayed.journal)?.as_slice())
+}

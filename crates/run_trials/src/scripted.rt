@@ -1,0 +1,69 @@
+// Runs over a scripted world.
+ghost use Rattle.std.specs.Prelude.{◌≡◌};
+ghost use Rattle.relay_model.specs.declared.places.Place.{Place as Spot};
+ghost use Rattle.relay_model.specs.Holding.{Free};
+
+use crate::looks::{Bound, Journaled, looks_seldom};
+use crate::scripts::world_of;
+use cmd_words::{Command, command_of};
+use exit_status::status;
+use relay_model::{Bytes, Text};
+use socat_top::{Saving, socat};
+use std::alloc::Global;
+use worked_rows::{Line, Ran, Row, RowFault, part};
+
+/// Runs the words of the row, and again for each line that bounds its looks at sessions.
+pub(crate) fn run_scripted(
+    alloc: Global,
+    row: &Row<'_>,
+    words: &[Text],
+) -> Result<Vec<Ran>, RowFault> {
+    let mut ran = run_script(alloc, row, words)?;
+    for line in row.over.as_slice() {
+        ran.ports.push(look_line(alloc, row, words, *line)?)?;
+    }
+    Ok(Vec::from_array(alloc, [ran])?)
+}
+
+fn run_script(alloc: Global, row: &Row<'_>, words: &[Text]) -> Result<Ran, RowFault> {
+    let mut world = world_of(alloc, row.script.as_slice())?;
+    run_over(alloc, &mut world, words, row.turns)
+}
+
+/// Runs the words over a world in which nothing is held.
+fn run_over<W: Journaled>(
+    alloc: Global,
+    world: &mut W,
+    words: &[Text],
+    turns: u64,
+) -> Result<Ran, RowFault>
+    requires { (p : Spot) → (W.seen world.old).held p ≡ Free }
+{
+    let outcome = socat(alloc, world, words, turns);
+    let parted = part(alloc, world.acts())?;
+    Ok(Ran {
+        outcome,
+        status: status(&outcome),
+        said: parted.note,
+        journal: parted.journal,
+        saving: Saving::NotAsked,
+        saved: Bytes::of(alloc, b"")?,
+        ports: Vec::new(alloc),
+    })
+}
+
+/// What is said of the looks that the line bounds.
+fn look_line(
+    alloc: Global,
+    row: &Row<'_>,
+    words: &[Text],
+    line: Line<'_>,
+) -> Result<String, RowFault> {
+    let bound = Bound::of(line)?;
+    let Ok(Command::Relay(config)) = command_of(alloc, words) else {
+        return Err(line.fault());
+    };
+    let mut world = world_of(alloc, row.script.as_slice())?;
+    let seldom = looks_seldom(alloc, &mut world, &config, row.turns, bound)?;
+    Ok(String::from_str(alloc, if seldom { "looks few" } else { "looks many" })?)
+}

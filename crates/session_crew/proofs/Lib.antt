@@ -1,4 +1,0 @@
-pub mod Ends
-pub mod Members
-pub mod Rests
-pub mod Waits

@@ -1,3 +1,0 @@
-pub mod Crews
-pub mod Laws
-pub mod Wholes

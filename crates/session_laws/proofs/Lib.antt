@@ -1,0 +1,14 @@
+pub mod Beginnings
+pub mod Ended
+pub mod Ending
+pub mod Ends
+pub mod Grounds
+pub mod Members
+pub mod Noted
+pub mod Others
+pub mod OwnCalls
+pub mod Rests
+pub mod Standing
+pub mod Stays
+pub mod Waited
+pub mod Waits

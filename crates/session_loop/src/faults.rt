@@ -1,0 +1,37 @@
+// What failed first.
+ghost use Rattle.std.specs.Prelude.{◌≡◌, Some, Option};
+ghost use Rattle.relay_model.specs.Choices.{or_else};
+ghost use Rattle.relay_model.specs.Outcome as whole;
+ghost use Rattle.exit_status.specs.Outcomes.{half_of};
+
+use exit_status::{Op, Outcome};
+use relay_model::Place;
+
+/// A read or a write that failed.
+#[derive(Clone, Copy, Debug, PartialEq, Eq)]
+pub struct Fault {
+    pub place: Place,
+    pub op: Op,
+}
+
+ghost use Rattle.session_loop.specs.Answers.{told_fault, fault_or as told_or};
+
+/// The first fault, after one more.
+pub fn first_of(earlier: Option<Fault>, place: Place, op: Op) -> Option<Fault>
+    ensures { told_fault result ≡ or_else (told_fault earlier) (Some (whole.Faulted place (half_of op))) }
+{
+    match earlier {
+        Some(fault) => Some(fault),
+        None => Some(Fault { place, op }),
+    }
+}
+
+/// The first fault, where there was one, and else this outcome.
+pub fn fault_or(outcome: Outcome, fault: Option<Fault>) -> Outcome
+    ensures { result ≡ told_or outcome fault }
+{
+    match fault {
+        Some(Fault { place, op }) => Outcome::Faulted { place, op },
+        None => outcome,
+    }
+}

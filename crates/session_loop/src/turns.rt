@@ -1,0 +1,191 @@
+// The turns of a session that is driven: up to a sleep, the sleep, and so on until it is done.
+ghost use Rattle.std.specs.Prelude.{◌≡◌, ℕ, ◌+◌, ◌<◌, ◌≤◌, ◌∷◌, [], List, Option, length, true, false, IfSome, IfNone};
+ghost use Rattle.relay_model.specs.declared.acts.Act.{Act};
+ghost use Rattle.relay_model.specs.declared.acts.Act.TheVariants as acts;
+ghost use Rattle.relay_model.specs.declared.acts.Why.TheVariants as whys;
+ghost use Rattle.exit_status.specs.declared.outcomes.Outcome.TheVariants as outcomes;
+ghost use Rattle.relay_model.specs.declared.commands.Config.{Config as Command};
+ghost use Rattle.relay_model.specs.Readiness.{copied_list};
+ghost use Rattle.relay_model.specs.May.{Legal};
+ghost use Rattle.relay_session.specs.declared.wishes.Wish.TheVariants as wishes;
+ghost use Rattle.relay_session.specs.Sessions.{Stands, Hears, wish_of, has_ended};
+ghost use Rattle.session_direction.specs.Directions.{listed};
+ghost use Rattle.world_trait.specs.Seen.{Seen};
+ghost use Rattle.relay_session.specs.States.{IsDone};
+ghost use Rattle.session_loop.specs.Answers.{AnswerTells};
+ghost use Rattle.session_loop.specs.Ended.{EndsWith};
+ghost use Rattle.session_loop.specs.declared.drivers.Pause.TheVariants as pauses;
+
+use crate::drivers::{Driver, Pause};
+use crate::outcomes::outcome_for;
+use exit_status::Outcome;
+use relay_model::{Config, ReadyList, Why};
+use relay_session::{Answer, Session, cause_is_told, failure_is_blamed, held_is_own, stop_is_told};
+use world_trait::{Turned, World};
+
+impl Driver {
+    ghost use Rattle.session_loop.specs.Courses.{Course, SomewhereFor, KeepsFor, TurnsFor, WaitsOnce, SomeDone, PauseIs, IsPause, rank};
+
+    /// Makes the calls that are wished for, up to a sleep or the end.
+    fn drain<W: World>(&mut self, world: &mut W, config: &Config, scratch: &mut [u8]) -> Pause
+        requires scratch { 0 < length scratch.old }
+        requires course { (n : ℕ) × SomewhereFor config.now n (W.seen world.old) self.old }
+        ensures course { KeepsFor config.now (W.seen world.old) (W.seen world.new) self.old self.new }
+        ensures pause { PauseIs self.new result }
+        ensures paused { IsPause self.new result }
+        ensures over { has_ended self.old.session ≡ true → has_ended self.new.session ≡ true }
+        ensures made { self.new.made ≡ self.old.made }
+    {
+        loop {
+            if let Some(pause) = self.step(world, config, scratch) {
+                return pause;
+            }
+        }
+    }
+
+    /// Sleeps as it is wished for, and hears what the turn names. False where there was no memory for a turn, which ends the
+    /// session.
+    fn wait<W: World>(&mut self, world: &mut W, until: Option<u64>, turns: u64) -> bool
+        requires few { self.old.made < turns }
+        requires pause { PauseIs self.old (pauses.Sleep until) }
+        requires paused { IsPause self.old (pauses.Sleep until) }
+        ensures course { (c : Command) → TurnsFor c turns (W.seen world.old) (W.seen world.new) self.old self.new }
+        ensures waited { result ≡ true → (c : Command) → WaitsOnce c turns (W.seen world.old) (W.seen world.new) self.old self.new }
+        ensures goes { result ≡ true → self.new.made ≡ self.old.made + 1 }
+        ensures ended { result ≡ false → has_ended self.new.session ≡ true }
+        ensures short { result ≡ false → self.new.made ≡ self.old.made }
+    {
+        match world.wait(until, &mut self.ready) {
+            Turned::Turned { at, stop } => {
+                self.made += 1;
+                hear_turn(&mut self.session, at, &self.ready, stop);
+                true
+            }
+            Turned::Memory => {
+                self.session.cut(Why::Memory);
+                false
+            }
+        }
+    }
+
+    /// Makes the calls that are wished for and then waits once. `None` where it goes on after that wait; else the session
+    /// is done for this reason, and holds nothing: by itself, for want of memory, or since `turns` turns were made.
+    pub fn turn<W: World>(
+        &mut self,
+        world: &mut W,
+        config: &Config,
+        scratch: &mut [u8],
+        turns: u64,
+    ) -> Option<Why>
+        requires scratch { 0 < length scratch.old }
+        requires course { SomewhereFor config.now turns (W.seen world.old) self.old }
+        requires within { self.old.made ≤ turns }
+        ensures course { TurnsFor config.now turns (W.seen world.old) (W.seen world.new) self.old self.new }
+        ensures done { IfSome result (λ why. IsPause self.new (pauses.Done why)) }
+        ensures waitless { IfSome result (λ why. self.new.made ≡ self.old.made) }
+        ensures waited { IfNone result (WaitsOnce config.now turns (W.seen world.old) (W.seen world.new) self.old self.new) }
+        ensures goes { IfNone result ((self.old.made < turns) × (self.new.made ≡ self.old.made + 1)) }
+    {
+        match self.drain(world, config, scratch) {
+            Pause::Done(why) => Some(why),
+            Pause::Sleep(until) => self.sleep(world, config, scratch, until, turns),
+        }
+    }
+
+    /// Waits once, where a turn is left and there is memory for it, and else ends the relay.
+    fn sleep<W: World>(
+        &mut self,
+        world: &mut W,
+        config: &Config,
+        scratch: &mut [u8],
+        until: Option<u64>,
+        turns: u64,
+    ) -> Option<Why>
+        requires scratch { 0 < length scratch.old }
+        requires course { SomewhereFor config.now turns (W.seen world.old) self.old }
+        requires pause { PauseIs self.old (pauses.Sleep until) }
+        requires paused { IsPause self.old (pauses.Sleep until) }
+        requires within { self.old.made ≤ turns }
+        ensures course { TurnsFor config.now turns (W.seen world.old) (W.seen world.new) self.old self.new }
+        ensures done { IfSome result (λ why. IsPause self.new (pauses.Done why)) }
+        ensures waitless { IfSome result (λ why. self.new.made ≡ self.old.made) }
+        ensures waited { IfNone result (WaitsOnce config.now turns (W.seen world.old) (W.seen world.new) self.old self.new) }
+        ensures goes { IfNone result ((self.old.made < turns) × (self.new.made ≡ self.old.made + 1)) }
+    {
+        if self.made < turns {
+            if self.wait(world, until, turns) {
+                return None;
+            }
+            return Some(self.close_all(world, config, scratch));
+        }
+        self.session.cut(Why::Stopped);
+        Some(self.close_all(world, config, scratch))
+    }
+
+    /// Closes what is held after the session has ended.
+    fn close_all<W: World>(&mut self, world: &mut W, config: &Config, scratch: &mut [u8]) -> Why
+        requires scratch { 0 < length scratch.old }
+        requires course { (n : ℕ) × SomewhereFor config.now n (W.seen world.old) self.old }
+        requires over { has_ended self.old.session ≡ true }
+        ensures course { KeepsFor config.now (W.seen world.old) (W.seen world.new) self.old self.new }
+        ensures done { IsPause self.new (pauses.Done result) }
+        ensures made { self.new.made ≡ self.old.made }
+    {
+        match self.drain(world, config, scratch) {
+            Pause::Done(why) => why,
+            Pause::Sleep(_) => unreachable!(),
+        }
+    }
+
+    /// How the run ended, once the session is done for this reason.
+    pub fn outcome(&self, why: Why) -> Outcome
+        requires { SomeDone why self.now }
+        ensures answer { (c : Command) (n : ℕ) (start now : Seen) (past : List Act) → Course c n start now self.now past
+            → IsDone c n past 0 why → EndsWith c n past result }
+        ensures memory { result ≡ outcomes.Memory → why ≡ whys.Memory }
+    {
+        cause_is_told();
+        failure_is_blamed();
+        held_is_own();
+        stop_is_told();
+        self.answer(why)
+    }
+
+    /// The answer that what the session tells at its end makes.
+    fn answer(&self, why: Why) -> Outcome
+        requires { SomeDone why self.now }
+        ensures answer { (c : Command) (n : ℕ) (past : List Act) → Stands c n past 0 self.now.session → Legal c n past
+            → AnswerTells c past why self.now.fault self.now.made result }
+        ensures memory { result ≡ outcomes.Memory → why ≡ whys.Memory }
+    {
+        failure_is_blamed();
+        let listening = self.session.failed_listening();
+        let opening = self.session.failed_opening();
+        outcome_for(why, listening, opening, self.fault, self.made)
+    }
+}
+
+/// Hears a turn: its moment, the halves that it names, and whether it says stop.
+fn hear_turn(session: &mut Session, at: u64, ready: &ReadyList, stop: bool)
+    requires { (until : Option ℕ) × (wish_of session.old ≡ wishes.Sleep until) }
+    ensures { (c : Command) (n : ℕ) (past : List Act) (until : Option ℕ) → wish_of session.old ≡ wishes.Sleep until
+        → Stands c n past 0 session.old
+        → Stands c n (acts.Turn until at (copied_list ready.now) stop ∷ past) 0 session.new }
+{
+    session.heard(at, Answer::Woken);
+    name_all(session, ready);
+    if stop {
+        session.cut(Why::Stopped);
+    }
+}
+
+/// Tells the session each half that the turn names.
+fn name_all(session: &mut Session, ready: &ReadyList)
+    ensures { (c : Command) (n : ℕ) (past : List Act) (until : Option ℕ) (at : ℕ)
+        → Hears c n (acts.Turn until at (listed []) false ∷ past) 0 session.old
+        → Hears c n (acts.Turn until at (listed ready.now.entries) false ∷ past) 0 session.new }
+{
+    for i in 0..ready.len() {
+        session.ready(ready.get(i));
+    }
+}

@@ -1,4 +1,0 @@
-pub mod Ended
-pub mod OwnCalls
-pub mod Stays
-pub mod Waited

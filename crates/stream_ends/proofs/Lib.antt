@@ -1,3 +1,0 @@
-pub mod BehindLemmas
-pub mod CallLemmas
-pub mod EndLemmas

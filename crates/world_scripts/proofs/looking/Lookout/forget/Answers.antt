@@ -1,9 +1,0 @@
-use Rattle.std.proofs.Common.{not, ◌&&◌, rules}
-use Rattle.std.proofs.lemmas.Fn.{filter_same}
-use Rattle.relay_model.specs.Places.{same_place}
-use Rattle.world_scripts.specs.Looks.{same_watch}
-use Rattle.world_scripts.specs.declared.looking.Looked.{Looked}
-use Rattle.world_scripts.proofs.looking.Lookout.forget.Goals as goal
-
-pub returns : goal.returns
-returns c = rw (← c.self.view_is) (filter_same _ (λ (e : Looked). not (same_place e.place c.args.place && same_watch e.watch c.args.watch)) _ (λ x b f' t. search rules) _ _ c.retain.ensures.filtered)
