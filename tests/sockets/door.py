@@ -155,6 +155,8 @@ def beside_silent(program, silent):
             process, port = stack.enter_context(relay(program, "fork", "PIPE"))
             for sock in silenced(port, count):
                 stack.enter_context(sock)
+            # Both loops run on one processor, so that a slower one isn't told from a dearer datagram.
+            os.sched_setaffinity(process.pid, {max(os.sched_getaffinity(0))})
             relays.append((process, stack.enter_context(sender(port))))
         for _ in range(2):
             few, many = costs(relays)
