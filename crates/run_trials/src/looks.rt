@@ -11,7 +11,6 @@ use relay_model::{Act, Config, Journal, NoMemory};
 use scripted_world::MemWorld;
 use std::alloc::Global;
 use std::marker::Brand;
-use std::mem;
 use std::sync::ledger::{Blank, Ledger};
 use worked_rows::{Line, RowFault};
 use world_trait::World;
@@ -70,8 +69,6 @@ pub(crate) fn looks_seldom<W: Journaled>(
 {
     let mut whole = Loop::limited(alloc, config, turns)?;
     let looks = count_looks::<W, Brand>(Blank::new(1), &mut whole, world, turns, bound);
-    // The program ends soon, and a proof of letting go of all sessions takes longer than all others here.
-    mem::forget(whole);
     Ok(looks < bound.too_many)
 }
 
