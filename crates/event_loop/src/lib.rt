@@ -1,4 +1,4 @@
-// The loop of a command with `fork`: the program door and the session of each peer, over one world.
+// The loop of any command: one session, or the program door and the session of each peer, over one world.
 #![tactic(auto)]
 
 mod all_sessions;
