@@ -26,12 +26,19 @@ use_program() {
 # beside PART..: where PEER names another socat, runs these parts of the same script on it as well, and counts their cases.
 # Cases in which it is meant to do otherwise are left out there.
 beside() {
-    local peer line good bad
+    local peer
     [ -n "${PEER:-}" ] || return 0
     peer="$(command -v "$PEER")" || {
         report "there is a $PEER" "it isn't found"
         return 0
     }
+    add_counts "$PEER: " < <(PEER='' AUDITOR='' "$here/tests/${0##*/}" "$peer" "$@" 2>&1)
+}
+
+# add_counts PREFIX: reads what a script of cases printed, adds the counts of its last line to those of this one, and
+# prints each other line behind PREFIX.
+add_counts() {
+    local line good bad
     while IFS= read -r line; do
         case "$line" in
             *' passed, '*' failed')
@@ -39,9 +46,9 @@ beside() {
                 passed=$((passed + good))
                 failed=$((failed + bad))
                 ;;
-            *) echo "$PEER: $line" ;;
+            *) echo "$1$line" ;;
         esac
-    done < <(PEER='' AUDITOR='' "$here/tests/${0##*/}" "$peer" "$@" 2>&1)
+    done
 }
 
 # report NAME PROBLEM: a case passed where no problem is named. Where `quiet` is set only what fails is printed.

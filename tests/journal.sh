@@ -243,19 +243,7 @@ busy() {
 # --- what a script of its own counts from the lines of journals
 
 # counted WORD..: runs tests/journal.py, and takes over its counts.
-counted() {
-    local line good bad
-    while IFS= read -r line; do
-        case "$line" in
-            *' passed, '*' failed')
-                read -r good _ bad _ <<<"$line"
-                passed=$((passed + good))
-                failed=$((failed + bad))
-                ;;
-            *) echo "$line" ;;
-        esac
-    done < <("$python" -B "$here/tests/journal.py" "$@" 2>&1 || true)
-}
+counted() { add_counts '' < <("$python" -B "$here/tests/journal.py" "$@" 2>&1 || true); }
 
 totals() {
     counted totals "$reader" "$here/tests/data/journals.txt"
