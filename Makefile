@@ -21,9 +21,11 @@ help:
 	@echo 'make check      runs the gate: every proof, and all its tests'
 	@echo 'make endurance  runs random commands for ten minutes, or for FOR=SECONDS, and judges each run'
 	@echo 'make memory     runs them with each request for memory refused in turn'
+	@echo 'make documents  checks the documents against the code'
 	@echo 'make picture    draws docs/run.svg from a run of the tests'
 	@echo 'make bench      measures the program beside its peers; bench/run --report writes docs/FIGURES.md'
 	@echo 'make install    puts programs, manual pages and completion below PREFIX, with DESTDIR in front; make uninstall'
+	@echo 'make clean      removes what was built'
 
 # One run proves and builds them all. tools/build.py socat proves and builds bin/socat alone.
 $(PROGRAMS) &: $(SOURCES) HANDLES tools/build.py
@@ -45,7 +47,7 @@ documents:
 	tests/run all documents
 
 picture: bin/socat bin/socat-journal
-	PICTURE="$(CURDIR)/docs/run.svg" tests/journal.sh bin/socat-journal bin/socat busy
+	PICTURE="$(CURDIR)/docs/run.svg" tests/run all journal/busy
 
 quick:
 	for name in $(NAMES); do tools/quick.sh $$name || exit; done
