@@ -1,5 +1,5 @@
 // The port of a child.
-ghost use Rattle.std.specs.Prelude.{◌≡◌, true};
+ghost use Rattle.std.specs.Prelude.{◌≡◌, true, None};
 
 use crate::unreaped::Ward;
 use file_ports::Halves;
@@ -40,37 +40,7 @@ impl ChildPort {
 }
 
 impl Port for ChildPort {
-    ghost gave = { ⟦<ProgramPipes as Port>⟧.gave };
-
-    ghost took = { ⟦<ProgramPipes as Port>⟧.took };
-
-    ghost behind_gave = { ⟦<ProgramPipes as Port>⟧.behind_gave };
-
-    ghost behind_took = { ⟦<ProgramPipes as Port>⟧.behind_took };
-
-    ghost behind_faults = { ⟦<ProgramPipes as Port>⟧.behind_faults };
-
-    ghost behind_ends = { ⟦<ProgramPipes as Port>⟧.behind_ends };
-
-    ghost behind_left = { ⟦<ProgramPipes as Port>⟧.behind_left };
-
-    ghost served = { ⟦<ProgramPipes as Port>⟧.served };
-
-    ghost hints = { ⟦<ProgramPipes as Port>⟧.hints };
-
-    ghost hinting = { ⟦<ProgramPipes as Port>⟧.hinting };
-
-    ghost behind_finished = { ⟦<ProgramPipes as Port>⟧.behind_finished };
-
-    ghost counts = { ⟦<ProgramPipes as Port>⟧.counts };
-
-    ghost begun = { ⟦<ProgramPipes as Port>⟧.begun };
-
-    ghost ended = { ⟦<ProgramPipes as Port>⟧.ended };
-
-    ghost joins = { ⟦<ProgramPipes as Port>⟧.joins };
-
-    ghost child = { λ _. true };
+    ghost seen = { λ port. let pipes = ⟦<ProgramPipes as Port>⟧.seen port in record pipes { shuts = None; child = true } };
 
     fn begin(&mut self) -> Begun {
         self.pipes.begin()

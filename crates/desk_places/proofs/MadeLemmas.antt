@@ -4,7 +4,8 @@ use Rattle.slab.specs.Slab.{SameValues, Slab, get}
 use Rattle.relay_model.specs.declared.places.Place.{Place}
 use Rattle.port_table.specs.Bases.{key_of}
 use Rattle.port_table.specs.PortTables.{AtMade, MadeCall, giving_port}
-use Rattle.port_table.specs.Ports.{EntrySeen, LetsIn, PortSeen}
+use Rattle.port_trait.specs.Ports.{MovesNothing, PortSeen}
+use Rattle.port_table.specs.Ports.{EntrySeen}
 use Rattle.port_table.specs.declared.bases.Base.{Base}
 use Rattle.port_table.specs.declared.bases.Base.TheVariants as bases
 use Rattle.world_trait.specs.declared.answers.OpenAnswer.{OpenAnswer}
@@ -43,19 +44,19 @@ then_call made mid made' key Call same call = record {
   others = λ other away. call.others other away ∙ same other;
 }
 
-still_port : (port : PortSeen) → LetsIn port port
-still_port port = record { still = record { gave = refl; took = refl; unshut = refl } }
+still_port : (port : PortSeen) → MovesNothing port port
+still_port port = record { gave = refl; took = refl; unshut = refl }
 
-still_slot : (slot : Option EntrySeen) → IfSome slot (λ o. IfSome slot (λ n. (n.place ≡ o.place) × LetsIn o.port n.port))
+still_slot : (slot : Option EntrySeen) → IfSome slot (λ o. IfSome slot (λ n. (n.place ≡ o.place) × MovesNothing o.port n.port))
 still_slot None = tt
 still_slot (Some entry) = (refl, still_port entry.port)
 
-still_call : (made : Slab EntrySeen) (key : ℕ) → MadeCall made made key LetsIn
+still_call : (made : Slab EntrySeen) (key : ℕ) → MadeCall made made key MovesNothing
 still_call made key = record { call = still_slot (get made key); stands = refl; others = λ other away. refl }
 
 -- a door that let nobody in
-pub no_call : (made made' : Slab EntrySeen) (key : ℕ) → SameValues made made' → MadeCall made made' key LetsIn
-no_call made made' key same = call_then made made made' key LetsIn (still_call made key) same
+pub no_call : (made made' : Slab EntrySeen) (key : ℕ) → SameValues made made' → MadeCall made made' key MovesNothing
+no_call made made' key same = call_then made made made' key MovesNothing (still_call made key) same
 
 -- one port more, after nothing
 pub then_more : {T : Type 0} (tells : T → PortSeen) (place : Place) (base : Option Base) (made mid made' : Slab EntrySeen) → SameValues made mid → OneMore tells place base mid made' → OneMore tells place base made made'
@@ -73,11 +74,11 @@ then_more tells place base made mid made' same more = record {
 pub more_based : {T : Type 0} (tells : T → PortSeen) (place : Place) (base base' : Option Base) (made made' : Slab EntrySeen) → base' ≡ base → OneMore tells place base made made' → OneMore tells place base' made made'
 more_based tells place base base' made made' same more = subst (λ b. OneMore tells place b made made') (sym same) more
 
-pub accepts_made : {T : Type 0} (tells : T → PortSeen) (answer : AcceptAnswer) (door : ℕ) (place : Place) (base : Option Base) (made mid made' : Slab EntrySeen) → MadeCall made mid door LetsIn → WelcomesMade tells place base answer mid made' → AcceptsMade tells door place base answer made made'
+pub accepts_made : {T : Type 0} (tells : T → PortSeen) (answer : AcceptAnswer) (door : ℕ) (place : Place) (base : Option Base) (made mid made' : Slab EntrySeen) → MadeCall made mid door MovesNothing → WelcomesMade tells place base answer mid made' → AcceptsMade tells door place base answer made made'
 accepts_made tells (accepts.Accepted peer) door place base made mid made' call more = (mid, call, more)
 accepts_made tells accepts.NoPeer door place base made mid made' call never = absurd never
-accepts_made tells accepts.Failed door place base made mid made' call same = call_then made mid made' door LetsIn call same
-accepts_made tells accepts.Memory door place base made mid made' call same = call_then made mid made' door LetsIn call same
+accepts_made tells accepts.Failed door place base made mid made' call same = call_then made mid made' door MovesNothing call same
+accepts_made tells accepts.Memory door place base made mid made' call same = call_then made mid made' door MovesNothing call same
 
 -- the same after the room was made
 pub then_opens : {T : Type 0} (tells : T → PortSeen) (answer : OpenAnswer) (place : Place) (base : Option Base) (made mid made' : Slab EntrySeen) → SameValues made mid → OpensMade tells place base answer mid made' → OpensMade tells place base answer made made'
@@ -92,7 +93,7 @@ then_listens tells listens.Failed door base made mid made' same more = λ key. m
 then_listens tells listens.Memory door base made mid made' same more = λ key. more key ∙ same key
 
 pub then_accepts : {T : Type 0} (tells : T → PortSeen) (answer : AcceptAnswer) (door : ℕ) (place : Place) (base : Option Base) (made mid made' : Slab EntrySeen) → SameValues made mid → AcceptsMade tells door place base answer mid made' → AcceptsMade tells door place base answer made made'
-then_accepts tells (accepts.Accepted peer) door place base made mid made' same accepted = (accepted.0, then_call made mid accepted.0 door LetsIn same accepted.1, accepted.2)
-then_accepts tells accepts.NoPeer door place base made mid made' same call = then_call made mid made' door LetsIn same call
-then_accepts tells accepts.Failed door place base made mid made' same call = then_call made mid made' door LetsIn same call
-then_accepts tells accepts.Memory door place base made mid made' same call = then_call made mid made' door LetsIn same call
+then_accepts tells (accepts.Accepted peer) door place base made mid made' same accepted = (accepted.0, then_call made mid accepted.0 door MovesNothing same accepted.1, accepted.2)
+then_accepts tells accepts.NoPeer door place base made mid made' same call = then_call made mid made' door MovesNothing same call
+then_accepts tells accepts.Failed door place base made mid made' same call = then_call made mid made' door MovesNothing same call
+then_accepts tells accepts.Memory door place base made mid made' same call = then_call made mid made' door MovesNothing same call

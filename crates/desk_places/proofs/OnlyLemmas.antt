@@ -1,5 +1,5 @@
 -- What a turn names and nothing else: halves whose key was named, and disarmed ones whose port hints so.
-use Rattle.std.proofs.Common.{◌≡◌, ◌≤◌, ◌<◌, ◌⊎◌, inl, inr, ℕ, Bool, true, false, List, [], ◌∷◌, ◌++◌, length, slice_get, Option, Some, None, IfSome, sym, ap, subst, ◌∙◌, arith}
+use Rattle.std.proofs.Common.{◌≡◌, inl, inr, ℕ, Bool, true, false, List, [], ◌∷◌, ◌++◌, slice_get, Option, Some, None, IfSome, sym, ap, subst, ◌∙◌}
 use Rattle.std.specs.Bool.{OnTrue, OnFalse}
 use Rattle.slab.specs.Slab.{SameValues}
 use Rattle.relay_model.specs.declared.places.Place.{Place}
@@ -10,11 +10,11 @@ use Rattle.relay_model.specs.Readiness.{Listed}
 use Rattle.port_trait.specs.declared.answers.Hint.{Hint}
 use Rattle.port_table.specs.PortTables.{PortId, SameStreams, giving_port, taking_port}
 use Rattle.port_table.specs.Ports.{StreamSeen}
-use Rattle.port_table.specs.declared.bases.Base.TheVariants as bases
 use Rattle.port_table.specs.declared.table.PortTable.{PortTable}
+use Rattle.desk_places.specs.declared.ports.Ports.{Ports}
 use Rattle.desk_places.specs.declared.stations.Station.{Station}
-use Rattle.desk_places.specs.Stations.{base_at, half_disarmed, station_at}
-use Rattle.desk_places.specs.Naming.{HintsOnly, IsDue, IsKeyed, MayHint, NamesOnly, WaitsIdle, half_port, is_hinted, told_by}
+use Rattle.desk_places.specs.Stations.{half_disarmed, station_at}
+use Rattle.desk_places.specs.Naming.{IsDue, IsKeyed, MayHint, NamesOnly, SamePorts, WaitsIdle, half_port, is_hinted, told_by}
 use Rattle.desk_places.proofs.TurnLemmas.{told_same}
 
 only_last : (keys : List (ℕ × Half)) (told : PortId → Option Hint) (stations : List Station) (xs : List ReadyAt) (e : ReadyAt) → IsDue keys told stations e.place e.half → NamesOnly keys told stations xs → NamesOnly keys told stations (xs ++ e ∷ [])
@@ -76,8 +76,18 @@ pub only_step : {T I O E : Type 0} (keys : List (ℕ × Half)) (a b : PortTable 
 only_step keys a b stations xs ys same made step only =
     only_as keys (told_by a) (told_by b) stations ys (told_still a b same made) (step (only_as keys (told_by b) (told_by a) stations xs (told_back a b same made) only))
 
-pub still_then : {T I O E : Type 0} (a b c : PortTable T I O E) → SameStreams a b → SameStreams b c → SameStreams a c
+still_then : {T I O E : Type 0} (a b c : PortTable T I O E) → SameStreams a b → SameStreams b c → SameStreams a c
 still_then a b c first then = record { input = then.input ∙ first.input; output = then.output ∙ first.output; errors = then.errors ∙ first.errors }
+
+-- one step after another that leave the ports as they are
+pub same_then : {A B C D E : Type 0} (a b c : Ports A B C D E) → SamePorts a b → SamePorts b c → SamePorts a c
+same_then a b c first then = record {
+  streams = still_then a.table b.table c.table first.streams then.streams;
+  made = λ key. then.made key ∙ first.made key;
+  listed = then.listed ∙ first.listed;
+  maker = then.maker ∙ first.maker;
+  parents = then.parents ∙ first.parents;
+}
 
 unkeyed : (stations : List Station) (p : Place) (half : Half) → IsKeyed [] stations p half → ⊥
 unkeyed stations p half keyed = let e = keyed.entry in absurd cc

@@ -20,7 +20,9 @@ use Rattle.world_trait.specs.declared.answers.AcceptAnswer.{AcceptAnswer}
 use Rattle.world_trait.specs.declared.answers.AcceptAnswer.TheVariants as accepts
 use Rattle.port_table.specs.Bases.{key_of}
 use Rattle.port_table.specs.PortTables.{CalledAt, Errors, Input, Made, MadeCall, Output, PortId, SameStreams, StreamCall, giving_port}
-use Rattle.port_table.specs.Ports.{EntrySeen, IsOf, PortSeen, Settles, StreamSeen}
+use Rattle.port_trait.specs.Makers.{MakerSeen}
+use Rattle.port_trait.specs.Ports.{PortSeen, Settles}
+use Rattle.port_table.specs.Ports.{EntrySeen, IsOf, StreamSeen}
 use Rattle.port_table.specs.declared.bases.Base.{Base}
 use Rattle.port_table.specs.declared.bases.Base.TheVariants as bases
 use Rattle.port_table.specs.declared.table.PortTable.{PortTable}
@@ -93,11 +95,11 @@ open_held Open e = refl
 open_held ShutDown e = refl
 
 -- an accepting whose peer has come
-pub welcomed : {T : Type 0} (tells : T → PortSeen) (answer : AcceptAnswer) (peer : Peer) (faults faults' stalls stalls' : ℕ) (came : Option Peer) → came ≡ Some peer → WelcomeCause tells peer answer → AcceptCause tells faults faults' stalls stalls' came answer
-welcomed tells (accepts.Accepted other) peer faults faults' stalls stalls' came is same = is ∙ ap Some (sym same)
-welcomed tells accepts.NoPeer peer faults faults' stalls stalls' came is never = absurd never
-welcomed tells accepts.Failed peer faults faults' stalls stalls' came is dropped = inr dropped
-welcomed tells accepts.Memory peer faults faults' stalls stalls' came is nothing = tt
+pub welcomed : {T : Type 0} (tells : T → PortSeen) (answer : AcceptAnswer) (peer : Peer) (before now : MakerSeen) → now.came ≡ Some peer → WelcomeCause tells peer answer → AcceptCause tells before now answer
+welcomed tells (accepts.Accepted other) peer before now is same = is ∙ ap Some (sym same)
+welcomed tells accepts.NoPeer peer before now is never = absurd never
+welcomed tells accepts.Failed peer before now is dropped = inr dropped
+welcomed tells accepts.Memory peer before now is nothing = tt
 
 -- a port that is let go was joined where that was to be, and is kept where it has a child
 kept_if : (b : Bool) (joined : Bool) (old new : EntrySeen) (before after : List EntrySeen) → new.place ≡ old.place → LeftSo joined old.port new.port → after ≡ (if b then new ∷ before else before) → KeptFor b joined old before after

@@ -11,7 +11,8 @@ use Rattle.port_trait.specs.Hinting.{IsWithin}
 use Rattle.port_trait.specs.declared.answers.Hint.{Hint}
 use Rattle.port_table.specs.Bases.{IsStandard, key_of}
 use Rattle.port_table.specs.PortTables.{AtMade, MadeCall, PortId, Input, Output, Errors, Made, giving_port, taking_port}
-use Rattle.port_table.specs.Ports.{PortSeen, EntrySeen}
+use Rattle.port_trait.specs.Ports.{PortSeen}
+use Rattle.port_table.specs.Ports.{EntrySeen}
 use Rattle.port_table.specs.declared.bases.Base.{Base}
 use Rattle.port_table.specs.declared.bases.Base.TheVariants as bases
 use Rattle.desk_places.specs.declared.stations.Station.{Station}

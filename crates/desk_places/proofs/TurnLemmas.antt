@@ -10,7 +10,8 @@ use Rattle.relay_model.specs.Places.{same_place, same_half}
 use Rattle.relay_model.specs.Readiness.{names}
 use Rattle.port_trait.specs.declared.answers.Hint.{Hint}
 use Rattle.port_table.specs.Bases.{is_standard}
-use Rattle.port_table.specs.Ports.{EntrySeen, PortSeen}
+use Rattle.port_trait.specs.Ports.{PortSeen}
+use Rattle.port_table.specs.Ports.{EntrySeen}
 use Rattle.port_table.specs.PortTables.{PortId, Input, Output, Errors, Made, giving_port, hint_told, hints_of, place_of, taking_port}
 use Rattle.port_table.specs.declared.bases.Base.{Base}
 use Rattle.port_table.specs.declared.bases.Base.TheVariants as bases

@@ -1,11 +1,13 @@
 -- Why an opening, a listening or an accepting on a made port answers what it answers.
-use Rattle.std.specs.Prelude.{◌≡◌, ◌⊎◌, ℕ, ⊤, Option, Some, IfSome}
+use Rattle.std.specs.Prelude.{◌≡◌, ◌⊎◌, ⊤, Option, Some, IfSome}
 use Rattle.relay_model.specs.declared.acts.Peer.{Peer}
 use Rattle.relay_model.specs.declared.places.Place.{Place}
 use Rattle.relay_model.specs.declared.commands.Single.{Single}
 use Rattle.port_trait.specs.declared.makers.AskedPlace.{AskedPlace}
 use Rattle.port_trait.specs.Counting.{Rose}
-use Rattle.port_table.specs.Ports.{FailsToBegin, PortSeen}
+use Rattle.port_trait.specs.Makers.{MakerSeen}
+use Rattle.port_trait.specs.Ports.{PortSeen}
+use Rattle.port_table.specs.Ports.{FailsToBegin}
 use Rattle.world_trait.specs.declared.answers.OpenAnswer.{OpenAnswer}
 use Rattle.world_trait.specs.declared.answers.OpenAnswer.TheVariants as opens
 use Rattle.world_trait.specs.declared.answers.ListenAnswer.{ListenAnswer}
@@ -27,12 +29,12 @@ BeginCause tells made begins.Begun = ⊤
 BeginCause tells made begins.Failed = FailsToBegin tells made
 BeginCause tells made begins.Memory = ⊤
 
--- by the maker's counts of faults and stalls, each before and after
-abbrev pub OpenCause : {T : Type 0} → (T → PortSeen) → ℕ → ℕ → ℕ → ℕ → OpenAnswer → Type 0
-OpenCause tells faults faults' stalls stalls' opens.Opened = ⊤
-OpenCause tells faults faults' stalls stalls' opens.Later = Rose stalls stalls'
-OpenCause tells faults faults' stalls stalls' opens.Failed = Rose faults faults' ⊎ Dropped tells
-OpenCause tells faults faults' stalls stalls' opens.Memory = ⊤
+-- by the maker's counts of faults and stalls
+abbrev pub OpenCause : {T : Type 0} → (T → PortSeen) → MakerSeen → MakerSeen → OpenAnswer → Type 0
+OpenCause tells before now opens.Opened = ⊤
+OpenCause tells before now opens.Later = Rose before.stalls now.stalls
+OpenCause tells before now opens.Failed = Rose before.faults now.faults ⊎ Dropped tells
+OpenCause tells before now opens.Memory = ⊤
 
 -- what a maker tells that its last opening was asked for: this address for this place, with this peer behind it
 abbrev pub AskedFor : Place → Single → Option Peer → Option AskedPlace → Type 0
@@ -46,17 +48,17 @@ OpenAsks place single behind told opens.Failed = AskedFor place single behind to
 OpenAsks place single behind told opens.Memory = ⊤
 
 -- why a listening answered so
-abbrev pub ListenCause : {T : Type 0} → (T → PortSeen) → ℕ → ℕ → ListenAnswer → Type 0
-ListenCause tells faults faults' listens.Listening = ⊤
-ListenCause tells faults faults' listens.Failed = Rose faults faults' ⊎ Dropped tells
-ListenCause tells faults faults' listens.Memory = ⊤
+abbrev pub ListenCause : {T : Type 0} → (T → PortSeen) → MakerSeen → MakerSeen → ListenAnswer → Type 0
+ListenCause tells before now listens.Listening = ⊤
+ListenCause tells before now listens.Failed = Rose before.faults now.faults ⊎ Dropped tells
+ListenCause tells before now listens.Memory = ⊤
 
 -- the peer is the one that the maker tells after the call
-abbrev pub AcceptCause : {T : Type 0} → (T → PortSeen) → ℕ → ℕ → ℕ → ℕ → Option Peer → AcceptAnswer → Type 0
-AcceptCause tells faults faults' stalls stalls' came (accepts.Accepted peer) = came ≡ Some peer
-AcceptCause tells faults faults' stalls stalls' came accepts.NoPeer = Rose stalls stalls'
-AcceptCause tells faults faults' stalls stalls' came accepts.Failed = Rose faults faults' ⊎ Dropped tells
-AcceptCause tells faults faults' stalls stalls' came accepts.Memory = ⊤
+abbrev pub AcceptCause : {T : Type 0} → (T → PortSeen) → MakerSeen → MakerSeen → AcceptAnswer → Type 0
+AcceptCause tells before now (accepts.Accepted peer) = now.came ≡ Some peer
+AcceptCause tells before now accepts.NoPeer = Rose before.stalls now.stalls
+AcceptCause tells before now accepts.Failed = Rose before.faults now.faults ⊎ Dropped tells
+AcceptCause tells before now accepts.Memory = ⊤
 
 -- of an accepting whose peer has come
 abbrev pub WelcomeCause : {T : Type 0} → (T → PortSeen) → Peer → AcceptAnswer → Type 0

@@ -25,7 +25,8 @@ use Rattle.world_trait.specs.declared.answers.ListenAnswer.{ListenAnswer}
 use Rattle.world_trait.specs.declared.answers.ListenAnswer.TheVariants as listens
 use Rattle.world_trait.specs.declared.answers.AcceptAnswer.{AcceptAnswer}
 use Rattle.world_trait.specs.declared.answers.AcceptAnswer.TheVariants as accepts
-use Rattle.port_table.specs.Ports.{Begins, PortSeen, EntrySeen, JoinsSo, LetsIn, Reaps, Settles}
+use Rattle.port_trait.specs.Ports.{Begins, PortSeen, JoinsSo, MovesNothing, Reaps, Settles}
+use Rattle.port_table.specs.Ports.{EntrySeen}
 use Rattle.port_table.specs.PortTables.{BeginsAt, Errors, Input, Made, MadeCall, Output, PortId, SameStreams, StreamCall}
 use Rattle.port_table.specs.declared.table.PortTable.{PortTable}
 use Rattle.port_table.specs.declared.bases.Base.{Base}
@@ -121,10 +122,10 @@ WelcomesMade tells place base accepts.Memory before now = SameValues before now
 -- after an accepting at the door of this key, which moves no bytes: each other port that was there is as it was, and
 -- there is one more where a peer was accepted
 abbrev pub AcceptsMade : {T : Type 0} → (T → PortSeen) → ℕ → Place → Option Base → AcceptAnswer → Slab EntrySeen → Slab EntrySeen → Type 0
-AcceptsMade tells door place base (accepts.Accepted peer) before now = (between : Slab EntrySeen) × MadeCall before between door LetsIn × OneMore tells place base between now
-AcceptsMade tells door place base accepts.NoPeer before now = MadeCall before now door LetsIn
-AcceptsMade tells door place base accepts.Failed before now = MadeCall before now door LetsIn
-AcceptsMade tells door place base accepts.Memory before now = MadeCall before now door LetsIn
+AcceptsMade tells door place base (accepts.Accepted peer) before now = (between : Slab EntrySeen) × MadeCall before between door MovesNothing × OneMore tells place base between now
+AcceptsMade tells door place base accepts.NoPeer before now = MadeCall before now door MovesNothing
+AcceptsMade tells door place base accepts.Failed before now = MadeCall before now door MovesNothing
+AcceptsMade tells door place base accepts.Memory before now = MadeCall before now door MovesNothing
 
 -- the streams of the base were begun, standard input first, and no other; where there was no memory maybe none
 abbrev pub OpensAt : {T I O E : Type 0} → Base → PortTable T I O E → PortTable T I O E → OpenAnswer → Type 0

@@ -1,6 +1,7 @@
 pub mod Causes
 pub mod Changes
 pub mod Standing
+pub mod Keeping
 pub mod Keys
 pub mod Marks
 pub mod Naming

@@ -6,19 +6,28 @@ use Rattle.relay_model.specs.declared.places.Half.TheVariants.{ToRead, ToWrite}
 use Rattle.relay_model.specs.declared.readiness.ReadyAt.{ReadyAt}
 use Rattle.relay_model.specs.Readiness.{names}
 use Rattle.port_trait.specs.declared.answers.Hint.{Hint}
-use Rattle.slab.specs.Slab.{Slab, get}
+use Rattle.slab.specs.Slab.{SameValues, Slab, get}
 use Rattle.port_table.specs.Bases.{is_standard}
-use Rattle.port_table.specs.PortTables.{PortId, giving_port, hint_told, place_of, taking_port}
+use Rattle.port_table.specs.PortTables.{PortId, SameStreams, giving_port, hint_told, place_of, taking_port}
 use Rattle.port_table.specs.Ports.{EntrySeen}
 use Rattle.port_table.specs.declared.bases.Base.{Base}
 use Rattle.port_table.specs.declared.bases.Base.TheVariants as bases
 use Rattle.port_table.specs.declared.table.PortTable.{PortTable}
+use Rattle.desk_places.specs.declared.ports.Ports.{Ports}
 use Rattle.desk_places.specs.declared.stations.Station.{Station}
 use Rattle.desk_places.specs.Stations.{base_at, half_disarmed, station_at}
 
 -- the hint that each port of the table tells
 abbrev pub told_by : {T I O E : Type 0} → PortTable T I O E → PortId → Option Hint
 told_by table = hint_told table.input.port.hints table.output.port.hints table.errors.port.hints table.made
+
+-- of the ports nothing has changed but where the made ones lie
+pub record SamePorts {A B C D E : Type 0} (before now : Ports A B C D E) : Type 0 where
+  pub streams : SameStreams before.table now.table
+  pub made : SameValues before.table.made now.table.made
+  pub listed : now.listed ≡ before.listed
+  pub maker : now.maker ≡ before.maker
+  pub parents : now.parents ≡ before.parents
 
 -- the half is named, unless the list is full
 abbrev pub IsNamed : List ReadyAt → Place → Half → Type 0

@@ -6,7 +6,8 @@ use Rattle.relay_model.specs.declared.places.Half.TheVariants.{ToRead, ToWrite}
 use Rattle.relay_model.specs.declared.places.Place.{Place}
 use Rattle.relay_model.specs.Places.{same_place}
 use Rattle.port_trait.specs.declared.answers.Hint.{Hint}
-use Rattle.port_table.specs.Ports.{PortSeen, EntrySeen}
+use Rattle.port_trait.specs.Ports.{PortSeen}
+use Rattle.port_table.specs.Ports.{EntrySeen}
 use Rattle.port_table.specs.declared.bases.Base.{Base}
 use Rattle.port_table.specs.declared.bases.Base.TheVariants as bases
 use Rattle.desk_places.specs.declared.stations.Station.{Station}

@@ -1,19 +1,19 @@
 // What a turn names: halves that hint so, and those whose key was named.
 ghost use Rattle.std.specs.Prelude.{◌≡◌, ◌≤◌, ◌<◌, ◌+◌, ◌&&◌, ℕ, not, true, false, List, Option, Some, [], length, slice_get, IfSome};
-ghost use Rattle.slab.specs.Slab.{SameValues, Slab, get};
+ghost use Rattle.slab.specs.Slab.{Slab, get};
 ghost use Rattle.relay_model.specs.Holding.{Hold, is_free};
 ghost use Rattle.relay_model.specs.Readiness.{names};
 ghost use Rattle.relay_model.specs.declared.places.Half.{Half};
 ghost use Rattle.relay_model.specs.declared.places.Place.{Place};
 ghost use Rattle.world_trait.specs.Answers.{NamesHeld};
 ghost use Rattle.port_trait.specs.declared.answers.Hint.{Hint};
-ghost use Rattle.port_table.specs.PortTables.{PortId, SameStreams, place_of};
-ghost use Rattle.port_table.specs.Ports.{EntrySeen, seen};
+ghost use Rattle.port_table.specs.PortTables.{PortId, place_of};
+ghost use Rattle.port_table.specs.Ports.{EntrySeen};
 ghost use Rattle.desk_places.specs.declared.stations.Station.{Station};
 ghost use Rattle.desk_places.specs.Standing.{IsSound};
 ghost use Rattle.desk_places.specs.Keys.{KeyTable};
 ghost use Rattle.desk_places.specs.Stations.{SameStanding, SameHold, hold_at, is_disarmed, station_at};
-ghost use Rattle.desk_places.specs.Naming.{Grown, HintNamed, HintsOnly, IsDue, IsNamed, KeyNamed, NamesHinting, NamesKeyed, NamesListed, NamesOnly, NamesStandard, PlaceNamed, StationNamed, told_by};
+ghost use Rattle.desk_places.specs.Naming.{Grown, HintNamed, HintsOnly, IsDue, IsNamed, KeyNamed, NamesHinting, NamesKeyed, NamesListed, NamesOnly, NamesStandard, PlaceNamed, SamePorts, StationNamed, told_by};
 
 use crate::ports::Ports;
 use crate::stations::{Station, Stations};
@@ -71,11 +71,7 @@ fn name_station<M: Maker + Drop, I: Port, O: Port, E: Port>(
         → NamesOnly keys (told_by ports.old.table) stations ready.new.entries }
     ensures held { (hold : Place → Hold) → is_free (hold station.place) ≡ false → NamesHeld hold ready.old.entries
         → NamesHeld hold ready.new.entries }
-    ensures streams { SameStreams ports.old.table ports.new.table }
-    ensures made { SameValues ports.old.table.made ports.new.table.made }
-    ensures listed { ports.new.listed ≡ ports.old.listed }
-    ensures maker { ports.new.maker ≡ ports.old.maker }
-    ensures parents { ports.new.parents ≡ ports.old.parents }
+    ensures same { SamePorts ports.old ports.new }
 {
     if !station.reading_disarmed && !station.writing_disarmed {
         return;
@@ -99,11 +95,7 @@ fn name_place<M: Maker + Drop, I: Port, O: Port, E: Port>(
     ensures only { (keys : List (ℕ × Half)) → NamesOnly keys (told_by ports.old.table) stations.now.entries ready.old.entries
         → NamesOnly keys (told_by ports.old.table) stations.now.entries ready.new.entries }
     ensures held { NamesHeld (hold_at stations.now.entries) ready.new.entries }
-    ensures streams { SameStreams ports.old.table ports.new.table }
-    ensures made { SameValues ports.old.table.made ports.new.table.made }
-    ensures listed { ports.new.listed ≡ ports.old.listed }
-    ensures maker { ports.new.maker ≡ ports.old.maker }
-    ensures parents { ports.new.parents ≡ ports.old.parents }
+    ensures same { SamePorts ports.old ports.new }
 {
     if let Some(station) = stations.find(place) {
         name_station(ports, station, ready);
@@ -124,11 +116,7 @@ fn name_standard<M: Maker + Drop, I: Port, O: Port, E: Port>(
     ensures only { (keys : List (ℕ × Half)) → NamesOnly keys (told_by ports.old.table) stations.now.entries ready.old.entries
         → NamesOnly keys (told_by ports.old.table) stations.now.entries ready.new.entries }
     ensures held { NamesHeld (hold_at stations.now.entries) ready.new.entries }
-    ensures streams { SameStreams ports.old.table ports.new.table }
-    ensures made { SameValues ports.old.table.made ports.new.table.made }
-    ensures listed { ports.new.listed ≡ ports.old.listed }
-    ensures maker { ports.new.maker ≡ ports.old.maker }
-    ensures parents { ports.new.parents ≡ ports.old.parents }
+    ensures same { SamePorts ports.old ports.new }
 {
     for i in 0..stations.asked_len() {
         name_place(ports, stations, stations.asked(i), ready);
@@ -151,11 +139,7 @@ fn name_made<M: Maker + Drop, I: Port, O: Port, E: Port>(
     ensures only { (keys : List (ℕ × Half)) → NamesOnly keys (told_by ports.old.table) stations.now.entries ready.old.entries
         → NamesOnly keys (told_by ports.old.table) stations.now.entries ready.new.entries }
     ensures held { NamesHeld (hold_at stations.now.entries) ready.new.entries }
-    ensures streams { SameStreams ports.old.table ports.new.table }
-    ensures made { SameValues ports.old.table.made ports.new.table.made }
-    ensures listed { ports.new.listed ≡ ports.old.listed }
-    ensures maker { ports.new.maker ≡ ports.old.maker }
-    ensures parents { ports.new.parents ≡ ports.old.parents }
+    ensures same { SamePorts ports.old ports.new }
 {
     if let Some(place) = ports.table.place_of(key) {
         name_place(ports, stations, place, ready);
@@ -177,11 +161,7 @@ fn name_listed<M: Maker + Drop, I: Port, O: Port, E: Port>(
     ensures only { (keys : List (ℕ × Half)) → NamesOnly keys (told_by ports.old.table) stations.now.entries ready.old.entries
         → NamesOnly keys (told_by ports.old.table) stations.now.entries ready.new.entries }
     ensures held { NamesHeld (hold_at stations.now.entries) ready.new.entries }
-    ensures streams { SameStreams ports.old.table ports.new.table }
-    ensures made { SameValues ports.old.table.made ports.new.table.made }
-    ensures listed { ports.new.listed ≡ ports.old.listed }
-    ensures maker { ports.new.maker ≡ ports.old.maker }
-    ensures parents { ports.new.parents ≡ ports.old.parents }
+    ensures same { SamePorts ports.old ports.new }
 {
     for i in 0..ports.listed.len() {
         let key = ports.listed.get(i);
@@ -204,11 +184,7 @@ pub fn name_hinting<M: Maker + Drop, I: Port, O: Port, E: Port>(
     ensures only { (keys : List (ℕ × Half)) → NamesOnly keys (told_by ports.old.table) stations.now.entries ready.old.entries
         → NamesOnly keys (told_by ports.old.table) stations.now.entries ready.new.entries }
     ensures held { NamesHeld (hold_at stations.now.entries) ready.new.entries }
-    ensures streams { SameStreams ports.old.table ports.new.table }
-    ensures made { SameValues ports.old.table.made ports.new.table.made }
-    ensures listed { ports.new.listed ≡ ports.old.listed }
-    ensures maker { ports.new.maker ≡ ports.old.maker }
-    ensures parents { ports.new.parents ≡ ports.old.parents }
+    ensures same { SamePorts ports.old ports.new }
 {
     name_standard(ports, stations, ready);
     name_listed(ports, stations, ready);

@@ -1,6 +1,6 @@
 // The ports that held places stand on, and those that closed places left. Each call on a place is one call on its port,
 // after which the port is listed where it may hint.
-ghost use Rattle.std.specs.Prelude.{◌≡◌, ◌≢◌, ℕ, List, None, ◌<◌, ◌≤◌, ◌+◌, ◌&&◌, ◌||◌, ◌∷◌, [], Some, if◌then◌else◌, true, false, length, vec_len, vec_capacity, option_map, find, position, ◌⊎◌, IfSome, IfNone, OnOk, MatchOption};
+ghost use Rattle.std.specs.Prelude.{◌≡◌, ◌≢◌, ℕ, List, None, ◌<◌, ◌≤◌, ◌+◌, ◌&&◌, ◌||◌, ◌∷◌, [], Some, if◌then◌else◌, true, false, length, vec_len, vec_capacity, option_map, find, position, IfSome, IfNone, OnOk, MatchOption};
 ghost use Rattle.std.specs.List.{remove};
 ghost use Rattle.slab.specs.Slab.{SameValues, Updates, get};
 ghost use Rattle.port_table.specs.declared.bases.Base.TheVariants as bases;
@@ -11,12 +11,14 @@ ghost use Rattle.world_trait.specs.Answers.{accept_act, close_act, listen_act, o
 ghost use Rattle.relay_model.specs.declared.places.Half.TheVariants.{ToRead, ToWrite};
 ghost use Rattle.port_trait.specs.Counting.{Rose};
 ghost use Rattle.desk_places.specs.Causes.{AcceptCause, AskedFor, BeginCause, ListenCause, OpenCause, StandardCause, WelcomeCause};
-ghost use Rattle.port_table.specs.Ports.{IsOf, JoinsSo, MovesNothing, Reads, Sends, Shuts, Writes, seen};
-ghost use Rattle.port_table.specs.PortTables.{AtMade, CalledAt, EndsAt, SameStreams, StreamNotes, giving_port, taking_port};
+ghost use Rattle.port_trait.specs.Ports.{JoinsSo, Reads, Sends, Shuts, Writes};
+ghost use Rattle.port_table.specs.Ports.{IsOf};
+ghost use Rattle.port_table.specs.PortTables.{AtMade, CalledAt, EndsAt, SameStreams, StreamFailed, StreamNotes, StreamsStay, giving_port, taking_port};
 ghost use Rattle.port_table.specs.Answers.{GotFits, SaidSo, TookFits, is_got_not_yet, is_took_not_yet, is_unsaid};
 ghost use Rattle.desk_places.specs.Changes.{AcceptsMade, BeginsMade, DropsFirst, ListensMade, OpensAt, OpensMade, WelcomesMade, HeldAfter, HeldSo, LeavesParent, LeftSo, ReapsKept, SettledAt, is_finished, joined_answer, made_at, shut_answer};
-ghost use Rattle.desk_places.specs.PlaceBases.{AcceptsOn, BeginsOn, Leaves, ListensOn, OpensOn, SameBases, SettlesOn};
+ghost use Rattle.desk_places.specs.PlaceBases.{AcceptsOn, BeginsOn, Leaves, ListensOn, OpensOn, SettlesOn};
 ghost use Rattle.desk_places.specs.Standing.{HasVacancy, IsSound, IsSoundBut};
+ghost use Rattle.desk_places.specs.Keeping.{KeepsPlaces, TakesOne};
 ghost use Rattle.desk_places.specs.Keys.{is_in};
 ghost use Rattle.desk_places.specs.Marks.{AcceptMarks, BeginMarks, ListenMarks, MarksPlace, OpenMarks, SettleMarks};
 ghost use Rattle.desk_places.specs.declared.stations.Station.{Station};
@@ -50,15 +52,12 @@ impl<M: Maker + Drop, I: Port, O: Port, E: Port> Ports<M, I, O, E> {
     /// The standard ports, and no made one; takes no memory.
     pub fn new(alloc: Global, standard: Standard<I, O, E>, maker: M) -> Ports<M, I, O, E>
         ensures made { result.table.made.slots ≡ [] }
-        ensures input { (result.table.input.port
-            ≡ seen I.gave I.took I.shuts I.hints I.hinting I.counts I.ended I.joins I.child standard.stdin)
-            × (result.table.input.begun ≡ false) × (result.table.input.finished ≡ false) }
-        ensures output { (result.table.output.port
-            ≡ seen O.gave O.took O.shuts O.hints O.hinting O.counts O.ended O.joins O.child standard.stdout)
-            × (result.table.output.begun ≡ false) × (result.table.output.finished ≡ false) }
-        ensures errors { (result.table.errors.port
-            ≡ seen E.gave E.took E.shuts E.hints E.hinting E.counts E.ended E.joins E.child standard.stderr)
-            × (result.table.errors.begun ≡ false) × (result.table.errors.finished ≡ false) }
+        ensures input { (result.table.input.port ≡ I.seen standard.stdin) × (result.table.input.begun ≡ false)
+            × (result.table.input.finished ≡ false) }
+        ensures output { (result.table.output.port ≡ O.seen standard.stdout) × (result.table.output.begun ≡ false)
+            × (result.table.output.finished ≡ false) }
+        ensures errors { (result.table.errors.port ≡ E.seen standard.stderr) × (result.table.errors.begun ≡ false)
+            × (result.table.errors.finished ≡ false) }
         ensures parents { result.parents.items ≡ [] }
         ensures maker { result.maker ≡ maker }
     {
@@ -90,8 +89,7 @@ impl<M: Maker + Drop, I: Port, O: Port, E: Port> Ports<M, I, O, E> {
     pub fn reserve(&mut self, kept: usize) -> Result<(), NoMemory>
         ensures made_room { OnOk result (HasVacancy self.new.table.made self.new.listed) }
         ensures parents_room { OnOk result (kept + vec_len self.new.parents ≤ vec_capacity self.new.parents) }
-        ensures streams { (self.new.table.input ≡ self.old.table.input) × (self.new.table.output ≡ self.old.table.output)
-            × (self.new.table.errors ≡ self.old.table.errors) }
+        ensures streams { SameStreams self.old.table self.new.table }
         ensures made { SameValues self.old.table.made self.new.table.made }
         ensures sound { (stations : List Station) → IsSound stations self.old.table.made self.old.listed
             → IsSound stations self.new.table.made self.new.listed }
@@ -153,23 +151,14 @@ impl<M: Maker + Drop, I: Port, O: Port, E: Port> Ports<M, I, O, E> {
         requires free { hold_at stations.old.entries place ≡ Free }
         requires stations_room { 0 < stations.old.spare }
         requires made_room { HasVacancy self.old.table.made self.old.listed }
-        ensures cause { BeginCause
-            (seen M.Made.gave M.Made.took M.Made.shuts M.Made.hints M.Made.hinting M.Made.counts M.Made.ended
-            M.Made.joins M.Made.child) port result }
-        ensures made { BeginsMade
-            (seen M.Made.gave M.Made.took M.Made.shuts M.Made.hints M.Made.hinting M.Made.counts M.Made.ended
-            M.Made.joins M.Made.child) place (base_at stations.new.entries place) result self.old.table.made
-            self.new.table.made }
+        ensures cause { BeginCause M.Made.seen port result }
+        ensures made { BeginsMade M.Made.seen place (base_at stations.new.entries place) result self.old.table.made self.new.table.made }
         ensures marks { BeginMarks place settling result (is_disarmed stations.old.entries) (is_disarmed stations.new.entries) }
-        ensures streams { (self.new.table.input ≡ self.old.table.input) × (self.new.table.output ≡ self.old.table.output)
-            × (self.new.table.errors ≡ self.old.table.errors) }
+        ensures streams { SameStreams self.old.table self.new.table }
         ensures bases { BeginsOn place (base_at stations.old.entries) (base_at stations.new.entries) result }
-        ensures sound { IsSound stations.old.entries self.old.table.made self.old.listed
-            → IsSound stations.new.entries self.new.table.made self.new.listed }
+        ensures kept { TakesOne stations.old.entries stations.new.entries self.old self.new }
         ensures held { HeldSo result settling place (hold_at stations.old.entries) (hold_at stations.new.entries) }
-        ensures one_more { length stations.new.entries ≤ length stations.old.entries + 1 }
         ensures maker { self.new.maker ≡ self.old.maker }
-        ensures parents { self.new.parents ≡ self.old.parents }
     {
         let mut begun = port;
         match begun.begin() {
@@ -194,37 +183,23 @@ impl<M: Maker + Drop, I: Port, O: Port, E: Port> Ports<M, I, O, E> {
         requires free { hold_at stations.old.entries place ≡ Free }
         requires stations_room { 0 < stations.old.spare }
         requires made_room { HasVacancy self.old.table.made self.old.listed }
-        ensures standard { IfSome (standard_of place single.now.target) (λ base. StandardCause (Rose self.old.table.input.port.counts.faults self.new.table.input.port.counts.faults
-            ⊎ (Rose self.old.table.output.port.counts.faults self.new.table.output.port.counts.faults
-            ⊎ Rose self.old.table.errors.port.counts.faults self.new.table.errors.port.counts.faults)) result) }
+        ensures standard { IfSome (standard_of place single.now.target)
+            (λ base. StandardCause (StreamFailed self.old.table self.new.table) result) }
         ensures made { IfNone (standard_of place single.now.target)
-            (OpenCause
-            (seen M.Made.gave M.Made.took M.Made.shuts M.Made.hints M.Made.hinting M.Made.counts M.Made.ended M.Made.joins M.Made.child)
-            (M.faults self.old.maker) (M.faults self.new.maker) (M.stalls self.old.maker)
-            (M.stalls self.new.maker) result) }
-        ensures asked { IfNone (standard_of place single.now.target) (AskedFor place single.now behind (M.asked self.new.maker)) }
-        ensures came { M.came self.new.maker ≡ M.came self.old.maker }
-        ensures input { MovesNothing self.old.table.input.port self.new.table.input.port }
-        ensures output { MovesNothing self.old.table.output.port self.new.table.output.port }
-        ensures errors { MovesNothing self.old.table.errors.port self.new.table.errors.port }
-        ensures ended { (self.new.table.input.port.ended ≡ self.old.table.input.port.ended)
-            × (self.new.table.output.port.ended ≡ self.old.table.output.port.ended)
-            × (self.new.table.errors.port.ended ≡ self.old.table.errors.port.ended) }
+            (OpenCause M.Made.seen (M.seen self.old.maker) (M.seen self.new.maker) result) }
+        ensures asked { IfNone (standard_of place single.now.target) (AskedFor place single.now behind (M.seen self.new.maker).asked) }
+        ensures came { (M.seen self.new.maker).came ≡ (M.seen self.old.maker).came }
+        ensures stay { StreamsStay self.old.table self.new.table }
         ensures begun { IfSome (standard_of place single.now.target) (λ base. OpensAt base self.old.table self.new.table result) }
         ensures streams { IfNone (standard_of place single.now.target) (SameStreams self.old.table self.new.table) }
         ensures ports { MatchOption (standard_of place single.now.target)
-            (OpensMade
-            (seen M.Made.gave M.Made.took M.Made.shuts M.Made.hints M.Made.hinting M.Made.counts M.Made.ended M.Made.joins M.Made.child)
-            place (base_at stations.new.entries place) result self.old.table.made self.new.table.made)
+            (OpensMade M.Made.seen place (base_at stations.new.entries place) result self.old.table.made self.new.table.made)
             (λ base. SameValues self.old.table.made self.new.table.made) }
         ensures marks { OpenMarks place result (is_disarmed stations.old.entries) (is_disarmed stations.new.entries) }
         ensures bases { OpensOn (standard_of place single.now.target) place (base_at stations.old.entries)
             (base_at stations.new.entries) result }
-        ensures sound { IsSound stations.old.entries self.old.table.made self.old.listed
-            → IsSound stations.new.entries self.new.table.made self.new.listed }
+        ensures kept { TakesOne stations.old.entries stations.new.entries self.old self.new }
         ensures held { HeldAfter (open_act place result) (hold_at stations.old.entries) (hold_at stations.new.entries) }
-        ensures one_more { length stations.new.entries ≤ length stations.old.entries + 1 }
-        ensures parents { self.new.parents ≡ self.old.parents }
     {
         match standard_base(place, single) {
             Some(base) => self.open_standard(stations, place, base),
@@ -236,25 +211,15 @@ impl<M: Maker + Drop, I: Port, O: Port, E: Port> Ports<M, I, O, E> {
         requires standard { IsStandard base }
         requires free { hold_at stations.old.entries place ≡ Free }
         requires stations_room { 0 < stations.old.spare }
-        ensures cause { StandardCause (Rose self.old.table.input.port.counts.faults self.new.table.input.port.counts.faults
-            ⊎ (Rose self.old.table.output.port.counts.faults self.new.table.output.port.counts.faults
-            ⊎ Rose self.old.table.errors.port.counts.faults self.new.table.errors.port.counts.faults)) result }
+        ensures cause { StandardCause (StreamFailed self.old.table self.new.table) result }
         ensures maker { self.new.maker ≡ self.old.maker }
-        ensures input { MovesNothing self.old.table.input.port self.new.table.input.port }
-        ensures output { MovesNothing self.old.table.output.port self.new.table.output.port }
-        ensures errors { MovesNothing self.old.table.errors.port self.new.table.errors.port }
-        ensures ended { (self.new.table.input.port.ended ≡ self.old.table.input.port.ended)
-            × (self.new.table.output.port.ended ≡ self.old.table.output.port.ended)
-            × (self.new.table.errors.port.ended ≡ self.old.table.errors.port.ended) }
+        ensures stay { StreamsStay self.old.table self.new.table }
         ensures begun { OpensAt base self.old.table self.new.table result }
         ensures ports { SameValues self.old.table.made self.new.table.made }
         ensures marks { OpenMarks place result (is_disarmed stations.old.entries) (is_disarmed stations.new.entries) }
         ensures bases { OpensOn (Some base) place (base_at stations.old.entries) (base_at stations.new.entries) result }
-        ensures sound { IsSound stations.old.entries self.old.table.made self.old.listed
-            → IsSound stations.new.entries self.new.table.made self.new.listed }
+        ensures kept { TakesOne stations.old.entries stations.new.entries self.old self.new }
         ensures held { HeldAfter (open_act place result) (hold_at stations.old.entries) (hold_at stations.new.entries) }
-        ensures one_more { length stations.new.entries ≤ length stations.old.entries + 1 }
-        ensures parents { self.new.parents ≡ self.old.parents }
     {
         match self.table.begin(base) {
             Begun::Begun => {
@@ -276,25 +241,15 @@ impl<M: Maker + Drop, I: Port, O: Port, E: Port> Ports<M, I, O, E> {
         requires free { hold_at stations.old.entries place ≡ Free }
         requires stations_room { 0 < stations.old.spare }
         requires made_room { HasVacancy self.old.table.made self.old.listed }
-        ensures cause { OpenCause
-            (seen M.Made.gave M.Made.took M.Made.shuts M.Made.hints M.Made.hinting M.Made.counts M.Made.ended
-            M.Made.joins M.Made.child) (M.faults self.old.maker) (M.faults self.new.maker)
-            (M.stalls self.old.maker) (M.stalls self.new.maker) result }
-        ensures asked { AskedFor place single.now behind (M.asked self.new.maker) }
-        ensures came { M.came self.new.maker ≡ M.came self.old.maker }
-        ensures streams { (self.new.table.input ≡ self.old.table.input) × (self.new.table.output ≡ self.old.table.output)
-            × (self.new.table.errors ≡ self.old.table.errors) }
-        ensures ports { OpensMade
-            (seen M.Made.gave M.Made.took M.Made.shuts M.Made.hints M.Made.hinting M.Made.counts M.Made.ended
-            M.Made.joins M.Made.child) place (base_at stations.new.entries place) result self.old.table.made
-            self.new.table.made }
+        ensures cause { OpenCause M.Made.seen (M.seen self.old.maker) (M.seen self.new.maker) result }
+        ensures asked { AskedFor place single.now behind (M.seen self.new.maker).asked }
+        ensures came { (M.seen self.new.maker).came ≡ (M.seen self.old.maker).came }
+        ensures streams { SameStreams self.old.table self.new.table }
+        ensures ports { OpensMade M.Made.seen place (base_at stations.new.entries place) result self.old.table.made self.new.table.made }
         ensures marks { OpenMarks place result (is_disarmed stations.old.entries) (is_disarmed stations.new.entries) }
         ensures bases { OpensOn None place (base_at stations.old.entries) (base_at stations.new.entries) result }
-        ensures sound { IsSound stations.old.entries self.old.table.made self.old.listed
-            → IsSound stations.new.entries self.new.table.made self.new.listed }
+        ensures kept { TakesOne stations.old.entries stations.new.entries self.old self.new }
         ensures held { HeldAfter (open_act place result) (hold_at stations.old.entries) (hold_at stations.new.entries) }
-        ensures one_more { length stations.new.entries ≤ length stations.old.entries + 1 }
-        ensures parents { self.new.parents ≡ self.old.parents }
     {
         let key = self.table.next_key();
         match self.maker.make(key, place, single, behind) {
@@ -318,9 +273,8 @@ impl<M: Maker + Drop, I: Port, O: Port, E: Port> Ports<M, I, O, E> {
         requires settling { hold_at stations.old.entries place ≡ Settling }
         requires parents_room { vec_len self.old.parents < vec_capacity self.old.parents }
         ensures call { IfSome (base_at stations.old.entries place)
-            (λ base. SettledAt
-            (seen M.Made.gave M.Made.took M.Made.shuts M.Made.hints M.Made.hinting M.Made.counts M.Made.ended M.Made.joins M.Made.child)
-            (giving_port base) self.old.table self.new.table self.old.parents.items self.new.parents.items result) }
+            (λ base. SettledAt M.Made.seen (giving_port base) self.old.table self.new.table self.old.parents.items self.new.parents.items
+            result) }
         ensures maker { self.new.maker ≡ self.old.maker }
         ensures marks { SettleMarks place result (is_disarmed stations.old.entries) (is_disarmed stations.new.entries) }
         ensures bases { SettlesOn place (base_at stations.old.entries) (base_at stations.new.entries) result }
@@ -355,23 +309,14 @@ impl<M: Maker + Drop, I: Port, O: Port, E: Port> Ports<M, I, O, E> {
         requires free { hold_at stations.old.entries door ≡ Free }
         requires stations_room { 0 < stations.old.spare }
         requires made_room { HasVacancy self.old.table.made self.old.listed }
-        ensures cause { ListenCause
-            (seen M.Made.gave M.Made.took M.Made.shuts M.Made.hints M.Made.hinting M.Made.counts M.Made.ended
-            M.Made.joins M.Made.child) (M.faults self.old.maker) (M.faults self.new.maker) result }
-        ensures came { M.came self.new.maker ≡ M.came self.old.maker }
-        ensures streams { (self.new.table.input ≡ self.old.table.input) × (self.new.table.output ≡ self.old.table.output)
-            × (self.new.table.errors ≡ self.old.table.errors) }
-        ensures ports { ListensMade
-            (seen M.Made.gave M.Made.took M.Made.shuts M.Made.hints M.Made.hinting M.Made.counts M.Made.ended
-            M.Made.joins M.Made.child) door (base_at stations.new.entries door) result self.old.table.made
-            self.new.table.made }
+        ensures cause { ListenCause M.Made.seen (M.seen self.old.maker) (M.seen self.new.maker) result }
+        ensures came { (M.seen self.new.maker).came ≡ (M.seen self.old.maker).came }
+        ensures streams { SameStreams self.old.table self.new.table }
+        ensures ports { ListensMade M.Made.seen door (base_at stations.new.entries door) result self.old.table.made self.new.table.made }
         ensures marks { ListenMarks door result (is_disarmed stations.old.entries) (is_disarmed stations.new.entries) }
         ensures bases { ListensOn door (base_at stations.old.entries) (base_at stations.new.entries) result }
-        ensures sound { IsSound stations.old.entries self.old.table.made self.old.listed
-            → IsSound stations.new.entries self.new.table.made self.new.listed }
+        ensures kept { TakesOne stations.old.entries stations.new.entries self.old self.new }
         ensures held { HeldAfter (listen_act door result) (hold_at stations.old.entries) (hold_at stations.new.entries) }
-        ensures one_more { length stations.new.entries ≤ length stations.old.entries + 1 }
-        ensures parents { self.new.parents ≡ self.old.parents }
     {
         let key = self.table.next_key();
         match self.maker.listen(key, single) {
@@ -393,22 +338,16 @@ impl<M: Maker + Drop, I: Port, O: Port, E: Port> Ports<M, I, O, E> {
         requires free { hold_at stations.old.entries place ≡ Free }
         requires stations_room { 0 < stations.old.spare }
         requires made_room { HasVacancy self.old.table.made self.old.listed }
-        ensures cause { AcceptCause
-            (seen M.Made.gave M.Made.took M.Made.shuts M.Made.hints M.Made.hinting M.Made.counts M.Made.ended
-            M.Made.joins M.Made.child) (M.faults self.old.maker) (M.faults self.new.maker)
-            (M.stalls self.old.maker) (M.stalls self.new.maker) (M.came self.new.maker) result }
-        ensures streams { (self.new.table.input ≡ self.old.table.input) × (self.new.table.output ≡ self.old.table.output)
-            × (self.new.table.errors ≡ self.old.table.errors) }
-        ensures ports { IfSome (base_at stations.old.entries door) (λ base. AtMade (giving_port base)
-            (λ key. AcceptsMade (seen M.Made.gave M.Made.took M.Made.shuts M.Made.hints M.Made.hinting M.Made.counts M.Made.ended M.Made.joins M.Made.child) key place (base_at stations.new.entries place) result self.old.table.made self.new.table.made)
+        ensures cause { AcceptCause M.Made.seen (M.seen self.old.maker) (M.seen self.new.maker) result }
+        ensures streams { SameStreams self.old.table self.new.table }
+        ensures ports { IfSome (base_at stations.old.entries door)
+            (λ base. AtMade (giving_port base) (λ key. AcceptsMade M.Made.seen key place
+            (base_at stations.new.entries place) result self.old.table.made self.new.table.made)
             (SameValues self.old.table.made self.new.table.made)) }
         ensures marks { AcceptMarks door place result (is_disarmed stations.old.entries) (is_disarmed stations.new.entries) }
         ensures bases { AcceptsOn place (base_at stations.old.entries) (base_at stations.new.entries) result }
-        ensures sound { IsSound stations.old.entries self.old.table.made self.old.listed
-            → IsSound stations.new.entries self.new.table.made self.new.listed }
+        ensures kept { TakesOne stations.old.entries stations.new.entries self.old self.new }
         ensures held { HeldAfter (accept_act door place result) (hold_at stations.old.entries) (hold_at stations.new.entries) }
-        ensures one_more { length stations.new.entries ≤ length stations.old.entries + 1 }
-        ensures parents { self.new.parents ≡ self.old.parents }
     {
         let station = stations.held(door);
         let Some(door_key) = station.base.made_key() else {
@@ -443,23 +382,14 @@ impl<M: Maker + Drop, I: Port, O: Port, E: Port> Ports<M, I, O, E> {
         requires free { hold_at stations.old.entries place ≡ Free }
         requires stations_room { 0 < stations.old.spare }
         requires made_room { HasVacancy self.old.table.made self.old.listed }
-        ensures cause { WelcomeCause
-            (seen M.Made.gave M.Made.took M.Made.shuts M.Made.hints M.Made.hinting M.Made.counts M.Made.ended
-            M.Made.joins M.Made.child) peer result }
+        ensures cause { WelcomeCause M.Made.seen peer result }
         ensures maker { self.new.maker ≡ self.old.maker }
-        ensures streams { (self.new.table.input ≡ self.old.table.input) × (self.new.table.output ≡ self.old.table.output)
-            × (self.new.table.errors ≡ self.old.table.errors) }
-        ensures ports { WelcomesMade
-            (seen M.Made.gave M.Made.took M.Made.shuts M.Made.hints M.Made.hinting M.Made.counts M.Made.ended
-            M.Made.joins M.Made.child) place (base_at stations.new.entries place) result self.old.table.made
-            self.new.table.made }
+        ensures streams { SameStreams self.old.table self.new.table }
+        ensures ports { WelcomesMade M.Made.seen place (base_at stations.new.entries place) result self.old.table.made self.new.table.made }
         ensures marks { AcceptMarks door place result (is_disarmed stations.old.entries) (is_disarmed stations.new.entries) }
         ensures bases { AcceptsOn place (base_at stations.old.entries) (base_at stations.new.entries) result }
-        ensures sound { IsSound stations.old.entries self.old.table.made self.old.listed
-            → IsSound stations.new.entries self.new.table.made self.new.listed }
+        ensures kept { TakesOne stations.old.entries stations.new.entries self.old self.new }
         ensures held { HeldAfter (accept_act door place result) (hold_at stations.old.entries) (hold_at stations.new.entries) }
-        ensures one_more { length stations.new.entries ≤ length stations.old.entries + 1 }
-        ensures parents { self.new.parents ≡ self.old.parents }
     {
         match self.insert(stations, place, port, false) {
             Begun::Begun => {
@@ -482,16 +412,11 @@ impl<M: Maker + Drop, I: Port, O: Port, E: Port> Ports<M, I, O, E> {
         ensures call { IfSome (base_at stations.old.entries place)
             (λ base. CalledAt (giving_port base) self.old.table self.new.table
             (λ old new. Reads old new into.new result)) }
-        ensures maker { self.new.maker ≡ self.old.maker }
         ensures marks { SetsStation place
             (option_map (with_half ToRead (is_got_not_yet result)) (station_at stations.old.entries place))
             (station_at stations.old.entries) (station_at stations.new.entries) }
-        ensures bases { SameBases (base_at stations.old.entries) (base_at stations.new.entries) }
-        ensures sound { IsSound stations.old.entries self.old.table.made self.old.listed
-            → IsSound stations.new.entries self.new.table.made self.new.listed }
+        ensures kept { KeepsPlaces stations.old.entries stations.new.entries self.old self.new }
         ensures held { SameHold (hold_at stations.old.entries) (hold_at stations.new.entries) }
-        ensures no_more { length stations.new.entries ≤ length stations.old.entries }
-        ensures parents { self.new.parents ≡ self.old.parents }
     {
         let station = stations.held(place);
         let got = self.table.read(station.base, into);
@@ -507,16 +432,11 @@ impl<M: Maker + Drop, I: Port, O: Port, E: Port> Ports<M, I, O, E> {
         ensures call { IfSome (base_at stations.old.entries place)
             (λ base. CalledAt (taking_port base) self.old.table self.new.table
             (λ old new. Writes old new bytes.now result)) }
-        ensures maker { self.new.maker ≡ self.old.maker }
         ensures marks { SetsStation place
             (option_map (with_half ToWrite (is_took_not_yet result)) (station_at stations.old.entries place))
             (station_at stations.old.entries) (station_at stations.new.entries) }
-        ensures bases { SameBases (base_at stations.old.entries) (base_at stations.new.entries) }
-        ensures sound { IsSound stations.old.entries self.old.table.made self.old.listed
-            → IsSound stations.new.entries self.new.table.made self.new.listed }
+        ensures kept { KeepsPlaces stations.old.entries stations.new.entries self.old self.new }
         ensures held { SameHold (hold_at stations.old.entries) (hold_at stations.new.entries) }
-        ensures no_more { length stations.new.entries ≤ length stations.old.entries }
-        ensures parents { self.new.parents ≡ self.old.parents }
     {
         let station = stations.held(place);
         let took = self.table.write(station.base, bytes);
@@ -531,16 +451,11 @@ impl<M: Maker + Drop, I: Port, O: Port, E: Port> Ports<M, I, O, E> {
         ensures call { IfSome (base_at stations.old.entries place)
             (λ base. CalledAt (taking_port base) self.old.table self.new.table
             (λ old new. Sends old new bytes.now result)) }
-        ensures maker { self.new.maker ≡ self.old.maker }
         ensures marks { SetsStation place
             (option_map (with_half ToWrite (is_took_not_yet result)) (station_at stations.old.entries place))
             (station_at stations.old.entries) (station_at stations.new.entries) }
-        ensures bases { SameBases (base_at stations.old.entries) (base_at stations.new.entries) }
-        ensures sound { IsSound stations.old.entries self.old.table.made self.old.listed
-            → IsSound stations.new.entries self.new.table.made self.new.listed }
+        ensures kept { KeepsPlaces stations.old.entries stations.new.entries self.old self.new }
         ensures held { SameHold (hold_at stations.old.entries) (hold_at stations.new.entries) }
-        ensures no_more { length stations.new.entries ≤ length stations.old.entries }
-        ensures parents { self.new.parents ≡ self.old.parents }
     {
         let station = stations.held(place);
         let took = self.table.send(station.base, bytes);
@@ -554,15 +469,10 @@ impl<M: Maker + Drop, I: Port, O: Port, E: Port> Ports<M, I, O, E> {
         ensures call { IfSome (base_at stations.old.entries place)
             (λ base. EndsAt (finishes how) (taking_port base) self.old.table self.new.table
             (λ old new. Shuts old new how result)) }
-        ensures maker { self.new.maker ≡ self.old.maker }
-        ensures bases { SameBases (base_at stations.old.entries) (base_at stations.new.entries) }
-        ensures sound { IsSound stations.old.entries self.old.table.made self.old.listed
-            → IsSound stations.new.entries self.new.table.made self.new.listed }
+        ensures kept { KeepsPlaces stations.old.entries stations.new.entries self.old self.new }
         ensures station { SetsStation place (option_map (shut_down (finishes how)) (station_at stations.old.entries place))
             (station_at stations.old.entries) (station_at stations.new.entries) }
         ensures held { HeldAfter (shut_act place how (shut_answer result)) (hold_at stations.old.entries) (hold_at stations.new.entries) }
-        ensures no_more { length stations.new.entries ≤ length stations.old.entries }
-        ensures parents { self.new.parents ≡ self.old.parents }
     {
         let station = stations.held(place);
         let answer = self.table.shut(station.base, how);
@@ -581,8 +491,7 @@ impl<M: Maker + Drop, I: Port, O: Port, E: Port> Ports<M, I, O, E> {
     pub fn close(&mut self, stations: &mut Stations, place: Place, why: Why) -> Option<Joining>
         requires held { is_free (hold_at stations.old.entries place) ≡ false }
         requires parents_room { vec_len self.old.parents < vec_capacity self.old.parents }
-        ensures streams { (self.new.table.input ≡ self.old.table.input) × (self.new.table.output ≡ self.old.table.output)
-            × (self.new.table.errors ≡ self.old.table.errors) }
+        ensures streams { SameStreams self.old.table self.new.table }
         ensures gone { (key : ℕ) → base_at stations.old.entries place ≡ Some (bases.Made key) → get self.new.table.made key ≡ None }
         ensures others { (key : ℕ) → (base_at stations.old.entries place ≡ Some (bases.Made key) → ⊥)
             → get self.new.table.made key ≡ get self.old.table.made key }
@@ -616,17 +525,13 @@ impl<M: Maker + Drop, I: Port, O: Port, E: Port> Ports<M, I, O, E> {
     ) -> Option<Joining>
         requires based { base_at stations.old.entries place ≡ Some base }
         requires parents_room { vec_len self.old.parents < vec_capacity self.old.parents }
-        ensures streams { (self.new.table.input ≡ self.old.table.input) × (self.new.table.output ≡ self.old.table.output)
-            × (self.new.table.errors ≡ self.old.table.errors) }
+        ensures streams { SameStreams self.old.table self.new.table }
         ensures gone { (key : ℕ) → base_at stations.old.entries place ≡ Some (bases.Made key) → get self.new.table.made key ≡ None }
         ensures others { (key : ℕ) → (base_at stations.old.entries place ≡ Some (bases.Made key) → ⊥)
             → get self.new.table.made key ≡ get self.old.table.made key }
         ensures standard { key_of base ≡ None → self.new.table.made ≡ self.old.table.made }
         ensures maker { self.new.maker ≡ self.old.maker }
-        ensures told { IfSome (made_at self.old.table.made base)
-            (λ entry. IsOf
-            (seen M.Made.gave M.Made.took M.Made.shuts M.Made.hints M.Made.hinting M.Made.counts M.Made.ended M.Made.joins M.Made.child)
-            entry.port) }
+        ensures told { IfSome (made_at self.old.table.made base) (λ entry. IsOf M.Made.seen entry.port) }
         ensures marks { MarksPlace place false (is_disarmed stations.old.entries) (is_disarmed stations.new.entries) }
         ensures bases { Leaves place (base_at stations.old.entries) (base_at stations.new.entries) }
         ensures sound { IsSoundBut place stations.old.entries self.old.table.made self.old.listed
@@ -649,12 +554,8 @@ impl<M: Maker + Drop, I: Port, O: Port, E: Port> Ports<M, I, O, E> {
     /// Lets the made port of the key go, which is listed no longer.
     fn let_go(&mut self, key: usize, joined: bool) -> Option<Joining>
         requires parents_room { vec_len self.old.parents < vec_capacity self.old.parents }
-        ensures streams { (self.new.table.input ≡ self.old.table.input) × (self.new.table.output ≡ self.old.table.output)
-            × (self.new.table.errors ≡ self.old.table.errors) }
-        ensures told { IfSome (get self.old.table.made key)
-            (λ entry. IsOf
-            (seen M.Made.gave M.Made.took M.Made.shuts M.Made.hints M.Made.hinting M.Made.counts M.Made.ended M.Made.joins M.Made.child)
-            entry.port) }
+        ensures streams { SameStreams self.old.table self.new.table }
+        ensures told { IfSome (get self.old.table.made key) (λ entry. IsOf M.Made.seen entry.port) }
         ensures made { Updates self.old.table.made self.new.table.made key None }
         ensures listed { (other : ℕ) → other ≢ key → is_in other self.new.listed.keys ≡ is_in other self.old.listed.keys }
         ensures covered { self.new.listed.covered ≡ self.old.listed.covered }

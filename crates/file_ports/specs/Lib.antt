@@ -1,5 +1,4 @@
 pub mod Access
-pub mod Echoes
 pub mod Halves
 pub mod Inputs
 pub mod Opened

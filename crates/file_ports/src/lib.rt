@@ -1,8 +1,7 @@
-// Ports of files, and the echo pipe.
+// Ports of files.
 #![tactic(auto)]
 
 mod access;
-mod echo;
 mod halves;
 mod input;
 mod open;
@@ -13,7 +12,6 @@ mod stream;
 mod waiting;
 
 pub use access::{Access, FileKind};
-pub use echo::EchoPort;
 pub use halves::{Halves, Readiness};
 pub use input::FileInput;
 pub use open::{FileEnds, NamedPipe, OpenedFile, PipeEntry, open_file};

@@ -19,7 +19,8 @@ use Rattle.port_table.specs.PortTables.{CalledAt, EndsAt, PortId, Input, Output,
 use Rattle.port_table.specs.declared.table.PortTable.{PortTable}
 use Rattle.port_table.proofs.CalledLemmas.{called_map}
 use Rattle.port_table.specs.Answers.{GotFits, TookFits}
-use Rattle.port_table.specs.Ports.{EntrySeen, PortSeen, Reads, Sends, Shuts, Writes}
+use Rattle.port_trait.specs.Ports.{PortSeen, Reads, Sends, Shuts, Writes}
+use Rattle.port_table.specs.Ports.{EntrySeen}
 use Rattle.port_trait.specs.Streams.{finishes}
 use Rattle.world_trait.specs.Seen.{Seen}
 use Rattle.world_trait.specs.declared.answers.OpenAnswer.TheVariants as opens

@@ -1,7 +1,8 @@
 -- What the one clause of a call on the port of a place says of each standard stream.
 use Rattle.std.proofs.Common.{◌≡◌, Bool, List, Option, None, Some, IfSome}
 use Rattle.port_table.specs.PortTables.{AtErrors, AtInput, AtOutput, EndsAt, Errors, Input, Made, Output, PortId}
-use Rattle.port_table.specs.Ports.{EntrySeen, PortSeen}
+use Rattle.port_trait.specs.Ports.{PortSeen}
+use Rattle.port_table.specs.Ports.{EntrySeen}
 use Rattle.port_table.specs.declared.bases.Base.{Base}
 use Rattle.port_table.specs.declared.table.PortTable.{PortTable}
 use Rattle.world_trait.specs.declared.answers.OpenAnswer.{OpenAnswer}

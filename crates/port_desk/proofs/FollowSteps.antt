@@ -39,7 +39,8 @@ use Rattle.world_trait.specs.declared.answers.ReapAnswer.{ReapAnswer}
 use Rattle.world_trait.specs.declared.answers.ReapAnswer.TheVariants as reaps
 use Rattle.port_table.specs.Bases.{standard_of}
 use Rattle.port_table.specs.PortTables.{AtErrors, AtInput, AtOutput, giving_port, taking_port}
-use Rattle.port_table.specs.Ports.{MovesNothing, PortSeen, StreamSeen}
+use Rattle.port_trait.specs.Ports.{MovesNothing, PortSeen}
+use Rattle.port_table.specs.Ports.{StreamSeen}
 use Rattle.port_table.specs.declared.bases.Base.{Base}
 use Rattle.port_table.specs.declared.bases.Base.TheVariants as bases
 use Rattle.desk_places.specs.declared.stations.Station.{Station}

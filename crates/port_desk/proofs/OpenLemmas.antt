@@ -9,7 +9,8 @@ use Rattle.world_trait.specs.declared.answers.AcceptAnswer.{AcceptAnswer}
 use Rattle.world_trait.specs.declared.answers.AcceptAnswer.TheVariants as accepts
 use Rattle.slab.specs.Slab.{SameValues, Slab}
 use Rattle.port_table.specs.PortTables.{AtMade, BeginsAt, Errors, Input, Made, MadeCall, Output, PortId, SameStreams, ThenBegins, giving_port}
-use Rattle.port_table.specs.Ports.{EntrySeen, LetsIn, PortSeen, StreamBegins, StreamSeen}
+use Rattle.port_trait.specs.Ports.{MovesNothing, PortSeen}
+use Rattle.port_table.specs.Ports.{EntrySeen, StreamBegins, StreamSeen}
 use Rattle.port_table.specs.declared.bases.Base.{Base}
 use Rattle.port_table.specs.declared.bases.Base.TheVariants as bases
 use Rattle.port_table.specs.declared.table.PortTable.{PortTable}
@@ -72,12 +73,12 @@ pub doors_from : {T : Type 0} (tells : T → PortSeen) (slot : Option Base) (ans
 doors_from tells None answer place base a b c same h = tt
 doors_from tells (Some door) answer place base a b c same h = door_from tells (giving_port door) answer place base a b c same h
 
-no_door : (id : PortId) (a c : Slab EntrySeen) → SameValues a c → AtMade id (λ key. MadeCall a c key LetsIn) (SameValues a c)
+no_door : (id : PortId) (a c : Slab EntrySeen) → SameValues a c → AtMade id (λ key. MadeCall a c key MovesNothing) (SameValues a c)
 no_door Input a c same = same
 no_door Output a c same = same
 no_door Errors a c same = same
 no_door (Made key) a c same = no_call a c key same
 
-pub no_doors : (slot : Option Base) (a c : Slab EntrySeen) → SameValues a c → IfSome slot (λ door. AtMade (giving_port door) (λ key. MadeCall a c key LetsIn) (SameValues a c))
+pub no_doors : (slot : Option Base) (a c : Slab EntrySeen) → SameValues a c → IfSome slot (λ door. AtMade (giving_port door) (λ key. MadeCall a c key MovesNothing) (SameValues a c))
 no_doors None a c same = tt
 no_doors (Some door) a c same = no_door (giving_port door) a c same

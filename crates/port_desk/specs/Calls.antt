@@ -8,7 +8,8 @@ use Rattle.relay_model.specs.declared.places.Place.{Place}
 use Rattle.relay_model.specs.declared.readiness.ReadyAt.{ReadyAt}
 use Rattle.desk_places.specs.Marks.{SameMarks}
 use Rattle.port_table.specs.PortTables.{StreamNotes}
-use Rattle.port_table.specs.Ports.{PortSeen, StreamSeen, Reads, Writes, Sends, Shuts}
+use Rattle.port_trait.specs.Ports.{PortSeen, Reads, Writes, Sends, Shuts}
+use Rattle.port_table.specs.Ports.{StreamSeen}
 use Rattle.port_trait.specs.declared.answers.Got.TheVariants as gots
 use Rattle.port_trait.specs.declared.answers.Took.TheVariants as tooks
 use Rattle.port_trait.specs.declared.answers.Shutting.TheVariants as shuttings

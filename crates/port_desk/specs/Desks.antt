@@ -5,7 +5,7 @@ use Rattle.relay_model.specs.declared.places.Half.{Half}
 use Rattle.relay_model.specs.declared.places.Place.{Place}
 use Rattle.world_trait.specs.Answers.{Rose}
 use Rattle.port_table.specs.PortTables.{CalledAt, EndsAt, PortId}
-use Rattle.port_table.specs.Ports.{PortSeen}
+use Rattle.port_trait.specs.Ports.{PortSeen}
 use Rattle.port_table.specs.declared.bases.Base.{Base}
 use Rattle.desk_places.specs.Stations.{SetsStation, base_at, station_at, with_half}
 use Rattle.desk_places.specs.declared.stations.Station.{Station}

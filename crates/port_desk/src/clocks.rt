@@ -21,7 +21,8 @@ impl<P: Poller + Drop> Model for Clock<P> {
 
     ghost Value = { ClockSeen };
 
-    ghost view = { λ c. record { last = c.last; reached = P.clock c.poller; stops = P.stops c.poller; asked = P.asked c.poller; keys = c.keys.entries; named = P.named c.poller; stopped = P.stopped c.poller } };
+    ghost view = { λ c. record { last = c.last; reached = P.clock c.poller; stops = P.stops c.poller; asked = P.asked c.poller;
+        keys = c.keys.entries; named = P.named c.poller; stopped = P.stopped c.poller } };
 
     ghost invariant = { λ c. (c.last ≤ P.clock c.poller) × (256 ≤ c.keys.room) };
 }
@@ -69,7 +70,8 @@ impl<P: Poller + Drop> Clock<P> {
     pub fn turn(&mut self, at: u64)
         requires { at ≤ self.old.reached }
         ensures last { self.new.last ≡ at }
-        ensures same { (self.new.reached ≡ self.old.reached) × (self.new.stops ≡ self.old.stops) × (self.new.asked ≡ self.old.asked) × (self.new.keys ≡ self.old.keys) × (self.new.named ≡ self.old.named) × (self.new.stopped ≡ self.old.stopped) }
+        ensures same { (self.new.reached ≡ self.old.reached) × (self.new.stops ≡ self.old.stops) × (self.new.asked ≡ self.old.asked)
+            × (self.new.keys ≡ self.old.keys) × (self.new.named ≡ self.old.named) × (self.new.stopped ≡ self.old.stopped) }
     {
         self.last = at;
     }

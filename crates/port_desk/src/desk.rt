@@ -9,9 +9,8 @@ ghost use Rattle.world_trait.specs.Seen.{IsFresh};
 ghost use Rattle.relay_model.specs.Holding.{Free};
 ghost use Rattle.relay_model.specs.declared.places.Place.{Place};
 ghost use Rattle.port_trait.specs.Counting.{Counted};
-ghost use Rattle.port_trait.specs.Meanings.{Behind};
+ghost use Rattle.port_trait.specs.Ports.{Agrees};
 ghost use Rattle.port_table.specs.Endings.{EndsSo, OnJoinedBack, handed, is_left};
-ghost use Rattle.port_table.specs.Ports.{seen};
 ghost use Rattle.port_table.specs.PortTables.{SameStreams};
 ghost use Rattle.desk_places.specs.Standing.{HasVacancy, IsSound};
 ghost use Rattle.desk_places.specs.Stations.{hold_at};
@@ -51,12 +50,16 @@ impl<M: Maker + Drop, P: Poller + Drop, I: Port, O: Port, E: Port> Desk<M, P, I,
         poller: P,
         recorder: Recorder,
     ) -> Result<Desk<M, P, I, O, E>, NoMemory>
-        ensures told { IfOk result (λ desk. (⟦<Desk<M, P, I, O, E> as World>⟧.seen desk).told ≡ told_by recorder (record { acts = []; spare = 0 }) (record { pairs = []; spare = 0 })) }
+        ensures told { IfOk result (λ desk. (⟦<Desk<M, P, I, O, E> as World>⟧.seen desk).told ≡ told_by recorder
+            (record { acts = []; spare = 0 }) (record { pairs = []; spare = 0 })) }
         ensures fresh { IfOk result (λ desk. IsFresh (⟦<Desk<M, P, I, O, E> as World>⟧.seen desk)) }
         ensures untouched { IfOk result (λ desk. desk.log.acted ≡ false) }
-        ensures stdin { IfOk result (λ desk. (desk.ports.table.input.port ≡ seen I.gave I.took I.shuts I.hints I.hinting I.counts I.ended I.joins I.child standard.stdin) × (desk.ports.table.input.begun ≡ false) × (desk.ports.table.input.finished ≡ false)) }
-        ensures stdout { IfOk result (λ desk. (desk.ports.table.output.port ≡ seen O.gave O.took O.shuts O.hints O.hinting O.counts O.ended O.joins O.child standard.stdout) × (desk.ports.table.output.begun ≡ false) × (desk.ports.table.output.finished ≡ false)) }
-        ensures stderr { IfOk result (λ desk. (desk.ports.table.errors.port ≡ seen E.gave E.took E.shuts E.hints E.hinting E.counts E.ended E.joins E.child standard.stderr) × (desk.ports.table.errors.begun ≡ false) × (desk.ports.table.errors.finished ≡ false)) }
+        ensures stdin { IfOk result (λ desk. (desk.ports.table.input.port ≡ I.seen standard.stdin) × (desk.ports.table.input.begun ≡ false)
+            × (desk.ports.table.input.finished ≡ false)) }
+        ensures stdout { IfOk result (λ desk. (desk.ports.table.output.port ≡ O.seen standard.stdout)
+            × (desk.ports.table.output.begun ≡ false) × (desk.ports.table.output.finished ≡ false)) }
+        ensures stderr { IfOk result (λ desk. (desk.ports.table.errors.port ≡ E.seen standard.stderr)
+            × (desk.ports.table.errors.begun ≡ false) × (desk.ports.table.errors.finished ≡ false)) }
     {
         Ok(Desk {
             ports: Ports::new(alloc, standard, maker),
@@ -97,7 +100,8 @@ impl<M: Maker + Drop, P: Poller + Drop, I: Port, O: Port, E: Port> Desk<M, P, I,
     /// What was kept; nothing by a desk that skips.
     pub fn kept(&self) -> &Kept
         ensures skipped { is_some (⟦<Desk<M, P, I, O, E> as World>⟧.seen self.now).told ≡ false → KeepsNothing result.now }
-        ensures told { let now = ⟦<Desk<M, P, I, O, E> as World>⟧.seen self.now in is_some now.told ≡ true → now.told ≡ Some (record { acts = result.now.journal.acts; asked = result.now.asked.pairs }) }
+        ensures told { let now = ⟦<Desk<M, P, I, O, E> as World>⟧.seen self.now in is_some now.told ≡ true
+            → now.told ≡ Some (record { acts = result.now.journal.acts; asked = result.now.asked.pairs }) }
     {
         self.log.recording.kept()
     }
@@ -106,15 +110,20 @@ impl<M: Maker + Drop, P: Poller + Drop, I: Port, O: Port, E: Port> Desk<M, P, I,
     /// is shut with `Close`; then each is joined. Takes no memory.
     pub fn end(self) -> Ended<I, O, E>
         requires { (p : Place) → (⟦<Desk<M, P, I, O, E> as World>⟧.seen self).held p ≡ Free }
-        ensures stdin { EndsSo (self.ports.table.input.begun && not self.ports.table.input.finished) self.ports.table.input.port (is_left result.standard.stdin) (seen I.gave I.took I.shuts I.hints I.hinting I.counts I.ended I.joins I.child (handed result.standard.stdin)) }
-        ensures stdin_behind { OnJoinedBack (λ port. Behind (I.gave port) (I.took port) (I.behind_gave port) (I.behind_took port) (I.behind_left port) (I.behind_faults port) (I.ended port)) result.standard.stdin }
-        ensures stdout { EndsSo (self.ports.table.output.begun && not self.ports.table.output.finished) self.ports.table.output.port (is_left result.standard.stdout) (seen O.gave O.took O.shuts O.hints O.hinting O.counts O.ended O.joins O.child (handed result.standard.stdout)) }
-        ensures stdout_behind { OnJoinedBack (λ port. Behind (O.gave port) (O.took port) (O.behind_gave port) (O.behind_took port) (O.behind_left port) (O.behind_faults port) (O.ended port)) result.standard.stdout }
-        ensures stderr { EndsSo (self.ports.table.errors.begun && not self.ports.table.errors.finished) self.ports.table.errors.port (is_left result.standard.stderr) (seen E.gave E.took E.shuts E.hints E.hinting E.counts E.ended E.joins E.child (handed result.standard.stderr)) }
-        ensures stderr_behind { OnJoinedBack (λ port. Behind (E.gave port) (E.took port) (E.behind_gave port) (E.behind_took port) (E.behind_left port) (E.behind_faults port) (E.ended port)) result.standard.stderr }
+        ensures stdin { EndsSo (self.ports.table.input.begun && not self.ports.table.input.finished) self.ports.table.input.port
+            (is_left result.standard.stdin) (I.seen (handed result.standard.stdin)) }
+        ensures stdin_behind { OnJoinedBack (λ port. Agrees (I.seen port)) result.standard.stdin }
+        ensures stdout { EndsSo (self.ports.table.output.begun && not self.ports.table.output.finished) self.ports.table.output.port
+            (is_left result.standard.stdout) (O.seen (handed result.standard.stdout)) }
+        ensures stdout_behind { OnJoinedBack (λ port. Agrees (O.seen port)) result.standard.stdout }
+        ensures stderr { EndsSo (self.ports.table.errors.begun && not self.ports.table.errors.finished) self.ports.table.errors.port
+            (is_left result.standard.stderr) (E.seen (handed result.standard.stderr)) }
+        ensures stderr_behind { OnJoinedBack (λ port. Agrees (E.seen port)) result.standard.stderr }
         ensures skipped { is_some (⟦<Desk<M, P, I, O, E> as World>⟧.seen self).told ≡ false → KeepsNothing result.kept }
-        ensures kept { let now = ⟦<Desk<M, P, I, O, E> as World>⟧.seen self in is_some now.told ≡ true → now.told ≡ Some (record { acts = result.kept.journal.acts; asked = result.kept.asked.pairs }) }
-        ensures counts { let now = ⟦<Desk<M, P, I, O, E> as World>⟧.seen self in result.counts ≡ record { faults = now.faults; waits = now.waits; stops = now.stops } }
+        ensures kept { let now = ⟦<Desk<M, P, I, O, E> as World>⟧.seen self in is_some now.told ≡ true
+            → now.told ≡ Some (record { acts = result.kept.journal.acts; asked = result.kept.asked.pairs }) }
+        ensures counts { let now = ⟦<Desk<M, P, I, O, E> as World>⟧.seen self in result.counts
+            ≡ record { faults = now.faults; waits = now.waits; stops = now.stops } }
     {
         let counts = Counts::new(self.log.faults, self.waits, self.stops);
         let Desk {
@@ -146,7 +155,7 @@ impl<M: Maker + Drop, P: Poller + Drop, I: Port, O: Port, E: Port> Desk<M, P, I,
         ensures entries { self.new.log.stations.entries ≡ self.old.log.stations.entries }
         ensures told { self.new.log.recording.told ≡ self.old.log.recording.told }
         ensures faults { self.new.log.faults ≡ self.old.log.faults }
-        ensures streams { (self.new.ports.table.input ≡ self.old.ports.table.input) × (self.new.ports.table.output ≡ self.old.ports.table.output) × (self.new.ports.table.errors ≡ self.old.ports.table.errors) }
+        ensures streams { SameStreams self.old.ports.table self.new.ports.table }
         ensures made { SameValues self.old.ports.table.made self.new.ports.table.made }
         ensures maker { self.new.ports.maker ≡ self.old.ports.maker }
         ensures parents { self.new.ports.parents.items ≡ self.old.ports.parents.items }
@@ -170,7 +179,7 @@ impl<M: Maker + Drop, P: Poller + Drop, I: Port, O: Port, E: Port> Desk<M, P, I,
         ensures entries { self.new.log.stations.entries ≡ self.old.log.stations.entries }
         ensures told { self.new.log.recording.told ≡ self.old.log.recording.told }
         ensures faults { self.new.log.faults ≡ self.old.log.faults }
-        ensures streams { (self.new.ports.table.input ≡ self.old.ports.table.input) × (self.new.ports.table.output ≡ self.old.ports.table.output) × (self.new.ports.table.errors ≡ self.old.ports.table.errors) }
+        ensures streams { SameStreams self.old.ports.table self.new.ports.table }
         ensures made { SameValues self.old.ports.table.made self.new.ports.table.made }
         ensures maker { self.new.ports.maker ≡ self.old.ports.maker }
         ensures parents { self.new.ports.parents.items ≡ self.old.ports.parents.items }
@@ -190,7 +199,8 @@ impl<M: Maker + Drop, P: Poller + Drop, I: Port, O: Port, E: Port> Desk<M, P, I,
         ensures room { ready.new.room ≡ ready.old.room }
         ensures named { NamesHeld (hold_at self.new.log.stations.entries) ready.new.entries }
         ensures hinted { NamesHinting (hints_told self.old.ports.table) self.old.log.stations.entries ready.new.entries }
-        ensures until { PollsUntil (hints_told self.old.ports.table) self.old.log.stations.entries ready.new.entries self.old.clock.last until self.new.clock.asked }
+        ensures until { PollsUntil (hints_told self.old.ports.table) self.old.log.stations.entries ready.new.entries self.old.clock.last
+            until self.new.clock.asked }
         ensures idle { WaitsIdle (hints_told self.old.ports.table) self.old.log.stations.entries until self.new.clock.asked }
         ensures only { NamesOnly self.new.clock.keys (hints_told self.old.ports.table) self.old.log.stations.entries ready.new.entries }
         ensures keys { IfSome self.new.clock.named (λ entries. entries ≡ self.new.clock.keys) }

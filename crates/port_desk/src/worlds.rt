@@ -1,5 +1,5 @@
 // The calls of the relay on a desk.
-ghost use Rattle.std.specs.Prelude.{◌≡◌, ◌≤◌, ◌<◌, ◌&&◌, ℕ, None, Some, true, false, find, length, option_map, ◌⊎◌, IfSome, IfNone, MatchOption};
+ghost use Rattle.std.specs.Prelude.{◌≡◌, ◌≤◌, ◌<◌, ◌&&◌, ℕ, None, Some, true, false, find, length, option_map, IfSome, IfNone, MatchOption};
 ghost use Rattle.slab.specs.Slab.{SameValues, get};
 ghost use Rattle.relay_model.specs.Conversions.{longest_packet};
 ghost use Rattle.relay_model.specs.declared.places.Place.{Place};
@@ -15,11 +15,10 @@ ghost use Rattle.port_desk.specs.Desks.{Calls, Ends, Faults, Marked, read_mark, 
 ghost use Rattle.desk_places.specs.Causes.{AcceptCause, ListenCause, OpenAsks, OpenCause, StandardCause};
 ghost use Rattle.port_trait.specs.Counting.{Rose as Rises};
 ghost use Rattle.port_table.specs.Bases.{standard_of};
-ghost use Rattle.port_table.specs.PortTables.{AtMade, SameStreams, giving_port, taking_port};
+ghost use Rattle.port_table.specs.PortTables.{AtMade, SameStreams, StreamFailed, StreamsStay, giving_port, taking_port};
 ghost use Rattle.desk_places.specs.Changes.{AcceptsMade, LeavesParent, ListensMade, OpensAt, OpensMade, ReapsAnswered, ReapsOut, SettledAt, is_finished, joined_answer, made_at};
 ghost use Rattle.desk_places.specs.Marks.{AcceptMarks, ListenMarks, MarksPlace, OpenMarks, SameMarks, SettleMarks};
 ghost use Rattle.desk_places.specs.Naming.{NamesHinting, NamesKeyed, NamesOnly, PollsUntil, WaitsIdle, told_by};
-ghost use Rattle.port_table.specs.Ports.{MovesNothing, seen};
 ghost use Rattle.port_desk.specs.Records.{CountsOnce, CountsStop, NotedSo};
 ghost use Rattle.desk_places.specs.Stations.{SetsStation, base_at, hold_at, is_disarmed, shut_down, station_at};
 ghost use Rattle.port_table.specs.declared.bases.Base.TheVariants as bases;
@@ -34,7 +33,8 @@ use world_trait::{
 };
 
 impl<M: Maker + Drop, P: Poller + Drop, I: Port, O: Port, E: Port> World for Desk<M, P, I, O, E> {
-    ghost seen = { λ d. record { told = d.log.recording.told; held = hold_at d.log.stations.entries; faults = d.log.faults; waits = d.waits; stops = d.stops; clock = d.clock.last } };
+    ghost seen = { λ d. record { told = d.log.recording.told; held = hold_at d.log.stations.entries; faults = d.log.faults;
+        waits = d.waits; stops = d.stops; clock = d.clock.last } };
 
     /// Names the halves that hint, and those whose key the poller names. Where one hints, the poller doesn't wait.
     fn wait(&mut self, until: Option<u64>, ready: &mut ReadyList) -> Turned
@@ -51,7 +51,8 @@ impl<M: Maker + Drop, P: Poller + Drop, I: Port, O: Port, E: Port> World for Des
         ensures keyed { OnTurned result (NamesKeyed self.new.clock.keys self.old.log.stations.entries ready.new.entries) }
         ensures hinted { OnTurned result (NamesHinting (told_by self.old.ports.table) self.old.log.stations.entries ready.new.entries) }
         ensures only { OnTurned result (NamesOnly self.new.clock.keys (told_by self.old.ports.table) self.old.log.stations.entries ready.new.entries) }
-        ensures until { OnTurned result (PollsUntil (told_by self.old.ports.table) self.old.log.stations.entries ready.new.entries self.old.clock.last until self.new.clock.asked) }
+        ensures until { OnTurned result (PollsUntil (told_by self.old.ports.table) self.old.log.stations.entries ready.new.entries
+            self.old.clock.last until self.new.clock.asked) }
         ensures idle { OnTurned result (WaitsIdle (told_by self.old.ports.table) self.old.log.stations.entries until self.new.clock.asked) }
         ensures armed { TurnMarks result ready.new.entries (is_disarmed self.old.log.stations.entries) (is_disarmed self.new.log.stations.entries) }
         ensures streams { SameStreams self.old.ports.table self.new.ports.table }
@@ -82,26 +83,28 @@ impl<M: Maker + Drop, P: Poller + Drop, I: Port, O: Port, E: Port> World for Des
 
     fn open_place(&mut self, place: Place, single: &Single, behind: Option<Peer>) -> OpenAnswer
         requires { hold_at self.old.log.stations.entries place ≡ Free }
-        ensures act { let seen = ⟦<Desk<M, P, I, O, E> as World>⟧.seen in AnsweredAsking (place, single.now) (seen self.old) (seen self.new) (open_act place result) }
+        ensures act { let seen = ⟦<Desk<M, P, I, O, E> as World>⟧.seen in AnsweredAsking (place, single.now) (seen self.old) (seen self.new)
+            (open_act place result) }
         ensures cause { Rose self.old.log.faults self.new.log.faults (is_open_fault result) }
         ensures exact { CountsOnce self.old.log.faults self.new.log.faults (is_open_fault result) }
         ensures waitless { let seen = ⟦<Desk<M, P, I, O, E> as World>⟧.seen in Waitless (seen self.old) (seen self.new) }
         ensures unstopped { self.new.stops ≡ self.old.stops }
-        ensures input { MovesNothing self.old.ports.table.input.port self.new.ports.table.input.port }
-        ensures output { MovesNothing self.old.ports.table.output.port self.new.ports.table.output.port }
-        ensures errors { MovesNothing self.old.ports.table.errors.port self.new.ports.table.errors.port }
-        ensures ended { (self.new.ports.table.input.port.ended ≡ self.old.ports.table.input.port.ended) × (self.new.ports.table.output.port.ended ≡ self.old.ports.table.output.port.ended) × (self.new.ports.table.errors.port.ended ≡ self.old.ports.table.errors.port.ended) }
-        ensures standard { IfSome (standard_of place single.now.target) (λ base. StandardCause (Rises self.old.ports.table.input.port.counts.faults self.new.ports.table.input.port.counts.faults
-            ⊎ (Rises self.old.ports.table.output.port.counts.faults self.new.ports.table.output.port.counts.faults
-            ⊎ Rises self.old.ports.table.errors.port.counts.faults self.new.ports.table.errors.port.counts.faults)) result) }
-        ensures asked { IfNone (standard_of place single.now.target) (OpenAsks place single.now behind (M.asked self.new.ports.maker) result) }
-        ensures made { IfNone (standard_of place single.now.target) (OpenCause (seen M.Made.gave M.Made.took M.Made.shuts M.Made.hints M.Made.hinting M.Made.counts M.Made.ended M.Made.joins M.Made.child) (M.faults self.old.ports.maker) (M.faults self.new.ports.maker) (M.stalls self.old.ports.maker) (M.stalls self.new.ports.maker) result) }
+        ensures stay { StreamsStay self.old.ports.table self.new.ports.table }
+        ensures standard { IfSome (standard_of place single.now.target)
+            (λ base. StandardCause (StreamFailed self.old.ports.table self.new.ports.table) result) }
+        ensures asked { IfNone (standard_of place single.now.target)
+            (OpenAsks place single.now behind (M.seen self.new.ports.maker).asked result) }
+        ensures made { IfNone (standard_of place single.now.target)
+            (OpenCause M.Made.seen (M.seen self.old.ports.maker) (M.seen self.new.ports.maker) result) }
         ensures begun { IfSome (standard_of place single.now.target) (λ base. OpensAt base self.old.ports.table self.new.ports.table result) }
         ensures streams { IfNone (standard_of place single.now.target) (SameStreams self.old.ports.table self.new.ports.table) }
-        ensures ports { MatchOption (standard_of place single.now.target) (OpensMade (seen M.Made.gave M.Made.took M.Made.shuts M.Made.hints M.Made.hinting M.Made.counts M.Made.ended M.Made.joins M.Made.child) place (base_at self.new.log.stations.entries place) result self.old.ports.table.made self.new.ports.table.made) (λ base. SameValues self.old.ports.table.made self.new.ports.table.made) }
+        ensures ports { MatchOption (standard_of place single.now.target)
+            (OpensMade M.Made.seen place (base_at self.new.log.stations.entries place) result self.old.ports.table.made
+            self.new.ports.table.made) (λ base. SameValues self.old.ports.table.made self.new.ports.table.made) }
         ensures parents { self.new.ports.parents.items ≡ self.old.ports.parents.items }
         ensures marks { OpenMarks place result (is_disarmed self.old.log.stations.entries) (is_disarmed self.new.log.stations.entries) }
-        ensures bases { OpensOn (standard_of place single.now.target) place (base_at self.old.log.stations.entries) (base_at self.new.log.stations.entries) result }
+        ensures bases { OpensOn (standard_of place single.now.target) place (base_at self.old.log.stations.entries)
+            (base_at self.new.log.stations.entries) result }
     {
         let Ok(copied) = self.prepare_opening(single) else {
             return OpenAnswer::Memory;
@@ -120,7 +123,9 @@ impl<M: Maker + Drop, P: Poller + Drop, I: Port, O: Port, E: Port> World for Des
         ensures exact { CountsOnce self.old.log.faults self.new.log.faults (is_open_fault result) }
         ensures waitless { let seen = ⟦<Desk<M, P, I, O, E> as World>⟧.seen in Waitless (seen self.old) (seen self.new) }
         ensures unstopped { self.new.stops ≡ self.old.stops }
-        ensures call { IfSome (base_at self.old.log.stations.entries place) (λ base. SettledAt (seen M.Made.gave M.Made.took M.Made.shuts M.Made.hints M.Made.hinting M.Made.counts M.Made.ended M.Made.joins M.Made.child) (giving_port base) self.old.ports.table self.new.ports.table self.old.ports.parents.items self.new.ports.parents.items result) }
+        ensures call { IfSome (base_at self.old.log.stations.entries place)
+            (λ base. SettledAt M.Made.seen (giving_port base) self.old.ports.table self.new.ports.table self.old.ports.parents.items
+            self.new.ports.parents.items result) }
         ensures maker { self.new.ports.maker ≡ self.old.ports.maker }
         ensures marks { SettleMarks place result (is_disarmed self.old.log.stations.entries) (is_disarmed self.new.log.stations.entries) }
         ensures bases { SettlesOn place (base_at self.old.log.stations.entries) (base_at self.new.log.stations.entries) result }
@@ -135,14 +140,16 @@ impl<M: Maker + Drop, P: Poller + Drop, I: Port, O: Port, E: Port> World for Des
 
     fn listen(&mut self, door: Place, single: &Single) -> ListenAnswer
         requires { hold_at self.old.log.stations.entries door ≡ Free }
-        ensures act { let seen = ⟦<Desk<M, P, I, O, E> as World>⟧.seen in AnsweredAsking (door, single.now) (seen self.old) (seen self.new) (listen_act door result) }
+        ensures act { let seen = ⟦<Desk<M, P, I, O, E> as World>⟧.seen in AnsweredAsking (door, single.now) (seen self.old) (seen self.new)
+            (listen_act door result) }
         ensures cause { Rose self.old.log.faults self.new.log.faults (is_listen_fault result) }
         ensures exact { CountsOnce self.old.log.faults self.new.log.faults (is_listen_fault result) }
         ensures waitless { let seen = ⟦<Desk<M, P, I, O, E> as World>⟧.seen in Waitless (seen self.old) (seen self.new) }
         ensures unstopped { self.new.stops ≡ self.old.stops }
-        ensures streams { (self.new.ports.table.input ≡ self.old.ports.table.input) × (self.new.ports.table.output ≡ self.old.ports.table.output) × (self.new.ports.table.errors ≡ self.old.ports.table.errors) }
-        ensures made { ListenCause (seen M.Made.gave M.Made.took M.Made.shuts M.Made.hints M.Made.hinting M.Made.counts M.Made.ended M.Made.joins M.Made.child) (M.faults self.old.ports.maker) (M.faults self.new.ports.maker) result }
-        ensures ports { ListensMade (seen M.Made.gave M.Made.took M.Made.shuts M.Made.hints M.Made.hinting M.Made.counts M.Made.ended M.Made.joins M.Made.child) door (base_at self.new.log.stations.entries door) result self.old.ports.table.made self.new.ports.table.made }
+        ensures streams { SameStreams self.old.ports.table self.new.ports.table }
+        ensures made { ListenCause M.Made.seen (M.seen self.old.ports.maker) (M.seen self.new.ports.maker) result }
+        ensures ports { ListensMade M.Made.seen door (base_at self.new.log.stations.entries door) result self.old.ports.table.made
+            self.new.ports.table.made }
         ensures parents { self.new.ports.parents.items ≡ self.old.ports.parents.items }
         ensures marks { ListenMarks door result (is_disarmed self.old.log.stations.entries) (is_disarmed self.new.log.stations.entries) }
         ensures bases { ListensOn door (base_at self.old.log.stations.entries) (base_at self.new.log.stations.entries) result }
@@ -163,10 +170,11 @@ impl<M: Maker + Drop, P: Poller + Drop, I: Port, O: Port, E: Port> World for Des
         ensures exact { CountsOnce self.old.log.faults self.new.log.faults (is_accept_fault result) }
         ensures waitless { let seen = ⟦<Desk<M, P, I, O, E> as World>⟧.seen in Waitless (seen self.old) (seen self.new) }
         ensures unstopped { self.new.stops ≡ self.old.stops }
-        ensures streams { (self.new.ports.table.input ≡ self.old.ports.table.input) × (self.new.ports.table.output ≡ self.old.ports.table.output) × (self.new.ports.table.errors ≡ self.old.ports.table.errors) }
-        ensures made { AcceptCause (seen M.Made.gave M.Made.took M.Made.shuts M.Made.hints M.Made.hinting M.Made.counts M.Made.ended M.Made.joins M.Made.child) (M.faults self.old.ports.maker) (M.faults self.new.ports.maker) (M.stalls self.old.ports.maker) (M.stalls self.new.ports.maker) (M.came self.new.ports.maker) result }
-        ensures ports { IfSome (base_at self.old.log.stations.entries door) (λ base. AtMade (giving_port base)
-            (λ key. AcceptsMade (seen M.Made.gave M.Made.took M.Made.shuts M.Made.hints M.Made.hinting M.Made.counts M.Made.ended M.Made.joins M.Made.child) key place (base_at self.new.log.stations.entries place) result self.old.ports.table.made self.new.ports.table.made)
+        ensures streams { SameStreams self.old.ports.table self.new.ports.table }
+        ensures made { AcceptCause M.Made.seen (M.seen self.old.ports.maker) (M.seen self.new.ports.maker) result }
+        ensures ports { IfSome (base_at self.old.log.stations.entries door)
+            (λ base. AtMade (giving_port base) (λ key. AcceptsMade M.Made.seen key place
+            (base_at self.new.log.stations.entries place) result self.old.ports.table.made self.new.ports.table.made)
             (SameValues self.old.ports.table.made self.new.ports.table.made)) }
         ensures parents { self.new.ports.parents.items ≡ self.old.ports.parents.items }
         ensures marks { AcceptMarks door place result (is_disarmed self.old.log.stations.entries) (is_disarmed self.new.log.stations.entries) }
@@ -247,7 +255,9 @@ impl<M: Maker + Drop, P: Poller + Drop, I: Port, O: Port, E: Port> World for Des
         ensures memory { OnlyWhereTold self.old.log.recording.told (wants_shut_memory result) }
         ensures call { Ends (shut_ends how result) taking_port place self.old.log self.old.ports self.new.ports (ShutsSo how result) }
         ensures rest { (self.new.ports.maker ≡ self.old.ports.maker) × (self.new.ports.parents.items ≡ self.old.ports.parents.items) }
-        ensures station { OnShut result (SetsStation place (option_map (shut_down (finishes how)) (station_at self.old.log.stations.entries place)) (station_at self.old.log.stations.entries) (station_at self.new.log.stations.entries)) }
+        ensures station { OnShut result (SetsStation place (option_map (shut_down (finishes how))
+            (station_at self.old.log.stations.entries place)) (station_at self.old.log.stations.entries)
+            (station_at self.new.log.stations.entries)) }
         ensures marks { SameMarks (is_disarmed self.old.log.stations.entries) (is_disarmed self.new.log.stations.entries) }
         ensures bases { SameBases (base_at self.old.log.stations.entries) (base_at self.new.log.stations.entries) }
     {
@@ -266,12 +276,16 @@ impl<M: Maker + Drop, P: Poller + Drop, I: Port, O: Port, E: Port> World for Des
         ensures faults { self.old.log.faults ≤ self.new.log.faults }
         ensures waitless { let seen = ⟦<Desk<M, P, I, O, E> as World>⟧.seen in Waitless (seen self.old) (seen self.new) }
         ensures unstopped { self.new.stops ≡ self.old.stops }
-        ensures streams { (self.new.ports.table.input ≡ self.old.ports.table.input) × (self.new.ports.table.output ≡ self.old.ports.table.output) × (self.new.ports.table.errors ≡ self.old.ports.table.errors) }
-        ensures joined { IfSome (station_at self.old.log.stations.entries place) (λ s. self.new.joined ≡ joined_answer (s.finished && is_finished why) (made_at self.old.ports.table.made s.base)) }
-        ensures parents { IfSome (station_at self.old.log.stations.entries place) (λ s. LeavesParent (s.finished && is_finished why) (made_at self.old.ports.table.made s.base) self.old.ports.parents.items self.new.ports.parents.items) }
+        ensures streams { SameStreams self.old.ports.table self.new.ports.table }
+        ensures joined { IfSome (station_at self.old.log.stations.entries place)
+            (λ s. self.new.joined ≡ joined_answer (s.finished && is_finished why) (made_at self.old.ports.table.made s.base)) }
+        ensures parents { IfSome (station_at self.old.log.stations.entries place)
+            (λ s. LeavesParent (s.finished && is_finished why) (made_at self.old.ports.table.made s.base) self.old.ports.parents.items
+            self.new.ports.parents.items) }
         ensures maker { self.new.ports.maker ≡ self.old.ports.maker }
         ensures gone { (key : ℕ) → base_at self.old.log.stations.entries place ≡ Some (bases.Made key) → get self.new.ports.table.made key ≡ None }
-        ensures others { (key : ℕ) → (base_at self.old.log.stations.entries place ≡ Some (bases.Made key) → ⊥) → get self.new.ports.table.made key ≡ get self.old.ports.table.made key }
+        ensures others { (key : ℕ) → (base_at self.old.log.stations.entries place ≡ Some (bases.Made key) → ⊥)
+            → get self.new.ports.table.made key ≡ get self.old.ports.table.made key }
         ensures marks { MarksPlace place false (is_disarmed self.old.log.stations.entries) (is_disarmed self.new.log.stations.entries) }
         ensures bases { Leaves place (base_at self.old.log.stations.entries) (base_at self.new.log.stations.entries) }
     {
@@ -286,7 +300,8 @@ impl<M: Maker + Drop, P: Poller + Drop, I: Port, O: Port, E: Port> World for Des
         ensures exact { CountsOnce self.old.log.faults self.new.log.faults (is_note_fault result) }
         ensures waitless { let seen = ⟦<Desk<M, P, I, O, E> as World>⟧.seen in Waitless (seen self.old) (seen self.new) }
         ensures unstopped { self.new.stops ≡ self.old.stops }
-        ensures streams { (self.new.ports.table.input ≡ self.old.ports.table.input) × (self.new.ports.table.output ≡ self.old.ports.table.output) × (self.new.ports.table.made ≡ self.old.ports.table.made) }
+        ensures streams { (self.new.ports.table.input ≡ self.old.ports.table.input)
+            × (self.new.ports.table.output ≡ self.old.ports.table.output) × (self.new.ports.table.made ≡ self.old.ports.table.made) }
         ensures said { NotedSo result
             self.old.ports.table.errors.port.took
             self.new.ports.table.errors.port.took

@@ -1,3 +1,4 @@
+pub mod Echoes
 pub mod Intakes
 pub mod Makers
 pub mod Pollers

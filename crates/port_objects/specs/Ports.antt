@@ -1,11 +1,12 @@
 -- A port in memory: its script, what it took, and what its writes and hints answer.
-use Rattle.std.specs.Prelude.{◌≡◌, ℕ, zero, suc, min, Bool, false, nat_lt, nat_le, List, take, if◌then◌else◌}
+use Rattle.std.specs.Prelude.{◌≡◌, ℕ, zero, suc, min, Bool, false, nat_lt, nat_le, List, take, Some, if◌then◌else◌}
+use Rattle.port_trait.specs.Ports.{PortSeen, untold}
 use Rattle.port_trait.specs.declared.counts.Counts.{Counts}
 use Rattle.port_trait.specs.declared.answers.Hint.{Hint}
 use Rattle.port_trait.specs.declared.answers.Took.{Took}
 use Rattle.port_trait.specs.declared.answers.Took.TheVariants as writes
 use Rattle.port_objects.specs.Intakes.{IntakeState, fresh_intake, filled}
-use Rattle.port_objects.specs.Scripts.{ScriptState, fresh_script, has_more}
+use Rattle.port_objects.specs.Scripts.{ScriptState, fresh_script, given_of, has_more}
 
 -- what contracts see of a port in memory
 pub record PortState : Type 0 where
@@ -22,6 +23,10 @@ fresh_port room = record { script = fresh_script; intake = fresh_intake room; co
 -- readable where an item is left, writable where room is left
 abbrev pub scripted_hint : PortState → Hint
 scripted_hint port = record { readable = has_more port.script; writable = nat_lt 0 port.intake.room }
+
+-- what such a port tells: what its script gave, what it took, and its hints
+abbrev pub mem_seen : PortState → PortSeen
+mem_seen port = record untold { gave = Some (given_of port.script); took = Some port.intake.bytes; hints = Some (scripted_hint port); hinting = scripted_hint port; counts = port.counts; begun = port.begun; ended = port.ended }
 
 -- what a write of so many bytes answers: what fits
 abbrev pub scripted_write : ℕ → ℕ → Took

@@ -1,6 +1,7 @@
-// Ports, sources, sinks, makers, pollers and spawners in memory. Each answers what its script says.
+// Ports, sources, sinks, makers, pollers and spawners in memory. But for the echo pipe each answers what its script says.
 #![tactic(auto)]
 
+mod echo;
 mod intake;
 mod makers;
 mod pollers;
@@ -10,6 +11,7 @@ mod sinks;
 mod sources;
 mod spawners;
 
+pub use echo::EchoPort;
 pub use intake::Tap;
 pub use makers::{MakeItem, MemMaker};
 pub use pollers::MemPoller;

@@ -80,13 +80,7 @@ impl MemMaker {
 impl Maker for MemMaker {
     type Made = MemPort;
 
-    ghost faults = { λ maker. maker.faults };
-
-    ghost stalls = { λ maker. maker.stalls };
-
-    ghost came = { λ maker. maker.came };
-
-    ghost asked = { λ maker. maker.asked };
+    ghost seen = { λ maker. record { faults = maker.faults; stalls = maker.stalls; came = maker.came; asked = maker.asked } };
 
     fn make(
         &mut self,

@@ -8,7 +8,7 @@ ghost use Rattle.port_trait.specs.declared.answers.Shutting.TheVariants as shuts
 ghost use Rattle.port_trait.specs.declared.answers.PortReap.TheVariants as reaps;
 ghost use Rattle.port_trait.specs.declared.answers.Joining.TheVariants as joining;
 ghost use Rattle.port_objects.specs.Scripts.{IsFilled, given_of, scripted_read, after_read};
-ghost use Rattle.port_objects.specs.Ports.{fresh_port, scripted_hint, scripted_write, scripted_send, scripted_put_all, KeptByWrite};
+ghost use Rattle.port_objects.specs.Ports.{fresh_port, mem_seen, scripted_hint, scripted_write, scripted_send, scripted_put_all, KeptByWrite};
 
 use crate::intake::{Intake, Tap};
 use crate::scripts::{PortItem, Script};
@@ -78,23 +78,7 @@ impl MemPort {
 }
 
 impl Port for MemPort {
-    ghost gave = { λ port. Some (given_of port.script) };
-
-    ghost took = { λ port. Some port.intake.bytes };
-
-    ghost hints = { λ port. Some (scripted_hint port) };
-
-    ghost hinting = { scripted_hint };
-
-    ghost counts = { λ port. port.counts };
-
-    ghost begun = { λ port. port.begun };
-
-    ghost ended = { λ port. port.ended };
-
-    ghost joins = { λ _. true };
-
-    ghost child = { λ _. false };
+    ghost seen = { mem_seen };
 
     fn begin(&mut self) -> Begun
         ensures begun { result ≡ begins.Begun }

@@ -1,7 +1,8 @@
 -- What a call on one port of a table says of each of its ports.
 use Rattle.std.proofs.Common.{◌≡◌, Bool, Option, None, Some, IfSome}
 use Rattle.slab.specs.Slab.{get}
-use Rattle.port_table.specs.Ports.{EntrySeen, PortSeen, StreamSeen}
+use Rattle.port_trait.specs.Ports.{PortSeen}
+use Rattle.port_table.specs.Ports.{EntrySeen, StreamSeen}
 use Rattle.port_table.specs.PortTables.{AtErrors, AtInput, AtMade, AtOutput, EndsAt, Errors, Input, Made, MadeCall, Output, PortId, StreamEnds}
 use Rattle.port_table.specs.declared.table.PortTable.{PortTable}
 

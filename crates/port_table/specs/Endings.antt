@@ -4,7 +4,7 @@ use Rattle.port_trait.specs.declared.answers.Shutting.{Shutting}
 use Rattle.relay_model.specs.declared.acts.Shut.TheVariants as ways
 use Rattle.port_table.specs.declared.endings.Back.{Back}
 use Rattle.port_table.specs.declared.endings.Back.TheVariants as backs
-use Rattle.port_table.specs.Ports.{PortSeen, Shuts, MovesNothing}
+use Rattle.port_trait.specs.Ports.{PortSeen, Shuts, MovesNothing}
 
 -- whether something still works for the port
 abbrev pub is_left : {T : Type 0} → Back T → Bool

@@ -7,7 +7,9 @@ use Rattle.port_trait.specs.declared.answers.Begun.{Begun}
 use Rattle.port_trait.specs.declared.answers.Begun.TheVariants as begins
 use Rattle.port_trait.specs.declared.answers.Took.{Took}
 use Rattle.port_trait.specs.declared.answers.Took.TheVariants as tooks
-use Rattle.port_table.specs.Ports.{PortSeen, EntrySeen, PutsAll, StreamBegins, StreamSeen}
+use Rattle.port_trait.specs.Counting.{Rose}
+use Rattle.port_trait.specs.Ports.{MovesNothing, PortSeen, PutsAll}
+use Rattle.port_table.specs.Ports.{EntrySeen, StreamBegins, StreamSeen}
 use Rattle.port_table.specs.declared.bases.Base.{Base}
 use Rattle.port_table.specs.declared.bases.Base.TheVariants as bases
 use Rattle.port_table.specs.declared.table.PortTable.{PortTable}
@@ -127,6 +129,19 @@ pub record SameStreams {T I O E : Type 0} (before now : PortTable T I O E) : Typ
   pub input : now.input ≡ before.input
   pub output : now.output ≡ before.output
   pub errors : now.errors ≡ before.errors
+
+-- no standard stream moved a byte, passed an end on or met one
+pub record StreamsStay {T I O E : Type 0} (before now : PortTable T I O E) : Type 0 where
+  pub input : MovesNothing before.input.port now.input.port
+  pub output : MovesNothing before.output.port now.output.port
+  pub errors : MovesNothing before.errors.port now.errors.port
+  pub input_end : now.input.port.ended ≡ before.input.port.ended
+  pub output_end : now.output.port.ended ≡ before.output.port.ended
+  pub errors_end : now.errors.port.ended ≡ before.errors.port.ended
+
+-- the count of faults of a standard stream rose
+abbrev pub StreamFailed : {T I O E : Type 0} → PortTable T I O E → PortTable T I O E → Type 0
+StreamFailed before now = Rose before.input.port.counts.faults now.input.port.counts.faults ⊎ (Rose before.output.port.counts.faults now.output.port.counts.faults ⊎ Rose before.errors.port.counts.faults now.errors.port.counts.faults)
 
 -- the place that a made port was made for
 abbrev pub place_of : Option EntrySeen → Option Place

@@ -1,9 +1,9 @@
 // A made port, seen by contracts as what it tells.
 ghost use Rattle.std.specs.Prelude.{◌<◌, ◌≡◌, length, IfSome};
 ghost use Rattle.port_trait.specs.Hinting.{IsWithin};
-ghost use Rattle.port_table.specs.Ports.{seen, IsOf, Settles, Reads, Writes, Sends, Shuts, HintsSo, Reaps, JoinsSo, LetsIn};
-ghost use Rattle.port_trait.specs.Counting.{Counted};
-ghost use Rattle.port_trait.specs.Made.{peer_failed, peer_stalled, came_after};
+ghost use Rattle.port_trait.specs.Ports.{Settles, Reads, Writes, Sends, Shuts, HintsSo, Reaps, JoinsSo};
+ghost use Rattle.port_table.specs.Ports.{IsOf};
+ghost use Rattle.port_trait.specs.Makers.{LetsIn};
 
 use port_trait::{Got, Hint, Joining, MadePeer, Maker, Port, PortReap, Settled, Shutting, Took};
 use relay_model::{Place, Shut};
@@ -17,18 +17,18 @@ pub struct PortEntry<T: Port> {
 }
 
 impl<T: Port> Model for PortEntry<T> {
-    ghost use Rattle.port_table.specs.Ports.{EntrySeen, seen};
+    ghost use Rattle.port_table.specs.Ports.{EntrySeen};
 
     ghost Value = { EntrySeen };
 
-    ghost view = { λ entry. record { place = entry.place; port = seen T.gave T.took T.shuts T.hints T.hinting T.counts T.ended T.joins T.child entry.port } };
+    ghost view = { λ entry. record { place = entry.place; port = T.seen entry.port } };
 }
 
 impl<T: Port> PortEntry<T> {
     /// The port, as it was made for the place.
     pub fn new(place: Place, port: T) -> PortEntry<T>
         ensures place { result.place ≡ place }
-        ensures port { result.port ≡ seen T.gave T.took T.shuts T.hints T.hinting T.counts T.ended T.joins T.child port }
+        ensures port { result.port ≡ T.seen port }
     {
         PortEntry { place, port }
     }
@@ -51,7 +51,7 @@ impl<T: Port> PortEntry<T> {
     /// Whether the port has a child.
     pub fn has_child(&self) -> bool
         ensures child { result ≡ self.now.port.child }
-        ensures told { IsOf (seen T.gave T.took T.shuts T.hints T.hinting T.counts T.ended T.joins T.child) self.now.port }
+        ensures told { IsOf T.seen self.now.port }
     {
         self.port.has_child()
     }
@@ -123,11 +123,8 @@ pub fn accept_by<M: Maker>(
     door: &mut PortEntry<M::Made>,
     key: usize,
 ) -> MadePeer<M::Made>
-    ensures door { LetsIn door.old.port door.new.port }
+    ensures call { LetsIn (M.seen maker.old) (M.seen maker.new) door.old.port door.new.port result }
     ensures place { door.new.place ≡ door.old.place }
-    ensures came { M.came maker.new ≡ came_after (M.came maker.old) result }
-    ensures faults { Counted (peer_failed result) (M.faults maker.old) (M.faults maker.new) }
-    ensures stalls { Counted (peer_stalled result) (M.stalls maker.old) (M.stalls maker.new) }
 {
     maker.accept(&mut door.port, key)
 }

@@ -3,8 +3,8 @@ ghost use Rattle.std.specs.Prelude.{◌<◌, ◌≡◌, ◌&&◌, not, false, le
 ghost use Rattle.port_table.specs.Endings.{EndsSo, OnJoinedBack, PassedEnd, StandsAfter, handed, is_left};
 ghost use Rattle.port_table.specs.PortTables.{StreamCall, StreamEnds};
 ghost use Rattle.port_trait.specs.Streams.{finishes};
-ghost use Rattle.port_trait.specs.Meanings.{Behind};
-ghost use Rattle.port_table.specs.Ports.{StreamBegins, Settles, Reads, Writes, Sends, PutsAll, Shuts, seen};
+ghost use Rattle.port_trait.specs.Ports.{Settles, Reads, Writes, Sends, PutsAll, Shuts, Agrees};
+ghost use Rattle.port_table.specs.Ports.{StreamBegins};
 
 use crate::endings::Back;
 use port_trait::{Begun, Got, Hint, Joining, Port, Settled, Shutting, Took};
@@ -28,11 +28,11 @@ pub struct Stream<T: Port> {
 }
 
 impl<T: Port> Model for Stream<T> {
-    ghost use Rattle.port_table.specs.Ports.{StreamSeen, seen};
+    ghost use Rattle.port_table.specs.Ports.{StreamSeen};
 
     ghost Value = { StreamSeen };
 
-    ghost view = { λ stream. record { port = seen T.gave T.took T.shuts T.hints T.hinting T.counts T.ended T.joins T.child stream.port; begun = stream.begun; finished = stream.finished } };
+    ghost view = { λ stream. record { port = T.seen stream.port; begun = stream.begun; finished = stream.finished } };
 }
 
 /// Whether a shut of this kind passes the end of the output on.
@@ -45,7 +45,7 @@ pub fn is_final(how: Shut) -> bool
 impl<T: Port> Stream<T> {
     /// The stream of a port that nobody has begun here.
     pub fn new(port: T) -> Stream<T>
-        ensures port { result.port ≡ seen T.gave T.took T.shuts T.hints T.hinting T.counts T.ended T.joins T.child port }
+        ensures port { result.port ≡ T.seen port }
         ensures fresh { (result.begun ≡ false) × (result.finished ≡ false) }
     {
         Stream {
@@ -127,11 +127,8 @@ impl<T: Port> Stream<T> {
     /// Joins the port, and hands it back.
     fn into_back(self) -> Back<T>
         ensures left { is_left result ≡ not self.port.joins }
-        ensures stands { StandsAfter self.port
-            (seen T.gave T.took T.shuts T.hints T.hinting T.counts T.ended T.joins T.child (handed result)) }
-        ensures behind { OnJoinedBack
-            (λ port. Behind (T.gave port) (T.took port) (T.behind_gave port) (T.behind_took port) (T.behind_left port)
-            (T.behind_faults port) (T.ended port)) result }
+        ensures stands { StandsAfter self.port (T.seen (handed result)) }
+        ensures behind { OnJoinedBack (λ port. Agrees (T.seen port)) result }
     {
         let Stream {
             mut port,
@@ -146,11 +143,8 @@ impl<T: Port> Stream<T> {
 
     /// Passes the end on where that is still to be done, joins the port, and hands it back.
     pub fn end(self) -> Back<T>
-        ensures ends { EndsSo (self.begun && not self.finished) self.port (is_left result)
-            (seen T.gave T.took T.shuts T.hints T.hinting T.counts T.ended T.joins T.child (handed result)) }
-        ensures behind { OnJoinedBack
-            (λ port. Behind (T.gave port) (T.took port) (T.behind_gave port) (T.behind_took port) (T.behind_left port)
-            (T.behind_faults port) (T.ended port)) result }
+        ensures ends { EndsSo (self.begun && not self.finished) self.port (is_left result) (T.seen (handed result)) }
+        ensures behind { OnJoinedBack (λ port. Agrees (T.seen port)) result }
     {
         let mut stream = self;
         stream.pass_end();

@@ -1,15 +1,15 @@
 // All ports of a desk, and the calls on them. Each call on a base is one call on one of its ports. No place stands on a
 // key that has no port; a call on such a key fails.
-ghost use Rattle.std.specs.Prelude.{◌≡◌, ◌<◌, ◌⊎◌, None, Some, true, false, length, [], IfSome, OnOk};
+ghost use Rattle.std.specs.Prelude.{◌≡◌, ◌<◌, None, Some, true, false, length, [], IfSome, OnOk};
 ghost use Rattle.slab.specs.Slab.{HasRoomFor, SameValues, Updates, get};
 ghost use Rattle.port_trait.specs.Counting.{Counted, Rose};
 ghost use Rattle.port_trait.specs.Hinting.{IsWithin};
 ghost use Rattle.port_trait.specs.declared.answers.Begun.TheVariants as begins;
 ghost use Rattle.port_trait.specs.Made.{peer_failed, peer_stalled, came_after};
 ghost use Rattle.port_table.specs.Answers.{GotFits, SaidSo, TookFits, is_unsaid};
-ghost use Rattle.port_table.specs.Ports.{LetsIn, MovesNothing, Settles, Reads, Writes, Sends, Shuts, seen};
+ghost use Rattle.port_trait.specs.Ports.{MovesNothing, Settles, Reads, Writes, Sends, Shuts};
 ghost use Rattle.port_trait.specs.Streams.{finishes};
-ghost use Rattle.port_table.specs.PortTables.{BeginsAt, CalledAt, EndsAt, MadeCall, SameStreams, StreamNotes, giving_port, hint_told, hints_of, place_of, taking_port};
+ghost use Rattle.port_table.specs.PortTables.{BeginsAt, CalledAt, EndsAt, MadeCall, SameStreams, StreamFailed, StreamNotes, StreamsStay, giving_port, hint_told, hints_of, place_of, taking_port};
 
 use crate::bases::Base;
 use crate::entries::{PortEntry, accept_by};
@@ -32,15 +32,9 @@ impl<T: Port, I: Port, O: Port, E: Port> PortTable<T, I, O, E> {
     /// The standard streams, and no made port; takes no memory.
     pub fn new(alloc: Global, standard: Standard<I, O, E>) -> PortTable<T, I, O, E>
         ensures made { result.made.slots ≡ [] }
-        ensures input { (result.input.port
-            ≡ seen I.gave I.took I.shuts I.hints I.hinting I.counts I.ended I.joins I.child standard.stdin)
-            × (result.input.begun ≡ false) × (result.input.finished ≡ false) }
-        ensures output { (result.output.port
-            ≡ seen O.gave O.took O.shuts O.hints O.hinting O.counts O.ended O.joins O.child standard.stdout)
-            × (result.output.begun ≡ false) × (result.output.finished ≡ false) }
-        ensures errors { (result.errors.port
-            ≡ seen E.gave E.took E.shuts E.hints E.hinting E.counts E.ended E.joins E.child standard.stderr)
-            × (result.errors.begun ≡ false) × (result.errors.finished ≡ false) }
+        ensures input { (result.input.port ≡ I.seen standard.stdin) × (result.input.begun ≡ false) × (result.input.finished ≡ false) }
+        ensures output { (result.output.port ≡ O.seen standard.stdout) × (result.output.begun ≡ false) × (result.output.finished ≡ false) }
+        ensures errors { (result.errors.port ≡ E.seen standard.stderr) × (result.errors.begun ≡ false) × (result.errors.finished ≡ false) }
     {
         let Standard {
             stdin,
@@ -73,7 +67,7 @@ impl<T: Port, I: Port, O: Port, E: Port> PortTable<T, I, O, E> {
     /// Makes room for one further port.
     pub fn reserve(&mut self) -> Result<(), NoMemory>
         ensures room { OnOk result (HasRoomFor self.new.made 1) }
-        ensures streams { (self.new.input ≡ self.old.input) × (self.new.output ≡ self.old.output) × (self.new.errors ≡ self.old.errors) }
+        ensures streams { SameStreams self.old self.new }
         ensures made { SameValues self.old.made self.new.made }
     {
         self.made.reserve(1)?;
@@ -93,7 +87,7 @@ impl<T: Port, I: Port, O: Port, E: Port> PortTable<T, I, O, E> {
         ensures key { result ≡ self.old.made.vacant_key }
         ensures vacant { get self.old.made result ≡ None }
         ensures made { Updates self.old.made self.new.made result (Some entry) }
-        ensures streams { (self.new.input ≡ self.old.input) × (self.new.output ≡ self.old.output) × (self.new.errors ≡ self.old.errors) }
+        ensures streams { SameStreams self.old self.new }
     {
         self.made.insert_reserved(entry)
     }
@@ -112,7 +106,7 @@ impl<T: Port, I: Port, O: Port, E: Port> PortTable<T, I, O, E> {
     pub fn remove(&mut self, key: usize) -> Option<PortEntry<T>>
         ensures entry { result ≡ get self.old.made key }
         ensures made { Updates self.old.made self.new.made key None }
-        ensures streams { (self.new.input ≡ self.old.input) × (self.new.output ≡ self.old.output) × (self.new.errors ≡ self.old.errors) }
+        ensures streams { SameStreams self.old self.new }
     {
         self.made.try_remove(key)
     }
@@ -120,15 +114,8 @@ impl<T: Port, I: Port, O: Port, E: Port> PortTable<T, I, O, E> {
     /// Begins the streams of the base, standard input first.
     pub fn begin(&mut self, base: Base) -> Begun
         ensures call { BeginsAt base self.old self.new result }
-        ensures input { MovesNothing self.old.input.port self.new.input.port }
-        ensures output { MovesNothing self.old.output.port self.new.output.port }
-        ensures errors { MovesNothing self.old.errors.port self.new.errors.port }
-        ensures ended { (self.new.input.port.ended ≡ self.old.input.port.ended)
-            × (self.new.output.port.ended ≡ self.old.output.port.ended)
-            × (self.new.errors.port.ended ≡ self.old.errors.port.ended) }
-        ensures failed { result ≡ begins.Failed → (Rose self.old.input.port.counts.faults self.new.input.port.counts.faults
-            ⊎ (Rose self.old.output.port.counts.faults self.new.output.port.counts.faults
-            ⊎ Rose self.old.errors.port.counts.faults self.new.errors.port.counts.faults)) }
+        ensures stay { StreamsStay self.old self.new }
+        ensures failed { result ≡ begins.Failed → StreamFailed self.old self.new }
         ensures made { self.new.made ≡ self.old.made }
     {
         match base {
@@ -144,7 +131,7 @@ impl<T: Port, I: Port, O: Port, E: Port> PortTable<T, I, O, E> {
 
     fn settle_made(&mut self, key: usize) -> Settled
         ensures made { MadeCall self.old.made self.new.made key (λ old new. Settles old new result) }
-        ensures streams { (self.new.input ≡ self.old.input) × (self.new.output ≡ self.old.output) × (self.new.errors ≡ self.old.errors) }
+        ensures streams { SameStreams self.old self.new }
     {
         match self.made.get_mut(key) {
             Some(entry) => entry.settle(),
@@ -167,7 +154,7 @@ impl<T: Port, I: Port, O: Port, E: Port> PortTable<T, I, O, E> {
         requires some { 0 < length into.old }
         ensures fits { GotFits (length into.new) result }
         ensures made { MadeCall self.old.made self.new.made key (λ old new. Reads old new into.new result) }
-        ensures streams { (self.new.input ≡ self.old.input) × (self.new.output ≡ self.old.output) × (self.new.errors ≡ self.old.errors) }
+        ensures streams { SameStreams self.old self.new }
     {
         match self.made.get_mut(key) {
             Some(entry) => entry.read(into),
@@ -192,7 +179,7 @@ impl<T: Port, I: Port, O: Port, E: Port> PortTable<T, I, O, E> {
         requires some { 0 < length bytes.now }
         ensures fits { TookFits (length bytes.now) result }
         ensures made { MadeCall self.old.made self.new.made key (λ old new. Writes old new bytes.now result) }
-        ensures streams { (self.new.input ≡ self.old.input) × (self.new.output ≡ self.old.output) × (self.new.errors ≡ self.old.errors) }
+        ensures streams { SameStreams self.old self.new }
     {
         match self.made.get_mut(key) {
             Some(entry) => entry.write(bytes),
@@ -216,7 +203,7 @@ impl<T: Port, I: Port, O: Port, E: Port> PortTable<T, I, O, E> {
     fn send_made(&mut self, key: usize, bytes: &[u8]) -> Took
         requires some { 0 < length bytes.now }
         ensures made { MadeCall self.old.made self.new.made key (λ old new. Sends old new bytes.now result) }
-        ensures streams { (self.new.input ≡ self.old.input) × (self.new.output ≡ self.old.output) × (self.new.errors ≡ self.old.errors) }
+        ensures streams { SameStreams self.old self.new }
     {
         match self.made.get_mut(key) {
             Some(entry) => entry.send(bytes),
@@ -238,7 +225,7 @@ impl<T: Port, I: Port, O: Port, E: Port> PortTable<T, I, O, E> {
 
     fn shut_made(&mut self, key: usize, how: Shut) -> Shutting
         ensures made { MadeCall self.old.made self.new.made key (λ old new. Shuts old new how result) }
-        ensures streams { (self.new.input ≡ self.old.input) × (self.new.output ≡ self.old.output) × (self.new.errors ≡ self.old.errors) }
+        ensures streams { SameStreams self.old self.new }
     {
         match self.made.get_mut(key) {
             Some(entry) => entry.shut(how),
@@ -292,7 +279,7 @@ impl<T: Port, I: Port, O: Port, E: Port> PortTable<T, I, O, E> {
 
     fn hint_made(&mut self, key: usize) -> Hint
         ensures made { SameValues self.old.made self.new.made }
-        ensures streams { (self.new.input ≡ self.old.input) × (self.new.output ≡ self.old.output) × (self.new.errors ≡ self.old.errors) }
+        ensures streams { SameStreams self.old self.new }
         ensures hinted { IfSome (hints_of (get self.old.made key)) (λ hint. result ≡ hint) }
     {
         match self.made.get_mut(key) {
@@ -340,13 +327,13 @@ pub fn accept_at<M: Maker, I: Port, O: Port, E: Port>(
     door: usize,
     key: usize,
 ) -> MadePeer<M::Made>
-    ensures door { MadeCall table.old.made table.new.made door LetsIn }
+    ensures door { MadeCall table.old.made table.new.made door MovesNothing }
     ensures room { HasRoomFor table.old.made 1 → HasRoomFor table.new.made 1 }
     ensures next { table.new.made.vacant_key ≡ table.old.made.vacant_key }
-    ensures streams { (table.new.input ≡ table.old.input) × (table.new.output ≡ table.old.output) × (table.new.errors ≡ table.old.errors) }
-    ensures came { M.came maker.new ≡ came_after (M.came maker.old) result }
-    ensures faults { Counted (peer_failed result) (M.faults maker.old) (M.faults maker.new) }
-    ensures stalls { Counted (peer_stalled result) (M.stalls maker.old) (M.stalls maker.new) }
+    ensures streams { SameStreams table.old table.new }
+    ensures came { (M.seen maker.new).came ≡ came_after (M.seen maker.old).came result }
+    ensures faults { Counted (peer_failed result) (M.seen maker.old).faults (M.seen maker.new).faults }
+    ensures stalls { Counted (peer_stalled result) (M.seen maker.old).stalls (M.seen maker.new).stalls }
 {
     match table.made.get_mut(door) {
         Some(entry) => accept_by(maker, entry, key),

@@ -5,8 +5,10 @@ pub mod Direct
 pub mod Hinting
 pub mod Keys
 pub mod Made
+pub mod Makers
 pub mod Meanings
 pub mod Passages
+pub mod Ports
 pub mod Serving
 pub mod Streams
 pub mod Tasks

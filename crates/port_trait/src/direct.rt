@@ -4,6 +4,7 @@ ghost use Rattle.port_trait.specs.Counting.{Tallied, Counted};
 ghost use Rattle.port_trait.specs.Direct.{fresh_reading, fresh_writing, with_fault};
 ghost use Rattle.port_trait.specs.Hinting.{no_hint};
 ghost use Rattle.port_trait.specs.Meanings.{AcceptsAll, is_end, read_event, write_event, shut_event, is_write_fault, is_shut_fault, IsOfStream};
+ghost use Rattle.port_trait.specs.Ports.{untold};
 ghost use Rattle.port_trait.specs.Streams.{SourceGives, SinkTakes, ReaderGives, WriterTakes, WriterTakesAll, source_failed, source_ended, sink_failed, as_source_answer, as_sink_answer, finishes};
 ghost use Rattle.std.specs.Io.KnownBytes.{Keeps};
 ghost use Rattle.port_trait.specs.declared.answers.Begun.TheVariants as begins;
@@ -56,17 +57,7 @@ impl<S: Source> DirectReader<S> {
 }
 
 impl<S: Source + Drop> Port for DirectReader<S> {
-    ghost counts = { λ port. port.counts };
-
-    ghost begun = { λ port. port.begun };
-
-    ghost ended = { λ port. port.ended };
-
-    ghost hinting = { λ _. no_hint };
-
-    ghost joins = { λ _. true };
-
-    ghost child = { λ _. false };
+    ghost seen = { λ port. record untold { hinting = no_hint; counts = port.counts; begun = port.begun; ended = port.ended } };
 
     fn begin(&mut self) -> Begun
         ensures begun { result ≡ begins.Begun }
@@ -213,17 +204,7 @@ impl<K: Sink> DirectWriter<K> {
 }
 
 impl<K: Sink + Drop> Port for DirectWriter<K> {
-    ghost counts = { λ port. port.counts };
-
-    ghost begun = { λ port. port.begun };
-
-    ghost ended = { λ port. port.ended };
-
-    ghost hinting = { λ _. no_hint };
-
-    ghost joins = { λ _. true };
-
-    ghost child = { λ _. false };
+    ghost seen = { λ port. record untold { hinting = no_hint; counts = port.counts; begun = port.begun; ended = port.ended } };
 
     fn begin(&mut self) -> Begun
         ensures begun { result ≡ begins.Begun }

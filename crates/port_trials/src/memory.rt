@@ -4,8 +4,7 @@ ghost use Rattle.port_objects.specs.Scripts.{IsFilled, given_of};
 
 use crate::calls::{call_port, read_boxed};
 use case_rows::{Answered, Answers, Inputs, RowFault, bytes_of, step_parts};
-use file_ports::EchoPort;
-use port_objects::{MemPort, MemSink, MemSource, PortItem};
+use port_objects::{EchoPort, MemPort, MemSink, MemSource, PortItem};
 use port_trait::{DirectReader, DirectWriter, Port, StdSource};
 use relay_model::Bytes;
 use std::alloc::Global;

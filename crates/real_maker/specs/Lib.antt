@@ -4,7 +4,6 @@ pub mod Kinds
 pub mod Made
 pub mod Makers
 pub mod Ports
-pub mod Reserves
 pub mod Socks
 pub mod SocksStages
 pub mod Wanting

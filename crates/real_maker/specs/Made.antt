@@ -1,6 +1,7 @@
 -- What contracts see of a port as a maker hands it out.
 use Rattle.std.specs.Prelude.{◌==◌, ℕ, Bool, false, Option, None, Some, if◌then◌else◌}
 use Rattle.port_trait.specs.Hinting.{all_hints}
+use Rattle.port_trait.specs.Ports.{PortSeen}
 use Rattle.port_trait.specs.declared.answers.Hint.{Hint}
 use Rattle.real_maker.specs.Gates.{gate_halves}
 use Rattle.real_maker.specs.declared.made.Hints.{Hints}
@@ -29,3 +30,7 @@ abbrev pub told_halves : Hints → Hint → Hint
 told_halves origins.Own halves = halves
 told_halves origins.Always halves = all_hints
 told_halves (origins.Gate gate) halves = gate_halves gate.lacking halves
+
+-- what is seen of a port whose hints come from there, where this is seen of the port beneath
+abbrev pub seen_at : Hints → PortSeen → PortSeen
+seen_at origin port = record port { hints = told_hint origin port.hints; hinting = told_halves origin port.hinting }

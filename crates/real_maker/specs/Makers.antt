@@ -1,7 +1,8 @@
 -- What contracts see of the maker.
-use Rattle.std.specs.Prelude.{◌≡◌, ℕ, ◌+◌, ◌-◌, ◌^◌, min, Bool, Option, None, if◌then◌else◌}
+use Rattle.std.specs.Prelude.{◌≡◌, ℕ, Option, None}
 use Rattle.relay_model.specs.declared.acts.Peer.{Peer}
-use Rattle.real_maker.specs.Reserves.{ReserveState}
+use Rattle.port_trait.specs.Makers.{MakerSeen}
+use Rattle.socket_maker.specs.Reserves.{ReserveState}
 
 -- its counts, the peer that it accepted last, and the descriptors that it keeps
 pub record MakerState : Type 0 where
@@ -9,6 +10,10 @@ pub record MakerState : Type 0 where
   pub stalls : ℕ
   pub came : Option Peer
   pub reserve : ReserveState
+
+-- what is seen of it as of any maker; what it was asked for it doesn't tell
+abbrev pub seen_of : MakerState → MakerSeen
+seen_of maker = record { faults = maker.faults; stalls = maker.stalls; came = maker.came; asked = None }
 
 -- nothing was counted, accepted or kept yet
 pub record IsFreshMaker (maker : MakerState) : Type 0 where
@@ -22,11 +27,3 @@ pub record SameBooks (before now : MakerState) : Type 0 where
   pub faults : now.faults ≡ before.faults
   pub stalls : now.stalls ≡ before.stalls
   pub came : now.came ≡ before.came
-
--- a count of 64 bits, which stays at its last value
-abbrev pub risen : ℕ → ℕ
-risen count = min (count + 1) (2 ^ 64 - 1)
-
--- one more where this has happened
-abbrev pub risen_if : Bool → ℕ → ℕ
-risen_if happened count = if happened then risen count else count

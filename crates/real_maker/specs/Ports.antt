@@ -1,7 +1,7 @@
 -- What contracts see of a made port: what they see of the port that it is.
 use Rattle.real_maker.specs.declared.ports.RealPort.{RealPort}
 use Rattle.real_maker.specs.declared.ports.RealPort.TheVariants as ports
-use Rattle.file_ports.specs.Echoes.{EchoState}
+use Rattle.port_objects.specs.Echoes.{EchoState}
 use Rattle.file_ports.specs.Halves.{HalvesState}
 use Rattle.file_ports.specs.declared.stream.FileStream.{FileStream}
 use Rattle.tunnel_port.specs.Tunnels.{TunnelState}

@@ -7,7 +7,6 @@ mod maker;
 mod opening;
 mod ports;
 mod proxied;
-mod reserve;
 mod socks;
 
 pub use made::MadePort;

@@ -8,16 +8,15 @@ ghost use Rattle.socket_kinds.specs.Accepting.{OnPort};
 ghost use Rattle.relay_model.specs.declared.commands.Target.{Target};
 ghost use Rattle.real_maker.specs.Gates.{gate_halves};
 ghost use Rattle.real_maker.specs.Kinds.{IsOpenedFor};
-ghost use Rattle.real_maker.specs.Made.{told_halves, told_hint, lacking_of, is_shared};
+ghost use Rattle.real_maker.specs.Made.{lacking_of, is_shared, seen_at};
 
 use crate::ports::RealPort;
-use crate::reserve::can_have;
 use mio::Registry;
 use port_trait::{
     Begun, Got, Hint, Joining, MadePeer, Making, Port, PortReap, Settled, Shutting, Took,
 };
 use relay_model::Shut;
-use socket_maker::is_starved;
+use socket_maker::{can_have, is_starved};
 use std::alloc::Global;
 use std::marker::Model;
 use std::rc::Rc;
@@ -181,39 +180,7 @@ pub(crate) fn made_port(
 }
 
 impl Port for MadePort {
-    ghost gave = { λ made. ⟦<RealPort as Port>⟧.gave made.port };
-
-    ghost took = { λ made. ⟦<RealPort as Port>⟧.took made.port };
-
-    ghost shuts = { λ made. ⟦<RealPort as Port>⟧.shuts made.port };
-
-    ghost behind_gave = { λ made. ⟦<RealPort as Port>⟧.behind_gave made.port };
-
-    ghost behind_took = { λ made. ⟦<RealPort as Port>⟧.behind_took made.port };
-
-    ghost behind_faults = { λ made. ⟦<RealPort as Port>⟧.behind_faults made.port };
-
-    ghost behind_ends = { λ made. ⟦<RealPort as Port>⟧.behind_ends made.port };
-
-    ghost behind_left = { λ made. ⟦<RealPort as Port>⟧.behind_left made.port };
-
-    ghost behind_finished = { λ made. ⟦<RealPort as Port>⟧.behind_finished made.port };
-
-    ghost served = { λ made. ⟦<RealPort as Port>⟧.served made.port };
-
-    ghost hints = { λ made. told_hint made.hints (⟦<RealPort as Port>⟧.hints made.port) };
-
-    ghost hinting = { λ made. told_halves made.hints (⟦<RealPort as Port>⟧.hinting made.port) };
-
-    ghost counts = { λ made. ⟦<RealPort as Port>⟧.counts made.port };
-
-    ghost begun = { λ made. ⟦<RealPort as Port>⟧.begun made.port };
-
-    ghost ended = { λ made. ⟦<RealPort as Port>⟧.ended made.port };
-
-    ghost joins = { λ made. ⟦<RealPort as Port>⟧.joins made.port };
-
-    ghost child = { λ made. ⟦<RealPort as Port>⟧.child made.port };
+    ghost seen = { λ made. seen_at made.hints (⟦<RealPort as Port>⟧.seen made.port) };
 
     fn begin(&mut self) -> Begun {
         self.port.begin()

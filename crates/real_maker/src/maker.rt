@@ -3,13 +3,17 @@ ghost use Rattle.std.specs.Prelude.{◌≡◌, ◌≢◌, ◌<◌, ◌+◌, true
 ghost use Rattle.relay_model.specs.declared.commands.Single.{Single};
 ghost use Rattle.relay_model.specs.declared.commands.Target.{Target};
 ghost use Rattle.relay_model.specs.Configs.{listens};
+ghost use Rattle.port_trait.specs.Counted.{risen};
 ghost use Rattle.port_trait.specs.Counting.{Counted};
-ghost use Rattle.port_trait.specs.Made.{making_failed, making_stalled, IsAtOnce, peer_failed, peer_stalled, came_after};
+ghost use Rattle.port_trait.specs.Made.{making_failed, making_stalled, IsAtOnce};
+ghost use Rattle.port_trait.specs.Makers.{Opens, Listens, LetsIn};
+ghost use Rattle.port_trait.specs.Ports.{MovesNothing};
 ghost use Rattle.port_trait.specs.declared.makers.Making.TheVariants as makings;
 ghost use Rattle.port_trait.specs.declared.makers.MadePeer.TheVariants as peers;
 ghost use Rattle.relay_model.specs.declared.acts.Peer.TheVariants as whose;
 ghost use Rattle.socket_kinds.specs.Accepting.{OnPort, OnPeer, OnCame};
 ghost use Rattle.socket_kinds.specs.Kinds.{Listening};
+ghost use Rattle.socket_maker.specs.Makers.{risen_if};
 ghost use Rattle.socket_maker.specs.Makings.{opened_sort};
 ghost use Rattle.socket_maker.specs.Ports.{is_door_port, is_unix_door_port, port_sort};
 ghost use Rattle.socket_maker.specs.declared.port.HostPort.{HostPort};
@@ -17,7 +21,7 @@ ghost use Rattle.socket_ports.specs.Ports.{PeerState};
 ghost use Rattle.file_ports.specs.Opened.{OnMade};
 ghost use Rattle.mio_poller.specs.Pollers.{is_reserved};
 ghost use Rattle.real_maker.specs.Made.{lacking_of, is_shared};
-ghost use Rattle.real_maker.specs.Makers.{risen, risen_if, IsFreshMaker, SameBooks};
+ghost use Rattle.real_maker.specs.Makers.{seen_of, IsFreshMaker, SameBooks};
 ghost use Rattle.real_maker.specs.Asking.{Asks};
 ghost use Rattle.real_maker.specs.Kinds.{IsOpenedFor, IsDoorFor, ComesAt, is_local_door, gathers_senders};
 ghost use Rattle.real_maker.specs.declared.ports.RealPort.TheVariants as ports;
@@ -27,14 +31,13 @@ use crate::made::{Gate, Hints, MadePort, made_port};
 use crate::opening::{OfSocket, make_echo};
 use crate::ports::RealPort;
 use crate::proxied::{Through, through_proxy, through_socks};
-use crate::reserve::Reserve;
 use child_ports::{UnreapedChildren, make_child};
 use file_ports::{PipeOpenings, make_file};
 use mio::{Poll, Registry};
 use mio_poller::{MioPoller, is_reserved};
 use port_trait::{MadePeer, Maker, Making, Port};
 use relay_model::{NoMemory, Part, Peer, Place, Single, Target};
-use socket_maker::{SocketMaker, bind_door, door_address};
+use socket_maker::{Reserve, SocketMaker, bind_door, door_address};
 use socket_ports::{Gathering, PeerPoller, PeerPort};
 use std::alloc::Global;
 use std::fs::Files;
@@ -375,7 +378,7 @@ where
         ensures kind { OnPeer (ComesAt door.old.port) result }
         ensures addressed { is_local_door door.old.port ≡ false → OnCame (λ peer. peer ≢ whose.Local) result }
         ensures unreserved { OnPeer (λ _. is_reserved key ≡ false) result }
-        ensures door { (⟦<RealPort as Port>⟧.gave door.new.port ≡ ⟦<RealPort as Port>⟧.gave door.old.port) × (⟦<RealPort as Port>⟧.took door.new.port ≡ ⟦<RealPort as Port>⟧.took door.old.port) × (⟦<RealPort as Port>⟧.shuts door.new.port ≡ ⟦<RealPort as Port>⟧.shuts door.old.port) }
+        ensures door { MovesNothing (⟦<RealPort as Port>⟧.seen door.old.port) (⟦<RealPort as Port>⟧.seen door.new.port) }
         ensures kept { result ≢ peers.NoPeer → is_shared door.old.hints ≡ true → self.new.reserve.held + 1 ≡ self.new.reserve.wanted }
         ensures lacking { 0 < lacking_of door.new.hints → result ≡ peers.NoPeer }
     {
@@ -411,7 +414,7 @@ where
         ensures kind { OnPeer (ComesAt door.old) result }
         ensures addressed { is_local_door door.old ≡ false → OnCame (λ peer. peer ≢ whose.Local) result }
         ensures unreserved { OnPeer (λ _. is_reserved key ≡ false) result }
-        ensures door { (⟦<RealPort as Port>⟧.gave door.new ≡ ⟦<RealPort as Port>⟧.gave door.old) × (⟦<RealPort as Port>⟧.took door.new ≡ ⟦<RealPort as Port>⟧.took door.old) × (⟦<RealPort as Port>⟧.shuts door.new ≡ ⟦<RealPort as Port>⟧.shuts door.old) }
+        ensures door { MovesNothing (⟦<RealPort as Port>⟧.seen door.old) (⟦<RealPort as Port>⟧.seen door.new) }
     {
         match door {
             _ if is_reserved(key) => MadePeer::Failed,
@@ -426,7 +429,7 @@ where
         ensures no_door { is_door_port socket.old ≡ false → result ≡ peers.Failed }
         ensures addressed { is_unix_door_port socket.old ≡ false → OnCame (λ peer. peer ≢ whose.Local) result }
         ensures sort { OnPeer (λ port. is_door_port port ≡ false) result }
-        ensures door { (⟦<OfSocket as Port>⟧.gave socket.new ≡ ⟦<OfSocket as Port>⟧.gave socket.old) × (⟦<OfSocket as Port>⟧.took socket.new ≡ ⟦<OfSocket as Port>⟧.took socket.old) × (⟦<OfSocket as Port>⟧.shuts socket.new ≡ ⟦<OfSocket as Port>⟧.shuts socket.old) }
+        ensures door { MovesNothing (⟦<OfSocket as Port>⟧.seen socket.old) (⟦<OfSocket as Port>⟧.seen socket.new) }
     {
         let Some(sockets) = &mut self.sockets else {
             return MadePeer::Failed;
@@ -512,7 +515,9 @@ fn of_socket(making: Making<OfSocket>) -> Making<RealPort>
     ensures failed { making_failed result ≡ making_failed making }
     ensures stalled { making_stalled result ≡ making_stalled making }
     ensures opened { (target : Target) → IfSome (port_sort making) (λ sort. opened_sort target ≡ Some sort) → OnPort (IsOpenedFor target) result }
-    ensures door { (single : Single) → gathers_senders single ≡ false → (listens single.target ≡ false → making ≡ makings.Failed) → IfSome (port_sort making) (λ sort. sort ≡ Listening) → OnPort (IsDoorFor single) result }
+    ensures door { (single : Single) → gathers_senders single ≡ false
+        → (listens single.target ≡ false → making ≡ makings.Failed) → IfSome (port_sort making) (λ sort. sort ≡ Listening)
+        → OnPort (IsDoorFor single) result }
 {
     match making {
         Making::Made(port) => Making::Made(RealPort::Socket(port)),
@@ -525,7 +530,8 @@ fn of_socket(making: Making<OfSocket>) -> Making<RealPort>
 /// A peer's socket as a port of any kind.
 fn peer_of(peer: MadePeer<OfSocket>) -> MadePeer<RealPort>
     ensures addressed { OnCame (λ who. who ≢ whose.Local) peer → OnCame (λ who. who ≢ whose.Local) result }
-    ensures kind { (door : HostPort) → (is_door_port door ≡ false → peer ≡ peers.Failed) → OnPeer (λ port. is_door_port port ≡ false) peer → OnPeer (ComesAt (ports.Socket door)) result }
+    ensures kind { (door : HostPort) → (is_door_port door ≡ false → peer ≡ peers.Failed)
+        → OnPeer (λ port. is_door_port port ≡ false) peer → OnPeer (ComesAt (ports.Socket door)) result }
 {
     match peer {
         MadePeer::Came(port, peer) => MadePeer::Came(RealPort::Socket(port), peer),
@@ -554,11 +560,7 @@ where
 {
     type Made = MadePort;
 
-    ghost faults = { λ maker. maker.faults };
-
-    ghost stalls = { λ maker. maker.stalls };
-
-    ghost came = { λ maker. maker.came };
+    ghost seen = { seen_of };
 
     fn make(
         &mut self,
@@ -569,9 +571,7 @@ where
     ) -> Making<MadePort>
         ensures kind { OnPort (λ made. IsOpenedFor single.now.target made.port) result }
         ensures unreserved { OnPort (λ _. is_reserved key ≡ false) result }
-        ensures came { self.new.came ≡ self.old.came }
-        ensures faults { Counted (making_failed result) self.old.faults self.new.faults }
-        ensures stalls { Counted (making_stalled result) self.old.stalls self.new.stalls }
+        ensures opens { Opens (seen_of self.old) (seen_of self.new) (record { place = place; single = single.now; behind = behind }) result }
     {
         if is_reserved(key) {
             self.count_fault();
@@ -587,10 +587,7 @@ where
         ensures kind { OnPort (λ made. IsDoorFor single.now made.port) result }
         ensures shared { OnPort (λ made. is_shared made.hints ≡ single.now.options.sessions.fork) result }
         ensures unreserved { OnPort (λ _. is_reserved key ≡ false) result }
-        ensures at_once { IsAtOnce result }
-        ensures came { self.new.came ≡ self.old.came }
-        ensures faults { Counted (making_failed result) self.old.faults self.new.faults }
-        ensures stalls { Counted (making_stalled result) self.old.stalls self.new.stalls }
+        ensures listens { Listens (seen_of self.old) (seen_of self.new) result }
     {
         if is_reserved(key) {
             self.count_fault();
@@ -606,13 +603,10 @@ where
         ensures kind { OnPeer (λ made. ComesAt door.old.port made.port) result }
         ensures addressed { is_local_door door.old.port ≡ false → OnCame (λ peer. peer ≢ whose.Local) result }
         ensures unreserved { OnPeer (λ _. is_reserved key ≡ false) result }
-        ensures door { (⟦<MadePort as Port>⟧.gave door.new ≡ ⟦<MadePort as Port>⟧.gave door.old) × (⟦<MadePort as Port>⟧.took door.new ≡ ⟦<MadePort as Port>⟧.took door.old) }
-        ensures unshut { ⟦<MadePort as Port>⟧.shuts door.new ≡ ⟦<MadePort as Port>⟧.shuts door.old }
         ensures kept { result ≢ peers.NoPeer → is_shared door.old.hints ≡ true → self.new.reserve.held + 1 ≡ self.new.reserve.wanted }
         ensures lacking { 0 < lacking_of door.new.hints → result ≡ peers.NoPeer }
-        ensures came { self.new.came ≡ came_after self.old.came result }
-        ensures faults { Counted (peer_failed result) self.old.faults self.new.faults }
-        ensures stalls { Counted (peer_stalled result) self.old.stalls self.new.stalls }
+        ensures lets_in { let at = ⟦<MadePort as Port>⟧.seen in
+            LetsIn (seen_of self.old) (seen_of self.new) (at door.old) (at door.new) result }
     {
         match self.take_peer(door, key) {
             MadePeer::Came(port, peer) => {

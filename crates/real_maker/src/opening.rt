@@ -4,7 +4,7 @@ ghost use Rattle.socket_kinds.specs.Accepting.{OnPort};
 ghost use Rattle.real_maker.specs.Kinds.{IsOpenedFor};
 
 use crate::ports::RealPort;
-use file_ports::EchoPort;
+use port_objects::EchoPort;
 use port_trait::Making;
 use relay_model::NoMemory;
 use socket_maker::HostPort;

@@ -4,7 +4,8 @@ ghost use Rattle.real_maker.specs.Ports.{of_port};
 use crate::opening::OfSocket;
 use crate::socks::SocksOpening;
 use child_ports::ChildPort;
-use file_ports::{EchoPort, FilePort};
+use file_ports::FilePort;
+use port_objects::EchoPort;
 use port_trait::{Begun, Got, Hint, Joining, Port, PortReap, Settled, Shutting, Took};
 use relay_model::Shut;
 use socket_ports::PeerPort;
@@ -25,39 +26,8 @@ pub enum RealPort {
 }
 
 impl Port for RealPort {
-    ghost gave = { of_port ⟦<EchoPort as Port>⟧.gave ⟦<OfSocket as Port>⟧.gave ⟦<FilePort as Port>⟧.gave ⟦<ChildPort as Port>⟧.gave ⟦<SocksOpening as Port>⟧.gave ⟦<ConnectPort<OfSocket> as Port>⟧.gave ⟦<PeerPort as Port>⟧.gave };
-
-    ghost took = { of_port ⟦<EchoPort as Port>⟧.took ⟦<OfSocket as Port>⟧.took ⟦<FilePort as Port>⟧.took ⟦<ChildPort as Port>⟧.took ⟦<SocksOpening as Port>⟧.took ⟦<ConnectPort<OfSocket> as Port>⟧.took ⟦<PeerPort as Port>⟧.took };
-
-    ghost shuts = { of_port ⟦<EchoPort as Port>⟧.shuts ⟦<OfSocket as Port>⟧.shuts ⟦<FilePort as Port>⟧.shuts ⟦<ChildPort as Port>⟧.shuts ⟦<SocksOpening as Port>⟧.shuts ⟦<ConnectPort<OfSocket> as Port>⟧.shuts ⟦<PeerPort as Port>⟧.shuts };
-
-    ghost behind_gave = { of_port ⟦<EchoPort as Port>⟧.behind_gave ⟦<OfSocket as Port>⟧.behind_gave ⟦<FilePort as Port>⟧.behind_gave ⟦<ChildPort as Port>⟧.behind_gave ⟦<SocksOpening as Port>⟧.behind_gave ⟦<ConnectPort<OfSocket> as Port>⟧.behind_gave ⟦<PeerPort as Port>⟧.behind_gave };
-
-    ghost behind_took = { of_port ⟦<EchoPort as Port>⟧.behind_took ⟦<OfSocket as Port>⟧.behind_took ⟦<FilePort as Port>⟧.behind_took ⟦<ChildPort as Port>⟧.behind_took ⟦<SocksOpening as Port>⟧.behind_took ⟦<ConnectPort<OfSocket> as Port>⟧.behind_took ⟦<PeerPort as Port>⟧.behind_took };
-
-    ghost behind_faults = { of_port ⟦<EchoPort as Port>⟧.behind_faults ⟦<OfSocket as Port>⟧.behind_faults ⟦<FilePort as Port>⟧.behind_faults ⟦<ChildPort as Port>⟧.behind_faults ⟦<SocksOpening as Port>⟧.behind_faults ⟦<ConnectPort<OfSocket> as Port>⟧.behind_faults ⟦<PeerPort as Port>⟧.behind_faults };
-
-    ghost behind_ends = { of_port ⟦<EchoPort as Port>⟧.behind_ends ⟦<OfSocket as Port>⟧.behind_ends ⟦<FilePort as Port>⟧.behind_ends ⟦<ChildPort as Port>⟧.behind_ends ⟦<SocksOpening as Port>⟧.behind_ends ⟦<ConnectPort<OfSocket> as Port>⟧.behind_ends ⟦<PeerPort as Port>⟧.behind_ends };
-
-    ghost behind_left = { of_port ⟦<EchoPort as Port>⟧.behind_left ⟦<OfSocket as Port>⟧.behind_left ⟦<FilePort as Port>⟧.behind_left ⟦<ChildPort as Port>⟧.behind_left ⟦<SocksOpening as Port>⟧.behind_left ⟦<ConnectPort<OfSocket> as Port>⟧.behind_left ⟦<PeerPort as Port>⟧.behind_left };
-
-    ghost served = { of_port ⟦<EchoPort as Port>⟧.served ⟦<OfSocket as Port>⟧.served ⟦<FilePort as Port>⟧.served ⟦<ChildPort as Port>⟧.served ⟦<SocksOpening as Port>⟧.served ⟦<ConnectPort<OfSocket> as Port>⟧.served ⟦<PeerPort as Port>⟧.served };
-
-    ghost hints = { of_port ⟦<EchoPort as Port>⟧.hints ⟦<OfSocket as Port>⟧.hints ⟦<FilePort as Port>⟧.hints ⟦<ChildPort as Port>⟧.hints ⟦<SocksOpening as Port>⟧.hints ⟦<ConnectPort<OfSocket> as Port>⟧.hints ⟦<PeerPort as Port>⟧.hints };
-
-    ghost hinting = { of_port ⟦<EchoPort as Port>⟧.hinting ⟦<OfSocket as Port>⟧.hinting ⟦<FilePort as Port>⟧.hinting ⟦<ChildPort as Port>⟧.hinting ⟦<SocksOpening as Port>⟧.hinting ⟦<ConnectPort<OfSocket> as Port>⟧.hinting ⟦<PeerPort as Port>⟧.hinting };
-
-    ghost behind_finished = { of_port ⟦<EchoPort as Port>⟧.behind_finished ⟦<OfSocket as Port>⟧.behind_finished ⟦<FilePort as Port>⟧.behind_finished ⟦<ChildPort as Port>⟧.behind_finished ⟦<SocksOpening as Port>⟧.behind_finished ⟦<ConnectPort<OfSocket> as Port>⟧.behind_finished ⟦<PeerPort as Port>⟧.behind_finished };
-
-    ghost counts = { of_port ⟦<EchoPort as Port>⟧.counts ⟦<OfSocket as Port>⟧.counts ⟦<FilePort as Port>⟧.counts ⟦<ChildPort as Port>⟧.counts ⟦<SocksOpening as Port>⟧.counts ⟦<ConnectPort<OfSocket> as Port>⟧.counts ⟦<PeerPort as Port>⟧.counts };
-
-    ghost begun = { of_port ⟦<EchoPort as Port>⟧.begun ⟦<OfSocket as Port>⟧.begun ⟦<FilePort as Port>⟧.begun ⟦<ChildPort as Port>⟧.begun ⟦<SocksOpening as Port>⟧.begun ⟦<ConnectPort<OfSocket> as Port>⟧.begun ⟦<PeerPort as Port>⟧.begun };
-
-    ghost ended = { of_port ⟦<EchoPort as Port>⟧.ended ⟦<OfSocket as Port>⟧.ended ⟦<FilePort as Port>⟧.ended ⟦<ChildPort as Port>⟧.ended ⟦<SocksOpening as Port>⟧.ended ⟦<ConnectPort<OfSocket> as Port>⟧.ended ⟦<PeerPort as Port>⟧.ended };
-
-    ghost joins = { of_port ⟦<EchoPort as Port>⟧.joins ⟦<OfSocket as Port>⟧.joins ⟦<FilePort as Port>⟧.joins ⟦<ChildPort as Port>⟧.joins ⟦<SocksOpening as Port>⟧.joins ⟦<ConnectPort<OfSocket> as Port>⟧.joins ⟦<PeerPort as Port>⟧.joins };
-
-    ghost child = { of_port ⟦<EchoPort as Port>⟧.child ⟦<OfSocket as Port>⟧.child ⟦<FilePort as Port>⟧.child ⟦<ChildPort as Port>⟧.child ⟦<SocksOpening as Port>⟧.child ⟦<ConnectPort<OfSocket> as Port>⟧.child ⟦<PeerPort as Port>⟧.child };
+    ghost seen = { of_port ⟦<EchoPort as Port>⟧.seen ⟦<OfSocket as Port>⟧.seen ⟦<FilePort as Port>⟧.seen ⟦<ChildPort as Port>⟧.seen
+        ⟦<SocksOpening as Port>⟧.seen ⟦<ConnectPort<OfSocket> as Port>⟧.seen ⟦<PeerPort as Port>⟧.seen };
 
     fn begin(&mut self) -> Begun {
         match self {

@@ -130,7 +130,8 @@ where
 }
 
 fn stage_of(inner: OfSocket, wanted: Wanted) -> SocksStage
-    ensures { (named : Bool) (host : List ℕ) (port : ℕ) (user : List ℕ) → IsWantedOf named host port user wanted → AsksAt named host port user result }
+    ensures { (named : Bool) (host : List ℕ) (port : ℕ) (user : List ℕ) → IsWantedOf named host port user wanted
+        → AsksAt named host port user result }
 {
     match wanted {
         Wanted::Now(request) => SocksStage::Talking(SocksPort::new(inner, request)),

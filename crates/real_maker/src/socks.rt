@@ -2,6 +2,7 @@
 ghost use Rattle.std.specs.Prelude.{◌≡◌, ◌<◌, None, true, false, IfSome, length};
 ghost use Rattle.std.specs.Net.Addr.{ipv4_octets};
 ghost use Rattle.std.specs.Net.Socket.{v4_ip};
+ghost use Rattle.port_trait.specs.Ports.{untold};
 ghost use Rattle.tunnel_port.specs.SocksRequests.{socks4};
 ghost use Rattle.real_maker.specs.Asking.{AsksFound};
 ghost use Rattle.real_maker.specs.SocksStages.{stage_gave, stage_hinting, stage_hints, stage_took};
@@ -150,23 +151,15 @@ impl SocksOpening {
 }
 
 impl Port for SocksOpening {
-    ghost gave = { λ port. stage_gave port.stage };
-
-    ghost took = { λ port. stage_took port.stage };
-
-    ghost hints = { λ port. stage_hints port.stage };
-
-    ghost hinting = { λ port. stage_hinting port.stage };
-
-    ghost counts = { λ port. port.counts };
-
-    ghost begun = { λ port. port.begun };
-
-    ghost ended = { λ port. port.ended };
-
-    ghost joins = { λ _. true };
-
-    ghost child = { λ _. false };
+    ghost seen = { λ port. record untold {
+      gave = stage_gave port.stage;
+      took = stage_took port.stage;
+      hints = stage_hints port.stage;
+      hinting = stage_hinting port.stage;
+      counts = port.counts;
+      begun = port.begun;
+      ended = port.ended;
+    } };
 
     fn begin(&mut self) -> Begun {
         if self.begun {

@@ -8,6 +8,7 @@ use Rattle.port_trait.specs.declared.answers.Begun.TheVariants as begins
 use Rattle.port_trait.specs.declared.counts.Counts.{Counts}
 use Rattle.port_trait.specs.Streams.{Loses}
 use Rattle.port_trait.specs.Serving.{Serving, rise}
+use Rattle.port_trait.specs.Ports.{BehindSeen, PortSeen, nothing_behind, untold}
 use Rattle.crossbeam_queue.specs.Fifo.{Held}
 use Rattle.ring_queue.specs.declared.roles.View.{View}
 use Rattle.ring_queue.specs.Order.{IsSound}
@@ -66,25 +67,23 @@ served_of reader = record { reads = true; writes = false; misuses = reader.tally
 abbrev pub joins_of : ReaderState → Bool
 joins_of reader = not reader.begun || reader.marked
 
--- what the source behind it gave
-abbrev pub gave_behind : Option SourceBehind → Option (List ℕ)
-gave_behind None = None
-gave_behind (Some source) = source.gave
+-- what is seen of the source behind a reader
+abbrev pub source_seen : Option SourceBehind → BehindSeen
+source_seen None = nothing_behind
+source_seen (Some source) = record { gave = source.gave; took = None; faults = Some source.faults; ends = Some source.ends; left = source.left; finished = None }
 
--- what that source has left
-abbrev pub left_behind : Option SourceBehind → Option (List ℕ)
-left_behind None = None
-left_behind (Some source) = source.left
-
--- the faults of that source
-abbrev pub faults_behind : Option SourceBehind → Option ℕ
-faults_behind None = None
-faults_behind (Some source) = Some source.faults
-
--- the ends of that source
-abbrev pub ends_behind : Option SourceBehind → Option ℕ
-ends_behind None = None
-ends_behind (Some source) = Some source.ends
+-- what is seen of a reader
+abbrev pub reader_seen : ReaderState → PortSeen
+reader_seen reader = record untold {
+  gave = Some (given_of reader);
+  shuts = Some reader.shuts;
+  behind = source_seen reader.behind;
+  served = Some (served_of reader);
+  counts = reader.tally.counts;
+  begun = reader.begun;
+  ended = reader.ended;
+  joins = joins_of reader;
+}
 
 -- what went off the front of what is left
 abbrev pub gone : Option (List ℕ) → Option (List ℕ) → Option (List ℕ)

@@ -52,7 +52,18 @@ where
 
     ghost use Rattle.ring_reader.specs.Readers.{IsReading, is_begun, is_refused, behind_of};
 
-    ghost view = { λ r. record { had = S.left r.start.value; taken = (known r.items).taken; held = r.held; marked = r.marked; ended = r.ended; begun = is_begun r.stage; refused = is_refused r.stage; tally = r.tally; behind = behind_of S.left S.faults S.ends r.start.value (known r.items).taken r.stage; shuts = r.account.passed.shuts } };
+    ghost view = { λ r. record {
+      had = S.left r.start.value;
+      taken = (known r.items).taken;
+      held = r.held;
+      marked = r.marked;
+      ended = r.ended;
+      begun = is_begun r.stage;
+      refused = is_refused r.stage;
+      tally = r.tally;
+      behind = behind_of S.left S.faults S.ends r.start.value (known r.items).taken r.stage;
+      shuts = r.account.passed.shuts;
+    } };
 
     ghost invariant = { λ r. IsPassOf r.lines.value.items r.items × IsPassOf r.lines.value.back r.words
         × IsReading S.left S.faults S.ends r.lines.value r.start.value (known r.items) (known

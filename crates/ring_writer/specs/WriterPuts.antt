@@ -1,5 +1,5 @@
 -- What the port's side of a writer keeps, and what it puts.
-use Rattle.std.specs.Prelude.{◌≡◌, ℕ, ◌+◌, ◌≤◌, true, List, [], ◌∷◌, ◌++◌, length, take, if◌then◌else◌}
+use Rattle.std.specs.Prelude.{◌≡◌, ℕ, ◌+◌, ◌≤◌, true, false, List, [], ◌∷◌, ◌++◌, length, take, if◌then◌else◌}
 use Rattle.crossbeam_queue.specs.Passes.{view, IsPassOf, ruled_capacity}
 use Rattle.crossbeam_queue.specs.Fifo.{Held}
 use Rattle.port_trait.specs.declared.answers.Took.{Took as WriteAnswer}
@@ -42,3 +42,14 @@ pub record IsPutting (putter : Putter) : Type 0 where
   pub count : putter.count ≡ told (bytes_of (view putter.sender).sent)
   pub marked : marks (view putter.sender).sent ≡ (if putter.ended then 1 else 0)
   pub ended : last_is is_end_mark (view putter.sender).sent ≡ putter.ended
+
+-- bytes may be put: the end mark wasn't
+pub record CanPut (putter : Putter) : Type 0 where
+  pub putting : IsPutting putter
+  pub unended : putter.ended ≡ false
+
+-- the port goes on with the same queues, and puts no end mark
+pub record KeepsPutting (before now : Putter) : Type 0 where
+  pub putting : IsPutting now
+  pub lines : now.lines ≡ before.lines
+  pub ended : now.ended ≡ before.ended

@@ -1,7 +1,8 @@
 -- What contracts see of a writer, and what the calls of its port do.
-use Rattle.std.specs.Prelude.{◌≡◌, ℕ, ◌+◌, ◌-◌, ◌^◌, ◌≤◌, min, Bool, true, false, not, ◌&&◌, List, [], ◌∷◌, ◌++◌, length, take, Option, None, Some, if◌then◌else◌}
+use Rattle.std.specs.Prelude.{◌≡◌, ℕ, ◌+◌, ◌≤◌, Bool, true, false, not, ◌&&◌, List, [], ◌∷◌, ◌++◌, length, take, Option, None, Some, if◌then◌else◌}
 use Rattle.relay_model.specs.declared.acts.Shut.{Shut}
 use Rattle.port_trait.specs.Serving.{Serving}
+use Rattle.port_trait.specs.Ports.{BehindSeen, PortSeen, nothing_behind, untold}
 use Rattle.port_trait.specs.declared.answers.Begun.{Begun as BeginAnswer}
 use Rattle.port_trait.specs.declared.answers.Begun.TheVariants as begins
 use Rattle.port_trait.specs.declared.answers.Took.{Took as WriteAnswer}
@@ -10,7 +11,7 @@ use Rattle.ring_queue.specs.declared.items.RingItem.TheVariants as items
 use Rattle.ring_queue.specs.declared.tallies.Tally.{Tally}
 use Rattle.ring_queue.specs.Items.{bytes_of, told, AddsChunks}
 use Rattle.ring_queue.specs.Tallies.{no_tally, with_misuse}
-use Rattle.ring_writer.specs.WriterRing.{WriterLine, WriterBehind, WritesChunk, fresh_line, is_open, is_shut}
+use Rattle.ring_writer.specs.WriterRing.{WriterLine, WriterBehind, WritesChunk, fresh_line, is_open, is_shut, may_join}
 
 -- how its line stands, what was counted, and each shut
 pub record WriterState : Type 0 where
@@ -30,29 +31,26 @@ fresh_writer had refused = record {
 abbrev pub took_of : WriterState → List ℕ
 took_of writer = bytes_of writer.line.sent
 
--- what the sink behind it took
-abbrev pub took_behind : Option WriterBehind → Option (List ℕ)
-took_behind None = None
-took_behind (Some behind) = behind.took
-
--- the faults of that sink
-abbrev pub faults_behind : Option WriterBehind → Option ℕ
-faults_behind None = None
-faults_behind (Some behind) = Some behind.faults
-
--- whether that sink was finished
-abbrev pub finished_behind : Option WriterBehind → Option Bool
-finished_behind None = None
-finished_behind (Some behind) = Some behind.finished
-
--- a sink has no ends to count
-abbrev pub ends_behind : Option WriterBehind → Option ℕ
-ends_behind None = None
-ends_behind (Some behind) = Some 0
+-- what is seen of the sink behind a writer, which has no ends to count
+abbrev pub sink_seen : Option WriterBehind → BehindSeen
+sink_seen None = nothing_behind
+sink_seen (Some behind) = record { gave = None; took = behind.took; faults = Some behind.faults; ends = Some 0; left = None; finished = Some behind.finished }
 
 -- it serves writes until its end mark was put
 abbrev pub served_of : WriterState → Serving
 served_of writer = record { reads = false; writes = not (is_shut writer.line); misuses = writer.tally.misuses }
+
+-- what is seen of a writer
+abbrev pub writer_seen : WriterState → PortSeen
+writer_seen writer = record untold {
+  took = Some (took_of writer);
+  shuts = Some writer.shuts;
+  behind = sink_seen writer.line.behind;
+  served = Some (served_of writer);
+  counts = writer.tally.counts;
+  begun = writer.line.begun;
+  joins = may_join writer.line;
+}
 
 -- a call that the writer doesn't serve is counted, and changes nothing else
 abbrev pub misused_writer : WriterState → WriterState

@@ -1,10 +1,10 @@
 // The port of a sink that a thread writes to.
 ghost use Rattle.std.specs.Prelude.{◌≡◌, ◌≢◌, ◌<◌, ◌≤◌, ◌+◌, ◌-◌, ◌^◌, ◌++◌, ◌∷◌, [], min, Bool, true, false, length, None, Some, IfOk, IfSome, IsSome};
-ghost use Rattle.port_trait.specs.Counting.{Rose, Tallied};
+ghost use Rattle.port_trait.specs.Counting.{Rose};
 ghost use Rattle.port_trait.specs.Streams.{finishes};
-ghost use Rattle.port_trait.specs.Serving.{IsCalled, Explained, is_begin_served};
 ghost use Rattle.port_trait.specs.Hinting.{all_hints};
-ghost use Rattle.port_trait.specs.Meanings.{Gives, Accepts, AcceptsWhole, AcceptsAll, Behind, FinishedBehind, OnJoined, join_answer, begun_after, is_end, begin_event, settle_event, read_event, write_event, shut_event};
+ghost use Rattle.port_trait.specs.Meanings.{OnJoined};
+ghost use Rattle.port_trait.specs.Ports.{Begins, StandsBegun, Settles, Reads, Writes, Sends, PutsAll, Shuts, HintsSo, Reaps, JoinsSo};
 ghost use Rattle.port_trait.specs.declared.answers.Begun.TheVariants as begins;
 ghost use Rattle.port_trait.specs.declared.answers.Got.TheVariants as reads;
 ghost use Rattle.port_trait.specs.declared.answers.Took.TheVariants as writes;
@@ -13,7 +13,7 @@ ghost use Rattle.port_trait.specs.declared.answers.Shutting.TheVariants as shuts
 ghost use Rattle.port_trait.specs.declared.answers.PortReap.TheVariants as reaps;
 ghost use Rattle.ring_queue.specs.Items.{bytes_of};
 ghost use Rattle.ring_writer.specs.WriterRing.{IsBehind, is_open, is_shut, may_join};
-ghost use Rattle.ring_writer.specs.Writers.{misused_writer, served_of, ends_behind, finished_behind, WriterBeginStep, WriterWrites, WriterPutsAll, fresh_writer, took_of, took_behind, faults_behind, line_after_shut};
+ghost use Rattle.ring_writer.specs.Writers.{misused_writer, writer_seen, WriterBeginStep, WriterWrites, WriterPutsAll, fresh_writer, line_after_shut};
 
 use crate::writer_outlet::Outlet;
 use crate::writer_puts::Putter;
@@ -117,40 +117,15 @@ where
     K: Sink + Drop,
     R: Threads + Wait + Copy,
 {
-    ghost took = { λ w. Some (took_of w) };
-
-    ghost shuts = { λ w. Some w.shuts };
-
-    ghost behind_took = { λ w. took_behind w.line.behind };
-
-    ghost behind_faults = { λ w. faults_behind w.line.behind };
-
-    ghost behind_ends = { λ w. ends_behind w.line.behind };
-
-    ghost behind_finished = { λ w. finished_behind w.line.behind };
-
-    ghost served = { λ w. Some (served_of w) };
-
-    ghost counts = { λ w. w.tally.counts };
-
-    ghost begun = { λ w. w.line.begun };
-
-    ghost ended = { λ _. false };
-
-    ghost joins = { λ w. may_join w.line };
-
-    ghost child = { λ _. false };
+    ghost seen = { writer_seen };
 
     /// Lets bytes be put. It fails exactly where no thread could be made.
     fn begin(&mut self) -> Begun
         ensures again { self.old.line.begun ≡ true → (result ≡ begins.Begun) × (self.new ≡ self.old) }
         ensures step { WriterBeginStep self.old self.new result }
-        ensures begun { self.new.line.begun ≡ begun_after self.old.line.begun result }
-        ensures served { IsCalled (is_begin_served result) (served_of self.old) (served_of self.new) }
+        ensures begins { Begins (writer_seen self.old) (writer_seen self.new) result }
+        ensures stands { StandsBegun (writer_seen self.old) (writer_seen self.new) result }
         ensures misused { self.new.tally.misuses ≤ self.new.tally.counts.faults }
-        ensures kept { Some (took_of self.new) ≡ Some (took_of self.old) }
-        ensures unshut { Some self.new.shuts ≡ Some self.old.shuts }
-        ensures counts { Tallied (begin_event result) self.old.tally.counts self.new.tally.counts }
         ensures empties { self.new.tally.counts.empties ≡ self.old.tally.counts.empties }
     {
         match self.stage.begin() {
@@ -166,8 +141,7 @@ where
     fn settle(&mut self) -> Settled
         ensures ready { result ≡ settles.Ready }
         ensures same { self.new ≡ self.old }
-        ensures kept { (Some (took_of self.new) ≡ Some (took_of self.old)) × (self.new.line.begun ≡ self.old.line.begun) }
-        ensures counts { Tallied (settle_event result) self.old.tally.counts self.new.tally.counts }
+        ensures settles { Settles (writer_seen self.old) (writer_seen self.new) result }
     {
         Settled::Ready
     }
@@ -176,10 +150,7 @@ where
         requires { 0 < length into.old }
         ensures failed { result ≡ reads.Failed }
         ensures misused { self.new ≡ misused_writer self.old }
-        ensures gives { Gives None None into.new result }
-        ensures ended { false ≡ is_end result }
-        ensures kept { (Some (took_of self.new) ≡ Some (took_of self.old)) × (self.new.line.begun ≡ self.old.line.begun) }
-        ensures counts { Tallied (read_event result) self.old.tally.counts self.new.tally.counts }
+        ensures reads { Reads (writer_seen self.old) (writer_seen self.new) into.new result }
     {
         let _ = into;
         self.tally.count_misuse();
@@ -189,12 +160,9 @@ where
     /// Puts one chunk of at most 512 bytes.
     fn write(&mut self, bytes: &[u8]) -> Took
         requires { 0 < length bytes.now }
-        ensures writes { WriterWrites (is_open self.old.line) self.old self.new bytes.now result }
-        ensures served { IsCalled (is_open self.old.line) (served_of self.old) (served_of self.new) }
-        ensures accepts { Accepts (Some (took_of self.old)) (Some (took_of self.new)) bytes.now result }
-        ensures kept { (self.new.line.begun ≡ self.old.line.begun) × (self.new.line.refused ≡ self.old.line.refused) }
-        ensures unshut { Some self.new.shuts ≡ Some self.old.shuts }
-        ensures counts { Tallied (write_event result) self.old.tally.counts self.new.tally.counts }
+        ensures writes { Writes (writer_seen self.old) (writer_seen self.new) bytes.now result }
+        ensures step { WriterWrites (is_open self.old.line) self.old self.new bytes.now result }
+        ensures refused { self.new.line.refused ≡ self.old.line.refused }
         ensures empties { self.new.tally.counts.empties ≡ self.old.tally.counts.empties }
     {
         if !self.stage.is_open() {
@@ -219,9 +187,7 @@ where
         requires { 0 < length bytes.now }
         ensures failed { result ≡ writes.Failed }
         ensures misused { self.new ≡ misused_writer self.old }
-        ensures accepts { AcceptsWhole (Some (took_of self.old)) (Some (took_of self.new)) bytes.now result }
-        ensures kept { (self.new.line.begun ≡ self.old.line.begun) × (self.new.line.refused ≡ self.old.line.refused) }
-        ensures counts { Tallied (write_event result) self.old.tally.counts self.new.tally.counts }
+        ensures sends { Sends (writer_seen self.old) (writer_seen self.new) bytes.now result }
         ensures empties { self.new.tally.counts.empties ≡ self.old.tally.counts.empties }
     {
         let _ = bytes;
@@ -231,12 +197,9 @@ where
 
     /// Puts all bytes in chunks, and waits for room.
     fn put_all(&mut self, bytes: &[u8]) -> Took
-        ensures writes { WriterPutsAll (is_open self.old.line) self.old self.new bytes.now result }
-        ensures served { IsCalled (is_open self.old.line) (served_of self.old) (served_of self.new) }
-        ensures accepts { AcceptsAll (Some (took_of self.old)) (Some (took_of self.new)) bytes.now result }
-        ensures kept { (self.new.line.begun ≡ self.old.line.begun) × (self.new.line.refused ≡ self.old.line.refused) }
-        ensures unshut { Some self.new.shuts ≡ Some self.old.shuts }
-        ensures counts { Tallied (write_event result) self.old.tally.counts self.new.tally.counts }
+        ensures puts { PutsAll (writer_seen self.old) (writer_seen self.new) bytes.now result }
+        ensures step { WriterPutsAll (is_open self.old.line) self.old self.new bytes.now result }
+        ensures refused { self.new.line.refused ≡ self.old.line.refused }
         ensures empties { self.new.tally.counts.empties ≡ self.old.tally.counts.empties }
     {
         if !self.stage.is_open() {
@@ -257,8 +220,7 @@ where
         ensures done { result ≡ shuts.Done }
         ensures line { self.new.line ≡ line_after_shut (finishes how) self.old.line }
         ensures same { self.new ≡ record self.old { line = self.new.line; shuts = self.old.shuts ++ how ∷ [] } }
-        ensures kept { (Some (took_of self.new) ≡ Some (took_of self.old)) × (self.new.line.begun ≡ self.old.line.begun) }
-        ensures counts { Tallied (shut_event result) self.old.tally.counts self.new.tally.counts }
+        ensures shuts { Shuts (writer_seen self.old) (writer_seen self.new) how result }
     {
         self.account = self.account.with(&Call::Shut(how));
         match how {
@@ -276,10 +238,7 @@ where
     /// Writable where there is room, or where the next write tells of a fault.
     fn hint(&mut self) -> Hint
         ensures same { self.new ≡ self.old }
-        ensures kept { (Some (took_of self.new) ≡ Some (took_of self.old)) × (self.new.tally.counts ≡ self.old.tally.counts)
-            × (self.new.line.begun ≡ self.old.line.begun) × (may_join self.new.line ≡ may_join self.old.line) }
-        ensures behind { (took_behind self.new.line.behind ≡ took_behind self.old.line.behind)
-            × (faults_behind self.new.line.behind ≡ faults_behind self.old.line.behind) }
+        ensures hints { HintsSo (writer_seen self.old) (writer_seen self.new) result }
     {
         Hint {
             readable: false,
@@ -302,28 +261,18 @@ where
     fn reap(&mut self) -> PortReap
         ensures reaped { result ≡ reaps.NoChild }
         ensures same { self.new ≡ self.old }
-        ensures kept { (Some (took_of self.new) ≡ Some (took_of self.old)) × (self.new.line.begun ≡ self.old.line.begun) }
-        ensures counts { Tallied None self.old.tally.counts self.new.tally.counts }
+        ensures reaps { Reaps (writer_seen self.old) (writer_seen self.new) result }
     {
         PortReap::NoChild
     }
 
     /// Waits for the thread where the end mark was put.
     fn join(&mut self) -> Joining
-        ensures joined { result ≡ join_answer (may_join self.old.line) }
+        ensures joins { JoinsSo (writer_seen self.old) (writer_seen self.new) result }
         ensures same { self.new ≡ record self.old { line = record self.old.line { behind = self.new.line.behind } } }
         ensures knows { OnJoined result (self.new.line.begun ≡ true → IsSome self.new.line.behind) }
         ensures shows { OnJoined result (IfSome self.new.line.behind (IsBehind self.new.line)) }
         ensures no_ends { self.new.tally.counts.ends ≡ 0 }
-        ensures explained { OnJoined result
-            (Explained (Some (served_of self.new)) self.new.tally.counts (faults_behind self.new.line.behind)
-            (ends_behind self.new.line.behind)) }
-        ensures kept { (Some (took_of self.new) ≡ Some (took_of self.old)) × (self.new.tally.counts ≡ self.old.tally.counts)
-            × (self.new.line.begun ≡ self.old.line.begun) × (may_join self.new.line ≡ may_join self.old.line) }
-        ensures behind { OnJoined result
-            (Behind None (Some (took_of self.new)) None (took_behind self.new.line.behind) None
-            (faults_behind self.new.line.behind) false) }
-        ensures finished { OnJoined result (FinishedBehind (faults_behind self.new.line.behind) (finished_behind self.new.line.behind)) }
     {
         if !self.stage.may_join() {
             return Joining::Running;

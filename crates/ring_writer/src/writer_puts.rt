@@ -4,7 +4,7 @@ ghost use Rattle.crossbeam_queue.specs.Passes.{view};
 ghost use Rattle.port_trait.specs.declared.answers.Took.TheVariants as writes;
 ghost use Rattle.ring_queue.specs.declared.items.RingItem.TheVariants as ring_items;
 ghost use Rattle.ring_queue.specs.Items.{bytes_of, told, AddsChunks};
-ghost use Rattle.ring_writer.specs.WriterPuts.{IsPutting, PutsChunk, FullWhereNoRoom, WasFull, marks_after};
+ghost use Rattle.ring_writer.specs.WriterPuts.{IsPutting, CanPut, KeepsPutting, PutsChunk, FullWhereNoRoom, WasFull, marks_after};
 
 use port_trait::Took;
 use ring_queue::{
@@ -42,11 +42,9 @@ impl Putter {
 
     /// Puts a chunk of the front of the bytes. It fails where the sink did, and waits for nobody.
     pub(crate) fn put<R: Wait>(&mut self, rt: &R, bytes: &[u8]) -> Took
-        requires putting { IsPutting self.old }
-        requires open { self.old.ended ≡ false }
+        requires can { CanPut self.old }
         requires some { 0 < length bytes.now }
-        ensures putting { IsPutting self.new }
-        ensures kept { (self.new.lines ≡ self.old.lines) × (self.new.ended ≡ self.old.ended) }
+        ensures kept { KeepsPutting self.old self.new }
         ensures put { PutsChunk (view self.old.sender).sent (view self.new.sender).sent bytes.now result }
         ensures marks { length (view self.new.taker).taken ≡ marks_after (length (view self.old.taker).taken) result }
         ensures full { FullWhereNoRoom (view self.old.sender).sent result }
@@ -68,11 +66,10 @@ impl Putter {
     /// Puts a chunk of the front of the bytes, and answers how many. None where the queue was full at a moment of
     /// this call.
     fn put_chunk<R: Wait>(&mut self, rt: &R, bytes: &[u8]) -> Option<usize>
-        requires putting { IsPutting self.old }
-        requires open { self.old.ended ≡ false }
+        requires can { CanPut self.old }
         requires some { 0 < length bytes.now }
-        ensures putting { IsPutting self.new }
-        ensures kept { (self.new.lines ≡ self.old.lines) × (self.new.ended ≡ self.old.ended) × (self.new.taker ≡ self.old.taker) }
+        ensures kept { KeepsPutting self.old self.new }
+        ensures taker { self.new.taker ≡ self.old.taker }
         ensures put { MatchOption result
             (((view self.new.sender).sent ≡ (view self.old.sender).sent) × WasFull (view self.old.sender).sent)
             (λ n. PutsChunk (view self.old.sender).sent (view self.new.sender).sent bytes.now (writes.Took n)) }
@@ -99,11 +96,9 @@ impl Putter {
 
     /// Puts a chunk of the front of the bytes, and waits for room.
     fn put_waiting<R: Wait>(&mut self, rt: &R, bytes: &[u8]) -> Took
-        requires putting { IsPutting self.old }
-        requires open { self.old.ended ≡ false }
+        requires can { CanPut self.old }
         requires some { 0 < length bytes.now }
-        ensures putting { IsPutting self.new }
-        ensures kept { (self.new.lines ≡ self.old.lines) × (self.new.ended ≡ self.old.ended) }
+        ensures kept { KeepsPutting self.old self.new }
         ensures put { PutsChunk (view self.old.sender).sent (view self.new.sender).sent bytes.now result }
         ensures marks { length (view self.new.taker).taken ≡ marks_after (length (view self.old.taker).taken) result }
         ensures waits { result ≢ writes.NotYet }
@@ -134,10 +129,8 @@ impl Putter {
     /// Puts all bytes, and waits for room, or as many as it could before the sink failed. The second is whether
     /// it did.
     pub(crate) fn put_all<R: Wait>(&mut self, rt: &R, bytes: &[u8]) -> (usize, bool)
-        requires putting { IsPutting self.old }
-        requires open { self.old.ended ≡ false }
-        ensures putting { IsPutting self.new }
-        ensures kept { (self.new.lines ≡ self.old.lines) × (self.new.ended ≡ self.old.ended) }
+        requires { CanPut self.old }
+        ensures kept { KeepsPutting self.old self.new }
         ensures bound { result.0 ≤ length bytes.now }
         ensures all { result.1 ≡ false → result.0 ≡ length bytes.now }
         ensures put { AddsChunks (view self.old.sender).sent (view self.new.sender).sent (take result.0 bytes.now) }
@@ -157,8 +150,7 @@ impl Putter {
 
     /// Puts the end mark, and waits for room.
     pub(crate) fn end<R: Wait>(&mut self, rt: &R)
-        requires putting { IsPutting self.old }
-        requires open { self.old.ended ≡ false }
+        requires { CanPut self.old }
         ensures putting { IsPutting self.new }
         ensures kept { (self.new.lines ≡ self.old.lines) × (self.new.taker ≡ self.old.taker) }
         ensures ended { self.new.ended ≡ true }
@@ -180,10 +172,9 @@ impl Putter {
     /// Whether a `put` has something to say. Before it says no, it lets the thread know that the loop may sleep, and looks
     /// once more: what the thread was told before may have been used up by a wake for room that was taken long ago.
     pub(crate) fn is_ready(&mut self) -> bool
-        requires putting { IsPutting self.old }
-        ensures putting { IsPutting self.new }
-        ensures kept { (self.new.lines ≡ self.old.lines) × (self.new.ended ≡ self.old.ended)
-            × (view self.new.sender ≡ view self.old.sender) × (view self.new.taker ≡ view self.old.taker) }
+        requires { IsPutting self.old }
+        ensures kept { KeepsPutting self.old self.new }
+        ensures views { (view self.new.sender ≡ view self.old.sender) × (view self.new.taker ≡ view self.old.taker) }
     {
         if self.looks_ready() {
             return true;
@@ -193,10 +184,9 @@ impl Putter {
     }
 
     fn looks_ready(&mut self) -> bool
-        requires putting { IsPutting self.old }
-        ensures putting { IsPutting self.new }
-        ensures kept { (self.new.lines ≡ self.old.lines) × (self.new.ended ≡ self.old.ended)
-            × (view self.new.sender ≡ view self.old.sender) × (view self.new.taker ≡ view self.old.taker) }
+        requires { IsPutting self.old }
+        ensures kept { KeepsPutting self.old self.new }
+        ensures views { (view self.new.sender ≡ view self.old.sender) × (view self.new.taker ≡ view self.old.taker) }
     {
         let full = is_full(&self.lines.items, &mut self.sender);
         let sound = is_empty(&self.lines.back, &mut self.taker);

@@ -7,7 +7,7 @@ ghost use Rattle.ring_queue.specs.declared.items.RingItem.TheVariants as ring_it
 ghost use Rattle.ring_queue.specs.Items.{bytes_of, told, AddsChunks};
 ghost use Rattle.ring_queue.specs.Endings.{OnDone};
 ghost use Rattle.ring_writer.specs.WriterThread.{IsToBegin, ThreadEnded};
-ghost use Rattle.ring_writer.specs.WriterPuts.{IsPutting};
+ghost use Rattle.ring_writer.specs.WriterPuts.{IsPutting, CanPut, KeepsPutting};
 ghost use Rattle.ring_writer.specs.WriterRing.{Stands, TaskStands, IsBack, IsBehind, LineBegins, WritesChunk, fresh_line, line_of, is_open, may_join};
 
 use crate::writer_outlet::Outlet;

@@ -128,8 +128,8 @@ fn over_streams<R, I: Port, O: Port>(
 ) -> Result<Ran, RowFault>
 where
     R: Files + Net + Clock + Threads + Copy + Drop,
-    requires given { IfSome (I.gave streams.stdin) (λ all. all ≡ []) }
-    requires taken { IfSome (O.took streams.stdout) (λ all. all ≡ []) }
+    requires given { IfSome (I.seen streams.stdin).gave (λ all. all ≡ []) }
+    requires taken { IfSome (O.seen streams.stdout).took (λ all. all ≡ []) }
 {
     match trial.setting.system {
         System::Memory => over_memory(trial, streams, tap),
@@ -143,8 +143,8 @@ fn over_memory<R, I: Port, O: Port>(
     streams: Streams<I, O>,
     tap: Tap,
 ) -> Result<Ran, RowFault>
-    requires given { IfSome (I.gave streams.stdin) (λ all. all ≡ []) }
-    requires taken { IfSome (O.took streams.stdout) (λ all. all ≡ []) }
+    requires given { IfSome (I.seen streams.stdin).gave (λ all. all ≡ []) }
+    requires taken { IfSome (O.seen streams.stdout).took (λ all. all ≡ []) }
 {
     let made = port_of(trial.run.alloc, trial.script, Side::Right, ROOM)?;
     let looks = [

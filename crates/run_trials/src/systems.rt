@@ -128,8 +128,8 @@ pub(crate) fn over_program_maker<R, I: Port, O: Port>(
 ) -> Result<Ran, RowFault>
 where
     R: Files + Net + Clock + Threads + Copy + Drop,
-    requires given { IfSome (I.gave streams.stdin) (λ all. all ≡ []) }
-    requires taken { IfSome (O.took streams.stdout) (λ all. all ≡ []) }
+    requires given { IfSome (I.seen streams.stdin).gave (λ all. all ≡ []) }
+    requires taken { IfSome (O.seen streams.stdout).took (λ all. all ≡ []) }
 {
     let server = server_of(trial)?;
     let port = server.as_ref().map(|server| server.port());
@@ -149,8 +149,8 @@ fn over_served<M, P, I: Port, O: Port>(
 where
     M: Maker + Drop,
     P: Poller + Drop,
-    requires given { IfSome (I.gave streams.stdin) (λ all. all ≡ []) }
-    requires taken { IfSome (O.took streams.stdout) (λ all. all ≡ []) }
+    requires given { IfSome (I.seen streams.stdin).gave (λ all. all ≡ []) }
+    requires taken { IfSome (O.seen streams.stdout).took (λ all. all ≡ []) }
 {
     let looks = [Look {
         name: "stdout",

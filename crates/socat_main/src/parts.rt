@@ -6,6 +6,7 @@ use mio_poller::{MioPoller, MioWake};
 use port_desk::Standard;
 use port_trait::{DirectReader, DirectWriter, Making, Sink, StdSink, StdSource};
 use relay_model::NoMemory;
+use socat_top::NO_MEMORY;
 use standard_ports::{Failures, ToldSink};
 use std::alloc::Global;
 use std::fs::{Files, OpenOptions};
@@ -18,9 +19,6 @@ use std::time::Clock;
 
 /// The status where the system refuses the poller or what is registered with it.
 const FAILED: u8 = 1;
-
-/// The status where there is no memory.
-pub const NO_MEMORY: u8 = 2;
 
 /// What was wanting before a run began.
 #[derive(Clone, Copy, Debug)]

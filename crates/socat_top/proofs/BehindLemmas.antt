@@ -7,12 +7,12 @@ use Rattle.relay_model.specs.Configs.{input, output}
 use Rattle.relay_model.specs.History.{got, put}
 use Rattle.relay_model.specs.May.{BeginsWith}
 use Rattle.relay_model.specs.Transfers.{due}
-use Rattle.port_trait.specs.Meanings.{Behind}
+use Rattle.port_trait.specs.Ports.{Agrees, PortSeen}
 use Rattle.port_table.specs.declared.endings.Back.{Back}
 use Rattle.port_table.specs.declared.endings.Back.TheVariants as backs
 use Rattle.port_table.specs.Endings.{OnJoinedBack, handed}
 use Rattle.socat_top.specs.Ends.{IsDue, came_in, is_alone, is_on_input, is_on_output, went_out}
-use Rattle.socat_top.specs.Behind.{BehindIsDue, IsDueBehind, far_bytes, far_faults, faults_out, told_behind}
+use Rattle.socat_top.specs.Behind.{BehindIsDue, IsDueBehind, StandsBehind, far_bytes, far_faults, faults_out, told_behind}
 
 joined_rest : (xs ys zs : List ℕ) → (xs ++ ys) ++ zs ≡ xs ++ (ys ++ zs)
 joined_rest [] ys zs = refl
@@ -46,14 +46,14 @@ each P Q None go h = tt
 each P Q (Some all) go h = go all h
 
 pub behind : BehindIsDue
-behind c acts gave took input_took output_gave behind_gave behind_took input_left output_left input_behind output_behind input_faults output_faults input_ended output_ended ends source sink =
+behind c acts stdin stdout source sink ends at_source at_sink =
     record {
       is_due = λ w is.
-          each (λ came. IfSome (went_out c acts w took) (λ went. IsDue c acts w came went)) (λ came. IfSome (went_out c acts w (far_bytes took behind_took)) (λ went. IsDueBehind c acts w (faults_out c w (far_faults behind_took output_faults)) came went))
-          (came_in c acts w (far_bytes gave behind_gave))
-          (λ came. went_far (is_alone c (is_on_output c) (output c 0 w)) c acts w came (put acts (output c 0 w)) took behind_took output_faults sink.taken sink.whole)
-          (came_far (is_alone c (is_on_input c) (input c 0 w)) (λ came. IfSome (went_out c acts w took) (λ went. IsDue c acts w came went)) (got acts (input c 0 w)) gave behind_gave source.given (ends.is_due w is));
-      is_spent = λ w is has. source.spent (ends.is_ended w is has);
+          each (λ came. IfSome (went_out c acts w stdout.took) (λ went. IsDue c acts w came went)) (λ came. IfSome (went_out c acts w (far_bytes stdout.took sink.took)) (λ went. IsDueBehind c acts w (faults_out c w (far_faults sink.took sink.faults)) came went))
+          (came_in c acts w (far_bytes stdin.gave source.gave))
+          (λ came. went_far (is_alone c (is_on_output c) (output c 0 w)) c acts w came (put acts (output c 0 w)) stdout.took sink.took sink.faults at_sink.taken at_sink.whole)
+          (came_far (is_alone c (is_on_input c) (input c 0 w)) (λ came. IfSome (went_out c acts w stdout.took) (λ went. IsDue c acts w came went)) (got acts (input c 0 w)) stdin.gave source.gave at_source.given (ends.is_due w is));
+      is_spent = λ w is has. at_source.spent (ends.is_ended w is has);
     }
 
 unsaid : (slot : Option (List ℕ)) → IfSome slot (λ all. Unit {0})
@@ -61,14 +61,11 @@ unsaid None = tt
 unsaid (Some all) = tt
 
 -- what a port that came back tells of what is behind it is so; one that was left tells nothing of it
-pub behind_back :
-    {T : Type 0} (gave took behind_gave behind_took behind_left : T → Option (List ℕ)) (behind_faults : T → Option ℕ) (ended : T → Bool) (back : Back T) →
-    OnJoinedBack (λ port. Behind (gave port) (took port) (behind_gave port) (behind_took port) (behind_left port) (behind_faults port) (ended port)) back →
-    Behind (gave (handed back)) (took (handed back)) (told_behind behind_gave back) (told_behind behind_took back) (told_behind behind_left back) (told_behind behind_faults back) (ended (handed back))
-behind_back gave took behind_gave behind_took behind_left behind_faults ended (backs.Joined port) behind = behind
-behind_back gave took behind_gave behind_took behind_left behind_faults ended (backs.Left port) left = record {
-  given = unsaid (gave port);
-  taken = unsaid (took port);
-  whole = λ sound. unsaid (took port);
+pub behind_back : {T : Type 0} (tells : T → PortSeen) (back : Back T) → OnJoinedBack (λ port. Agrees (tells port)) back → StandsBehind (tells (handed back)) (told_behind tells back)
+behind_back tells (backs.Joined port) agrees = agrees.behind
+behind_back tells (backs.Left port) left = record {
+  given = unsaid (tells port).gave;
+  taken = unsaid (tells port).took;
+  whole = λ sound. unsaid (tells port).took;
   spent = λ over. tt;
 }

@@ -2,7 +2,7 @@
 use Rattle.std.proofs.Common.{◌≡◌, ℕ, Bool, true, false, List, Option, None, Some, IfSome, is_some, refl, sym, ap, subst, ◌∙◌}
 use Rattle.relay_model.specs.Journals.{History}
 use Rattle.port_table.specs.Endings.{EndsSo, PassedEnd}
-use Rattle.port_table.specs.Ports.{PortSeen}
+use Rattle.port_trait.specs.Ports.{PortSeen}
 use Rattle.port_desk.specs.Following.{Passed}
 
 end_still : (passes : Bool) (before now : PortSeen) → PassedEnd passes before now → (now.gave ≡ before.gave) × (now.took ≡ before.took) × (now.ended ≡ before.ended)

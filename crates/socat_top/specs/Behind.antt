@@ -1,5 +1,5 @@
 -- What is behind the standard streams at the ends of a direction. Lists of acts stand newest first.
-use Rattle.std.specs.Prelude.{◌≡◌, ℕ, Bool, true, List, [], Option, None, Some, option_map, IfSome, if◌then◌else◌}
+use Rattle.std.specs.Prelude.{◌≡◌, ℕ, true, List, [], Option, None, Some, option_map, IfSome, if◌then◌else◌}
 use Rattle.relay_model.specs.declared.places.Way.{Way}
 use Rattle.relay_model.specs.declared.commands.Config.{Config}
 use Rattle.relay_model.specs.declared.acts.Act.{Act}
@@ -9,14 +9,19 @@ use Rattle.relay_model.specs.Transfers.{due}
 use Rattle.relay_model.specs.Cause.{cause}
 use Rattle.relay_model.specs.May.{BeginsWith}
 use Rattle.port_trait.specs.Meanings.{Behind}
+use Rattle.port_trait.specs.Ports.{BehindSeen, PortSeen, nothing_behind}
 use Rattle.port_table.specs.declared.endings.Back.{Back}
 use Rattle.port_table.specs.declared.endings.Back.TheVariants as backs
 use Rattle.socat_top.specs.Ends.{Ends, HasEnded, came_in, is_alone, is_on_output, went_out}
 
 -- what a port tells of what is behind it, where it came back joined
-abbrev pub told_behind : {T A : Type 0} → (T → Option A) → Back T → Option A
-told_behind tell (backs.Joined port) = tell port
-told_behind tell (backs.Left port) = None
+abbrev pub told_behind : {T : Type 0} → (T → PortSeen) → Back T → BehindSeen
+told_behind tells (backs.Joined port) = (tells port).behind
+told_behind tells (backs.Left port) = nothing_behind
+
+-- what is behind the port is so as it is behind a joined one
+abbrev pub StandsBehind : PortSeen → BehindSeen → Type 0
+StandsBehind port behind = Behind port.gave port.took behind.gave behind.took behind.left behind.faults port.ended
 
 -- the bytes at the far end of a port: those behind it, where they are told, and elsewhere those that passed it; none are
 -- told where the port doesn't tell what passed it
@@ -46,11 +51,15 @@ pub record EndsBehind (c : Config) (acts : List Act) (gave took left : Option (L
   pub is_due : (w : Way) → formed c w ≡ true → IfSome (came_in c acts w gave) (λ came. IfSome (went_out c acts w took) (λ went. IsDueBehind c acts w (faults_out c w faults) came went))
   pub is_spent : (w : Way) → formed c w ≡ true → HasEnded c acts w → IfSome left (λ rest. rest ≡ [])
 
+-- the same by what the ports of standard input and standard output passed, and by what is behind them
+abbrev pub EndsFar : Config → List Act → PortSeen → PortSeen → BehindSeen → BehindSeen → Type 0
+EndsFar c acts stdin stdout source sink = EndsBehind c acts (far_bytes stdin.gave source.gave) (far_bytes stdout.took sink.took) source.left (far_faults sink.took sink.faults)
+
 -- so it is at the far ends of ports that tell of what is behind them as joined ones do, where it is so of what passed them
 abbrev pub BehindIsDue : Type 0
 BehindIsDue =
-    (c : Config) (acts : List Act) (gave took input_took output_gave behind_gave behind_took input_left output_left input_behind output_behind : Option (List ℕ)) (input_faults output_faults : Option ℕ) (input_ended output_ended : Bool) →
-    Ends c acts gave took input_ended →
-    Behind gave input_took behind_gave input_behind input_left input_faults input_ended →
-    Behind output_gave took output_behind behind_took output_left output_faults output_ended →
-    EndsBehind c acts (far_bytes gave behind_gave) (far_bytes took behind_took) input_left (far_faults behind_took output_faults)
+    (c : Config) (acts : List Act) (stdin stdout : PortSeen) (source sink : BehindSeen) →
+    Ends c acts stdin.gave stdout.took stdin.ended →
+    StandsBehind stdin source →
+    StandsBehind stdout sink →
+    EndsFar c acts stdin stdout source sink

@@ -12,7 +12,8 @@ use Rattle.exit_status.specs.Outcomes.{IsOutcome}
 use Rattle.session_loop.specs.Courses.{OnlyOwn}
 use Rattle.session_driver.specs.Steps.{extend}
 use Rattle.socat_top.specs.Ends.{Ends}
-use Rattle.socat_top.specs.Behind.{EndsBehind}
+use Rattle.port_trait.specs.Ports.{BehindSeen, PortSeen}
+use Rattle.socat_top.specs.Behind.{EndsFar}
 use Rattle.session_loop.specs.Headline as relayed
 use Rattle.session_loop.specs.Headline.{is_relayed}
 use Rattle.socat_top.specs.Notes.{Said, Tail}
@@ -55,11 +56,10 @@ abbrev pub TaskEnds : Task → List Act → Option (List ℕ) → Option (List �
 TaskEnds (Relaying c) acts gave took ended = Ends c acts gave took ended
 TaskEnds other acts gave took ended = Unit {0}
 
--- the same of the bytes at the far ends of standard input and of standard output, of what is left behind standard input
--- and of the faults behind standard output
-abbrev pub TaskEndsBehind : Task → List Act → Option (List ℕ) → Option (List ℕ) → Option (List ℕ) → Option ℕ → Type 0
-TaskEndsBehind (Relaying c) acts gave took left faults = EndsBehind c acts gave took left faults
-TaskEndsBehind other acts gave took left faults = Unit {0}
+-- the same of the far ends of standard input and of standard output, by what is behind these
+abbrev pub TaskEndsBehind : Task → List Act → PortSeen → PortSeen → BehindSeen → BehindSeen → Type 0
+TaskEndsBehind (Relaying c) acts stdin stdout source sink = EndsFar c acts stdin stdout source sink
+TaskEndsBehind other acts stdin stdout source sink = Unit {0}
 
 -- the answers that a task can get from any world; each may also be want of memory
 abbrev pub Answers : Task → Outcome → Type 0

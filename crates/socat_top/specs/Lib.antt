@@ -7,6 +7,7 @@ pub mod Kept
 pub mod Left
 pub mod Notes
 pub mod Numbered
+pub mod Programs
 pub mod Runs
 pub mod Scripts
 pub mod Stream

@@ -30,7 +30,8 @@ pub fn socat<W: World>(alloc: Global, world: &mut W, words: &[Text], turns: u64)
     ensures tells { is_some (W.seen world.new).told ≡ is_some (W.seen world.old).told }
     ensures failed { is_failure result ≡ true → Risen (W.seen world.old).faults (W.seen world.new).faults }
     ensures stopped { StopCause turns (W.seen world.old).waits (W.seen world.new).waits (W.seen world.old).stops (W.seen world.new).stops result }
-    ensures complete { CompletesTask (task words.now) turns (W.seen world.old).faults (W.seen world.new).faults (W.seen world.old).waits (W.seen world.new).waits (W.seen world.old).stops (W.seen world.new).stops result }
+    ensures complete { CompletesTask (task words.now) turns (W.seen world.old).faults (W.seen world.new).faults (W.seen world.old).waits
+        (W.seen world.new).waits (W.seen world.old).stops (W.seen world.new).stops result }
 {
     match command_of(alloc, words) {
         Ok(command) => obey(alloc, world, &command, turns),
@@ -44,12 +45,14 @@ fn obey<W: World>(alloc: Global, world: &mut W, command: &Command, turns: u64) -
     requires fit { IsFit command.now }
     requires free { (p : Spot) → (W.seen world.old).held p ≡ Free }
     ensures free { (p : Spot) → (W.seen world.new).held p ≡ Free }
-    ensures headline { (before : History) → (W.seen world.old).told ≡ Some before → Leaves (command_task command.now) turns before (W.seen world.new).told result }
+    ensures headline { (before : History) → (W.seen world.old).told ≡ Some before
+        → Leaves (command_task command.now) turns before (W.seen world.new).told result }
     ensures answers { Answers (command_task command.now) result }
     ensures tells { is_some (W.seen world.new).told ≡ is_some (W.seen world.old).told }
     ensures failed { is_failure result ≡ true → Risen (W.seen world.old).faults (W.seen world.new).faults }
     ensures stopped { StopCause turns (W.seen world.old).waits (W.seen world.new).waits (W.seen world.old).stops (W.seen world.new).stops result }
-    ensures complete { CompletesTask (command_task command.now) turns (W.seen world.old).faults (W.seen world.new).faults (W.seen world.old).waits (W.seen world.new).waits (W.seen world.old).stops (W.seen world.new).stops result }
+    ensures complete { CompletesTask (command_task command.now) turns (W.seen world.old).faults (W.seen world.new).faults
+        (W.seen world.old).waits (W.seen world.new).waits (W.seen world.old).stops (W.seen world.new).stops result }
 {
     match command {
         Command::Relay(config) => run_relay(alloc, world, config, turns),
@@ -85,7 +88,8 @@ fn run_relay<W: World>(alloc: Global, world: &mut W, config: &Config, turns: u64
     ensures tells { is_some (W.seen world.new).told ≡ is_some (W.seen world.old).told }
     ensures failed { is_failure result ≡ true → Risen (W.seen world.old).faults (W.seen world.new).faults }
     ensures stopped { StopCause turns (W.seen world.old).waits (W.seen world.new).waits (W.seen world.old).stops (W.seen world.new).stops result }
-    ensures complete { Completes turns (W.seen world.old).faults (W.seen world.new).faults (W.seen world.old).waits (W.seen world.new).waits (W.seen world.old).stops (W.seen world.new).stops result }
+    ensures complete { Completes turns (W.seen world.old).faults (W.seen world.new).faults (W.seen world.old).waits (W.seen world.new).waits
+        (W.seen world.old).stops (W.seen world.new).stops result }
 {
     let outcome = relay(alloc, world, config, turns);
     conclude(alloc, world, outcome)

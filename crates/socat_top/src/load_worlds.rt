@@ -102,7 +102,8 @@ fn add_pieces(
 
 /// The ends of both inputs of a session.
 fn add_ends(world: &mut MemWorld, session: u32) -> Result<(), NoMemory>
-    ensures script { OnOk result (world.new.script ≡ record world.old.script { reads = world.old.script.reads ++ end_line (left_place session) ∷ end_line (right_place session) ∷ [] }) }
+    ensures script { OnOk result (world.new.script ≡ record world.old.script
+        { reads = world.old.script.reads ++ end_line (left_place session) ∷ end_line (right_place session) ∷ [] }) }
     ensures told { (⟦<MemWorld as World>⟧.seen world.new).told ≡ (⟦<MemWorld as World>⟧.seen world.old).told }
     ensures held { (p : Spot) → (⟦<MemWorld as World>⟧.seen world.new).held p ≡ (⟦<MemWorld as World>⟧.seen world.old).held p }
 {

@@ -15,7 +15,8 @@ const OUT_OF_MEMORY: &[u8] = b"socat: out of memory\n";
 
 /// Notes the text, where there is one, and gives the answer; want of memory takes its place.
 fn say<W: World>(world: &mut W, text: &[u8], answer: Outcome) -> Outcome
-    ensures said { ((result ≡ answer) × Said text.now (W.seen world.old).told (W.seen world.new).told) ⊎ ((result ≡ outcomes.Memory) × ((W.seen world.new).told ≡ (W.seen world.old).told)) }
+    ensures said { ((result ≡ answer) × Said text.now (W.seen world.old).told (W.seen world.new).told)
+        ⊎ ((result ≡ outcomes.Memory) × ((W.seen world.new).told ≡ (W.seen world.old).told)) }
     ensures held { (p : Spot) → (W.seen world.new).held p ≡ (W.seen world.old).held p }
     ensures faults { (W.seen world.old).faults ≤ (W.seen world.new).faults }
     ensures waits { (W.seen world.new).waits ≡ (W.seen world.old).waits }

@@ -6,10 +6,10 @@ ghost use Rattle.relay_model.specs.Journals.{History};
 ghost use Rattle.session_loop.specs.Courses.{Risen};
 ghost use Rattle.session_loop.specs.Headline.{StopCause, is_failure};
 ghost use Rattle.exit_status.specs.Statuses.{exit_code};
-ghost use Rattle.port_trait.specs.Meanings.{Behind};
+ghost use Rattle.port_trait.specs.Ports.{Agrees};
 ghost use Rattle.port_table.specs.Endings.{OnJoinedBack, handed};
 ghost use Rattle.port_desk.specs.Following.{IsUnused, Passed, StartsInStep};
-ghost use Rattle.socat_top.specs.Behind.{far_bytes, far_faults, told_behind};
+ghost use Rattle.socat_top.specs.Behind.{told_behind};
 ghost use Rattle.socat_top.specs.Kept.{history_of};
 ghost use Rattle.socat_top.specs.Headline.{Answers, CompletesTask, Leaves, TaskEnds, TaskEndsBehind};
 ghost use Rattle.socat_top.specs.Tasks.{task};
@@ -42,15 +42,29 @@ pub fn run<M: Maker + Drop, P: Poller + Drop, I: Port, O: Port, E: Port>(
 ) -> Shipped<I, O, E>
     requires free { (p : Spot) → (⟦<Desk<M, P, I, O, E> as World>⟧.seen desk).held p ≡ Free }
     ensures status { result.status ≡ exit_code result.outcome }
-    ensures headline { (before : History) → (⟦<Desk<M, P, I, O, E> as World>⟧.seen desk).told ≡ Some before → Leaves (task words.now) turns before (Some (history_of result.kept)) result.outcome }
-    ensures passed { (before : History) → (⟦<Desk<M, P, I, O, E> as World>⟧.seen desk).told ≡ Some before → Passed before desk.ports.table.input.port.gave desk.ports.table.output.port.took desk.ports.table.errors.port.took desk.ports.table.input.port.ended → Passed (history_of result.kept) (I.gave (handed result.standard.stdin)) (O.took (handed result.standard.stdout)) (E.took (handed result.standard.stderr)) (I.ended (handed result.standard.stdin)) }
-    ensures ends { (⟦<Desk<M, P, I, O, E> as World>⟧.seen desk).told ≡ Some (record { acts = []; asked = [] }) → IsUnused desk.ports.table.input.port.gave desk.ports.table.output.port.took desk.ports.table.errors.port.took → TaskEnds (task words.now) result.kept.journal.acts (I.gave (handed result.standard.stdin)) (O.took (handed result.standard.stdout)) (I.ended (handed result.standard.stdin)) }
-    ensures stdin_behind { OnJoinedBack (λ port. Behind (I.gave port) (I.took port) (I.behind_gave port) (I.behind_took port) (I.behind_left port) (I.behind_faults port) (I.ended port)) result.standard.stdin }
-    ensures stdout_behind { OnJoinedBack (λ port. Behind (O.gave port) (O.took port) (O.behind_gave port) (O.behind_took port) (O.behind_left port) (O.behind_faults port) (O.ended port)) result.standard.stdout }
-    ensures behind { (⟦<Desk<M, P, I, O, E> as World>⟧.seen desk).told ≡ Some (record { acts = []; asked = [] }) → IsUnused desk.ports.table.input.port.gave desk.ports.table.output.port.took desk.ports.table.errors.port.took → TaskEndsBehind (task words.now) result.kept.journal.acts (far_bytes (I.gave (handed result.standard.stdin)) (told_behind I.behind_gave result.standard.stdin)) (far_bytes (O.took (handed result.standard.stdout)) (told_behind O.behind_took result.standard.stdout)) (told_behind I.behind_left result.standard.stdin) (far_faults (told_behind O.behind_took result.standard.stdout) (told_behind O.behind_faults result.standard.stdout)) }
+    ensures headline { (before : History) → (⟦<Desk<M, P, I, O, E> as World>⟧.seen desk).told ≡ Some before
+        → Leaves (task words.now) turns before (Some (history_of result.kept)) result.outcome }
+    ensures passed { let stdin = I.seen (handed result.standard.stdin) in let stdout = O.seen (handed result.standard.stdout) in
+        let stderr = E.seen (handed result.standard.stderr) in
+        (before : History) → (⟦<Desk<M, P, I, O, E> as World>⟧.seen desk).told ≡ Some before
+        → Passed before desk.ports.table.input.port.gave desk.ports.table.output.port.took desk.ports.table.errors.port.took
+        desk.ports.table.input.port.ended
+        → Passed (history_of result.kept) stdin.gave stdout.took stderr.took stdin.ended }
+    ensures ends { let stdin = I.seen (handed result.standard.stdin) in let stdout = O.seen (handed result.standard.stdout) in
+        (⟦<Desk<M, P, I, O, E> as World>⟧.seen desk).told ≡ Some (record { acts = []; asked = [] })
+        → IsUnused desk.ports.table.input.port.gave desk.ports.table.output.port.took desk.ports.table.errors.port.took
+        → TaskEnds (task words.now) result.kept.journal.acts stdin.gave stdout.took stdin.ended }
+    ensures stdin_behind { OnJoinedBack (λ port. Agrees (I.seen port)) result.standard.stdin }
+    ensures stdout_behind { OnJoinedBack (λ port. Agrees (O.seen port)) result.standard.stdout }
+    ensures behind { let stdin = I.seen (handed result.standard.stdin) in let stdout = O.seen (handed result.standard.stdout) in
+        (⟦<Desk<M, P, I, O, E> as World>⟧.seen desk).told ≡ Some (record { acts = []; asked = [] })
+        → IsUnused desk.ports.table.input.port.gave desk.ports.table.output.port.took desk.ports.table.errors.port.took
+        → TaskEndsBehind (task words.now) result.kept.journal.acts stdin stdout
+        (told_behind I.seen result.standard.stdin) (told_behind O.seen result.standard.stdout) }
     ensures answers { Answers (task words.now) result.outcome }
     ensures complete { let before = ⟦<Desk<M, P, I, O, E> as World>⟧.seen desk in
-        CompletesTask (task words.now) turns before.faults result.counts.faults before.waits result.counts.waits before.stops result.counts.stops result.outcome }
+        CompletesTask (task words.now) turns before.faults result.counts.faults before.waits result.counts.waits
+        before.stops result.counts.stops result.outcome }
     ensures failed { is_failure result.outcome ≡ true → Risen (⟦<Desk<M, P, I, O, E> as World>⟧.seen desk).faults result.counts.faults }
     ensures stopped { let before = ⟦<Desk<M, P, I, O, E> as World>⟧.seen desk in
         StopCause turns before.waits result.counts.waits before.stops result.counts.stops result.outcome }
@@ -79,15 +93,24 @@ fn follow<M: Maker + Drop, P: Poller + Drop, I: Port, O: Port, E: Port, B: Begin
     turns: u64,
 ) -> (Outcome, Desk<M, P, I, O, E>)
     requires free { (p : Spot) → (⟦<Desk<M, P, I, O, E> as World>⟧.seen desk).held p ≡ Free }
-    requires start { B.start ≡ record { told = desk.log.recording.told; gave = desk.ports.table.input.port.gave; took = desk.ports.table.output.port.took; said = desk.ports.table.errors.port.took; ended = desk.ports.table.input.port.ended } }
+    requires start { B.start ≡ record {
+      told = desk.log.recording.told;
+      gave = desk.ports.table.input.port.gave;
+      took = desk.ports.table.output.port.took;
+      said = desk.ports.table.errors.port.took;
+      ended = desk.ports.table.input.port.ended;
+    } }
     ensures free { (p : Spot) → (⟦<Desk<M, P, I, O, E> as World>⟧.seen result.1).held p ≡ Free }
     ensures headline { (before : History) → desk.log.recording.told ≡ Some before → Leaves (task words.now) turns before result.1.log.recording.told result.0 }
     ensures tells { is_some result.1.log.recording.told ≡ is_some desk.log.recording.told }
-    ensures passed { StartsInStep B.start → IfSome result.1.log.recording.told (λ history. Passed history result.1.ports.table.input.port.gave result.1.ports.table.output.port.took result.1.ports.table.errors.port.took result.1.ports.table.input.port.ended) }
+    ensures passed { let streams = result.1.ports.table in
+        StartsInStep B.start → IfSome result.1.log.recording.told
+        (λ history. Passed history streams.input.port.gave streams.output.port.took streams.errors.port.took streams.input.port.ended) }
     ensures answers { Answers (task words.now) result.0 }
     ensures complete { let before = ⟦<Desk<M, P, I, O, E> as World>⟧.seen desk in let after = ⟦<Desk<M, P, I, O, E> as World>⟧.seen result.1 in
         CompletesTask (task words.now) turns before.faults after.faults before.waits after.waits before.stops after.stops result.0 }
-    ensures failed { is_failure result.0 ≡ true → Risen (⟦<Desk<M, P, I, O, E> as World>⟧.seen desk).faults (⟦<Desk<M, P, I, O, E> as World>⟧.seen result.1).faults }
+    ensures failed { is_failure result.0 ≡ true
+        → Risen (⟦<Desk<M, P, I, O, E> as World>⟧.seen desk).faults (⟦<Desk<M, P, I, O, E> as World>⟧.seen result.1).faults }
     ensures stopped { let before = ⟦<Desk<M, P, I, O, E> as World>⟧.seen desk in let after = ⟦<Desk<M, P, I, O, E> as World>⟧.seen result.1 in
         StopCause turns before.waits after.waits before.stops after.stops result.0 }
 {

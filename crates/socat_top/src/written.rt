@@ -8,15 +8,16 @@ ghost use Rattle.session_loop.specs.Courses.{Risen};
 ghost use Rattle.session_loop.specs.Headline.{StopCause, is_failure};
 ghost use Rattle.exit_status.specs.Statuses.{exit_code};
 ghost use Rattle.socat_top.specs.declared.written.Saving.TheVariants as savings;
-ghost use Rattle.port_trait.specs.Meanings.{Behind};
+ghost use Rattle.port_trait.specs.Ports.{Agrees};
 ghost use Rattle.port_table.specs.Endings.{OnJoinedBack, handed};
 ghost use Rattle.port_desk.specs.Following.{IsUnused, Passed};
-ghost use Rattle.socat_top.specs.Behind.{far_bytes, far_faults, told_behind};
+ghost use Rattle.socat_top.specs.Behind.{told_behind};
 ghost use Rattle.socat_top.specs.Kept.{history_of};
 ghost use Rattle.socat_top.specs.Headline.{Answers, CompletesTask, Leaves, TaskEnds, TaskEndsBehind};
 ghost use Rattle.socat_top.specs.Tasks.{task};
 ghost use Rattle.socat_top.specs.Written.{TookText, asks_for_journal, is_asked, is_note, journal_name, status_with, told_before, without_last_note, words_of_run};
 
+use crate::creations::{Creation, keep_history};
 use crate::files::JournalFile;
 use crate::runs::{Shipped, run};
 use journal_text::write_front;
@@ -70,15 +71,29 @@ where
     ensures unsaved { result.saving ≡ savings.Failed → Risen (F.faults file.old) (F.faults file.new) }
     ensures status { result.status ≡ status_with result.shipped.status result.saving }
     ensures run_status { result.shipped.status ≡ exit_code result.shipped.outcome }
-    ensures headline { (before : History) → told_before (asks_for_journal words.now) (⟦<Desk<M, P, I, O, E> as World>⟧.seen desk).told ≡ Some before → Leaves (task (words_of_run words.now)) turns before (Some (history_of result.shipped.kept)) result.shipped.outcome }
-    ensures passed { (before : History) → told_before (asks_for_journal words.now) (⟦<Desk<M, P, I, O, E> as World>⟧.seen desk).told ≡ Some before → IsUnused desk.ports.table.input.port.gave desk.ports.table.output.port.took desk.ports.table.errors.port.took → Passed (history_of result.shipped.kept) (I.gave (handed result.shipped.standard.stdin)) (O.took (handed result.shipped.standard.stdout)) (E.took (handed result.shipped.standard.stderr)) (I.ended (handed result.shipped.standard.stdin)) }
-    ensures ends { told_before (asks_for_journal words.now) (⟦<Desk<M, P, I, O, E> as World>⟧.seen desk).told ≡ Some (record { acts = []; asked = [] }) → IsUnused desk.ports.table.input.port.gave desk.ports.table.output.port.took desk.ports.table.errors.port.took → TaskEnds (task (words_of_run words.now)) result.shipped.kept.journal.acts (I.gave (handed result.shipped.standard.stdin)) (O.took (handed result.shipped.standard.stdout)) (I.ended (handed result.shipped.standard.stdin)) }
-    ensures stdin_behind { OnJoinedBack (λ port. Behind (I.gave port) (I.took port) (I.behind_gave port) (I.behind_took port) (I.behind_left port) (I.behind_faults port) (I.ended port)) result.shipped.standard.stdin }
-    ensures stdout_behind { OnJoinedBack (λ port. Behind (O.gave port) (O.took port) (O.behind_gave port) (O.behind_took port) (O.behind_left port) (O.behind_faults port) (O.ended port)) result.shipped.standard.stdout }
-    ensures behind { told_before (asks_for_journal words.now) (⟦<Desk<M, P, I, O, E> as World>⟧.seen desk).told ≡ Some (record { acts = []; asked = [] }) → IsUnused desk.ports.table.input.port.gave desk.ports.table.output.port.took desk.ports.table.errors.port.took → TaskEndsBehind (task (words_of_run words.now)) result.shipped.kept.journal.acts (far_bytes (I.gave (handed result.shipped.standard.stdin)) (told_behind I.behind_gave result.shipped.standard.stdin)) (far_bytes (O.took (handed result.shipped.standard.stdout)) (told_behind O.behind_took result.shipped.standard.stdout)) (told_behind I.behind_left result.shipped.standard.stdin) (far_faults (told_behind O.behind_took result.shipped.standard.stdout) (told_behind O.behind_faults result.shipped.standard.stdout)) }
+    ensures headline { (before : History)
+        → told_before (asks_for_journal words.now) (⟦<Desk<M, P, I, O, E> as World>⟧.seen desk).told ≡ Some before
+        → Leaves (task (words_of_run words.now)) turns before (Some (history_of result.shipped.kept)) result.shipped.outcome }
+    ensures passed { let stdin = I.seen (handed result.shipped.standard.stdin) in
+        let stdout = O.seen (handed result.shipped.standard.stdout) in let stderr = E.seen (handed result.shipped.standard.stderr) in
+        (before : History) → told_before (asks_for_journal words.now) (⟦<Desk<M, P, I, O, E> as World>⟧.seen desk).told ≡ Some before
+        → IsUnused desk.ports.table.input.port.gave desk.ports.table.output.port.took desk.ports.table.errors.port.took
+        → Passed (history_of result.shipped.kept) stdin.gave stdout.took stderr.took stdin.ended }
+    ensures ends { let stdin = I.seen (handed result.shipped.standard.stdin) in let stdout = O.seen (handed result.shipped.standard.stdout) in
+        told_before (asks_for_journal words.now) (⟦<Desk<M, P, I, O, E> as World>⟧.seen desk).told ≡ Some (record { acts = []; asked = [] })
+        → IsUnused desk.ports.table.input.port.gave desk.ports.table.output.port.took desk.ports.table.errors.port.took
+        → TaskEnds (task (words_of_run words.now)) result.shipped.kept.journal.acts stdin.gave stdout.took stdin.ended }
+    ensures stdin_behind { OnJoinedBack (λ port. Agrees (I.seen port)) result.shipped.standard.stdin }
+    ensures stdout_behind { OnJoinedBack (λ port. Agrees (O.seen port)) result.shipped.standard.stdout }
+    ensures behind { let stdin = I.seen (handed result.shipped.standard.stdin) in let stdout = O.seen (handed result.shipped.standard.stdout) in
+        told_before (asks_for_journal words.now) (⟦<Desk<M, P, I, O, E> as World>⟧.seen desk).told ≡ Some (record { acts = []; asked = [] })
+        → IsUnused desk.ports.table.input.port.gave desk.ports.table.output.port.took desk.ports.table.errors.port.took
+        → TaskEndsBehind (task (words_of_run words.now)) result.shipped.kept.journal.acts stdin stdout
+        (told_behind I.seen result.shipped.standard.stdin) (told_behind O.seen result.shipped.standard.stdout) }
     ensures answers { Answers (task (words_of_run words.now)) result.shipped.outcome }
-    ensures complete { let before = ⟦<Desk<M, P, I, O, E> as World>⟧.seen desk in
-        CompletesTask (task (words_of_run words.now)) turns before.faults result.shipped.counts.faults before.waits result.shipped.counts.waits before.stops result.shipped.counts.stops result.shipped.outcome }
+    ensures complete { let before = ⟦<Desk<M, P, I, O, E> as World>⟧.seen desk in let after = result.shipped.counts in
+        CompletesTask (task (words_of_run words.now)) turns before.faults after.faults before.waits after.waits
+        before.stops after.stops result.shipped.outcome }
     ensures failed { is_failure result.shipped.outcome ≡ true → Risen (⟦<Desk<M, P, I, O, E> as World>⟧.seen desk).faults result.shipped.counts.faults }
     ensures stopped { let before = ⟦<Desk<M, P, I, O, E> as World>⟧.seen desk in
         StopCause turns before.waits result.shipped.counts.waits before.stops result.shipped.counts.stops result.shipped.outcome }
@@ -87,15 +102,16 @@ where
         return with_saving(run(alloc, desk, words, turns), Saving::NotAsked);
     };
     let made = file.create(name);
-    desk.keep();
+    let creation = keep_history(&mut desk, file, name, made);
     let shipped = run(alloc, desk, words, turns);
-    let saving = save(alloc, shipped.kept.journal(), file, made);
+    let saving = save(alloc, shipped.kept.journal(), file, creation);
     with_saving(shipped, saving)
 }
 
 /// The name of the journal's file and the words behind it, where the first word is the flag.
 pub fn journal_flag(words: &[Text]) -> Option<(&[u8], &[Text])>
-    ensures flag { MatchOption result ((asks_for_journal words.now ≡ false) × (words_of_run words.now ≡ words.now)) (λ found. (asks_for_journal words.now ≡ true) × (words_of_run words.now ≡ found.1.now)) }
+    ensures flag { MatchOption result ((asks_for_journal words.now ≡ false) × (words_of_run words.now ≡ words.now))
+        (λ found. (asks_for_journal words.now ≡ true) × (words_of_run words.now ≡ found.1.now)) }
     ensures named { IfSome result (λ found. found.0.now ≡ journal_name words.now) }
 {
     let [first, others @ ..] = words else {
@@ -108,15 +124,20 @@ pub fn journal_flag(words: &[Text]) -> Option<(&[u8], &[Text])>
 }
 
 /// Writes what was done to the file, where that was made.
-fn save<F: JournalFile>(alloc: Global, journal: &Journal, file: &mut F, made: bool) -> Saving
+fn save<F: JournalFile>(
+    alloc: Global,
+    journal: &Journal,
+    file: &mut F,
+    creation: Creation,
+) -> Saving
     ensures asked { is_asked result ≡ true }
-    ensures made { result ≡ savings.Saved → made ≡ true }
-    ensures unmade { OnFalse made (file.new ≡ file.old) }
+    ensures made { result ≡ savings.Saved → creation.made ≡ true }
+    ensures unmade { OnFalse creation.made (file.new ≡ file.old) }
     ensures saved { result ≡ savings.Saved → TookText (F.took file.old) (F.took file.new) (without_last_note journal.now.acts) }
     ensures finished { result ≡ savings.Saved → F.finished file.new ≡ true }
-    ensures unsaved { OnTrue made (result ≡ savings.Failed → Risen (F.faults file.old) (F.faults file.new)) }
+    ensures unsaved { OnTrue creation.made (result ≡ savings.Failed → Risen (F.faults file.old) (F.faults file.new)) }
 {
-    if !made {
+    if !creation.made() {
         return Saving::Failed;
     }
     let Ok(text) = write_front(alloc, journal, count_without_last_note(journal)) else {

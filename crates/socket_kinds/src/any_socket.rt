@@ -43,9 +43,11 @@ impl<S: Socket, D: Socket, L: Socket> Socket for AnySocket<S, D, L> {
 
     ghost hints = { told_by S.hints D.hints L.hints };
 
-    ghost answers_settle = { λ old new settled. SameSort (λ before now. S.answers_settle before now settled) (λ before now. D.answers_settle before now settled) (λ before now. L.answers_settle before now settled) old new };
+    ghost answers_settle = { λ old new settled. SameSort (λ before now. S.answers_settle before now settled)
+        (λ before now. D.answers_settle before now settled) (λ before now. L.answers_settle before now settled) old new };
 
-    ghost answers_finish = { λ old new how shutting. SameSort (λ before now. S.answers_finish before now how shutting) (λ before now. D.answers_finish before now how shutting) (λ before now. L.answers_finish before now how shutting) old new };
+    ghost answers_finish = { λ old new how shutting. SameSort (λ before now. S.answers_finish before now how shutting)
+        (λ before now. D.answers_finish before now how shutting) (λ before now. L.answers_finish before now how shutting) old new };
 
     fn settle(&mut self) -> Settled {
         match self {

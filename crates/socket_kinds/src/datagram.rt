@@ -49,7 +49,14 @@ impl<U> Model for DatagramSocket<U> {
 
     ghost Value = { DatagramState U };
 
-    ghost view = { λ socket. record { wire = socket.wire; partner = socket.partner; packet = socket.packet; rest = if socket.waiting then Some socket.packet else None; cut_short = socket.cut_short; single = socket.single } };
+    ghost view = { λ socket. record {
+      wire = socket.wire;
+      partner = socket.partner;
+      packet = socket.packet;
+      rest = if socket.waiting then Some socket.packet else None;
+      cut_short = socket.cut_short;
+      single = socket.single;
+    } };
 }
 
 impl DatagramSocket {

@@ -4,3 +4,4 @@ pub mod Looking
 pub mod Makers
 pub mod Makings
 pub mod Ports
+pub mod Reserves

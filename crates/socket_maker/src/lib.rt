@@ -9,6 +9,7 @@ mod maker;
 mod making;
 mod port;
 mod reaching;
+mod reserve;
 
 pub use aims::{Aim, Way};
 pub use local::door_address;
@@ -16,3 +17,4 @@ pub use looking::LookingPort;
 pub use maker::{SocketMaker, is_starved};
 pub use making::bind_door;
 pub use port::{HostPort, PlainPort};
+pub use reserve::{Reserve, can_have};

@@ -1,9 +1,10 @@
 // The maker of sockets, which counts what it answers.
 ghost use Rattle.std.specs.Prelude.{◌≡◌, ◌≢◌, true, false, None, Some, IfSome, is_some};
 ghost use Rattle.port_trait.specs.Counting.{Counted};
-ghost use Rattle.port_trait.specs.Made.{making_failed, making_stalled, IsAtOnce, peer_failed, peer_stalled, came_after};
+ghost use Rattle.port_trait.specs.Made.{making_failed, making_stalled, IsAtOnce};
+ghost use Rattle.port_trait.specs.Makers.{Opens, Listens, LetsIn};
 ghost use Rattle.port_trait.specs.declared.makers.Making.TheVariants as makings;
-ghost use Rattle.socket_maker.specs.Makers.{risen_if};
+ghost use Rattle.socket_maker.specs.Makers.{risen_if, seen_of};
 ghost use Rattle.port_trait.specs.Counted.{risen};
 ghost use Rattle.port_trait.specs.declared.makers.MadePeer.TheVariants as peers;
 ghost use Rattle.relay_model.specs.declared.acts.Peer.TheVariants as whose;
@@ -23,7 +24,7 @@ use crate::reaching::{reach_written, written_out};
 use host_lookup::{Lookup, Lookups, Written, written_host};
 use mio::Registry;
 use mio_poller::MioPoller;
-use port_trait::{MadePeer, Maker, Making};
+use port_trait::{MadePeer, Maker, Making, Port};
 use relay_model::{Family, Peer, Place, Single, SocketOptions, Text};
 use std::alloc::Global;
 use std::fs::Files;
@@ -253,11 +254,7 @@ where
 {
     type Made = HostPort;
 
-    ghost faults = { λ maker. maker.faults };
-
-    ghost stalls = { λ maker. maker.stalls };
-
-    ghost came = { λ maker. maker.came };
+    ghost seen = { seen_of };
 
     fn make(
         &mut self,
@@ -271,9 +268,7 @@ where
         ensures other { opened_sort single.now.target ≡ None → result ≡ makings.Failed }
         ensures aims { IfSome (aim_of single.now.target single.now.options.socket)
             (λ aim. IfSome (host_of single.now.target) (λ host. OnPort (Aims aim host) result)) }
-        ensures came { self.new.came ≡ self.old.came }
-        ensures faults { Counted (making_failed result) self.old.faults self.new.faults }
-        ensures stalls { Counted (making_stalled result) self.old.stalls self.new.stalls }
+        ensures opens { Opens (seen_of self.old) (seen_of self.new) (record { place = _place; single = single.now; behind = _behind }) result }
     {
         let making = self.open(key, single);
         self.count_making(&making);
@@ -282,12 +277,9 @@ where
 
     fn listen(&mut self, key: usize, single: &Single) -> Making<HostPort>
         ensures fresh { OnPort IsFreshPort result }
-        ensures at_once { IsAtOnce result }
         ensures sort { IfSome (port_sort result) (λ sort. sort ≡ Listening) }
         ensures other { listens single.now.target ≡ false → result ≡ makings.Failed }
-        ensures came { self.new.came ≡ self.old.came }
-        ensures faults { Counted (making_failed result) self.old.faults self.new.faults }
-        ensures stalls { Counted (making_stalled result) self.old.stalls self.new.stalls }
+        ensures listens { Listens (seen_of self.old) (seen_of self.new) result }
     {
         let making = listen_socket(self.rt, self.alloc, &self.registry, key, single);
         self.count_making(&making);
@@ -300,9 +292,8 @@ where
         ensures no_door { is_door_port door.old ≡ false → result ≡ peers.Failed }
         ensures left_off { has_left_off_at door.new ≡ true → result ≡ peers.NoPeer }
         ensures addressed { is_unix_door_port door.old ≡ false → OnCame (λ peer. peer ≢ whose.Local) result }
-        ensures came { self.new.came ≡ came_after self.old.came result }
-        ensures faults { Counted (peer_failed result) self.old.faults self.new.faults }
-        ensures stalls { Counted (peer_stalled result) self.old.stalls self.new.stalls }
+        ensures lets_in { let at = ⟦<HostPort as Port>⟧.seen in
+            LetsIn (seen_of self.old) (seen_of self.new) (at door.old) (at door.new) result }
     {
         match self.take_peer(door, key) {
             MadePeer::Came(port, peer) => {

@@ -56,8 +56,8 @@ where
 }
 
 /// Listens at an address: TCP, UDP or a Unix socket. The registry reports the door under `key`. It answers `Failed`
-/// where the address is of another kind, where a text isn't UTF-8, where the system refuses, and at `UDP-LISTEN` with `fork`, whose door and peers share a socket and are no ports of this
-/// crate's; never `Later`.
+/// where the address is of another kind, where a text isn't UTF-8, where the system refuses, and at `UDP-LISTEN` with
+/// `fork`, whose door and peers share a socket and are no ports of this crate's; never `Later`.
 pub(crate) fn listen_socket<R>(
     rt: R,
     alloc: Global,

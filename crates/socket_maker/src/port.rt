@@ -2,6 +2,7 @@
 ghost use Rattle.std.specs.Prelude.{◌≡◌, true, false, None};
 ghost use Rattle.port_trait.specs.Counting.{Tallied};
 ghost use Rattle.port_trait.specs.Meanings.{settle_event};
+ghost use Rattle.port_trait.specs.Ports.{untold};
 ghost use Rattle.socket_maker.specs.Ports.{Follows, begun_at, counts_at, ended_at, hints_at, may_hint_at};
 
 use crate::looking::LookingPort;
@@ -43,19 +44,13 @@ impl HostPort {
 }
 
 impl Port for HostPort {
-    ghost hints = { hints_at };
-
-    ghost hinting = { may_hint_at };
-
-    ghost counts = { counts_at };
-
-    ghost begun = { begun_at };
-
-    ghost ended = { ended_at };
-
-    ghost joins = { λ _. true };
-
-    ghost child = { λ _. false };
+    ghost seen = { λ port. record untold {
+      hints = hints_at port;
+      hinting = may_hint_at port;
+      counts = counts_at port;
+      begun = begun_at port;
+      ended = ended_at port;
+    } };
 
     fn begin(&mut self) -> Begun {
         match self {

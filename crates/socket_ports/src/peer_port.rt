@@ -3,7 +3,8 @@ ghost use Rattle.std.specs.Prelude.{◌≡◌, ◌≢◌, ◌<◌, ◌≤◌, �
 ghost use Rattle.port_trait.specs.Counting.{Tallied};
 ghost use Rattle.port_trait.specs.Made.{IsAtOnce};
 ghost use Rattle.port_trait.specs.Hinting.{IsWithin};
-ghost use Rattle.port_trait.specs.Meanings.{Gives, Accepts, AcceptsWhole, AcceptsAll, is_end, read_event, write_event, shut_event};
+ghost use Rattle.port_trait.specs.Meanings.{Accepts, AcceptsAll, write_event};
+ghost use Rattle.port_trait.specs.Ports.{untold};
 ghost use Rattle.port_trait.specs.declared.answers.Begun.TheVariants as begins;
 ghost use Rattle.port_trait.specs.declared.answers.Settled.TheVariants as settles;
 ghost use Rattle.port_trait.specs.declared.answers.PortReap.TheVariants as reaps;
@@ -122,17 +123,7 @@ impl PeerPort {
 }
 
 impl Port for PeerPort {
-    ghost hinting = { blocked_hint };
-
-    ghost counts = { λ port. port.counts };
-
-    ghost begun = { λ port. port.begun };
-
-    ghost ended = { λ port. port.ended };
-
-    ghost joins = { λ _. true };
-
-    ghost child = { λ _. false };
+    ghost seen = { λ port. record untold { hinting = blocked_hint port; counts = port.counts; begun = port.begun; ended = port.ended } };
 
     fn begin(&mut self) -> Begun
         ensures begun { result ≡ begins.Begun }
@@ -150,13 +141,7 @@ impl Port for PeerPort {
     }
 
     /// Takes what the socket has, and then gives the peer's first datagram, in parts where it is longer than `into`.
-    fn read(&mut self, into: &mut [u8]) -> Got
-        requires { 0 < length into.old }
-        ensures gives { Gives None None into.new result }
-        ensures ended { self.new.ended ≡ is_end result }
-        ensures kept { self.new.begun ≡ self.old.begun }
-        ensures counts { Tallied (read_event result) self.old.counts self.new.counts }
-    {
+    fn read(&mut self, into: &mut [u8]) -> Got {
         let got = self.seat.read(into);
         self.ended = got == Got::End;
         count_reading(&mut self.counts, got);
@@ -164,23 +149,13 @@ impl Port for PeerPort {
     }
 
     /// Sends at most 65,507 bytes as one datagram.
-    fn write(&mut self, bytes: &[u8]) -> Took
-        requires { 0 < length bytes.now }
-        ensures accepts { Accepts None None bytes.now result }
-        ensures kept { (self.new.begun ≡ self.old.begun) × (self.new.ended ≡ self.old.ended) }
-        ensures counts { Tallied (write_event result) self.old.counts self.new.counts }
-    {
+    fn write(&mut self, bytes: &[u8]) -> Took {
         let took = send_front(&self.seat, bytes);
         self.count_writing(took);
         took
     }
 
-    fn send(&mut self, bytes: &[u8]) -> Took
-        requires { 0 < length bytes.now }
-        ensures accepts { AcceptsWhole None None bytes.now result }
-        ensures kept { (self.new.begun ≡ self.old.begun) × (self.new.ended ≡ self.old.ended) }
-        ensures counts { Tallied (write_event result) self.old.counts self.new.counts }
-    {
+    fn send(&mut self, bytes: &[u8]) -> Took {
         let took = if bytes.len() > usize::from(LONGEST_PACKET) {
             Took::Failed
         } else {
@@ -191,11 +166,7 @@ impl Port for PeerPort {
     }
 
     /// Sends until all is accepted. Where there is no room it fails, since no call of it waits.
-    fn put_all(&mut self, bytes: &[u8]) -> Took
-        ensures accepts { AcceptsAll None None bytes.now result }
-        ensures kept { (self.new.begun ≡ self.old.begun) × (self.new.ended ≡ self.old.ended) }
-        ensures counts { Tallied (write_event result) self.old.counts self.new.counts }
-    {
+    fn put_all(&mut self, bytes: &[u8]) -> Took {
         let took = send_all(&self.seat, bytes);
         self.count_writing(took);
         took
@@ -203,10 +174,7 @@ impl Port for PeerPort {
 
     /// Sends an empty datagram at `Null` (socat(1), `shut-null`). The other ways do nothing, since a datagram has no
     /// end.
-    fn shut(&mut self, how: Shut) -> Shutting
-        ensures kept { (self.new.begun ≡ self.old.begun) × (self.new.ended ≡ self.old.ended) }
-        ensures counts { Tallied (shut_event result) self.old.counts self.new.counts }
-    {
+    fn shut(&mut self, how: Shut) -> Shutting {
         match how {
             Shut::Null => match self.seat.send(&[]) {
                 Took::Took(_) => Shutting::Done,

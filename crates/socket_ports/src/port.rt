@@ -1,7 +1,7 @@
 // The port over a socket, which counts the answers.
 ghost use Rattle.std.specs.Prelude.{◌≡◌, ◌<◌, ◌≤◌, ◌++◌, true, false, length, take, option_map, Some};
-ghost use Rattle.port_trait.specs.Counting.{Tallied};
-ghost use Rattle.port_trait.specs.Meanings.{Gives, Accepts, AcceptsWhole, AcceptsAll, is_end, settle_event, read_event, write_event, shut_event, noted};
+ghost use Rattle.port_trait.specs.Meanings.{settle_event, read_event, write_event, shut_event};
+ghost use Rattle.port_trait.specs.Ports.{Settles, Reads, Writes, Sends, PutsAll, Shuts, untold};
 ghost use Rattle.port_trait.specs.declared.answers.Begun.TheVariants as begins;
 ghost use Rattle.port_trait.specs.declared.answers.PortReap.TheVariants as reaps;
 ghost use Rattle.port_trait.specs.declared.answers.Joining.TheVariants as joining;
@@ -70,25 +70,16 @@ impl<S, G> SocketPort<S, G> {
 }
 
 impl<S: Socket, G: Drop> Port for SocketPort<S, G> {
-    ghost gave = { λ port. S.gave port.socket };
-
-    ghost took = { λ port. S.took port.socket };
-
-    ghost shuts = { λ port. S.shuts port.socket };
-
-    ghost hints = { λ port. Some (S.hints port.socket) };
-
-    ghost hinting = { λ port. S.hints port.socket };
-
-    ghost counts = { λ port. port.counts };
-
-    ghost begun = { λ port. port.begun };
-
-    ghost ended = { λ port. port.ended };
-
-    ghost joins = { λ _. true };
-
-    ghost child = { λ _. false };
+    ghost seen = { λ port. record untold {
+      gave = S.gave port.socket;
+      took = S.took port.socket;
+      shuts = S.shuts port.socket;
+      hints = Some (S.hints port.socket);
+      hinting = S.hints port.socket;
+      counts = port.counts;
+      begun = port.begun;
+      ended = port.ended;
+    } };
 
     /// The socket was opened by what made it.
     fn begin(&mut self) -> Begun
@@ -102,11 +93,8 @@ impl<S: Socket, G: Drop> Port for SocketPort<S, G> {
     /// The socket is asked once.
     fn settle(&mut self) -> Settled
         ensures asked { S.answers_settle self.old.socket self.new.socket result }
-        ensures kept { (S.gave self.new.socket ≡ S.gave self.old.socket) × (S.took self.new.socket ≡ S.took self.old.socket)
-            × (self.new.begun ≡ self.old.begun) × (self.new.ended ≡ self.old.ended) }
-        ensures unshut { S.shuts self.new.socket ≡ S.shuts self.old.socket }
+        ensures settles { let seen = ⟦<SocketPort<S, G> as Port>⟧.seen in Settles (seen self.old) (seen self.new) result }
         ensures counted { self.new.counts ≡ counted (settle_event result) self.old.counts }
-        ensures counts { Tallied (settle_event result) self.old.counts self.new.counts }
     {
         let settled = self.socket.settle();
         count_settling(&mut self.counts, settled);
@@ -115,12 +103,8 @@ impl<S: Socket, G: Drop> Port for SocketPort<S, G> {
 
     fn read(&mut self, into: &mut [u8]) -> Got
         requires { 0 < length into.old }
-        ensures gives { Gives (S.gave self.old.socket) (S.gave self.new.socket) into.new result }
-        ensures ended { self.new.ended ≡ is_end result }
-        ensures kept { (S.took self.new.socket ≡ S.took self.old.socket) × (self.new.begun ≡ self.old.begun) }
-        ensures unshut { S.shuts self.new.socket ≡ S.shuts self.old.socket }
+        ensures reads { let seen = ⟦<SocketPort<S, G> as Port>⟧.seen in Reads (seen self.old) (seen self.new) into.new result }
         ensures counted { self.new.counts ≡ counted (read_event result) self.old.counts }
-        ensures counts { Tallied (read_event result) self.old.counts self.new.counts }
     {
         let got = self.socket.receive(into);
         self.ended = is_end(got);
@@ -130,12 +114,8 @@ impl<S: Socket, G: Drop> Port for SocketPort<S, G> {
 
     fn write(&mut self, bytes: &[u8]) -> Took
         requires { 0 < length bytes.now }
-        ensures accepts { Accepts (S.took self.old.socket) (S.took self.new.socket) bytes.now result }
-        ensures kept { (S.gave self.new.socket ≡ S.gave self.old.socket) × (self.new.begun ≡ self.old.begun)
-            × (self.new.ended ≡ self.old.ended) }
-        ensures unshut { S.shuts self.new.socket ≡ S.shuts self.old.socket }
+        ensures writes { let seen = ⟦<SocketPort<S, G> as Port>⟧.seen in Writes (seen self.old) (seen self.new) bytes.now result }
         ensures counted { self.new.counts ≡ counted (write_event result) self.old.counts }
-        ensures counts { Tallied (write_event result) self.old.counts self.new.counts }
     {
         let took = self.socket.transmit(bytes);
         count_writing(&mut self.counts, took);
@@ -144,12 +124,8 @@ impl<S: Socket, G: Drop> Port for SocketPort<S, G> {
 
     fn send(&mut self, bytes: &[u8]) -> Took
         requires { 0 < length bytes.now }
-        ensures accepts { AcceptsWhole (S.took self.old.socket) (S.took self.new.socket) bytes.now result }
-        ensures kept { (S.gave self.new.socket ≡ S.gave self.old.socket) × (self.new.begun ≡ self.old.begun)
-            × (self.new.ended ≡ self.old.ended) }
-        ensures unshut { S.shuts self.new.socket ≡ S.shuts self.old.socket }
+        ensures sends { let seen = ⟦<SocketPort<S, G> as Port>⟧.seen in Sends (seen self.old) (seen self.new) bytes.now result }
         ensures counted { self.new.counts ≡ counted (write_event result) self.old.counts }
-        ensures counts { Tallied (write_event result) self.old.counts self.new.counts }
     {
         let took = self.socket.transmit_packet(bytes);
         count_writing(&mut self.counts, took);
@@ -158,12 +134,8 @@ impl<S: Socket, G: Drop> Port for SocketPort<S, G> {
 
     /// Writes until all is accepted. Where the socket would block it fails, since no call of a socket waits.
     fn put_all(&mut self, bytes: &[u8]) -> Took
-        ensures accepts { AcceptsAll (S.took self.old.socket) (S.took self.new.socket) bytes.now result }
-        ensures kept { (S.gave self.new.socket ≡ S.gave self.old.socket) × (self.new.begun ≡ self.old.begun)
-            × (self.new.ended ≡ self.old.ended) }
-        ensures unshut { S.shuts self.new.socket ≡ S.shuts self.old.socket }
+        ensures puts { let seen = ⟦<SocketPort<S, G> as Port>⟧.seen in PutsAll (seen self.old) (seen self.new) bytes.now result }
         ensures counted { self.new.counts ≡ counted (write_event result) self.old.counts }
-        ensures counts { Tallied (write_event result) self.old.counts self.new.counts }
     {
         let (count, failed) = transmit_front(&mut self.socket, bytes);
         if failed {
@@ -175,11 +147,8 @@ impl<S: Socket, G: Drop> Port for SocketPort<S, G> {
 
     fn shut(&mut self, how: Shut) -> Shutting
         ensures asked { S.answers_finish self.old.socket self.new.socket how result }
-        ensures told { S.shuts self.new.socket ≡ noted how (S.shuts self.old.socket) }
-        ensures kept { (S.gave self.new.socket ≡ S.gave self.old.socket) × (S.took self.new.socket ≡ S.took self.old.socket)
-            × (self.new.begun ≡ self.old.begun) × (self.new.ended ≡ self.old.ended) }
+        ensures shuts { let seen = ⟦<SocketPort<S, G> as Port>⟧.seen in Shuts (seen self.old) (seen self.new) how result }
         ensures counted { self.new.counts ≡ counted (shut_event result) self.old.counts }
-        ensures counts { Tallied (shut_event result) self.old.counts self.new.counts }
     {
         let shutting = self.socket.finish(how);
         count_shutting(&mut self.counts, shutting);

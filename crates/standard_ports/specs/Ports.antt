@@ -1,5 +1,5 @@
 -- What contracts see of a standard port: what they see of the port that it is.
-use Rattle.std.specs.Prelude.{ℕ, Bool, true, false, List, [], ◌∷◌}
+use Rattle.std.specs.Prelude.{ℕ, Bool, true, false, List, [], ◌∷◌, None}
 use Rattle.standard_ports.specs.declared.direct.DirectPort.{DirectPort}
 use Rattle.standard_ports.specs.declared.direct.DirectPort.TheVariants as directs
 use Rattle.standard_ports.specs.declared.input.InputPort.{InputPort}
@@ -10,8 +10,16 @@ use Rattle.file_ports.specs.Halves.{HalvesState}
 use Rattle.ring_reader.specs.Readers.{ReaderState, given_of}
 use Rattle.ring_writer.specs.Writers.{WriterState, took_of}
 use Rattle.socket_ports.specs.Sockets.{PortState}
+use Rattle.port_trait.specs.Hinting.{all_hints}
 use Rattle.port_trait.specs.Passages.{Passage}
+use Rattle.port_trait.specs.Ports.{PortSeen}
 use Rattle.standard_ports.specs.Told.{ToldState}
+
+-- a pipe hints by its watch, and not as the port beneath: what that tells of its hints is left out
+abbrev pub pipe_seen : {P : Type 0} → (P → PortSeen) → P → PortSeen
+pipe_seen seen pipe =
+    let beneath = seen pipe in
+    record beneath { hints = None; hinting = all_hints }
 
 -- what a port in the loop tells
 abbrev pub of_direct : {T : Type 0} → (PortState (ToldState HalvesState) → T) → (PortState (ToldState HalvesState) → T) → DirectPort → T

@@ -21,39 +21,7 @@ pub enum DirectPort {
 }
 
 impl Port for DirectPort {
-    ghost gave = { of_direct ⟦<PipePort as Port>⟧.gave ⟦<SharedPort as Port>⟧.gave };
-
-    ghost took = { of_direct ⟦<PipePort as Port>⟧.took ⟦<SharedPort as Port>⟧.took };
-
-    ghost shuts = { of_direct ⟦<PipePort as Port>⟧.shuts ⟦<SharedPort as Port>⟧.shuts };
-
-    ghost behind_gave = { of_direct ⟦<PipePort as Port>⟧.behind_gave ⟦<SharedPort as Port>⟧.behind_gave };
-
-    ghost behind_took = { of_direct ⟦<PipePort as Port>⟧.behind_took ⟦<SharedPort as Port>⟧.behind_took };
-
-    ghost behind_faults = { of_direct ⟦<PipePort as Port>⟧.behind_faults ⟦<SharedPort as Port>⟧.behind_faults };
-
-    ghost behind_ends = { of_direct ⟦<PipePort as Port>⟧.behind_ends ⟦<SharedPort as Port>⟧.behind_ends };
-
-    ghost behind_left = { of_direct ⟦<PipePort as Port>⟧.behind_left ⟦<SharedPort as Port>⟧.behind_left };
-
-    ghost served = { of_direct ⟦<PipePort as Port>⟧.served ⟦<SharedPort as Port>⟧.served };
-
-    ghost hints = { of_direct ⟦<PipePort as Port>⟧.hints ⟦<SharedPort as Port>⟧.hints };
-
-    ghost hinting = { of_direct ⟦<PipePort as Port>⟧.hinting ⟦<SharedPort as Port>⟧.hinting };
-
-    ghost behind_finished = { of_direct ⟦<PipePort as Port>⟧.behind_finished ⟦<SharedPort as Port>⟧.behind_finished };
-
-    ghost counts = { of_direct ⟦<PipePort as Port>⟧.counts ⟦<SharedPort as Port>⟧.counts };
-
-    ghost begun = { of_direct ⟦<PipePort as Port>⟧.begun ⟦<SharedPort as Port>⟧.begun };
-
-    ghost ended = { of_direct ⟦<PipePort as Port>⟧.ended ⟦<SharedPort as Port>⟧.ended };
-
-    ghost joins = { of_direct ⟦<PipePort as Port>⟧.joins ⟦<SharedPort as Port>⟧.joins };
-
-    ghost child = { of_direct ⟦<PipePort as Port>⟧.child ⟦<SharedPort as Port>⟧.child };
+    ghost seen = { of_direct ⟦<PipePort as Port>⟧.seen ⟦<SharedPort as Port>⟧.seen };
 
     fn begin(&mut self) -> Begun {
         match self {

@@ -82,8 +82,8 @@ impl<R: Threads + Wait + Copy + Drop> FreshInput<R> {
 
     /// The port. It tells that it gave nothing.
     pub fn into_port(self) -> InputPort<R>
-        ensures told { ⟦<InputPort<R> as Port>⟧.gave result ≡ Some [] }
-        ensures none { IfSome (⟦<InputPort<R> as Port>⟧.gave result) (λ all. all ≡ []) }
+        ensures told { (⟦<InputPort<R> as Port>⟧.seen result).gave ≡ Some [] }
+        ensures none { IfSome (⟦<InputPort<R> as Port>⟧.seen result).gave (λ all. all ≡ []) }
     {
         let FreshInput { port } = self;
         port
@@ -117,8 +117,8 @@ impl<R: Threads + Wait + Copy + Drop> FreshOutput<R> {
 
     /// The port. It tells that it took nothing.
     pub fn into_port(self) -> OutputPort<R>
-        ensures told { ⟦<OutputPort<R> as Port>⟧.took result ≡ Some [] }
-        ensures none { IfSome (⟦<OutputPort<R> as Port>⟧.took result) (λ all. all ≡ []) }
+        ensures told { (⟦<OutputPort<R> as Port>⟧.seen result).took ≡ Some [] }
+        ensures none { IfSome (⟦<OutputPort<R> as Port>⟧.seen result).took (λ all. all ≡ []) }
     {
         let FreshOutput { port } = self;
         port
@@ -142,8 +142,8 @@ impl<R: Threads + Wait + Copy + Drop> FreshErrors<R> {
 
     /// The port. It tells that it took nothing.
     pub fn into_port(self) -> ErrorRing<R>
-        ensures told { ⟦<ErrorRing<R> as Port>⟧.took result ≡ Some [] }
-        ensures none { IfSome (⟦<ErrorRing<R> as Port>⟧.took result) (λ all. all ≡ []) }
+        ensures told { (⟦<ErrorRing<R> as Port>⟧.seen result).took ≡ Some [] }
+        ensures none { IfSome (⟦<ErrorRing<R> as Port>⟧.seen result).took (λ all. all ≡ []) }
     {
         let FreshErrors { ring } = self;
         ring

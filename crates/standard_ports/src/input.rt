@@ -21,39 +21,7 @@ pub enum InputPort<R> {
 }
 
 impl<R: Threads + Wait + Copy + Drop> Port for InputPort<R> {
-    ghost gave = { of_input ⟦<DirectPort as Port>⟧.gave ⟦<InputRing<R> as Port>⟧.gave };
-
-    ghost took = { of_input ⟦<DirectPort as Port>⟧.took ⟦<InputRing<R> as Port>⟧.took };
-
-    ghost shuts = { of_input ⟦<DirectPort as Port>⟧.shuts ⟦<InputRing<R> as Port>⟧.shuts };
-
-    ghost behind_gave = { of_input ⟦<DirectPort as Port>⟧.behind_gave ⟦<InputRing<R> as Port>⟧.behind_gave };
-
-    ghost behind_took = { of_input ⟦<DirectPort as Port>⟧.behind_took ⟦<InputRing<R> as Port>⟧.behind_took };
-
-    ghost behind_faults = { of_input ⟦<DirectPort as Port>⟧.behind_faults ⟦<InputRing<R> as Port>⟧.behind_faults };
-
-    ghost behind_ends = { of_input ⟦<DirectPort as Port>⟧.behind_ends ⟦<InputRing<R> as Port>⟧.behind_ends };
-
-    ghost behind_left = { of_input ⟦<DirectPort as Port>⟧.behind_left ⟦<InputRing<R> as Port>⟧.behind_left };
-
-    ghost served = { of_input ⟦<DirectPort as Port>⟧.served ⟦<InputRing<R> as Port>⟧.served };
-
-    ghost hints = { of_input ⟦<DirectPort as Port>⟧.hints ⟦<InputRing<R> as Port>⟧.hints };
-
-    ghost hinting = { of_input ⟦<DirectPort as Port>⟧.hinting ⟦<InputRing<R> as Port>⟧.hinting };
-
-    ghost behind_finished = { of_input ⟦<DirectPort as Port>⟧.behind_finished ⟦<InputRing<R> as Port>⟧.behind_finished };
-
-    ghost counts = { of_input ⟦<DirectPort as Port>⟧.counts ⟦<InputRing<R> as Port>⟧.counts };
-
-    ghost begun = { of_input ⟦<DirectPort as Port>⟧.begun ⟦<InputRing<R> as Port>⟧.begun };
-
-    ghost ended = { of_input ⟦<DirectPort as Port>⟧.ended ⟦<InputRing<R> as Port>⟧.ended };
-
-    ghost joins = { of_input ⟦<DirectPort as Port>⟧.joins ⟦<InputRing<R> as Port>⟧.joins };
-
-    ghost child = { of_input ⟦<DirectPort as Port>⟧.child ⟦<InputRing<R> as Port>⟧.child };
+    ghost seen = { of_input ⟦<DirectPort as Port>⟧.seen ⟦<InputRing<R> as Port>⟧.seen };
 
     fn begin(&mut self) -> Begun {
         match self {

@@ -22,39 +22,7 @@ pub enum OutputPort<R> {
 }
 
 impl<R: Threads + Wait + Copy + Drop> Port for OutputPort<R> {
-    ghost gave = { of_output ⟦<DirectPort as Port>⟧.gave ⟦<OutputRing<R> as Port>⟧.gave };
-
-    ghost took = { of_output ⟦<DirectPort as Port>⟧.took ⟦<OutputRing<R> as Port>⟧.took };
-
-    ghost shuts = { of_output ⟦<DirectPort as Port>⟧.shuts ⟦<OutputRing<R> as Port>⟧.shuts };
-
-    ghost behind_gave = { of_output ⟦<DirectPort as Port>⟧.behind_gave ⟦<OutputRing<R> as Port>⟧.behind_gave };
-
-    ghost behind_took = { of_output ⟦<DirectPort as Port>⟧.behind_took ⟦<OutputRing<R> as Port>⟧.behind_took };
-
-    ghost behind_faults = { of_output ⟦<DirectPort as Port>⟧.behind_faults ⟦<OutputRing<R> as Port>⟧.behind_faults };
-
-    ghost behind_ends = { of_output ⟦<DirectPort as Port>⟧.behind_ends ⟦<OutputRing<R> as Port>⟧.behind_ends };
-
-    ghost behind_left = { of_output ⟦<DirectPort as Port>⟧.behind_left ⟦<OutputRing<R> as Port>⟧.behind_left };
-
-    ghost served = { of_output ⟦<DirectPort as Port>⟧.served ⟦<OutputRing<R> as Port>⟧.served };
-
-    ghost hints = { of_output ⟦<DirectPort as Port>⟧.hints ⟦<OutputRing<R> as Port>⟧.hints };
-
-    ghost hinting = { of_output ⟦<DirectPort as Port>⟧.hinting ⟦<OutputRing<R> as Port>⟧.hinting };
-
-    ghost behind_finished = { of_output ⟦<DirectPort as Port>⟧.behind_finished ⟦<OutputRing<R> as Port>⟧.behind_finished };
-
-    ghost counts = { of_output ⟦<DirectPort as Port>⟧.counts ⟦<OutputRing<R> as Port>⟧.counts };
-
-    ghost begun = { of_output ⟦<DirectPort as Port>⟧.begun ⟦<OutputRing<R> as Port>⟧.begun };
-
-    ghost ended = { of_output ⟦<DirectPort as Port>⟧.ended ⟦<OutputRing<R> as Port>⟧.ended };
-
-    ghost joins = { of_output ⟦<DirectPort as Port>⟧.joins ⟦<OutputRing<R> as Port>⟧.joins };
-
-    ghost child = { of_output ⟦<DirectPort as Port>⟧.child ⟦<OutputRing<R> as Port>⟧.child };
+    ghost seen = { of_output ⟦<DirectPort as Port>⟧.seen ⟦<OutputRing<R> as Port>⟧.seen };
 
     fn begin(&mut self) -> Begun {
         match self {

@@ -1,5 +1,6 @@
 // The port of a pipe that a watch of the poller tells of.
 ghost use Rattle.std.specs.Prelude.{◌≡◌, true};
+ghost use Rattle.standard_ports.specs.Ports.{pipe_seen};
 
 use crate::told::ToldSocket;
 use file_ports::Halves;
@@ -41,35 +42,7 @@ impl PipePort {
 }
 
 impl Port for PipePort {
-    ghost gave = { ⟦<PipeEnd as Port>⟧.gave };
-
-    ghost took = { ⟦<PipeEnd as Port>⟧.took };
-
-    ghost shuts = { ⟦<PipeEnd as Port>⟧.shuts };
-
-    ghost behind_gave = { ⟦<PipeEnd as Port>⟧.behind_gave };
-
-    ghost behind_took = { ⟦<PipeEnd as Port>⟧.behind_took };
-
-    ghost behind_faults = { ⟦<PipeEnd as Port>⟧.behind_faults };
-
-    ghost behind_ends = { ⟦<PipeEnd as Port>⟧.behind_ends };
-
-    ghost behind_left = { ⟦<PipeEnd as Port>⟧.behind_left };
-
-    ghost served = { ⟦<PipeEnd as Port>⟧.served };
-
-    ghost behind_finished = { ⟦<PipeEnd as Port>⟧.behind_finished };
-
-    ghost counts = { ⟦<PipeEnd as Port>⟧.counts };
-
-    ghost begun = { ⟦<PipeEnd as Port>⟧.begun };
-
-    ghost ended = { ⟦<PipeEnd as Port>⟧.ended };
-
-    ghost joins = { ⟦<PipeEnd as Port>⟧.joins };
-
-    ghost child = { ⟦<PipeEnd as Port>⟧.child };
+    ghost seen = { pipe_seen ⟦<PipeEnd as Port>⟧.seen };
 
     fn begin(&mut self) -> Begun {
         self.pipe.begin()

@@ -9,6 +9,7 @@ use Rattle.port_trait.specs.declared.answers.Took.TheVariants as writes
 use Rattle.port_trait.specs.declared.counts.Counts.{Counts}
 use Rattle.port_trait.specs.Counting.{Rose}
 use Rattle.port_trait.specs.Meanings.{emptied}
+use Rattle.port_trait.specs.Ports.{PortSeen}
 use Rattle.tunnel_port.specs.declared.stage.Stage.{Stage}
 use Rattle.tunnel_port.specs.declared.stage.Stage.TheVariants as stages
 use Rattle.tunnel_port.specs.declared.talk.Heard.{Heard}
@@ -142,6 +143,22 @@ NonePassedOver stages.Talking before now = now ≡ before
 NonePassedOver stages.Passed before now = now ≡ before
 NonePassedOver stages.Faulted before now = now ≡ before
 NonePassedOver stages.Refused before now = now ≡ before
+
+-- how a stage came about, by what is seen of the port beneath: its cause, and whether that was the end
+pub record ComesAbout (stage : Stage) (before now : PortSeen) : Type 0 where
+  pub cause : HasCause stage before.counts now.counts
+  pub cut : IsCutByEnd stage before.ended now.ended before.counts now.counts
+
+-- a talk leaves this of the port beneath as it was
+pub record LeavesBeneath (before now : PortSeen) : Type 0 where
+  pub unshut : now.shuts ≡ before.shuts
+  pub begun : now.begun ≡ before.begun
+  pub child : now.child ≡ before.child
+
+-- a talk that goes on leaves its request too
+pub record LeavesRequest (asks_before asks_now : List ℕ) (before now : PortSeen) : Type 0 where
+  pub asks : asks_now ≡ asks_before
+  pub beneath : LeavesBeneath before now
 
 -- how far a talk comes by this answer of a settling, which left the port beneath so
 abbrev pub JoinedBy : {P : Type 0} → Settled → P → P → Stage → Type 0

@@ -20,8 +20,8 @@ impl<P: Port> TunnelPort<P, ConnectTalk> {
     /// The port to a proxy, of which nothing was read or written yet, with the request to be connected to this
     /// host. Where memory is wanting it is given back.
     pub fn new(alloc: Global, inner: P, host: &[u8], port: u16) -> Result<ConnectPort<P>, P>
-        requires untaken { IsOnly [] (P.took inner) }
-        requires ungiven { IsOnly [] (P.gave inner) }
+        requires untaken { IsOnly [] (P.seen inner).took }
+        requires ungiven { IsOnly [] (P.seen inner).gave }
         ensures { MatchResult result (λ made. made ≡ fresh_tunnel inner (fresh_talk (connect_request host.now port))) (λ back. back ≡ inner) }
     {
         match ConnectTalk::new(alloc, host, port) {

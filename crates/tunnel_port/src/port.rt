@@ -1,13 +1,13 @@
 // The port behind a talk.
-ghost use Rattle.std.specs.Prelude.{◌≡◌, ◌<◌, true, false, [], length, IfSome};
+ghost use Rattle.std.specs.Prelude.{◌≡◌, ◌<◌, true, false, [], length};
 ghost use Rattle.port_trait.specs.Counting.{Tallied};
-ghost use Rattle.port_trait.specs.Hinting.{IsWithin};
 ghost use Rattle.port_trait.specs.Counted.{counted};
-ghost use Rattle.port_trait.specs.Meanings.{Gives, Accepts, AcceptsAll, ReapsChild, begun_after, is_end, begin_event, settle_event, read_event, write_event, shut_event, noted, join_answer};
+ghost use Rattle.port_trait.specs.Meanings.{begin_event, settle_event, read_event, write_event, shut_event};
+ghost use Rattle.port_trait.specs.Ports.{Begins, StandsBegun, Settles, Reads, Writes, PutsAll, Shuts, HintsSo, MayHint, Reaps, JoinsSo};
 ghost use Rattle.port_trait.specs.declared.answers.Begun.TheVariants as begins;
 ghost use Rattle.port_trait.specs.declared.answers.Took.TheVariants as writes;
-ghost use Rattle.tunnel_port.specs.Talks.{is_passed, is_over, settled_at, read_at, write_at, IsOnly, behind_talk, InTalk, FollowsTalk, IsJudged, HasCause, IsCutByEnd, NonePassedOver, AsksBeneath};
-ghost use Rattle.tunnel_port.specs.Tunnels.{fresh_tunnel};
+ghost use Rattle.tunnel_port.specs.Talks.{is_passed, is_over, settled_at, read_at, write_at, IsOnly, InTalk, IsJudged, ComesAbout, NonePassedOver, AsksBeneath};
+ghost use Rattle.tunnel_port.specs.Tunnels.{fresh_tunnel, tunnel_seen, KeepsTalk};
 
 use crate::progress::go_on;
 use crate::stage::Stage;
@@ -40,15 +40,15 @@ impl<P: Port, T: Talk> Model for TunnelPort<P, T> {
 
     ghost view = { λ port. record { inner = port.inner; talk = port.talk; said = port.said; stage = port.stage; counts = port.counts; ended = port.ended } };
 
-    ghost invariant = { λ port. InTalk (P.took port.inner) (P.gave port.inner) (T.asks port.talk) (T.heard port.talk) port.said port.stage
+    ghost invariant = { λ port. InTalk (P.seen port.inner).took (P.seen port.inner).gave (T.asks port.talk) (T.heard port.talk) port.said port.stage
         × IsJudged (T.judges port.talk) (T.heard port.talk) T.limit port.stage };
 }
 
 impl<P: Port, T: Talk> TunnelPort<P, T> {
     /// The port behind this talk, of which nothing was said or heard yet. Nothing went through the port beneath.
     pub fn over(inner: P, talk: T) -> TunnelPort<P, T>
-        requires untaken { IsOnly [] (P.took inner) }
-        requires ungiven { IsOnly [] (P.gave inner) }
+        requires untaken { IsOnly [] (P.seen inner).took }
+        requires ungiven { IsOnly [] (P.seen inner).gave }
         requires unheard { T.heard talk ≡ [] }
         requires room { 0 < T.limit }
         ensures { result ≡ fresh_tunnel inner talk }
@@ -66,7 +66,8 @@ impl<P: Port, T: Talk> TunnelPort<P, T> {
     /// How far the talk has come.
     pub fn stage(&self) -> Stage
         ensures stage { result ≡ self.now.stage }
-        ensures talk { InTalk (P.took self.now.inner) (P.gave self.now.inner) (T.asks self.now.talk) (T.heard self.now.talk) self.now.said self.now.stage }
+        ensures talk { InTalk (P.seen self.now.inner).took (P.seen self.now.inner).gave (T.asks self.now.talk)
+            (T.heard self.now.talk) self.now.said self.now.stage }
         ensures judged { IsJudged (T.judges self.now.talk) (T.heard self.now.talk) T.limit self.now.stage }
     {
         self.stage
@@ -88,37 +89,18 @@ impl<P: Port, T: Talk> TunnelPort<P, T> {
 }
 
 impl<P: Port, T: Talk> Port for TunnelPort<P, T> {
-    ghost gave = { λ port. behind_talk (is_passed port.stage) (T.heard port.talk) (P.gave port.inner) };
-
-    ghost took = { λ port. behind_talk (is_passed port.stage) (T.asks port.talk) (P.took port.inner) };
-
-    ghost shuts = { λ port. P.shuts port.inner };
+    ghost seen = { tunnel_seen P.seen T.asks T.heard };
 
     ghost answers_settle = { λ old new settled. AsksBeneath P.answers_settle old.stage old.inner new.inner new.stage };
 
     ghost answers_shut = { λ old new how shutting. P.answers_shut old.inner new.inner how shutting };
 
-    ghost hints = { λ port. P.hints port.inner };
-
-    ghost hinting = { λ port. P.hinting port.inner };
-
-    ghost counts = { λ port. port.counts };
-
-    ghost begun = { λ port. P.begun port.inner };
-
-    ghost ended = { λ port. port.ended };
-
-    ghost joins = { λ port. P.joins port.inner };
-
-    ghost child = { λ port. P.child port.inner };
-
     /// Begins the port beneath.
     #[tactic(auto, using(crate::proofs::Passing::talk_kept))]
     fn begin(&mut self) -> Begun
-        ensures again { P.begun self.old.inner ≡ true → (result ≡ begins.Begun) × (self.new ≡ self.old) }
-        ensures begun { P.begun self.new.inner ≡ begun_after (P.begun self.old.inner) result }
-        ensures beneath { (P.gave self.new.inner ≡ P.gave self.old.inner) × (P.took self.new.inner ≡ P.took self.old.inner) }
-        ensures unshut { P.shuts self.new.inner ≡ P.shuts self.old.inner }
+        ensures again { (P.seen self.old.inner).begun ≡ true → (result ≡ begins.Begun) × (self.new ≡ self.old) }
+        ensures beneath { Begins (P.seen self.old.inner) (P.seen self.new.inner) result }
+        ensures stands { StandsBegun (P.seen self.old.inner) (P.seen self.new.inner) result }
         ensures kept { self.new ≡ record self.old { inner = self.new.inner; counts = self.new.counts } }
         ensures counted { self.new.counts ≡ counted (begin_event result) self.old.counts }
         ensures counts { Tallied (begin_event result) self.old.counts self.new.counts }
@@ -133,25 +115,15 @@ impl<P: Port, T: Talk> Port for TunnelPort<P, T> {
     #[tactic(auto, using(crate::proofs::Passing::talk_follows))]
     fn settle(&mut self) -> Settled
         ensures answer { result ≡ settled_at self.new.stage }
-        ensures cause { is_over self.old.stage ≡ false → HasCause self.new.stage (P.counts self.old.inner) (P.counts self.new.inner) }
-        ensures cut { is_over self.old.stage ≡ false
-            → IsCutByEnd self.new.stage (P.ended self.old.inner) (P.ended self.new.inner) (P.counts self.old.inner) (P.counts self.new.inner) }
-        ensures packets { NonePassedOver self.new.stage (P.empty_packets self.old.inner) (P.empty_packets self.new.inner) }
+        ensures cause { is_over self.old.stage ≡ false → ComesAbout self.new.stage (P.seen self.old.inner) (P.seen self.new.inner) }
+        ensures packets { NonePassedOver self.new.stage (P.seen self.old.inner).empty_packets (P.seen self.new.inner).empty_packets }
         ensures asked { AsksBeneath P.answers_settle self.old.stage self.old.inner self.new.inner self.new.stage }
         ensures over { is_over self.old.stage ≡ true → self.new ≡ record self.old { counts = self.new.counts } }
-        ensures talk { InTalk (P.took self.new.inner) (P.gave self.new.inner) (T.asks self.new.talk) (T.heard self.new.talk) self.new.said self.new.stage }
-        ensures follows { FollowsTalk (P.took self.new.inner) (P.gave self.new.inner) (T.asks self.new.talk) (T.heard self.new.talk) self.new.stage }
+        ensures talk { KeepsTalk P.seen T.asks T.heard self.new }
         ensures judged { IsJudged (T.judges self.new.talk) (T.heard self.new.talk) T.limit self.new.stage }
         ensures asks { T.asks self.new.talk ≡ T.asks self.old.talk }
-        ensures took { behind_talk (is_passed self.new.stage) (T.asks self.new.talk) (P.took self.new.inner)
-            ≡ behind_talk (is_passed self.old.stage) (T.asks self.old.talk) (P.took self.old.inner) }
-        ensures gave { behind_talk (is_passed self.new.stage) (T.heard self.new.talk) (P.gave self.new.inner)
-            ≡ behind_talk (is_passed self.old.stage) (T.heard self.old.talk) (P.gave self.old.inner) }
-        ensures kept { (P.begun self.new.inner ≡ P.begun self.old.inner) × (P.child self.new.inner ≡ P.child self.old.inner)
-            × (self.new.ended ≡ self.old.ended) }
-        ensures unshut { P.shuts self.new.inner ≡ P.shuts self.old.inner }
+        ensures settles { let seen = tunnel_seen P.seen T.asks T.heard in Settles (seen self.old) (seen self.new) result }
         ensures counted { self.new.counts ≡ counted (settle_event result) self.old.counts }
-        ensures counts { Tallied (settle_event result) self.old.counts self.new.counts }
     {
         self.stage = go_on(&mut self.inner, &mut self.talk, &mut self.said, self.stage);
         let settled = self.stage.settled();
@@ -165,19 +137,11 @@ impl<P: Port, T: Talk> Port for TunnelPort<P, T> {
         requires { 0 < length into.old }
         ensures barred { is_passed self.old.stage ≡ false → (result ≡ read_at self.old.stage)
             × (self.new ≡ record self.old { counts = self.new.counts; ended = false }) }
-        ensures beneath { is_passed self.old.stage ≡ true → Gives (P.gave self.old.inner) (P.gave self.new.inner) into.new result
-            × Tallied (read_event result) (P.counts self.old.inner) (P.counts self.new.inner) }
-        ensures talk { InTalk (P.took self.new.inner) (P.gave self.new.inner) (T.asks self.new.talk) (T.heard self.new.talk) self.new.said self.new.stage }
-        ensures follows { FollowsTalk (P.took self.new.inner) (P.gave self.new.inner) (T.asks self.new.talk) (T.heard self.new.talk) self.new.stage }
-        ensures gives { Gives (behind_talk (is_passed self.old.stage) (T.heard self.old.talk) (P.gave self.old.inner))
-            (behind_talk (is_passed self.new.stage) (T.heard self.new.talk) (P.gave self.new.inner)) into.new result }
-        ensures ended { self.new.ended ≡ is_end result }
+        ensures beneath { is_passed self.old.stage ≡ true → Reads (P.seen self.old.inner) (P.seen self.new.inner) into.new result }
+        ensures talk { KeepsTalk P.seen T.asks T.heard self.new }
+        ensures reads { let seen = tunnel_seen P.seen T.asks T.heard in Reads (seen self.old) (seen self.new) into.new result }
         ensures kept { self.new ≡ record self.old { inner = self.new.inner; counts = self.new.counts; ended = self.new.ended } }
-        ensures same { (P.took self.new.inner ≡ P.took self.old.inner) × (P.begun self.new.inner ≡ P.begun self.old.inner)
-            × (P.child self.new.inner ≡ P.child self.old.inner) }
-        ensures unshut { P.shuts self.new.inner ≡ P.shuts self.old.inner }
         ensures counted { self.new.counts ≡ counted (read_event result) self.old.counts }
-        ensures counts { Tallied (read_event result) self.old.counts self.new.counts }
     {
         if !self.stage.is_passed() {
             let got = self.stage.barred_read();
@@ -196,18 +160,11 @@ impl<P: Port, T: Talk> Port for TunnelPort<P, T> {
     fn write(&mut self, bytes: &[u8]) -> Took
         requires { 0 < length bytes.now }
         ensures barred { is_passed self.old.stage ≡ false → (result ≡ write_at self.old.stage) × (self.new ≡ record self.old { counts = self.new.counts }) }
-        ensures beneath { is_passed self.old.stage ≡ true → Accepts (P.took self.old.inner) (P.took self.new.inner) bytes.now result
-            × Tallied (write_event result) (P.counts self.old.inner) (P.counts self.new.inner) }
-        ensures talk { InTalk (P.took self.new.inner) (P.gave self.new.inner) (T.asks self.new.talk) (T.heard self.new.talk) self.new.said self.new.stage }
-        ensures follows { FollowsTalk (P.took self.new.inner) (P.gave self.new.inner) (T.asks self.new.talk) (T.heard self.new.talk) self.new.stage }
-        ensures accepts { Accepts (behind_talk (is_passed self.old.stage) (T.asks self.old.talk) (P.took self.old.inner))
-            (behind_talk (is_passed self.new.stage) (T.asks self.new.talk) (P.took self.new.inner)) bytes.now result }
+        ensures beneath { is_passed self.old.stage ≡ true → Writes (P.seen self.old.inner) (P.seen self.new.inner) bytes.now result }
+        ensures talk { KeepsTalk P.seen T.asks T.heard self.new }
+        ensures writes { let seen = tunnel_seen P.seen T.asks T.heard in Writes (seen self.old) (seen self.new) bytes.now result }
         ensures kept { self.new ≡ record self.old { inner = self.new.inner; counts = self.new.counts } }
-        ensures same { (P.gave self.new.inner ≡ P.gave self.old.inner) × (P.begun self.new.inner ≡ P.begun self.old.inner)
-            × (P.child self.new.inner ≡ P.child self.old.inner) }
-        ensures unshut { P.shuts self.new.inner ≡ P.shuts self.old.inner }
         ensures counted { self.new.counts ≡ counted (write_event result) self.old.counts }
-        ensures counts { Tallied (write_event result) self.old.counts self.new.counts }
     {
         if !self.stage.is_passed() {
             let took = self.stage.barred_write();
@@ -235,18 +192,11 @@ impl<P: Port, T: Talk> Port for TunnelPort<P, T> {
     #[tactic(auto, using(crate::proofs::Passing::talk_accepted_all, crate::proofs::Passing::talk_follows))]
     fn put_all(&mut self, bytes: &[u8]) -> Took
         ensures barred { is_passed self.old.stage ≡ false → (result ≡ writes.Failed) × (self.new ≡ record self.old { counts = self.new.counts }) }
-        ensures beneath { is_passed self.old.stage ≡ true → AcceptsAll (P.took self.old.inner) (P.took self.new.inner) bytes.now result
-            × Tallied (write_event result) (P.counts self.old.inner) (P.counts self.new.inner) }
-        ensures talk { InTalk (P.took self.new.inner) (P.gave self.new.inner) (T.asks self.new.talk) (T.heard self.new.talk) self.new.said self.new.stage }
-        ensures follows { FollowsTalk (P.took self.new.inner) (P.gave self.new.inner) (T.asks self.new.talk) (T.heard self.new.talk) self.new.stage }
-        ensures accepts { AcceptsAll (behind_talk (is_passed self.old.stage) (T.asks self.old.talk) (P.took self.old.inner))
-            (behind_talk (is_passed self.new.stage) (T.asks self.new.talk) (P.took self.new.inner)) bytes.now result }
+        ensures beneath { is_passed self.old.stage ≡ true → PutsAll (P.seen self.old.inner) (P.seen self.new.inner) bytes.now result }
+        ensures talk { KeepsTalk P.seen T.asks T.heard self.new }
+        ensures puts { let seen = tunnel_seen P.seen T.asks T.heard in PutsAll (seen self.old) (seen self.new) bytes.now result }
         ensures kept { self.new ≡ record self.old { inner = self.new.inner; counts = self.new.counts } }
-        ensures same { (P.gave self.new.inner ≡ P.gave self.old.inner) × (P.begun self.new.inner ≡ P.begun self.old.inner)
-            × (P.child self.new.inner ≡ P.child self.old.inner) }
-        ensures unshut { P.shuts self.new.inner ≡ P.shuts self.old.inner }
         ensures counted { self.new.counts ≡ counted (write_event result) self.old.counts }
-        ensures counts { Tallied (write_event result) self.old.counts self.new.counts }
     {
         if !self.stage.is_passed() {
             let took = Took::Failed;
@@ -262,11 +212,8 @@ impl<P: Port, T: Talk> Port for TunnelPort<P, T> {
     #[tactic(auto, using(crate::proofs::Passing::talk_kept))]
     fn shut(&mut self, how: Shut) -> Shutting
         ensures asked { P.answers_shut self.old.inner self.new.inner how result }
-        ensures beneath { Tallied (shut_event result) (P.counts self.old.inner) (P.counts self.new.inner) }
-        ensures told { P.shuts self.new.inner ≡ noted how (P.shuts self.old.inner) }
+        ensures beneath { Shuts (P.seen self.old.inner) (P.seen self.new.inner) how result }
         ensures kept { self.new ≡ record self.old { inner = self.new.inner; counts = self.new.counts } }
-        ensures same { (P.gave self.new.inner ≡ P.gave self.old.inner) × (P.took self.new.inner ≡ P.took self.old.inner)
-            × (P.begun self.new.inner ≡ P.begun self.old.inner) × (P.child self.new.inner ≡ P.child self.old.inner) }
         ensures counted { self.new.counts ≡ counted (shut_event result) self.old.counts }
         ensures counts { Tallied (shut_event result) self.old.counts self.new.counts }
     {
@@ -278,28 +225,20 @@ impl<P: Port, T: Talk> Port for TunnelPort<P, T> {
     /// What the port beneath hints.
     #[tactic(auto, using(crate::proofs::Passing::talk_kept))]
     fn hint(&mut self) -> Hint
-        ensures hinted { IfSome (P.hints self.old.inner) (λ hint. result ≡ hint) }
-        ensures within { IsWithin (P.hinting self.old.inner) result }
-        ensures hinting { P.hinting self.new.inner ≡ P.hinting self.old.inner }
+        ensures beneath { HintsSo (P.seen self.old.inner) (P.seen self.new.inner) result }
         ensures kept { self.new ≡ record self.old { inner = self.new.inner } }
-        ensures same { (P.gave self.new.inner ≡ P.gave self.old.inner) × (P.took self.new.inner ≡ P.took self.old.inner)
-            × (P.hints self.new.inner ≡ P.hints self.old.inner) × (P.counts self.new.inner ≡ P.counts self.old.inner)
-            × (P.begun self.new.inner ≡ P.begun self.old.inner) × (P.joins self.new.inner ≡ P.joins self.old.inner)
-            × (P.child self.new.inner ≡ P.child self.old.inner) }
-        ensures unshut { P.shuts self.new.inner ≡ P.shuts self.old.inner }
     {
         self.inner.hint()
     }
 
     fn may_hint(&self) -> Hint
-        ensures halves { result ≡ P.hinting self.now.inner }
-        ensures told { IfSome (P.hints self.now.inner) (λ hint. IsWithin result hint) }
+        ensures { MayHint (P.seen self.now.inner) result }
     {
         self.inner.may_hint()
     }
 
     fn has_child(&self) -> bool
-        ensures { result ≡ P.child self.now.inner }
+        ensures { result ≡ (P.seen self.now.inner).child }
     {
         self.inner.has_child()
     }
@@ -307,11 +246,8 @@ impl<P: Port, T: Talk> Port for TunnelPort<P, T> {
     /// Reaps the child of the port beneath.
     #[tactic(auto, using(crate::proofs::Passing::talk_kept))]
     fn reap(&mut self) -> PortReap
-        ensures reaped { ReapsChild (P.child self.old.inner) result }
+        ensures beneath { Reaps (P.seen self.old.inner) (P.seen self.new.inner) result }
         ensures kept { self.new ≡ record self.old { inner = self.new.inner } }
-        ensures same { (P.gave self.new.inner ≡ P.gave self.old.inner) × (P.took self.new.inner ≡ P.took self.old.inner)
-            × (P.begun self.new.inner ≡ P.begun self.old.inner) × (P.child self.new.inner ≡ P.child self.old.inner) }
-        ensures unshut { P.shuts self.new.inner ≡ P.shuts self.old.inner }
     {
         self.inner.reap()
     }
@@ -319,12 +255,8 @@ impl<P: Port, T: Talk> Port for TunnelPort<P, T> {
     /// Joins the port beneath.
     #[tactic(auto, using(crate::proofs::Passing::talk_kept))]
     fn join(&mut self) -> Joining
-        ensures joined { result ≡ join_answer (P.joins self.old.inner) }
+        ensures beneath { JoinsSo (P.seen self.old.inner) (P.seen self.new.inner) result }
         ensures kept { self.new ≡ record self.old { inner = self.new.inner } }
-        ensures same { (P.gave self.new.inner ≡ P.gave self.old.inner) × (P.took self.new.inner ≡ P.took self.old.inner)
-            × (P.begun self.new.inner ≡ P.begun self.old.inner) × (P.joins self.new.inner ≡ P.joins self.old.inner)
-            × (P.child self.new.inner ≡ P.child self.old.inner) }
-        ensures unshut { P.shuts self.new.inner ≡ P.shuts self.old.inner }
     {
         self.inner.join()
     }

@@ -18,8 +18,8 @@ pub type SocksPort<P> = TunnelPort<P, SocksTalk>;
 impl<P: Port> TunnelPort<P, SocksTalk> {
     /// The port to a server, of which nothing was read or written yet, with a request to it.
     pub fn new(inner: P, request: Request) -> SocksPort<P>
-        requires untaken { IsOnly [] (P.took inner) }
-        requires ungiven { IsOnly [] (P.gave inner) }
+        requires untaken { IsOnly [] (P.seen inner).took }
+        requires ungiven { IsOnly [] (P.seen inner).gave }
         ensures { result ≡ fresh_tunnel inner (record { request = request; heard = [] }) }
     {
         TunnelPort::over(inner, SocksTalk::new(request))

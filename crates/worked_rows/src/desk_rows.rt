@@ -58,8 +58,8 @@ pub fn carried_out<M, P, I: Port, O: Port>(
 where
     M: Maker + Drop,
     P: Poller + Drop,
-    requires given { IfSome (I.gave streams.stdin) (λ all. all ≡ []) }
-    requires taken { IfSome (O.took streams.stdout) (λ all. all ≡ []) }
+    requires given { IfSome (I.seen streams.stdin).gave (λ all. all ≡ []) }
+    requires taken { IfSome (O.seen streams.stdout).took (λ all. all ≡ []) }
 {
     let Streams { stdin, stdout } = streams;
     let stderr = MemPort::new(run.alloc, ROOM)?;
@@ -85,8 +85,8 @@ fn written<M, P, I: Port, O: Port>(
 where
     M: Maker + Drop,
     P: Poller + Drop,
-    requires given { IfSome (I.gave standard.stdin) (λ all. all ≡ []) }
-    requires taken { IfSome (O.took standard.stdout) (λ all. all ≡ []) }
+    requires given { IfSome (I.seen standard.stdin).gave (λ all. all ≡ []) }
+    requires taken { IfSome (O.seen standard.stdout).took (λ all. all ≡ []) }
     requires silent { standard.stderr.intake.bytes ≡ [] }
 {
     let desk = Desk::new(run.alloc, standard, maker, poller, run.recorder)?;

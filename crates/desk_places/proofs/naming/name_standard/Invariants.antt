@@ -1,12 +1,10 @@
 -- the halves of the places so far are named where their port hints so, and all that was named before
 use Rattle.std.proofs.Common.{◌≡◌, ◌<◌, ℕ, List, slice_get, Some}
-use Rattle.slab.specs.Slab.{SameValues}
 use Rattle.relay_model.specs.declared.places.Half.{Half}
 use Rattle.relay_model.specs.declared.places.Place.{Place}
 use Rattle.world_trait.specs.Answers.{NamesHeld}
-use Rattle.port_table.specs.PortTables.{SameStreams}
 use Rattle.desk_places.specs.Stations.{hold_at}
-use Rattle.desk_places.specs.Naming.{Grown, NamesOnly, PlaceNamed, told_by}
+use Rattle.desk_places.specs.Naming.{Grown, NamesOnly, PlaceNamed, SamePorts, told_by}
 use Rattle.desk_places.proofs.naming.name_standard.Given as goal
 
 abbrev pub invariant-loop-i : goal.invariant-loop-i
@@ -14,11 +12,7 @@ invariant-loop-i g l = record {
   room : l.ready.room ≡ l.initial.ready.room;
   held : NamesHeld (hold_at l.stations.entries) l.ready.entries;
   grown : Grown l.initial.ready.entries l.ready.entries;
-  streams : SameStreams l.initial.ports.table l.ports.table;
-  made : SameValues l.initial.ports.table.made l.ports.table.made;
-  listed : l.ports.listed ≡ l.initial.ports.listed;
-  maker : l.ports.maker ≡ l.initial.ports.maker;
-  parents : l.ports.parents ≡ l.initial.ports.parents;
+  same : SamePorts l.initial.ports l.ports;
   named : (j : ℕ) (p : Place) → j < l.i → slice_get l.stations.asked j ≡ Some p → PlaceNamed (told_by l.initial.ports.table) l.stations.entries p l.ready.entries;
   only : (keys : List (ℕ × Half)) → NamesOnly keys (told_by l.initial.ports.table) l.stations.entries l.initial.ready.entries → NamesOnly keys (told_by l.initial.ports.table) l.stations.entries l.ready.entries;
 }

@@ -2,6 +2,8 @@ use Rattle.std.proofs.Common.{◌≡◌, true, is_some, Option, subst, sym, refl
 use Rattle.relay_model.specs.Journals.{History}
 use Rattle.port_desk.specs.Following.{PassedTold}
 use Rattle.port_desk.proofs.FollowLemmas.{unused_passed}
+use Rattle.port_table.specs.Endings.{handed}
+use Rattle.socat_top.specs.Behind.{told_behind}
 use Rattle.socat_top.specs.Headline.{Leaves}
 use Rattle.socat_top.specs.Tasks.{task}
 use Rattle.socat_top.proofs.Passing.{ends_still, passed_at}
@@ -32,6 +34,8 @@ returns-clause-ends g c = λ told unused.
 
 pub returns-clause-behind : goal.returns-clause-behind
 returns-clause-behind g c = λ told unused.
-    task_ends_behind (task c.args.words.now) _ _ _ _ _ _ _ _ _ _ _ _ _ _ _ (returns-clause-ends g c told unused)
-    (behind_back g.I.Port.gave g.I.Port.took g.I.Port.behind_gave g.I.Port.behind_took g.I.Port.behind_left g.I.Port.behind_faults g.I.Port.ended c.end-standard.result.standard.stdin c.end-standard.ensures.stdin_behind)
-    (behind_back g.O.Port.gave g.O.Port.took g.O.Port.behind_gave g.O.Port.behind_took g.O.Port.behind_left g.O.Port.behind_faults g.O.Port.ended c.end-standard.result.standard.stdout c.end-standard.ensures.stdout_behind)
+    let stdin = c.end-standard.result.standard.stdin in
+    let stdout = c.end-standard.result.standard.stdout in
+    task_ends_behind (task c.args.words.now) _ (g.I.Port.seen (handed stdin)) (g.O.Port.seen (handed stdout)) (told_behind g.I.Port.seen stdin) (told_behind g.O.Port.seen stdout) (returns-clause-ends g c told unused)
+    (behind_back g.I.Port.seen stdin c.end-standard.ensures.stdin_behind)
+    (behind_back g.O.Port.seen stdout c.end-standard.ensures.stdout_behind)

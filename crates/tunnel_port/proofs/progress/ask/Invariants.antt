@@ -7,15 +7,15 @@ use Rattle.tunnel_port.proofs.progress.ask.Given as goal
 abbrev pub invariant-loop-count : goal.invariant-loop-count
 invariant-loop-count g l =
     (l.count ≤ length l.request)
-    × IsOnly (take l.count l.request) (g.P.Port.took l.inner)
-    × Grew (g.P.Port.counts l.fn.inner) (g.P.Port.counts l.inner)
-    × (nothing_of (g.P.Port.took l.inner) ≡ nothing_of (g.P.Port.took l.fn.inner))
-    × (g.P.Port.gave l.inner ≡ g.P.Port.gave l.fn.inner)
-    × (g.P.Port.ended l.inner ≡ g.P.Port.ended l.fn.inner)
-    × (g.P.Port.empty_packets l.inner ≡ g.P.Port.empty_packets l.fn.inner)
-    × (g.P.Port.shuts l.inner ≡ g.P.Port.shuts l.fn.inner)
-    × (g.P.Port.begun l.inner ≡ g.P.Port.begun l.fn.inner)
-    × (g.P.Port.child l.inner ≡ g.P.Port.child l.fn.inner)
+    × IsOnly (take l.count l.request) (g.P.Port.seen l.inner).took
+    × Grew (g.P.Port.seen l.fn.inner).counts (g.P.Port.seen l.inner).counts
+    × (nothing_of (g.P.Port.seen l.inner).took ≡ nothing_of (g.P.Port.seen l.fn.inner).took)
+    × ((g.P.Port.seen l.inner).gave ≡ (g.P.Port.seen l.fn.inner).gave)
+    × ((g.P.Port.seen l.inner).ended ≡ (g.P.Port.seen l.fn.inner).ended)
+    × ((g.P.Port.seen l.inner).empty_packets ≡ (g.P.Port.seen l.fn.inner).empty_packets)
+    × ((g.P.Port.seen l.inner).shuts ≡ (g.P.Port.seen l.fn.inner).shuts)
+    × ((g.P.Port.seen l.inner).begun ≡ (g.P.Port.seen l.fn.inner).begun)
+    × ((g.P.Port.seen l.inner).child ≡ (g.P.Port.seen l.fn.inner).child)
 
 abbrev pub decreases-loop-count : goal.decreases-loop-count
 decreases-loop-count g l = length l.request - l.count

@@ -18,16 +18,20 @@ returns-clause-held g c =
     let held = rw (c.begun.ensures.place, c.begun.ensures.stands) at c.add.ensures.held in
     held
 
-pub returns-clause-sound : goal.returns-clause-sound
-returns-clause-sound g c = λ sound.
-    let set = subst (λ q. SetsStation q (Some c.begun.result) (station_at c.args.stations.now.entries) (station_at c.add.new.self.entries)) c.begun.ensures.place c.add.ensures.set in
-    c.list.ensures.sound
-    (rw c.begun.ensures.place at
-    (sound_insert c.args.stations.now.entries c.add.new.self.entries c.begun.result c.args.self.now.table.made c.insert.new.self.made c.args.self.now.listed c.insert.result c.new.result
-    c.begun.ensures.base
-    (c.new.ensures.place ∙ sym c.begun.ensures.place)
-    (rw c.insert.ensures.key c.requires.made_room.covered)
-    c.add.ensures.set c.insert.ensures.vacant c.insert.ensures.made sound))
+pub returns-clause-kept : goal.returns-clause-kept
+returns-clause-kept g c = record {
+  sound = λ sound.
+      let set = subst (λ q. SetsStation q (Some c.begun.result) (station_at c.args.stations.now.entries) (station_at c.add.new.self.entries)) c.begun.ensures.place c.add.ensures.set in
+      c.list.ensures.sound
+      (rw c.begun.ensures.place at
+      (sound_insert c.args.stations.now.entries c.add.new.self.entries c.begun.result c.args.self.now.table.made c.insert.new.self.made c.args.self.now.listed c.insert.result c.new.result
+      c.begun.ensures.base
+      (c.new.ensures.place ∙ sym c.begun.ensures.place)
+      (rw c.insert.ensures.key c.requires.made_room.covered)
+      c.add.ensures.set c.insert.ensures.vacant c.insert.ensures.made sound));
+  one_more = search rules;
+  parents = search rules;
+}
 
 pub returns-clause-bases : goal.returns-clause-bases
 returns-clause-bases g c =

@@ -1,4 +1,4 @@
-use Rattle.std.proofs.Common.{ap, false, subst}
+use Rattle.std.proofs.Common.{rules, ap, false, subst}
 use Rattle.desk_places.specs.declared.stations.Station.{Station}
 use Rattle.desk_places.specs.Marks.{MarksPlace}
 use Rattle.desk_places.specs.Stations.{is_disarmed}
@@ -11,10 +11,14 @@ use Rattle.desk_places.proofs.ports.Ports.open_standard.Goals as goal
 pub add-requires-clause-free : goal.add-requires-clause-free
 add-requires-clause-free g c = rw c.open.ensures (free_station c.args.stations.now.entries c.args.place c.requires.free)
 
-pub returns-in-Begun-clause-sound : goal.returns-in-Begun-clause-sound
-returns-in-Begun-clause-sound g c = λ sound.
-    rw c.begin.ensures.made
-    (sound_add c.args.stations.now.entries c.add.new.self.entries c.open.result c.args.self.now.table.made c.args.self.now.listed c.add.ensures.set (rw c.open.ensures c.requires.standard) sound)
+pub returns-in-Begun-clause-kept : goal.returns-in-Begun-clause-kept
+returns-in-Begun-clause-kept g c = record {
+  sound = λ sound.
+      rw c.begin.ensures.made
+      (sound_add c.args.stations.now.entries c.add.new.self.entries c.open.result c.args.self.now.table.made c.args.self.now.listed c.add.ensures.set (rw c.open.ensures c.requires.standard) sound);
+  one_more = search rules;
+  parents = search rules;
+}
 
 pub returns-in-Begun-clause-held : goal.returns-in-Begun-clause-held
 returns-in-Begun-clause-held g c = rw c.open.ensures at c.add.ensures.held

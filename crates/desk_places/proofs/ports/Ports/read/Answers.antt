@@ -1,5 +1,5 @@
 use Rattle.desk_places.proofs.BaseLemmas.{same_bases}
-use Rattle.std.proofs.Common.{Bool, false, option_map, subst}
+use Rattle.std.proofs.Common.{rules, Bool, false, option_map, subst}
 use Rattle.relay_model.specs.declared.places.Half.TheVariants.{ToRead}
 use Rattle.port_table.specs.PortTables.{giving_port}
 use Rattle.port_table.proofs.CalledLemmas.{called_made}
@@ -20,12 +20,15 @@ returns-clause-marks g c =
     let Set : Bool → Type 0 = λ b. SetsStation c.args.place (option_map (with_half ToRead b) (station_at c.args.stations.now.entries c.args.place)) (station_at c.args.stations.now.entries) (station_at c.mark.new.stations.entries) in
     subst Set c.gave_not_yet.ensures c.mark.ensures.set
 
-pub returns-clause-sound : goal.returns-clause-sound
-returns-clause-sound g c = λ sound.
-    c.mark.ensures.sound
-    (sound_marked c.args.stations.now.entries c.mark.new.stations.entries c.args.place c.held-station.result ToRead c.gave_not_yet.result c.args.self.now.table.made c.read-got.new.self.made c.args.self.now.listed c.held-station.ensures c.mark.ensures.set
-    (id_keeps (giving_port c.held-station.result.base) c.held-station.result.base c.args.self.now.table.made c.read-got.new.self.made _ (giving_of c.held-station.result.base) (called_made false (giving_port c.held-station.result.base) c.args.self.now.table c.read-got.new.self _ c.read-got.ensures.call))
-    sound)
-
-pub returns-clause-bases : goal.returns-clause-bases
-returns-clause-bases g c = same_bases c.args.stations.now.entries c.mark.new.stations.entries c.mark.ensures.standing
+pub returns-clause-kept : goal.returns-clause-kept
+returns-clause-kept g c = record {
+  sound = λ sound.
+      c.mark.ensures.sound
+      (sound_marked c.args.stations.now.entries c.mark.new.stations.entries c.args.place c.held-station.result ToRead c.gave_not_yet.result c.args.self.now.table.made c.read-got.new.self.made c.args.self.now.listed c.held-station.ensures c.mark.ensures.set
+      (id_keeps (giving_port c.held-station.result.base) c.held-station.result.base c.args.self.now.table.made c.read-got.new.self.made _ (giving_of c.held-station.result.base) (called_made false (giving_port c.held-station.result.base) c.args.self.now.table c.read-got.new.self _ c.read-got.ensures.call))
+      sound);
+  bases = same_bases c.args.stations.now.entries c.mark.new.stations.entries c.mark.ensures.standing;
+  no_more = search rules;
+  parents = search rules;
+  maker = search rules;
+}

@@ -1,5 +1,5 @@
 use Rattle.desk_places.proofs.BaseLemmas.{same_bases}
-use Rattle.std.proofs.Common.{Bool, ap, false, option_map, subst}
+use Rattle.std.proofs.Common.{rules, Bool, ap, false, option_map, subst}
 use Rattle.relay_model.specs.declared.places.Half.TheVariants.{ToWrite}
 use Rattle.relay_model.specs.Holding.{is_free}
 use Rattle.port_table.specs.PortTables.{taking_port}
@@ -20,12 +20,15 @@ returns-clause-marks g c =
     let Set : Bool → Type 0 = λ b. SetsStation c.args.place (option_map (with_half ToWrite b) (station_at c.args.stations.now.entries c.args.place)) (station_at c.args.stations.now.entries) (station_at c.mark.new.stations.entries) in
     subst Set c.took_not_yet.ensures c.mark.ensures.set
 
-pub returns-clause-sound : goal.returns-clause-sound
-returns-clause-sound g c = λ sound.
-    c.mark.ensures.sound
-    (sound_marked c.args.stations.now.entries c.mark.new.stations.entries c.args.place c.held-station.result ToWrite c.took_not_yet.result c.args.self.now.table.made c.send-took.new.self.made c.args.self.now.listed c.held-station.ensures c.mark.ensures.set
-    (id_keeps (taking_port c.held-station.result.base) c.held-station.result.base c.args.self.now.table.made c.send-took.new.self.made _ (taking_of c.held-station.result.base) (called_made false (taking_port c.held-station.result.base) c.args.self.now.table c.send-took.new.self _ c.send-took.ensures.call))
-    sound)
-
-pub returns-clause-bases : goal.returns-clause-bases
-returns-clause-bases g c = same_bases c.args.stations.now.entries c.mark.new.stations.entries c.mark.ensures.standing
+pub returns-clause-kept : goal.returns-clause-kept
+returns-clause-kept g c = record {
+  sound = λ sound.
+      c.mark.ensures.sound
+      (sound_marked c.args.stations.now.entries c.mark.new.stations.entries c.args.place c.held-station.result ToWrite c.took_not_yet.result c.args.self.now.table.made c.send-took.new.self.made c.args.self.now.listed c.held-station.ensures c.mark.ensures.set
+      (id_keeps (taking_port c.held-station.result.base) c.held-station.result.base c.args.self.now.table.made c.send-took.new.self.made _ (taking_of c.held-station.result.base) (called_made false (taking_port c.held-station.result.base) c.args.self.now.table c.send-took.new.self _ c.send-took.ensures.call))
+      sound);
+  bases = same_bases c.args.stations.now.entries c.mark.new.stations.entries c.mark.ensures.standing;
+  no_more = search rules;
+  parents = search rules;
+  maker = search rules;
+}

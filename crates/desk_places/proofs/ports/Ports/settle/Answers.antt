@@ -82,7 +82,7 @@ returns-in-Failed-clause-call g c =
     let based = found_base c.args.stations.now.entries c.args.place c.held-station.result c.held-station.ensures in
     at_base c.args.stations.now.entries c.args.place c.held-station.result _ c.held-station.ensures
     (settle_left _ c.held-station.result.base c.args.self.now.table c.settle.new.self c.leave.new.self.table c.args.self.now.parents.items c.leave.new.self.parents.items c.in-Failed.ensures
-    (record { input = c.leave.ensures.streams.0; output = c.leave.ensures.streams.1; errors = c.leave.ensures.streams.2 })
+    c.leave.ensures.streams
     c.leave.ensures.told c.leave.ensures.parents c.leave.ensures.standard
     (λ key is. c.leave.ensures.gone key (based ∙ ap Some is))
     (λ key is other away. c.leave.ensures.others other (on_another c.args.stations.now.entries c.args.place c.held-station.result.base key other based is away)))

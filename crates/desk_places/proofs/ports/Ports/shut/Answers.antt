@@ -2,7 +2,7 @@ use Rattle.desk_places.proofs.BaseLemmas.{same_bases}
 use Rattle.desk_places.proofs.PortLemmas.{set_as}
 use Rattle.desk_places.specs.Stations.{shut_down}
 use Rattle.port_trait.specs.Streams.{finishes}
-use Rattle.std.proofs.Common.{refl, sym}
+use Rattle.std.proofs.Common.{rules, refl, sym}
 use Rattle.relay_model.specs.declared.places.Place.{Place}
 use Rattle.std.proofs.Common.{ap}
 use Rattle.relay_model.specs.Holding.{is_free}
@@ -23,20 +23,23 @@ replace-requires g c = found_base c.args.stations.now.entries c.args.place c.hel
 pub returns-clause-held : goal.returns-clause-held
 returns-clause-held g c = shut_holds c.shut-answer.result c.args.place c.args.how (hold_at c.args.stations.now.entries) (hold_at c.replace.new.self.entries) c.replace.ensures.held
 
-pub returns-clause-sound : goal.returns-clause-sound
-returns-clause-sound g c = λ sound.
-    c.list.ensures.sound
-    (sound_but c.args.stations.now.entries c.replace.new.self.entries c.args.place c.held-station.result _ c.args.self.now.table.made c.shut-answer.new.self.made c.args.self.now.listed c.held-station.ensures refl c.replace.ensures.set
-    (id_keeps (taking_port c.held-station.result.base) c.held-station.result.base c.args.self.now.table.made c.shut-answer.new.self.made _ (taking_of c.held-station.result.base) (called_made (finishes c.args.how) (taking_port c.held-station.result.base) c.args.self.now.table c.shut-answer.new.self _ c.shut-answer.ensures))
-    sound)
+pub returns-clause-kept : goal.returns-clause-kept
+returns-clause-kept g c = record {
+  sound = λ sound.
+      c.list.ensures.sound
+      (sound_but c.args.stations.now.entries c.replace.new.self.entries c.args.place c.held-station.result _ c.args.self.now.table.made c.shut-answer.new.self.made c.args.self.now.listed c.held-station.ensures refl c.replace.ensures.set
+      (id_keeps (taking_port c.held-station.result.base) c.held-station.result.base c.args.self.now.table.made c.shut-answer.new.self.made _ (taking_of c.held-station.result.base) (called_made (finishes c.args.how) (taking_port c.held-station.result.base) c.args.self.now.table c.shut-answer.new.self _ c.shut-answer.ensures))
+      sound);
+  bases = same_bases c.args.stations.now.entries c.replace.new.self.entries c.replace.ensures.standing;
+  no_more = search rules;
+  parents = search rules;
+  maker = search rules;
+}
 
 pub returns-clause-station : goal.returns-clause-station
 returns-clause-station g c =
     let sets = rw c.is_final.ensures at c.replace.ensures.set in
     set_as c.args.stations.now.entries c.replace.new.self.entries c.args.place c.held-station.result _ (shut_down (finishes c.args.how)) c.held-station.ensures (ap (λ (q : Place). record (shut_down (finishes c.args.how) c.held-station.result) { place = q }) (sym (found_place c.args.stations.now.entries c.args.place c.held-station.result c.held-station.ensures))) refl sets
-
-pub returns-clause-bases : goal.returns-clause-bases
-returns-clause-bases g c = same_bases c.args.stations.now.entries c.replace.new.self.entries c.replace.ensures.standing
 
 pub returns-clause-call : goal.returns-clause-call
 returns-clause-call g c = rw c.list.ensures.table (at_base c.args.stations.now.entries c.args.place c.held-station.result _ c.held-station.ensures c.shut-answer.ensures)

@@ -5,7 +5,7 @@ use Rattle.port_desk.proofs.worlds.DeskWorld.open_place.Goals as goal
 pub returns-clause-begun : goal.returns-clause-begun
 returns-clause-begun g c =
     opened_from (standard_of c.args.place c.args.single.now.target) c.open-answer.result c.args.self.now.ports.table c.prepare_opening.new.self.ports.table c.open-answer.new.self.table
-    (record { input = c.prepare_opening.ensures.streams.0; output = c.prepare_opening.ensures.streams.1; errors = c.prepare_opening.ensures.streams.2 })
+    c.prepare_opening.ensures.streams
     c.open-answer.ensures.begun
 
 pub returns-clause-ports : goal.returns-clause-ports
@@ -15,7 +15,7 @@ returns-clause-ports g c =
 pub returns-in_default-clause-begun : goal.returns-in_default-clause-begun
 returns-in_default-clause-begun g c =
     unopened (standard_of c.args.place c.args.single.now.target) c.args.self.now.ports.table c.prepare_opening.new.self.ports.table
-    (record { input = c.prepare_opening.ensures.streams.0; output = c.prepare_opening.ensures.streams.1; errors = c.prepare_opening.ensures.streams.2 })
+    c.prepare_opening.ensures.streams
 
 pub returns-in_default-clause-ports : goal.returns-in_default-clause-ports
 returns-in_default-clause-ports g c = no_ports (standard_of c.args.place c.args.single.now.target) c.args.self.now.ports.table.made c.prepare_opening.new.self.ports.table.made c.prepare_opening.ensures.made

@@ -1,5 +1,5 @@
 use Rattle.port_table.specs.PortTables.{giving_port}
-use Rattle.port_table.specs.Ports.{Reads}
+use Rattle.port_trait.specs.Ports.{Reads}
 use Rattle.desk_places.specs.Stations.{base_at, station_at}
 use Rattle.port_desk.specs.Calls.{ReadsSo}
 use Rattle.port_desk.proofs.CallLemmas.{called_so, not_called, reads_so}

@@ -1,5 +1,5 @@
 use Rattle.port_table.specs.PortTables.{taking_port}
-use Rattle.port_table.specs.Ports.{Sends}
+use Rattle.port_trait.specs.Ports.{Sends}
 use Rattle.desk_places.specs.Stations.{base_at, station_at}
 use Rattle.port_desk.specs.Calls.{SendsSo}
 use Rattle.port_desk.proofs.CallLemmas.{called_so, not_called, sends_so}

@@ -1,5 +1,5 @@
 use Rattle.port_table.specs.PortTables.{taking_port}
-use Rattle.port_table.specs.Ports.{Writes}
+use Rattle.port_trait.specs.Ports.{Writes}
 use Rattle.desk_places.specs.Stations.{base_at, station_at}
 use Rattle.port_desk.specs.Calls.{WritesSo}
 use Rattle.port_desk.proofs.CallLemmas.{called_so, not_called, writes_so}

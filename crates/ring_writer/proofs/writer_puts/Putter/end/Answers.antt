@@ -18,6 +18,6 @@ returns-clause-putting g c =
       takes = c.requires.putting.takes;
       room = c.requires.putting.room;
       count = c.requires.putting.count ∙ ap told (sym (end_bytes before now c.args.self.now.count more));
-      marked = end_marked before now c.args.self.now.count more ∙ ap (λ n. n + 1) (c.requires.putting.marked ∙ ap (λ b. if b then 1 else 0) c.requires.open);
+      marked = end_marked before now c.args.self.now.count more ∙ ap (λ n. n + 1) (c.requires.putting.marked ∙ ap (λ b. if b then 1 else 0) c.requires.unended);
       ended = end_last before now c.args.self.now.count more;
     }

@@ -1,4 +1,15 @@
+use Rattle.std.proofs.Common.{rules}
 use Rattle.socket_maker.proofs.port.HostPortPort.send.Goals as goal
 
-pub returns-in-Looking-clause-accepts : goal.returns-in-Looking-clause-accepts
-returns-in-Looking-clause-accepts c = (c.barred_write.ensures.none c.args.bytes.now).1
+pub returns-in-Looking : goal.returns-in-Looking
+returns-in-Looking c = record {
+  accepts = (c.barred_write.ensures.none c.args.bytes.now).1;
+  gave = search rules;
+  unshut = search rules;
+  unemptied = search rules;
+  begun = search rules;
+  ended = search rules;
+  child = search rules;
+  served = search rules;
+  counts = search rules;
+}

@@ -1,8 +1,9 @@
+use Rattle.std.proofs.Common.{refl}
 use Rattle.standard_ports.proofs.FirstBytes.{none_told, unread}
 use Rattle.standard_ports.proofs.fresh.FreshInput.into_port.Goals as goal
 
 pub returns-clause-told : goal.returns-clause-told
-returns-clause-told g c = unread c.args.self.port c.args.self.unread
+returns-clause-told g c = unread _ _ c.args.self.port (λ _. refl) (λ _. refl) c.args.self.unread
 
 pub returns-clause-none : goal.returns-clause-none
-returns-clause-none g c = none_told _ (unread c.args.self.port c.args.self.unread)
+returns-clause-none g c = none_told _ (unread _ _ c.args.self.port (λ _. refl) (λ _. refl) c.args.self.unread)

@@ -12,7 +12,7 @@ const MOST: usize = 6;
 
 /// Descriptors that nothing else uses, so that they can be given up for others. They are copies of the poller's own.
 #[derive(Drop)]
-pub(crate) struct Reserve {
+pub struct Reserve {
     alloc: Global,
     registry: Rc<Registry, Global>,
     spares: Vec<Registry>,
@@ -21,7 +21,7 @@ pub(crate) struct Reserve {
 
 impl Model for Reserve {
     ghost use Rattle.std.specs.Prelude.{◌≤◌, ◌<◌, length};
-    ghost use Rattle.real_maker.specs.Reserves.{ReserveState};
+    ghost use Rattle.socket_maker.specs.Reserves.{ReserveState};
 
     ghost Value = { ReserveState };
 
@@ -32,7 +32,7 @@ impl Model for Reserve {
 
 impl Reserve {
     /// Holds nothing yet.
-    pub(crate) fn of(alloc: Global, registry: Rc<Registry, Global>) -> Reserve
+    pub fn of(alloc: Global, registry: Rc<Registry, Global>) -> Reserve
         ensures { result.held ≡ 0 }
     {
         Reserve {
@@ -59,7 +59,7 @@ impl Reserve {
     }
 
     /// Takes as many descriptors as are wanted, as far as they can be had. Answers how many are lacking.
-    pub(crate) fn fill(&mut self) -> usize
+    pub fn fill(&mut self) -> usize
         ensures lacking { result ≡ self.new.wanted - self.new.held }
         ensures full { result ≡ 0 → self.new.held ≡ self.new.wanted }
         ensures some { 0 < self.new.wanted }
@@ -71,7 +71,7 @@ impl Reserve {
     }
 
     /// The same, and gives one up again, for the connection of a peer, where none is lacking.
-    pub(crate) fn admit(&mut self) -> usize
+    pub fn admit(&mut self) -> usize
         ensures given { result ≡ 0 → self.new.held + 1 ≡ self.new.wanted }
         ensures wanted { self.new.wanted ≡ self.old.wanted }
     {
@@ -94,13 +94,13 @@ impl Reserve {
     }
 
     /// Wants no more from now on than can be had now, while nothing is open that could be closed, but one at least.
-    pub(crate) fn fit(&mut self) {
+    pub fn fit(&mut self) {
         self.fill();
         self.wanted = self.spares.len().max(1);
     }
 
     /// Gives one away, if any is held. Who lets it go can have a descriptor in its place.
-    pub(crate) fn give_one(&mut self) -> Option<Registry>
+    pub fn give_one(&mut self) -> Option<Registry>
         ensures held { self.new.held ≡ self.old.held - 1 }
         ensures wanted { self.new.wanted ≡ self.old.wanted }
     {
@@ -108,7 +108,7 @@ impl Reserve {
     }
 
     /// Gives up all, and answers true, where something is held and too few besides can be had.
-    pub(crate) fn gives_up(&mut self) -> bool
+    pub fn gives_up(&mut self) -> bool
         ensures given { result ≡ true → self.new.held ≡ 0 }
         ensures kept { result ≡ false → self.new.held ≡ self.old.held }
         ensures wanted { self.new.wanted ≡ self.old.wanted }
@@ -122,7 +122,7 @@ impl Reserve {
 }
 
 /// Whether so many descriptors can be had. They are taken and given back.
-pub(crate) fn can_have(alloc: Global, registry: &Registry, count: usize) -> bool {
+pub fn can_have(alloc: Global, registry: &Registry, count: usize) -> bool {
     let mut had = Vec::new(alloc);
     for _ in 0..count {
         let Ok(spare) = registry.try_clone() else {

@@ -1,14 +1,13 @@
 // The echo pipe: a port that gives back what it took.
-ghost use Rattle.std.specs.Prelude.{◌≡◌, ◌<◌, ◌++◌, true, false, length, Some, None, IfOk};
-ghost use Rattle.port_trait.specs.Counting.{Tallied};
-ghost use Rattle.port_trait.specs.Meanings.{Gives, Accepts, AcceptsAll, is_end, read_event, write_event};
+ghost use Rattle.std.specs.Prelude.{◌≡◌, ◌<◌, ◌++◌, true, false, length, Some, IfOk};
+ghost use Rattle.port_trait.specs.Ports.{Reads, Writes, Sends, PutsAll, untold};
 ghost use Rattle.port_trait.specs.declared.answers.Begun.TheVariants as begins;
 ghost use Rattle.port_trait.specs.declared.answers.Settled.TheVariants as settles;
 ghost use Rattle.port_trait.specs.declared.answers.Took.TheVariants as writes;
 ghost use Rattle.port_trait.specs.declared.answers.Shutting.TheVariants as shuts;
 ghost use Rattle.port_trait.specs.declared.answers.PortReap.TheVariants as reaps;
 ghost use Rattle.port_trait.specs.declared.answers.Joining.TheVariants as joining;
-ghost use Rattle.file_ports.specs.Echoes.{fresh_echo, room_of, echo_read, echo_write, echo_put_all, echo_hint, got_front, held_after, shut_after, KeptByTransfer};
+ghost use Rattle.port_objects.specs.Echoes.{fresh_echo, room_of, echo_read, echo_write, echo_put_all, echo_hint, got_front, held_after, shut_after, KeptByTransfer};
 
 use circular_buffer::HeapCircularBuffer;
 use port_trait::{Begun, Counts, Got, Hint, Joining, Port, PortReap, Settled, Shutting, Took};
@@ -27,11 +26,18 @@ pub struct EchoPort {
 }
 
 impl Model for EchoPort {
-    ghost use Rattle.file_ports.specs.Echoes.{EchoState};
+    ghost use Rattle.port_objects.specs.Echoes.{EchoState};
 
     ghost Value = { EchoState };
 
-    ghost view = { λ port. record { held = port.held.items; capacity = port.held.capacity; is_shut = port.is_shut; counts = port.counts; begun = port.begun; ended = port.ended } };
+    ghost view = { λ port. record {
+      held = port.held.items;
+      capacity = port.held.capacity;
+      is_shut = port.is_shut;
+      counts = port.counts;
+      begun = port.begun;
+      ended = port.ended;
+    } };
 }
 
 impl EchoPort {
@@ -60,19 +66,13 @@ impl EchoPort {
 }
 
 impl Port for EchoPort {
-    ghost hints = { λ port. Some (echo_hint port) };
-
-    ghost hinting = { echo_hint };
-
-    ghost counts = { λ port. port.counts };
-
-    ghost begun = { λ port. port.begun };
-
-    ghost ended = { λ port. port.ended };
-
-    ghost joins = { λ _. true };
-
-    ghost child = { λ _. false };
+    ghost seen = { λ port. record untold {
+      hints = Some (echo_hint port);
+      hinting = echo_hint port;
+      counts = port.counts;
+      begun = port.begun;
+      ended = port.ended;
+    } };
 
     fn begin(&mut self) -> Begun
         ensures begun { result ≡ begins.Begun }
@@ -96,10 +96,8 @@ impl Port for EchoPort {
         requires { 0 < length into.old }
         ensures answer { result ≡ echo_read self.old.held self.old.is_shut (length into.new) }
         ensures bytes { self.old.held ≡ got_front into.new result ++ self.new.held }
-        ensures gives { Gives None None into.new result }
         ensures kept { KeptByTransfer self.old self.new }
-        ensures ended { self.new.ended ≡ is_end result }
-        ensures counts { Tallied (read_event result) self.old.counts self.new.counts }
+        ensures reads { let seen = ⟦<EchoPort as Port>⟧.seen in Reads (seen self.old) (seen self.new) into.new result }
     {
         let count = self.held.read_into(into);
         self.ended = false;
@@ -119,11 +117,9 @@ impl Port for EchoPort {
     fn write(&mut self, bytes: &[u8]) -> Took
         requires { 0 < length bytes.now }
         ensures answer { result ≡ echo_write (room_of self.old) (length bytes.now) }
-        ensures accepts { Accepts None None bytes.now result }
         ensures held { self.new.held ≡ held_after self.old.held bytes.now result }
         ensures kept { KeptByTransfer self.old self.new }
-        ensures ended { self.new.ended ≡ self.old.ended }
-        ensures counts { Tallied (write_event result) self.old.counts self.new.counts }
+        ensures writes { let seen = ⟦<EchoPort as Port>⟧.seen in Writes (seen self.old) (seen self.new) bytes.now result }
     {
         let count = self.held.fill_from_slice(bytes);
         if count > 0 {
@@ -137,8 +133,7 @@ impl Port for EchoPort {
         ensures answer { result ≡ writes.Failed }
         ensures held { self.new.held ≡ self.old.held }
         ensures kept { KeptByTransfer self.old self.new }
-        ensures ended { self.new.ended ≡ self.old.ended }
-        ensures counts { Tallied (write_event result) self.old.counts self.new.counts }
+        ensures sends { let seen = ⟦<EchoPort as Port>⟧.seen in Sends (seen self.old) (seen self.new) _bytes.now result }
     {
         self.counts.count_fault();
         Took::Failed
@@ -147,11 +142,9 @@ impl Port for EchoPort {
     /// Takes all, and answers `Failed` exactly where the bytes don't fit.
     fn put_all(&mut self, bytes: &[u8]) -> Took
         ensures answer { result ≡ echo_put_all (room_of self.old) (length bytes.now) }
-        ensures accepts { AcceptsAll None None bytes.now result }
         ensures held { self.new.held ≡ held_after self.old.held bytes.now result }
         ensures kept { KeptByTransfer self.old self.new }
-        ensures ended { self.new.ended ≡ self.old.ended }
-        ensures counts { Tallied (write_event result) self.old.counts self.new.counts }
+        ensures puts { let seen = ⟦<EchoPort as Port>⟧.seen in PutsAll (seen self.old) (seen self.new) bytes.now result }
     {
         if bytes.len() <= self.held.capacity() - self.held.len() {
             return Took::Took(self.held.fill_from_slice(bytes));

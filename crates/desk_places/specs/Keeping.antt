@@ -1,0 +1,21 @@
+-- What a call leaves of the places and of the ports that they stand on.
+use Rattle.std.specs.Prelude.{◌≡◌, ◌≤◌, ◌+◌, List, length}
+use Rattle.desk_places.specs.declared.ports.Ports.{Ports}
+use Rattle.desk_places.specs.declared.stations.Station.{Station}
+use Rattle.desk_places.specs.PlaceBases.{SameBases}
+use Rattle.desk_places.specs.Standing.{IsSound}
+use Rattle.desk_places.specs.Stations.{base_at}
+
+-- at most one place more is held, each stands on a port of its own as before, and no port is kept without its place
+pub record TakesOne {A B C D E : Type 0} (stations stations' : List Station) (before now : Ports A B C D E) : Type 0 where
+  pub sound : IsSound stations before.table.made before.listed → IsSound stations' now.table.made now.listed
+  pub one_more : length stations' ≤ length stations + 1
+  pub parents : now.parents ≡ before.parents
+
+-- no place more is held, and each stands on what it stood on
+pub record KeepsPlaces {A B C D E : Type 0} (stations stations' : List Station) (before now : Ports A B C D E) : Type 0 where
+  pub sound : IsSound stations before.table.made before.listed → IsSound stations' now.table.made now.listed
+  pub bases : SameBases (base_at stations) (base_at stations')
+  pub no_more : length stations' ≤ length stations
+  pub parents : now.parents ≡ before.parents
+  pub maker : now.maker ≡ before.maker
