@@ -21,8 +21,15 @@ impl<P: Poller + Drop> Model for Clock<P> {
 
     ghost Value = { ClockSeen };
 
-    ghost view = { λ c. record { last = c.last; reached = P.clock c.poller; stops = P.stops c.poller; asked = P.asked c.poller;
-        keys = c.keys.entries; named = P.named c.poller; stopped = P.stopped c.poller } };
+    ghost view = { λ c. record {
+      last = c.last;
+      reached = P.clock c.poller;
+      stops = P.stops c.poller;
+      asked = P.asked c.poller;
+      keys = c.keys.entries;
+      named = P.named c.poller;
+      stopped = P.stopped c.poller;
+    } };
 
     ghost invariant = { λ c. (c.last ≤ P.clock c.poller) × (256 ≤ c.keys.room) };
 }

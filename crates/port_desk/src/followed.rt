@@ -36,7 +36,7 @@ pub struct Followed<M: Maker + Drop, P: Poller + Drop, I: Port, O: Port, E: Port
     since: Since<B>,
     ghost follows: { ∥ (StartsInStep B.start
         → FollowsTold desk.log.recording.told (base_at desk.log.stations.entries) desk.ports.table.input.port.gave
-            desk.ports.table.output.port.took desk.ports.table.errors.port.took desk.ports.table.input.port.ended) ∥₁ },
+        desk.ports.table.output.port.took desk.ports.table.errors.port.took desk.ports.table.input.port.ended) ∥₁ },
 }
 
 impl<M, P, I: Port, O: Port, E: Port, B: Beginning> Followed<M, P, I, O, E, B>
@@ -47,9 +47,13 @@ where
     /// Follows the desk, at which nothing is held, from here on.
     pub fn new(desk: Desk<M, P, I, O, E>) -> Followed<M, P, I, O, E, B>
         requires free { (p : Spot) → (⟦<Desk<M, P, I, O, E> as World>⟧.seen desk).held p ≡ Free }
-        requires start { B.start ≡ record { told = desk.log.recording.told; gave = desk.ports.table.input.port.gave;
-            took = desk.ports.table.output.port.took; said = desk.ports.table.errors.port.took;
-            ended = desk.ports.table.input.port.ended } }
+        requires start { B.start ≡ record {
+          told = desk.log.recording.told;
+          gave = desk.ports.table.input.port.gave;
+          took = desk.ports.table.output.port.took;
+          said = desk.ports.table.errors.port.took;
+          ended = desk.ports.table.input.port.ended;
+        } }
         ensures { result.desk ≡ desk }
     {
         Followed {

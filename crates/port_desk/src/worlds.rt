@@ -33,8 +33,14 @@ use world_trait::{
 };
 
 impl<M: Maker + Drop, P: Poller + Drop, I: Port, O: Port, E: Port> World for Desk<M, P, I, O, E> {
-    ghost seen = { λ d. record { told = d.log.recording.told; held = hold_at d.log.stations.entries; faults = d.log.faults;
-        waits = d.waits; stops = d.stops; clock = d.clock.last } };
+    ghost seen = { λ d. record {
+      told = d.log.recording.told;
+      held = hold_at d.log.stations.entries;
+      faults = d.log.faults;
+      waits = d.waits;
+      stops = d.stops;
+      clock = d.clock.last;
+    } };
 
     /// Names the halves that hint, and those whose key the poller names. Where one hints, the poller doesn't wait.
     fn wait(&mut self, until: Option<u64>, ready: &mut ReadyList) -> Turned
