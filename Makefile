@@ -31,6 +31,9 @@ help:
 $(PROGRAMS) &: $(SOURCES) HANDLES tools/build.py
 	tools/build.py $(NAMES)
 
+bin/part_trials: $(SOURCES) HANDLES tools/build.py
+	tools/build.py part_trials
+
 check:
 	.ci/run
 
@@ -52,7 +55,7 @@ picture: bin/socat bin/socat-journal
 quick:
 	for name in $(NAMES); do tools/quick.sh $$name || exit; done
 
-bench: bin/socat
+bench: $(PROGRAMS) bin/part_trials
 	bench/run
 
 install: $(PROGRAMS)

@@ -8,6 +8,7 @@ import socket
 import subprocess
 import sys
 import tempfile
+import threading
 import time
 
 FOLDER = os.path.dirname(os.path.abspath(__file__))
@@ -37,13 +38,14 @@ class Failed(Exception):
 
 
 class Figure:
-    """What was found of each program, one value a round."""
+    """What was found of each program, one value a round. It stands in the table of its workload, where a part has several."""
 
-    def __init__(self, name, unit, values, less_is_better=False):
+    def __init__(self, name, unit, values, less_is_better=False, workload=""):
         self.name = name
         self.unit = unit
         self.values = values
         self.less_is_better = less_is_better
+        self.workload = workload
 
 
 class Bench:
@@ -56,8 +58,8 @@ class Bench:
         self.scratch = tempfile.TemporaryDirectory()
         self.programs = {"ours": os.path.realpath(program)}
         for name in INSTALLED:
-            path = shutil.which(name, path=os.environ.get("PATH", "") + ":/usr/sbin:/usr/local/sbin")
-            if path and os.path.realpath(path) != self.programs["ours"]:
+            path = installed(name)
+            if path:
                 self.programs[name] = path
             else:
                 self.note(f"{name} isn't installed")
@@ -70,17 +72,21 @@ class Bench:
             self.note("there is no C compiler, so no bare loop, and nothing that many clients do")
 
     def note(self, text):
+        """Tells what is left out and why, without the folders of this machine."""
+        text = re.sub(r"(?<![\w.~-])/(?:[^\s'\"/]+/)+", "", text)
         if text not in self.notes:
             self.notes.append(text)
             print(f"skipped: {text}", file=sys.stderr, flush=True)
 
     def compiled(self, name):
-        """The program of NAME.c, where there is a compiler."""
+        """The program of NAME.c, where there is a compiler that takes it."""
         compiler = shutil.which("cc") or shutil.which("gcc") or shutil.which("clang")
         if not compiler:
             return None
         program = os.path.join(self.scratch.name, name)
-        subprocess.run([compiler, "-O2", "-o", program, os.path.join(FOLDER, f"{name}.c")], check=True)
+        made = subprocess.run([compiler, "-O2", "-o", program, os.path.join(FOLDER, f"{name}.c")], check=False)
+        if made.returncode != 0:
+            return self.note(f"{compiler} doesn't compile bench/{name}.c")
         return program
 
     def chosen(self, *names):
@@ -113,6 +119,34 @@ class Bench:
         found = self.in_turn(names, measure, rounds, columns[0][0])
         for at, (name, unit, less_is_better) in enumerate(columns):
             yield Figure(name, unit, {who: [row[at] for row in rows] for who, rows in found.items()}, less_is_better)
+
+
+# --- peers
+
+
+def installed(name):
+    """The path of a peer, or None. Another copy of the program that is measured is no peer."""
+    for folder in os.environ.get("PATH", "").split(":") + ["/usr/sbin", "/usr/local/sbin"]:
+        path = shutil.which(name, path=folder) if folder else None
+        if path and "socat relay, profile" not in said(path, name):
+            return path
+    return None
+
+
+def said(path, name):
+    """What a peer prints of itself."""
+    flag = {"ncat": "--version", "cat": "--version", "haproxy": "-v", "pen": "-h"}.get(name, "-V")
+    try:
+        run = subprocess.run([path, flag], stdin=subprocess.DEVNULL, capture_output=True, text=True, timeout=10, check=False)
+    except (OSError, subprocess.TimeoutExpired):
+        return ""
+    return run.stdout + run.stderr
+
+
+def version(bench, name):
+    """The version that a peer tells, as a number."""
+    found = re.search(r"\d+\.\d[\w.]*", said(bench.programs[name], name))
+    return found.group() if found else ""
 
 
 # --- relays
@@ -170,9 +204,10 @@ def awaited(relay, any_status=False):
     """Waits for its end: the processor time that it took, in seconds."""
     if relay.returncode is not None:
         raise Failed(f"{relay.args[0]} ended early, with {relay.returncode}")
-    signal.alarm(LIMIT)
+    limit = threading.Timer(LIMIT, os.killpg, (relay.pid, signal.SIGKILL))
+    limit.start()
     _, status, usage = os.wait4(relay.pid, 0)
-    signal.alarm(0)
+    limit.cancel()
     relay.returncode = os.waitstatus_to_exitcode(status)
     if relay.returncode != 0 and not any_status:
         raise Failed(f"{relay.args[0]} ended with {relay.returncode}")
@@ -250,11 +285,3 @@ def machine():
     at = f" at {clock.group(1)} MHz" if clock else ""
     virtual = ", a virtual machine" if re.search(r"^flags\s*:.*\bhypervisor\b", text, re.M) else ""
     return f"{name}{at}, {os.cpu_count()} processors, Linux {os.uname().release.split('-')[0]}{virtual}"
-
-
-def version(bench, name):
-    """The version that a peer tells, as a number."""
-    flag = {"ncat": "--version", "cat": "--version", "haproxy": "-v", "pen": "-h"}.get(name, "-V")
-    said = subprocess.run([bench.programs[name], flag], stdin=subprocess.DEVNULL, capture_output=True, text=True, check=False)
-    found = re.search(r"\d+\.\d[\w.]*", said.stdout + said.stderr)
-    return found.group() if found else ""

@@ -230,6 +230,8 @@ def calls(bench, name, kind):
     with tempfile.NamedTemporaryFile("r") as table:
         flow(bench, name, kind, "right", count, ["strace", "-c", "-f", "-o", table.name])
         total = re.search(r"^100\.00\s+\S+\s+\S+\s+(\d+)", table.read(), re.M)
+    if not total:
+        raise Failed("strace counted nothing")
     return (int(total.group(1)) * BLOCK / count,)
 
 

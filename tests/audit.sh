@@ -11,14 +11,12 @@ quiet=yes
 
 # expect NAME LINE STATUS FILE WORDS..: the auditor says this line, and ends with this status.
 expect() {
-    local name="$1" line="$2" status="$3" file="$4" said got problem=''
-    shift 4
-    said="$(timeout 120 "$program" "$file" "$@")"
-    got=$?
-    if [ "$said" != "$line" ] || [ "$got" -ne "$status" ]; then
-        problem="'$said' and status $got, not '$line' and status $status"
-    fi
-    report "$name" "$problem"
+    local said status
+    begin "$1"
+    said="$(timeout 120 "$program" "${@:4}")"
+    status=$?
+    [ "$said" = "$2" ] && [ "$status" -eq "$3" ] || wrong "'$said' and status $status, not '$2' and status $3"
+    finish
 }
 
 # The status that goes with a line.
@@ -32,7 +30,7 @@ status_of() {
 # run_cases FILE: each case of the file in tests/data: a line 'words', a line 'verdict', a line 'lines' with their
 # number, and the journal's text, without its last newline where 'unfinished' follows the number.
 run_cases() {
-    local file="$1" number=0 wanted key rest words='' verdict='' count unfinished i line
+    local file="$1" number=0 key rest words='' verdict='' count unfinished i line
     while IFS=' ' read -r key rest; do
         case "$key" in
             words) words="$rest" ;;
@@ -59,10 +57,7 @@ run_cases() {
         esac
     done <"$here/tests/data/$file"
     echo "$number journals of $file"
-    wanted="$(grep -c '^verdict ' "$here/tests/data/$file")"
-    if [ "$number" -eq 0 ] || [ "$number" -ne "$wanted" ]; then
-        report "$file" "$number cases were run, of $wanted"
-    fi
+    all_tried "$file" "$number" "$(grep -c '^verdict ' "$here/tests/data/$file")"
 }
 
 # acts_of_sessions SESSIONS TURNS: the journal of a run in which a door of `fork` serves so many sessions. So many turns
@@ -109,14 +104,14 @@ short_acts() {
 # run_long_journal NAME SECONDS LINE FILE WORDS..: the auditor says this line of the journal within these seconds, or
 # within PATIENCE times as many on a slow machine.
 run_long_journal() {
-    local name="$1" limit=$(($2 * ${PATIENCE:-1})) line="$3" file="$4" said begun took problem=''
-    shift 4
-    begun="$(date +%s%N)"
-    said="$(timeout "$limit" "$program" "$file" "$@")"
-    took=$((($(date +%s%N) - begun) / 1000000))
-    [ "$said" = "$line" ] || problem="'$said' after $took ms"
-    report "$name" "$problem"
-    [ -n "$problem" ] || echo "$name in $took ms"
+    local said began took
+    begin "$1"
+    began="$(date +%s%N)"
+    said="$(timeout $(($2 * ${PATIENCE:-1})) "$program" "${@:4}")"
+    took=$((($(date +%s%N) - began) / 1000000))
+    [ "$said" = "$3" ] || wrong "'$said' after $took ms"
+    [ -n "$problem" ] || echo "$1 in $took ms"
+    finish
 }
 
 run_cases journals.txt
@@ -149,12 +144,14 @@ expect "the flag that saves a journal" 'no: words' 1 "$scratch/empty" --journal=
 expect "a file that isn't there" '' 3 "$scratch/missing" "${relay[@]}"
 expect "a folder" '' 3 "$scratch" "${relay[@]}"
 
+begin "no arguments"
 said="$("$program" 2>"$scratch/usage")"
-problem="$(ended_with 3 $?)"
-[ -z "$said" ] && [[ "$(<"$scratch/usage")" == usage:* ]] || problem="said $said$(<"$scratch/usage")"
-report "no arguments" "$problem"
+wrong_if "$(ended_with 3 $?)"
+[ -z "$said" ] && [[ "$(<"$scratch/usage")" == usage:* ]] || wrong "said $said$(<"$scratch/usage")"
+finish
+begin "a full device"
 "$program" "$scratch/empty" "${relay[@]}" >/dev/full
-report "a full device" "$(ended_with 3 $?)"
+wrong_if "$(ended_with 3 $?)"
+finish
 
-echo "$passed passed, $failed failed"
-[ "$failed" -eq 0 ]
+end_cases

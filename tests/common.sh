@@ -6,18 +6,23 @@ failed=0
 
 . "$here/tests/audits.sh"
 
-# use_program PROGRAM: takes this program, and makes the scratch folder, which goes out with the script.
-use_program() {
-    program="$1"
-    case "$program" in
-        /*) ;;
-        *) program="$PWD/$program" ;;
+# find_program PROGRAM: `found` is its whole path. Where there is none, the script ends.
+find_program() {
+    case "$1" in
+        /*) found="$1" ;;
+        *) found="$PWD/$1" ;;
     esac
-    if [ ! -x "$program" ]; then
-        echo "no program at $program: run make first"
+    if [ ! -x "$found" ]; then
+        echo "no program at $found: run make first"
         echo "0 passed, 1 failed"
         exit 1
     fi
+}
+
+# use_program PROGRAM: takes this program, and makes the scratch folder, which goes out with the script.
+use_program() {
+    find_program "$1"
+    program="$found"
     scratch="$(mktemp -d)" || exit 1
     trap 'rm -rf "$scratch"' EXIT
     [ -z "${AUDITOR:-}" ] || audit_runs
@@ -51,6 +56,37 @@ add_counts() {
     done
 }
 
+# --- cases: each begins with `begin`, ends with `finish`, and has one problem at most, the first that `wrong` names
+
+begin() {
+    name="$1"
+    problem=''
+    left_out=''
+    before_case
+}
+
+# begin_words WORD..: a case that is named by its words.
+begin_words() { begin "$(printf '%q ' "$@" | head -c 200)"; }
+
+# wrong TEXT: names what is wrong, where nothing was before.
+wrong() { [ -n "$problem" ] || problem="$1"; }
+
+# wrong_if TEXT: a problem where there is a text.
+wrong_if() { [ -z "$1" ] || wrong "$1"; }
+
+finish() {
+    after_case
+    if [ -n "$left_out" ]; then
+        echo "left out: $name"
+    else
+        report "$name" "$problem"
+    fi
+}
+
+# What a script does around each of its cases.
+before_case() { :; }
+after_case() { :; }
+
 # report NAME PROBLEM: a case passed where no problem is named. Where `quiet` is set only what fails is printed.
 quiet=''
 report() {
@@ -63,11 +99,22 @@ report() {
     fi
 }
 
+# all_tried NAME COUNT WANTED: a case that fails, unless so many were tried, and any.
+all_tried() {
+    [ "$2" -eq "$3" ] && [ "$2" -gt 0 ] || report "$1" "$2 cases were tried, want $3"
+}
+
+# sum_up GROUP: the counts so far.
+sum_up() { echo "$1: $passed passed, $failed failed"; }
+
+# end_cases: the counts of all; it fails where a case did.
+end_cases() {
+    echo "$passed passed, $failed failed"
+    [ "$failed" -eq 0 ]
+}
+
 # ended_with WANTED STATUS: '' where the statuses are the same, else what is wrong.
 ended_with() { [ "$1" = "$2" ] || echo "status $2, not $1"; }
-
-# report_words PROBLEM WORD..: the same of a case that is named by its words.
-report_words() { report "$(printf '%q ' "${@:2}" | head -c 200)" "$1"; }
 
 # next_case: reads the next case's words into `words`: a line 'case N', and N lines with one word each. It fails where no
 # case is left.

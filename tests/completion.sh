@@ -21,6 +21,7 @@ offers() {
     [[ "$1" != *' ' ]] || COMP_WORDS+=('')
     COMP_CWORD=$((${#COMP_WORDS[@]} - 1))
     COMPREPLY=()
+    begin "$COMP_LINE"
     case "$1" in
         'socat-journal '*) _socat_journal ;;
         *) _socat ;;
@@ -28,7 +29,8 @@ offers() {
     got="$(printf '<%s>' "${COMPREPLY[@]}")"
     shift
     wanted="$(printf '<%s>' "$@")"
-    report "$COMP_LINE" "$([ "$got" = "$wanted" ] || echo "offers $got, want $wanted")"
+    [ "$got" = "$wanted" ] || wrong "offers $got, want $wanted"
+    finish
 }
 
 offers 'socat ./file,cre' ./file,creat
@@ -54,5 +56,4 @@ offers 'socat-journal --bytes 0 left --re' --read
 offers 'socat-journal --bytes 0 left jo' journal.txt
 offers 'socat-journal --text 0 left journal.txt -u STDIN STDO' STDOUT
 
-echo "$passed passed, $failed failed"
-[ "$failed" -eq 0 ]
+end_cases

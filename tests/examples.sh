@@ -55,44 +55,42 @@ blocks() {
     ' "$1"
 }
 
-# run_once NAME: runs one block in a folder of its own, and says what is wrong.
+# run_once BLOCK: runs one block in a folder of its own, and says what is wrong.
 run_once() {
-    local name="$1" folder status
+    local block="$1" folder status
     folder="$(mktemp -d "$scratch/run.XXXXXX")"
     ln -s "$scratch/bin" "$folder/bin"
     (
         cd "$folder" || exit 1
-        PATH="$scratch/bin:$PATH" timeout 60 bash -c "$(cat "$name.run")"$'\nwait'
+        PATH="$scratch/bin:$PATH" timeout 60 bash -c "$(cat "$block.run")"$'\nwait'
     ) </dev/null >"$folder.got" 2>&1
     status=$?
     if [ "$status" -eq 124 ]; then
         echo "it didn't end"
-    elif ! cmp -s "$folder.got" "$name.want"; then
+    elif ! cmp -s "$folder.got" "$block.want"; then
         echo "it printed: $(head -c 300 "$folder.got")"
     fi
 }
 
-# example NAME: tries one block.
+# example BLOCK: tries one block.
 example() {
-    local name="$1" title problem='' try
-    title="$(cat "$name.title")"
+    local said try
+    begin "$(cat "$1.title")"
     for try in 1 2 3; do
-        problem="$(run_once "$name")"
-        [ -n "$problem" ] || break
+        said="$(run_once "$1")"
+        [ -n "$said" ] || break
     done
-    [ "$try" -eq 1 ] || title="$title (try $try)"
-    report "$title" "$problem"
+    [ "$try" -eq 1 ] || name="$name (try $try)"
+    wrong_if "$said"
+    finish
 }
 
 for document in "$here"/README.md "$here"/docs/EXAMPLES.md "$here"/docs/COMING_FROM_SOCAT.md "$here"/man/*.1; do
     blocks "$document"
 done
-for name in "$scratch"/blocks/*.run; do
-    example "${name%.run}"
+for block in "$scratch"/blocks/*.run; do
+    example "${block%.run}"
 done
-wanted=31
-tasks="$(grep -c '^### [0-9]' "$here/docs/EXAMPLES.md")"
-[ "$tasks" -eq "$wanted" ] || report "docs/EXAMPLES.md" "it has $tasks tasks, want $wanted"
+all_tried 'the tasks of docs/EXAMPLES.md' "$(grep -c '^### [0-9]' "$here/docs/EXAMPLES.md")" 31
 
-echo "$passed passed, $failed failed"
-[ "$failed" -eq 0 ]
+end_cases

@@ -9,51 +9,34 @@ set -u
 . "$(dirname "${BASH_SOURCE[0]}")/common.sh"
 use_program "${1:-$here/bin/socat-explain}"
 quiet=yes
-relay="${2:-$here/bin/socat}"
-case "$relay" in
-    /*) ;;
-    *) relay="$PWD/$relay" ;;
-esac
-if [ ! -x "$relay" ]; then
-    echo "no program at $relay: run make first"
-    echo "0 passed, 1 failed"
-    exit 1
-fi
+find_program "${2:-$here/bin/socat}"
+relay="$found"
 mkdir "$scratch/empty"
 cd "$scratch/empty" || exit 1
 
 shopt -s nullglob dotglob
 
-# explain WORD..: runs the program. 'text' is its report, with a point behind it, and 'problem' says what is wrong with any
-# report, whatever the words are.
+# explain WORD..: runs the program; `status` is what it ended with, and `text` its report, with a point behind it.
 explain() {
-    local made
     timeout 60 "$program" "$@" >"$scratch/report" 2>"$scratch/err" </dev/null
     status=$?
     text="$(cat "$scratch/report" && printf .)"
-    problem=''
-    made=(*)
-    if [ "$status" -ne 0 ] && [ "$status" -ne 1 ]; then
-        problem="status $status"
-    elif [ -s "$scratch/err" ]; then
-        problem="said $(head -c 100 "$scratch/err")"
-    elif [ "$(LC_ALL=C tr -d ' -~\n' <"$scratch/report" | wc -c)" -ne 0 ]; then
-        problem='a byte that is neither printable nor a newline'
-    elif [[ "$text" != *$'\n.' ]]; then
-        problem='no newline at the end'
-    elif [ "${#made[@]}" -ne 0 ]; then
-        problem="something was made: ${made[0]}"
-    fi
 }
 
-# wants STATUS TEXT..: the run ended so, and each of these texts stands in its report.
+# wants STATUS TEXT..: the last run ended so, made nothing and gave a report, in which each of these texts stands.
 wants() {
-    local wanted="$1" sought
-    shift
-    [ -z "$problem" ] || return
-    [ "$status" -eq "$wanted" ] || problem="status $status: ${text%%$'\n'*}"
-    for sought in "$@"; do
-        [ -n "$problem" ] || [[ "$text" == *"$sought"* ]] || problem="nothing is said of $sought"
+    local sought made=(*)
+    case "$status" in
+        0 | 1) ;;
+        *) wrong "status $status" ;;
+    esac
+    [ ! -s "$scratch/err" ] || wrong "said $(head -c 100 "$scratch/err")"
+    [ "$(LC_ALL=C tr -d ' -~\n' <"$scratch/report" | wc -c)" -eq 0 ] || wrong 'a byte that is neither printable nor a newline'
+    [[ "$text" == *$'\n.' ]] || wrong 'no newline at the end'
+    [ "${#made[@]}" -eq 0 ] || wrong "something was made: ${made[0]}"
+    [ "$status" -eq "$1" ] || wrong "status $status: ${text%%$'\n'*}"
+    for sought in "${@:2}"; do
+        [[ "$text" == *"$sought"* ]] || wrong "nothing is said of $sought"
     done
 }
 
@@ -72,20 +55,17 @@ texts() {
                 *) break ;;
             esac
         done >>"$scratch/text"
+        begin_words "${words[@]}"
         explain "${words[@]}"
         wants "$wanted"
-        if [ -z "$problem" ] && ! cmp -s "$scratch/report" "$scratch/text"; then
-            problem="$(diff "$scratch/text" "$scratch/report" | head -n 5)"
-        fi
-        report_words "$problem" "${words[@]}"
+        wrong_if "$(diff "$scratch/text" "$scratch/report" | head -n 5)"
+        finish
         tried=$((tried + 1))
     done <"$1"
-    if [ "$tried" -eq 0 ] || [ "$tried" -ne "$(grep -c '^case ' "$1")" ]; then
-        report "$1" "$tried cases were tried"
-    fi
+    all_tried "$1" "$tried" "$(grep -c '^case ' "$1")"
 }
 texts "$here/tests/data/explanations.txt"
-echo "texts: $passed passed, $failed failed"
+sum_up texts
 
 # --- every kind and every option of the tables, which tests/tables.sh compares with the completion
 
@@ -134,35 +114,37 @@ in_order() {
     [ "$status" -eq 0 ] || explain -U "$1" STDIN
 }
 
+# says_of ADDRESS TEXT..: the address makes a command, and each of these texts stands in its report.
+says_of() {
+    begin_words "$1"
+    in_order "$1"
+    wants 0 "${@:2}"
+    finish
+}
+
 for kind in "${!_socat_groups[@]}"; do
     address="$kind$(parameters "$kind")"
-    in_order "$address"
-    wants 0 'first address' 'second address' "the other's end: "
-    report_words "$problem" "$address"
+    says_of "$address" 'first address' 'second address' "the other's end: "
     # The families of addresses take the same options.
     [[ "$kind" != @(TCP|UDP)[46]* ]] || continue
     for group in ${_socat_groups[$kind]}; do
         for option in ${_socat_options[$group]}; do
-            word="$address,$(value "$option")"
-            in_order "$word"
-            wants 0 "$(told "$option")"
-            report_words "$problem" "$word"
+            says_of "$address,$(value "$option")" "$(told "$option")"
         done
     done
 done
-echo "kinds and options: $passed passed, $failed failed"
+sum_up 'kinds and options'
 
 # An option that is on says something else than one that is off.
 differs() {
     local off="$1" on="$2"
+    begin_words "$on"
     in_order "$off"
     mv "$scratch/report" "$scratch/off"
     in_order "$on"
     wants 0
-    if [ -z "$problem" ] && cmp -s "$scratch/report" "$scratch/off"; then
-        problem='the same is said without the option'
-    fi
-    report_words "$problem" "$on"
+    ! cmp -s "$scratch/report" "$scratch/off" || wrong 'the same is said without the option'
+    finish
 }
 for pair in STDIO,cr STDIO,crnl STDIO,ignoreeof STDIO,readbytes=1 STDIO,escape=1 OPEN:x,shut-none UDP:h:1,null-eof \
     UDP:h:1,shut-null TCP:h:1,shut-close TCP:h:1,shut-none OPEN:x,creat OPEN:x,excl OPEN:x,append OPEN:x,trunc \
@@ -175,25 +157,23 @@ done
 differs TCP-LISTEN:1,fork TCP-LISTEN:1,fork,max-children=2
 differs TCP-LISTEN:1,fork TCP-LISTEN:1,fork,stop-after=2
 differs TCP:h:1,forever TCP:h:1,forever,interval=2
-echo "options that are on: $passed passed, $failed failed"
+sum_up 'options that are on'
 
 # --- refusals: the line of the relay, and the word with carets under it
 
 # refused WORD..: both programs refuse the words with the same line.
 refused() {
     local line
+    begin_words "$@"
     explain "$@"
+    wants 1
     line="$(timeout 20 "$relay" "$@" 2>&1 >/dev/null </dev/null)"
     rm -f ./*
-    wants 1
-    if [ -z "$problem" ] && [ "${text%%$'\n'*}" != "$line" ]; then
-        problem="says ${text%%$'\n'*}, and the relay $line"
-    elif [ -z "$problem" ]; then
-        case "$line" in
-            *' word '*) grep -q '^ *^^*$' "$scratch/report" || problem='no word is underlined' ;;
-        esac
-    fi
-    report_words "$problem" "$@"
+    [ "${text%%$'\n'*}" = "$line" ] || wrong "says ${text%%$'\n'*}, and the relay $line"
+    case "$line" in
+        *' word '*) grep -q '^ *^^*$' "$scratch/report" || wrong 'no word is underlined' ;;
+    esac
+    finish
 }
 
 refusals() {
@@ -231,15 +211,14 @@ bytes="$(printf '\\x%02x' {1..255})"
 # shellcheck disable=SC2059
 bytes="$(printf "$bytes")"
 refused "$bytes" -
-echo "refusals: $passed passed, $failed failed"
+sum_up refusals
 
 # names SHOWN WORD..: the words make a command, and the report shows a name so.
 names() {
-    local shown="$1"
-    shift
-    explain "$@"
-    wants 0 "$shown"
-    report_words "$problem" "$@"
+    begin_words "${@:2}"
+    explain "${@:2}"
+    wants 0 "$1"
+    finish
 }
 names '"\x1b[2J\x07"' -u $'OPEN:\x1b\\[2J\x07' STDOUT
 names '"\xff\xfe"' -u $'OPEN:\xff\xfe' STDOUT
@@ -250,17 +229,24 @@ names "\"$(long 60000 n)\"" -u "OPEN:$(long 60000 n)" STDOUT
 
 # --- where nothing can be written
 
+begin 'a full device'
 "$program" -u STDIN STDOUT >/dev/full
-report 'a full device' "$(ended_with 3 $?)"
+wrong_if "$(ended_with 3 $?)"
+finish
+begin 'a closed output'
 "$program" -u STDIN STDOUT >&-
-report 'a closed output' "$(ended_with 3 $?)"
+wrong_if "$(ended_with 3 $?)"
+finish
+begin 'a refusal on a full device'
 "$program" -b >/dev/full
-report 'a refusal on a full device' "$(ended_with 3 $?)"
+wrong_if "$(ended_with 3 $?)"
+finish
+begin 'a reader that closed'
 {
     "$program" "$(long 65537 a)" -
     echo "$?" >"$scratch/ended"
 } | head -c 1 >/dev/null
-report 'a reader that closed' "$(ended_with 3 "$(<"$scratch/ended")")"
+wrong_if "$(ended_with 3 "$(<"$scratch/ended")")"
+finish
 
-echo "$passed passed, $failed failed"
-[ "$failed" -eq 0 ]
+end_cases

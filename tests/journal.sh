@@ -10,12 +10,8 @@
 set -u
 
 . "$(dirname "${BASH_SOURCE[0]}")/common.sh"
-reader="$(realpath "${1:-$here/bin/socat-journal}")"
-if [ ! -x "$reader" ]; then
-    echo "no program at $reader: run make first"
-    echo "0 passed, 1 failed"
-    exit 1
-fi
+find_program "${1:-$here/bin/socat-journal}"
+reader="$found"
 use_program "${2:-$here/bin/socat}"
 quiet=yes
 . "$here/tests/relays.sh"
@@ -29,18 +25,13 @@ show() {
 
 # shows NAME STATUS LINE WORD..: the reader writes just the text of standard input, and says this line ('' for none).
 shows() {
-    local name="$1" wanted="$2" line="$3" problem=''
-    shift 3
+    begin "$1"
     cat >wanted
-    show "$@"
-    if [ "$status" -ne "$wanted" ]; then
-        problem="status $status, said $(head -c 200 said)"
-    elif ! cmp -s shown wanted; then
-        problem="$(diff wanted shown | head -n 5)"
-    elif ! said said "$line"; then
-        problem="said $(head -c 200 said)"
-    fi
-    report "$name" "$problem"
+    show "${@:4}"
+    [ "$status" -eq "$2" ] || wrong "status $status, said $(head -c 200 said)"
+    wrong_if "$(diff wanted shown | head -n 5)"
+    said said "$3" || wrong "said $(head -c 200 said)"
+    finish
 }
 
 # refuses NAME STATUS LINE WORD..: it writes nothing.
@@ -173,17 +164,34 @@ END
 
 # answers NAME TEXT VIEW..: the view of the run shows just this text.
 answers() {
-    local name="$1" wanted="$2"
-    shift 2
-    show "$@" run.journal "${server[@]}"
-    report "$name" "$([ "$(<shown)" = "$wanted" ] || echo "it says $(head -c 300 shown said)")"
+    begin "$1"
+    show "${@:3}" run.journal "${server[@]}"
+    [ "$(<shown)" = "$2" ] || wrong "it says $(head -c 300 shown said)"
+    finish
 }
 
 # cell SESSION NUMBER: a cell of the session's row in the table, by blanks.
 cell() { awk -v session="$1" -v number="$2" '$1 == session { print $number }' shown; }
 
+# tells NAME WANTED GOT: a look at what was shown finds just this.
+tells() {
+    begin "$1"
+    [ "$3" = "$2" ] || wrong "it is $3, not $2, in $(<shown)"
+    finish
+}
+
+# column NUMBER: a column of the table, in one line; NF for the last.
+column() { awk "NR > 1 && !/^outcome/ { print \$$1 }" shown | tr '\n' ' '; }
+
+# has_line NAME PATTERN: what was shown has such a line.
+has_line() {
+    begin "$1"
+    grep -q "$2" shown || wrong "no such line in $(<shown)"
+    finish
+}
+
 questions() {
-    local one other idle
+    local one other
     begin 'a server with two clients'
     given_nothing
     server=(-T 0.7 TCP4-LISTEN:0,fork,stop-after=2 'SYSTEM:read -r line; echo heard $line; cat >/dev/null')
@@ -196,15 +204,14 @@ questions() {
     ended relay 0 '' ''
     finish
     show run.journal "${server[@]}"
-    report 'who came' "$([ "$(cell 0 2) $(cell 1 2)" = "$one $other" ] || cat shown)"
-    report 'why did it end' "$([ "$(awk '$1 == 0 || $1 == 1 { print $NF }' shown)" = $'finished\ninactivity' ] || cat shown)"
-    idle="$(cell 1 5)"
-    report 'how long did it idle' "$(awk -v idle="$idle" 'BEGIN { exit !(idle >= 0.7 && idle < 5) }' || echo "$idle s")"
+    tells 'who came' "$one $other" "$(cell 0 2) $(cell 1 2)"
+    tells 'why did it end' $'finished\ninactivity' "$(awk '$1 == 0 || $1 == 1 { print $NF }' shown)"
+    tells 'how long did it idle' yes "$(awk '$1 == 1 { print ($5 >= 0.7 && $5 < 5 ? "yes" : $5 " s") }' shown)"
     answers 'what did they send' asked --bytes 0 right
     answers 'what did the other send' silence --bytes 1 right
     answers 'what came back' 'heard asked' --bytes 0 left
     show --acts run.journal "${server[@]}"
-    report 'the acts of the run' "$([ "$(wc -l <shown)" -eq "$(wc -l <run.journal)" ] || echo "$(wc -l <shown) lines")"
+    tells 'the acts of the run' "$(wc -l <run.journal)" "$(wc -l <shown)"
 }
 
 # --- a busy run: a server that comes late, a client that falls silent, one that talks, one that breaks off, and one that only
@@ -230,11 +237,11 @@ busy() {
     ended relay 0 '' ''
     finish
     show busy.journal "${words[@]}"
-    report 'why each of five ended' "$([ "$(awk 'NR > 1 && !/^outcome/ { print $NF }' shown | tr '\n' ' ')" = 'finished inactivity finished write finished ' ] || cat shown)"
-    report 'what each of five sent' "$([ "$(awk 'NR > 1 && !/^outcome/ { print $6 }' shown | tr '\n' ' ')" = '4 6 11 6 8 ' ] || cat shown)"
+    tells 'why each of five ended' 'finished inactivity finished write finished ' "$(column NF)"
+    tells 'what each of five sent' '4 6 11 6 8 ' "$(column 6)"
     show --timeline busy.journal "${words[@]}"
-    report 'the openings that failed are seen' "$(grep -q '^ *0 | *?-*?' shown || cat shown)"
-    report 'the half-close is seen' "$(grep -q '^ *4 |.*)[<-][<-]*|' shown || cat shown)"
+    has_line 'the openings that failed are seen' '^ *0 | *?-*?'
+    has_line 'the half-close is seen' '^ *4 |.*)[<-][<-]*|'
     show --svg busy.journal "${words[@]}"
     [ -z "${PICTURE:-}" ] || cp shown "$PICTURE"
     counted picture shown 5
@@ -271,12 +278,20 @@ faults() {
         '--read --text 0 right three' '--bytes 0' '--other three'; do
         # shellcheck disable=SC2086
         show $words
-        report "usage: $words" "$([ "$status" -eq 3 ] && [ ! -s shown ] && grep -q '^usage: socat-journal ' said || cat said)"
+        begin "usage: $words"
+        wrong_if "$(ended_with 3 "$status")"
+        [ ! -s shown ] || wrong 'something was written'
+        grep -q '^usage: socat-journal ' said || wrong "said $(<said)"
+        finish
     done
+    begin 'a full device'
     "$reader" "${journal[@]}" >/dev/full
-    report 'a full device' "$(ended_with 3 $?)"
+    wrong_if "$(ended_with 3 $?)"
+    finish
+    begin 'a closed output'
     "$reader" "${journal[@]}" >&-
-    report 'a closed output' "$(ended_with 3 $?)"
+    wrong_if "$(ended_with 3 $?)"
+    finish
 }
 
 # --- what a terminal would obey
@@ -290,7 +305,11 @@ terminals() {
     for view in '' --timeline --svg --acts '--text 0 right' '--hex 0 right'; do
         # shellcheck disable=SC2086
         show $view hostile -u -v STDIN STDOUT
-        report "${view:-the table} of all bytes" "$([ "$status" -eq 0 ] && [ -s shown ] && [ "$(LC_ALL=C tr -d ' -~\n' <shown | wc -c)" -eq 0 ] || echo "status $status, or a byte that isn't printable")"
+        begin "${view:-the table} of all bytes"
+        wrong_if "$(ended_with 0 "$status")"
+        [ -s shown ] || wrong 'nothing was written'
+        [ "$(LC_ALL=C tr -d ' -~\n' <shown | wc -c)" -eq 0 ] || wrong "a byte that isn't printable"
+        finish
     done
     three_sessions >three
     show --svg three "${two_ways[@]}"
@@ -319,37 +338,40 @@ short_acts() {
 # within NAME SECONDS PATTERN WORD..: the reader shows a line of this pattern within these seconds, or within PATIENCE times as
 # many.
 within() {
-    local name="$1" most=$(($2 * 1000 * patience)) pattern="$3" begun took
-    shift 3
-    begun="$(date +%s%N)"
-    show "$@"
-    took=$((($(date +%s%N) - begun) / 1000000))
-    report "$name" "$([ "$status" -eq 0 ] && [ "$took" -le "$most" ] && grep -q "$pattern" shown || echo "status $status after $took ms")"
-    echo "$name in $took ms"
+    local began took
+    begin "$1"
+    began="$(date +%s%N)"
+    show "${@:4}"
+    took=$((($(date +%s%N) - began) / 1000000))
+    [ "$status" -eq 0 ] && [ "$took" -le $(($2 * 1000 * patience)) ] || wrong "status $status after $took ms"
+    grep -q "$3" shown || wrong "no such line after $took ms"
+    echo "$1 in $took ms"
+    finish
 }
 
 large() {
     local words=(-u TCP-LISTEN:80,fork,stop-after=10000 CREATE:f)
     many_sessions 10000 >crowd
     within 'the table of 10,000 sessions' 2 '^   9999 127.0.0.1:9999 .* 7.000 .* 2 passed .* finished$' crowd "${words[@]}"
-    report 'a row for each session' "$([ "$(wc -l <shown)" -eq 10002 ] || echo "$(wc -l <shown) lines")"
+    tells 'a row for each session' 10002 "$(wc -l <shown)"
     within 'the timeline of 10,000 sessions' 3 '^   9999 |>.*|| 127.0.0.1:9999 ' --timeline crowd "${words[@]}"
     within 'the picture of 10,000 sessions' 5 '^</svg>$' --svg crowd "${words[@]}"
     counted picture shown 10000
     show --bytes 9999 right crowd "${words[@]}"
-    report 'the bytes of the last session' "$([ "$(<shown)" = ab ] || echo "status $status")"
+    tells 'the bytes of the last session' ab "$(<shown)"
     short_acts >short
     within 'the table of 16 MiB' 2 '^      0 -  .* 578000     578000 open ' short -u STDIN STDOUT
     within 'the timeline of 16 MiB' 3 '^      0 |>' --timeline short -u STDIN STDOUT
     show --bytes 0 right short -u STDIN STDOUT
-    report 'the bytes of 16 MiB' "$([ "$(wc -c <shown)" -eq 578000 ] && [ "$(tr -d a <shown | wc -c)" -eq 0 ] || echo "status $status")"
+    begin 'the bytes of 16 MiB'
+    [ "$(wc -c <shown)" -eq 578000 ] && [ "$(tr -d a <shown | wc -c)" -eq 0 ] || wrong "status $status"
+    finish
 }
 
 parts=("${@:3}")
 [ "${#parts[@]}" -gt 0 ] || parts=(views questions busy totals faults terminals large)
 for part in "${parts[@]}"; do
     "$part"
-    echo "$part: $passed passed, $failed failed"
+    sum_up "$part"
 done
-echo "$passed passed, $failed failed"
-[ "$failed" -eq 0 ]
+end_cases

@@ -36,19 +36,16 @@ size_of() {
 
 # passes NAME FILE: the relay of the file gives the same bytes and status 0.
 passes() {
-    local problem='' status
+    local status
+    begin "$1"
     forget_last
     timeout 60 "$program" "${relay[@]}" <"$2" >"$scratch/out" 2>"$scratch/err"
     status=$?
     keep_last "$status" "$2" "$scratch/out"
-    if [ "$status" -ne 0 ]; then
-        problem="status $status"
-    elif [ -s "$scratch/err" ]; then
-        problem="said $(cat "$scratch/err")"
-    elif [ "$(cksum <"$scratch/out")" != "$(cksum <"$2")" ]; then
-        problem="other bytes came out"
-    fi
-    report "$1" "$problem"
+    wrong_if "$(ended_with 0 "$status")"
+    [ ! -s "$scratch/err" ] || wrong "said $(cat "$scratch/err")"
+    [ "$(cksum <"$scratch/out")" = "$(cksum <"$2")" ] || wrong "other bytes came out"
+    finish
 }
 
 # said_write_failed: standard error was one line on a failed write, which names the side where the run still heard of
@@ -92,5 +89,4 @@ done
 
 judge_runs
 beside "${parts[@]}"
-echo "$passed passed, $failed failed"
-[ "$failed" -eq 0 ]
+end_cases

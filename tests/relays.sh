@@ -1,5 +1,4 @@
 # Relays in the background, their inputs, and what is expected of them.
-# A case begins with `begin`, ends with `finish`, and has one problem at most, the first.
 
 # How many seconds a relay, a peer or what is waited for may take; PATIENCE times as many on a slow machine.
 patience="${PATIENCE:-1}"
@@ -33,18 +32,17 @@ exec 8<>idle
 # nap SECONDS: waits without another process.
 nap() { read -rt "$1" -u 8 _; }
 
-# --- cases
+# --- around each case
 
-begin() {
-    name="$1"
+before_case() {
     audited_case "$name"
-    problem=''
-    left_out=''
     peers=0
     begun="${EPOCHREALTIME/[.,]/}"
     rm -f socket called served
     given ''
 }
+
+after_case() { end_all; }
 
 # begin_own NAME: a case in which this program is meant to do otherwise than socat(1).
 begin_own() {
@@ -99,18 +97,6 @@ until_there() {
         fi
         nap 0.01
     done
-}
-
-# wrong TEXT: names what is wrong, where nothing was before.
-wrong() { [ -n "$problem" ] || problem="$1"; }
-
-finish() {
-    end_all
-    if [ -n "$left_out" ]; then
-        echo "left out: $name"
-    else
-        report "$name" "$problem"
-    fi
 }
 
 # --- files
@@ -239,9 +225,6 @@ said() {
         [ ! -s "$1" ]
     fi
 }
-
-# wrong_if TEXT: a problem where there is a text.
-wrong_if() { [ -z "$1" ] || wrong "$1"; }
 
 # run STATUS OUTPUT LINE WORD..: a relay from its start to its end.
 run() {

@@ -16,10 +16,9 @@ cd "$scratch/empty" || exit 1
 
 # says STATUS TEXT WORD..: the words end with the status, say the text and do nothing else.
 says() {
-    local status text problem='' got left journal=''
-    status="$1"
-    text="$2"
+    local wanted="$1" text="$2" status left journal=''
     shift 2
+    begin_words "$@"
     case "${1:-}" in
         --journal=/*) ;;
         --journal=?*) journal="${1#--journal=}" ;;
@@ -27,25 +26,18 @@ says() {
     printf 'abc' >"$scratch/offered"
     {
         timeout "$((20 * ${PATIENCE:-1}))" "$program" "$@" >"$scratch/out" 2>"$scratch/err"
-        got=$?
+        status=$?
         left="$(cat)"
     } <"$scratch/offered"
     printf '%s' "$text" >"$scratch/wanted"
-    if [ "$got" -ne "$status" ]; then
-        problem="status $got"
-    elif ! cmp -s "$scratch/err" "$scratch/wanted"; then
-        problem="said $(head -c 200 "$scratch/err")"
-    elif [ -s "$scratch/out" ]; then
-        problem="something was written"
-    elif [ "$left" != abc ]; then
-        problem="the input was read"
-    elif [ "$(ls -A .)" != "$journal" ]; then
-        problem="something was made: $(ls -A . | head -n 1)"
-    elif [ -n "$journal" ] && [ -s "$journal" ]; then
-        problem="something was written to the journal"
-    fi
+    wrong_if "$(ended_with "$wanted" "$status")"
+    cmp -s "$scratch/err" "$scratch/wanted" || wrong "said $(head -c 200 "$scratch/err")"
+    [ ! -s "$scratch/out" ] || wrong 'something was written'
+    [ "$left" = abc ] || wrong 'the input was read'
+    [ "$(ls -A .)" = "$journal" ] || wrong "something was made: $(ls -A . | head -n 1)"
+    [ -z "$journal" ] || [ ! -s "$journal" ] || wrong 'something was written to the journal'
     rm -rf "$scratch/empty"/*
-    report_words "$problem" "$@"
+    finish
 }
 
 # refused LINE WORD..: status 1 and this line.
@@ -69,11 +61,8 @@ cases() {
 table="$here/tests/data/refusals.txt"
 cases <"$table"
 # Each case was tried, and none is missing.
-wanted=336
-if [ "$(grep -c '^case ' "$table")" -ne "$wanted" ] || [ "$((passed + failed))" -ne "$wanted" ]; then
-    report "the table" "$((passed + failed)) cases tried, want $wanted"
-fi
-echo "the table: $passed passed, $failed failed"
+all_tried 'the table' "$((passed + failed))" 336
+sum_up 'the table'
 
 # --- rows of one kind each
 
@@ -159,5 +148,4 @@ says 0 "$usage" --journal=/dev/null -h
 says 0 'socat relay, profile of 1.7
 ' -V
 
-echo "$passed passed, $failed failed"
-[ "$failed" -eq 0 ]
+end_cases

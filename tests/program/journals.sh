@@ -5,15 +5,18 @@ journal="$scratch/journal"
 # saves NAME INPUT OUTPUT WORD..: the relay of the words passes the input on, and writes a journal that the auditor finds
 # in order.
 saves() {
-    local name="$1" input="$2" output="$3" said
-    shift 3
     rm -f "$journal"
-    run_case "$name" 0 "$input" "$output" '' "--journal=$journal" "$@"
+    run_case "$1" 0 "$2" "$3" '' "--journal=$journal" "${@:4}"
+    begin "$1, audited"
+    audited_is_whole "${@:4}"
+    finish
+}
+
+# audited_is_whole WORD..: the auditor says yes to the journal, and that nothing is held.
+audited_is_whole() {
+    local said
     said="$("${AUDITOR:-$here/bin/socat-audit}" "$journal" "$@")"
-    case "$said" in
-        yes:*' 0 held') report "$name, audited" '' ;;
-        *) report "$name, audited" "the auditor said $said" ;;
-    esac
+    [[ "$said" == yes:*' 0 held' ]] || wrong "the auditor said $said"
 }
 
 saves "a journal of a one-way relay" 'abc' 'abc' -u STDIN STDOUT
@@ -22,10 +25,14 @@ saves "a journal of nothing" '' '' -u STDIN STDOUT
 
 printf 'what stood there before' >"$journal"
 run_case "a file that was there" 0 '' '' '' "--journal=$journal" -u STDIN STDOUT
-report "it is emptied first" "$(grep -q before "$journal" && echo 'it keeps what stood there')"
+begin "it is emptied first"
+! grep -q before "$journal" || wrong 'it keeps what stood there'
+finish
 
 run_case "words that are refused" 1 '' '' 'socat: E05 word 2: empty address' "--journal=$journal" - ''
-report "the file is empty" "$(holds "$journal" '')"
+begin "the file is empty"
+wrong_if "$(holds "$journal" '')"
+finish
 
 # --- files that can't be made or written: the relay is as ever, but for its status and a line
 
@@ -41,32 +48,24 @@ mkfifo "$scratch/journal.pipe"
 run_case "a named pipe as a journal" 1 'abc' 'abc' "$unwritten" "--journal=$scratch/journal.pipe" -u STDIN STDOUT
 rm -f "$scratch/journal.pipe"
 
-problem=''
+begin "words that are refused, and a journal that can't be made"
 timeout 20 "$program" "--journal=$scratch" - '' </dev/null >/dev/null 2>"$scratch/err"
-[ "$?" -eq 1 ] || problem="another status"
-[ "$(cat "$scratch/err")" = $'socat: E05 word 2: empty address\n'"$unwritten" ] || problem="said $(head -c 200 "$scratch/err")"
-report "words that are refused, and a journal that can't be made" "$problem"
+wrong_if "$(ended_with 1 $?)"
+[ "$(cat "$scratch/err")" = $'socat: E05 word 2: empty address\n'"$unwritten" ] || wrong "said $(head -c 200 "$scratch/err")"
+finish
 
 # --- a signal that comes while the journal is written
 
 if command -v strace >/dev/null && strace -o /dev/null true 2>/dev/null; then
     rm -f "$journal"
-    problem=''
+    begin "a journal whose writing is interrupted"
     printf abc | timeout 60 strace -f -o "$scratch/calls" -P "$journal" -e inject=write:error=EINTR:when=1 \
         "$program" "--journal=$journal" -u STDIN STDOUT >"$scratch/out" 2>"$scratch/err"
     status="${PIPESTATUS[1]}"
-    if ! grep -q 'EINTR.*INJECTED' "$scratch/calls"; then
-        problem="no write was interrupted"
-    elif [ "$status" -ne 0 ]; then
-        problem="status $status, said $(head -c 200 "$scratch/err")"
-    else
-        said="$("${AUDITOR:-$here/bin/socat-audit}" "$journal" -u STDIN STDOUT)"
-        case "$said" in
-            yes:*' 0 held') ;;
-            *) problem="the auditor said $said" ;;
-        esac
-    fi
-    report "a journal whose writing is interrupted" "$problem"
+    grep -q 'EINTR.*INJECTED' "$scratch/calls" || wrong "no write was interrupted"
+    [ "$status" -eq 0 ] || wrong "status $status, said $(head -c 200 "$scratch/err")"
+    audited_is_whole -u STDIN STDOUT
+    finish
 else
     echo "skipped interrupted journals: there is no strace that may trace"
 fi

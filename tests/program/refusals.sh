@@ -3,18 +3,17 @@
 # untouched NAME STATUS WORD..: the program starts no thread, opens no descriptor of its own and asks nothing of its
 # standard streams but for the line that it says.
 untouched() {
-    local name="$1" wanted="$2" status problem='' calls="$scratch/calls"
+    local wanted="$2" status calls="$scratch/calls"
+    begin "$1"
     shift 2
     timeout 60 strace -f -o "$calls" -e trace=process,desc,network "${AUDITED:-$program}" "$@" </dev/null >/dev/null 2>"$scratch/err"
     status=$?
-    if [ "$status" -ne "$wanted" ]; then
-        problem="status $status, said $(head -c 200 "$scratch/err")"
-    elif [ ! -s "$scratch/err" ]; then
-        problem="it said nothing"
-    elif grep -E 'clone|epoll_|eventfd|socket|pipe2?\(|"/"|/proc/self/fd' "$calls" >"$scratch/touched"; then
-        problem="it made $(head -1 "$scratch/touched")"
+    [ "$status" -eq "$wanted" ] || wrong "status $status, said $(head -c 200 "$scratch/err")"
+    [ -s "$scratch/err" ] || wrong "it said nothing"
+    if grep -E 'clone|epoll_|eventfd|socket|pipe2?\(|"/"|/proc/self/fd' "$calls" >"$scratch/touched"; then
+        wrong "it made $(head -1 "$scratch/touched")"
     fi
-    report "$name" "$problem"
+    finish
 }
 
 if command -v strace >/dev/null && strace -o /dev/null true 2>/dev/null; then
@@ -29,9 +28,9 @@ else
 fi
 
 # They are answered as ever with standard streams that are closed, and a journal's file never gets their lines.
-problem=''
+begin "a refusal without standard error isn't written to the journal"
 rm -f "$scratch/refused.journal"
 timeout 20 "$program" "--journal=$scratch/refused.journal" - '' </dev/null 2>&-
-[ "$?" -eq 1 ] || problem="another status"
-[ -n "$problem" ] || problem="$(holds "$scratch/refused.journal" '')"
-report "a refusal without standard error isn't written to the journal" "$problem"
+wrong_if "$(ended_with 1 $?)"
+wrong_if "$(holds "$scratch/refused.journal" '')"
+finish

@@ -2,9 +2,8 @@
 // the file and the words.
 #![tactic(auto)]
 
-use blocking_streams::Blocking;
+use blocking_streams::{Blocking, program_words};
 use port_trait::{StdSink, StdSource};
-use program_words::program_words;
 use relay_audit::audit_run;
 use std::io::Write;
 use std::process::ExitCode;

@@ -85,7 +85,7 @@ where
 }
 
 /// What the part answers, in the spelling of the rows. No word may be left.
-fn answer<F>(alloc: Global, ask: &F, row: &Row<'_>) -> Result<Answers, RowFault>
+fn answer<F>(alloc: Global, ask: &F, row: &Row<'_>) -> Result<String, RowFault>
 where
     F: Fn(Global, &str, &mut Inputs<'_>, &mut Answers) -> Answered,
     requires { F.IsAlwaysCallable ask.now }
@@ -94,5 +94,5 @@ where
     let mut answers = Answers::new(alloc);
     ask(alloc, row.part, &mut inputs, &mut answers)?;
     inputs.end()?;
-    Ok(answers)
+    answers.whole()
 }

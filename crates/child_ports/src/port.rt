@@ -1,5 +1,5 @@
 // The port of a child.
-ghost use Rattle.std.specs.Prelude.{◌≡◌, true, None};
+ghost use Rattle.std.specs.Prelude.{◌≡◌, true};
 
 use crate::unreaped::Ward;
 use file_ports::Halves;
@@ -16,31 +16,32 @@ pub type ProgramPipes = SocketPort<Halves<PipeReader, PipeWriter>, ()>;
 /// A program behind the port of its pipes. Each call but `reap` is that call on the port of the pipes; its child is asked
 /// at the end of its output, too.
 #[derive(Drop)]
-pub struct ChildPort {
-    pipes: ProgramPipes,
+pub struct ChildPort<P = ProgramPipes> {
+    pipes: P,
     ward: Ward<SystemProcess>,
 }
 
-impl Model for ChildPort {
-    ghost use Rattle.socket_ports.specs.Sockets.{PortState};
-    ghost use Rattle.file_ports.specs.Halves.{HalvesState};
-
-    ghost Value = { PortState HalvesState };
+impl<P> Model for ChildPort<P> {
+    ghost Value = { P };
 
     ghost view = { λ port. port.pipes };
 }
 
-impl ChildPort {
+impl<P> ChildPort<P> {
     /// The port of this child.
-    pub fn new(pipes: ProgramPipes, ward: Ward<SystemProcess>) -> ChildPort
+    pub fn new(pipes: P, ward: Ward<SystemProcess>) -> ChildPort<P>
         ensures { result ≡ pipes }
     {
         ChildPort { pipes, ward }
     }
 }
 
-impl Port for ChildPort {
-    ghost seen = { λ port. let pipes = ⟦<ProgramPipes as Port>⟧.seen port in record pipes { shuts = None; child = true } };
+impl<P: Port> Port for ChildPort<P> {
+    ghost seen = { λ port. record (P.seen port) { child = true } };
+
+    ghost answers_settle = { λ old new settled. P.answers_settle old new settled };
+
+    ghost answers_shut = { λ old new how shutting. P.answers_shut old new how shutting };
 
     fn begin(&mut self) -> Begun {
         self.pipes.begin()

@@ -14,6 +14,11 @@ use Rattle.world_trait.specs.declared.answers.ListenAnswer.{ListenAnswer}
 use Rattle.world_trait.specs.declared.answers.ListenAnswer.TheVariants as listens
 use Rattle.world_trait.specs.declared.answers.AcceptAnswer.{AcceptAnswer}
 use Rattle.world_trait.specs.declared.answers.AcceptAnswer.TheVariants as accepts
+use Rattle.relay_model.specs.declared.acts.Peer.{Peer}
+use Rattle.port_trait.specs.declared.makers.Making.{Making}
+use Rattle.port_trait.specs.declared.makers.MadePeer.{MadePeer}
+use Rattle.port_trait.specs.declared.makers.MadePeer.TheVariants as peers
+use Rattle.desk_places.specs.Causes.{WelcomeCause}
 use Rattle.desk_places.specs.Changes.{AcceptsMade, ListensMade, OneMore, OpensMade, WelcomesMade}
 
 -- a fact of the key of a base that is a made port
@@ -59,11 +64,12 @@ pub no_call : (made made' : Slab EntrySeen) (key : ℕ) → SameValues made made
 no_call made made' key same = call_then made made made' key MovesNothing (still_call made key) same
 
 -- one port more, after nothing
-pub then_more : {T : Type 0} (tells : T → PortSeen) (place : Place) (base : Option Base) (made mid made' : Slab EntrySeen) → SameValues made mid → OneMore tells place base mid made' → OneMore tells place base made made'
-then_more tells place base made mid made' same more = record {
+pub then_more : {T : Type 0} (gave : T → Type 0) (tells : T → PortSeen) (place : Place) (base : Option Base) (made mid made' : Slab EntrySeen) → SameValues made mid → OneMore gave tells place base mid made' → OneMore gave tells place base made made'
+then_more gave tells place base made mid made' same more = record {
   key = more.key;
   vacant = sym (same more.key) ∙ more.vacant;
   given = more.given;
+  gives = more.gives;
   port = more.port;
   begun = more.begun;
   made = record { changed = more.made.changed; others = λ other away. more.made.others other away ∙ same other };
@@ -71,29 +77,43 @@ then_more tells place base made mid made' same more = record {
 }
 
 -- the same where the place still stands on it
-pub more_based : {T : Type 0} (tells : T → PortSeen) (place : Place) (base base' : Option Base) (made made' : Slab EntrySeen) → base' ≡ base → OneMore tells place base made made' → OneMore tells place base' made made'
-more_based tells place base base' made made' same more = subst (λ b. OneMore tells place b made made') (sym same) more
+pub more_based : {T : Type 0} (gave : T → Type 0) (tells : T → PortSeen) (place : Place) (base base' : Option Base) (made made' : Slab EntrySeen) → base' ≡ base → OneMore gave tells place base made made' → OneMore gave tells place base' made made'
+more_based gave tells place base base' made made' same more = subst (λ b. OneMore gave tells place b made made') (sym same) more
 
-pub accepts_made : {T : Type 0} (tells : T → PortSeen) (answer : AcceptAnswer) (door : ℕ) (place : Place) (base : Option Base) (made mid made' : Slab EntrySeen) → MadeCall made mid door MovesNothing → WelcomesMade tells place base answer mid made' → AcceptsMade tells door place base answer made made'
-accepts_made tells (accepts.Accepted peer) door place base made mid made' call more = (mid, call, more)
-accepts_made tells accepts.NoPeer door place base made mid made' call never = absurd never
-accepts_made tells accepts.Failed door place base made mid made' call same = call_then made mid made' door MovesNothing call same
-accepts_made tells accepts.Memory door place base made mid made' call same = call_then made mid made' door MovesNothing call same
+-- the port that was begun is the one that the maker gave
+pub more_given : {T : Type 0} (gave : T → Type 0) (tells : T → PortSeen) (port : T) (place : Place) (base : Option Base) (made made' : Slab EntrySeen) → gave port → OneMore (λ given. given ≡ port) tells place base made made' → OneMore gave tells place base made made'
+more_given gave tells port place base made made' given more = record {
+  key = more.key;
+  vacant = more.vacant;
+  given = more.given;
+  gives = subst gave (sym more.gives) given;
+  port = more.port;
+  begun = more.begun;
+  made = more.made;
+  based = more.based;
+}
+
+pub accepts_made : {T : Type 0} (gave : MadePeer T → Type 0) (tells : T → PortSeen) (port : T) (peer : Peer) (answer : AcceptAnswer) (door : ℕ) (place : Place) (base : Option Base) (made mid made' : Slab EntrySeen) → gave (peers.Came port peer) → WelcomeCause tells port peer answer → MadeCall made mid door MovesNothing → WelcomesMade tells port place base answer mid made' → AcceptsMade gave tells door place base answer made made'
+accepts_made gave tells port peer (accepts.Accepted other) door place base made mid made' given same call more =
+    (mid, call, more_given (λ p. gave (peers.Came p other)) tells port place base mid made' (subst (λ who. gave (peers.Came port who)) (sym same) given) more)
+accepts_made gave tells port peer accepts.NoPeer door place base made mid made' given cause call never = absurd never
+accepts_made gave tells port peer accepts.Failed door place base made mid made' given cause call same = call_then made mid made' door MovesNothing call same
+accepts_made gave tells port peer accepts.Memory door place base made mid made' given cause call same = call_then made mid made' door MovesNothing call same
 
 -- the same after the room was made
-pub then_opens : {T : Type 0} (tells : T → PortSeen) (answer : OpenAnswer) (place : Place) (base : Option Base) (made mid made' : Slab EntrySeen) → SameValues made mid → OpensMade tells place base answer mid made' → OpensMade tells place base answer made made'
-then_opens tells opens.Opened place base made mid made' same more = then_more tells place base made mid made' same more
-then_opens tells opens.Later place base made mid made' same more = then_more tells place base made mid made' same more
-then_opens tells opens.Failed place base made mid made' same more = λ key. more key ∙ same key
-then_opens tells opens.Memory place base made mid made' same more = λ key. more key ∙ same key
+pub then_opens : {T : Type 0} (gave : Making T → Type 0) (tells : T → PortSeen) (answer : OpenAnswer) (place : Place) (base : Option Base) (made mid made' : Slab EntrySeen) → SameValues made mid → OpensMade gave tells place base answer mid made' → OpensMade gave tells place base answer made made'
+then_opens gave tells opens.Opened place base made mid made' same more = then_more _ tells place base made mid made' same more
+then_opens gave tells opens.Later place base made mid made' same more = then_more _ tells place base made mid made' same more
+then_opens gave tells opens.Failed place base made mid made' same more = λ key. more key ∙ same key
+then_opens gave tells opens.Memory place base made mid made' same more = λ key. more key ∙ same key
 
-pub then_listens : {T : Type 0} (tells : T → PortSeen) (answer : ListenAnswer) (door : Place) (base : Option Base) (made mid made' : Slab EntrySeen) → SameValues made mid → ListensMade tells door base answer mid made' → ListensMade tells door base answer made made'
-then_listens tells listens.Listening door base made mid made' same more = then_more tells door base made mid made' same more
-then_listens tells listens.Failed door base made mid made' same more = λ key. more key ∙ same key
-then_listens tells listens.Memory door base made mid made' same more = λ key. more key ∙ same key
+pub then_listens : {T : Type 0} (gave : Making T → Type 0) (tells : T → PortSeen) (answer : ListenAnswer) (door : Place) (base : Option Base) (made mid made' : Slab EntrySeen) → SameValues made mid → ListensMade gave tells door base answer mid made' → ListensMade gave tells door base answer made made'
+then_listens gave tells listens.Listening door base made mid made' same more = then_more _ tells door base made mid made' same more
+then_listens gave tells listens.Failed door base made mid made' same more = λ key. more key ∙ same key
+then_listens gave tells listens.Memory door base made mid made' same more = λ key. more key ∙ same key
 
-pub then_accepts : {T : Type 0} (tells : T → PortSeen) (answer : AcceptAnswer) (door : ℕ) (place : Place) (base : Option Base) (made mid made' : Slab EntrySeen) → SameValues made mid → AcceptsMade tells door place base answer mid made' → AcceptsMade tells door place base answer made made'
-then_accepts tells (accepts.Accepted peer) door place base made mid made' same accepted = (accepted.0, then_call made mid accepted.0 door MovesNothing same accepted.1, accepted.2)
-then_accepts tells accepts.NoPeer door place base made mid made' same call = then_call made mid made' door MovesNothing same call
-then_accepts tells accepts.Failed door place base made mid made' same call = then_call made mid made' door MovesNothing same call
-then_accepts tells accepts.Memory door place base made mid made' same call = then_call made mid made' door MovesNothing same call
+pub then_accepts : {T : Type 0} (gave : MadePeer T → Type 0) (tells : T → PortSeen) (answer : AcceptAnswer) (door : ℕ) (place : Place) (base : Option Base) (made mid made' : Slab EntrySeen) → SameValues made mid → AcceptsMade gave tells door place base answer mid made' → AcceptsMade gave tells door place base answer made made'
+then_accepts gave tells (accepts.Accepted peer) door place base made mid made' same accepted = (accepted.0, then_call made mid accepted.0 door MovesNothing same accepted.1, accepted.2)
+then_accepts gave tells accepts.NoPeer door place base made mid made' same call = then_call made mid made' door MovesNothing same call
+then_accepts gave tells accepts.Failed door place base made mid made' same call = then_call made mid made' door MovesNothing same call
+then_accepts gave tells accepts.Memory door place base made mid made' same call = then_call made mid made' door MovesNothing same call

@@ -26,6 +26,8 @@ use Rattle.port_table.specs.Ports.{EntrySeen, IsOf, StreamSeen}
 use Rattle.port_table.specs.declared.bases.Base.{Base}
 use Rattle.port_table.specs.declared.bases.Base.TheVariants as bases
 use Rattle.port_table.specs.declared.table.PortTable.{PortTable}
+use Rattle.port_trait.specs.declared.makers.MadePeer.{MadePeer}
+use Rattle.port_trait.specs.declared.makers.MadePeer.TheVariants as peers
 use Rattle.desk_places.specs.declared.stations.Station.{Station}
 use Rattle.desk_places.specs.Causes.{AcceptCause, WelcomeCause}
 use Rattle.desk_places.specs.Changes.{HeldAfter, KeptFor, KeptIf, LeavesParent, LeftSo, SettledAt, SettledOut, SettlesMade, made_at, shut_answer}
@@ -95,11 +97,11 @@ open_held Open e = refl
 open_held ShutDown e = refl
 
 -- an accepting whose peer has come
-pub welcomed : {T : Type 0} (tells : T → PortSeen) (answer : AcceptAnswer) (peer : Peer) (before now : MakerSeen) → now.came ≡ Some peer → WelcomeCause tells peer answer → AcceptCause tells before now answer
-welcomed tells (accepts.Accepted other) peer before now is same = is ∙ ap Some (sym same)
-welcomed tells accepts.NoPeer peer before now is never = absurd never
-welcomed tells accepts.Failed peer before now is dropped = inr dropped
-welcomed tells accepts.Memory peer before now is nothing = tt
+pub welcomed : {T : Type 0} (gave : MadePeer T → Type 0) (tells : T → PortSeen) (answer : AcceptAnswer) (port : T) (peer : Peer) (before now : MakerSeen) → gave (peers.Came port peer) → now.came ≡ Some peer → WelcomeCause tells port peer answer → AcceptCause gave tells before now answer
+welcomed gave tells (accepts.Accepted other) port peer before now given is same = is ∙ ap Some (sym same)
+welcomed gave tells accepts.NoPeer port peer before now given is never = absurd never
+welcomed gave tells accepts.Failed port peer before now given is fails = inr (record { made = port; given = (peer, given); fails = fails })
+welcomed gave tells accepts.Memory port peer before now given is nothing = tt
 
 -- a port that is let go was joined where that was to be, and is kept where it has a child
 kept_if : (b : Bool) (joined : Bool) (old new : EntrySeen) (before after : List EntrySeen) → new.place ≡ old.place → LeftSo joined old.port new.port → after ≡ (if b then new ∷ before else before) → KeptFor b joined old before after

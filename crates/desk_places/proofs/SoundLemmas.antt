@@ -486,6 +486,15 @@ marked_base : (half : Half) (disarmed : Bool) (s : Station) → (with_half half 
 marked_base ToRead disarmed s = refl
 marked_base ToWrite disarmed s = refl
 
+pub marked_place : (half : Half) (disarmed : Bool) (s : Station) → (with_half half disarmed s).place ≡ s.place
+marked_place ToRead disarmed s = refl
+marked_place ToWrite disarmed s = refl
+
+-- the station of a place that was marked is there
+pub marked_here : (xs ys : List Station) (s : Station) (half : Half) (disarmed : Bool) → station_at xs s.place ≡ Some s → SetsStation s.place (option_map (with_half half disarmed) (station_at xs s.place)) (station_at xs) (station_at ys) → station_at ys (with_half half disarmed s).place ≡ Some (with_half half disarmed s)
+marked_here xs ys s half disarmed here sets =
+    ap (station_at ys) (marked_place half disarmed s) ∙ (sets s.place ∙ (ap (λ b. if b then option_map (with_half half disarmed) (station_at xs s.place) else station_at xs s.place) (same_place-same s.place) ∙ ap (option_map (with_half half disarmed)) here))
+
 -- a half is marked after it
 pub sound_marked : (xs ys : List Station) (place : Place) (s : Station) (half : Half) (disarmed : Bool) (made made' : Slab EntrySeen) (listed : KeyTable) → station_at xs place ≡ Some s → SetsStation place (option_map (with_half half disarmed) (station_at xs place)) (station_at xs) (station_at ys) → OnlyAt s.base made made' → IsSound xs made listed → IsSoundBut place ys made' listed
 sound_marked xs ys place s half disarmed made made' listed at sets only sound =

@@ -10,6 +10,10 @@ use Rattle.port_trait.specs.Meanings.{join_answer}
 use Rattle.port_trait.specs.declared.answers.Begun.{Begun}
 use Rattle.port_trait.specs.declared.answers.Begun.TheVariants as begins
 use Rattle.port_trait.specs.declared.answers.Settled.TheVariants as settles
+use Rattle.port_trait.specs.declared.makers.Making.{Making}
+use Rattle.port_trait.specs.declared.makers.Making.TheVariants as makings
+use Rattle.port_trait.specs.declared.makers.MadePeer.{MadePeer}
+use Rattle.port_trait.specs.declared.makers.MadePeer.TheVariants as peers
 use Rattle.port_trait.specs.declared.answers.Joining.{Joining}
 use Rattle.port_trait.specs.declared.answers.PortReap.{PortReap}
 use Rattle.port_trait.specs.declared.answers.PortReap.TheVariants as reaps
@@ -83,49 +87,50 @@ SettledAt tells Output before now parents parents' answer = (now.input ≡ befor
 SettledAt tells Errors before now parents parents' answer = (now.input ≡ before.input) × (now.output ≡ before.output) × StreamCall before.errors now.errors (λ o n. SettlesSo o n answer) × (now.made ≡ before.made) × (parents' ≡ parents)
 SettledAt tells (Made key) before now parents parents' answer = (now.input ≡ before.input) × (now.output ≡ before.output) × (now.errors ≡ before.errors) × SettlesMade tells before.made now.made parents parents' key answer
 
--- one made port more, which the place stands on: it was given, it was begun, and nothing else was done with it
-pub record OneMore {T : Type 0} (tells : T → PortSeen) (place : Place) (base : Option Base) (before now : Slab EntrySeen) : Type 0 where
+-- one made port more, which the place stands on: it was given in this call, it was begun, and nothing else was done with it
+pub record OneMore {T : Type 0} (gave : T → Type 0) (tells : T → PortSeen) (place : Place) (base : Option Base) (before now : Slab EntrySeen) : Type 0 where
   pub key : ℕ
   pub vacant : get before key ≡ None
   pub given : T
+  pub gives : gave given
   pub port : PortSeen
   pub begun : Begins (tells given) port begins.Begun
   pub made : Updates before now key (Some (record { place = place; port = port }))
   pub based : base ≡ Some (bases.Made key)
 
 -- the made ports after the beginning of a new one for the place; one that doesn't begin is dropped
-abbrev pub BeginsMade : {T : Type 0} → (T → PortSeen) → Place → Option Base → Begun → Slab EntrySeen → Slab EntrySeen → Type 0
-BeginsMade tells place base begins.Begun before now = OneMore tells place base before now
-BeginsMade tells place base begins.Failed before now = SameValues before now
-BeginsMade tells place base begins.Memory before now = SameValues before now
+abbrev pub BeginsMade : {T : Type 0} → (T → PortSeen) → T → Place → Option Base → Begun → Slab EntrySeen → Slab EntrySeen → Type 0
+BeginsMade tells port place base begins.Begun before now = OneMore (λ given. given ≡ port) tells place base before now
+BeginsMade tells port place base begins.Failed before now = SameValues before now
+BeginsMade tells port place base begins.Memory before now = SameValues before now
 
 -- the made ports after an opening that isn't one of standard streams
-abbrev pub OpensMade : {T : Type 0} → (T → PortSeen) → Place → Option Base → OpenAnswer → Slab EntrySeen → Slab EntrySeen → Type 0
-OpensMade tells place base opens.Opened before now = OneMore tells place base before now
-OpensMade tells place base opens.Later before now = OneMore tells place base before now
-OpensMade tells place base opens.Failed before now = SameValues before now
-OpensMade tells place base opens.Memory before now = SameValues before now
+abbrev pub OpensMade : {T : Type 0} → (Making T → Type 0) → (T → PortSeen) → Place → Option Base → OpenAnswer → Slab EntrySeen → Slab EntrySeen → Type 0
+OpensMade gave tells place base opens.Opened before now = OneMore (λ port. gave (makings.Made port)) tells place base before now
+OpensMade gave tells place base opens.Later before now = OneMore (λ port. gave (makings.Later port)) tells place base before now
+OpensMade gave tells place base opens.Failed before now = SameValues before now
+OpensMade gave tells place base opens.Memory before now = SameValues before now
 
 -- after a listening
-abbrev pub ListensMade : {T : Type 0} → (T → PortSeen) → Place → Option Base → ListenAnswer → Slab EntrySeen → Slab EntrySeen → Type 0
-ListensMade tells door base listens.Listening before now = OneMore tells door base before now
-ListensMade tells door base listens.Failed before now = SameValues before now
-ListensMade tells door base listens.Memory before now = SameValues before now
+abbrev pub ListensMade : {T : Type 0} → (Making T → Type 0) → (T → PortSeen) → Place → Option Base → ListenAnswer → Slab EntrySeen → Slab EntrySeen → Type 0
+ListensMade gave tells door base listens.Listening before now = OneMore (λ port. gave (makings.Made port)) tells door base before now
+ListensMade gave tells door base listens.Failed before now = SameValues before now
+ListensMade gave tells door base listens.Memory before now = SameValues before now
 
--- after the peer of an accepting has come
-abbrev pub WelcomesMade : {T : Type 0} → (T → PortSeen) → Place → Option Base → AcceptAnswer → Slab EntrySeen → Slab EntrySeen → Type 0
-WelcomesMade tells place base (accepts.Accepted peer) before now = OneMore tells place base before now
-WelcomesMade tells place base accepts.NoPeer before now = ⊥
-WelcomesMade tells place base accepts.Failed before now = SameValues before now
-WelcomesMade tells place base accepts.Memory before now = SameValues before now
+-- after the peer of an accepting has come, on this port
+abbrev pub WelcomesMade : {T : Type 0} → (T → PortSeen) → T → Place → Option Base → AcceptAnswer → Slab EntrySeen → Slab EntrySeen → Type 0
+WelcomesMade tells port place base (accepts.Accepted peer) before now = OneMore (λ given. given ≡ port) tells place base before now
+WelcomesMade tells port place base accepts.NoPeer before now = ⊥
+WelcomesMade tells port place base accepts.Failed before now = SameValues before now
+WelcomesMade tells port place base accepts.Memory before now = SameValues before now
 
 -- after an accepting at the door of this key, which moves no bytes: each other port that was there is as it was, and
 -- there is one more where a peer was accepted
-abbrev pub AcceptsMade : {T : Type 0} → (T → PortSeen) → ℕ → Place → Option Base → AcceptAnswer → Slab EntrySeen → Slab EntrySeen → Type 0
-AcceptsMade tells door place base (accepts.Accepted peer) before now = (between : Slab EntrySeen) × MadeCall before between door MovesNothing × OneMore tells place base between now
-AcceptsMade tells door place base accepts.NoPeer before now = MadeCall before now door MovesNothing
-AcceptsMade tells door place base accepts.Failed before now = MadeCall before now door MovesNothing
-AcceptsMade tells door place base accepts.Memory before now = MadeCall before now door MovesNothing
+abbrev pub AcceptsMade : {T : Type 0} → (MadePeer T → Type 0) → (T → PortSeen) → ℕ → Place → Option Base → AcceptAnswer → Slab EntrySeen → Slab EntrySeen → Type 0
+AcceptsMade gave tells door place base (accepts.Accepted peer) before now = (between : Slab EntrySeen) × MadeCall before between door MovesNothing × OneMore (λ port. gave (peers.Came port peer)) tells place base between now
+AcceptsMade gave tells door place base accepts.NoPeer before now = MadeCall before now door MovesNothing
+AcceptsMade gave tells door place base accepts.Failed before now = MadeCall before now door MovesNothing
+AcceptsMade gave tells door place base accepts.Memory before now = MadeCall before now door MovesNothing
 
 -- the streams of the base were begun, standard input first, and no other; where there was no memory maybe none
 abbrev pub OpensAt : {T I O E : Type 0} → Base → PortTable T I O E → PortTable T I O E → OpenAnswer → Type 0

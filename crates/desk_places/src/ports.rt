@@ -10,7 +10,7 @@ ghost use Rattle.relay_model.specs.declared.places.Place.{Place};
 ghost use Rattle.world_trait.specs.Answers.{accept_act, close_act, listen_act, open_act, shut_act};
 ghost use Rattle.relay_model.specs.declared.places.Half.TheVariants.{ToRead, ToWrite};
 ghost use Rattle.port_trait.specs.Counting.{Rose};
-ghost use Rattle.desk_places.specs.Causes.{AcceptCause, AskedFor, BeginCause, ListenCause, OpenCause, StandardCause, WelcomeCause};
+ghost use Rattle.desk_places.specs.Causes.{AcceptCause, AskedFor, BeginCause, ListenCause, OpenCause, StandardCause, WelcomeCause, asking};
 ghost use Rattle.port_trait.specs.Ports.{JoinsSo, Reads, Sends, Shuts, Writes};
 ghost use Rattle.port_table.specs.Ports.{IsOf};
 ghost use Rattle.port_table.specs.PortTables.{AtMade, CalledAt, EndsAt, SameStreams, StreamFailed, StreamNotes, StreamsStay, giving_port, taking_port};
@@ -112,14 +112,52 @@ impl<M: Maker + Drop, I: Port, O: Port, E: Port> Ports<M, I, O, E> {
         ensures parents { self.new.parents ≡ self.old.parents }
         ensures covered { self.new.listed.covered ≡ self.old.listed.covered }
     {
-        let Some(station) = stations.find(place) else {
-            return;
-        };
+        if let Some(station) = stations.find(place) {
+            self.list_held(station);
+        }
+    }
+
+    /// The same of a place that is held, by its station.
+    fn list_held(&mut self, station: Station)
+        ensures sound { (stations : List Station) → station_at stations station.place ≡ Some station
+            → IsSoundBut station.place stations self.old.table.made self.old.listed
+            → IsSound stations self.new.table.made self.new.listed }
+        ensures table { self.new.table ≡ self.old.table }
+        ensures maker { self.new.maker ≡ self.old.maker }
+        ensures parents { self.new.parents ≡ self.old.parents }
+        ensures covered { self.new.listed.covered ≡ self.old.listed.covered }
+    {
         let Some(key) = station.base.made_key() else {
             return;
         };
         let may = self.table.may_hint(key);
         self.listed.set(key, is_awaited(station, may));
+    }
+
+    /// Disarms the half of a place that is held, or arms it, and lists its port accordingly.
+    fn mark_held(
+        &mut self,
+        stations: &mut Stations,
+        place: Place,
+        station: Station,
+        half: Half,
+        disarmed: bool,
+    )
+        requires { station_at stations.old.entries place ≡ Some station }
+        ensures sound { IsSoundBut place stations.new.entries self.old.table.made self.old.listed
+            → IsSound stations.new.entries self.new.table.made self.new.listed }
+        ensures set { SetsStation place (option_map (with_half half disarmed) (station_at stations.old.entries place))
+            (station_at stations.old.entries) (station_at stations.new.entries) }
+        ensures held { SameHold (hold_at stations.old.entries) (hold_at stations.new.entries) }
+        ensures standing { SameStanding stations.old.entries stations.new.entries }
+        ensures len { length stations.new.entries ≡ length stations.old.entries }
+        ensures table { self.new.table ≡ self.old.table }
+        ensures maker { self.new.maker ≡ self.old.maker }
+        ensures parents { self.new.parents ≡ self.old.parents }
+        ensures covered { self.new.listed.covered ≡ self.old.listed.covered }
+    {
+        let marked = stations.mark_held(station, half, disarmed);
+        self.list_held(marked);
     }
 
     /// Disarms the half of the place, or arms it, and lists its port accordingly.
@@ -152,7 +190,8 @@ impl<M: Maker + Drop, I: Port, O: Port, E: Port> Ports<M, I, O, E> {
         requires stations_room { 0 < stations.old.spare }
         requires made_room { HasVacancy self.old.table.made self.old.listed }
         ensures cause { BeginCause M.Made.seen port result }
-        ensures made { BeginsMade M.Made.seen place (base_at stations.new.entries place) result self.old.table.made self.new.table.made }
+        ensures made { BeginsMade M.Made.seen port place (base_at stations.new.entries place) result self.old.table.made
+            self.new.table.made }
         ensures marks { BeginMarks place settling result (is_disarmed stations.old.entries) (is_disarmed stations.new.entries) }
         ensures streams { SameStreams self.old.table self.new.table }
         ensures bases { BeginsOn place (base_at stations.old.entries) (base_at stations.new.entries) result }
@@ -186,14 +225,16 @@ impl<M: Maker + Drop, I: Port, O: Port, E: Port> Ports<M, I, O, E> {
         ensures standard { IfSome (standard_of place single.now.target)
             (λ base. StandardCause (StreamFailed self.old.table self.new.table) result) }
         ensures made { IfNone (standard_of place single.now.target)
-            (OpenCause M.Made.seen (M.seen self.old.maker) (M.seen self.new.maker) result) }
+            (OpenCause (M.makes self.old.maker (asking place single.now behind) self.new.maker) M.Made.seen (M.seen self.old.maker)
+            (M.seen self.new.maker) result) }
         ensures asked { IfNone (standard_of place single.now.target) (AskedFor place single.now behind (M.seen self.new.maker).asked) }
         ensures came { (M.seen self.new.maker).came ≡ (M.seen self.old.maker).came }
         ensures stay { StreamsStay self.old.table self.new.table }
         ensures begun { IfSome (standard_of place single.now.target) (λ base. OpensAt base self.old.table self.new.table result) }
         ensures streams { IfNone (standard_of place single.now.target) (SameStreams self.old.table self.new.table) }
         ensures ports { MatchOption (standard_of place single.now.target)
-            (OpensMade M.Made.seen place (base_at stations.new.entries place) result self.old.table.made self.new.table.made)
+            (OpensMade (M.makes self.old.maker (asking place single.now behind) self.new.maker) M.Made.seen place
+            (base_at stations.new.entries place) result self.old.table.made self.new.table.made)
             (λ base. SameValues self.old.table.made self.new.table.made) }
         ensures marks { OpenMarks place result (is_disarmed stations.old.entries) (is_disarmed stations.new.entries) }
         ensures bases { OpensOn (standard_of place single.now.target) place (base_at stations.old.entries)
@@ -241,11 +282,13 @@ impl<M: Maker + Drop, I: Port, O: Port, E: Port> Ports<M, I, O, E> {
         requires free { hold_at stations.old.entries place ≡ Free }
         requires stations_room { 0 < stations.old.spare }
         requires made_room { HasVacancy self.old.table.made self.old.listed }
-        ensures cause { OpenCause M.Made.seen (M.seen self.old.maker) (M.seen self.new.maker) result }
+        ensures cause { OpenCause (M.makes self.old.maker (asking place single.now behind) self.new.maker) M.Made.seen (M.seen self.old.maker)
+            (M.seen self.new.maker) result }
         ensures asked { AskedFor place single.now behind (M.seen self.new.maker).asked }
         ensures came { (M.seen self.new.maker).came ≡ (M.seen self.old.maker).came }
         ensures streams { SameStreams self.old.table self.new.table }
-        ensures ports { OpensMade M.Made.seen place (base_at stations.new.entries place) result self.old.table.made self.new.table.made }
+        ensures ports { OpensMade (M.makes self.old.maker (asking place single.now behind) self.new.maker) M.Made.seen place
+            (base_at stations.new.entries place) result self.old.table.made self.new.table.made }
         ensures marks { OpenMarks place result (is_disarmed stations.old.entries) (is_disarmed stations.new.entries) }
         ensures bases { OpensOn None place (base_at stations.old.entries) (base_at stations.new.entries) result }
         ensures kept { TakesOne stations.old.entries stations.new.entries self.old self.new }
@@ -309,10 +352,12 @@ impl<M: Maker + Drop, I: Port, O: Port, E: Port> Ports<M, I, O, E> {
         requires free { hold_at stations.old.entries door ≡ Free }
         requires stations_room { 0 < stations.old.spare }
         requires made_room { HasVacancy self.old.table.made self.old.listed }
-        ensures cause { ListenCause M.Made.seen (M.seen self.old.maker) (M.seen self.new.maker) result }
+        ensures cause { ListenCause (M.listens self.old.maker single.now self.new.maker) M.Made.seen (M.seen self.old.maker)
+            (M.seen self.new.maker) result }
         ensures came { (M.seen self.new.maker).came ≡ (M.seen self.old.maker).came }
         ensures streams { SameStreams self.old.table self.new.table }
-        ensures ports { ListensMade M.Made.seen door (base_at stations.new.entries door) result self.old.table.made self.new.table.made }
+        ensures ports { ListensMade (M.listens self.old.maker single.now self.new.maker) M.Made.seen door
+            (base_at stations.new.entries door) result self.old.table.made self.new.table.made }
         ensures marks { ListenMarks door result (is_disarmed stations.old.entries) (is_disarmed stations.new.entries) }
         ensures bases { ListensOn door (base_at stations.old.entries) (base_at stations.new.entries) result }
         ensures kept { TakesOne stations.old.entries stations.new.entries self.old self.new }
@@ -338,10 +383,11 @@ impl<M: Maker + Drop, I: Port, O: Port, E: Port> Ports<M, I, O, E> {
         requires free { hold_at stations.old.entries place ≡ Free }
         requires stations_room { 0 < stations.old.spare }
         requires made_room { HasVacancy self.old.table.made self.old.listed }
-        ensures cause { AcceptCause M.Made.seen (M.seen self.old.maker) (M.seen self.new.maker) result }
+        ensures cause { AcceptCause (M.accepts self.old.maker self.new.maker) M.Made.seen (M.seen self.old.maker)
+            (M.seen self.new.maker) result }
         ensures streams { SameStreams self.old.table self.new.table }
         ensures ports { IfSome (base_at stations.old.entries door)
-            (λ base. AtMade (giving_port base) (λ key. AcceptsMade M.Made.seen key place
+            (λ base. AtMade (giving_port base) (λ key. AcceptsMade (M.accepts self.old.maker self.new.maker) M.Made.seen key place
             (base_at stations.new.entries place) result self.old.table.made self.new.table.made)
             (SameValues self.old.table.made self.new.table.made)) }
         ensures marks { AcceptMarks door place result (is_disarmed stations.old.entries) (is_disarmed stations.new.entries) }
@@ -382,10 +428,11 @@ impl<M: Maker + Drop, I: Port, O: Port, E: Port> Ports<M, I, O, E> {
         requires free { hold_at stations.old.entries place ≡ Free }
         requires stations_room { 0 < stations.old.spare }
         requires made_room { HasVacancy self.old.table.made self.old.listed }
-        ensures cause { WelcomeCause M.Made.seen peer result }
+        ensures cause { WelcomeCause M.Made.seen port peer result }
         ensures maker { self.new.maker ≡ self.old.maker }
         ensures streams { SameStreams self.old.table self.new.table }
-        ensures ports { WelcomesMade M.Made.seen place (base_at stations.new.entries place) result self.old.table.made self.new.table.made }
+        ensures ports { WelcomesMade M.Made.seen port place (base_at stations.new.entries place) result self.old.table.made
+            self.new.table.made }
         ensures marks { AcceptMarks door place result (is_disarmed stations.old.entries) (is_disarmed stations.new.entries) }
         ensures bases { AcceptsOn place (base_at stations.old.entries) (base_at stations.new.entries) result }
         ensures kept { TakesOne stations.old.entries stations.new.entries self.old self.new }
@@ -420,7 +467,7 @@ impl<M: Maker + Drop, I: Port, O: Port, E: Port> Ports<M, I, O, E> {
     {
         let station = stations.held(place);
         let got = self.table.read(station.base, into);
-        self.mark(stations, place, Half::ToRead, gave_not_yet(got));
+        self.mark_held(stations, place, station, Half::ToRead, gave_not_yet(got));
         got
     }
 
@@ -440,7 +487,7 @@ impl<M: Maker + Drop, I: Port, O: Port, E: Port> Ports<M, I, O, E> {
     {
         let station = stations.held(place);
         let took = self.table.write(station.base, bytes);
-        self.mark(stations, place, Half::ToWrite, took_not_yet(took));
+        self.mark_held(stations, place, station, Half::ToWrite, took_not_yet(took));
         took
     }
 
@@ -459,7 +506,7 @@ impl<M: Maker + Drop, I: Port, O: Port, E: Port> Ports<M, I, O, E> {
     {
         let station = stations.held(place);
         let took = self.table.send(station.base, bytes);
-        self.mark(stations, place, Half::ToWrite, took_not_yet(took));
+        self.mark_held(stations, place, station, Half::ToWrite, took_not_yet(took));
         took
     }
 

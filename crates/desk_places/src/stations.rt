@@ -83,6 +83,16 @@ impl Station {
         Station::open(place, base)
     }
 
+    /// Whether the half is disarmed already, or armed.
+    fn has_half(self, half: Half, disarmed: bool) -> bool
+        ensures { result ≡ true → with_half half disarmed self ≡ self }
+    {
+        match half {
+            Half::ToRead => self.reading_disarmed == disarmed,
+            Half::ToWrite => self.writing_disarmed == disarmed,
+        }
+    }
+
     /// The same with this half disarmed or not.
     fn with_half(self, half: Half, disarmed: bool) -> Station
         ensures { result ≡ with_half half disarmed self }
@@ -114,7 +124,11 @@ impl Model for Stations {
 
     ghost Value = { StationTable };
 
-    ghost view = { λ table. record { entries = table.entries.items; asked = table.asked.items; spare = min (vec_capacity table.entries - vec_len table.entries) (vec_capacity table.asked - vec_len table.asked) } };
+    ghost view = { λ table. record {
+      entries = table.entries.items;
+      asked = table.asked.items;
+      spare = min (vec_capacity table.entries - vec_len table.entries) (vec_capacity table.asked - vec_len table.asked);
+    } };
 
     ghost invariant = { λ table. AreInOrder table.entries.items × AreListed table.entries.items table.asked.items };
 }
@@ -243,6 +257,24 @@ impl Stations {
         }
     }
 
+    /// Disarms the half of a place that is held, or arms it; this is its station then. Where the half stands so already, nothing
+    /// is searched for.
+    pub fn mark_held(&mut self, station: Station, half: Half, disarmed: bool) -> Station
+        requires { station_at self.old.entries station.place ≡ Some station }
+        ensures marked { result ≡ with_half half disarmed station }
+        ensures set { SetsStation station.place (option_map (with_half half disarmed) (station_at self.old.entries station.place))
+            (station_at self.old.entries) (station_at self.new.entries) }
+        ensures held { SameHold (hold_at self.old.entries) (hold_at self.new.entries) }
+        ensures standing { SameStanding self.old.entries self.new.entries }
+        ensures len { length self.new.entries ≡ length self.old.entries }
+    {
+        let marked = station.with_half(half, disarmed);
+        if !station.has_half(half, disarmed) {
+            self.replace(marked);
+        }
+        marked
+    }
+
     /// Disarms the half of the place, or arms it.
     pub fn mark(&mut self, place: Place, half: Half, disarmed: bool)
         ensures set { SetsStation place (option_map (with_half half disarmed) (station_at self.old.entries place))
@@ -252,7 +284,7 @@ impl Stations {
         ensures len { length self.new.entries ≡ length self.old.entries }
     {
         if let Some(station) = self.find(place) {
-            self.replace(station.with_half(half, disarmed));
+            self.mark_held(station, half, disarmed);
         }
     }
 }

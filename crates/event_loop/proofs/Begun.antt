@@ -1,5 +1,6 @@
 -- A run that has just begun.
-use Rattle.std.proofs.Common.{◌≡◌, refl, sym, ap, subst, ◌∙◌, ℕ, List, [], ◌∷◌, ◌++◌, Option, Some, None, arith}
+use Rattle.std.proofs.Common.{◌≡◌, refl, sym, ap, subst, ◌∙◌, ℕ, List, [], ◌∷◌, ◌++◌, ◌≤◌, Option, Some, None, arith}
+use Rattle.std.specs.Prelude.{vec_len}
 use Rattle.std.specs.Option.{option_map}
 use Rattle.std.specs.Ordering.{nat_cmp}
 use Rattle.std.specs.FinMap.{empty, get-empty}
@@ -31,8 +32,8 @@ told_nothing (Some h) = ap (λ xs. Some (record { acts = h.acts; asked = xs })) 
 no_row_yet : (c : Config) (n : ℕ) (s : ℕ) (work : List ℕ) (timer : Option ℕ) (row : Option Row) → row ≡ None → timer ≡ None → RowIs c n [] s work timer row
 no_row_yet c n s work timer row e t = subst (RowIs c n [] s work timer) (sym e) (λ b. absurd (omega (arith, b)), t)
 
-pub begun : (c : Config) (n : ℕ) (start : Seen) (sessions : Sessions) → Forks c → DoorStands c [] sessions.door → sessions.pending_session ≡ None → sessions.clock ≡ 0 → sessions.made ≡ 0 → sessions.table.admitted ≡ 0 → sessions.table.max_children ≡ (door_options c).sessions.max_children → sessions.table.stop_after ≡ (door_options c).sessions.stop_after → ((s : ℕ) → row_of sessions.table s ≡ None) → sessions.timers.moments ≡ empty → ((p : Place) → start.held p ≡ Free) → Course c n start start [] sessions
-begun c n start sessions forks door eu ec em ea eb es rows et free = record {
+pub begun : (c : Config) (n : ℕ) (start : Seen) (sessions : Sessions) → Forks c → DoorStands c [] sessions.door → sessions.pending_session ≡ None → sessions.clock ≡ 0 → sessions.made ≡ 0 → c.block ≤ vec_len sessions.scratch → sessions.table.admitted ≡ 0 → sessions.table.max_children ≡ (door_options c).sessions.max_children → sessions.table.stop_after ≡ (door_options c).sessions.stop_after → ((s : ℕ) → row_of sessions.table s ≡ None) → sessions.timers.moments ≡ empty → ((p : Place) → start.held p ≡ Free) → Course c n start start [] sessions
+begun c n start sessions forks door eu ec em room ea eb es rows et free = record {
   frame = record {
     fork = forks.fork;
     run = record {
@@ -55,6 +56,7 @@ begun c n start sessions forks door eu ec em ea eb es rows et free = record {
     next = rw eu tt;
     clock_is = ec;
     made_is = sym em;
+    room = room;
     unsaid = record { remembered = refl; unstopped = refl };
   };
   unowed = refl;

@@ -15,9 +15,9 @@ use Rattle.relay_model.specs.Openings.{ready}
 use Rattle.relay_model.specs.Cause.{cause}
 use Rattle.relay_model.specs.May.{Legal, MayAsk}
 use Rattle.relay_model.specs.Frames.{IsForeign, is_at, reads_bytes}
-use Rattle.history_lemmas.proofs.PlaceLemmas.{same_place_equal}
-use Rattle.history_lemmas.proofs.OwnThings.{input_own}
-use Rattle.history_lemmas.proofs.Holdings.{moves_running}
+use Rattle.relay_laws.proofs.PlaceLemmas.{same_place_equal}
+use Rattle.relay_laws.proofs.OwnThings.{input_own}
+use Rattle.relay_laws.proofs.Holdings.{moves_running}
 use Rattle.session_driver.specs.Dumpers.{Counted, counted_at}
 use Rattle.session_driver.specs.declared.dumpers.Dumper.{Dumper}
 use Rattle.session_driver.proofs.Counting.{unread_got}

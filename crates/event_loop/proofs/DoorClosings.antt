@@ -16,8 +16,8 @@ use Rattle.relay_model.specs.Sessions.{admitted, next_place, first_part}
 use Rattle.relay_model.specs.Cause.{cause, closed_why}
 use Rattle.relay_model.specs.Rest.{Rest, owed}
 use Rattle.relay_model.specs.May.{MayClose, Licensed, by_cause, by_door, for_stop}
-use Rattle.history_lemmas.proofs.PlaceLemmas.{same_place_equal, same_place_self}
-use Rattle.history_lemmas.proofs.OwnThings.{place_own}
+use Rattle.relay_laws.proofs.PlaceLemmas.{same_place_equal, same_place_self}
+use Rattle.relay_laws.proofs.OwnThings.{place_own}
 use Rattle.world_trait.specs.Answers.{Answered}
 use Rattle.relay_session.proofs.Possible.{held_taken}
 use Rattle.program_door.specs.declared.doors.Door.{Door}

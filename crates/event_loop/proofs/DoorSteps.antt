@@ -1,5 +1,6 @@
 -- What the acts of the program door make of the course of all.
 use Rattle.std.proofs.Common.{◌≡◌, ◌≢◌, refl, sym, ap, subst, ◌∙◌, ℕ, zero, suc, ◌<◌, ◌≤◌, ◌+◌, ◌⊎◌, inl, inr, Bool, true, false, nat_lt, List, [], ◌∷◌, Option, Some, None, is_some, arith}
+use Rattle.std.specs.Prelude.{vec_len}
 use Rattle.std.proofs.lemmas.Bool.{cases_lt, true≢false, and_right, and_from, lt-ltb, leb-false}
 use Rattle.relay_model.specs.declared.commands.Config.{Config}
 use Rattle.relay_model.specs.declared.places.Place.{Place}
@@ -19,7 +20,7 @@ use Rattle.relay_model.specs.Calls.{door_call}
 use Rattle.relay_model.specs.Openings.{Accept}
 use Rattle.relay_model.specs.Laws.{DoorTells}
 use Rattle.relay_model.specs.Frames.{IsForeign, is_common}
-use Rattle.history_lemmas.proofs.Admissions.{door_says}
+use Rattle.relay_laws.proofs.Admissions.{door_says}
 use Rattle.relay_session.specs.declared.sessions.Session.{Session}
 use Rattle.relay_session.specs.declared.sessions.PendingSession.{PendingSession}
 use Rattle.relay_session.specs.Sessions.{Hears, IsPendingSession}
@@ -55,6 +56,7 @@ use Rattle.event_loop.proofs.Counting.{counted_kept, counted_by, counted_first}
 use Rattle.event_loop.proofs.RowLaws.{wakes_kept, awake_wakes, sleeper_wakes, row_up, row_listed, same_timer}
 use Rattle.event_loop.proofs.RowRuns.{here_of, ran_course, ran_ends}
 use Rattle.event_loop.proofs.Spreading.{up_may}
+use Rattle.event_loop.proofs.Rooms.{kept_room}
 
 -- ---- how many live
 
@@ -124,6 +126,7 @@ run_on c n start old new past For before after act f unowed for a =
 pub record KeptBack (c : Config) (before after : Sessions) : Type 0 where
   pub clock_same : after.clock ≡ before.clock
   pub made_same : after.made ≡ before.made
+  pub scratch_same : vec_len after.scratch ≡ vec_len before.scratch
   pub table_same : after.table ≡ before.table
   pub lists : SameLists before after
   pub next : (past : List Act) → before.table.admitted ≡ admitted c past → NextIs c past after.pending_session
@@ -146,6 +149,7 @@ door_course c n start old new past live before after act e on a none kept =
         next = kept.next (act ∷ past) (f.counts.admitted_is ∙ sym same);
         clock_is = kept.clock_same ∙ f.clock_is ∙ sym (moment_kept act past a.untimed);
         made_is = turns_kept act past a.untimed ∙ f.made_is ∙ sym kept.made_same;
+        room = kept_room _ _ _ f.room kept.scratch_same;
         unsaid = unsaid_kept c act past k f.unsaid;
       };
       unowed = unread_owes c act past a.unread;
@@ -172,6 +176,7 @@ door_idled c n start old new past before after on d kept =
         next = kept.next past f.counts.admitted_is;
         clock_is = kept.clock_same ∙ f.clock_is;
         made_is = f.made_is ∙ sym kept.made_same;
+        room = kept_room _ _ _ f.room kept.scratch_same;
         unsaid = f.unsaid;
       };
       unowed = on.unowed;
@@ -191,6 +196,7 @@ door_unmoved c n start old new past before after on e d kept =
         next = kept.next past f.counts.admitted_is;
         clock_is = kept.clock_same ∙ f.clock_is;
         made_is = f.made_is ∙ sym kept.made_same;
+        room = kept_room _ _ _ f.room kept.scratch_same;
         unsaid = f.unsaid;
       };
       unowed = on.unowed;
@@ -214,6 +220,7 @@ next_taken c n start now past before after on same =
         next = same.next c past f.next;
         clock_is = same.clock_same ∙ f.clock_is;
         made_is = f.made_is ∙ sym same.made_same;
+        room = kept_room _ _ _ f.room same.scratch_same;
         unsaid = f.unsaid;
       };
       unowed = on.unowed;
@@ -264,6 +271,7 @@ may_accept c n start now past sessions on called =
 pub record OneMore (born : Row) (before after : Sessions) : Type 0 where
   pub clock_same : after.clock ≡ before.clock
   pub made_same : after.made ≡ before.made
+  pub scratch_same : vec_len after.scratch ≡ vec_len before.scratch
   pub pending_session_is : after.pending_session ≡ None
   pub row : row_of after.table before.table.admitted ≡ Some born
   pub heard : born.turn ≡ before.made
@@ -299,6 +307,7 @@ door_admitted c n start old new past live before after place peer row e on a adm
         next = no_next c (acts.Accepted place peer ∷ past) after.pending_session more.pending_session_is;
         clock_is = more.clock_same ∙ f.clock_is;
         made_is = f.made_is ∙ sym more.made_same;
+        room = kept_room _ _ _ f.room more.scratch_same;
         unsaid = record { remembered = f.unsaid.remembered; unstopped = f.unsaid.unstopped };
       };
       unowed = refl;
@@ -349,6 +358,7 @@ door_failed c n start old new past live before mid e on idle a kept =
         next = kept.next (acts.AcceptFailed program_door ∷ past) f.counts.admitted_is;
         clock_is = kept.clock_same ∙ f.clock_is;
         made_is = f.made_is ∙ sym kept.made_same;
+        room = kept_room _ _ _ f.room kept.scratch_same;
         unsaid = record { remembered = f.unsaid.remembered; unstopped = f.unsaid.unstopped };
       };
       rows = λ s.

@@ -1,4 +1,5 @@
 -- What the closings of one session leave of all others, and what comes of a row.
+use Rattle.std.specs.Prelude.{vec_len}
 use Rattle.std.proofs.Common.{◌≡◌, ◌≢◌, refl, sym, subst, ◌∙◌, ℕ, ◌+◌, ◌<◌, ◌⊎◌, inl, inr, Bool, true, false, cond, List, [], ◌∷◌, Option, Some, None, arith, ap, ◌≤◌, length, ◌++◌, append_assoc, length-append, is_some}
 use Rattle.std.specs.List.{list_any}
 use Rattle.std.proofs.lemmas.Bool.{cases_eq, or_parts, or_from, false≢true}
@@ -32,6 +33,7 @@ use Rattle.event_loop.proofs.Closings.{may_on, may_still, unclosed_holds}
 use Rattle.event_loop.proofs.LivingRows.{EachTo, SameFrom, each_first, each_next}
 use Rattle.event_loop.proofs.RowLoops.{RowsTo, rows_first, rows_next}
 use Rattle.event_loop.proofs.Others.{act_leaves, foreign_to}
+use Rattle.event_loop.proofs.Rooms.{kept_room}
 
 -- ---- a closing ends holdings alone
 
@@ -95,6 +97,7 @@ some_leaves c now t why sessions x at had = record { n = at.n; start = at.start;
 -- all but the door and the row of this number is as it was
 pub record SameBut (t : ℕ) (before after : Sessions) : Type 0 where
   pub made_same : after.made ≡ before.made
+  pub scratch_same : vec_len after.scratch ≡ vec_len before.scratch
   pub admitted_same : after.table.admitted ≡ before.table.admitted
   pub bounds_same : SameBounds before.table after.table
   pub others : OthersStay t before after
@@ -108,11 +111,12 @@ record HasEmptied (c : Config) (n : ℕ) (start now : Seen) (before : List Act) 
   exit : Exit c n start now since why sessions.door
   counts : Counts c since sessions.table
   made_is : turns since ≡ sessions.made
+  room : c.block ≤ vec_len sessions.scratch
   rows : (s : ℕ) → s ≢ t → LeavesRow c n since s why (row_of sessions.table s)
   empty : t < admitted c since → holds c since t ≡ false
 
 has_emptied : (c : Config) (n : ℕ) (start now : Seen) (before : List Act) (t : ℕ) (why : Why) (was : Option Row) (sessions : Sessions) (made : List Act) → HasEmptied c n start now before t why was sessions made (made ++ before) → Emptied c n start now before t why was sessions
-has_emptied c n start now before t why was sessions made h = record { made = made; acted = h.acted; exit = h.exit; counts = h.counts; made_is = h.made_is; rows = h.rows; empty = h.empty }
+has_emptied c n start now before t why was sessions made h = record { made = made; acted = h.acted; exit = h.exit; counts = h.counts; made_is = h.made_is; room = h.room; rows = h.rows; empty = h.empty }
 
 -- what came since
 left_newer : (c : Config) (t : ℕ) (why : Why) (past since : List Act) → LeftBy c t why past since → (newer : List Act) × (since ≡ newer ++ past)
@@ -145,6 +149,7 @@ row_emptied c old new t why before after x y had run over same = record {
           stop_is = same.bounds_same.1 ∙ l.counts.stop_is;
         };
         made_is = r.turns_same ∙ l.made_is ∙ sym same.made_same;
+        room = kept_room _ _ _ l.room same.scratch_same;
         rows = λ s apart. subst (LeavesRow c n o.since s why) (sym (same.others s apart)) (r.rows s (row_of before.table s) apart (l.rows s));
         empty = λ _. none;
       }));
@@ -160,6 +165,7 @@ no_row_emptied c now t why before after none door same = record {
     exit = subst (λ (d : Door). Exit c n start now past why d) (sym door) l.exit;
     counts = record { admitted_is = same.admitted_same ∙ l.counts.admitted_is; children_is = same.bounds_same.0 ∙ l.counts.children_is; stop_is = same.bounds_same.1 ∙ l.counts.stop_is };
     made_is = l.made_is ∙ sym same.made_same;
+    room = kept_room _ _ _ l.room same.scratch_same;
     rows = λ s apart. subst (LeavesRow c n past s why) (sym (same.others s apart)) (l.rows s);
     empty = subst (LeavesRow c n past t why) none (l.rows t);
   };
@@ -179,6 +185,7 @@ row_gone c old new t why before mid after e door same gone = record {
           exit = subst (λ (d : Door). Exit c n start new since why d) (sym door) m.exit;
           counts = record { admitted_is = same.admitted_same ∙ m.counts.admitted_is; children_is = same.bounds_same.0 ∙ m.counts.children_is; stop_is = same.bounds_same.1 ∙ m.counts.stop_is };
           made_is = m.made_is ∙ sym same.made_same;
+          room = kept_room _ _ _ m.room same.scratch_same;
           rows = λ s. each n since s (subst (LeavesRow c n since t why) (sym gone) m.empty) (λ apart. subst (LeavesRow c n since s why) (sym (same.others s apart)) (m.rows s apart)) (cases_eq s t);
         };
       };

@@ -43,7 +43,7 @@ use Rattle.event_loop.specs.Courses.{RowOf, Unsaid, timer_of}
 use Rattle.event_loop.specs.Endings.{RunsOut}
 use Rattle.event_loop.specs.Turned.{NoneLives}
 use Rattle.event_loop.specs.Waited.{StopsAt}
-use Rattle.event_loop.specs.Vacated.{Empty, over_for}
+use Rattle.event_loop.specs.Vacated.{Empty, why_over}
 use Rattle.event_loop.proofs.DoorClosings.{none_tells}
 use Rattle.event_loop.proofs.Freeing.{all_free, nothing_held}
 
@@ -170,12 +170,6 @@ for_served c n past left told = record {
   stopped = λ t e. cc;
 }
 
-accept_said : (m t a : Bool) → first_some (only_if m whys.Memory ∷ only_if t whys.Stopped ∷ only_if a whys.AcceptFailed ∷ []) ≡ Some whys.AcceptFailed → a ≡ true
-accept_said true t a e = let x : ⊥ = cc in absurd x
-accept_said false true a e = let x : ⊥ = cc in absurd x
-accept_said false false true e = refl
-accept_said false false false e = let x : ⊥ = cc in absurd x
-
 for_accept : (c : Config) (n : ℕ) (past : List Act) → accept_failed past program_door ≡ true → outcome c past ≡ Some whole.AcceptFailed → Answers c n past outcomes.AcceptFailed
 for_accept c n past failed told = record {
   outcome_is = inl (inl (whole.AcceptFailed, told, refl));
@@ -184,33 +178,41 @@ for_accept c n past failed told = record {
   stopped = λ t e. cc;
 }
 
-answer_by : (c : Config) (n : ℕ) (past : List Act) (cause : Option Why) (listening : Option ℕ) (answer : Outcome) → Legal c n past → cause ≡ door_cause past → Spends (door_options c).tries.retry (door_options c).tries.forever (failures past program_door) listening → ((answer : whole.Outcome) → told_by_door c past (door_cause past) answer → outcome c past ≡ Some answer) → over_for cause listening ≡ Some answer → Answers c n past answer
-answer_by c n past None None answer legal e spends told is =
-    as_told (outcomes.Ended ends.Served) answer (Answers c n past) is (for_served c n past spends (λ answer h. told answer (subst (λ (k : Option Why). told_by_door c past k answer) e h)))
-answer_by c n past None (Some attempts) answer legal e spends told is =
-    as_told (outcomes.ListenFailed attempts) answer (Answers c n past) is (for_listening c n past attempts legal spends (λ answer h. told answer (subst (λ (k : Option Why). told_by_door c past k answer) e h)))
-answer_by c n past (Some whys.AcceptFailed) listening answer legal e spends told is =
-    as_told outcomes.AcceptFailed answer (Answers c n past) is (for_accept c n past (accept_said (memory_said past) (stop_said past) (accept_failed past program_door) (sym e)) (told whole.AcceptFailed (subst (λ (k : Option Why). told_by_door c past k whole.AcceptFailed) e refl)))
-answer_by c n past (Some why) listening answer legal e spends told is = cc
-
 -- where no closing said that the run ends, the door's calls ended for a failed accepting, if for anything
-known_over : (m t a : Bool) (cause : Option Why) (listening : Option ℕ) → cause ≡ first_some (only_if m whys.Memory ∷ only_if t whys.Stopped ∷ only_if a whys.AcceptFailed ∷ []) → m ≡ false → t ≡ false → is_some (over_for cause listening) ≡ true
-known_over true t a cause listening e fm ft = absurd (false≢true (sym fm))
-known_over false true a cause listening e fm ft = absurd (false≢true (sym ft))
-known_over false false true cause listening e fm ft = ap (λ (k : Option Why). is_some (over_for k listening)) e
-known_over false false false cause None e fm ft = ap (λ (k : Option Why). is_some (over_for k None)) e
-known_over false false false cause (Some attempts) e fm ft = ap (λ (k : Option Why). is_some (over_for k (Some attempts))) e
+said_alone : (m t a : Bool) (why : Why) → Some why ≡ first_some (only_if m whys.Memory ∷ only_if t whys.Stopped ∷ only_if a whys.AcceptFailed ∷ []) → m ≡ false → t ≡ false → (why ≡ whys.AcceptFailed) × (a ≡ true)
+said_alone true t a why e fm ft = absurd (false≢true (sym fm))
+said_alone false true a why e fm ft = absurd (false≢true (sym ft))
+said_alone false false true why e fm ft = (cc, refl)
+said_alone false false false why e fm ft = let x : ⊥ = cc in absurd x
 
-pub over_told : (past : List Act) (cause : Option Why) (listening : Option ℕ) → cause ≡ door_cause past → Unsaid past → is_some (over_for cause listening) ≡ true
-over_told past cause listening e unsaid = known_over (memory_said past) (stop_said past) (accept_failed past program_door) cause listening e unsaid.remembered unsaid.unstopped
+accept_alone : (past : List Act) (why : Why) → Some why ≡ door_cause past → Unsaid past → (why ≡ whys.AcceptFailed) × (accept_failed past program_door ≡ true)
+accept_alone past why e unsaid = said_alone (memory_said past) (stop_said past) (accept_failed past program_door) why e unsaid.remembered unsaid.unstopped
+
+-- so its answer is known
+pub over_told : (past : List Act) (cause : Option Why) (listening : Option ℕ) (made : ℕ) → cause ≡ door_cause past → Unsaid past → is_some (outcome_for (why_over cause listening) listening None None made) ≡ true
+over_told past None None made e unsaid = refl
+over_told past None (Some attempts) made e unsaid = refl
+over_told past (Some why) listening made e unsaid = rw ((accept_alone past why e unsaid).0) refl
+
+answer_by : (c : Config) (n : ℕ) (past : List Act) (cause : Option Why) (listening : Option ℕ) (made : ℕ) (answer : Outcome) → Legal c n past → Unsaid past → cause ≡ door_cause past → Spends (door_options c).tries.retry (door_options c).tries.forever (failures past program_door) listening → ((answer : whole.Outcome) → told_by_door c past (door_cause past) answer → outcome c past ≡ Some answer) → outcome_for (why_over cause listening) listening None None made ≡ Some answer → Answers c n past answer
+answer_by c n past None None made answer legal unsaid e spends told is =
+    as_told (outcomes.Ended ends.Served) answer (Answers c n past) is (for_served c n past spends (λ answer h. told answer (subst (λ (k : Option Why). told_by_door c past k answer) e h)))
+answer_by c n past None (Some attempts) made answer legal unsaid e spends told is =
+    as_told (outcomes.ListenFailed attempts) answer (Answers c n past) is (for_listening c n past attempts legal spends (λ answer h. told answer (subst (λ (k : Option Why). told_by_door c past k answer) e h)))
+answer_by c n past (Some why) listening made answer legal unsaid e spends told is =
+    let alone = accept_alone past why e unsaid in
+    let cause : Some whys.AcceptFailed ≡ door_cause past = ap Some (sym alone.0) ∙ e in
+    as_told outcomes.AcceptFailed answer (Answers c n past) (subst (λ (k : Why). outcome_for k listening None None made ≡ Some answer) alone.0 is)
+    (for_accept c n past alone.1 (told whole.AcceptFailed (subst (λ (k : Option Why). told_by_door c past k whole.AcceptFailed) cause refl)))
 
 none_of_rows : (c : Config) (n : ℕ) (past : List Act) (s : ℕ) (sessions : Sessions) → NoneLives sessions → RowOf c n past sessions s → s < admitted c past → holds c past s ≡ false
 none_of_rows c n past s sessions none r = (subst (RowIs c n past s sessions.work.items (timer_of sessions s)) (none s) r).0
 
-pub ended_over : (c : Config) (n : ℕ) (start now : Seen) (sessions : Sessions) (cause : Option Why) (listening : Option ℕ) (answer : Outcome) → (over : DoorIsOver c n start now sessions) → NoneLives sessions → cause ≡ door_cause over.past → Spends (door_options c).tries.retry (door_options c).tries.forever (failures over.past program_door) listening → over_for cause listening ≡ Some answer → Ended c n start now over.past answer
-ended_over c n start now sessions cause listening answer over none e spends is =
+pub ended_over : (c : Config) (n : ℕ) (start now : Seen) (sessions : Sessions) (cause : Option Why) (listening : Option ℕ) (made : ℕ) (why : Why) (answer : Outcome) → (over : DoorIsOver c n start now sessions) → NoneLives sessions → cause ≡ door_cause over.past → Spends (door_options c).tries.retry (door_options c).tries.forever (failures over.past program_door) listening → why ≡ why_over cause listening → outcome_for why listening None None made ≡ Some answer → Ended c n start now over.past answer
+ended_over c n start now sessions cause listening made why answer over none e spends by is =
     let f = over.course.frame in
     let done : IsDone c over.past = over.wished in
     let gone : (s : ℕ) → s < admitted c over.past → holds c over.past s ≡ false = λ s. none_of_rows c n over.past s sessions none (over.course.rows s) in
     let free = all_free c n over.past f.fork f.run.legal gone done.sleeps.no_peer done.no_door in
-    ended_with c n start now over.past answer f.fork f.run free (answer_by c n over.past cause listening answer f.run.legal e spends (λ answer h. told_outcome c n over.past answer f.run.legal f.fork done gone h) is)
+    ended_with c n start now over.past answer f.fork f.run free (answer_by c n over.past cause listening made answer f.run.legal f.unsaid e spends (λ answer h. told_outcome c n over.past answer f.run.legal f.fork done gone h)
+    (subst (λ (k : Why). outcome_for k listening None None made ≡ Some answer) by is))

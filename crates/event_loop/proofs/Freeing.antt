@@ -23,8 +23,8 @@ use Rattle.relay_model.specs.Calls.{call, called_at, door_call}
 use Rattle.relay_model.specs.Outcome.{holds_something}
 use Rattle.relay_model.specs.May.{Legal, MayOpen}
 use Rattle.relay_model.specs.Laws.{DoorTells}
-use Rattle.history_lemmas.proofs.PlaceLemmas.{same_place_equal, same_place_self}
-use Rattle.history_lemmas.proofs.Admissions.{door_says}
+use Rattle.relay_laws.proofs.PlaceLemmas.{same_place_equal, same_place_self}
+use Rattle.relay_laws.proofs.Admissions.{door_says}
 use Rattle.relay_session.specs.States.{home}
 use Rattle.relay_session.proofs.Own.{NamesOwn, names_own}
 use Rattle.relay_session.proofs.Held.{among, holds_not}

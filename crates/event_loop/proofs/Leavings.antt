@@ -16,6 +16,7 @@ use Rattle.event_loop.specs.Courses.{AllSleepIfLate, OwesFor}
 use Rattle.event_loop.specs.Endings.{MayEnd, CutsRows, RunsOut}
 use Rattle.event_loop.proofs.Spreading.{cut_leaves, sleeps_late}
 use Rattle.event_loop.specs.Waited.{LeavingAt, OwesAtExit, StopsAt}
+use Rattle.event_loop.proofs.Rooms.{kept_room}
 
 may_say : (why : Why) (past : List Act) → ends_all why ≡ true → memory_said past ≡ false → MaySay why past
 may_say whys.Memory past e m = tt
@@ -47,6 +48,7 @@ leaving_at c n start now why before after end cuts =
       };
       counts = record { admitted_is = same.admitted_same ∙ f.counts.admitted_is; children_is = same.bounds_same.0 ∙ f.counts.children_is; stop_is = same.bounds_same.1 ∙ f.counts.stop_is };
       made_is = f.made_is ∙ sym same.made_same;
+      room = kept_room _ _ _ f.room same.scratch_same;
       rows = λ s. cut_leaves c n end.past before.made before.clock why s (row_of before.table s) (row_of after.table s) f.made_is (sym f.clock_is) (cuts.rows s) (end.rows s);
     }
 

@@ -35,6 +35,7 @@ use Rattle.event_loop.proofs.Lists.{has_rest}
 use Rattle.event_loop.proofs.Others.{Leave, ran_leaves}
 use Rattle.event_loop.proofs.RowLaws.{row_up, row_as, row_listed, row_work, same_timer, same_work, up_listed, wakened_awake}
 use Rattle.event_loop.proofs.Spreading.{waker_may, spread_tells, up_may, heard_may}
+use Rattle.event_loop.proofs.Rooms.{kept_room}
 
 next_kept : (c : Config) (past since : List Act) (pending_session : Option PendingSession) → admitted c since ≡ admitted c past → NextIs c past pending_session → NextIs c since pending_session
 next_kept c past since None e h = tt
@@ -53,6 +54,7 @@ frame_on c n start old new past since t before after f run l same = record {
   next = subst (NextIs c since) (sym same.pending_session_same) (next_kept c past since before.pending_session l.admitted_same f.next);
   clock_is = same.clock_same ∙ f.clock_is ∙ sym l.moment_same;
   made_is = l.turns_same ∙ f.made_is ∙ sym same.made_same;
+  room = kept_room _ _ _ f.room same.scratch_same;
   unsaid = l.unsaid f.unsaid;
 }
 
@@ -66,11 +68,12 @@ frame_rest c n start now past before after f same = record {
   next = subst (NextIs c past) (sym same.pending_session_same) f.next;
   clock_is = same.clock_same ∙ f.clock_is;
   made_is = f.made_is ∙ sym same.made_same;
+  room = kept_room _ _ _ f.room same.scratch_same;
   unsaid = f.unsaid;
 }
 
 pub rest_itself : (sessions : Sessions) → SameRest sessions sessions
-rest_itself sessions = record { door_same = refl; pending_session_same = refl; clock_same = refl; made_same = refl; admitted_same = refl; bounds_same = (refl, refl) }
+rest_itself sessions = record { door_same = refl; pending_session_same = refl; clock_same = refl; made_same = refl; scratch_same = refl; admitted_same = refl; bounds_same = (refl, refl) }
 
 pub rest_then : (one two three : Sessions) → SameRest one two → SameRest two three → SameRest one three
 rest_then one two three r same = record {
@@ -78,6 +81,7 @@ rest_then one two three r same = record {
   pending_session_same = same.pending_session_same ∙ r.pending_session_same;
   clock_same = same.clock_same ∙ r.clock_same;
   made_same = same.made_same ∙ r.made_same;
+  scratch_same = same.scratch_same ∙ r.scratch_same;
   admitted_same = same.admitted_same ∙ r.admitted_same;
   bounds_same = (same.bounds_same.0 ∙ r.bounds_same.0, same.bounds_same.1 ∙ r.bounds_same.1);
 }

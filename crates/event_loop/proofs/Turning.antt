@@ -1,4 +1,5 @@
 -- How the run of all goes on by a turn.
+use Rattle.std.specs.Prelude.{vec_len}
 use Rattle.std.proofs.Common.{◌≡◌, refl, sym, ap, subst, ◌∙◌, inl, ℕ, suc, ◌+◌, ◌^◌, ◌<◌, ◌≤◌, ◌⊎◌, inr, Bool, true, false, not, ◌||◌, ◌&&◌, List, [], ◌∷◌, Option, Some, None, option_map, arith}
 use Rattle.std.proofs.lemmas.Bool.{true≢false, false≢true, or_parts}
 use Rattle.relay_model.specs.declared.commands.Config.{Config}
@@ -15,8 +16,8 @@ use Rattle.relay_model.specs.Holding.{Hold, is_free, standing}
 use Rattle.relay_model.specs.History.{now as moment, held, turns, memory_said, same_why}
 use Rattle.relay_model.specs.Cause.{cause}
 use Rattle.relay_model.specs.May.{Legal}
-use Rattle.history_lemmas.proofs.PlaceLemmas.{same_place_equal}
-use Rattle.history_lemmas.proofs.Holdings.{standing_held}
+use Rattle.relay_laws.proofs.PlaceLemmas.{same_place_equal}
+use Rattle.relay_laws.proofs.Holdings.{standing_held}
 use Rattle.world_trait.specs.Recordings.{with_act}
 use Rattle.world_trait.specs.Answers.{Did, TurnCounts, NamesHeld}
 use Rattle.relay_session.specs.declared.sessions.PendingSession.{PendingSession}
@@ -46,6 +47,7 @@ use Rattle.event_loop.proofs.RowLaws.{awake_wakes, due_wakes, row_listed}
 use Rattle.event_loop.proofs.RowRuns.{frame_rest}
 use Rattle.event_loop.proofs.Spreading.{up_may}
 use Rattle.event_loop.proofs.Hearing.{unnamed_own}
+use Rattle.event_loop.proofs.Rooms.{kept_room}
 
 -- ---- what is named is held
 
@@ -164,6 +166,7 @@ pub record HasWaited (at : ℕ) (stop : Bool) (before mid : Sessions) : Type 0 w
   pub pending_session_same : mid.pending_session ≡ before.pending_session
   pub clock_is : mid.clock ≡ at
   pub made_is : mid.made ≡ before.made + 1
+  pub scratch_same : vec_len mid.scratch ≡ vec_len before.scratch
 
 next_after_turn : (c : Config) (past : List Act) (until : Option ℕ) (at : ℕ) (ready : Listed) (stop : Bool) (pending_session : Option PendingSession) → NextIs c past pending_session → NextIs c (Turn until at ready stop ∷ past) pending_session
 next_after_turn c past until at ready stop None h = tt
@@ -190,6 +193,7 @@ has_waited at stop before mid t = record {
   pending_session_same = t.pending_session_same;
   clock_is = t.clock_is;
   made_is = t.made_is;
+  scratch_same = t.scratch_same;
 }
 
 pub turned_there : (old new : Seen) (until : Option ℕ) (at : ℕ) (ready other : Listed) (stop : Bool) → other ≡ ready → Turns old new until at ready stop → Turns old new until at other stop
@@ -210,6 +214,7 @@ frame_turned c n start old new past until at before mid w =
       next = subst (NextIs c (Turn until at (copied_list mid.ready) false ∷ past)) (sym w.has.pending_session_same) (next_after_turn c past until at (copied_list mid.ready) false before.pending_session f.next);
       clock_is = w.has.clock_is;
       made_is = one_turn (turns past) before.made mid.made e w.has.made_is;
+      room = kept_room _ _ _ f.room w.has.scratch_same;
       unsaid = record { remembered = f.unsaid.remembered; unstopped = f.unsaid.unstopped };
     }
 
@@ -271,6 +276,7 @@ stops_at c n start old new past until at before mid w =
         });
         counts = subst (Counts c past) (sym w.has.table_same) f.counts;
         made_is = one_turn (turns past) before.made mid.made e w.has.made_is;
+        room = kept_room _ _ _ f.room w.has.scratch_same;
         unsaid = f.unsaid;
         rows = λ s. row_sleeps_on c n past s mid.work.items (timer_of mid s) (row_of mid.table s) (no_work c n start old new past until at true before mid w) (row_before c n start old new past until at true before mid w s);
       };
@@ -338,6 +344,7 @@ stopped_all c n start now before after st h =
       exit = subst (λ (d : Door). Exit c n start now (Turn st.until before.clock (copied_list before.ready) true ∷ st.past) whys.Stopped d) (sym same.door_same) t.exit;
       counts = record { admitted_is = same.admitted_same ∙ t.counts.admitted_is; children_is = same.bounds_same.0 ∙ t.counts.children_is; stop_is = same.bounds_same.1 ∙ t.counts.stop_is };
       made_is = t.made_is ∙ sym same.made_same;
+      room = kept_room _ _ _ t.room same.scratch_same;
       rows = λ s. row_stopped c n st.past s before.made st.until before.clock before.ready (row_of before.table s) (row_of after.table s) t.unsaid.remembered (t.rows s) (h.rows s);
     }
 

@@ -1,5 +1,5 @@
 -- What the calls of the program door make of the loop.
-use Rattle.std.specs.Prelude.{◌≡◌, ℕ, ◌<◌, List, Option, Some, None}
+use Rattle.std.specs.Prelude.{vec_len, ◌≡◌, ℕ, ◌<◌, List, Option, Some, None}
 use Rattle.relay_model.specs.declared.commands.Config.{Config}
 use Rattle.relay_model.specs.declared.acts.Act.{Act}
 use Rattle.relay_model.specs.Sessions.{admitted}
@@ -21,6 +21,7 @@ pub record SameButNext (before after : Sessions) : Type 0 where
   pub door_same : after.door ≡ before.door
   pub clock_same : after.clock ≡ before.clock
   pub made_same : after.made ≡ before.made
+  pub scratch_same : vec_len after.scratch ≡ vec_len before.scratch
   pub admitted_same : after.table.admitted ≡ before.table.admitted
   pub bounds_same : SameBounds before.table after.table
   pub rows_same : (s : ℕ) → row_of after.table s ≡ row_of before.table s

@@ -1,5 +1,5 @@
 -- How all that is held is closed, once each session was cut.
-use Rattle.std.specs.Prelude.{◌≡◌, ◌≢◌, ◌⊎◌, ℕ, ◌+◌, ◌<◌, ◌≤◌, Bool, true, false, List, ◌∷◌, ◌++◌, length, Option, Some, None, is_some}
+use Rattle.std.specs.Prelude.{vec_len, ◌≡◌, ◌≢◌, ◌⊎◌, ℕ, ◌+◌, ◌<◌, ◌≤◌, Bool, true, false, List, ◌∷◌, ◌++◌, length, Option, Some, None, is_some}
 use Rattle.relay_model.specs.declared.places.Place.{Place}
 use Rattle.relay_model.specs.declared.commands.Config.{Config}
 use Rattle.relay_model.specs.declared.acts.Act.{Act}
@@ -83,6 +83,7 @@ pub record Emptied (c : Config) (n : ℕ) (start now : Seen) (before : List Act)
   pub exit : Exit c n start now (made ++ before) why sessions.door
   pub counts : Counts c (made ++ before) sessions.table
   pub made_is : turns (made ++ before) ≡ sessions.made
+  pub room : c.block ≤ vec_len sessions.scratch
   pub rows : (s : ℕ) → s ≢ t → LeavesRow c n (made ++ before) s why (row_of sessions.table s)
   pub empty : t < admitted c (made ++ before) → holds c (made ++ before) t ≡ false
 

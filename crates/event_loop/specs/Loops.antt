@@ -1,5 +1,5 @@
 -- What a loop stands for, and what a call makes of it.
-use Rattle.std.specs.Prelude.{◌≡◌, ℕ, ◌+◌, ◌-◌, ◌*◌, ◌^◌, ◌≤◌, ◌<◌, Bool, true, false, List, [], ◌∷◌, ◌++◌, length, Option, Some, None}
+use Rattle.std.specs.Prelude.{vec_len, ◌≡◌, ℕ, ◌+◌, ◌-◌, ◌*◌, ◌^◌, ◌≤◌, ◌<◌, Bool, true, false, List, [], ◌∷◌, ◌++◌, length, Option, Some, None}
 use Rattle.relay_model.specs.declared.acts.Act.{Act}
 use Rattle.relay_model.specs.declared.acts.Act.TheVariants.{Turn}
 use Rattle.relay_model.specs.declared.places.Place.{Place}
@@ -33,6 +33,7 @@ use Rattle.event_loop.specs.declared.loops.Loop.{Loop}
 pub record IsOne (c : Config) (n : ℕ) (start now : Seen) (past : List Act) (one : OneSession) : Type 0 where
   pub course : single.Course c n start now one.driver past
   pub within : one.driver.made ≤ n
+  pub room : c.block ≤ vec_len one.scratch
 
 -- a run of all sessions that is to be ended since its last turn says stop, or since there was no memory after it
 abbrev pub IsToEnd : Config → ℕ → Seen → Seen → List Act → Sessions → RunEnd → Type 0

@@ -1,5 +1,5 @@
 -- What a turn makes of the door and of all sessions.
-use Rattle.std.specs.Prelude.{◌≡◌, ◌⊎◌, ℕ, ◌+◌, ◌^◌, ◌<◌, ◌≤◌, Bool, true, false, List, ◌∷◌, Option, Some, None}
+use Rattle.std.specs.Prelude.{vec_len, ◌≡◌, ◌⊎◌, ℕ, ◌+◌, ◌^◌, ◌<◌, ◌≤◌, Bool, true, false, List, ◌∷◌, Option, Some, None}
 use Rattle.std.specs.List.{list_any}
 use Rattle.relay_model.specs.declared.commands.Config.{Config}
 use Rattle.relay_model.specs.declared.readiness.ReadyAt.{ReadyAt}
@@ -151,4 +151,5 @@ pub record TakesTurn (at : ℕ) (stop : Bool) (before after : Sessions) : Type 0
   pub pending_session_same : after.pending_session ≡ before.pending_session
   pub clock_is : after.clock ≡ at
   pub made_is : after.made ≡ before.made + 1
+  pub scratch_same : vec_len after.scratch ≡ vec_len before.scratch
   pub on_clock : at < 2 ^ 64

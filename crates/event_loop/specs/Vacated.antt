@@ -11,8 +11,6 @@ use Rattle.relay_model.specs.History.{turns, held}
 use Rattle.relay_model.specs.Sessions.{admitted, holds}
 use Rattle.program_door.specs.Turns.{first_held}
 use Rattle.exit_status.specs.declared.outcomes.Outcome.{Outcome}
-use Rattle.exit_status.specs.declared.outcomes.Outcome.TheVariants as outcomes
-use Rattle.exit_status.specs.declared.outcomes.EndWhy.TheVariants as finals
 use Rattle.world_trait.specs.Seen.{Seen}
 use Rattle.event_loop.specs.declared.all_sessions.Sessions.{Sessions}
 use Rattle.event_loop.specs.declared.turned.RunEnd.{RunEnd}
@@ -61,13 +59,12 @@ ClosesDoor old new why before after = (c : Config) (n : ℕ) (start : Seen) (pas
 
 -- ---- the answer
 
--- the answer of a run whose door listens no more: what ended the door's calls, if anything, or that no try is left.
--- There is none where its calls ended for another reason than a failed accepting
-abbrev pub over_for : Option Why → Option ℕ → Option Outcome
-over_for None None = Some (outcomes.Ended finals.Served)
-over_for None (Some attempts) = Some (outcomes.ListenFailed attempts)
-over_for (Some whys.AcceptFailed) listening = Some outcomes.AcceptFailed
-over_for (Some why) listening = None
+-- why a run is over whose door listens no more: what ended the door's calls, if anything; else a listening that failed
+-- with no try left, if one did; else all were served
+abbrev pub why_over : Option Why → Option ℕ → Why
+why_over (Some why) listening = why
+why_over None (Some attempts) = whys.ListenFailed
+why_over None None = whys.Served
 
 -- some run led to where its door is over
 pub record SomeOver (sessions : Sessions) : Type 0 where

@@ -1,5 +1,5 @@
 -- What a wait makes of the loop.
-use Rattle.std.specs.Prelude.{◌≡◌, ◌⊎◌, ℕ, suc, ◌<◌, ◌≤◌, true, false, List, ◌∷◌, length, Option, Some, None}
+use Rattle.std.specs.Prelude.{vec_len, ◌≡◌, ◌⊎◌, ℕ, suc, ◌<◌, ◌≤◌, true, false, List, ◌∷◌, length, Option, Some, None}
 use Rattle.relay_model.specs.declared.commands.Config.{Config}
 use Rattle.relay_model.specs.declared.acts.Act.{Act}
 use Rattle.relay_model.specs.declared.acts.Act.TheVariants.{Turn}
@@ -52,6 +52,7 @@ pub record LeavingAt (c : Config) (n : ℕ) (start now : Seen) (past : List Act)
   pub exit : Exit c n start now past why sessions.door
   pub counts : Counts c past sessions.table
   pub made_is : turns past ≡ sessions.made
+  pub room : c.block ≤ vec_len sessions.scratch
   pub rows : (s : ℕ) → LeavesRow c n past s why (row_of sessions.table s)
 
 -- so of some acts
@@ -69,6 +70,7 @@ pub record StoppingAt (c : Config) (n : ℕ) (start now : Seen) (past : List Act
   pub exit : Exit c n start now (Turn until sessions.clock (copied_list sessions.ready) true ∷ past) whys.Stopped sessions.door
   pub counts : Counts c past sessions.table
   pub made_is : suc (turns past) ≡ sessions.made
+  pub room : c.block ≤ vec_len sessions.scratch
   pub unsaid : Unsaid past
   pub rows : (s : ℕ) → SleepsRow c n past s (row_of sessions.table s)
 

@@ -1,5 +1,5 @@
 // All that the loop drives.
-ghost use Rattle.std.specs.Prelude.{◌<◌, ◌≤◌, vec_len};
+ghost use Rattle.std.specs.Prelude.{◌≤◌};
 
 use fork_table::ForkTable;
 use program_door::Door;
@@ -36,5 +36,4 @@ pub struct Sessions {
     /// How many turns were made.
     pub made: u64,
     ghost roomy: { 256 ≤ ready.room },
-    ghost some_scratch: { 0 < vec_len scratch },
 }

@@ -1,7 +1,8 @@
 // The end of a run: all that is still held is closed.
+ghost use Rattle.std.specs.Prelude.{◌≡◌};
+ghost use Rattle.event_loop.specs.Vacated.{why_over as over_by};
 
 use crate::all_sessions::Sessions;
-use crate::outcomes::over_for;
 use crate::turned::RunEnd;
 use exit_status::Outcome;
 use fork_table::Steps;
@@ -63,6 +64,20 @@ impl Sessions {
         requires { SomeOver self.now }
         ensures { TellsOver self.now result }
     {
-        over_for(self.door.cause(), self.door.failed_listening())
+        let cause = self.door.cause();
+        let listening = self.door.failed_listening();
+        outcome_for(why_over(cause, listening), listening, None, None, self.made)
+    }
+}
+
+/// Why a run is over whose door listens no more: for what ended the door's calls, if anything; else since so many listenings
+/// failed and no try is left, or since all were served.
+fn why_over(cause: Option<Why>, listening: Option<u64>) -> Why
+    ensures { result ≡ over_by cause listening }
+{
+    match (cause, listening) {
+        (Some(why), _) => why,
+        (None, Some(_)) => Why::ListenFailed,
+        (None, None) => Why::Served,
     }
 }

@@ -1,5 +1,5 @@
 // The closings of one session that was cut, while the program door hears of them.
-ghost use Rattle.std.specs.Prelude.{◌≡◌, ◌<◌, true, false, length};
+ghost use Rattle.std.specs.Prelude.{◌≡◌, ◌<◌, ◌≤◌, true, false, length};
 ghost use Rattle.relay_session.specs.Sessions.{left_of};
 ghost use Rattle.event_loop.specs.Closings.{IsOver, LeavesOn, SomeLeaves, closes};
 
@@ -18,7 +18,7 @@ pub fn close_all<W: World>(
     scratch: &mut [u8],
     why: Why,
 )
-    requires scratch { 0 < length scratch.old }
+    requires block { config.now.block ≤ length scratch.old }
     requires leaves { SomeLeaves config.now (W.seen world.old) why session.old door.old }
     ensures leaves { LeavesOn config.now (W.seen world.old) (W.seen world.new) why session.old session.new door.old door.new }
     ensures over { IsOver session.new }
@@ -40,7 +40,7 @@ fn close_next<W: World>(
     scratch: &mut [u8],
     why: Why,
 ) -> bool
-    requires scratch { 0 < length scratch.old }
+    requires block { config.now.block ≤ length scratch.old }
     requires leaves { SomeLeaves config.now (W.seen world.old) why session.old door.old }
     ensures leaves { LeavesOn config.now (W.seen world.old) (W.seen world.new) why session.old session.new door.old door.new }
     ensures over { result ≡ true → IsOver session.new }

@@ -12,7 +12,6 @@ mod leaving;
 mod loops;
 mod many;
 mod one;
-mod outcomes;
 mod relays;
 mod rows;
 mod steps;

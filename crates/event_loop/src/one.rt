@@ -1,5 +1,5 @@
 // The loop of a command of one session.
-ghost use Rattle.std.specs.Prelude.{◌<◌, vec_len, IfOk};
+ghost use Rattle.std.specs.Prelude.{IfOk};
 ghost use Rattle.session_loop.specs.Commands.{Runnable};
 
 use crate::steps::Step;
@@ -13,7 +13,6 @@ use world_trait::World;
 pub struct OneSession {
     pub driver: Driver,
     pub scratch: Vec<u8>,
-    ghost some_scratch: { 0 < vec_len scratch },
 }
 
 impl OneSession {

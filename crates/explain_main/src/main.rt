@@ -1,10 +1,9 @@
 // The explainer: says what the words of a command line make, and opens nothing. Its arguments are those words.
 #![tactic(auto)]
 
-use blocking_streams::Blocking;
+use blocking_streams::{Blocking, program_words};
 use command_report::explain_run;
 use port_trait::StdSink;
-use program_words::program_words;
 use std::process::ExitCode;
 
 /// The status where there is no memory for the arguments.

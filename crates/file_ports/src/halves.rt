@@ -6,16 +6,17 @@ ghost use Rattle.port_trait.specs.declared.answers.Got.TheVariants as reads;
 ghost use Rattle.port_trait.specs.declared.answers.Settled.TheVariants as settles;
 ghost use Rattle.port_trait.specs.declared.answers.Shutting.TheVariants as shuts;
 ghost use Rattle.port_trait.specs.declared.answers.Took.TheVariants as writes;
-ghost use Rattle.socket_kinds.specs.Answering.{ReaderGave, WriterTook};
+ghost use Rattle.socket_kinds.specs.Answering.{Answers, ReaderGave, WriterTook, IsReceived, IsAccepted};
 ghost use Rattle.file_ports.specs.Halves.{AtHalf, halves_hint, is_always};
 ghost use Rattle.file_ports.specs.declared.halves.Readiness.TheVariants as readiness;
 
+use crate::ends::{ReadEnd, WriteEnd, receive_once, transmit_once};
 use mio::unix::SourceFd;
 use mio::{Interest, Registry, Token};
 use port_trait::{Got, Hint, Settled, Shutting, Took};
 use relay_model::Shut;
-use socket_kinds::{Socket, receive_once, transmit_once};
-use std::io::{ErrorKind, Read, Write};
+use socket_kinds::Socket;
+use std::io::ErrorKind;
 use std::marker::Model;
 use std::os::fd::AsRawFd;
 
@@ -122,9 +123,10 @@ fn enroll<F: AsRawFd>(
 }
 
 /// Reads from a half, where it is there.
-fn receive_at<I: Read>(half: &mut Option<I>, into: &mut [u8]) -> Got
+fn receive_at<I: ReadEnd>(half: &mut Option<I>, into: &mut [u8]) -> Got
     requires { 0 < length into.old }
     ensures absent { is_some half.old ≡ false → result ≡ reads.Failed }
+    ensures once { AtHalf (λ before now. Answers (I.receives before now into.new) (λ read. IsReceived read result)) half.old half.new }
     ensures bytes { AtHalf (λ before now. ReaderGave (I.remaining before) (I.remaining now) into.new result) half.old half.new }
     ensures gives { Gives None None into.new result }
     ensures stream { result ≢ reads.Empty }
@@ -136,9 +138,10 @@ fn receive_at<I: Read>(half: &mut Option<I>, into: &mut [u8]) -> Got
 }
 
 /// Writes to a half, where it is there.
-fn transmit_at<O: Write>(half: &mut Option<O>, bytes: &[u8]) -> Took
+fn transmit_at<O: WriteEnd>(half: &mut Option<O>, bytes: &[u8]) -> Took
     requires { 0 < length bytes.now }
     ensures absent { is_some half.old ≡ false → result ≡ writes.Failed }
+    ensures once { AtHalf (λ before now. Answers (O.transmits before now bytes.now) (λ written. IsAccepted written result)) half.old half.new }
     ensures bytes { AtHalf (λ before now. WriterTook (O.contents before) (O.contents now) bytes.now result) half.old half.new }
     ensures accepts { Accepts None None bytes.now result }
 {
@@ -148,7 +151,7 @@ fn transmit_at<O: Write>(half: &mut Option<O>, bytes: &[u8]) -> Took
     }
 }
 
-impl<I: Read + Drop, O: Write + Drop> Socket for Halves<I, O> {
+impl<I: ReadEnd + Drop, O: WriteEnd + Drop> Socket for Halves<I, O> {
     ghost hints = { halves_hint };
 
     fn settle(&mut self) -> Settled

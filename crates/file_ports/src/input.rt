@@ -1,8 +1,10 @@
 // What is read of a file, to its end.
 ghost use Rattle.std.specs.Prelude.{◌≡◌, true, false};
 ghost use Rattle.std.specs.Io.{ReadsAtMost};
-ghost use Rattle.file_ports.specs.Inputs.{GaveToHangUp, IsHangUp};
+ghost use Rattle.file_ports.specs.Inputs.{GaveToHangUp, IsHangUp, IsToHangUp};
+ghost use Rattle.socket_kinds.specs.Answering.{Answers};
 
+use crate::ends::ReadEnd;
 use std::fs::File;
 use std::io;
 use std::io::{Error, IsTerminal, Read};
@@ -32,18 +34,31 @@ impl<F: AsRawFd> AsRawFd for FileInput<F> {
     }
 }
 
-impl<F: Read> Read for FileInput<F> {
+impl<F: ReadEnd> Read for FileInput<F> {
     fn read(&mut self, into: &mut [u8]) -> io::Result<usize> {
         read_to_hang_up(&mut self.file, self.is_terminal, into)
     }
 }
 
+impl<F: ReadEnd> ReadEnd for FileInput<F> {
+    ghost receives = { λ old new into read. Answers (F.receives old.file new.file into) (λ told. IsToHangUp old.is_terminal told read) };
+
+    fn receive(&mut self, into: &mut [u8]) -> io::Result<usize> {
+        read_to_hang_up(&mut self.file, self.is_terminal, into)
+    }
+}
+
 /// One read. A terminal that hung up gives no byte.
-fn read_to_hang_up<F: Read>(file: &mut F, is_terminal: bool, into: &mut [u8]) -> io::Result<usize>
+fn read_to_hang_up<F: ReadEnd>(
+    file: &mut F,
+    is_terminal: bool,
+    into: &mut [u8],
+) -> io::Result<usize>
     ensures bound { ReadsAtMost result into.new }
+    ensures once { Answers (F.receives file.old file.new into.new) (λ told. IsToHangUp is_terminal told result) }
     ensures bytes { GaveToHangUp is_terminal (F.remaining file.old) (F.remaining file.new) into.new result }
 {
-    match file.read(into) {
+    match file.receive(into) {
         Ok(count) => Ok(count),
         Err(error) => {
             if is_hang_up(is_terminal, &error) {

@@ -2,6 +2,7 @@
 #![tactic(auto)]
 
 mod access;
+mod ends;
 mod halves;
 mod input;
 mod open;
@@ -12,6 +13,7 @@ mod stream;
 mod waiting;
 
 pub use access::{Access, FileKind};
+pub use ends::{ReadEnd, WriteEnd};
 pub use halves::{Halves, Readiness};
 pub use input::FileInput;
 pub use open::{FileEnds, NamedPipe, OpenedFile, PipeEntry, open_file};

@@ -9,7 +9,7 @@ use Rattle.relay_model.specs.declared.places.Place.{Place}
 use Rattle.relay_model.specs.declared.commands.Config.{Config}
 use Rattle.relay_model.specs.Places.{same_place, same_part}
 use Rattle.relay_model.specs.Configs.{input, output, way_from}
-use Rattle.history_lemmas.proofs.PlaceLemmas.{same_place_equal, same_place_self}
+use Rattle.relay_laws.proofs.PlaceLemmas.{same_place_equal, same_place_self}
 use Rattle.history_facts.specs.Told.{AskedBefore}
 
 pub asked_more : (here : Bool) (number turn : ℕ) (asked : Bool) → AskedBefore number turn asked → AskedBefore (cond here turn number) turn (here || asked)

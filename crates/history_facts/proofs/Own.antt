@@ -4,7 +4,7 @@ use Rattle.std.proofs.lemmas.Bool.{eq-eqb, eqb-true, false_from_ne_true, false�
 use Rattle.relay_model.specs.declared.places.Place.{Place}
 use Rattle.relay_model.specs.declared.commands.Config.{Config}
 use Rattle.relay_model.specs.Configs.{places, things, is_place_of, is_of}
-use Rattle.history_lemmas.proofs.OwnThings.{among_own, each_place, each_thing}
+use Rattle.relay_laws.proofs.OwnThings.{among_own, each_place, each_thing}
 
 pub place_of_its_own : (c : Config) (s : ℕ) (q : Place) → is_place_of c s q ≡ (q.session == s && is_place_of c q.session q)
 place_of_its_own c s q = go (q.session == s) refl

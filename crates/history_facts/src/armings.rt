@@ -105,7 +105,8 @@ fn note_accept_arming(accepts: &mut Placed<bool>, act: &Act) -> Result<(), NoMem
 
 /// Something is asked there, before this turn.
 fn ask(asked: &mut Placed<u64>, place: Place, turn: u64) -> Result<(), NoMemory>
-    ensures { OnOk result ((p : Place) (before : Bool) (next : ℕ) → turn ≡ next → AskedBefore (placed asked.old p) next before → AskedBefore (placed asked.new p) next (same_place place p || before)) }
+    ensures { OnOk result ((p : Place) (before : Bool) (next : ℕ) → turn ≡ next
+        → AskedBefore (placed asked.old p) next before → AskedBefore (placed asked.new p) next (same_place place p || before)) }
 {
     asked.set(place, turn)?;
     Ok(())
@@ -125,7 +126,9 @@ fn note_read_asked(asked: &mut Placed<u64>, act: &Act, turn: u64) -> Result<(), 
 
 /// Forgets that the output was asked, where the place is the input of a direction.
 fn forget_output(asked: &mut Placed<u64>, config: &Config, place: Place) -> Result<(), NoMemory>
-    ensures { OnOk result ((s : ℕ) (w : Way) (turn : ℕ) (before : Bool) → AskedBefore (placed asked.old (output config.now s w)) (suc turn) before → AskedBefore (placed asked.new (output config.now s w)) (suc turn) (not (same_place place (input config.now s w)) && before)) }
+    ensures { OnOk result ((s : ℕ) (w : Way) (turn : ℕ) (before : Bool) → AskedBefore (placed asked.old (output config.now s w)) (suc turn) before
+        → AskedBefore (placed asked.new (output config.now s w)) (suc turn)
+        (not (same_place place (input config.now s w)) && before)) }
 {
     let way = way_from(place.side);
     if place.is(input(config, place.session, way)) {

@@ -2,10 +2,9 @@
 // that the run was started with.
 #![tactic(auto)]
 
-use blocking_streams::Blocking;
+use blocking_streams::{Blocking, program_words};
 use journal_report::{View, asked_view, journal_run};
 use port_trait::{StdSink, StdSource};
-use program_words::program_words;
 use relay_model::Text;
 use std::io::Write;
 use std::process::ExitCode;

@@ -17,7 +17,7 @@ use Rattle.relay_model.specs.Dumps.{newline, last_place, arrow, header, hex_digi
 use Rattle.journal_text.specs.Ranges.{IsAct, IsBytes}
 use Rattle.place_report.specs.Shown.{is_printable, IsPrintable}
 use Rattle.place_report.proofs.Printing.{append_printable, either_printable, decimal_printable}
-use Rattle.journal_story.specs.Streams.{shown_piece, dumped}
+use Rattle.journal_table.specs.Streams.{shown_piece, dumped}
 
 either_digit : (small : Bool) (d : ℕ) → nat_lt d 10 ≡ small → d < 16 → is_printable (if small then 48 + d else 87 + d) ≡ true
 either_digit true d is below =

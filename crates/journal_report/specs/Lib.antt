@@ -1,3 +1,6 @@
+pub mod Timelines
+pub mod Elements
+pub mod Pictures
 pub mod Sources
 pub mod Views
 pub mod Shown

@@ -10,7 +10,7 @@ use Rattle.cmd_words.specs.declared.commands.Command.TheVariants.{Relay}
 use Rattle.cmd_words.specs.Commands.{command}
 use Rattle.journal_text.specs.Texts.{IsTextOf, IsFirstBadLine, kept}
 use Rattle.place_report.specs.Shown.{IsPrintable}
-use Rattle.journal_story.specs.Streams.{dumped}
+use Rattle.journal_table.specs.Streams.{dumped}
 use Rattle.journal_report.specs.declared.views.Stream.{Stream}
 use Rattle.journal_report.specs.declared.views.View.{View}
 use Rattle.journal_report.specs.declared.views.View.TheVariants as view
@@ -21,8 +21,8 @@ use Rattle.journal_report.specs.declared.shown.ViewFault.TheVariants as faults
 use Rattle.journal_report.specs.Sources.{longest_text}
 use Rattle.journal_table.specs.Tables.{TableTold}
 use Rattle.journal_table.specs.Acts.{acts_text}
-use Rattle.journal_chart.specs.Timelines.{TimelineTold}
-use Rattle.journal_chart.specs.Pictures.{IsPicture}
+use Rattle.journal_report.specs.Timelines.{TimelineTold}
+use Rattle.journal_report.specs.Pictures.{IsPicture}
 
 -- the direction that is asked for, if one is
 abbrev pub stream_of : View → Option Stream

@@ -8,18 +8,20 @@ ghost use Rattle.history_facts.specs.Pasts.{acts};
 ghost use Rattle.place_report.specs.Shown.{IsPrintable};
 ghost use Rattle.relay_model.specs.Configs.{input, output};
 ghost use Rattle.relay_model.specs.History.{got, put};
-ghost use Rattle.journal_story.specs.Streams.{dumped};
+ghost use Rattle.journal_table.specs.Streams.{dumped};
 ghost use Rattle.journal_report.specs.declared.shown.ViewFault.TheVariants as fault;
 ghost use Rattle.journal_report.specs.Sources.{longest_text};
 ghost use Rattle.journal_report.specs.Shown.{stream_of, has_session, ViewTold, IsPlain, ViewShown, Reads, IsViewOf, OnFault, WhyUnshownOf, WhyNoRelay, WhyNoJournal, IsViewBy, WhyUnshownBy, WhyUnshown};
 
+use crate::pictures::picture;
 use crate::sources::LONGEST_TEXT;
+use crate::timelines::timeline;
 use crate::views::{Stream, View};
 use cmd_words::{Command, CommandFault, command_of};
 use command_places::{input, output};
-use journal_chart::{picture, timeline};
-use journal_story::{Overview, bytes_read, bytes_written, dumped, newest_first, overview_of};
-use journal_table::{acts_told, table};
+use journal_table::{
+    Overview, acts_told, bytes_read, bytes_written, dumped, newest_first, overview_of, table,
+};
 use journal_text::{JournalFault, read_journal};
 use place_report::Page;
 use relay_model::{Act, Config, Dump, Journal, NoMemory, Text};

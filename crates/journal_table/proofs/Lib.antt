@@ -1,2 +1,4 @@
+pub mod Begins
+pub mod Few
 pub mod Below
 pub mod Growing

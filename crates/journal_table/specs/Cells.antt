@@ -10,8 +10,8 @@ use Rattle.relay_model.specs.declared.acts.ChildEnd.TheVariants as ends
 use Rattle.relay_model.specs.declared.acts.Why.{Why}
 use Rattle.relay_model.specs.declared.acts.Why.TheVariants as whys
 use Rattle.place_report.specs.Shown.{shown, said}
-use Rattle.journal_story.specs.declared.rows.Ending.{Ending}
-use Rattle.journal_story.specs.declared.rows.Ending.TheVariants as endings
+use Rattle.journal_table.specs.declared.rows.Ending.{Ending}
+use Rattle.journal_table.specs.declared.rows.Ending.TheVariants as endings
 
 -- so many blanks
 abbrev pub blanks : ℕ → List ℕ

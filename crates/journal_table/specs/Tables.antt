@@ -14,10 +14,10 @@ use Rattle.relay_model.specs.Outcome.{Outcome, outcome}
 use Rattle.relay_model.specs.Outcome as outcomes
 use Rattle.relay_model.specs.Dumps.{newline}
 use Rattle.place_report.specs.Shown.{shown, said}
-use Rattle.journal_story.specs.declared.rows.Passage.{Passage}
-use Rattle.journal_story.specs.declared.rows.Row.{Row}
-use Rattle.journal_story.specs.Visits.{met_at, child_at, began_at}
-use Rattle.journal_story.specs.Rows.{row_of}
+use Rattle.journal_table.specs.declared.rows.Passage.{Passage}
+use Rattle.journal_table.specs.declared.rows.Row.{Row}
+use Rattle.journal_table.specs.Visits.{met_at, child_at, began_at}
+use Rattle.journal_table.specs.Rows.{row_of}
 use Rattle.journal_table.specs.Cells.{to_left, to_right, moment_text, peer_cell, child_cell, beside, why_text, ending_text}
 
 -- a text, or a dash where it is empty

@@ -4,7 +4,7 @@ ghost use Rattle.std.specs.Net.Text.{ipv4_text};
 ghost use Rattle.place_report.specs.Shown.{shown};
 ghost use Rattle.journal_table.specs.Cells.{blanks, to_left, to_right, seconds, moment_text, peer_text, peer_cell, child_text, child_cell, why_text, ending_text, beside};
 
-use journal_story::Ending;
+use crate::rows::Ending;
 use place_report::Page;
 use relay_model::{ChildEnd, NoMemory, Peer, Why};
 use std::alloc::Global;

@@ -10,10 +10,13 @@ ghost use Rattle.journal_table.specs.Tables.{peers_beside, peers_cell, children_
 use crate::cells::{
     child, ending_words, moment, number, peer, say_beside, say_left, say_right, why_words, words,
 };
+use crate::laws::a_session_begins_once;
+use crate::overviews::Overview;
+use crate::rows::{Ending, Passage, Row};
 use command_places::places;
-use journal_story::{Ending, Outcome, Overview, Passage, Row, a_session_begins_once};
 use place_report::Page;
 use relay_model::{Half, NoMemory, Place, Side, Why};
+use session_facts::Outcome;
 use std::alloc::Global;
 
 /// The peers that came to these places, in their order.

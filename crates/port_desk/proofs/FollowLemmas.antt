@@ -1,5 +1,5 @@
 -- What each call of a desk makes of what follows its history.
-use Rattle.std.proofs.Common.{◌≡◌, ◌||◌, ◌&&◌, not, cond, ℕ, Bool, true, false, List, [], ◌∷◌, ◌++◌, length, take, Option, None, Some, IfSome, is_some, option_map, refl, sym, ap, subst, ◌∙◌}
+use Rattle.std.proofs.Common.{◌≡◌, ◌||◌, ◌&&◌, not, cond, ℕ, Bool, true, false, List, [], ◌∷◌, ◌++◌, take, Option, None, Some, IfSome, is_some, option_map, refl, sym, ap, subst, ◌∙◌}
 use Rattle.std.specs.Coded.{coded_ℕ, coded_bool, coded_list, Unit-prop}
 use Rattle.std.proofs.Math.Logic.{∥∥₁_elim, ∥∥₁_map}
 use base.Stored.{Coded-set}
@@ -10,13 +10,11 @@ use Rattle.relay_model.specs.declared.acts.Why.{Why}
 use Rattle.relay_model.specs.declared.places.Place.{Place}
 use Rattle.relay_model.specs.declared.commands.Single.{Single}
 use Rattle.relay_model.specs.Choices.{joined}
-use Rattle.relay_model.specs.Holding.{Hold, Free, is_free}
-use Rattle.relay_model.specs.Journals.{Asking, History}
-use Rattle.relay_model.specs.Places.{same_place}
+use Rattle.relay_model.specs.Holding.{Free}
+use Rattle.relay_model.specs.Journals.{History}
 use Rattle.relay_model.specs.Readiness.{Listed}
 use Rattle.world_trait.specs.Answers.{Answered, AnsweredAsking, accept_act, close_act, listen_act, note_act, open_act, read_act, reap_act, send_act, shut_act, wait_act, write_act}
 use Rattle.world_trait.specs.Seen.{Seen}
-use Rattle.world_trait.specs.Recordings.{with_act, with_asking}
 use Rattle.world_trait.specs.declared.answers.Turned.{Turned}
 use Rattle.world_trait.specs.declared.answers.Turned.TheVariants as turns
 use Rattle.world_trait.specs.declared.answers.OpenAnswer.{OpenAnswer}
@@ -44,14 +42,13 @@ use Rattle.port_table.specs.Ports.{StreamSeen}
 use Rattle.port_table.specs.declared.bases.Base.{Base}
 use Rattle.port_table.specs.declared.bases.Base.TheVariants as bases
 use Rattle.desk_places.specs.declared.stations.Station.{Station}
-use Rattle.desk_places.specs.PlaceBases.{AcceptsOn, ComesOn, Leaves, ListensOn, OpensOn, SameBases, SettlesOn, StandsFor, is_made}
+use Rattle.desk_places.specs.PlaceBases.{AcceptsOn, Leaves, ListensOn, OpensOn, SameBases, SettlesOn, StandsFor}
 use Rattle.desk_places.specs.Changes.{SettlesSo}
-use Rattle.desk_places.specs.Stations.{base_at, hold_at, hold_by, station_at}
-use Rattle.desk_places.proofs.PlaceLemmas.{same_place-eq}
+use Rattle.desk_places.specs.Stations.{base_at, hold_at}
 use Rattle.desk_places.proofs.StationLemmas.{found_none, free_station}
 use Rattle.port_desk.specs.Records.{NotedSo, are_none, has_no_acts}
 use Rattle.port_desk.specs.Calls.{ReadsSo, SendsSo, ShutsSo, WritesSo}
-use Rattle.port_desk.specs.Following.{AllOwn, AreElsewhere, Follows, FollowsTold, IsElsewhere, IsUnused, Passed, PassedBy, PassedTold, Start, StartsInStep, are_noted, errors_written, input_ended, input_read, output_written, reads_input, stream_of, writes_errors, writes_output}
+use Rattle.port_desk.specs.Following.{FollowsTold, IsUnused, Passed, PassedBy, PassedTold, Start, StartsInStep, are_noted, errors_written, input_ended, input_read, output_written, reads_input, stream_of, writes_errors, writes_output}
 use Rattle.port_desk.proofs.FollowSteps.{Goes, IsStill, Stands, acted, asked, ended_of, found, gave_of, grown_sum, kept_over, kept_sum, kept_told, nothing, on_slot, own_reads, own_said, own_writes, quiet, stands_comes, stands_leaves, stands_same, still_follows, took_of, unmapped}
 
 -- ---- a read

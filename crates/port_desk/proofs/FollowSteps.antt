@@ -1,57 +1,22 @@
 -- What one act makes of what follows a history.
-use Rattle.std.proofs.Common.{◌≡◌, ◌||◌, ◌&&◌, not, cond, ℕ, Bool, true, false, List, [], ◌∷◌, ◌++◌, length, take, Option, None, Some, IfSome, is_some, option_map, refl, sym, ap, subst, ◌∙◌}
-use Rattle.std.specs.Coded.{coded_ℕ, coded_bool, coded_list, Unit-prop}
-use Rattle.std.proofs.Math.Logic.{∥∥₁_elim}
-use base.Stored.{Coded-set}
+use Rattle.std.proofs.Common.{◌≡◌, ℕ, Bool, true, false, List, [], ◌∷◌, ◌++◌, Option, None, Some, IfSome, is_some, option_map, refl, sym, ap, subst, ◌∙◌}
 use Rattle.relay_model.specs.declared.acts.Act.{Act}
-use Rattle.relay_model.specs.declared.acts.Act.TheVariants as acts
-use Rattle.relay_model.specs.declared.acts.Shut.{Shut}
-use Rattle.relay_model.specs.declared.acts.Why.{Why}
 use Rattle.relay_model.specs.declared.places.Place.{Place}
 use Rattle.relay_model.specs.declared.commands.Single.{Single}
-use Rattle.relay_model.specs.Choices.{joined}
-use Rattle.relay_model.specs.Holding.{Hold, Free, is_free}
+use Rattle.relay_model.specs.Holding.{is_free}
 use Rattle.relay_model.specs.Journals.{Asking, History}
 use Rattle.relay_model.specs.Places.{same_place}
-use Rattle.relay_model.specs.Readiness.{Listed}
-use Rattle.world_trait.specs.Answers.{Answered, AnsweredAsking, accept_act, close_act, listen_act, note_act, open_act, read_act, reap_act, send_act, shut_act, wait_act, write_act}
+use Rattle.world_trait.specs.Answers.{Answered}
 use Rattle.world_trait.specs.Seen.{Seen}
 use Rattle.world_trait.specs.Recordings.{with_act, with_asking}
-use Rattle.world_trait.specs.declared.answers.Turned.{Turned}
-use Rattle.world_trait.specs.declared.answers.Turned.TheVariants as turns
-use Rattle.world_trait.specs.declared.answers.OpenAnswer.{OpenAnswer}
-use Rattle.world_trait.specs.declared.answers.OpenAnswer.TheVariants as opens
-use Rattle.world_trait.specs.declared.answers.ListenAnswer.{ListenAnswer}
-use Rattle.world_trait.specs.declared.answers.ListenAnswer.TheVariants as listens
-use Rattle.world_trait.specs.declared.answers.AcceptAnswer.{AcceptAnswer}
-use Rattle.world_trait.specs.declared.answers.AcceptAnswer.TheVariants as accepts
-use Rattle.world_trait.specs.declared.answers.ReadAnswer.{ReadAnswer}
-use Rattle.world_trait.specs.declared.answers.ReadAnswer.TheVariants as reads
-use Rattle.world_trait.specs.declared.answers.WriteAnswer.{WriteAnswer}
-use Rattle.world_trait.specs.declared.answers.WriteAnswer.TheVariants as writes
-use Rattle.world_trait.specs.declared.answers.SendAnswer.{SendAnswer}
-use Rattle.world_trait.specs.declared.answers.SendAnswer.TheVariants as sends
-use Rattle.world_trait.specs.declared.answers.ShutAnswer.{ShutAnswer}
-use Rattle.world_trait.specs.declared.answers.ShutAnswer.TheVariants as shuts
-use Rattle.world_trait.specs.declared.answers.NoteAnswer.{NoteAnswer}
-use Rattle.world_trait.specs.declared.answers.NoteAnswer.TheVariants as notes
-use Rattle.world_trait.specs.declared.answers.ReapAnswer.{ReapAnswer}
-use Rattle.world_trait.specs.declared.answers.ReapAnswer.TheVariants as reaps
-use Rattle.port_table.specs.Bases.{standard_of}
-use Rattle.port_table.specs.PortTables.{AtErrors, AtInput, AtOutput, giving_port, taking_port}
-use Rattle.port_trait.specs.Ports.{MovesNothing, PortSeen}
 use Rattle.port_table.specs.Ports.{StreamSeen}
 use Rattle.port_table.specs.declared.bases.Base.{Base}
 use Rattle.port_table.specs.declared.bases.Base.TheVariants as bases
 use Rattle.desk_places.specs.declared.stations.Station.{Station}
-use Rattle.desk_places.specs.PlaceBases.{AcceptsOn, ComesOn, Leaves, ListensOn, OpensOn, SameBases, SettlesOn, StandsFor, is_made}
-use Rattle.desk_places.specs.Changes.{SettlesSo}
+use Rattle.desk_places.specs.PlaceBases.{ComesOn, Leaves, SameBases, StandsFor}
 use Rattle.desk_places.specs.Stations.{base_at, hold_at, hold_by, station_at}
 use Rattle.desk_places.proofs.PlaceLemmas.{same_place-eq}
-use Rattle.desk_places.proofs.StationLemmas.{found_none, free_station}
-use Rattle.port_desk.specs.Records.{NotedSo, are_none, has_no_acts}
-use Rattle.port_desk.specs.Calls.{ReadsSo, SendsSo, ShutsSo, WritesSo}
-use Rattle.port_desk.specs.Following.{AllOwn, AreElsewhere, Follows, FollowsTold, IsElsewhere, Passed, are_noted, errors_written, input_ended, input_read, output_written, reads_input, stream_of, writes_errors, writes_output}
+use Rattle.port_desk.specs.Following.{AllOwn, Follows, FollowsTold, IsElsewhere, are_noted, errors_written, input_ended, input_read, output_written, reads_input, stream_of, writes_errors, writes_output}
 
 -- ---- what a place stands on
 

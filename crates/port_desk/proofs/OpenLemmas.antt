@@ -6,9 +6,10 @@ use Rattle.port_trait.specs.declared.answers.Begun.TheVariants as begins
 use Rattle.world_trait.specs.declared.answers.OpenAnswer.{OpenAnswer}
 use Rattle.world_trait.specs.declared.answers.OpenAnswer.TheVariants as opens
 use Rattle.world_trait.specs.declared.answers.AcceptAnswer.{AcceptAnswer}
-use Rattle.world_trait.specs.declared.answers.AcceptAnswer.TheVariants as accepts
 use Rattle.slab.specs.Slab.{SameValues, Slab}
 use Rattle.port_table.specs.PortTables.{AtMade, BeginsAt, Errors, Input, Made, MadeCall, Output, PortId, SameStreams, ThenBegins, giving_port}
+use Rattle.port_trait.specs.declared.makers.Making.{Making}
+use Rattle.port_trait.specs.declared.makers.MadePeer.{MadePeer}
 use Rattle.port_trait.specs.Ports.{MovesNothing, PortSeen}
 use Rattle.port_table.specs.Ports.{EntrySeen, StreamBegins, StreamSeen}
 use Rattle.port_table.specs.declared.bases.Base.{Base}
@@ -54,24 +55,24 @@ unopened None a c same = tt
 unopened (Some base) a c same = inr same
 
 -- the made ports of an opening, after its room was made
-pub ports_from : {T : Type 0} (tells : T → PortSeen) (slot : Option Base) (answer : OpenAnswer) (place : Place) (base : Option Base) (a b c : Slab EntrySeen) → SameValues a b → MatchOption slot (OpensMade tells place base answer b c) (λ _. SameValues b c) → MatchOption slot (OpensMade tells place base answer a c) (λ _. SameValues a c)
-ports_from tells None answer place base a b c same h = then_opens tells answer place base a b c same h
-ports_from tells (Some on) answer place base a b c same h = λ key. h key ∙ same key
+pub ports_from : {T : Type 0} (gave : Making T → Type 0) (tells : T → PortSeen) (slot : Option Base) (answer : OpenAnswer) (place : Place) (base : Option Base) (a b c : Slab EntrySeen) → SameValues a b → MatchOption slot (OpensMade gave tells place base answer b c) (λ _. SameValues b c) → MatchOption slot (OpensMade gave tells place base answer a c) (λ _. SameValues a c)
+ports_from gave tells None answer place base a b c same h = then_opens gave tells answer place base a b c same h
+ports_from gave tells (Some on) answer place base a b c same h = λ key. h key ∙ same key
 
 pub no_ports : (slot : Option Base) (a c : Slab EntrySeen) → SameValues a c → MatchOption slot (SameValues a c) (λ _. SameValues a c)
 no_ports None a c same = same
 no_ports (Some on) a c same = same
 
-door_from : {T : Type 0} (tells : T → PortSeen) (id : PortId) (answer : AcceptAnswer) (place : Place) (base : Option Base) (a b c : Slab EntrySeen) → SameValues a b → AtMade id (λ key. AcceptsMade tells key place base answer b c) (SameValues b c) → AtMade id (λ key. AcceptsMade tells key place base answer a c) (SameValues a c)
-door_from tells Input answer place base a b c same h = λ key. h key ∙ same key
-door_from tells Output answer place base a b c same h = λ key. h key ∙ same key
-door_from tells Errors answer place base a b c same h = λ key. h key ∙ same key
-door_from tells (Made key) answer place base a b c same h = then_accepts tells answer key place base a b c same h
+door_from : {T : Type 0} (gave : MadePeer T → Type 0) (tells : T → PortSeen) (id : PortId) (answer : AcceptAnswer) (place : Place) (base : Option Base) (a b c : Slab EntrySeen) → SameValues a b → AtMade id (λ key. AcceptsMade gave tells key place base answer b c) (SameValues b c) → AtMade id (λ key. AcceptsMade gave tells key place base answer a c) (SameValues a c)
+door_from gave tells Input answer place base a b c same h = λ key. h key ∙ same key
+door_from gave tells Output answer place base a b c same h = λ key. h key ∙ same key
+door_from gave tells Errors answer place base a b c same h = λ key. h key ∙ same key
+door_from gave tells (Made key) answer place base a b c same h = then_accepts gave tells answer key place base a b c same h
 
 -- the same of an accepting
-pub doors_from : {T : Type 0} (tells : T → PortSeen) (slot : Option Base) (answer : AcceptAnswer) (place : Place) (base : Option Base) (a b c : Slab EntrySeen) → SameValues a b → IfSome slot (λ door. AtMade (giving_port door) (λ key. AcceptsMade tells key place base answer b c) (SameValues b c)) → IfSome slot (λ door. AtMade (giving_port door) (λ key. AcceptsMade tells key place base answer a c) (SameValues a c))
-doors_from tells None answer place base a b c same h = tt
-doors_from tells (Some door) answer place base a b c same h = door_from tells (giving_port door) answer place base a b c same h
+pub doors_from : {T : Type 0} (gave : MadePeer T → Type 0) (tells : T → PortSeen) (slot : Option Base) (answer : AcceptAnswer) (place : Place) (base : Option Base) (a b c : Slab EntrySeen) → SameValues a b → IfSome slot (λ door. AtMade (giving_port door) (λ key. AcceptsMade gave tells key place base answer b c) (SameValues b c)) → IfSome slot (λ door. AtMade (giving_port door) (λ key. AcceptsMade gave tells key place base answer a c) (SameValues a c))
+doors_from gave tells None answer place base a b c same h = tt
+doors_from gave tells (Some door) answer place base a b c same h = door_from gave tells (giving_port door) answer place base a b c same h
 
 no_door : (id : PortId) (a c : Slab EntrySeen) → SameValues a c → AtMade id (λ key. MadeCall a c key MovesNothing) (SameValues a c)
 no_door Input a c same = same

@@ -10,6 +10,7 @@ use Rattle.desk_places.specs.Marks.{SameMarks}
 use Rattle.port_table.specs.PortTables.{StreamNotes}
 use Rattle.port_trait.specs.Ports.{PortSeen, Reads, Writes, Sends, Shuts}
 use Rattle.port_table.specs.Ports.{StreamSeen}
+use Rattle.port_trait.specs.declared.pollers.Polled.{Polled}
 use Rattle.port_trait.specs.declared.answers.Got.TheVariants as gots
 use Rattle.port_trait.specs.declared.answers.Took.TheVariants as tooks
 use Rattle.port_trait.specs.declared.answers.Shutting.TheVariants as shuttings
@@ -70,6 +71,11 @@ SaysStop told turns.Memory = ⊤
 abbrev pub StopsAs : ℕ → ℕ → Turned → Type 0
 StopsAs before now (turns.Turned at stop) = Counted stop before now
 StopsAs before now turns.Memory = before ≤ now
+
+-- the poller was asked once, and this is its answer
+abbrev pub PollsOnce : (Polled → Type 0) → Turned → Type 0
+PollsOnce polls (turns.Turned at stop) = polls (record { at = at; stop = stop })
+PollsOnce polls turns.Memory = ⊤
 
 -- a turn arms the halves that it names, and one that wants memory none
 abbrev pub TurnMarks : Turned → List ReadyAt → (Place → Half → Bool) → (Place → Half → Bool) → Type 0

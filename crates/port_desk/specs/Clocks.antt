@@ -2,10 +2,11 @@
 use Rattle.std.specs.Prelude.{ℕ, Bool, List, Option}
 use Rattle.relay_model.specs.declared.places.Half.{Half}
 
--- the moment of the last turn, the one that the poller has reached, how often it has said stop, the moment until which it
+-- the poller, the moment of the last turn, the one that the poller has reached, how often it has said stop, the moment until which it
 -- was asked to wait at most, what its last poll named, and what it tells of that poll: what it named, and whether it said
 -- stop
-pub record ClockSeen : Type 0 where
+pub record ClockSeen (P : Type 0) : Type 0 where
+  pub poller : P
   pub last : ℕ
   pub reached : ℕ
   pub stops : ℕ

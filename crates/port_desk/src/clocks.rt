@@ -19,9 +19,10 @@ impl<P: Poller + Drop> Model for Clock<P> {
     ghost use Rattle.std.specs.Prelude.{◌≤◌};
     ghost use Rattle.port_desk.specs.Clocks.{ClockSeen};
 
-    ghost Value = { ClockSeen };
+    ghost Value = { ClockSeen P };
 
     ghost view = { λ c. record {
+      poller = c.poller;
       last = c.last;
       reached = P.clock c.poller;
       stops = P.stops c.poller;
@@ -63,6 +64,7 @@ impl<P: Poller + Drop> Clock<P> {
     /// Waits until something is ready, at most until the moment.
     pub fn poll(&mut self, until: Option<u64>) -> Polled
         ensures last { self.new.last ≡ self.old.last }
+        ensures polled { P.polls self.old.poller until self.new.poller result }
         ensures asked { self.new.asked ≡ until }
         ensures at { result.at ≡ self.new.reached }
         ensures later { self.old.last ≤ result.at }
@@ -78,7 +80,8 @@ impl<P: Poller + Drop> Clock<P> {
         requires { at ≤ self.old.reached }
         ensures last { self.new.last ≡ at }
         ensures same { (self.new.reached ≡ self.old.reached) × (self.new.stops ≡ self.old.stops) × (self.new.asked ≡ self.old.asked)
-            × (self.new.keys ≡ self.old.keys) × (self.new.named ≡ self.old.named) × (self.new.stopped ≡ self.old.stopped) }
+            × (self.new.keys ≡ self.old.keys) × (self.new.named ≡ self.old.named) × (self.new.stopped ≡ self.old.stopped)
+            × (self.new.poller ≡ self.old.poller) }
     {
         self.last = at;
     }

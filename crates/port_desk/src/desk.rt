@@ -22,7 +22,7 @@ use crate::records::Log;
 use desk_places::{Ports, name_hinting, name_keyed};
 use port_table::Standard;
 use port_trait::{Joining, Maker, Polled, Poller, Port};
-use relay_model::{Kept, NoMemory, Place, ReadyList, Single};
+use relay_model::{NoMemory, Place, ReadyList, Single};
 use std::alloc::Global;
 use world_trait::{Recorder, Standing, World};
 
@@ -95,15 +95,6 @@ impl<M: Maker + Drop, P: Poller + Drop, I: Port, O: Port, E: Port> Desk<M, P, I,
             None => None,
             Some(station) => Some(station.standing),
         }
-    }
-
-    /// What was kept; nothing by a desk that skips.
-    pub fn kept(&self) -> &Kept
-        ensures skipped { is_some (⟦<Desk<M, P, I, O, E> as World>⟧.seen self.now).told ≡ false → KeepsNothing result.now }
-        ensures told { let now = ⟦<Desk<M, P, I, O, E> as World>⟧.seen self.now in is_some now.told ≡ true
-            → now.told ≡ Some (record { acts = result.now.journal.acts; asked = result.now.asked.pairs }) }
-    {
-        self.log.recording.kept()
     }
 
     /// Ends the desk, at which nothing is held. Each standard port that has begun and wasn't told the end of its output
@@ -217,6 +208,7 @@ impl<M: Maker + Drop, P: Poller + Drop, I: Port, O: Port, E: Port> Desk<M, P, I,
         ensures later { self.old.clock.last ≤ result.at }
         ensures stop { Counted result.stop self.old.clock.stops self.new.clock.stops }
         ensures stopped { IfSome self.new.clock.stopped (λ told. told ≡ result.stop) }
+        ensures once { P.polls self.old.clock.poller self.new.clock.asked self.new.clock.poller result }
     {
         let log = &self.log;
         name_hinting(&mut self.ports, &log.stations, ready);

@@ -10,9 +10,9 @@ ghost use Rattle.world_trait.specs.Answers.{Answered, AnsweredAsking, OnlyHeldNa
 ghost use Rattle.world_trait.specs.Seen.{Waitless};
 ghost use Rattle.port_trait.specs.Streams.{finishes};
 ghost use Rattle.desk_places.specs.PlaceBases.{AcceptsOn, Leaves, ListensOn, OpensOn, SameBases, SettlesOn};
-ghost use Rattle.port_desk.specs.Calls.{NotesAs, OnShut, OnTurned, ReadsSo, SaysStop, SendsSo, ShutsSo, StopsAs, TurnMarks, WritesSo};
+ghost use Rattle.port_desk.specs.Calls.{NotesAs, OnShut, OnTurned, PollsOnce, ReadsSo, SaysStop, SendsSo, ShutsSo, StopsAs, TurnMarks, WritesSo};
 ghost use Rattle.port_desk.specs.Desks.{Calls, Ends, Faults, Marked, read_mark, row_of, send_mark, shut_ends, write_mark};
-ghost use Rattle.desk_places.specs.Causes.{AcceptCause, ListenCause, OpenAsks, OpenCause, StandardCause};
+ghost use Rattle.desk_places.specs.Causes.{AcceptCause, ListenCause, OpenAsks, OpenCause, StandardCause, asking};
 ghost use Rattle.port_trait.specs.Counting.{Rose as Rises};
 ghost use Rattle.port_table.specs.Bases.{standard_of};
 ghost use Rattle.port_table.specs.PortTables.{AtMade, SameStreams, StreamFailed, StreamsStay, giving_port, taking_port};
@@ -66,6 +66,7 @@ impl<M: Maker + Drop, P: Poller + Drop, I: Port, O: Port, E: Port> World for Des
         ensures rest { (self.new.ports.maker ≡ self.old.ports.maker) × (self.new.ports.parents.items ≡ self.old.ports.parents.items) }
         ensures stopping { SaysStop self.new.clock.stopped result }
         ensures said { StopsAs self.old.clock.stops self.new.clock.stops result }
+        ensures once { PollsOnce (P.polls self.old.clock.poller self.new.clock.asked self.new.clock.poller) result }
         ensures poller { OnTurned result (self.new.clock.last ≡ self.new.clock.reached) }
         ensures bases { SameBases (base_at self.old.log.stations.entries) (base_at self.new.log.stations.entries) }
     {
@@ -101,12 +102,13 @@ impl<M: Maker + Drop, P: Poller + Drop, I: Port, O: Port, E: Port> World for Des
         ensures asked { IfNone (standard_of place single.now.target)
             (OpenAsks place single.now behind (M.seen self.new.ports.maker).asked result) }
         ensures made { IfNone (standard_of place single.now.target)
-            (OpenCause M.Made.seen (M.seen self.old.ports.maker) (M.seen self.new.ports.maker) result) }
+            (OpenCause (M.makes self.old.ports.maker (asking place single.now behind) self.new.ports.maker) M.Made.seen
+            (M.seen self.old.ports.maker) (M.seen self.new.ports.maker) result) }
         ensures begun { IfSome (standard_of place single.now.target) (λ base. OpensAt base self.old.ports.table self.new.ports.table result) }
         ensures streams { IfNone (standard_of place single.now.target) (SameStreams self.old.ports.table self.new.ports.table) }
         ensures ports { MatchOption (standard_of place single.now.target)
-            (OpensMade M.Made.seen place (base_at self.new.log.stations.entries place) result self.old.ports.table.made
-            self.new.ports.table.made) (λ base. SameValues self.old.ports.table.made self.new.ports.table.made) }
+            (OpensMade (M.makes self.old.ports.maker (asking place single.now behind) self.new.ports.maker) M.Made.seen place
+            (base_at self.new.log.stations.entries place) result self.old.ports.table.made self.new.ports.table.made) (λ base. SameValues self.old.ports.table.made self.new.ports.table.made) }
         ensures parents { self.new.ports.parents.items ≡ self.old.ports.parents.items }
         ensures marks { OpenMarks place result (is_disarmed self.old.log.stations.entries) (is_disarmed self.new.log.stations.entries) }
         ensures bases { OpensOn (standard_of place single.now.target) place (base_at self.old.log.stations.entries)
@@ -153,8 +155,9 @@ impl<M: Maker + Drop, P: Poller + Drop, I: Port, O: Port, E: Port> World for Des
         ensures waitless { let seen = ⟦<Desk<M, P, I, O, E> as World>⟧.seen in Waitless (seen self.old) (seen self.new) }
         ensures unstopped { self.new.stops ≡ self.old.stops }
         ensures streams { SameStreams self.old.ports.table self.new.ports.table }
-        ensures made { ListenCause M.Made.seen (M.seen self.old.ports.maker) (M.seen self.new.ports.maker) result }
-        ensures ports { ListensMade M.Made.seen door (base_at self.new.log.stations.entries door) result self.old.ports.table.made
+        ensures made { ListenCause (M.listens self.old.ports.maker single.now self.new.ports.maker) M.Made.seen
+            (M.seen self.old.ports.maker) (M.seen self.new.ports.maker) result }
+        ensures ports { ListensMade (M.listens self.old.ports.maker single.now self.new.ports.maker) M.Made.seen door (base_at self.new.log.stations.entries door) result self.old.ports.table.made
             self.new.ports.table.made }
         ensures parents { self.new.ports.parents.items ≡ self.old.ports.parents.items }
         ensures marks { ListenMarks door result (is_disarmed self.old.log.stations.entries) (is_disarmed self.new.log.stations.entries) }
@@ -177,9 +180,10 @@ impl<M: Maker + Drop, P: Poller + Drop, I: Port, O: Port, E: Port> World for Des
         ensures waitless { let seen = ⟦<Desk<M, P, I, O, E> as World>⟧.seen in Waitless (seen self.old) (seen self.new) }
         ensures unstopped { self.new.stops ≡ self.old.stops }
         ensures streams { SameStreams self.old.ports.table self.new.ports.table }
-        ensures made { AcceptCause M.Made.seen (M.seen self.old.ports.maker) (M.seen self.new.ports.maker) result }
+        ensures made { AcceptCause (M.accepts self.old.ports.maker self.new.ports.maker) M.Made.seen (M.seen self.old.ports.maker)
+            (M.seen self.new.ports.maker) result }
         ensures ports { IfSome (base_at self.old.log.stations.entries door)
-            (λ base. AtMade (giving_port base) (λ key. AcceptsMade M.Made.seen key place
+            (λ base. AtMade (giving_port base) (λ key. AcceptsMade (M.accepts self.old.ports.maker self.new.ports.maker) M.Made.seen key place
             (base_at self.new.log.stations.entries place) result self.old.ports.table.made self.new.ports.table.made)
             (SameValues self.old.ports.table.made self.new.ports.table.made)) }
         ensures parents { self.new.ports.parents.items ≡ self.old.ports.parents.items }

@@ -125,6 +125,7 @@ pub fn accept_by<M: Maker>(
 ) -> MadePeer<M::Made>
     ensures call { LetsIn (M.seen maker.old) (M.seen maker.new) door.old.port door.new.port result }
     ensures place { door.new.place ≡ door.old.place }
+    ensures made { M.accepts maker.old maker.new result }
 {
     maker.accept(&mut door.port, key)
 }

@@ -1,10 +1,11 @@
 // All ports of a desk, and the calls on them. Each call on a base is one call on one of its ports. No place stands on a
 // key that has no port; a call on such a key fails.
-ghost use Rattle.std.specs.Prelude.{◌≡◌, ◌<◌, None, Some, true, false, length, [], IfSome, OnOk};
+ghost use Rattle.std.specs.Prelude.{◌≡◌, ◌≢◌, ◌<◌, None, Some, true, false, length, [], IfSome, OnOk};
 ghost use Rattle.slab.specs.Slab.{HasRoomFor, SameValues, Updates, get};
 ghost use Rattle.port_trait.specs.Counting.{Counted, Rose};
 ghost use Rattle.port_trait.specs.Hinting.{IsWithin};
 ghost use Rattle.port_trait.specs.declared.answers.Begun.TheVariants as begins;
+ghost use Rattle.port_trait.specs.declared.makers.MadePeer.TheVariants as peers;
 ghost use Rattle.port_trait.specs.Made.{peer_failed, peer_stalled, came_after};
 ghost use Rattle.port_table.specs.Answers.{GotFits, SaidSo, TookFits, is_unsaid};
 ghost use Rattle.port_trait.specs.Ports.{MovesNothing, Settles, Reads, Writes, Sends, Shuts};
@@ -331,6 +332,7 @@ pub fn accept_at<M: Maker, I: Port, O: Port, E: Port>(
     ensures room { HasRoomFor table.old.made 1 → HasRoomFor table.new.made 1 }
     ensures next { table.new.made.vacant_key ≡ table.old.made.vacant_key }
     ensures streams { SameStreams table.old table.new }
+    ensures made { result ≢ peers.Memory → M.accepts maker.old maker.new result }
     ensures came { (M.seen maker.new).came ≡ came_after (M.seen maker.old).came result }
     ensures faults { Counted (peer_failed result) (M.seen maker.old).faults (M.seen maker.new).faults }
     ensures stalls { Counted (peer_stalled result) (M.seen maker.old).stalls (M.seen maker.new).stalls }

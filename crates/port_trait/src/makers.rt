@@ -1,5 +1,9 @@
 // Makers open what isn't a standard stream, and hand out the ports of it.
 ghost use Rattle.port_trait.specs.Makers.{MakerSeen, Opens, Listens, LetsIn};
+ghost use Rattle.port_trait.specs.declared.makers.AskedPlace.{AskedPlace};
+ghost use Rattle.port_trait.specs.declared.makers.Making.{Making};
+ghost use Rattle.port_trait.specs.declared.makers.MadePeer.{MadePeer};
+ghost use Rattle.relay_model.specs.declared.commands.Single.{Single};
 
 use crate::ports::Port;
 use relay_model::{Peer, Place, Single};
@@ -35,6 +39,13 @@ pub trait Maker {
     type Made: Port;
     // what contracts see of it
     ghost seen: { Self → MakerSeen };
+    // what each call answers between two states. A contract over any maker can name the answer of a call by these alone,
+    // so it holds only of a caller that makes this one call
+    ghost makes: { Self → AskedPlace → Self → Making Self.Made → Type 0 } = { λ _ _ _ _. Unit {0} };
+
+    ghost listens: { Self → Single → Self → Making Self.Made → Type 0 } = { λ _ _ _ _. Unit {0} };
+
+    ghost accepts: { Self → Self → MadePeer Self.Made → Type 0 } = { λ _ _ _. Unit {0} };
 
     /// Opens the address, at `behind` an accepted peer's session.
     fn make(
@@ -44,13 +55,16 @@ pub trait Maker {
         single: &Single,
         behind: Option<Peer>,
     ) -> Making<Self::Made>
-        ensures { Opens (seen self.old) (seen self.new) (record { place = place; single = single.now; behind = behind }) result };
+        ensures made { makes self.old (record { place = place; single = single.now; behind = behind }) self.new result }
+        ensures opens { Opens (seen self.old) (seen self.new) (record { place = place; single = single.now; behind = behind }) result };
 
     /// Listens at the address. It never answers `Later`.
     fn listen(&mut self, key: usize, single: &Single) -> Making<Self::Made>
-        ensures { Listens (seen self.old) (seen self.new) result };
+        ensures made { listens self.old single.now self.new result }
+        ensures listens { Listens (seen self.old) (seen self.new) result };
 
     /// Takes one peer at the door, which neither gives nor takes bytes by it.
     fn accept(&mut self, door: &mut Self::Made, key: usize) -> MadePeer<Self::Made>
-        ensures { LetsIn (seen self.old) (seen self.new) (Self.Made.seen door.old) (Self.Made.seen door.new) result };
+        ensures made { accepts self.old self.new result }
+        ensures lets_in { LetsIn (seen self.old) (seen self.new) (Self.Made.seen door.old) (Self.Made.seen door.new) result };
 }

@@ -2,6 +2,7 @@
 ghost use Rattle.std.specs.Prelude.{◌≡◌, ◌≤◌, ℕ, Bool, List, Option, None, IfSome};
 ghost use Rattle.port_trait.specs.Counting.{Counted};
 ghost use Rattle.relay_model.specs.declared.places.Half.{Half};
+ghost use Rattle.port_trait.specs.declared.pollers.Polled.{Polled};
 
 use crate::keys::KeyList;
 
@@ -14,6 +15,10 @@ pub struct Polled {
 
 /// What waits for readiness.
 pub trait Poller {
+    // what a poll until a moment answers between two states. A contract over any poller can name the answer by this alone,
+    // so it holds only of a caller that polls once
+    ghost polls: { Self → Option ℕ → Self → Polled → Type 0 } = { λ _ _ _ _. Unit {0} };
+
     // the entries that the last poll left, empty before the first
     ghost named: { Self → Option (List (ℕ × Half)) } = { λ _. None };
 
@@ -29,6 +34,7 @@ pub trait Poller {
     /// Empties `ready`, waits, at most until the moment `until`, and names there what is ready.
     fn poll(&mut self, until: Option<u64>, ready: &mut KeyList) -> Polled
         requires { 256 ≤ ready.old.room }
+        ensures polled { polls self.old until self.new result }
         ensures asked { asked self.new ≡ until }
         ensures room { ready.new.room ≡ ready.old.room }
         ensures named { IfSome (named self.new) (λ entries. entries ≡ ready.new.entries) }

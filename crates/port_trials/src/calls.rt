@@ -40,11 +40,11 @@ pub(crate) fn make_calls<P: Port>(
         };
         let (name, value) = step_parts(step);
         match name {
-            "taken" => say_taken(tap, answers)?,
-            "took" => answers.truth(has_taken(tap, bytes_of(alloc, value)?.as_slice())?)?,
+            "taken" => tell_taken(tap, answers)?,
+            "took" => answers.truth(has_taken(tap, bytes_of(alloc, value)?.as_slice())?),
             "gives" => {
                 let want = bytes_of(alloc, value)?;
-                answers.truth(gives(alloc, port, tries, want.as_slice())?)?;
+                answers.truth(gives(alloc, port, tries, want.as_slice())?);
             }
             _ => insist(alloc, port, tries, name, value, answers)?,
         }
@@ -65,9 +65,10 @@ pub(crate) fn call_port<P: Port>(
     make_calls(alloc, &mut port, tap, tries, inputs, answers)
 }
 
-fn say_taken(tap: Option<&Tap>, answers: &mut Answers) -> Answered {
+fn tell_taken(tap: Option<&Tap>, answers: &mut Answers) -> Answered {
     let tap = tap.ok_or(RowFault::NoRow)?;
-    answers.bytes(tap.bytes()?.as_slice())
+    answers.bytes(tap.bytes()?.as_slice());
+    Ok(())
 }
 
 fn has_taken(tap: Option<&Tap>, want: &[u8]) -> Result<bool, RowFault> {
@@ -87,13 +88,17 @@ fn insist<P: Port>(
     for _ in 1..tries {
         match call(alloc, port, name, value)? {
             Answer::Later(_) => thread::yield_now(),
-            answer => return say(answer, answers),
+            answer => {
+                say(answer, answers);
+                return Ok(());
+            }
         }
     }
-    say(call(alloc, port, name, value)?, answers)
+    say(call(alloc, port, name, value)?, answers);
+    Ok(())
 }
 
-fn say(answer: Answer, answers: &mut Answers) -> Answered {
+fn say(answer: Answer, answers: &mut Answers) {
     match answer {
         Answer::Word(word) | Answer::Later(word) => answers.word(word),
         Answer::Count(count) => answers.number(count as u64),
@@ -194,7 +199,7 @@ pub(crate) fn read_boxed(
     inputs: &mut Inputs<'_>,
     answers: &mut Answers,
 ) -> Answered {
-    answers.word(begun_word(port.begin()))?;
+    answers.word(begun_word(port.begin()));
     for _ in 0..u64::MAX {
         let Some(word) = inputs.step() else {
             break;
@@ -205,7 +210,7 @@ pub(crate) fn read_boxed(
         }
         let mut into = vec![in alloc; 0u8; count]?;
         let got = port.read(into.as_mut_slice());
-        say(answer_of(got, into), answers)?;
+        say(answer_of(got, into), answers);
     }
     Ok(())
 }

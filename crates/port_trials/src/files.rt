@@ -24,15 +24,20 @@ where
     let part = part_of(inputs.word()?)?;
     let single = single_of(alloc, inputs)?;
     let Ok(poll) = Poll::new(rt) else {
-        return answers.word("no-poll");
+        return no_poll(answers);
     };
     let mut openings = match PipeOpenings::new(alloc, poll.registry()) {
         Making::Made(openings) => openings,
-        Making::Later(_) | Making::Failed => return answers.word("no-poll"),
+        Making::Later(_) | Making::Failed => return no_poll(answers),
         Making::Memory => return Err(RowFault::NoMemory),
     };
     let made = make_file(rt, system, alloc, &mut openings, 0, &single, part);
     call_made(alloc, made, inputs, answers)
+}
+
+fn no_poll(answers: &mut Answers) -> Answered {
+    answers.word("no-poll");
+    Ok(())
 }
 
 /// Says whether there is a port, and makes the calls on it.
@@ -44,10 +49,13 @@ fn call_made<P: Port>(
 ) -> Answered {
     match made {
         Making::Made(port) => {
-            answers.word("made")?;
+            answers.word("made");
             call_port(alloc, port, None, PATIENCE, inputs, answers)
         }
-        Making::Later(_) | Making::Failed => answers.word("failed"),
+        Making::Later(_) | Making::Failed => {
+            answers.word("failed");
+            Ok(())
+        }
         Making::Memory => Err(RowFault::NoMemory),
     }
 }

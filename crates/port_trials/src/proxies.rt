@@ -63,7 +63,8 @@ fn call_connect<P: Port>(
 ) -> Answered {
     let mut port = port;
     make_calls(alloc, &mut port, Some(tap), 1, inputs, answers)?;
-    say_connect_end(port.refusal(), answers)
+    say_connect_end(port.refusal(), answers);
+    Ok(())
 }
 
 /// Asks a port through a SOCKS server with this request.
@@ -86,7 +87,8 @@ fn call_socks<P: Port>(
 ) -> Answered {
     let mut port = port;
     make_calls(alloc, &mut port, Some(tap), 1, inputs, answers)?;
-    say_socks_end(port.refusal(), answers)
+    say_socks_end(port.refusal(), answers);
+    Ok(())
 }
 
 /// The port to the proxy: its room, the items of its script, and `calls`.
@@ -118,7 +120,7 @@ fn name_of(alloc: Global, inputs: &mut Inputs<'_>) -> Result<Vec<u8>, RowFault>
     Ok(name)
 }
 
-fn say_socks_end(end: Option<SocksEnd>, answers: &mut Answers) -> Answered {
+fn say_socks_end(end: Option<SocksEnd>, answers: &mut Answers) {
     match end {
         None => answers.word("unrefused"),
         Some(SocksEnd::Denied { code }) => answers.counted("denied", u64::from(code)),
@@ -127,7 +129,7 @@ fn say_socks_end(end: Option<SocksEnd>, answers: &mut Answers) -> Answered {
     }
 }
 
-fn say_connect_end(end: Option<ConnectEnd>, answers: &mut Answers) -> Answered {
+fn say_connect_end(end: Option<ConnectEnd>, answers: &mut Answers) {
     match end {
         None => answers.word("unrefused"),
         Some(ConnectEnd::Denied { status }) => answers.counted("denied", u64::from(status)),

@@ -80,8 +80,9 @@ impl Queue {
             },
             ("full", _) => answers.truth(is_full(&self.queue, &mut self.sender)),
             ("empty", _) => answers.truth(is_empty(&self.queue, &mut self.taker)),
-            _ => Err(RowFault::NoRow),
+            _ => return Err(RowFault::NoRow),
         }
+        Ok(())
     }
 
     /// Puts both sides into one hand.
@@ -176,5 +177,6 @@ pub(crate) fn ask_numbers<R: Threads + Wait + Sync>(
         move || sender.count_up(rt, count),
         move || taker.count(rt, count),
     );
-    answers.number(came)
+    answers.number(came);
+    Ok(())
 }

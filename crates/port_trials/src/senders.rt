@@ -111,35 +111,38 @@ fn call_table(alloc: Global, table: &mut Demux, step: &str, answers: &mut Answer
     match step_parts(step) {
         ("packet", value) => {
             let (peer, bytes) = packet_of(alloc, value)?;
-            say_put(table.packet(peer, bytes.as_slice()), answers)
+            say_put(table.packet(peer, bytes.as_slice()), answers);
         }
         ("packets", value) => {
             let (count, value) = step_parts(value);
             let (peer, bytes) = packet_of(alloc, value)?;
-            let queued = queue_all(table, peer, bytes.as_slice(), count.parse::<u64>()?)?;
-            answers.number(queued)
+            let queued = queue_all(table, peer, bytes.as_slice(), count.parse::<u64>()?);
+            answers.number(queued);
         }
         ("next", _) => match table.next_new() {
             Some((row, peer)) => say_peer(row, peer, answers),
             None => answers.word("none"),
         },
-        ("take", value) => take_row(alloc, table, value, answers),
-        ("drop", value) => {
-            let row = value.parse::<u32>()?;
-            if !table.is_live(row) {
-                return answers.word("gone");
-            }
-            table.drop_row(row);
-            answers.word("dropped")
-        }
+        ("take", value) => take_row(alloc, table, value, answers)?,
+        ("drop", value) => drop_of_table(table, value.parse::<u32>()?, answers),
         ("call", _) => say_call(table.next_call(), answers),
         ("lost", _) => answers.number(table.lost()),
-        _ => Err(RowFault::NoRow),
+        _ => return Err(RowFault::NoRow),
+    }
+    Ok(())
+}
+
+fn drop_of_table(table: &mut Demux, row: u32, answers: &mut Answers) {
+    if table.is_live(row) {
+        table.drop_row(row);
+        answers.word("dropped");
+    } else {
+        answers.word("gone");
     }
 }
 
 /// Puts the packet so often, and answers how often it was queued.
-fn queue_all(table: &mut Demux, peer: Peer, bytes: &[u8], count: u64) -> Result<u64, RowFault>
+fn queue_all(table: &mut Demux, peer: Peer, bytes: &[u8], count: u64) -> u64
     requires { length bytes.now ≤ longest_packet }
 {
     let mut queued: u64 = 0;
@@ -148,13 +151,14 @@ fn queue_all(table: &mut Demux, peer: Peer, bytes: &[u8], count: u64) -> Result<
             queued = queued.saturating_add(1);
         }
     }
-    Ok(queued)
+    queued
 }
 
 fn take_row(alloc: Global, table: &mut Demux, value: &str, answers: &mut Answers) -> Answered {
     let (row, mut room) = row_and_room(alloc, value)?;
     if room.is_empty() || !table.is_live(row) {
-        return answers.word("gone");
+        answers.word("gone");
+        return Ok(());
     }
     match table.take(row, &mut room) {
         Taken::Bytes(count) => say_front(&room, count, answers),
@@ -162,6 +166,7 @@ fn take_row(alloc: Global, table: &mut Demux, value: &str, answers: &mut Answers
         Taken::NotYet => answers.word("not-yet"),
         Taken::End => answers.word("end"),
     }
+    Ok(())
 }
 
 /// A row, and room for so many bytes: ROW:COUNT.
@@ -187,19 +192,20 @@ fn call_hub<L: Link>(
             RowPeer::NoPeer => answers.word("nobody"),
             RowPeer::Failed => answers.word("failed"),
         },
-        ("read", value) => read_row(alloc, hub, value, answers),
-        ("send", value) => send_row(alloc, hub, value, answers),
-        ("drop", value) => drop_row(hub, value, answers),
+        ("read", value) => read_row(alloc, hub, value, answers)?,
+        ("send", value) => send_row(alloc, hub, value, answers)?,
+        ("drop", value) => drop_row(hub, value.parse::<u32>()?, answers),
         ("drop-new", _) => {
             hub.drop_new();
-            answers.word("dropped")
+            answers.word("dropped");
         }
         ("new", _) => answers.truth(hub.has_new()),
         ("more", _) => answers.truth(hub.left_off()),
         ("call", _) => say_call(hub.next_call(), answers),
         ("lost", _) => answers.number(hub.lost()),
-        _ => Err(RowFault::NoRow),
+        _ => return Err(RowFault::NoRow),
     }
+    Ok(())
 }
 
 /// Sends the bytes to the row's sender: ROW:BYTES.
@@ -213,18 +219,20 @@ fn send_row<L: Link>(
     let row = row.parse::<u32>()?;
     let bytes = bytes_of(alloc, bytes)?;
     if bytes.len() > usize::from(LONGEST_PACKET) || !hub.is_live(row) {
-        return answers.word("gone");
+        answers.word("gone");
+    } else {
+        say_took(hub.send_row(row, bytes.as_slice()), answers);
     }
-    say_took(hub.send_row(row, bytes.as_slice()), answers)
+    Ok(())
 }
 
-fn drop_row<L: Link>(hub: &mut Hub<L>, value: &str, answers: &mut Answers) -> Answered {
-    let row = value.parse::<u32>()?;
-    if !hub.is_live(row) {
-        return answers.word("gone");
+fn drop_row<L: Link>(hub: &mut Hub<L>, row: u32, answers: &mut Answers) {
+    if hub.is_live(row) {
+        hub.drop_row(row);
+        answers.word("dropped");
+    } else {
+        answers.word("gone");
     }
-    hub.drop_row(row);
-    answers.word("dropped")
 }
 
 fn read_row<L: Link>(
@@ -235,7 +243,8 @@ fn read_row<L: Link>(
 ) -> Answered {
     let (row, mut room) = row_and_room(alloc, value)?;
     if room.is_empty() || !hub.is_live(row) {
-        return answers.word("gone");
+        answers.word("gone");
+        return Ok(());
     }
     match hub.read_row(row, &mut room) {
         Got::Bytes(count) => say_front(&room, count, answers),
@@ -244,9 +253,10 @@ fn read_row<L: Link>(
         Got::NotYet => answers.word("not-yet"),
         Got::Failed => answers.word("failed"),
     }
+    Ok(())
 }
 
-fn say_put(put: Put, answers: &mut Answers) -> Answered {
+fn say_put(put: Put, answers: &mut Answers) {
     match put {
         Put::New { row } => answers.counted("new", u64::from(row)),
         Put::Queued { row } => answers.counted("queued", u64::from(row)),
@@ -259,7 +269,7 @@ fn say_put(put: Put, answers: &mut Answers) -> Answered {
     }
 }
 
-fn say_call(row: Option<u32>, answers: &mut Answers) -> Answered {
+fn say_call(row: Option<u32>, answers: &mut Answers) {
     match row {
         Some(row) => answers.number(u64::from(row)),
         None => answers.word("none"),
@@ -267,22 +277,23 @@ fn say_call(row: Option<u32>, answers: &mut Answers) -> Answered {
 }
 
 /// A row and the letter of its peer.
-fn say_peer(row: u32, peer: Peer, answers: &mut Answers) -> Answered {
-    answers.number(u64::from(row))?;
+fn say_peer(row: u32, peer: Peer, answers: &mut Answers) {
+    answers.number(u64::from(row));
     match peer {
         Peer::V4 { addr, .. } => answers.part(&addr[3..]),
-        Peer::V6 { .. } | Peer::Local => Ok(()),
+        Peer::V6 { .. } | Peer::Local => {}
     }
 }
 
-fn say_front(bytes: &[u8], count: usize, answers: &mut Answers) -> Answered {
+/// The bytes up to this count, which doesn't exceed them.
+fn say_front(bytes: &[u8], count: usize, answers: &mut Answers) {
     match bytes.get(..count) {
         Some(front) => answers.bytes(front),
-        None => Err(RowFault::NoRow),
+        None => answers.word("too-many"),
     }
 }
 
-fn say_took(took: Took, answers: &mut Answers) -> Answered {
+fn say_took(took: Took, answers: &mut Answers) {
     match took {
         Took::Took(count) => answers.number(count as u64),
         Took::NotYet => answers.word("not-yet"),

@@ -18,7 +18,7 @@ pub(crate) fn make_waits<W: World>(
     requires { (W.seen world.old).held place ≡ Free }
 {
     if open(alloc, world, place, answers)? {
-        read(world, place, answers)?;
+        read(world, place, answers);
     }
     wait(alloc, world, place, answers)?;
     wait(alloc, world, place, answers)
@@ -39,7 +39,7 @@ fn open<W: World>(
         options: Options::defaults(alloc)?,
     };
     let answer = world.open_place(place, &single, None);
-    answers.word(open_word(answer))?;
+    answers.word(open_word(answer));
     Ok(answer == OpenAnswer::Opened)
 }
 
@@ -53,11 +53,11 @@ fn open_word(answer: OpenAnswer) -> &'static str {
 }
 
 /// Reads the place once.
-fn read<W: World>(world: &mut W, place: Place, answers: &mut Answers) -> Answered
+fn read<W: World>(world: &mut W, place: Place, answers: &mut Answers)
     requires { (W.seen world.old).held place ≡ Open }
 {
     let mut into = [0u8; 16];
-    answers.word(read_word(world.read(place, &mut into)))
+    answers.word(read_word(world.read(place, &mut into)));
 }
 
 fn read_word(answer: ReadAnswer) -> &'static str {
@@ -78,18 +78,18 @@ fn wait<W: World>(alloc: Global, world: &mut W, place: Place, answers: &mut Answ
         Turned::Turned { .. } => say_named(&ready, place, answers),
         Turned::Memory => answers.word("memory"),
     }
+    Ok(())
 }
 
 /// How many halves are named, and which of the place's.
-fn say_named(ready: &ReadyList, place: Place, answers: &mut Answers) -> Answered {
-    answers.counted("named", ready.len() as u64)?;
+fn say_named(ready: &ReadyList, place: Place, answers: &mut Answers) {
+    answers.counted("named", ready.len() as u64);
     if is_named(ready, place, Half::ToRead) {
-        answers.word_part("to-read")?;
+        answers.word_part("to-read");
     }
     if is_named(ready, place, Half::ToWrite) {
-        answers.word_part("to-write")?;
+        answers.word_part("to-write");
     }
-    Ok(())
 }
 
 /// Whether this half of the place is named.

@@ -23,12 +23,12 @@ use Rattle.relay_model.specs.May.{Legal}
 use Rattle.relay_model.specs.Laws.{DoorTells}
 use Rattle.relay_model.specs.Frames.{is_at, is_turn, is_common, IsForeign}
 use Rattle.relay_model.specs.Rest.{SessionRests}
-use Rattle.history_lemmas.proofs.PlaceLemmas.{same_place_equal, same_place_self}
-use Rattle.history_lemmas.proofs.Elsewhere.{elsewhere, steps_leave}
-use Rattle.history_lemmas.proofs.Admissions.{door_says, door_called}
-use Rattle.history_lemmas.proofs.OwnThings.{place_own}
+use Rattle.relay_laws.proofs.PlaceLemmas.{same_place_equal, same_place_self}
+use Rattle.relay_laws.proofs.Elsewhere.{elsewhere, steps_leave}
+use Rattle.relay_laws.proofs.Admissions.{door_says, door_called}
+use Rattle.relay_laws.proofs.OwnThings.{place_own}
 use Rattle.relay_laws.proofs.Apart.{closed_step}
-use Rattle.history_lemmas.proofs.Resting.{silent}
+use Rattle.relay_laws.proofs.RestLemmas.{silent}
 use Rattle.program_door.specs.declared.doors.Door.{Door}
 use Rattle.program_door.specs.Causes.{door_cause, cut_after}
 use Rattle.program_door.specs.Stands.{DoorStands}

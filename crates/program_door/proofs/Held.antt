@@ -18,16 +18,16 @@ use Rattle.relay_model.specs.May.{Legal}
 use Rattle.relay_model.specs.Laws.{DoorTells}
 use Rattle.relay_model.specs.Frames.{is_at, is_common}
 use Rattle.relay_model.specs.Rest.{SessionRests}
-use Rattle.history_lemmas.proofs.PlaceLemmas.{same_place_equal}
-use Rattle.history_lemmas.proofs.Admissions.{door_says, call_of_dead}
-use Rattle.history_lemmas.proofs.OwnThings.{EachOwn, each_thing}
+use Rattle.relay_laws.proofs.PlaceLemmas.{same_place_equal}
+use Rattle.relay_laws.proofs.Admissions.{door_says, call_of_dead}
+use Rattle.relay_laws.proofs.OwnThings.{EachOwn, each_thing}
 use Rattle.program_door.specs.Steps.{Passes}
 use Rattle.program_door.specs.Laws.{IsKnown}
 use Rattle.program_door.specs.declared.wishes.DoorWish.{DoorWish}
 use Rattle.program_door.specs.declared.wishes.DoorWish.TheVariants as wishes
 use Rattle.program_door.specs.Wishes.{Wished, WishTells}
 use Rattle.relay_model.specs.Laws.{Tells}
-use Rattle.history_lemmas.proofs.CallLemmas.{door_tells}
+use Rattle.relay_laws.proofs.CallLemmas.{door_tells}
 use Rattle.program_door.proofs.Moves.{armed_of, free_of, held_of_refusal, held_of_service}
 use Rattle.program_door.proofs.Apart.{next_rests, passes}
 

@@ -23,11 +23,11 @@ use Rattle.relay_model.specs.Cause.{closed_why, is_end}
 use Rattle.relay_model.specs.Calls.{call, called_at, door_call, door_cut, enough, full, program_door_call}
 use Rattle.relay_model.specs.May.{Legal}
 use Rattle.relay_model.specs.Laws.{Tells, DoorTells}
-use Rattle.history_lemmas.proofs.PlaceLemmas.{same_place_equal, same_place_self}
-use Rattle.history_lemmas.proofs.CallLemmas.{door_tells}
-use Rattle.history_lemmas.proofs.Admissions.{door_says}
-use Rattle.history_lemmas.proofs.OwnThings.{each_thing, among_own}
-use Rattle.history_lemmas.proofs.Begun.{begun}
+use Rattle.relay_laws.proofs.PlaceLemmas.{same_place_equal, same_place_self}
+use Rattle.relay_laws.proofs.CallLemmas.{door_tells}
+use Rattle.relay_laws.proofs.Admissions.{door_says}
+use Rattle.relay_laws.proofs.OwnThings.{each_thing, among_own}
+use Rattle.relay_laws.proofs.Begun.{begun}
 use Rattle.retry_plan.specs.Plans.{last_of}
 use Rattle.program_door.specs.declared.stages.Stage.{Stage as AtStage}
 use Rattle.program_door.specs.declared.stages.Stage.TheVariants as at

@@ -11,6 +11,6 @@ pub asks_now : (inner : HostPort) (request : List ℕ) (named : Bool) (host : Li
 asks_now inner request true host port user wanted = wanted
 asks_now inner request false host port user wanted = wanted
 
-pub asks_later : (lookup : List ℕ) (wanted : ℕ) (told : List ℕ) (named : Bool) (host : List ℕ) (port : ℕ) (user : List ℕ) → IsWantedOf named host port user (wants.Once lookup wanted told) → AsksAt named host port user (stages.Asking (record { name = lookup; port = wanted; user = told }))
-asks_later lookup wanted told true host port user never = absurd never
-asks_later lookup wanted told false host port user same = same
+pub asks_later : (inner : HostPort) (lookup : List ℕ) (wanted : ℕ) (told : List ℕ) (named : Bool) (host : List ℕ) (port : ℕ) (user : List ℕ) → IsWantedOf named host port user (wants.Once lookup wanted told) → AsksAt named host port user (stages.Asking (record { inner = inner; name = lookup; port = wanted; user = told }))
+asks_later inner lookup wanted told true host port user never = absurd never
+asks_later inner lookup wanted told false host port user same = same

@@ -20,7 +20,7 @@ IsWrittenRequest host port user request = (ip : Ipv4Addr) × WritesIp host (ips.
 
 -- a SOCKS server is asked for this host and port: SOCKS4A names the host, and SOCKS4 has the address that is written or
 -- that the name is looked up for
-abbrev pub AsksAt : Bool → List ℕ → ℕ → List ℕ → SocksStage → Type 0
+abbrev pub AsksAt : {P : Type 0} → Bool → List ℕ → ℕ → List ℕ → SocksStage P → Type 0
 AsksAt true host wanted user (stages.Talking port) = port.talk.request ≡ socks4a host wanted user
 AsksAt true host wanted user _ = ⊥
 AsksAt false host wanted user (stages.Talking port) = IsWrittenRequest host wanted user port.talk.request
@@ -29,7 +29,7 @@ AsksAt false host wanted user stages.Over = ⊥
 
 -- once the host is found, the server is asked for these octets, at the port and in the name of the user that are kept.
 -- Only a user of more than 255 bytes isn't told
-abbrev pub AsksFound : List ℕ → SocksStage → SocksStage → Type 0
+abbrev pub AsksFound : {P : Type 0} → List ℕ → SocksStage P → SocksStage P → Type 0
 AsksFound octets (stages.Asking asked) (stages.Talking port) = port.talk.request ≡ socks4 octets asked.port asked.user
 AsksFound octets (stages.Asking asked) (stages.Asking other) = ⊥
 AsksFound octets (stages.Asking asked) stages.Over = 255 < length asked.user

@@ -1,5 +1,6 @@
 -- Which port an address gets.
 use Rattle.std.specs.Prelude.{◌≡◌, Bool, true, false, ◌&&◌, Some, is_some}
+use Rattle.relay_model.specs.declared.acts.Peer.{Peer}
 use Rattle.relay_model.specs.declared.commands.Single.{Single}
 use Rattle.relay_model.specs.declared.commands.Target.{Target}
 use Rattle.relay_model.specs.declared.commands.Target.TheVariants as targets
@@ -8,7 +9,7 @@ use Rattle.file_ports.specs.Opened.{file_named}
 use Rattle.child_ports.specs.Programs.{runs_program}
 use Rattle.socket_kinds.specs.Kinds.{Listening}
 use Rattle.socket_maker.specs.Makings.{opened_sort}
-use Rattle.socket_maker.specs.Ports.{is_door_port, is_unix_door_port, sort_at}
+use Rattle.socket_maker.specs.Ports.{HasPartnerAt, is_door_port, is_unix_door_port, sort_at}
 use Rattle.real_maker.specs.declared.ports.RealPort.{RealPort}
 use Rattle.real_maker.specs.declared.ports.RealPort.TheVariants as ports
 
@@ -52,6 +53,12 @@ abbrev pub ComesAt : RealPort → RealPort → Type 0
 ComesAt (ports.Socket door) (ports.Socket port) = (is_door_port door ≡ true) × (is_door_port port ≡ false)
 ComesAt (ports.Peer door) (ports.Peer port) = Unit {0}
 ComesAt _ _ = ⊥
+
+-- the peer is the one that came with the port: at the address that its accepting or its datagram told
+abbrev pub IsOfPeer : RealPort → Peer → Type 0
+IsOfPeer (ports.Socket port) peer = HasPartnerAt port peer
+IsOfPeer (ports.Peer port) peer = port.peer ≡ Some peer
+IsOfPeer _ peer = ⊥
 
 -- the port is a door to which those come that have no address
 abbrev pub is_local_door : RealPort → Bool

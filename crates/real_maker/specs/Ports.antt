@@ -12,7 +12,7 @@ use Rattle.socket_ports.specs.Sockets.{PortState}
 use Rattle.socket_maker.specs.declared.port.HostPort.{HostPort}
 
 -- what the port that it is tells
-abbrev pub of_port : {T : Type 0} → (EchoState → T) → (HostPort → T) → (PortState FileStream → T) → (PortState HalvesState → T) → (OpeningState → T) → (TunnelState HostPort ConnectState → T) → (PeerState → T) → RealPort → T
+abbrev pub of_port : {T : Type 0} → (EchoState → T) → (HostPort → T) → (PortState FileStream → T) → (PortState HalvesState → T) → (OpeningState HostPort → T) → (TunnelState HostPort ConnectState → T) → (PeerState → T) → RealPort → T
 of_port echo socket file child socks proxy peer (ports.Echo port) = echo port
 of_port echo socket file child socks proxy peer (ports.Socket port) = socket port
 of_port echo socket file child socks proxy peer (ports.File port) = file port

@@ -1,40 +1,37 @@
 -- What contracts see of a connection through a SOCKS server.
-use Rattle.std.specs.Prelude.{ℕ, Bool, List, Option, None}
+use Rattle.std.specs.Prelude.{◌≡◌, Bool, Option, None}
+use Rattle.relay_model.specs.declared.acts.Shut.{Shut}
 use Rattle.port_trait.specs.Hinting.{all_hints}
+use Rattle.port_trait.specs.Ports.{PortSeen}
 use Rattle.port_trait.specs.declared.answers.Hint.{Hint}
+use Rattle.port_trait.specs.declared.answers.Shutting.{Shutting}
+use Rattle.port_trait.specs.declared.answers.Shutting.TheVariants as shuts
 use Rattle.port_trait.specs.declared.counts.Counts.{Counts}
-use Rattle.tunnel_port.specs.Talks.{behind_talk, is_passed}
-use Rattle.socket_maker.specs.Ports.{hints_at, may_hint_at}
 use Rattle.real_maker.specs.declared.socks.SocksStage.{SocksStage}
 use Rattle.real_maker.specs.declared.socks.SocksStage.TheVariants as stages
 
 -- how far it has come, what was counted, whether a begin came, and whether the last read answered the end
-pub record OpeningState : Type 0 where
-  pub stage : SocksStage
+pub record OpeningState (P : Type 0) : Type 0 where
+  pub stage : SocksStage P
   pub counts : Counts
   pub begun : Bool
   pub ended : Bool
 
--- what was given of what follows the talk
-abbrev pub stage_gave : SocksStage → Option (List ℕ)
-stage_gave (stages.Talking port) = behind_talk (is_passed port.stage) port.talk.heard None
-stage_gave (stages.Asking asked) = None
-stage_gave stages.Over = None
-
--- and what was taken
-abbrev pub stage_took : SocksStage → Option (List ℕ)
-stage_took (stages.Talking port) = behind_talk (is_passed port.stage) port.talk.request None
-stage_took (stages.Asking asked) = None
-stage_took stages.Over = None
-
 -- what it hints; the end of a lookup is told by its thread
-abbrev pub stage_hints : SocksStage → Option Hint
-stage_hints (stages.Talking port) = hints_at port.inner
-stage_hints (stages.Asking asked) = None
-stage_hints stages.Over = None
+abbrev pub stage_hints : {P : Type 0} → (P → PortSeen) → SocksStage P → Option Hint
+stage_hints seen (stages.Talking port) = (seen port.inner).hints
+stage_hints seen (stages.Asking asked) = None
+stage_hints seen stages.Over = None
 
 -- the halves that it may hint at
-abbrev pub stage_hinting : SocksStage → Hint
-stage_hinting (stages.Talking port) = may_hint_at port.inner
-stage_hinting (stages.Asking asked) = all_hints
-stage_hinting stages.Over = all_hints
+abbrev pub stage_hinting : {P : Type 0} → (P → PortSeen) → SocksStage P → Hint
+stage_hinting seen (stages.Talking port) = (seen port.inner).hinting
+stage_hinting seen (stages.Asking asked) = all_hints
+stage_hinting seen stages.Over = all_hints
+
+-- a shut is answered as the port to the server answers it, before the request and behind it. One that was given up is shut
+abbrev pub ShutsBeneath : {P : Type 0} → (P → P → Shut → Shutting → Type 0) → SocksStage P → SocksStage P → Shut → Shutting → Type 0
+ShutsBeneath answers (stages.Asking before) (stages.Asking now) how shutting = answers before.inner now.inner how shutting
+ShutsBeneath answers (stages.Talking before) (stages.Talking now) how shutting = answers before.inner now.inner how shutting
+ShutsBeneath answers stages.Over stages.Over how shutting = shutting ≡ shuts.Done
+ShutsBeneath answers _ _ how shutting = ⊥

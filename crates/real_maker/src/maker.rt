@@ -11,19 +11,19 @@ ghost use Rattle.port_trait.specs.Ports.{MovesNothing};
 ghost use Rattle.port_trait.specs.declared.makers.Making.TheVariants as makings;
 ghost use Rattle.port_trait.specs.declared.makers.MadePeer.TheVariants as peers;
 ghost use Rattle.relay_model.specs.declared.acts.Peer.TheVariants as whose;
-ghost use Rattle.socket_kinds.specs.Accepting.{OnPort, OnPeer, OnCame};
+ghost use Rattle.socket_kinds.specs.Accepting.{OnBoth, OnPort, OnPeer, OnCame};
 ghost use Rattle.socket_kinds.specs.Kinds.{Listening};
 ghost use Rattle.socket_maker.specs.Makers.{risen_if};
 ghost use Rattle.socket_maker.specs.Makings.{opened_sort};
-ghost use Rattle.socket_maker.specs.Ports.{is_door_port, is_unix_door_port, port_sort};
+ghost use Rattle.socket_maker.specs.Ports.{HasPartnerAt, is_door_port, is_unix_door_port, port_sort};
 ghost use Rattle.socket_maker.specs.declared.port.HostPort.{HostPort};
-ghost use Rattle.socket_ports.specs.Ports.{PeerState};
+ghost use Rattle.socket_ports.specs.Ports.{PeerState, fresh_port};
 ghost use Rattle.file_ports.specs.Opened.{OnMade};
 ghost use Rattle.mio_poller.specs.Pollers.{is_reserved};
 ghost use Rattle.real_maker.specs.Made.{lacking_of, is_shared};
 ghost use Rattle.real_maker.specs.Makers.{seen_of, IsFreshMaker, SameBooks};
 ghost use Rattle.real_maker.specs.Asking.{Asks};
-ghost use Rattle.real_maker.specs.Kinds.{IsOpenedFor, IsDoorFor, ComesAt, is_local_door, gathers_senders};
+ghost use Rattle.real_maker.specs.Kinds.{IsOpenedFor, IsDoorFor, ComesAt, IsOfPeer, is_local_door, gathers_senders};
 ghost use Rattle.real_maker.specs.declared.ports.RealPort.TheVariants as ports;
 
 use crate::kinds::{Kind, kind_of};
@@ -377,6 +377,7 @@ where
         ensures same { SameBooks self.old self.new }
         ensures kind { OnPeer (ComesAt door.old.port) result }
         ensures addressed { is_local_door door.old.port ≡ false → OnCame (λ peer. peer ≢ whose.Local) result }
+        ensures partner { OnBoth IsOfPeer result }
         ensures unreserved { OnPeer (λ _. is_reserved key ≡ false) result }
         ensures door { MovesNothing (⟦<RealPort as Port>⟧.seen door.old.port) (⟦<RealPort as Port>⟧.seen door.new.port) }
         ensures kept { result ≢ peers.NoPeer → is_shared door.old.hints ≡ true → self.new.reserve.held + 1 ≡ self.new.reserve.wanted }
@@ -413,6 +414,7 @@ where
         ensures same { self.new ≡ self.old }
         ensures kind { OnPeer (ComesAt door.old) result }
         ensures addressed { is_local_door door.old ≡ false → OnCame (λ peer. peer ≢ whose.Local) result }
+        ensures partner { OnBoth IsOfPeer result }
         ensures unreserved { OnPeer (λ _. is_reserved key ≡ false) result }
         ensures door { MovesNothing (⟦<RealPort as Port>⟧.seen door.old) (⟦<RealPort as Port>⟧.seen door.new) }
     {
@@ -428,6 +430,7 @@ where
         ensures same { self.new ≡ self.old }
         ensures no_door { is_door_port socket.old ≡ false → result ≡ peers.Failed }
         ensures addressed { is_unix_door_port socket.old ≡ false → OnCame (λ peer. peer ≢ whose.Local) result }
+        ensures partner { OnBoth HasPartnerAt result }
         ensures sort { OnPeer (λ port. is_door_port port ≡ false) result }
         ensures door { MovesNothing (⟦<OfSocket as Port>⟧.seen socket.old) (⟦<OfSocket as Port>⟧.seen socket.new) }
     {
@@ -530,6 +533,7 @@ fn of_socket(making: Making<OfSocket>) -> Making<RealPort>
 /// A peer's socket as a port of any kind.
 fn peer_of(peer: MadePeer<OfSocket>) -> MadePeer<RealPort>
     ensures addressed { OnCame (λ who. who ≢ whose.Local) peer → OnCame (λ who. who ≢ whose.Local) result }
+    ensures partner { OnBoth HasPartnerAt peer → OnBoth IsOfPeer result }
     ensures kind { (door : HostPort) → (is_door_port door ≡ false → peer ≡ peers.Failed)
         → OnPeer (λ port. is_door_port port ≡ false) peer → OnPeer (ComesAt (ports.Socket door)) result }
 {
@@ -544,6 +548,7 @@ fn peer_of(peer: MadePeer<OfSocket>) -> MadePeer<RealPort>
 /// A peer of a shared socket as a port of any kind.
 fn gathered(peer: MadePeer<PeerPort>) -> MadePeer<RealPort>
     ensures addressed { OnCame (λ who. who ≢ whose.Local) peer → OnCame (λ who. who ≢ whose.Local) result }
+    ensures partner { OnBoth (λ port who. port ≡ fresh_port (Some who)) peer → OnBoth IsOfPeer result }
     ensures kind { (door : PeerState) → OnPeer (ComesAt (ports.Peer door)) result }
 {
     match peer {
@@ -602,6 +607,7 @@ where
     fn accept(&mut self, door: &mut MadePort, key: usize) -> MadePeer<MadePort>
         ensures kind { OnPeer (λ made. ComesAt door.old.port made.port) result }
         ensures addressed { is_local_door door.old.port ≡ false → OnCame (λ peer. peer ≢ whose.Local) result }
+        ensures partner { OnBoth (λ made peer. IsOfPeer made.port peer) result }
         ensures unreserved { OnPeer (λ _. is_reserved key ≡ false) result }
         ensures kept { result ≢ peers.NoPeer → is_shared door.old.hints ≡ true → self.new.reserve.held + 1 ≡ self.new.reserve.wanted }
         ensures lacking { 0 < lacking_of door.new.hints → result ≡ peers.NoPeer }

@@ -5,7 +5,7 @@ ghost use Rattle.std.specs.Net.Socket.{v4_ip};
 ghost use Rattle.port_trait.specs.Ports.{untold};
 ghost use Rattle.tunnel_port.specs.SocksRequests.{socks4};
 ghost use Rattle.real_maker.specs.Asking.{AsksFound};
-ghost use Rattle.real_maker.specs.SocksStages.{stage_gave, stage_hinting, stage_hints, stage_took};
+ghost use Rattle.real_maker.specs.SocksStages.{ShutsBeneath, stage_hinting, stage_hints};
 
 use crate::opening::OfSocket;
 use host_lookup::{Looked, Lookup};
@@ -22,21 +22,57 @@ use tunnel_port::{Request, SocksPort, request4};
 /// The most bytes of a user and of a host that a proxy is told.
 pub(crate) const MOST: usize = 255;
 
-/// A server, and the host and port that it will be asked for.
+/// A server, and the host and port that it will be asked for. Nothing went through the port to it.
 #[derive(Drop)]
-pub struct AskedLater {
-    pub(crate) inner: OfSocket,
+pub struct AskedLater<P: Port = OfSocket> {
+    pub(crate) inner: P,
     pub(crate) lookup: Lookup,
     pub(crate) port: u16,
     pub(crate) user: Text,
 }
 
-impl Model for AskedLater {
+impl<P: Port> Model for AskedLater<P> {
+    ghost use Rattle.std.specs.Prelude.{[]};
+    ghost use Rattle.tunnel_port.specs.Talks.{IsOnly};
     ghost use Rattle.real_maker.specs.Socks.{AskedState};
 
-    ghost Value = { AskedState };
+    ghost Value = { AskedState P };
 
-    ghost view = { λ asked. record { name = asked.lookup; port = asked.port; user = asked.user } };
+    ghost view = { λ asked. record { inner = asked.inner; name = asked.lookup; port = asked.port; user = asked.user } };
+
+    ghost invariant = { λ asked. IsOnly [] (P.seen asked.inner).took × IsOnly [] (P.seen asked.inner).gave };
+}
+
+impl<P: Port> AskedLater<P> {
+    #[tactic(auto, using(crate::proofs::Untold::nothing_kept))]
+    fn begin(&mut self) -> Begun
+        ensures { self.new ≡ record self.old { inner = self.new.inner } }
+    {
+        self.inner.begin()
+    }
+
+    #[tactic(auto, using(crate::proofs::Untold::nothing_kept))]
+    fn shut(&mut self, how: Shut) -> Shutting
+        ensures asked { P.answers_shut self.old.inner self.new.inner how result }
+        ensures kept { self.new ≡ record self.old { inner = self.new.inner } }
+    {
+        self.inner.shut(how)
+    }
+
+    /// The port that asks the server for this address. `None` where the user is too long.
+    fn asking(self, octets: [u8; 4]) -> Option<SocksPort<P>>
+        ensures asks { IfSome result (λ port. port.talk.request ≡ socks4 octets self.port self.user) }
+        ensures too_long { result ≡ None → 255 < length self.user }
+    {
+        let AskedLater {
+            inner,
+            lookup: _,
+            port,
+            user,
+        } = self;
+        let request = request_to(octets, port, user.as_slice())?;
+        Some(SocksPort::new(inner, request))
+    }
 }
 
 /// The request of SOCKS4 to be connected to this address (socat(1), `SOCKS4`). `None` where the user is too long.
@@ -52,32 +88,32 @@ pub(crate) fn request_to(addr: [u8; 4], port: u16, user: &[u8]) -> Option<Reques
 
 /// How far it has come.
 #[derive(Drop)]
-pub enum SocksStage {
-    Asking(AskedLater),
-    Talking(SocksPort<OfSocket>),
+pub enum SocksStage<P: Port = OfSocket> {
+    Asking(AskedLater<P>),
+    Talking(SocksPort<P>),
     Over,
 }
 
 /// A connection through a SOCKS server. Each answer is counted here, once.
 #[derive(Drop)]
-pub struct SocksOpening {
-    stage: SocksStage,
+pub struct SocksOpening<P: Port = OfSocket> {
+    stage: SocksStage<P>,
     counts: Counts,
     begun: bool,
     ended: bool,
 }
 
-impl Model for SocksOpening {
+impl<P: Port> Model for SocksOpening<P> {
     ghost use Rattle.real_maker.specs.SocksStages.{OpeningState};
 
-    ghost Value = { OpeningState };
+    ghost Value = { OpeningState P };
 
     ghost view = { λ port. record { stage = port.stage; counts = port.counts; begun = port.begun; ended = port.ended } };
 }
 
-impl SocksOpening {
+impl<P: Port> SocksOpening<P> {
     /// One of which nothing was asked yet.
-    pub(crate) fn new(stage: SocksStage) -> SocksOpening
+    pub(crate) fn new(stage: SocksStage<P>) -> SocksOpening<P>
         ensures { result.stage ≡ stage }
     {
         SocksOpening {
@@ -91,8 +127,6 @@ impl SocksOpening {
     /// Asks for the host once it is looked up, and goes on with the talk.
     fn advance(&mut self) -> Settled
         ensures kept { self.new ≡ record self.old { stage = self.new.stage } }
-        ensures gave { stage_gave self.new.stage ≡ stage_gave self.old.stage }
-        ensures took { stage_took self.new.stage ≡ stage_took self.old.stage }
     {
         let looked = match &mut self.stage {
             SocksStage::Talking(port) => return port.settle(),
@@ -111,8 +145,6 @@ impl SocksOpening {
 
     fn give_up(&mut self) -> Settled
         ensures kept { self.new ≡ record self.old { stage = self.new.stage } }
-        ensures gave { stage_gave self.new.stage ≡ None }
-        ensures took { stage_took self.new.stage ≡ None }
     {
         self.stage = SocksStage::Over;
         Settled::Failed
@@ -120,18 +152,15 @@ impl SocksOpening {
 
     fn ask_for(&mut self, addr: SocketAddrV4) -> Settled
         ensures kept { self.new ≡ record self.old { stage = self.new.stage } }
-        ensures gave { stage_gave self.new.stage ≡ None }
-        ensures took { stage_took self.new.stage ≡ None }
         ensures asks { AsksFound (ipv4_octets (v4_ip addr)) self.old.stage self.new.stage }
     {
         let SocksStage::Asking(asked) = mem::replace(&mut self.stage, SocksStage::Over) else {
             return Settled::Failed;
         };
         let octets = addr.ip().octets();
-        let Some(request) = request_to(octets, asked.port, asked.user.as_slice()) else {
+        let Some(mut port) = asked.asking(octets) else {
             return Settled::Failed;
         };
-        let mut port = SocksPort::new(asked.inner, request);
         let settled = port.settle();
         self.stage = SocksStage::Talking(port);
         settled
@@ -139,27 +168,37 @@ impl SocksOpening {
 
     fn begin_inner(&mut self) -> Begun
         ensures kept { self.new ≡ record self.old { stage = self.new.stage } }
-        ensures gave { stage_gave self.new.stage ≡ stage_gave self.old.stage }
-        ensures took { stage_took self.new.stage ≡ stage_took self.old.stage }
     {
         match &mut self.stage {
-            SocksStage::Asking(asked) => asked.inner.begin(),
+            SocksStage::Asking(asked) => asked.begin(),
             SocksStage::Talking(port) => port.begin(),
             SocksStage::Over => Begun::Failed,
         }
     }
+
+    /// Shuts the port to the server, before the request as behind it.
+    fn shut_inner(&mut self, how: Shut) -> Shutting
+        ensures asked { ShutsBeneath P.answers_shut self.old.stage self.new.stage how result }
+        ensures kept { self.new ≡ record self.old { stage = self.new.stage } }
+    {
+        match &mut self.stage {
+            SocksStage::Asking(asked) => asked.shut(how),
+            SocksStage::Talking(port) => port.shut(how),
+            SocksStage::Over => Shutting::Done,
+        }
+    }
 }
 
-impl Port for SocksOpening {
+impl<P: Port> Port for SocksOpening<P> {
     ghost seen = { λ port. record untold {
-      gave = stage_gave port.stage;
-      took = stage_took port.stage;
-      hints = stage_hints port.stage;
-      hinting = stage_hinting port.stage;
+      hints = stage_hints P.seen port.stage;
+      hinting = stage_hinting P.seen port.stage;
       counts = port.counts;
       begun = port.begun;
       ended = port.ended;
     } };
+
+    ghost answers_shut = { λ old new how shutting. ShutsBeneath P.answers_shut old.stage new.stage how shutting };
 
     fn begin(&mut self) -> Begun {
         if self.begun {
@@ -177,6 +216,7 @@ impl Port for SocksOpening {
         settled
     }
 
+    #[tactic(auto, using(crate::proofs::Untold::gives_untold))]
     fn read(&mut self, into: &mut [u8]) -> Got {
         let got = match &mut self.stage {
             SocksStage::Asking(_) => Got::NotYet,
@@ -188,6 +228,7 @@ impl Port for SocksOpening {
         got
     }
 
+    #[tactic(auto, using(crate::proofs::Untold::accepts_untold))]
     fn write(&mut self, bytes: &[u8]) -> Took {
         let took = match &mut self.stage {
             SocksStage::Asking(_) => Took::NotYet,
@@ -204,6 +245,7 @@ impl Port for SocksOpening {
         Took::Failed
     }
 
+    #[tactic(auto, using(crate::proofs::Untold::accepts_all_untold))]
     fn put_all(&mut self, bytes: &[u8]) -> Took {
         let took = match &mut self.stage {
             SocksStage::Talking(port) => port.put_all(bytes),
@@ -214,11 +256,7 @@ impl Port for SocksOpening {
     }
 
     fn shut(&mut self, how: Shut) -> Shutting {
-        let shutting = match &mut self.stage {
-            SocksStage::Asking(asked) => asked.inner.shut(how),
-            SocksStage::Talking(port) => port.shut(how),
-            SocksStage::Over => Shutting::Done,
-        };
+        let shutting = self.shut_inner(how);
         count_shutting(&mut self.counts, shutting);
         shutting
     }

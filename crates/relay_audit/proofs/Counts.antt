@@ -6,7 +6,7 @@ use Rattle.relay_model.specs.declared.acts.Act.{Act}
 use Rattle.relay_model.specs.declared.acts.Act.TheVariants.{Read}
 use Rattle.relay_model.specs.Choices.{joined}
 use Rattle.relay_model.specs.History.{got}
-use Rattle.history_lemmas.proofs.PlaceLemmas.{same_place_self}
+use Rattle.relay_laws.proofs.PlaceLemmas.{same_place_self}
 
 -- a count that a word holds is below where counts stop
 pub count_in_word : (n : ℕ) → n < 2 ^ 64 → min n (2 ^ 64 - 1) ≡ n

@@ -17,7 +17,7 @@ use Rattle.relay_model.specs.Rest.{is_going}
 use Rattle.relay_model.specs.May.{BeginsWith}
 use Rattle.relay_model.specs.Audit.{same_list, begins, begins_pieces, may_offer}
 use Rattle.relay_laws.specs.Packets.{at_most_one}
-use Rattle.history_lemmas.proofs.PlaceLemmas.{same_place_equal}
+use Rattle.relay_laws.proofs.PlaceLemmas.{same_place_equal}
 use Rattle.relay_audit.specs.Pasts.{WrittenStands, OnePieceWaits}
 
 list_is : (xs : List ℕ) → same_list xs xs ≡ true

@@ -21,9 +21,9 @@ use Rattle.relay_model.specs.Moments.{moved_at}
 use Rattle.relay_model.specs.Cause.{closed_why, is_end}
 use Rattle.relay_model.specs.Frames.{SameAt}
 use Rattle.relay_laws.specs.Stories.{is_own_place, own_entries}
-use Rattle.history_lemmas.proofs.PlaceLemmas.{same_place_equal}
+use Rattle.relay_laws.proofs.PlaceLemmas.{same_place_equal}
 use Rattle.relay_laws.proofs.Apart.{Base}
-use Rattle.history_lemmas.proofs.OwnThings.{input_own}
+use Rattle.relay_laws.proofs.OwnThings.{input_own}
 
 -- ---- a session's own places
 

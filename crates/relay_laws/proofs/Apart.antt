@@ -27,9 +27,9 @@ use Rattle.relay_model.specs.Cause.{is_end, closed_why, fault_at, faulted, finis
 use Rattle.relay_model.specs.Calls.{call}
 use Rattle.relay_model.specs.Rest.{is_going, owes_read, owes_write, accepts, session_work, try_moment, input_moment, timer_moment, session_moment}
 use Rattle.relay_model.specs.Frames.{is_at, is_turn, reads_bytes, SameAt, IsForeign, is_common, SameSession}
-use Rattle.history_lemmas.proofs.PlaceLemmas.{same_place_equal, same_place_self}
-use Rattle.history_lemmas.proofs.Elsewhere.{elsewhere, due_pieces_left}
-use Rattle.history_lemmas.proofs.OwnThings.{EachOwn, own_door, door_own, each_place, each_door, each_thing, none_among, input_own, output_own}
+use Rattle.relay_laws.proofs.PlaceLemmas.{same_place_equal, same_place_self}
+use Rattle.relay_laws.proofs.Elsewhere.{elsewhere, due_pieces_left}
+use Rattle.relay_laws.proofs.OwnThings.{EachOwn, own_door, door_own, each_place, each_door, each_thing, none_among, input_own, output_own}
 
 -- ---- the same of each of a session's own
 

@@ -17,7 +17,7 @@ use Rattle.relay_model.specs.Moments.{moved_at}
 use Rattle.relay_model.specs.Cause.{closed_why}
 use Rattle.relay_model.specs.Outcome.{Faulted, first_fault}
 use Rattle.relay_model.specs.Changes.{Makes}
-use Rattle.history_lemmas.proofs.PlaceLemmas.{same_place_self}
+use Rattle.relay_laws.proofs.PlaceLemmas.{same_place_self}
 
 pieces_made :
     (c : Config) (s : ℕ) (w : Way) (p : Place) (bytes : List ℕ) (past : List Act) → p ≡ input c s w → is_empty (due_part c w (got past p) bytes) ≡ false →

@@ -26,7 +26,7 @@ use Rattle.relay_model.specs.Outcome.{outcome}
 use Rattle.relay_model.specs.Rest.{owed, is_going, owes_read, owes_write, must_pass, presses, AcceptTried, SessionRests, DoorRests, Rest, until_of}
 use Rattle.relay_model.specs.May.{MayAsk, MayRead, MayOffer, MayWrite, MayTryWrite, MayShut, MayClose, MayTurn, MayReap, DoorEnds, for_memory, for_stop, for_accept, Licensed, by_cause, by_refusal, by_service, by_door, by_memory, by_turns, BeginsWith, KeepsBorders, May, Legal}
 use Rattle.relay_model.specs.Audit.{implies, accept_tried, way_rests, session_rests, door_rests, rests, same_number, same_list, same_text, begins, begins_pieces, same_shut, opens, listens_to, accepts_for, accepts_at, closes, may_ask, may_take, may_offer, may_put, may_shut, door_ends, is_cause, may_close, timely, may_come, first_of_two, first_illegal}
-use Rattle.history_lemmas.proofs.PlaceLemmas.{same_place_self}
+use Rattle.relay_laws.proofs.PlaceLemmas.{same_place_self}
 use Rattle.relay_laws.proofs.Sound.{may_is, legal_is}
 
 -- ---- small tests

@@ -20,8 +20,8 @@ use Rattle.relay_model.specs.Cause.{cause}
 use Rattle.relay_model.specs.Calls.{call, door_cut, enough, full, program_door_call, door_call, called_at}
 use Rattle.relay_model.specs.May.{Legal}
 use Rattle.relay_model.specs.Laws.{Tells}
-use Rattle.history_lemmas.proofs.PlaceLemmas.{same_place_equal}
-use Rattle.history_lemmas.proofs.CallLemmas.{called_tells}
+use Rattle.relay_laws.proofs.PlaceLemmas.{same_place_equal}
+use Rattle.relay_laws.proofs.CallLemmas.{called_tells}
 use Rattle.relay_laws.specs.Holdings.{is_settling, beginnings, endings}
 use Rattle.relay_laws.proofs.Served.{NoDoors, no_doors}
 

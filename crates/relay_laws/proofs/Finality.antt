@@ -33,12 +33,12 @@ use Rattle.relay_model.specs.Rest.{is_going}
 use Rattle.relay_model.specs.May.{Legal, Licensed, by_cause, by_refusal, by_service, by_door, by_memory, by_turns}
 use Rattle.relay_model.specs.Laws.{uses, DoorTells}
 use Rattle.relay_model.specs.Frames.{is_at, reaps, fails_to_open, fails_to_accept, fails_to_read, fails_to_write}
-use Rattle.history_lemmas.proofs.PlaceLemmas.{same_place_equal, same_place_self}
-use Rattle.history_lemmas.proofs.Elsewhere.{steps_leave}
-use Rattle.history_lemmas.proofs.Holdings.{used_held, moves_running}
+use Rattle.relay_laws.proofs.PlaceLemmas.{same_place_equal, same_place_self}
+use Rattle.relay_laws.proofs.Elsewhere.{steps_leave}
+use Rattle.relay_laws.proofs.Holdings.{used_held, moves_running}
 use Rattle.relay_laws.proofs.Served.{is_gone, gone_free, called_unserved, Unserved, not_opened, refused}
-use Rattle.history_lemmas.proofs.OwnThings.{EachOwn, each_place, each_door, each_thing, among_own, place_own}
-use Rattle.history_lemmas.proofs.Admissions.{door_says, door_called, admission_tells, call_of_dead, call_of_ended, no_open, no_listen}
+use Rattle.relay_laws.proofs.OwnThings.{EachOwn, each_place, each_door, each_thing, among_own, place_own}
+use Rattle.relay_laws.proofs.Admissions.{door_says, door_called, admission_tells, call_of_dead, call_of_ended, no_open, no_listen}
 
 -- ---- acts at what is gone
 

@@ -19,7 +19,7 @@ use Rattle.relay_model.specs.Openings.{ready}
 use Rattle.relay_model.specs.Cause.{is_end, closed_why, accept_failed_for, listening_failed, opening_failed, faulted, finished, each_formed, cause}
 use Rattle.relay_model.specs.May.{Legal, for_memory, for_stop, for_accept, Licensed, by_cause, by_refusal, by_service, by_door, by_memory, by_turns}
 use Rattle.relay_laws.proofs.Apart.{cause_from}
-use Rattle.history_lemmas.proofs.OwnThings.{among_own, each_thing}
+use Rattle.relay_laws.proofs.OwnThings.{among_own, each_thing}
 use Rattle.relay_laws.proofs.Written.{passed_whole}
 
 -- the cause is that all was passed only by an earlier closing or since all was passed

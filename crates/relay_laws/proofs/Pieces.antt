@@ -17,8 +17,8 @@ use Rattle.relay_model.specs.History.{got, put, sent}
 use Rattle.relay_model.specs.Transfers.{due, due_part, due_pieces, is_empty, backlog, greatest_read}
 use Rattle.relay_model.specs.May.{Legal, BeginsWith, KeepsBorders, MayRead, MayWrite}
 use Rattle.relay_laws.specs.Packets.{at_most_one, pieces}
-use Rattle.history_lemmas.proofs.Growth.{due_nil}
-use Rattle.history_lemmas.proofs.Permitted.{moved_to, reads_in_room}
+use Rattle.relay_laws.proofs.Growth.{due_nil}
+use Rattle.relay_laws.proofs.Permitted.{moved_to, reads_in_room}
 use Rattle.relay_laws.proofs.Written.{written_due}
 
 -- ---- what waits

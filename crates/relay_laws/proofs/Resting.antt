@@ -20,7 +20,7 @@ use Rattle.relay_model.specs.Calls.{call}
 use Rattle.relay_model.specs.Rest.{goes, is_going, owes_read, owes_write, must_pass, accepts, presses, AcceptTried, SessionRests, way_work, session_work, try_moment, input_moment, timer_moment, session_moment}
 use Rattle.relay_model.specs.Frames.{SameSession}
 use Rattle.relay_laws.proofs.Apart.{moves_same, over_same, backlog_same, passing_same, cause_from}
-use Rattle.history_lemmas.proofs.OwnThings.{input_own}
+use Rattle.relay_laws.proofs.OwnThings.{input_own}
 use Rattle.relay_laws.proofs.Alike.{Alike}
 use Rattle.relay_laws.specs.Sleeps.{IsBefore, Since, tick, RestsUntil, SleepsOn}
 use Rattle.relay_laws.proofs.Before.{before_both, later_kept, reached_kept, reached_stays, arming_kept, Unhurried, first_kept}

@@ -20,7 +20,7 @@ use Rattle.relay_model.specs.Cause.{cause}
 use Rattle.relay_model.specs.Calls.{call, door_cut, enough, full, program_door_call, door_call, called_at}
 use Rattle.relay_model.specs.May.{Legal}
 use Rattle.relay_model.specs.Laws.{is_listening}
-use Rattle.history_lemmas.proofs.PlaceLemmas.{same_place_equal}
+use Rattle.relay_laws.proofs.PlaceLemmas.{same_place_equal}
 
 abbrev pub is_gone : Stage → Bool
 is_gone (Gone why) = true

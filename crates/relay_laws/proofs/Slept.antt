@@ -17,7 +17,7 @@ use Rattle.relay_model.specs.Transfers.{due, over, backlog, due_pieces}
 use Rattle.relay_model.specs.Cause.{fault_at}
 use Rattle.relay_model.specs.Frames.{is_turn, SameAt, IsForeign, is_common, SameSession}
 use Rattle.relay_laws.proofs.Apart.{base_step, write_step, accept_step, pieces_step, session_begun}
-use Rattle.history_lemmas.proofs.OwnThings.{input_own, output_own, EachOwn, each_place}
+use Rattle.relay_laws.proofs.OwnThings.{input_own, output_own, EachOwn, each_place}
 use Rattle.relay_laws.proofs.Alike.{seen, Alike, alike_kept, alike_itself, alike_turned, alike_joined}
 use Rattle.relay_laws.specs.Sleeps.{IsBefore, IsQuiet, Since, just, foreign, quiet, tick, SameIdleAt, SameIdleWay, SameIdle}
 

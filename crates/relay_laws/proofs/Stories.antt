@@ -25,10 +25,10 @@ use Rattle.relay_model.specs.May.{MayAsk, MayRead, MayOffer, MayWrite, MayTryWri
 use Rattle.relay_model.specs.declared.acts.Shut.{Shut as Shutting}
 use Rattle.relay_model.specs.Frames.{IsForeign, is_common, is_turn, SameSession}
 use Rattle.relay_laws.specs.Stories.{is_own_place, is_own, Event, Own, Turned, AcceptingFailed, Ending, is_news, reaches, and_event, story, transfers}
-use Rattle.history_lemmas.proofs.PlaceLemmas.{same_place_equal}
-use Rattle.history_lemmas.proofs.Elsewhere.{elsewhere}
+use Rattle.relay_laws.proofs.PlaceLemmas.{same_place_equal}
+use Rattle.relay_laws.proofs.Elsewhere.{elsewhere}
 use Rattle.relay_laws.proofs.Apart.{Base, base_step, closed_step, write_step, accept_step, pieces_step, passing_same, over_same, backlog_same, moves_same, session_begun}
-use Rattle.history_lemmas.proofs.OwnThings.{input_own, output_own}
+use Rattle.relay_laws.proofs.OwnThings.{input_own, output_own}
 use Rattle.relay_laws.proofs.Alike.{own_from, own_is, apart_from, seen, at_turned, at_joined, Alike, alike_kept, alike_itself, alike_turned, alike_joined}
 
 -- ---- acts that are none of the session's own

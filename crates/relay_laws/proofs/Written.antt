@@ -14,8 +14,8 @@ use Rattle.relay_model.specs.Transfers.{due, backlog, is_spent}
 use Rattle.relay_model.specs.Moments.{passed}
 use Rattle.relay_model.specs.May.{Legal, BeginsWith, MayAsk, MayRead, MayOffer, MayWrite, MayShut}
 use Rattle.relay_model.specs.Laws.{uses_output}
-use Rattle.history_lemmas.proofs.Growth.{due_grows, due_nil}
-use Rattle.history_lemmas.proofs.Permitted.{writes_due, reads_in_room, reads_before_end, offers_before_end, shuts_before_end, shuts_when_spent, moved_to}
+use Rattle.relay_laws.proofs.Growth.{due_grows, due_nil}
+use Rattle.relay_laws.proofs.Permitted.{writes_due, reads_in_room, reads_before_end, offers_before_end, shuts_before_end, shuts_when_spent, moved_to}
 
 -- ---- written is due
 

@@ -1,3 +1,4 @@
+pub mod Births
 pub mod Examples
 pub mod Holdings
 pub mod Laws

@@ -1,6 +1,8 @@
-// Laws of legal histories, each as the contract of a function that does nothing: whoever calls it knows the law.
+// Laws of legal histories, each as the contract of a function that does nothing: whoever calls it knows the law. The
+// lemmas on lists of acts below them serve the proofs of the core too.
 #![tactic(auto)]
 
+mod births;
 mod doors;
 mod frames;
 mod histories;
@@ -8,6 +10,7 @@ mod packets;
 mod sleepers;
 mod waits;
 
+pub use births::{unbegun_is_unnamed, unbegun_is_untouched, untouched_is_new};
 pub use doors::{
     admitted_is_bounded, caused_begins_nothing, ended_stays_ended, live_is_bounded,
     program_door_tells, served_door_stays_closed, served_door_stays_served,

@@ -18,7 +18,7 @@ use Rattle.relay_model.specs.Calls.{call, door_cut, enough, full, program_door_c
 use Rattle.relay_model.specs.May.{MayOpen, Legal}
 use Rattle.relay_model.specs.Outcome.{Outcome, failed_opening, failed_listening}
 use Rattle.relay_model.specs.Outcome as outcomes
-use Rattle.history_lemmas.proofs.PlaceLemmas.{same_place_equal}
+use Rattle.relay_laws.proofs.PlaceLemmas.{same_place_equal}
 use Rattle.retry_plan.specs.Plans.{attempts_of}
 use Rattle.place_openings.specs.Attempts.{first_unopened, first_unlistened, CanCount, FirstCanCount}
 use Rattle.place_openings.proofs.Tries.{some_left}

@@ -38,11 +38,11 @@ use Rattle.relay_model.specs.Rest.{owed}
 use Rattle.relay_model.specs.May.{May, Legal, Licensed, by_cause, by_refusal, by_service, by_door, by_memory, by_turns}
 use Rattle.relay_model.specs.Laws.{DoorTells}
 use Rattle.relay_model.specs.Frames.{is_at, SameAt}
-use Rattle.history_lemmas.proofs.PlaceLemmas.{same_place_equal, same_place_self}
-use Rattle.history_lemmas.proofs.Admissions.{door_says, door_called}
-use Rattle.history_lemmas.proofs.OwnThings.{each_thing, among_own, door_own}
-use Rattle.history_lemmas.specs.Births.{is_named_by, works_at}
-use Rattle.history_lemmas.proofs.Untouched.{untouched, new, visited, unworked_there, Clean, clean, unwritten, unread, unasked_door}
+use Rattle.relay_laws.proofs.PlaceLemmas.{same_place_equal, same_place_self}
+use Rattle.relay_laws.proofs.Admissions.{door_says, door_called}
+use Rattle.relay_laws.proofs.OwnThings.{each_thing, among_own, door_own}
+use Rattle.relay_laws.specs.Births.{is_named_by, works_at}
+use Rattle.relay_laws.proofs.Untouched.{untouched, new, visited, unworked_there, Clean, clean, unwritten, unread, unasked_door}
 use Rattle.retry_plan.specs.Plans.{PlanIs}
 use Rattle.relay_buffer.specs.Flows.{IsFlow}
 use Rattle.session_direction.specs.States.{DirectionState}

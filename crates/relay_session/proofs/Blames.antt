@@ -23,7 +23,7 @@ use Rattle.relay_model.specs.Tries.{is_out_of_tries}
 use Rattle.relay_model.specs.Openings.{out_of_tries, ready}
 use Rattle.relay_model.specs.Cause.{cause, closed_why, is_end, accept_failed_for, listening_failed, opening_failed, fault_at, fault_stands, faulted, finished, each_formed, some_formed}
 use Rattle.relay_model.specs.May.{Legal, Licensed, by_cause, by_refusal, by_service, by_door, by_memory, by_turns}
-use Rattle.history_lemmas.proofs.PlaceLemmas.{same_place_equal}
+use Rattle.relay_laws.proofs.PlaceLemmas.{same_place_equal}
 use Rattle.relay_session.specs.Blames.{is_failure, is_failing, blames, is_blamed, is_blamed_for}
 use Rattle.relay_session.proofs.Causes.{own_session, no_program_door}
 use Rattle.relay_session.proofs.Held.{opened_own, listened_own, held_own}

@@ -16,7 +16,7 @@ use Rattle.relay_model.specs.Openings.{ready, first_call}
 use Rattle.relay_model.specs.Cause.{cause, closed_why, accept_failed_for, listening_failed, opening_failed, faulted, finished, each_formed, is_end}
 use Rattle.relay_model.specs.Calls.{call, called_at}
 use Rattle.relay_model.specs.May.{Licensed, by_cause, by_memory, by_turns}
-use Rattle.history_lemmas.proofs.OwnThings.{each_thing, among_own}
+use Rattle.relay_laws.proofs.OwnThings.{each_thing, among_own}
 use Rattle.relay_session.specs.Endings.{Quiet, cause_by_itself, Ends, EndingIs}
 
 -- the order of the causes by which a session ends by itself

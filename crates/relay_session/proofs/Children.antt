@@ -10,7 +10,7 @@ use Rattle.relay_model.specs.Places.{same_place}
 use Rattle.relay_model.specs.Choices.{only_if, or_else}
 use Rattle.relay_model.specs.Configs.{places, is_place_of, is_program, medium_of}
 use Rattle.relay_model.specs.History.{was_closed}
-use Rattle.history_lemmas.proofs.PlaceLemmas.{same_place_equal}
+use Rattle.relay_laws.proofs.PlaceLemmas.{same_place_equal}
 use Rattle.place_openings.specs.OpeningState.{OpeningState}
 use Rattle.place_openings.specs.Queries.{first_of, child_by}
 use Rattle.place_openings.specs.Stands.{IsOpening, Each}

@@ -15,8 +15,8 @@ use Rattle.relay_model.specs.Openings.{Nothing, first_call}
 use Rattle.relay_model.specs.Cause.{cause}
 use Rattle.relay_model.specs.Calls.{call}
 use Rattle.relay_model.specs.Rest.{is_going}
-use Rattle.history_lemmas.proofs.PlaceLemmas.{same_place_equal}
-use Rattle.history_lemmas.proofs.Holdings.{input_passes, output_passes, moves_formed}
+use Rattle.relay_laws.proofs.PlaceLemmas.{same_place_equal}
+use Rattle.relay_laws.proofs.Holdings.{input_passes, output_passes, moves_formed}
 use Rattle.session_direction.proofs.Wanted.{waits_is}
 use Rattle.relay_session.specs.declared.lanes.Lane.{Lane}
 use Rattle.relay_session.specs.declared.lanes.Lane.TheVariants.{Unformed, Formed}

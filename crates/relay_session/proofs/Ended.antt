@@ -21,7 +21,7 @@ use Rattle.relay_model.specs.Outcome as outcomes
 use Rattle.relay_model.specs.Outcome.{Outcome, outcome, outcome_by, holds_something, first_fault, failed_listening, failed_opening}
 use Rattle.relay_model.specs.Rest.{is_going, Rest}
 use Rattle.relay_model.specs.May.{Legal, MayOpen, MayAccept, Licensed, by_cause, by_refusal, by_service, by_door, by_memory, by_turns}
-use Rattle.history_lemmas.proofs.Holdings.{moves_running}
+use Rattle.relay_laws.proofs.Holdings.{moves_running}
 use Rattle.relay_session.specs.Told.{told}
 use Rattle.relay_session.proofs.Own.{NamesOwn}
 use Rattle.relay_session.proofs.Causes.{own_session, no_program_door}

@@ -18,8 +18,8 @@ use Rattle.relay_model.specs.Calls.{call, called_at}
 use Rattle.relay_model.specs.Outcome.{holds_something}
 use Rattle.relay_model.specs.Rest.{owed}
 use Rattle.relay_model.specs.May.{Legal, MayOpen}
-use Rattle.history_lemmas.proofs.PlaceLemmas.{same_place_equal}
-use Rattle.history_lemmas.proofs.Begun.{none_of_things}
+use Rattle.relay_laws.proofs.PlaceLemmas.{same_place_equal}
+use Rattle.relay_laws.proofs.Begun.{none_of_things}
 use Rattle.relay_session.proofs.Own.{OwnPlace, OwnDoor, NamesOwn, names_own}
 use Rattle.relay_session.proofs.Causes.{own_session, called_of}
 

@@ -25,7 +25,7 @@ use Rattle.relay_model.specs.Openings.{Call, Nothing, TryAt, Open, Settle, Liste
 use Rattle.relay_model.specs.Cause.{cause}
 use Rattle.relay_model.specs.Calls.{call, called_at, door_call}
 use Rattle.relay_model.specs.Frames.{is_at, is_turn}
-use Rattle.history_lemmas.proofs.Elsewhere.{elsewhere}
+use Rattle.relay_laws.proofs.Elsewhere.{elsewhere}
 use Rattle.relay_session.specs.States.{home}
 
 -- ---- a session that holds its home lives

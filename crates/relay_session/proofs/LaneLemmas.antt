@@ -13,12 +13,12 @@ use Rattle.relay_model.specs.Moments.{passed, broken}
 use Rattle.relay_model.specs.Cause.{running}
 use Rattle.relay_model.specs.Rest.{goes, is_going}
 use Rattle.relay_model.specs.May.{MayRead, MayTryWrite, MayOffer, MayShut}
-use Rattle.history_lemmas.proofs.PlaceLemmas.{same_place_equal}
+use Rattle.relay_laws.proofs.PlaceLemmas.{same_place_equal}
 use Rattle.std.proofs.lemmas.Bool.{and_parts}
 use Rattle.session_direction.specs.Directions.{IsDirection, WantsRead, WantsWrite}
 use Rattle.session_direction.specs.States.{DirectionState, can_read, can_write}
 use Rattle.relay_model.specs.declared.acts.Act.TheVariants as acts
-use Rattle.history_lemmas.proofs.Holdings.{moves_formed}
+use Rattle.relay_laws.proofs.Holdings.{moves_formed}
 use Rattle.std.proofs.lemmas.Bool.{false≢true}
 use Rattle.session_direction.specs.Directions.{WantsNothing}
 use Rattle.session_direction.specs.States.{steps_in}

@@ -16,7 +16,7 @@ use Rattle.relay_model.specs.Arming.{armed_to_accept}
 use Rattle.relay_model.specs.Sessions.{permits}
 use Rattle.relay_model.specs.Tries.{next_due}
 use Rattle.relay_model.specs.Openings.{Call, Nothing, TryAt, Open, Settle, Listen, Accept, Refuse, Serve, out_of_tries, when_due, try_again, is_ready, opening_call, listening_call, peer_call, place_call, first_call}
-use Rattle.history_lemmas.proofs.PlaceLemmas.{same_place_self}
+use Rattle.relay_laws.proofs.PlaceLemmas.{same_place_self}
 
 -- a place of the session
 pub record OwnPlace (c : Config) (s : ℕ) (p : Place) : Type 0 where

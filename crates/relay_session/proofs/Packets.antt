@@ -18,9 +18,9 @@ use Rattle.relay_model.specs.Conversions.{read_converted, write_converted, first
 use Rattle.relay_model.specs.History.{got, put}
 use Rattle.relay_model.specs.Transfers.{due, backlog}
 use Rattle.relay_model.specs.May.{Legal, MayRead}
-use Rattle.history_lemmas.proofs.PlaceLemmas.{same_place_equal}
-use Rattle.history_lemmas.proofs.Growth.{Grows, same, grows_take, grows_before, grown, due_of_grows, due_nil}
-use Rattle.history_lemmas.proofs.Holdings.{moves_formed}
+use Rattle.relay_laws.proofs.PlaceLemmas.{same_place_equal}
+use Rattle.relay_laws.proofs.Growth.{Grows, same, grows_take, grows_before, grown, due_of_grows, due_nil}
+use Rattle.relay_laws.proofs.Holdings.{moves_formed}
 use Rattle.session_direction.proofs.Wanted.{packets_are}
 use Rattle.relay_session.specs.declared.lanes.Lane.{Lane}
 use Rattle.relay_session.specs.declared.lanes.Lane.TheVariants.{Unformed, Formed}

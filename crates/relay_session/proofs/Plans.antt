@@ -19,7 +19,7 @@ use Rattle.relay_model.specs.Calls.{call}
 use Rattle.relay_model.specs.Rest.{timer_moment}
 use Rattle.relay_model.specs.Laws.{Tells}
 use Rattle.relay_model.specs.May.{by_refusal, by_service}
-use Rattle.history_lemmas.proofs.CallLemmas.{call_tells}
+use Rattle.relay_laws.proofs.CallLemmas.{call_tells}
 use Rattle.session_direction.specs.Directions.{WantsNothing}
 use Rattle.relay_session.specs.declared.states.State.{State}
 use Rattle.relay_session.specs.declared.wishes.Wish.{Wish}

@@ -25,11 +25,11 @@ use Rattle.relay_model.specs.Cause.{cause, closed_why, is_end, accept_failed_for
 use Rattle.relay_model.specs.Calls.{call, called_at, door_call}
 use Rattle.relay_model.specs.Rest.{is_going, Rest, SessionRests, until_of}
 use Rattle.relay_model.specs.Laws.{Tells, DoorTells}
-use Rattle.history_lemmas.proofs.Admissions.{door_says}
+use Rattle.relay_laws.proofs.Admissions.{door_says}
 use Rattle.relay_model.specs.May.{Legal, Licensed, by_cause, by_refusal, by_service, by_door, by_memory, by_turns, MayOpen}
-use Rattle.history_lemmas.proofs.PlaceLemmas.{same_place_equal}
-use Rattle.history_lemmas.proofs.CallLemmas.{call_tells}
-use Rattle.history_lemmas.proofs.Holdings.{input_passes, moves_formed, moves_running, running_ready, standing_held}
+use Rattle.relay_laws.proofs.PlaceLemmas.{same_place_equal}
+use Rattle.relay_laws.proofs.CallLemmas.{call_tells}
+use Rattle.relay_laws.proofs.Holdings.{input_passes, moves_formed, moves_running, running_ready, standing_held}
 use Rattle.relay_session.specs.declared.states.State.{State}
 use Rattle.relay_session.specs.declared.wishes.Wish.{Wish}
 use Rattle.relay_session.specs.declared.wishes.Wish.TheVariants as wishes

@@ -12,8 +12,8 @@ use Rattle.relay_model.specs.History.{now, Stage, Untried, Usable, Unsettled, Fa
 use Rattle.relay_model.specs.Openings.{is_ready, stands_ready}
 use Rattle.relay_model.specs.Rest.{is_going}
 use Rattle.relay_model.specs.May.{Legal}
-use Rattle.history_lemmas.proofs.PlaceLemmas.{same_place_equal}
-use Rattle.history_lemmas.proofs.Holdings.{output_passes, moves_formed, moves_running, running_ready}
+use Rattle.relay_laws.proofs.PlaceLemmas.{same_place_equal}
+use Rattle.relay_laws.proofs.Holdings.{output_passes, moves_formed, moves_running, running_ready}
 use Rattle.relay_session.specs.Standings.{StandsFor}
 
 -- an act that sets the stage of its own thing

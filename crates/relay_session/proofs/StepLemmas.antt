@@ -26,8 +26,8 @@ use Rattle.relay_model.specs.Calls.{call, called_at}
 use Rattle.relay_model.specs.Rest.{owed, Rest}
 use Rattle.place_openings.specs.Touching.{touches}
 use Rattle.relay_model.specs.May.{May, MayWrite, MayRead, MayTryWrite, MayOffer}
-use Rattle.history_lemmas.proofs.PlaceLemmas.{same_place_equal}
-use Rattle.history_lemmas.proofs.Holdings.{moves_formed, input_passes, output_passes}
+use Rattle.relay_laws.proofs.PlaceLemmas.{same_place_equal}
+use Rattle.relay_laws.proofs.Holdings.{moves_formed, input_passes, output_passes}
 use Rattle.place_openings.specs.Stands.{AreOpenings}
 use Rattle.place_openings.specs.Steps.{steps_in}
 use Rattle.session_direction.specs.Directions.{listed}

@@ -19,8 +19,8 @@ use Rattle.relay_model.specs.Calls.{door_call}
 use Rattle.relay_model.specs.Outcome.{Outcome, Memory, Stopped, AcceptFailed, outcome, outcome_by, outcome_of_sessions, program_doors, failed_listening, holds_something}
 use Rattle.relay_model.specs.Rest.{presses, accepts, session_work, session_moment, door_moment, try_moment, AcceptTried, SessionRests, DoorRests, Rest, until_of}
 use Rattle.relay_model.specs.May.{Legal}
-use Rattle.history_lemmas.proofs.Resting.{rest_of_parts}
-use Rattle.history_lemmas.proofs.Resting.{silent as idles}
+use Rattle.relay_laws.proofs.RestLemmas.{rest_of_parts}
+use Rattle.relay_laws.proofs.RestLemmas.{silent as idles}
 use Rattle.relay_session.specs.Endings.{Quiet}
 use Rattle.relay_session.specs.Timers.{session_until}
 use Rattle.relay_session.proofs.TimerLemmas.{earlier_none}

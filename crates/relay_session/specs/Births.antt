@@ -10,7 +10,7 @@ use Rattle.relay_model.specs.Sessions.{admitted, next_place, permits}
 use Rattle.relay_model.specs.Openings.{Accept}
 use Rattle.relay_model.specs.Calls.{door_call}
 use Rattle.relay_model.specs.May.{Legal}
-use Rattle.history_lemmas.specs.Births.{is_named_by}
+use Rattle.relay_laws.specs.Births.{is_named_by}
 use Rattle.place_openings.specs.Stands.{AreOpenings}
 use Rattle.place_openings.specs.Steps.{has_asked}
 use Rattle.relay_session.specs.declared.states.State.{State}

@@ -11,6 +11,7 @@ use crossbeam_queue::protocol::{Join, Lesson};
 use relay_model::NoMemory;
 use std::alloc::Global;
 use std::hint;
+use std::marker::Model;
 use std::sync::atomic::{AtomicU64, Ordering};
 use std::sync::{Arc, Wait};
 
@@ -199,14 +200,26 @@ impl<B: Item + Drop> Lines<B> {
 }
 
 /// A port's hold on its thread. The thread begins when it is told to, and comes to its end soon after the hold was let
-/// go.
+/// go. Clauses see whether it was told to begin.
 pub struct Hold<B: Item + Drop> {
     lines: Arc<Lines<B>, Global>,
+    begun: bool,
+}
+
+impl<B: Item + Drop> Model for Hold<B> {
+    ghost use Rattle.std.specs.Prelude.{Bool};
+
+    ghost Value = { Bool };
+
+    ghost view = { λ hold. hold.begun };
 }
 
 impl<B: Item + Drop> Hold<B> {
     /// Lets the thread begin.
-    pub fn begin(&self) {
+    pub fn begin(&mut self)
+        ensures { self.new ≡ true }
+    {
+        self.begun = true;
         self.lines.state.set(BEGUN);
         self.lines.thread.ring();
     }
@@ -214,7 +227,7 @@ impl<B: Item + Drop> Hold<B> {
 
 impl<B: Item + Drop> Drop for Hold<B> {
     fn drop(self) {
-        let Hold { lines } = self;
+        let Hold { lines, begun: _ } = self;
         lines.state.set(GONE);
         lines.thread.ring();
     }
@@ -250,6 +263,7 @@ pub struct Ends<B: Item + Drop> {
 pub fn make_lines<B: Item + Drop>(alloc: Global, back_room: usize) -> Result<Ends<B>, NoMemory>
     requires { 0 < back_room }
     ensures same { IfOk result (λ ends. ends.thread.value ≡ ends.port.value) }
+    ensures unbegun { IfOk result (λ ends. ends.hold ≡ false) }
     ensures rooms { IfOk result (λ ends. (ruled_capacity ends.port.value.items ≡ 64) × (ruled_capacity ends.port.value.back ≡ back_room)) }
     ensures items { IfOk result
         (λ ends. IsPassOf ends.port.value.items ends.sending.items × IsPassOf ends.port.value.items ends.taking.items) }
@@ -267,6 +281,7 @@ pub fn make_lines<B: Item + Drop>(alloc: Global, back_room: usize) -> Result<End
     let thread = Arc::try_clone(&port)?;
     let hold = Hold {
         lines: Arc::try_clone(&port)?,
+        begun: false,
     };
     let sending = SendingSide {
         items: sender,

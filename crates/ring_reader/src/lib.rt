@@ -2,6 +2,7 @@
 // never waits for it.
 #![tactic(auto)]
 
+mod gate;
 mod held;
 mod reader;
 mod reader_port;

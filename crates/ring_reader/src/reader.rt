@@ -50,6 +50,7 @@ where
 
     ghost Value = { ReaderState };
 
+    ghost use Rattle.std.specs.Prelude.{◌≡◌};
     ghost use Rattle.ring_reader.specs.Readers.{IsReading, is_begun, is_refused, behind_of};
 
     ghost view = { λ r. record {
@@ -67,7 +68,7 @@ where
 
     ghost invariant = { λ r. IsPassOf r.lines.value.items r.items × IsPassOf r.lines.value.back r.words
         × IsReading S.left S.faults S.ends r.lines.value r.start.value (known r.items) (known
-        r.words) r.held r.marked r.ended r.tally.misuses r.tally.counts r.stage };
+        r.words) r.held r.marked r.ended r.tally.misuses r.tally.counts r.stage × (r.hold ≡ is_begun r.stage) };
 }
 
 impl<S, R> RingReader<S, R>

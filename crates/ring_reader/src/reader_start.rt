@@ -35,21 +35,21 @@ where
     R: Wait + Copy + Send + 'static,
     W: Wake + Send + Drop + 'static,
     requires queues { IsPassOf feeder.lines.value.items feeder.items × IsPassOf feeder.lines.value.back feeder.words }
-    requires works { Works (S.left feeder.source) (S.left feeder.source) (S.faults feeder.source) (S.faults feeder.source)
-        (S.ends feeder.source) (S.ends feeder.source) feeder.count 0 (view feeder.items) (view feeder.words) }
+    requires works { Works (S.left feeder.source.source) (S.left feeder.source.source) (S.faults feeder.source.source) (S.faults feeder.source.source)
+        (S.ends feeder.source.source) (S.ends feeder.source.source) feeder.count 0 (view feeder.items) (view feeder.words) }
     ensures grows { P.faults spawner.old ≤ P.faults spawner.new }
-    ensures started { IfSome result (WillFeed S.left S.faults S.ends feeder.lines.value feeder.source) }
+    ensures started { IfSome result (WillFeed S.left S.faults S.ends feeder.lines.value feeder.source.source) }
     ensures refused { result ≡ None → Rose (P.faults spawner.old) (P.faults spawner.new) }
 {
     let promise = FeedPromise {
         lines: Snapshot::of(&*feeder.lines),
-        source: Snapshot::of(&feeder.source),
+        source: feeder.source.snapshot(),
     };
     let work = move || -> Ending<Fed<S>>
         requires queues { IsPassOf feeder.lines.value.items feeder.items × IsPassOf feeder.lines.value.back feeder.words }
-        requires works { Works (S.left feeder.source) (S.left feeder.source) (S.faults feeder.source) (S.faults feeder.source)
-            (S.ends feeder.source) (S.ends feeder.source) feeder.count 0 (view feeder.items) (view feeder.words) }
-        ensures { OnDone (FedBy S.left S.faults S.ends feeder.lines.value feeder.source) result }
+        requires works { Works (S.left feeder.source.source) (S.left feeder.source.source) (S.faults feeder.source.source) (S.faults feeder.source.source)
+            (S.ends feeder.source.source) (S.ends feeder.source.source) feeder.count 0 (view feeder.items) (view feeder.words) }
+        ensures { OnDone (FedBy S.left S.faults S.ends feeder.lines.value feeder.source.source) result }
     { feeder.run() };
     match spawner.start(promise, work) {
         Ok(task) => Some(task),

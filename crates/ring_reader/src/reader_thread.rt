@@ -8,6 +8,7 @@ ghost use Rattle.ring_queue.specs.Endings.{OnDone};
 ghost use Rattle.ring_reader.specs.Feeding.{Works, EndsMarked, SendsLost, OnTurned, ahead_after};
 ghost use Rattle.ring_reader.specs.Starting.{FedBy};
 
+use crate::gate::Gate;
 use port_trait::{Source, SourceGot, Wake};
 use relay_model::NoMemory;
 use ring_queue::{
@@ -39,7 +40,7 @@ impl Block {
 pub(crate) struct Feeder<S, W, R> {
     pub(crate) rt: R,
     pub(crate) lines: Arc<Lines<Word>, Global>,
-    pub(crate) source: S,
+    pub(crate) source: Gate<S>,
     pub(crate) wake: W,
     pub(crate) items: OrderedPass<RingItem>,
     pub(crate) words: OrderedPass<Word>,
@@ -138,7 +139,7 @@ where
             ≡ record {
               rt = rt;
               lines = lines;
-              source = source;
+              source = record { source = source; begun = false };
               wake = wake;
               items = side.items;
               words = side.back;
@@ -150,7 +151,7 @@ where
         Feeder {
             rt,
             lines,
-            source,
+            source: Gate::new(source),
             wake,
             items: side.items,
             words: side.back,
@@ -163,19 +164,21 @@ where
     /// Reads once, and sends what came. `start` is the source as it was when the thread began.
     fn turn(&mut self, start: &Snapshot<S>) -> Turned
         requires queues { IsPassOf self.old.lines.value.items self.old.items × IsPassOf self.old.lines.value.back self.old.words }
-        requires works { Works (S.left start.now.value) (S.left self.old.source) (S.faults start.now.value)
-            (S.faults self.old.source) (S.ends start.now.value) (S.ends self.old.source) self.old.count 0
+        requires works { Works (S.left start.now.value) (S.left self.old.source.source) (S.faults start.now.value)
+            (S.faults self.old.source.source) (S.ends start.now.value) (S.ends self.old.source.source) self.old.count 0
             (view self.old.items) (view self.old.words) }
+        requires begun { self.old.source.begun ≡ true }
+        ensures begun { self.new.source.begun ≡ true }
         ensures kept { (self.new.lines.value ≡ self.old.lines.value) × (self.new.words ≡ self.old.words) }
         ensures queue { OnTurned result (λ _. IsSamePass self.old.items self.new.items) }
         ensures works { OnTurned result
-            (λ ahead. Works (S.left start.now.value) (S.left self.new.source) (S.faults start.now.value)
-            (S.faults self.new.source) (S.ends start.now.value) (S.ends self.new.source) self.new.count ahead
+            (λ ahead. Works (S.left start.now.value) (S.left self.new.source.source) (S.faults start.now.value)
+            (S.faults self.new.source.source) (S.ends start.now.value) (S.ends self.new.source.source) self.new.count ahead
             (view self.new.items) (view self.new.words)) }
         ensures lost { OnTurned result
-            (λ _. SendsLost (S.rest self.old.source) (S.rest self.new.source) (view self.old.items).sent
+            (λ _. SendsLost (S.rest self.old.source.source) (S.rest self.new.source.source) (view self.old.items).sent
             (view self.new.items).sent) }
-        ensures marked { result ≡ turns.Marked → EndsMarked (S.left self.new.source) (view self.new.items).sent }
+        ensures marked { result ≡ turns.Marked → EndsMarked (S.left self.new.source.source) (view self.new.items).sent }
     {
         if self.lines.state.is_gone() {
             return Turned::Gone;
@@ -217,15 +220,15 @@ where
     /// Waits for the word that a mark asks for. None where the port is gone.
     fn hear(&mut self, start: &Snapshot<S>) -> Option<Word>
         requires queues { IsPassOf self.old.lines.value.items self.old.items × IsPassOf self.old.lines.value.back self.old.words }
-        requires works { Works (S.left start.now.value) (S.left self.old.source) (S.faults start.now.value)
-            (S.faults self.old.source) (S.ends start.now.value) (S.ends self.old.source) self.old.count 1
+        requires works { Works (S.left start.now.value) (S.left self.old.source.source) (S.faults start.now.value)
+            (S.faults self.old.source.source) (S.ends start.now.value) (S.ends self.old.source.source) self.old.count 1
             (view self.old.items) (view self.old.words) }
         ensures kept { (self.new.lines.value ≡ self.old.lines.value) × (self.new.source ≡ self.old.source)
             × (self.new.items ≡ self.old.items) }
         ensures queue { IsSamePass self.old.words self.new.words }
         ensures works { IfSome result
-            (λ word. Works (S.left start.now.value) (S.left self.new.source) (S.faults start.now.value)
-            (S.faults self.new.source) (S.ends start.now.value) (S.ends self.new.source) self.new.count
+            (λ word. Works (S.left start.now.value) (S.left self.new.source.source) (S.faults start.now.value)
+            (S.faults self.new.source.source) (S.ends start.now.value) (S.ends self.new.source.source) self.new.count
             (ahead_after word) (view self.new.items) (view self.new.words)) }
     {
         receive(
@@ -240,25 +243,34 @@ where
     /// Waits until the port begins, and feeds it.
     pub(crate) fn run(self) -> Ending<Fed<S>>
         requires queues { IsPassOf self.lines.value.items self.items × IsPassOf self.lines.value.back self.words }
-        requires works { Works (S.left self.source) (S.left self.source) (S.faults self.source) (S.faults self.source)
-            (S.ends self.source) (S.ends self.source) self.count 0 (view self.items) (view self.words) }
-        ensures { OnDone (FedBy S.left S.faults S.ends self.lines.value self.source) result }
+        requires works { Works (S.left self.source.source) (S.left self.source.source) (S.faults self.source.source) (S.faults self.source.source)
+            (S.ends self.source.source) (S.ends self.source.source) self.count 0 (view self.items) (view self.words) }
+        ensures { OnDone (FedBy S.left S.faults S.ends self.lines.value self.source.source) result }
     {
-        let rt = self.rt;
-        if !self.lines.state.wait(&rt, &self.lines.thread) {
+        let mut feeder = self;
+        if !feeder.wait() {
             return Ending::GaveUp;
         }
-        self.feed()
+        feeder.feed()
+    }
+
+    /// Waits until the port begins. False where it is gone.
+    fn wait(&mut self) -> bool
+        ensures { self.new ≡ record self.old { source = record self.old.source { begun = result } } }
+    {
+        let rt = self.rt;
+        self.source.wait(&rt, &self.lines)
     }
 
     /// Reads to the next mark and beyond, as often as the port asks, until it says stop or is gone.
     fn feed(self) -> Ending<Fed<S>>
         requires queues { IsPassOf self.lines.value.items self.items × IsPassOf self.lines.value.back self.words }
-        requires works { Works (S.left self.source) (S.left self.source) (S.faults self.source) (S.faults self.source)
-            (S.ends self.source) (S.ends self.source) self.count 0 (view self.items) (view self.words) }
-        ensures { OnDone (FedBy S.left S.faults S.ends self.lines.value self.source) result }
+        requires works { Works (S.left self.source.source) (S.left self.source.source) (S.faults self.source.source) (S.faults self.source.source)
+            (S.ends self.source.source) (S.ends self.source.source) self.count 0 (view self.items) (view self.words) }
+        requires begun { self.source.begun ≡ true }
+        ensures { OnDone (FedBy S.left S.faults S.ends self.lines.value self.source.source) result }
     {
-        let start = Snapshot::of(&self.source);
+        let start = self.source.snapshot();
         let mut feeder = self;
         let rt = feeder.rt;
         for _ in rt.forever() {
@@ -276,7 +288,8 @@ where
     }
 
     fn end(self) -> Fed<S>
-        ensures { (result.source ≡ self.source) × (result.items ≡ self.items) × (result.words ≡ self.words) }
+        requires { self.source.begun ≡ true }
+        ensures { (result.source ≡ self.source.source) × (result.items ≡ self.items) × (result.words ≡ self.words) }
     {
         let Feeder {
             source,
@@ -285,7 +298,7 @@ where
             ..
         } = self;
         Fed {
-            source,
+            source: source.into_source(),
             items,
             words,
         }

@@ -3,11 +3,11 @@ ghost use Rattle.std.specs.Prelude.{◌≡◌, [], IfSome};
 
 use crate::files::{add_left, remove};
 use crate::gates::{GatedSource, Gates, NoWake, OpeningSink};
-use crate::settings::{Input, Output, Setting, System};
+use crate::servers::Server;
 use crate::systems::over_program_maker;
-use port_objects::{ListSpawner, MakeItem, MemMaker, MemPoller, MemPort, MemSink, Tap};
+use port_objects::{ListSpawner, MakeItem, MemMaker, MemPoller, MemPort, MemSink, MemSource, Tap};
 use port_trait::{Port, Sink, Source};
-use relay_model::{Bytes, NoMemory, Side, Text};
+use relay_model::{Bytes, NoMemory, Side, Text, Texts};
 use ring_reader::RingReader;
 use ring_writer::RingWriter;
 use std::alloc::Global;
@@ -18,7 +18,8 @@ use std::sync::Wait;
 use std::thread::Threads;
 use std::time::Clock;
 use worked_rows::{
-    Line, Look, ROOM, Ran, Row, RowFault, Run, Streams, carried_out, port_of, source_of,
+    Input, Line, Look, Output, ROOM, Ran, Row, RowFault, Run, Setting, Streams, System,
+    carried_out, port_of, source_of,
 };
 use world_trait::Recorder;
 
@@ -65,12 +66,63 @@ where
 {
     let file = trial.setting.file;
     remove(&trial.host, file);
-    let mut ran = match trial.setting.output {
-        Output::Memory => in_memory(trial)?,
-        Output::Ring(room) => behind_rings(trial, room)?,
+    let mut ran = match trial.setting.system {
+        System::Served => beside_server(trial)?,
+        _ => over_output(trial)?,
     };
     add_left(&trial.host, file, &mut ran)?;
     Ok(ran)
+}
+
+/// Runs them beside a server, whose address stands in place of the last word.
+fn beside_server<R>(trial: &Trial<'_, R>) -> Result<Ran, RowFault>
+where
+    R: Files + Net + Clock + Threads + Wait + Copy + Send + Drop + 'static,
+{
+    let Ok(server) = Server::start(&trial.rt, &trial.host) else {
+        return Err(RowFault::Memory);
+    };
+    let ran = over_words_to(trial, server.port());
+    server.join(&trial.rt, &trial.host);
+    ran
+}
+
+fn over_words_to<R>(trial: &Trial<'_, R>, port: u16) -> Result<Ran, RowFault>
+where
+    R: Files + Net + Clock + Threads + Wait + Copy + Send + Drop + 'static,
+{
+    let words = words_to(trial.run.alloc, trial.run.words, port)?;
+    let run = Run {
+        words: words.as_slice(),
+        ..trial.run
+    };
+    over_output(&Trial { run, ..*trial })
+}
+
+/// The words, with the address of this port in place of the last one.
+fn words_to(alloc: Global, words: &[Text], port: u16) -> Result<Texts, NoMemory> {
+    let others = match words {
+        [others @ .., _] => others,
+        [] => words,
+    };
+    let mut copies = Texts::new(alloc);
+    for word in others {
+        copies.push(word.copy()?)?;
+    }
+    let address = format!(in alloc; "TCP:127.0.0.1:{port}")?;
+    copies.push(Text::of(alloc, address.as_bytes())?)?;
+    Ok(copies)
+}
+
+/// Over the streams of the row.
+fn over_output<R>(trial: &Trial<'_, R>) -> Result<Ran, RowFault>
+where
+    R: Files + Net + Clock + Threads + Wait + Copy + Send + Drop + 'static,
+{
+    match trial.setting.output {
+        Output::Memory => in_memory(trial),
+        Output::Ring(room) => behind_rings(trial, room),
+    }
 }
 
 /// Over streams in memory.
@@ -89,12 +141,25 @@ fn behind_rings<R>(trial: &Trial<'_, R>, room: usize) -> Result<Ran, RowFault>
 where
     R: Files + Net + Clock + Threads + Wait + Copy + Send + Drop + 'static,
 {
-    let Gates { source, sink, end } = Gates::of(trial.run.alloc, trial.setting.input)?;
-    let source = GatedSource::new(source, source_of(trial.run.alloc, trial.script)?);
+    let source = source_of(trial.run.alloc, trial.script)?;
     let output = MemSink::new(trial.run.alloc, room)?;
+    behind_gates(trial, source, output)
+}
+
+/// Over a source and a sink with the gates of the row.
+fn behind_gates<R>(
+    trial: &Trial<'_, R>,
+    source: MemSource,
+    output: MemSink,
+) -> Result<Ran, RowFault>
+where
+    R: Files + Net + Clock + Threads + Wait + Copy + Send + Drop + 'static,
+{
     let tap = output.tap();
-    let ran = over_rings(trial, source, OpeningSink::new(sink, output), tap);
-    end.open();
+    let gates = Gates::of(trial.run.alloc, trial.setting.input)?;
+    let source = GatedSource::new(gates.source, source);
+    let ran = over_rings(trial, source, OpeningSink::new(gates.sink, output), tap);
+    gates.end.open();
     ran
 }
 
@@ -147,6 +212,19 @@ fn over_memory<R, I: Port, O: Port>(
     requires taken { IfSome (O.seen streams.stdout).took (λ all. all ≡ []) }
 {
     let made = port_of(trial.run.alloc, trial.script, Side::Right, ROOM)?;
+    over_made(trial.run, streams, tap, made)
+}
+
+/// Over a maker of this port.
+fn over_made<I: Port, O: Port>(
+    run: Run<'_>,
+    streams: Streams<I, O>,
+    tap: Tap,
+    made: MemPort,
+) -> Result<Ran, RowFault>
+    requires given { IfSome (I.seen streams.stdin).gave (λ all. all ≡ []) }
+    requires taken { IfSome (O.seen streams.stdout).took (λ all. all ≡ []) }
+{
     let looks = [
         Look {
             name: "stdout",
@@ -157,8 +235,10 @@ fn over_memory<R, I: Port, O: Port>(
             tap: made.tap(),
         },
     ];
-    let maker = maker_of(trial.run.alloc, made)?;
-    carried_out(trial.run, streams, maker, MemPoller::new(), &looks)
+    match maker_of(run.alloc, made) {
+        Ok(maker) => carried_out(run, streams, maker, MemPoller::new(), &looks),
+        Err(NoMemory) => Err(RowFault::Memory),
+    }
 }
 
 /// A maker of one port.

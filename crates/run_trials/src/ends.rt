@@ -1,7 +1,7 @@
 // A case of two ends on this machine: an address that listens, and one that connects.
 use crate::meetings::meet;
 use crate::servers::any_port;
-use crate::systems::{Watched, watched_maker};
+use crate::systems::{SystemPoller, system_poller, wake_of, watched_maker};
 use crate::talks::{Passing, talk};
 use crate::waits::Waits;
 use addr_grammar::{RawAddress, parse_address};
@@ -9,7 +9,7 @@ use addr_kinds::{Asked, resolve};
 use case_rows::{Answered, Answers, Inputs, RowFault};
 use mio::net::{TcpListener, UdpSocket};
 use port_trait::{Maker, Poller, Wake};
-use relay_model::Single;
+use relay_model::{NoMemory, Single};
 use std::alloc::Global;
 use std::fs::Files;
 use std::net::Net;
@@ -46,12 +46,27 @@ where
 {
     let pair = pair_of(&rt, alloc, part, inputs)?;
     let _ = fs::remove_file(&host, ENTRY);
-    let Watched {
-        maker,
-        poller,
-        wake,
-    } = watched_maker(rt, host, alloc)?;
-    tell(&pair, maker, Waits::new(alloc, poller), &wake, answers)
+    match system_poller(rt, alloc) {
+        Ok(poller) => talk_beside(rt, host, alloc, poller, &pair, answers),
+        Err(NoMemory) => Err(RowFault::NoMemory),
+    }
+}
+
+/// Has the two ends talk beside this poller.
+fn talk_beside<R>(
+    rt: R,
+    host: HostRuntime,
+    alloc: Global,
+    poller: SystemPoller<R>,
+    pair: &Pair,
+    answers: &mut Answers,
+) -> Answered
+where
+    R: Files + Net + Clock + Threads + Copy + Drop,
+{
+    let wake = wake_of(&poller)?;
+    let maker = watched_maker(rt, host, alloc, &poller)?;
+    tell(pair, maker, Waits::new(alloc, poller), &wake, answers)
 }
 
 /// Tells what comes of the talk, and before it whether a wake ended a wait.
@@ -65,10 +80,13 @@ fn tell<M: Maker + Drop, P: Poller + Drop, W: Wake>(
     let mut maker = maker;
     let mut waits = waits;
     wake.wake();
-    answers.word_if("woken", waits.wait(LONG)?)?;
+    answers.word_if("woken", waits.wait(LONG)?);
     match meet(&mut maker, &mut waits, pair)? {
         Some(mut ends) => talk(&mut ends, &mut waits, pair.passing, answers),
-        None => answers.word("unmet"),
+        None => {
+            answers.word("unmet");
+            Ok(())
+        }
     }
 }
 

@@ -1,7 +1,6 @@
 // A gate between two threads, a source that waits at it, and a sink that opens it.
 ghost use Rattle.std.specs.Prelude.{Some};
 
-use crate::settings::Input;
 use port_objects::{MemSink, MemSource};
 use port_trait::{Sink, SinkTook, Source, SourceGot, Wake};
 use relay_model::NoMemory;
@@ -9,6 +8,7 @@ use std::alloc::Global;
 use std::sync::Arc;
 use std::sync::atomic::{AtomicU64, Ordering};
 use std::thread;
+use worked_rows::Input;
 
 /// The byte that opens a gate.
 const KEY: u8 = b'r';

@@ -2,10 +2,9 @@
 ghost use Rattle.std.specs.Prelude.{◌≡◌, ◌≤◌};
 ghost use Rattle.port_trait.specs.Counting.{Counted};
 
-use crate::servers::Server;
 use port_trait::{KeyList, Polled, Poller};
 
-/// At which step of its server a run is stopped, if it is still there.
+/// At which poll a run beside a server is stopped, if it is still there.
 const LAST: u64 = 1_000;
 
 /// How many milliseconds a poll beside a server may wait.
@@ -32,26 +31,41 @@ impl<A: Poller, B: Poller, C: Poller> Waiter<A, B, C> {
     }
 }
 
-/// Waits as the poller of its row does. Beside a server it lets that go on before each wait, never waits for long, and says
-/// stop once the server has gone on for long enough.
+/// Waits as the poller of its row does. Beside a server it never waits for long, and says stop after many polls.
 #[derive(Drop)]
 pub(crate) struct RowPoller<A, B, C> {
     waiter: Waiter<A, B, C>,
-    server: Option<Server>,
+    beside_server: bool,
+    polls: u64,
     asked: Option<u64>,
     at: u64,
     stops: u64,
 }
 
 impl<A, B, C> RowPoller<A, B, C> {
-    pub(crate) fn new(waiter: Waiter<A, B, C>, server: Option<Server>) -> RowPoller<A, B, C> {
+    pub(crate) fn new(waiter: Waiter<A, B, C>, beside_server: bool) -> RowPoller<A, B, C> {
         RowPoller {
             waiter,
-            server,
+            beside_server,
+            polls: 0,
             asked: None,
             at: 0,
             stops: 0,
         }
+    }
+
+    /// Until when the next poll may wait where it is asked to wait until `until`.
+    fn moment(&self, until: Option<u64>) -> Option<u64> {
+        if !self.beside_server {
+            return until;
+        }
+        let soon = self.at.saturating_add(SOON);
+        Some(until.map_or(soon, |moment| moment.min(soon)))
+    }
+
+    /// Whether so many polls were made beside a server that the run is to stop.
+    fn is_late(&self) -> bool {
+        self.beside_server && self.polls >= LAST
     }
 }
 
@@ -63,25 +77,14 @@ impl<A: Poller, B: Poller, C: Poller> Poller for RowPoller<A, B, C> {
     ghost asked = { λ poller. poller.asked };
 
     fn poll(&mut self, until: Option<u64>, ready: &mut KeyList) -> Polled {
-        let (sooner, late) = serve(&mut self.server, self.at, until);
-        let polled = self.waiter.poll(sooner, ready);
-        let stop = late || polled.stop;
+        self.polls = self.polls.saturating_add(1);
+        let moment = self.moment(until);
+        let polled = self.waiter.poll(moment, ready);
+        let stop = polled.stop || self.is_late();
         self.asked = until;
         self.at = self.at.max(polled.at);
         self.stops = count_stop(self.stops, stop);
         Polled { at: self.at, stop }
-    }
-}
-
-/// Lets a server go on. Until when the next wait may last, and whether it is to say stop.
-fn serve(server: &mut Option<Server>, at: u64, until: Option<u64>) -> (Option<u64>, bool) {
-    match server {
-        Some(server) => {
-            let soon = at.saturating_add(SOON);
-            let sooner = until.map_or(soon, |moment| moment.min(soon));
-            (Some(sooner), server.step() >= LAST)
-        }
-        None => (until, false),
     }
 }
 

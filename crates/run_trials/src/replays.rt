@@ -3,22 +3,33 @@ ghost use Rattle.std.specs.Prelude.{◌≡◌, false};
 ghost use Rattle.relay_model.specs.declared.commands.Dump.TheVariants as dumps;
 ghost use Rattle.relay_model.specs.Configs.{Fit, has_fork};
 
-use crate::replies::{reply_of, tell_wish};
+use crate::relays::relay_of;
+use crate::replies::{reply_of, say_wish};
 use case_rows::{Answered, Answers, Inputs, RowFault, bytes_of};
-use cmd_words::{Command, command_of};
 use command_places::has_fork;
 use journal_text::write_journal;
-use relay_model::{Config, Dump, Text, Texts};
-use session_replay::{Reply, replay};
+use relay_model::{Config, Dump, NoMemory, Text, Texts};
+use session_replay::{Replayed, Reply, replay};
 use std::alloc::Global;
 
 pub(crate) fn ask(alloc: Global, inputs: &mut Inputs<'_>, answers: &mut Answers) -> Answered {
     let words = words_of(alloc, inputs)?;
-    let replies = replies_of(alloc, inputs)?;
-    match command_of(alloc, words.as_slice()) {
-        Ok(Command::Relay(config)) => tell(alloc, &config, replies.as_slice(), answers),
-        _ => Err(RowFault::NoRow),
+    match relay_of(alloc, words.as_slice()) {
+        Some(config) => ask_config(alloc, &config, inputs, answers),
+        None => Err(RowFault::NoRow),
     }
+}
+
+fn ask_config(
+    alloc: Global,
+    config: &Config,
+    inputs: &mut Inputs<'_>,
+    answers: &mut Answers,
+) -> Answered
+    requires { Fit config.now }
+{
+    let replies = replies_of(alloc, inputs)?;
+    tell(alloc, config, replies.as_slice(), answers)
 }
 
 /// The words of the command, up to `answers`.
@@ -56,9 +67,16 @@ fn tell(alloc: Global, config: &Config, replies: &[Reply], answers: &mut Answers
     if has_fork(config) || config.dump != Dump::Off {
         return Err(RowFault::NoRow);
     }
-    let replayed = replay(alloc, config, replies)?;
-    answers.number(replayed.taken)?;
-    tell_wish(&replayed.last, answers)?;
-    answers.bytes(replayed.offered.as_slice())?;
-    answers.bytes(write_journal(alloc, &replayed.journal)?.as_slice())
+    match replay(alloc, config, replies) {
+        Ok(replayed) => tell_replayed(alloc, &replayed, answers),
+        Err(NoMemory) => Err(RowFault::NoMemory),
+    }
+}
+
+fn tell_replayed(alloc: Global, replayed: &Replayed, answers: &mut Answers) -> Answered {
+    answers.number(replayed.taken);
+    say_wish(&replayed.last, answers);
+    answers.bytes(replayed.offered.as_slice());
+    answers.bytes(write_journal(alloc, &replayed.journal)?.as_slice());
+    Ok(())
 }

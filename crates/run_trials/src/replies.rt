@@ -1,5 +1,5 @@
 // Words of the rows that stand for answers and wishes.
-use case_rows::{Answered, Answers, RowFault, bytes_of, step_parts};
+use case_rows::{Answers, RowFault, bytes_of, step_parts};
 use relay_model::{Bytes, Peer, ReadyList};
 use relay_session::Wish;
 use session_replay::Reply;
@@ -33,7 +33,7 @@ fn turn_of(alloc: Global, value: &str, stop: bool) -> Result<Reply, RowFault> {
 }
 
 /// The wish by its name, a read with the most bytes and a sleep with its moment.
-pub(crate) fn tell_wish(wish: &Wish, answers: &mut Answers) -> Answered {
+pub(crate) fn say_wish(wish: &Wish, answers: &mut Answers) {
     let name = wish_name(wish);
     match wish {
         Wish::Read { at_most, .. } => answers.counted(name, *at_most as u64),

@@ -1,16 +1,16 @@
 // Runs over a scripted world.
 ghost use Rattle.std.specs.Prelude.{◌≡◌};
 ghost use Rattle.relay_model.specs.declared.places.Place.{Place as Spot};
+ghost use Rattle.relay_model.specs.Configs.{Fit};
 ghost use Rattle.relay_model.specs.Holding.{Free};
 
 use crate::looks::{Bound, Journaled, looks_seldom};
-use crate::scripts::world_of;
-use cmd_words::{Command, command_of};
+use crate::relays::relay_of;
 use exit_status::status;
-use relay_model::{Bytes, Text};
+use relay_model::{Bytes, Config, Text};
 use socat_top::{Saving, socat};
 use std::alloc::Global;
-use worked_rows::{Line, Ran, Row, RowFault, part};
+use worked_rows::{Line, Ran, Row, RowFault, part, world_of};
 
 /// Runs the words of the row, and again for each line that bounds its looks at sessions.
 pub(crate) fn run_scripted(
@@ -60,10 +60,22 @@ fn look_line(
     line: Line<'_>,
 ) -> Result<String, RowFault> {
     let bound = Bound::of(line)?;
-    let Ok(Command::Relay(config)) = command_of(alloc, words) else {
-        return Err(line.fault());
-    };
+    match relay_of(alloc, words) {
+        Some(config) => looks_text(alloc, row, &config, bound),
+        None => Err(line.fault()),
+    }
+}
+
+/// Whether a run of the command looks seldom enough, as rows ask for it.
+fn looks_text(
+    alloc: Global,
+    row: &Row<'_>,
+    config: &Config,
+    bound: Bound,
+) -> Result<String, RowFault>
+    requires { Fit config.now }
+{
     let mut world = world_of(alloc, row.script.as_slice())?;
-    let seldom = looks_seldom(alloc, &mut world, &config, row.turns, bound)?;
+    let seldom = looks_seldom(alloc, &mut world, config, row.turns, bound)?;
     Ok(String::from_str(alloc, if seldom { "looks few" } else { "looks many" })?)
 }

@@ -1,68 +1,66 @@
-// A server at the other end of a connection.
-use mio::net::{TcpListener, TcpStream};
-use std::io;
+// A server at the other end of a connection, in a thread of its own.
 use std::io::{Read, Write};
-use std::net::{IpAddr, Ipv4Addr, Net, SocketAddr};
+use std::net::{IpAddr, Ipv4Addr, SocketAddr, TcpListener, TcpStream};
+use std::rt::HostRuntime;
+use std::thread::{JoinHandle, Threads};
+use std::{io, thread};
 
-/// How many reads the server makes at a step.
-const READS: u32 = 100;
-
-/// Reads one connection to its end, answers `pong`, and closes it. None of its calls waits.
-#[derive(Drop)]
-pub(crate) struct Server {
-    listener: TcpListener,
-    stream: Option<TcpStream>,
-    port: u16,
-    steps: u64,
-}
+/// How many reads the server makes at most.
+const READS: u32 = 1_000;
 
 /// A free port of this machine, by which the system means the one that it chooses.
 pub(crate) fn any_port() -> SocketAddr {
     SocketAddr::new(IpAddr::V4(Ipv4Addr::LOCALHOST), 0)
 }
 
+/// A thread that reads one connection to its end, answers `pong` and closes it.
+pub(crate) struct Server {
+    at: SocketAddr,
+    thread: JoinHandle<()>,
+}
+
 impl Server {
     /// A server at a free port of this machine.
-    pub(crate) fn new<R: Net>(rt: &R) -> io::Result<Server> {
-        let listener = TcpListener::bind(rt, any_port())?;
-        let port = listener.local_addr()?.port();
-        Ok(Server {
-            listener,
-            stream: None,
-            port,
-            steps: 0,
-        })
+    pub(crate) fn start<R: Threads>(rt: &R, host: &HostRuntime) -> io::Result<Server> {
+        let listener = TcpListener::bind(host, any_port())?;
+        let at = listener.local_addr()?;
+        match thread::spawn(rt, move || serve(&listener)) {
+            Ok(thread) => Ok(Server { at, thread }),
+            Err(_) => Err(io::ErrorKind::OutOfMemory.into()),
+        }
     }
 
     pub(crate) fn port(&self) -> u16 {
-        self.port
+        self.at.port()
     }
 
-    /// Goes on as far as it can. How many steps these were.
-    pub(crate) fn step(&mut self) -> u64 {
-        self.steps = self.steps.saturating_add(1);
-        if self.stream.is_none() {
-            self.stream = self.listener.accept().ok().map(|(stream, _)| stream);
-        }
-        if let Some(stream) = &mut self.stream {
-            if has_ended(stream) {
-                let _ = stream.write(b"pong");
-                self.stream = None;
-            }
-        }
-        self.steps
+    /// Waits until its thread has ended. Where nobody came to it, this connection does.
+    pub(crate) fn join<R: Threads>(self, rt: &R, host: &HostRuntime) {
+        let Server { at, thread } = self;
+        let _ = TcpStream::connect(host, at);
+        thread.join(rt);
     }
 }
 
-/// Whether all was read that the other end says.
-fn has_ended(stream: &mut TcpStream) -> bool {
+/// Serves the first that comes.
+fn serve(listener: &TcpListener) {
+    if let Ok((stream, _)) = listener.accept() {
+        answer(stream);
+    }
+}
+
+/// Reads to the end, and answers.
+fn answer(stream: TcpStream) {
+    let mut stream = stream;
     let mut taken = [0u8; 64];
     for _ in 0..READS {
         match stream.read(&mut taken) {
-            Ok(0) => return true,
+            Ok(0) => {
+                let _ = stream.write_all(b"pong");
+                return;
+            }
             Ok(_) => {}
-            Err(_) => return false,
+            Err(_) => return,
         }
     }
-    false
 }

@@ -25,11 +25,13 @@ pub(crate) fn talk<Q: Port, P: Poller>(
     fall_silent(&mut ends.caller, passing);
     let first = tell(&mut ends.peer, waits, passing, answers)?;
     if !say(&mut ends.peer, waits, b"pong")? {
-        return answers.word("unsaid");
+        answers.word("unsaid");
+        return Ok(());
     }
     fall_silent(&mut ends.peer, passing);
     let second = tell(&mut ends.caller, waits, passing, answers)?;
-    answers.word_if("ended", first && second)
+    answers.word_if("ended", first && second);
+    Ok(())
 }
 
 /// Says that nothing more will come, where that can be said.
@@ -48,7 +50,7 @@ fn tell<Q: Port, P: Poller>(
 ) -> Result<bool, RowFault> {
     let mut heard = Vec::new(waits.alloc());
     let ended = hear(port, waits, passing, &mut heard)?;
-    answers.bytes(heard.as_slice())?;
+    answers.bytes(heard.as_slice());
     Ok(ended)
 }
 

@@ -21,7 +21,7 @@ use Rattle.relay_model.specs.History.{now, got, put, sent, met_end, met_empty, s
 use Rattle.relay_model.specs.Arming.{Arming, Disarmed, Armed, AtEnd, read_arming, armed_to_write, asked_to_read, asked_to_write}
 use Rattle.relay_model.specs.Transfers.{due, due_pieces, is_empty, over}
 use Rattle.relay_model.specs.Moments.{passed, broken}
-use Rattle.history_lemmas.proofs.PlaceLemmas.{same_place_self}
+use Rattle.relay_laws.proofs.PlaceLemmas.{same_place_self}
 use Rattle.relay_buffer.specs.Flows.{Flowing, IsFlow, room_in, over_in, at_most, most_at_once, taken}
 use Rattle.session_direction.specs.States.{DirectionState}
 use Rattle.session_direction.specs.Directions.{IsDirection, IsSpent, as_pieces, listed, met_last, terms_of}

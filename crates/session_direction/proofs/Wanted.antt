@@ -19,8 +19,8 @@ use Rattle.relay_model.specs.Transfers.{due, due_pieces, over, backlog, greatest
 use Rattle.relay_model.specs.Moments.{passed, broken}
 use Rattle.relay_model.specs.May.{BeginsWith, KeepsBorders, MayAsk, MayRead, MayOffer, MayWrite, MayTryWrite, MayShut}
 use Rattle.relay_model.specs.Rest.{is_going, owes_write, must_pass, way_work}
-use Rattle.history_lemmas.proofs.PlaceLemmas.{same_place_self}
-use Rattle.history_lemmas.proofs.Permitted.{shuts_when_spent}
+use Rattle.relay_laws.proofs.PlaceLemmas.{same_place_self}
+use Rattle.relay_laws.proofs.Permitted.{shuts_when_spent}
 use Rattle.relay_buffer.specs.declared.lanes.Lane.{Lane}
 use Rattle.relay_buffer.specs.Flows.{room_of, size_by, waiting}
 use Rattle.session_direction.specs.States.{DirectionState}

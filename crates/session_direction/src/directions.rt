@@ -95,7 +95,25 @@ impl Model for Direction {
 
     ghost Value = { DirectionState };
 
-    ghost view = { λ d. record { source = d.source; sink = d.sink; ignores_end = d.ignores_end; ends_at_empty = d.ends_at_empty; sloppy = d.sloppy; how = d.how; gathers = d.gathers; flow = d.flow; arming = as_arming d.arming; armed_out = d.armed_out; asked_in = d.asked_in; asked_out = d.asked_out; grant = d.grant; extra = d.extra; ended = d.ended; passed_at = d.passed_at; broken_at = d.broken_at } };
+    ghost view = { λ d. record {
+      source = d.source;
+      sink = d.sink;
+      ignores_end = d.ignores_end;
+      ends_at_empty = d.ends_at_empty;
+      sloppy = d.sloppy;
+      how = d.how;
+      gathers = d.gathers;
+      flow = d.flow;
+      arming = as_arming d.arming;
+      armed_out = d.armed_out;
+      asked_in = d.asked_in;
+      asked_out = d.asked_out;
+      grant = d.grant;
+      extra = d.extra;
+      ended = d.ended;
+      passed_at = d.passed_at;
+      broken_at = d.broken_at;
+    } };
 
     ghost invariant = { λ d. d.flow.lane ≡ d.terms };
 }

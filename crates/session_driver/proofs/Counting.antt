@@ -16,7 +16,7 @@ use Rattle.relay_model.specs.Dumps.{dump_of}
 use Rattle.relay_model.specs.History.{got}
 use Rattle.relay_model.specs.Rest.{owed}
 use Rattle.relay_model.specs.Frames.{reads_bytes}
-use Rattle.history_lemmas.proofs.PlaceLemmas.{same_place_equal, same_place_self}
+use Rattle.relay_laws.proofs.PlaceLemmas.{same_place_equal, same_place_self}
 use Rattle.relay_session.specs.declared.sessions.Session.{Session}
 use Rattle.relay_session.specs.Sessions.{Stands}
 use Rattle.world_trait.specs.Seen.{Seen}

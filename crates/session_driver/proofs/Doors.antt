@@ -14,7 +14,7 @@ use Rattle.relay_model.specs.History.{held}
 use Rattle.relay_model.specs.Configs.{has_fork, is_left, is_program_door, program_door}
 use Rattle.relay_model.specs.Sessions.{admitted, is_admission, next_place, permits}
 use Rattle.relay_model.specs.Frames.{is_at, IsForeign}
-use Rattle.history_lemmas.proofs.PlaceLemmas.{same_place_equal}
+use Rattle.relay_laws.proofs.PlaceLemmas.{same_place_equal}
 use Rattle.program_door.specs.declared.doors.Door.{Door}
 use Rattle.program_door.specs.declared.wishes.DoorWish.{DoorWish}
 use Rattle.program_door.specs.declared.wishes.DoorWish.TheVariants as wishes

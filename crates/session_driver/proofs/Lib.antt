@@ -3,3 +3,4 @@ pub mod Doors
 pub mod Hearing
 pub mod Noting
 pub mod Owning
+pub mod Sizes

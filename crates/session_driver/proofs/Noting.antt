@@ -22,7 +22,7 @@ use Rattle.relay_session.specs.declared.wishes.Wish.TheVariants as wishes
 use Rattle.relay_session.specs.States.{Allowed, ClosesFor}
 use Rattle.relay_session.specs.Sessions.{Stands, wish_of, left_of, ending_of, has_ended}
 use Rattle.relay_session.specs.Endings.{EndingIs}
-use Rattle.history_lemmas.proofs.Holdings.{standing_held}
+use Rattle.relay_laws.proofs.Holdings.{standing_held}
 use Rattle.relay_session.proofs.Held.{among}
 use Rattle.relay_session.proofs.Possible.{child_over}
 use Rattle.world_trait.specs.Seen.{Seen}

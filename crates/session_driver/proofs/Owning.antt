@@ -11,8 +11,8 @@ use Rattle.relay_model.specs.Openings.{Nothing, first_call}
 use Rattle.relay_model.specs.Openings as calls
 use Rattle.relay_model.specs.Cause.{cause}
 use Rattle.relay_model.specs.Calls.{call}
-use Rattle.history_lemmas.proofs.PlaceLemmas.{same_place_equal}
-use Rattle.history_lemmas.proofs.OwnThings.{among_own, each_thing, input_own, output_own}
+use Rattle.relay_laws.proofs.PlaceLemmas.{same_place_equal}
+use Rattle.relay_laws.proofs.OwnThings.{among_own, each_thing, input_own, output_own}
 use Rattle.relay_session.specs.declared.sessions.Session.{Session}
 use Rattle.relay_session.specs.declared.wishes.Wish.{Wish}
 use Rattle.relay_session.specs.declared.wishes.Wish.TheVariants as wishes

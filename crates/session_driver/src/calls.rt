@@ -145,7 +145,7 @@ pub fn accept<W: World>(
     }
 }
 
-/// Reads at most so many bytes.
+/// Asks for so many bytes, which are read into the front of the scratch.
 pub fn read<W: World>(
     session: &mut Session,
     world: &mut W,
@@ -158,20 +158,19 @@ pub fn read<W: World>(
     requires open { is_open ((W.seen world.old).held place) ≡ true }
     requires some { 0 < at_most }
     requires own { IsOwn config.now session.old place }
-    requires scratch { 0 < length scratch.old }
+    requires within { at_most ≤ length scratch.old }
     requires going { has_ended session.old ≡ false }
     ensures step { StepIs config.now (W.seen world.old) (W.seen world.new) session.old session.new result }
     ensures scratch { length scratch.new ≡ length scratch.old }
 {
-    let most = at_most.min(scratch.len());
-    let into = &mut scratch[..most];
+    let into = &mut scratch[..at_most];
     match fetch(session, world, config, into, place, at_most) {
         Fetched::Bytes(_) => Stepped::Acted,
         Fetched::Other(stepped) => stepped,
     }
 }
 
-/// Reads into the front of `into`, and tells how many bytes came.
+/// Asks for as many bytes as `into` has room for, which are those of the wish, and tells how many came.
 pub fn fetch<W: World>(
     session: &mut Session,
     world: &mut W,
@@ -184,7 +183,7 @@ pub fn fetch<W: World>(
     requires open { is_open ((W.seen world.old).held place) ≡ true }
     requires own { IsOwn config.now session.old place }
     requires some { 0 < length into.old }
-    requires room { length into.old ≤ at_most }
+    requires wished { length into.old ≡ at_most }
     requires going { has_ended session.old ≡ false }
     ensures step { FetchIs config.now (W.seen world.old) (W.seen world.new) session.old session.new place into.new result }
     ensures into { length into.new ≡ length into.old }

@@ -26,7 +26,7 @@ pub fn step_noted<W: World>(
     scratch: &mut [u8],
     dumper: &mut Dumper,
 ) -> Stepped
-    requires scratch { 0 < length scratch.old }
+    requires block { config.now.block ≤ length scratch.old }
     requires meets { MeetsUnowed config.now (W.seen world.old) session.old }
     ensures step { NotedStep config.now (W.seen world.old) (W.seen world.new) session.old session.new dumper.old dumper.new result }
     ensures scratch { length scratch.new ≡ length scratch.old }
@@ -50,7 +50,7 @@ pub fn step_owing<W: World>(
     scratch: &mut [u8],
     dumper: &mut Dumper,
 ) -> Option<Stepped>
-    requires scratch { 0 < length scratch.old }
+    requires block { config.now.block ≤ length scratch.old }
     requires meets { MeetsUnowed config.now (W.seen world.old) session.old }
     ensures step { OwingStep config.now (W.seen world.old) (W.seen world.new) session.old session.new dumper.old dumper.new result }
     ensures scratch { length scratch.new ≡ length scratch.old }
@@ -70,22 +70,21 @@ fn step_dumped<W: World>(
     dumper: &mut Dumper,
 ) -> Option<Stepped>
     requires dumped { config.now.dump ≢ Dump.Off }
-    requires scratch { 0 < length scratch.old }
+    requires block { config.now.block ≤ length scratch.old }
     requires meets { MeetsUnowed config.now (W.seen world.old) session.old }
     ensures step { OwingStep config.now (W.seen world.old) (W.seen world.new) session.old session.new dumper.old dumper.new result }
     ensures scratch { length scratch.new ≡ length scratch.old }
 {
     match session.wish() {
         Wish::Read { place, at_most } => {
-            let most = at_most.min(scratch.len());
-            let into = &mut scratch[..most];
+            let into = &mut scratch[..at_most];
             read_noted(session, world, config, into, dumper, place, at_most)
         }
         _ => Some(step(session, world, config, scratch)),
     }
 }
 
-/// Reads at most so many bytes, and notes them.
+/// Asks for so many bytes, and notes those that come.
 fn read_noted<W: World>(
     session: &mut Session,
     world: &mut W,
@@ -100,7 +99,7 @@ fn read_noted<W: World>(
     requires open { is_open ((W.seen world.old).held place) ≡ true }
     requires own { IsOwn config.now session.old place }
     requires some { 0 < length into.old }
-    requires room { length into.old ≤ at_most }
+    requires wished { length into.old ≡ at_most }
     requires going { has_ended session.old ≡ false }
     requires meets { MeetsUnowed config.now (W.seen world.old) session.old }
     ensures step { OwingStep config.now (W.seen world.old) (W.seen world.new) session.old session.new dumper.old dumper.new result }

@@ -1,5 +1,5 @@
 // The next step of a session.
-ghost use Rattle.std.specs.Prelude.{◌≡◌, ◌<◌, length};
+ghost use Rattle.std.specs.Prelude.{◌≡◌, ◌≤◌, length};
 ghost use Rattle.session_driver.specs.Steps.{Meets, StepIs};
 
 use crate::calls::{accept, close, listen, open, read, reap, send, settle, shut, write};
@@ -15,7 +15,7 @@ pub fn step<W: World>(
     config: &Config,
     scratch: &mut [u8],
 ) -> Stepped
-    requires scratch { 0 < length scratch.old }
+    requires block { config.now.block ≤ length scratch.old }
     requires meets { Meets config.now (W.seen world.old) session.old }
     ensures step { StepIs config.now (W.seen world.old) (W.seen world.new) session.old session.new result }
     ensures scratch { length scratch.new ≡ length scratch.old }

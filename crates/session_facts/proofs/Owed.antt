@@ -21,7 +21,7 @@ use Rattle.relay_model.specs.Configs.{input, output, options_of, way_from}
 use Rattle.relay_model.specs.Conversions.{read_converted, write_converted, first_bytes, before_escape, effective, due_of, holds_escape, is_met}
 use Rattle.relay_model.specs.History.{got}
 use Rattle.relay_model.specs.Transfers.{due}
-use Rattle.history_lemmas.proofs.PlaceLemmas.{same_place_equal}
+use Rattle.relay_laws.proofs.PlaceLemmas.{same_place_equal}
 use Rattle.history_facts.proofs.Asked.{no_input}
 use Rattle.session_facts.specs.Owings.{due_number, left_of, met_at}
 

@@ -76,7 +76,10 @@ fn due_more(
     count: usize,
     bytes: &[u8],
 ) -> Result<Vec<u8>, NoMemory>
-    ensures { IfOk result (λ more. more.items ≡ due_of (options_of config.now (input config.now 0 way)).conv (options_of config.now (output config.now 0 way)).conv (left_of (options_of config.now (input config.now 0 way)).input.readbytes count) (options_of config.now (input config.now 0 way)).input.escape bytes.now) }
+    ensures { IfOk result (λ more. more.items
+        ≡ due_of (options_of config.now (input config.now 0 way)).conv (options_of config.now (output config.now 0 way)).conv
+        (left_of (options_of config.now (input config.now 0 way)).input.readbytes count)
+        (options_of config.now (input config.now 0 way)).input.escape bytes.now) }
 {
     let reading = options_of(config, input(config, 0, way));
     let writing = options_of(config, output(config, 0, way));
@@ -100,7 +103,8 @@ fn read_due(
     place: Place,
     bytes: &[u8],
 ) -> Result<(), NoMemory>
-    ensures { OnOk result (met ≡ met_at facts.now.config facts.now.acts place → DuesTold facts.now.config due.old facts.now.acts → DuesTold facts.now.config due.new (Read place bytes.now ∷ facts.now.acts)) }
+    ensures { OnOk result (met ≡ met_at facts.now.config facts.now.acts place → DuesTold facts.now.config due.old facts.now.acts
+        → DuesTold facts.now.config due.new (Read place bytes.now ∷ facts.now.acts)) }
 {
     if met {
         return Ok(());
@@ -118,7 +122,8 @@ fn read_due(
 }
 
 fn meets(config: &Config, place: Place, met: bool, count: usize, bytes: &[u8]) -> bool
-    ensures { result ≡ (met || is_met (left_of (options_of config.now place).input.readbytes count) (options_of config.now place).input.escape bytes.now) }
+    ensures { result ≡ (met || is_met (left_of (options_of config.now place).input.readbytes count)
+        (options_of config.now place).input.escape bytes.now) }
 {
     let reading = options_of(config, place).input;
     met || is_met(left_of(reading.readbytes, count), reading.escape, bytes)

@@ -12,12 +12,12 @@ use Rattle.relay_model.specs.Sessions.{admitted, next_place, permits}
 use Rattle.relay_model.specs.Openings.{Accept}
 use Rattle.relay_model.specs.Calls.{door_call}
 use Rattle.relay_model.specs.May.{Legal}
-use Rattle.history_lemmas.proofs.PlaceLemmas.{same_place_equal}
-use Rattle.history_lemmas.proofs.OwnThings.{each_thing, among_own}
+use Rattle.relay_laws.proofs.PlaceLemmas.{same_place_equal}
+use Rattle.relay_laws.proofs.OwnThings.{each_thing, among_own}
 use Rattle.relay_laws.specs.Examples.{forked_command}
 use Rattle.relay_laws.proofs.Sound.{legal_is}
-use Rattle.history_lemmas.specs.Births.{is_named_by, OnlyHeldWereNamed}
-use Rattle.history_lemmas.proofs.Untouched.{unbegun_unnamed}
+use Rattle.relay_laws.specs.Births.{is_named_by, OnlyHeldWereNamed}
+use Rattle.relay_laws.proofs.Untouched.{unbegun_unnamed}
 use Rattle.relay_session.specs.States.{home}
 use Rattle.relay_session.specs.Births.{Begins}
 use Rattle.session_laws.specs.Beginnings.{BeginsAfterRefusal, refused_before}

@@ -13,8 +13,8 @@ use Rattle.relay_model.specs.Cause.{cause, closed_why}
 use Rattle.relay_model.specs.May.{by_cause}
 use Rattle.relay_model.specs.Frames.{IsForeign}
 use Rattle.std.specs.List.{list_any}
-use Rattle.history_lemmas.proofs.Elsewhere.{elsewhere}
-use Rattle.history_lemmas.proofs.OwnThings.{EachOwn, each_thing, among_own}
+use Rattle.relay_laws.proofs.Elsewhere.{elsewhere}
+use Rattle.relay_laws.proofs.OwnThings.{EachOwn, each_thing, among_own}
 use Rattle.relay_laws.proofs.Apart.{closed_step}
 use Rattle.relay_session.specs.declared.states.State.{State}
 use Rattle.relay_session.specs.declared.sessions.Session.{Session}

@@ -19,8 +19,8 @@ use Rattle.relay_model.specs.Calls.{called_at, door_cut}
 use Rattle.relay_model.specs.Outcome.{Outcome, Memory, Stopped, AcceptFailed, ListenFailed, Ended, outcome, outcome_by, outcome_of_sessions, program_doors, failed_listening, holds_something}
 use Rattle.relay_model.specs.May.{Legal, Licensed, by_cause, by_refusal, by_service, by_door, by_memory, by_turns, DoorEnds, for_memory, for_stop, for_accept}
 use Rattle.relay_model.specs.Laws.{DoorTells}
-use Rattle.history_lemmas.proofs.PlaceLemmas.{same_place_equal}
-use Rattle.history_lemmas.proofs.Admissions.{door_says, door_called}
+use Rattle.relay_laws.proofs.PlaceLemmas.{same_place_equal}
+use Rattle.relay_laws.proofs.Admissions.{door_says, door_called}
 use Rattle.program_door.specs.Causes.{door_cause}
 use Rattle.program_door.specs.Wishes.{IsDone}
 use Rattle.program_door.proofs.Held.{next_free}

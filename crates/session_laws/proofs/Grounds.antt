@@ -12,7 +12,7 @@ use Rattle.relay_model.specs.Transfers.{over, due_pieces}
 use Rattle.relay_model.specs.Sessions.{numbers}
 use Rattle.relay_model.specs.Cause.{closed_why}
 use Rattle.relay_model.specs.declared.places.Side.TheVariants.{Left}
-use Rattle.history_lemmas.proofs.OwnThings.{place_own, EachOwn, each_place, door_own, input_own, output_own}
+use Rattle.relay_laws.proofs.OwnThings.{place_own, EachOwn, each_place, door_own, input_own, output_own}
 use Rattle.relay_laws.proofs.Alike.{Alike}
 use Rattle.retry_plan.specs.Plans.{PlanIs, last_of}
 use Rattle.relay_buffer.specs.Flows.{IsFlow}

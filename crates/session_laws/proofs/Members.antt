@@ -15,7 +15,7 @@ use Rattle.relay_model.specs.Sessions.{numbers}
 use Rattle.relay_model.specs.Cause.{cause, closed_why}
 use Rattle.relay_model.specs.Rest.{SessionRests}
 use Rattle.relay_model.specs.Frames.{IsForeign, is_common}
-use Rattle.history_lemmas.proofs.Elsewhere.{elsewhere}
+use Rattle.relay_laws.proofs.Elsewhere.{elsewhere}
 use Rattle.session_direction.specs.Directions.{listed}
 use Rattle.relay_laws.specs.Stories.{own_entries}
 use Rattle.relay_laws.proofs.Apart.{closed_step}

@@ -11,7 +11,7 @@ use Rattle.relay_model.specs.Cause.{cause, closed_why}
 use Rattle.relay_model.specs.Rest.{owed}
 use Rattle.relay_model.specs.May.{by_memory}
 use Rattle.relay_model.specs.Frames.{IsForeign}
-use Rattle.history_lemmas.proofs.OwnThings.{each_thing, among_own}
+use Rattle.relay_laws.proofs.OwnThings.{each_thing, among_own}
 use Rattle.relay_session.specs.declared.states.State.{State}
 use Rattle.relay_session.specs.declared.sessions.Session.{Session}
 use Rattle.relay_session.specs.declared.wishes.Wish.{Wish}

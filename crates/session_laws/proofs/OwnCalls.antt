@@ -12,7 +12,7 @@ use Rattle.relay_model.specs.Tries.{next_due}
 use Rattle.relay_model.specs.Openings.{Call, Nothing, TryAt, Open, Settle, Listen, Accept, Refuse, Serve, out_of_tries, when_due, try_again, is_ready, opening_call, listening_call, peer_call, place_call, first_call}
 use Rattle.relay_model.specs.Cause.{cause}
 use Rattle.relay_model.specs.Calls.{call}
-use Rattle.history_lemmas.proofs.OwnThings.{EachOwn, door_own, each_place}
+use Rattle.relay_laws.proofs.OwnThings.{EachOwn, door_own, each_place}
 
 -- an accepting is at a door of the session's own
 abbrev pub IsOwnCall : Config → ℕ → Call → Type 0

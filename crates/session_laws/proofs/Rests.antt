@@ -10,7 +10,7 @@ use Rattle.relay_model.specs.Sessions.{holds, numbers}
 use Rattle.relay_model.specs.Outcome.{outcome, holds_something}
 use Rattle.relay_model.specs.Rest.{owed, SessionRests, Rest}
 use Rattle.relay_model.specs.May.{Legal}
-use Rattle.history_lemmas.proofs.Resting.{rest_of_parts}
+use Rattle.relay_laws.proofs.RestLemmas.{rest_of_parts}
 use Rattle.program_door.specs.Wishes.{GoesOn}
 use Rattle.program_door.proofs.Held.{rests_next}
 use Rattle.program_door.proofs.Moves.{numbers_are}

@@ -26,9 +26,9 @@ use Rattle.relay_model.specs.Rest.{is_going, owes_read, owes_write, must_pass, p
 use Rattle.relay_model.specs.May.{MayRead, MayOffer, MayTryWrite, MayShut, Licensed, by_cause, by_refusal, by_service, by_door, by_memory, by_turns}
 use Rattle.relay_model.specs.Laws.{DoorTells}
 use Rattle.relay_model.specs.Frames.{SameSession}
-use Rattle.history_lemmas.proofs.PlaceLemmas.{same_place_equal}
-use Rattle.history_lemmas.proofs.Admissions.{door_says}
-use Rattle.history_lemmas.proofs.OwnThings.{EachOwn, each_door, each_thing, among_own, input_own, output_own}
+use Rattle.relay_laws.proofs.PlaceLemmas.{same_place_equal}
+use Rattle.relay_laws.proofs.Admissions.{door_says}
+use Rattle.relay_laws.proofs.OwnThings.{EachOwn, each_door, each_thing, among_own, input_own, output_own}
 use Rattle.relay_laws.proofs.Apart.{moves_same, over_same, backlog_same, passing_same}
 use Rattle.relay_laws.proofs.Alike.{Alike}
 use Rattle.session_direction.specs.Directions.{WantsNothing}

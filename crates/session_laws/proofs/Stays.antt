@@ -11,7 +11,7 @@ use Rattle.relay_model.specs.Cause.{running}
 use Rattle.relay_model.specs.Calls.{call}
 use Rattle.relay_model.specs.Rest.{owes_read, owes_write, must_pass, presses, AcceptTried, SessionRests}
 use Rattle.relay_model.specs.Frames.{SameSession, IsForeign, is_common}
-use Rattle.history_lemmas.proofs.OwnThings.{input_own, output_own}
+use Rattle.relay_laws.proofs.OwnThings.{input_own, output_own}
 use Rattle.relay_laws.proofs.Apart.{Base, moves_same, over_same, backlog_same, passing_same}
 use Rattle.relay_laws.proofs.Alike.{Alike, alike_turned}
 use Rattle.relay_laws.proofs.Slept.{begun_step, passes, session_alike}

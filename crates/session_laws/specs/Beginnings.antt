@@ -16,7 +16,7 @@ use Rattle.relay_model.specs.Openings.{Accept}
 use Rattle.relay_model.specs.Calls.{door_call}
 use Rattle.relay_model.specs.May.{Legal}
 use Rattle.relay_laws.specs.Examples.{at, named, listed, forked_command}
-use Rattle.history_lemmas.specs.Births.{OnlyHeldWereNamed}
+use Rattle.relay_laws.specs.Births.{OnlyHeldWereNamed}
 use Rattle.relay_session.specs.States.{home}
 use Rattle.relay_session.specs.Births.{Begins}
 

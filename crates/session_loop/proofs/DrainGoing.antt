@@ -16,8 +16,8 @@ use Rattle.relay_model.specs.History.{now as moment, same_why}
 use Rattle.relay_model.specs.Rest.{owed}
 use Rattle.relay_model.specs.May.{May}
 use Rattle.relay_model.specs.Frames.{is_turn, is_common, reads_bytes}
-use Rattle.history_lemmas.proofs.PlaceLemmas.{same_place_self}
-use Rattle.history_lemmas.specs.Births.{OnlyHeldWereNamed}
+use Rattle.relay_laws.proofs.PlaceLemmas.{same_place_self}
+use Rattle.relay_laws.specs.Births.{OnlyHeldWereNamed}
 use Rattle.world_trait.specs.Seen.{Waitless}
 use Rattle.session_laws.proofs.Noted as kept
 use Rattle.world_trait.specs.Recordings.{with_act, with_asking}

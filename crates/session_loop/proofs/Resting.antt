@@ -8,8 +8,8 @@ use Rattle.relay_model.specs.Sessions.{numbers}
 use Rattle.relay_model.specs.Cause.{cause}
 use Rattle.relay_model.specs.Rest.{AcceptTried, DoorRests, Rest, SessionRests, owed, presses, until_of}
 use Rattle.relay_model.specs.May.{Legal}
-use Rattle.history_lemmas.proofs.Resting.{rest_of_parts}
-use Rattle.history_lemmas.proofs.Resting.{silent as idles}
+use Rattle.relay_laws.proofs.RestLemmas.{rest_of_parts}
+use Rattle.relay_laws.proofs.RestLemmas.{silent as idles}
 use Rattle.relay_session.specs.declared.states.State.{State}
 use Rattle.relay_session.specs.declared.wishes.Wish.{Wish}
 use Rattle.relay_session.specs.declared.wishes.Wish.TheVariants as wishes

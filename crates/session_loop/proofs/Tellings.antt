@@ -19,8 +19,8 @@ use Rattle.relay_model.specs.Rest.{is_going}
 use Rattle.relay_model.specs.Outcome as whole
 use Rattle.relay_model.specs.Outcome.{first_fault, failed_listening, failed_opening}
 use Rattle.relay_model.specs.May.{Legal, MayAsk, MayOffer}
-use Rattle.history_lemmas.proofs.PlaceLemmas.{same_place_equal}
-use Rattle.history_lemmas.proofs.Holdings.{moves_formed, moves_running}
+use Rattle.relay_laws.proofs.PlaceLemmas.{same_place_equal}
+use Rattle.relay_laws.proofs.Holdings.{moves_formed, moves_running}
 use Rattle.place_openings.specs.declared.calls.GivenUp.{GivenUp}
 use Rattle.relay_session.specs.Blames.{is_blamed_for}
 use Rattle.relay_session.specs.Endings.{Ends}

@@ -11,7 +11,7 @@ use Rattle.relay_model.specs.History.{now as moment, turns}
 use Rattle.relay_model.specs.Rest.{owed}
 use Rattle.relay_model.specs.May.{Legal}
 use Rattle.relay_model.specs.Frames.{is_common}
-use Rattle.history_lemmas.specs.Births.{OnlyHeldWereNamed}
+use Rattle.relay_laws.specs.Births.{OnlyHeldWereNamed}
 use Rattle.relay_session.specs.declared.sessions.Session.{Session}
 use Rattle.relay_session.specs.Sessions.{Stands, wish_of, left_of, has_ended}
 use Rattle.relay_session.specs.Blames.{is_blamed}

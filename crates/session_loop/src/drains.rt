@@ -1,5 +1,5 @@
 // The calls of a session up to its next pause.
-ghost use Rattle.std.specs.Prelude.{◌≡◌, ◌<◌, length, IfSome, IfNone};
+ghost use Rattle.std.specs.Prelude.{◌≡◌, ◌<◌, ◌≤◌, length, IfSome, IfNone};
 ghost use Rattle.session_loop.specs.Pauses.{PauseIs, pause_of};
 ghost use Rattle.session_loop.specs.Runs.{Runs, RunsOn, rank};
 
@@ -17,7 +17,7 @@ pub fn drain<W: World>(
     config: &Config,
     scratch: &mut [u8],
 ) -> Pause
-    requires scratch { 0 < length scratch.old }
+    requires block { config.now.block ≤ length scratch.old }
     requires runs { Runs config.now (W.seen world.old) member.old }
     ensures runs { RunsOn config.now (W.seen world.old) (W.seen world.new) member.old member.new }
     ensures pause { PauseIs member.new.session result }
@@ -37,7 +37,7 @@ fn go_on<W: World>(
     config: &Config,
     scratch: &mut [u8],
 ) -> Option<Pause>
-    requires scratch { 0 < length scratch.old }
+    requires block { config.now.block ≤ length scratch.old }
     requires runs { Runs config.now (W.seen world.old) member.old }
     ensures runs { RunsOn config.now (W.seen world.old) (W.seen world.new) member.old member.new }
     ensures pause { IfSome result (PauseIs member.new.session) }

@@ -65,7 +65,7 @@ impl Driver {
         config: &Config,
         scratch: &mut [u8],
     ) -> Option<Pause>
-        requires scratch { 0 < length scratch.old }
+        requires block { config.now.block ≤ length scratch.old }
         requires course { (n : ℕ) × SomewhereFor config.now n (W.seen world.old) self.old }
         ensures course { KeepsFor config.now (W.seen world.old) (W.seen world.new) self.old self.new }
         ensures fewer { IfNone result (rank self.new < rank self.old) }
@@ -73,6 +73,7 @@ impl Driver {
         ensures paused { IfSome result (IsPause self.new) }
         ensures over { has_ended self.old.session ≡ true → has_ended self.new.session ≡ true }
         ensures made { self.new.made ≡ self.old.made }
+        ensures scratch { length scratch.new ≡ length scratch.old }
     {
         match step_noted(&mut self.session, world, config, scratch, &mut self.dumper) {
             Stepped::Acted => None,

@@ -4,7 +4,7 @@ ghost use Rattle.relay_model.specs.Choices.{or_else};
 ghost use Rattle.relay_model.specs.Outcome as whole;
 ghost use Rattle.exit_status.specs.Outcomes.{half_of};
 
-use exit_status::{Op, Outcome};
+use exit_status::Op;
 use relay_model::Place;
 
 /// A read or a write that failed.
@@ -14,7 +14,7 @@ pub struct Fault {
     pub op: Op,
 }
 
-ghost use Rattle.session_loop.specs.Answers.{told_fault, fault_or as told_or};
+ghost use Rattle.session_loop.specs.Answers.{told_fault};
 
 /// The first fault, after one more.
 pub fn first_of(earlier: Option<Fault>, place: Place, op: Op) -> Option<Fault>
@@ -23,15 +23,5 @@ pub fn first_of(earlier: Option<Fault>, place: Place, op: Op) -> Option<Fault>
     match earlier {
         Some(fault) => Some(fault),
         None => Some(Fault { place, op }),
-    }
-}
-
-/// The first fault, where there was one, and else this outcome.
-pub fn fault_or(outcome: Outcome, fault: Option<Fault>) -> Outcome
-    ensures { result ≡ told_or outcome fault }
-{
-    match fault {
-        Some(Fault { place, op }) => Outcome::Faulted { place, op },
-        None => outcome,
     }
 }

@@ -2,9 +2,9 @@
 ghost use Rattle.std.specs.Prelude.{◌≡◌, Some, true, is_some};
 ghost use Rattle.exit_status.specs.declared.outcomes.Outcome.TheVariants as outcomes;
 ghost use Rattle.relay_model.specs.declared.acts.Why.TheVariants as whys;
-ghost use Rattle.session_loop.specs.Answers.{faulted as faulted_by, outcome_for as answer_for, unlistened as unlistened_by, unopened as unopened_by};
+ghost use Rattle.session_loop.specs.Answers.{outcome_for as answer_for};
 
-use crate::faults::{Fault, fault_or};
+use crate::faults::Fault;
 use exit_status::{EndWhy, Outcome};
 use relay_model::Why;
 use relay_session::GivenUp;
@@ -22,47 +22,21 @@ pub fn outcome_for(
     ensures answer { answer_for why listening opening fault made ≡ Some result }
     ensures memory { result ≡ outcomes.Memory → why ≡ whys.Memory }
 {
-    match why {
-        Why::Memory => Outcome::Memory,
-        Why::Stopped => Outcome::Stopped { turns: made },
-        Why::AcceptFailed => Outcome::AcceptFailed,
-        Why::ListenFailed => unlistened(listening),
-        Why::OpenFailed => unopened(opening),
-        Why::Faulted => faulted(fault),
-        Why::Finished => Outcome::Ended(EndWhy::Finished),
-        Why::ClosingTime => fault_or(Outcome::Ended(EndWhy::ClosingTime), fault),
-        Why::Idle => fault_or(Outcome::Ended(EndWhy::Idle), fault),
-        Why::Served => Outcome::Ended(EndWhy::Served),
-        Why::Refused => unreachable!(),
-    }
-}
-
-fn unlistened(listening: Option<u64>) -> Outcome
-    requires { is_some (unlistened_by listening) ≡ true }
-    ensures { unlistened_by listening ≡ Some result }
-{
-    match listening {
-        Some(attempts) => Outcome::ListenFailed { attempts },
-        None => unreachable!(),
-    }
-}
-
-fn unopened(opening: Option<GivenUp>) -> Outcome
-    requires { is_some (unopened_by opening) ≡ true }
-    ensures { unopened_by opening ≡ Some result }
-{
-    match opening {
-        Some(GivenUp { side, attempts }) => Outcome::OpenFailed { side, attempts },
-        None => unreachable!(),
-    }
-}
-
-fn faulted(fault: Option<Fault>) -> Outcome
-    requires { is_some (faulted_by fault) ≡ true }
-    ensures { faulted_by fault ≡ Some result }
-{
-    match fault {
-        Some(Fault { place, op }) => Outcome::Faulted { place, op },
-        None => unreachable!(),
+    match (why, listening, opening, fault) {
+        (Why::Memory, _, _, _) => Outcome::Memory,
+        (Why::Stopped, _, _, _) => Outcome::Stopped { turns: made },
+        (Why::AcceptFailed, _, _, _) => Outcome::AcceptFailed,
+        (Why::ListenFailed, Some(attempts), _, _) => Outcome::ListenFailed { attempts },
+        (Why::OpenFailed, _, Some(GivenUp { side, attempts }), _) => {
+            Outcome::OpenFailed { side, attempts }
+        }
+        (Why::Faulted | Why::ClosingTime | Why::Idle, _, _, Some(Fault { place, op })) => {
+            Outcome::Faulted { place, op }
+        }
+        (Why::ClosingTime, _, _, None) => Outcome::Ended(EndWhy::ClosingTime),
+        (Why::Idle, _, _, None) => Outcome::Ended(EndWhy::Idle),
+        (Why::Finished, _, _, _) => Outcome::Ended(EndWhy::Finished),
+        (Why::Served, _, _, _) => Outcome::Ended(EndWhy::Served),
+        _ => unreachable!(),
     }
 }

@@ -28,13 +28,14 @@ impl Driver {
 
     /// Makes the calls that are wished for, up to a sleep or the end.
     fn drain<W: World>(&mut self, world: &mut W, config: &Config, scratch: &mut [u8]) -> Pause
-        requires scratch { 0 < length scratch.old }
+        requires block { config.now.block ≤ length scratch.old }
         requires course { (n : ℕ) × SomewhereFor config.now n (W.seen world.old) self.old }
         ensures course { KeepsFor config.now (W.seen world.old) (W.seen world.new) self.old self.new }
         ensures pause { PauseIs self.new result }
         ensures paused { IsPause self.new result }
         ensures over { has_ended self.old.session ≡ true → has_ended self.new.session ≡ true }
         ensures made { self.new.made ≡ self.old.made }
+        ensures scratch { length scratch.new ≡ length scratch.old }
     {
         loop {
             if let Some(pause) = self.step(world, config, scratch) {
@@ -77,7 +78,7 @@ impl Driver {
         scratch: &mut [u8],
         turns: u64,
     ) -> Option<Why>
-        requires scratch { 0 < length scratch.old }
+        requires block { config.now.block ≤ length scratch.old }
         requires course { SomewhereFor config.now turns (W.seen world.old) self.old }
         requires within { self.old.made ≤ turns }
         ensures course { TurnsFor config.now turns (W.seen world.old) (W.seen world.new) self.old self.new }
@@ -85,6 +86,7 @@ impl Driver {
         ensures waitless { IfSome result (λ why. self.new.made ≡ self.old.made) }
         ensures waited { IfNone result (WaitsOnce config.now turns (W.seen world.old) (W.seen world.new) self.old self.new) }
         ensures goes { IfNone result ((self.old.made < turns) × (self.new.made ≡ self.old.made + 1)) }
+        ensures scratch { length scratch.new ≡ length scratch.old }
     {
         match self.drain(world, config, scratch) {
             Pause::Done(why) => Some(why),
@@ -101,7 +103,7 @@ impl Driver {
         until: Option<u64>,
         turns: u64,
     ) -> Option<Why>
-        requires scratch { 0 < length scratch.old }
+        requires block { config.now.block ≤ length scratch.old }
         requires course { SomewhereFor config.now turns (W.seen world.old) self.old }
         requires pause { PauseIs self.old (pauses.Sleep until) }
         requires paused { IsPause self.old (pauses.Sleep until) }
@@ -111,6 +113,7 @@ impl Driver {
         ensures waitless { IfSome result (λ why. self.new.made ≡ self.old.made) }
         ensures waited { IfNone result (WaitsOnce config.now turns (W.seen world.old) (W.seen world.new) self.old self.new) }
         ensures goes { IfNone result ((self.old.made < turns) × (self.new.made ≡ self.old.made + 1)) }
+        ensures scratch { length scratch.new ≡ length scratch.old }
     {
         if self.made < turns {
             if self.wait(world, until, turns) {
@@ -124,12 +127,13 @@ impl Driver {
 
     /// Closes what is held after the session has ended.
     fn close_all<W: World>(&mut self, world: &mut W, config: &Config, scratch: &mut [u8]) -> Why
-        requires scratch { 0 < length scratch.old }
+        requires block { config.now.block ≤ length scratch.old }
         requires course { (n : ℕ) × SomewhereFor config.now n (W.seen world.old) self.old }
         requires over { has_ended self.old.session ≡ true }
         ensures course { KeepsFor config.now (W.seen world.old) (W.seen world.new) self.old self.new }
         ensures done { IsPause self.new (pauses.Done result) }
         ensures made { self.new.made ≡ self.old.made }
+        ensures scratch { length scratch.new ≡ length scratch.old }
     {
         match self.drain(world, config, scratch) {
             Pause::Done(why) => why,

@@ -5,11 +5,10 @@
 mod parts;
 mod runs;
 
-use blocking_streams::{Blocking, InputSource};
+use blocking_streams::{Blocking, InputSource, program_words};
 use parts::{Lack, bare_streams, closed_streams, lacking, polling, told};
 use port_desk::Standard;
 use port_trait::{StdSink, StdSpawner};
-use program_words::program_words;
 use ring_reader::RingReader;
 use ring_writer::RingWriter;
 use runs::{answered, relayed};

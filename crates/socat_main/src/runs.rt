@@ -1,5 +1,4 @@
 // The runs of the program: of words that ask for a relay, and of others.
-ghost use Rattle.std.specs.Prelude.{◌≡◌, [], IfSome};
 
 use crate::parts::{Lack, made};
 use mio_poller::MioPoller;
@@ -26,11 +25,7 @@ pub fn answered<I: Port, O: Port, E: Port, F: JournalFile, W: Write>(
     words: &[Text],
     journal: &mut F,
     errors: &mut W,
-) -> Result<u8, Lack>
-    requires given { IfSome (I.seen standard.stdin).gave (λ all. all ≡ []) }
-    requires taken { IfSome (O.seen standard.stdout).took (λ all. all ≡ []) }
-    requires silent { IfSome (E.seen standard.stderr).took (λ all. all ≡ []) }
-{
+) -> Result<u8, Lack> {
     let maker = MemMaker::new(alloc);
     let written = carry_out(alloc, standard, maker, MemPoller::new(), words, journal)?;
     Ok(end_status(errors, &written, false))
@@ -51,9 +46,6 @@ pub fn relayed<R, I: Port, O: Port, E: Port, F: JournalFile, W: Write>(
 ) -> Result<u8, Lack>
 where
     R: Files + Net + Clock + Threads + Copy + Drop,
-    requires given { IfSome (I.seen standard.stdin).gave (λ all. all ≡ []) }
-    requires taken { IfSome (O.seen standard.stdout).took (λ all. all ≡ []) }
-    requires silent { IfSome (E.seen standard.stderr).took (λ all. all ≡ []) }
 {
     let poller = PeerPoller::new(alloc, poller)?;
     let maker = made(RealMaker::on(rt, system, alloc, &poller))?;

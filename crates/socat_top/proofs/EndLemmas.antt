@@ -16,8 +16,8 @@ use Rattle.relay_model.specs.Cause.{cause}
 use Rattle.relay_model.specs.Rest.{is_going}
 use Rattle.relay_model.specs.Openings.{ready}
 use Rattle.relay_model.specs.May.{Legal}
-use Rattle.history_lemmas.proofs.PlaceLemmas.{same_place_equal}
-use Rattle.history_lemmas.proofs.Holdings.{input_passes, output_passes, moves_formed, moves_running}
+use Rattle.relay_laws.proofs.PlaceLemmas.{same_place_equal}
+use Rattle.relay_laws.proofs.Holdings.{input_passes, output_passes, moves_formed, moves_running}
 use Rattle.relay_model.specs.Frames.{IsForeign}
 use Rattle.relay_laws.proofs.Apart.{base_step, ending_same}
 use Rattle.relay_laws.proofs.Written.{written_due}

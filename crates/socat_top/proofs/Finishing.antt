@@ -19,9 +19,9 @@ use Rattle.relay_model.specs.Moments.{passed, closing_moment, idle_moment, reach
 use Rattle.relay_model.specs.Openings.{ready}
 use Rattle.relay_model.specs.Cause.{is_end, closed_why, accept_failed_for, listening_failed, opening_failed, faulted, finished, each_formed, cause}
 use Rattle.relay_model.specs.May.{MayShut, Legal, for_memory, for_stop, for_accept, Licensed, by_cause, by_refusal, by_service, by_door, by_memory, by_turns}
-use Rattle.history_lemmas.proofs.OwnThings.{among_own, each_thing}
-use Rattle.history_lemmas.proofs.Permitted.{shuts_when_spent}
-use Rattle.history_lemmas.proofs.PlaceLemmas.{same_place_equal}
+use Rattle.relay_laws.proofs.OwnThings.{among_own, each_thing}
+use Rattle.relay_laws.proofs.Permitted.{shuts_when_spent}
+use Rattle.relay_laws.proofs.PlaceLemmas.{same_place_equal}
 use Rattle.socat_top.specs.Command.{load_command}
 use Rattle.socat_top.specs.Scripts.{left_place, right_place}
 use Rattle.socat_top.specs.Sums.{finishes, was_finished}

@@ -6,7 +6,7 @@ use Rattle.relay_model.specs.declared.places.Place.{Place}
 use Rattle.relay_model.specs.Places.{same_place}
 use Rattle.relay_model.specs.Choices.{joined}
 use Rattle.relay_model.specs.Transfers.{is_empty}
-use Rattle.history_lemmas.proofs.PlaceLemmas.{same_place_equal}
+use Rattle.relay_laws.proofs.PlaceLemmas.{same_place_equal}
 use Rattle.scripted_world.specs.declared.lines.Line.{Line}
 use Rattle.scripted_world.specs.declared.reading.DueRead.{DueRead}
 use Rattle.scripted_world.specs.declared.reading.Reading.{Reading}

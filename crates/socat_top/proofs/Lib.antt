@@ -1,3 +1,4 @@
+pub mod Asking
 pub mod BehindLemmas
 pub mod CallLemmas
 pub mod EndLemmas

@@ -9,7 +9,7 @@ use Rattle.relay_model.specs.Choices.{joined}
 use Rattle.relay_model.specs.History.{got, met_end, reaped_since}
 use Rattle.relay_model.specs.Holding.{Hold}
 use Rattle.relay_model.specs.Places.{same_place}
-use Rattle.history_lemmas.proofs.PlaceLemmas.{same_place_equal}
+use Rattle.relay_laws.proofs.PlaceLemmas.{same_place_equal}
 use Rattle.world_trait.specs.Answers.{Answered, Did, read_act}
 use Rattle.world_trait.specs.Seen.{Seen}
 use Rattle.world_trait.specs.Recordings.{told_kept, with_act}

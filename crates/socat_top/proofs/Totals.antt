@@ -14,9 +14,9 @@ use Rattle.relay_model.specs.May.{Legal, MayWrite}
 use Rattle.relay_model.specs.Openings.{ready}
 use Rattle.relay_model.specs.Places.{same_place}
 use Rattle.relay_model.specs.Sessions.{admitted, holds, live}
-use Rattle.history_lemmas.proofs.Admissions.{admitted_bound}
-use Rattle.history_lemmas.proofs.Holdings.{moves_running}
-use Rattle.history_lemmas.proofs.PlaceLemmas.{same_place_equal, same_place_self}
+use Rattle.relay_laws.proofs.Admissions.{admitted_bound}
+use Rattle.relay_laws.proofs.Holdings.{moves_running}
+use Rattle.relay_laws.proofs.PlaceLemmas.{same_place_equal, same_place_self}
 use Rattle.socat_top.specs.Command.{load_command}
 use Rattle.socat_top.specs.Scripts.{right_place}
 use Rattle.socat_top.specs.Sums.{brought, delivered}

@@ -13,8 +13,8 @@ use Rattle.relay_model.specs.Journals.{Asking}
 use Rattle.relay_model.specs.May.{BeginsWith, Legal}
 use Rattle.relay_model.specs.Sessions.{admitted}
 use Rattle.relay_laws.proofs.Written.{passed_whole, written_due}
-use Rattle.history_lemmas.proofs.Admissions.{admitted_bound}
-use Rattle.history_lemmas.proofs.PlaceLemmas.{same_place_self}
+use Rattle.relay_laws.proofs.Admissions.{admitted_bound}
+use Rattle.relay_laws.proofs.PlaceLemmas.{same_place_self}
 use Rattle.scripted_world.specs.declared.lines.Line.{Line}
 use Rattle.scripted_world.specs.declared.reading.DueRead.{DueRead}
 use Rattle.world_trait.specs.Recordings.{told_kept}

@@ -1,5 +1,5 @@
 -- A run whose history may be written to a file.
-use Rattle.std.specs.Prelude.{◌≡◌, ℕ, zero, suc, Bool, true, false, List, [], ◌∷◌, ◌++◌, Option, Some, option_map, codes, drop, length, nat_eq, if◌then◌else◌}
+use Rattle.std.specs.Prelude.{◌≡◌, ◌⊎◌, ℕ, zero, suc, Bool, true, false, List, [], ◌∷◌, ◌++◌, Option, Some, option_map, codes, drop, length, nat_eq, if◌then◌else◌}
 use Rattle.std.specs.List.{starts_with}
 use Rattle.relay_model.specs.declared.acts.Act.{Act}
 use Rattle.relay_model.specs.declared.acts.Act.TheVariants.{Note, NoteFault}
@@ -26,6 +26,11 @@ words_of_run (word ∷ words) = if is_flag word then words else word ∷ words
 abbrev pub journal_name : List (List ℕ) → List ℕ
 journal_name [] = []
 journal_name (word ∷ words) = drop (length (codes "--journal=")) word
+
+-- the file of this name was asked for once: it was made; or none was, which the answer tells, and nothing came to it
+-- after that
+abbrev pub AsksForFile : {F : Type 0} → (F → List ℕ → F → Type 0) → (F → List ℕ → F → Type 0) → F → List ℕ → F → Saving → Type 0
+AsksForFile {F} creates refuses before name now saving = ((made : F) × creates before name made) ⊎ ((saving ≡ savings.Failed) × refuses before name now)
 
 -- what the desk tells when the run begins: with the flag it keeps its history, and nothing was done yet
 abbrev pub told_before : Bool → Option History → Option History

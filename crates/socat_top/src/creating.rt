@@ -1,5 +1,5 @@
 // How the file of a journal is made.
-ghost use Rattle.std.specs.Prelude.{◌≡◌, ℕ, List, IfOk};
+ghost use Rattle.std.specs.Prelude.{◌≡◌, ℕ, List, IfOk, OnErr};
 
 use std::fs::OpenOptions;
 use std::io;
@@ -14,10 +14,13 @@ pub trait FileCreator {
 
     // this is the file that was made by that name
     ghost makes: { Self → List ℕ → Self.File → Type 0 } = { λ _ _ _. Unit {0} };
+    // it was asked for the file of that name, and made none
+    ghost refuses: { Self → List ℕ → Type 0 } = { λ _ _. Unit {0} };
 
     /// Makes the file of this name, and empties one that is there.
     fn create_file(&self, name: &str) -> io::Result<Self::File>
-        ensures { IfOk result (λ file. makes self.now name.now file) };
+        ensures made { IfOk result (λ file. makes self.now name.now file) }
+        ensures refused { OnErr result (refuses self.now name.now) };
 }
 
 /// Makes files of the system.

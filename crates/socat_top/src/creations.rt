@@ -21,7 +21,8 @@ impl Creation {
     }
 }
 
-/// Has the desk keep its history from now on, for the file that was just made under this name, or that couldn't be.
+/// Has the desk keep its history from now on, for the file that was just made under this name, or that was asked for and
+/// couldn't be.
 pub fn keep_history<M, P, I: Port, O: Port, E: Port, F: JournalFile>(
     desk: &mut Desk<M, P, I, O, E>,
     _file: &F,
@@ -32,6 +33,7 @@ where
     M: Maker + Drop,
     P: Poller + Drop,
     requires created { made ≡ true → (before : F) × F.creates before _name.now _file.now }
+    requires refused { made ≡ false → (before : F) × F.refuses before _name.now _file.now }
     requires untouched { desk.old.log.acted ≡ false }
     requires free { desk.old.log.stations.entries ≡ [] }
     ensures made { result.made ≡ made }

@@ -77,11 +77,15 @@ impl<D: FileCreator + Drop> JournalFile for DiskJournal<D> {
     // the file is the one that was made by that name
     ghost creates = { λ before name now. Created (D.makes before.disk name) now.file };
 
+    // there is no file, and the disk was asked for it, if by a name that can be one
+    ghost refuses = { λ before name now. (now.file ≡ None) × (IsUtf8 name → D.refuses before.disk name) };
+
     /// Names that are no UTF-8 can't be made, as those of files between which is relayed; and the system refuses an
     /// empty name and one with a byte 0. What was made before is let go.
     fn create(&mut self, name: &[u8]) -> bool
         ensures unnamed { ¬ (IsUtf8 name.now) → result ≡ false }
         ensures created { result ≡ true → Created (D.makes self.old.disk name.now) self.new.file }
+        ensures refused { result ≡ false → (self.new.file ≡ None) × (IsUtf8 name.now → D.refuses self.old.disk name.now) }
         ensures kept { ⟦<DiskJournal<D> as Sink>⟧.took self.new ≡ ⟦<DiskJournal<D> as Sink>⟧.took self.old }
         ensures faults { Counted (not result) self.old.faults self.new.faults }
     {
@@ -124,6 +128,7 @@ fn flush_file<F: Write>(file: &mut Option<F>) -> bool
 fn create_now<D: FileCreator>(disk: &D, name: &[u8]) -> Option<D::File>
     ensures unnamed { ¬ (IsUtf8 name.now) → result ≡ None }
     ensures created { IfSome result (D.makes disk.now name.now) }
+    ensures refused { result ≡ None → IsUtf8 name.now → D.refuses disk.now name.now }
 {
     let Ok(name) = str::from_utf8(name) else {
         return None;

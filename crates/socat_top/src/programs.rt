@@ -1,11 +1,11 @@
 // The run of a program: that of its words over a desk, and the status it ends with.
-ghost use Rattle.std.specs.Prelude.{◌≡◌, ◌-◌, ◌^◌, [], true, Some, IfOk, IfSome};
+ghost use Rattle.std.specs.Prelude.{◌≡◌, ◌-◌, ◌^◌, [], true, Some, IfOk};
 ghost use Rattle.session_loop.specs.Headline.{StopCause};
 ghost use Rattle.socat_top.specs.Kept.{history_of};
 ghost use Rattle.socat_top.specs.Headline.{Leaves};
 ghost use Rattle.socat_top.specs.Programs.{is_relaying, last_status};
 ghost use Rattle.socat_top.specs.Tasks.{task};
-ghost use Rattle.socat_top.specs.Written.{asks_for_journal, status_with, words_of_run};
+ghost use Rattle.socat_top.specs.Written.{AsksForFile, asks_for_journal, journal_name, status_with, words_of_run};
 
 use crate::files::JournalFile;
 use crate::written::{Saving, Written, journal_flag, run_written};
@@ -48,8 +48,8 @@ pub fn asks_for_relay(alloc: Global, words: &[Text]) -> Result<bool, NoMemory>
     }
 }
 
-/// The run of a program: that of its words over a desk of these streams, which have passed no bytes, and of what the maker
-/// makes, with as many turns as can be counted.
+/// The run of a program: that of its words over a desk of these streams and of what the maker makes, with as many turns as can be
+/// counted.
 pub fn carry_out<M, P, I: Port, O: Port, E: Port, F: JournalFile>(
     alloc: Global,
     standard: Standard<I, O, E>,
@@ -61,10 +61,9 @@ pub fn carry_out<M, P, I: Port, O: Port, E: Port, F: JournalFile>(
 where
     M: Maker + Drop,
     P: Poller + Drop,
-    requires given { IfSome (I.seen standard.stdin).gave (λ all. all ≡ []) }
-    requires taken { IfSome (O.seen standard.stdout).took (λ all. all ≡ []) }
-    requires silent { IfSome (E.seen standard.stderr).took (λ all. all ≡ []) }
     ensures status { IfOk result (λ written. written.status ≡ status_with written.shipped.status written.saving) }
+    ensures tried { IfOk result (λ written. asks_for_journal words.now ≡ true
+        → AsksForFile F.creates F.refuses journal.old (journal_name words.now) journal.new written.saving) }
     ensures headline { IfOk result (λ written. asks_for_journal words.now ≡ true
         → Leaves (task (words_of_run words.now)) (2 ^ 64 - 1) (record { acts = []; asked = [] })
         (Some (history_of written.shipped.kept)) written.shipped.outcome) }

@@ -15,6 +15,7 @@ ghost use Rattle.socat_top.specs.Behind.{told_behind};
 ghost use Rattle.socat_top.specs.Kept.{history_of};
 ghost use Rattle.socat_top.specs.Headline.{Answers, CompletesTask, Leaves, TaskEnds, TaskEndsBehind};
 ghost use Rattle.socat_top.specs.Tasks.{task};
+ghost use Rattle.socat_top.specs.Written.{AsksForFile};
 ghost use Rattle.socat_top.specs.Written.{TookText, asks_for_journal, is_asked, is_note, journal_name, status_with, told_before, without_last_note, words_of_run};
 
 use crate::creations::{Creation, keep_history};
@@ -65,6 +66,8 @@ where
     requires untouched { desk.log.acted ≡ false }
     ensures asked { is_asked result.saving ≡ asks_for_journal words.now }
     ensures named { result.saving ≡ savings.Saved → (made : F) × F.creates file.old (journal_name words.now) made }
+    ensures tried { asks_for_journal words.now ≡ true
+        → AsksForFile F.creates F.refuses file.old (journal_name words.now) file.new result.saving }
     ensures unasked { asks_for_journal words.now ≡ false → file.new ≡ file.old }
     ensures saved { result.saving ≡ savings.Saved → TookText (F.took file.old) (F.took file.new) (without_last_note result.shipped.kept.journal.acts) }
     ensures finished { result.saving ≡ savings.Saved → F.finished file.new ≡ true }
@@ -133,6 +136,7 @@ fn save<F: JournalFile>(
     ensures asked { is_asked result ≡ true }
     ensures made { result ≡ savings.Saved → creation.made ≡ true }
     ensures unmade { OnFalse creation.made (file.new ≡ file.old) }
+    ensures failed { OnFalse creation.made (result ≡ savings.Failed) }
     ensures saved { result ≡ savings.Saved → TookText (F.took file.old) (F.took file.new) (without_last_note journal.now.acts) }
     ensures finished { result ≡ savings.Saved → F.finished file.new ≡ true }
     ensures unsaved { OnTrue creation.made (result ≡ savings.Failed → Risen (F.faults file.old) (F.faults file.new)) }

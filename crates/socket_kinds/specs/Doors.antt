@@ -1,38 +1,37 @@
 -- What contracts see of a door and of what comes at it.
-use Rattle.std.specs.Prelude.{◌≡◌, ◌≢◌, Bool, true, false, Result, Ok, Err}
+use Rattle.std.specs.Prelude.{◌≡◌, ◌≢◌, Bool, true, false, Option, None, Some, Result, Ok, Err}
 use Rattle.std.specs.declared.io.Error.{Error}
 use Rattle.std.specs.declared.io.ErrorKind.TheVariants.{WouldBlock, ConnectionAborted}
 use Rattle.std.specs.IoError.{error_kind}
 use Rattle.port_trait.specs.declared.answers.Hint.{Hint}
 use Rattle.std.specs.declared.net.socket_addr.SocketAddr.{SocketAddr}
 use Rattle.mio.specs.declared.net.stream.TcpStream.{TcpStream}
+use Rattle.socket_kinds.specs.declared.stream.Stream.{Stream}
 use Rattle.socket_kinds.specs.declared.stream.Stream.TheVariants as streams
-use Rattle.relay_model.specs.declared.acts.Peer.TheVariants as peers
-use Rattle.socket_kinds.specs.Peers.{IsPeer}
 use Rattle.socket_kinds.specs.declared.door.Listener.{Listener}
 use Rattle.socket_kinds.specs.declared.door.Listener.TheVariants as listeners
 use Rattle.socket_kinds.specs.declared.door.Arrival.{Arrival}
 use Rattle.socket_kinds.specs.declared.door.Arrival.TheVariants as arrivals
 
--- whether its last accepting left off, and whether those that come to it have no address
-pub record DoorState : Type 0 where
+-- whether its last accepting left off, and what it listens at
+pub record DoorState (T : Type 0) : Type 0 where
   pub cut_short : Bool
-  pub unix : Bool
+  pub listener : Listener T
 
 -- only those that come to a Unix socket have no address
-abbrev pub is_unix : Listener → Bool
+abbrev pub is_unix : {T : Type 0} → Listener T → Bool
 is_unix (listeners.Tcp listener) = false
 is_unix (listeners.Unix listener) = true
 is_unix (listeners.Udp enrolled) = false
 is_unix (listeners.Packets enrolled) = false
 
 -- a door that left off hints that peers may wait
-abbrev pub door_hint : DoorState → Hint
+abbrev pub door_hint : {T : Type 0} → DoorState T → Hint
 door_hint door = record { readable = door.cut_short; writable = false }
 
 -- who came has an address
 abbrev pub ComesAddressed : Arrival → Type 0
-ComesAddressed (arrivals.Came stream peer) = peer ≢ peers.Local
+ComesAddressed (arrivals.Came stream from) = from ≢ None
 ComesAddressed arrivals.Aborted = Unit {0}
 ComesAddressed arrivals.Starved = Unit {0}
 ComesAddressed arrivals.LeftOff = Unit {0}
@@ -41,7 +40,7 @@ ComesAddressed arrivals.Failed = Unit {0}
 
 -- the system refuses, or has no descriptor for it yet
 abbrev pub IsRefusal : Arrival → Type 0
-IsRefusal (arrivals.Came stream peer) = ⊥
+IsRefusal (arrivals.Came stream from) = ⊥
 IsRefusal arrivals.Aborted = ⊥
 IsRefusal arrivals.Starved = Unit {0}
 IsRefusal arrivals.LeftOff = ⊥
@@ -54,9 +53,9 @@ pub record IsDeclined (error : Error) (arrival : Arrival) : Type 0 where
   pub aborted : error_kind error ≡ ConnectionAborted → arrival ≡ arrivals.Aborted
   pub failed : error_kind error ≢ WouldBlock → error_kind error ≢ ConnectionAborted → IsRefusal arrival
 
--- it is this connection, and its peer the one at this address
+-- it is this connection, with this address
 abbrev pub CameFrom : TcpStream → SocketAddr → Arrival → Type 0
-CameFrom accepted addr (arrivals.Came stream peer) = (stream ≡ streams.Tcp accepted) × IsPeer addr peer
+CameFrom accepted addr (arrivals.Came stream from) = (stream ≡ streams.Tcp accepted) × (from ≡ Some addr)
 CameFrom accepted addr arrivals.Aborted = ⊥
 CameFrom accepted addr arrivals.Starved = ⊥
 CameFrom accepted addr arrivals.LeftOff = ⊥
@@ -70,7 +69,7 @@ Comes (Err error) arrival = IsDeclined error arrival
 
 -- an accepting came to its end before the connections that may wait
 abbrev pub has_left : Arrival → Bool
-has_left (arrivals.Came stream peer) = false
+has_left (arrivals.Came stream from) = false
 has_left arrivals.Aborted = false
 has_left arrivals.Starved = false
 has_left arrivals.LeftOff = true
@@ -79,7 +78,7 @@ has_left arrivals.Failed = false
 
 -- an aborted connection is passed over, and one that has to wait is left
 abbrev pub IsOne : Arrival → Type 0
-IsOne (arrivals.Came stream peer) = Unit {0}
+IsOne (arrivals.Came stream from) = Unit {0}
 IsOne arrivals.Aborted = ⊥
 IsOne arrivals.Starved = ⊥
 IsOne arrivals.LeftOff = Unit {0}
@@ -88,9 +87,26 @@ IsOne arrivals.Failed = Unit {0}
 
 -- nobody waits only where the call would have blocked
 abbrev pub OnlyBlocked : Arrival → Type 0
-OnlyBlocked (arrivals.Came stream peer) = Unit {0}
+OnlyBlocked (arrivals.Came stream from) = Unit {0}
 OnlyBlocked arrivals.Aborted = Unit {0}
 OnlyBlocked arrivals.Starved = Unit {0}
 OnlyBlocked arrivals.LeftOff = Unit {0}
 OnlyBlocked (arrivals.Nobody error) = error_kind error ≡ WouldBlock
 OnlyBlocked arrivals.Failed = Unit {0}
+
+-- a connection comes at a TCP listener as one that it accepts, with the address that this accepting tells; one of a Unix
+-- socket has no address
+abbrev pub CameAt : {T : Type 0} → (T → Result (TcpStream × SocketAddr) Error → Type 0) → Listener T → Stream → Option SocketAddr → Type 0
+CameAt comes (listeners.Tcp listener) stream from = (accepted : TcpStream) × (addr : SocketAddr) × comes listener (Ok (accepted, addr)) × (stream ≡ streams.Tcp accepted) × (from ≡ Some addr)
+CameAt comes (listeners.Unix listener) stream from = from ≡ None
+CameAt comes (listeners.Udp enrolled) stream from = ⊥
+CameAt comes (listeners.Packets enrolled) stream from = ⊥
+
+-- the same, where a connection came
+abbrev pub ArrivesAt : {T : Type 0} → (T → Result (TcpStream × SocketAddr) Error → Type 0) → Listener T → Arrival → Type 0
+ArrivesAt comes listener (arrivals.Came stream from) = CameAt comes listener stream from
+ArrivesAt comes listener arrivals.Aborted = Unit {0}
+ArrivesAt comes listener arrivals.Starved = Unit {0}
+ArrivesAt comes listener arrivals.LeftOff = Unit {0}
+ArrivesAt comes listener (arrivals.Nobody error) = Unit {0}
+ArrivesAt comes listener arrivals.Failed = Unit {0}

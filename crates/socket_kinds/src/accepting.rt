@@ -1,13 +1,14 @@
 // Peers are accepted at doors.
-ghost use Rattle.std.specs.Prelude.{◌≡◌, ◌≢◌, false, true, is_some};
+ghost use Rattle.std.specs.Prelude.{◌≡◌, ◌≢◌, false, true, None};
 ghost use Rattle.port_trait.specs.declared.makers.MadePeer.TheVariants as peers;
 ghost use Rattle.relay_model.specs.declared.acts.Peer.TheVariants as whose;
 ghost use Rattle.socket_kinds.specs.Accepting.{OnPeer, OnCame, OnBoth, IsNoPartner};
-ghost use Rattle.socket_kinds.specs.Kinds.{is_door, is_unix_door, has_left_off, HasPartner};
+ghost use Rattle.socket_kinds.specs.Doors.{is_unix};
+ghost use Rattle.socket_kinds.specs.Kinds.{is_door, is_unix_door, has_left_off, ComesTo, ComesToDoor, HasPartner, IsConnectedFrom, IsOfPackets, IsToldPeer};
 
 use crate::any_socket::AnySocket;
 use crate::datagram::DatagramSocket;
-use crate::door::{Arrival, Door, Listener};
+use crate::door::{Accepts, Arrival, Door, Listener};
 use crate::peers::peer_of;
 use crate::stream::{Stream, StreamSocket};
 use mio::Registry;
@@ -15,10 +16,13 @@ use port_trait::{MadePeer, Making};
 use relay_model::Peer;
 use std::alloc::Global;
 use std::io::{Error, ErrorKind};
-use std::net::UdpSocket;
+use std::net::{SocketAddr, UdpSocket};
 use std::sync::Arc;
 
-impl AnySocket {
+/// The sockets whose TCP doors listen at this.
+pub type SocketAt<T> = AnySocket<StreamSocket, DatagramSocket, Door<T>>;
+
+impl<T: Accepts> AnySocket<StreamSocket, DatagramSocket, Door<T>> {
     /// Accepts a peer, whose socket the registry reports under `key`. It answers `NoPeer` where none waits, and where 64
     /// connections in a row were aborted before they were accepted or no descriptor is free; `Failed` where this is no
     /// door, and where the system refuses. At a door of datagrams the first one is the peer's, and stays to be read.
@@ -27,11 +31,12 @@ impl AnySocket {
         alloc: Global,
         registry: &Arc<Registry, Global>,
         key: usize,
-    ) -> MadePeer<AnySocket>
+    ) -> MadePeer<SocketAt<T>>
         ensures sort { OnPeer (λ socket. is_door socket ≡ false) result }
         ensures no_door { is_door self.old ≡ false → result ≡ peers.Failed }
         ensures left_off { has_left_off self.new ≡ true → result ≡ peers.NoPeer }
         ensures addressed { is_unix_door self.old ≡ false → OnCame (λ peer. peer ≢ whose.Local) result }
+        ensures came { OnPeer (ComesToDoor T.comes self.old) result }
         ensures partner { OnBoth HasPartner result }
     {
         match self {
@@ -41,15 +46,16 @@ impl AnySocket {
     }
 }
 
-fn accept_at(
+fn accept_at<T: Accepts>(
     alloc: Global,
     registry: &Arc<Registry, Global>,
-    door: &mut Door,
+    door: &mut Door<T>,
     key: usize,
-) -> MadePeer<AnySocket>
+) -> MadePeer<SocketAt<T>>
     ensures sort { OnPeer (λ socket. is_door socket ≡ false) result }
     ensures left_off { door.new.cut_short ≡ true → result ≡ peers.NoPeer }
-    ensures addressed { door.old.unix ≡ false → OnCame (λ peer. peer ≢ whose.Local) result }
+    ensures addressed { is_unix door.old.listener ≡ false → OnCame (λ peer. peer ≢ whose.Local) result }
+    ensures came { OnPeer (ComesTo T.comes door.old.listener) result }
     ensures partner { OnBoth HasPartner result }
 {
     door.cut_short = false;
@@ -63,9 +69,24 @@ fn accept_at(
         }
         Listener::Tcp(_) | Listener::Unix(_) => {}
     }
+    accept_connected(registry, door, key)
+}
+
+#[tactic(auto, using(crate::proofs::Arrivals::comes_to))]
+fn accept_connected<T: Accepts>(
+    registry: &Registry,
+    door: &mut Door<T>,
+    key: usize,
+) -> MadePeer<SocketAt<T>>
+    ensures sort { OnPeer (λ socket. is_door socket ≡ false) result }
+    ensures left_off { door.new.cut_short ≡ true → result ≡ peers.NoPeer }
+    ensures addressed { is_unix door.old.listener ≡ false → OnCame (λ peer. peer ≢ whose.Local) result }
+    ensures came { OnPeer (ComesTo T.comes door.old.listener) result }
+    ensures partner { OnBoth HasPartner result }
+{
     let nodelay = door.nodelay;
     match door.accept_stream() {
-        Arrival::Came(stream, peer) => stand(registry, stream, peer, nodelay, key),
+        Arrival::Came(stream, from) => stand(registry, stream, from, nodelay, key),
         Arrival::Aborted | Arrival::Starved | Arrival::LeftOff | Arrival::Nobody(_) => {
             MadePeer::NoPeer
         }
@@ -73,16 +94,17 @@ fn accept_at(
     }
 }
 
-/// The socket of a connection that was accepted.
-fn stand(
+/// The socket of a connection that was accepted, whose peer has this address.
+fn stand<T: Drop>(
     registry: &Registry,
     mut stream: Stream,
-    peer: Peer,
+    from: Option<SocketAddr>,
     nodelay: bool,
     key: usize,
-) -> MadePeer<AnySocket>
+) -> MadePeer<SocketAt<T>>
     ensures sort { OnPeer (λ socket. is_door socket ≡ false) result }
-    ensures peer { OnCame (λ told. told ≡ peer) result }
+    ensures from { OnPeer (IsConnectedFrom from) result }
+    ensures addressed { from ≢ None → OnCame (λ peer. peer ≢ whose.Local) result }
     ensures partner { OnBoth HasPartner result }
 {
     if nodelay {
@@ -91,19 +113,35 @@ fn stand(
     if !stream.enroll(registry, key) {
         return MadePeer::Failed;
     }
-    MadePeer::Came(AnySocket::Stream(StreamSocket::connected(stream)), peer)
+    let peer = told_peer(from);
+    MadePeer::Came(
+        AnySocket::Stream(StreamSocket::connected(stream, from)),
+        peer,
+    )
+}
+
+/// The peer of the address that an accepting told. Only those of Unix sockets have none.
+fn told_peer(from: Option<SocketAddr>) -> Peer
+    ensures told { IsToldPeer from result }
+    ensures addressed { from ≢ None → result ≢ whose.Local }
+{
+    match from {
+        Some(addr) => peer_of(addr),
+        None => Peer::Local,
+    }
 }
 
 /// Shares the door's socket. The datagram is taken from it only once the new port stands. A `single` one gives no
 /// further datagram.
-fn accept_partner(
+fn accept_partner<T: Drop>(
     alloc: Global,
     registry: &Arc<Registry, Global>,
     door: &UdpSocket,
     key: usize,
     single: bool,
-) -> MadePeer<AnySocket>
+) -> MadePeer<SocketAt<T>>
     ensures sort { OnPeer (λ socket. is_door socket ≡ false) result }
+    ensures packets { OnPeer IsOfPackets result }
     ensures addressed { OnCame (λ peer. peer ≢ whose.Local) result }
     ensures partner { OnBoth HasPartner result }
 {
@@ -120,8 +158,9 @@ fn accept_partner(
     }
 }
 
-fn hold_first(mut socket: DatagramSocket, single: bool) -> MadePeer<AnySocket>
+fn hold_first<T: Drop>(mut socket: DatagramSocket, single: bool) -> MadePeer<SocketAt<T>>
     ensures sort { OnPeer (λ socket. is_door socket ≡ false) result }
+    ensures packets { OnPeer IsOfPackets result }
     ensures addressed { OnCame (λ peer. peer ≢ whose.Local) result }
     ensures partner { OnBoth HasPartner result }
 {
@@ -131,9 +170,10 @@ fn hold_first(mut socket: DatagramSocket, single: bool) -> MadePeer<AnySocket>
     }
 }
 
-fn no_partner(error: &Error) -> MadePeer<AnySocket>
+fn no_partner<T: Drop>(error: &Error) -> MadePeer<SocketAt<T>>
     ensures answer { IsNoPartner error.now result }
     ensures nobody { OnPeer (λ socket. is_door socket ≡ false) result }
+    ensures none { OnPeer IsOfPackets result }
     ensures unaddressed { OnCame (λ peer. peer ≢ whose.Local) result }
     ensures alone { OnBoth HasPartner result }
 {

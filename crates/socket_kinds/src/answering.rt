@@ -1,12 +1,10 @@
 // What the system's answers mean to a port.
-ghost use Rattle.std.specs.Prelude.{◌≡◌, ◌≢◌, ◌<◌, length, None};
-ghost use Rattle.port_trait.specs.Meanings.{Gives, Accepts};
-ghost use Rattle.port_trait.specs.declared.answers.Got.TheVariants as reads;
-ghost use Rattle.socket_kinds.specs.Answering.{ReaderGave, WriterTook, IsReceived, IsAccepted, IsShutDown, connection_of, settling_of};
+ghost use Rattle.std.specs.Prelude.{◌≡◌};
+ghost use Rattle.socket_kinds.specs.Answering.{IsReceived, IsAccepted, IsShutDown, connection_of, settling_of};
 
 use port_trait::{Got, Settled, Shutting, Took};
 use std::io;
-use std::io::{Error, ErrorKind, Read, Write};
+use std::io::{Error, ErrorKind};
 
 /// How a connection stands that was begun.
 #[derive(Clone, Copy, Debug, PartialEq)]
@@ -45,7 +43,7 @@ impl Connection {
 }
 
 /// What a read of a stream came to (recv(2)).
-pub(crate) fn received(read: &io::Result<usize>) -> Got
+pub fn received(read: &io::Result<usize>) -> Got
     ensures { IsReceived read.now result }
 {
     match read {
@@ -62,7 +60,7 @@ pub(crate) fn received(read: &io::Result<usize>) -> Got
 }
 
 /// What a write came to (send(2)).
-pub(crate) fn accepted(written: &io::Result<usize>) -> Took
+pub fn accepted(written: &io::Result<usize>) -> Took
     ensures { IsAccepted written.now result }
 {
     match written {
@@ -76,25 +74,6 @@ pub(crate) fn accepted(written: &io::Result<usize>) -> Took
             }
         }
     }
-}
-
-/// One read of a stream.
-pub fn receive_once<R: Read>(reader: &mut R, into: &mut [u8]) -> Got
-    requires { 0 < length into.old }
-    ensures bytes { ReaderGave (R.remaining reader.old) (R.remaining reader.new) into.new result }
-    ensures gives { Gives None None into.new result }
-    ensures stream { result ≢ reads.Empty }
-{
-    received(&reader.read(into))
-}
-
-/// One write.
-pub fn transmit_once<W: Write>(writer: &mut W, bytes: &[u8]) -> Took
-    requires { 0 < length bytes.now }
-    ensures bytes { WriterTook (W.contents writer.old) (W.contents writer.new) bytes.now result }
-    ensures accepts { Accepts None None bytes.now result }
-{
-    accepted(&writer.write(bytes))
 }
 
 /// What a shutdown came to (shutdown(2)). One that the peer has reset is shut already.

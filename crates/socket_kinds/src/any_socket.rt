@@ -46,6 +46,15 @@ impl<S: Socket, D: Socket, L: Socket> Socket for AnySocket<S, D, L> {
     ghost answers_settle = { λ old new settled. SameSort (λ before now. S.answers_settle before now settled)
         (λ before now. D.answers_settle before now settled) (λ before now. L.answers_settle before now settled) old new };
 
+    ghost answers_receive = { λ old new into got. SameSort (λ before now. S.answers_receive before now into got)
+        (λ before now. D.answers_receive before now into got) (λ before now. L.answers_receive before now into got) old new };
+
+    ghost answers_transmit = { λ old new bytes took. SameSort (λ before now. S.answers_transmit before now bytes took)
+        (λ before now. D.answers_transmit before now bytes took) (λ before now. L.answers_transmit before now bytes took) old new };
+
+    ghost answers_packet = { λ old new bytes took. SameSort (λ before now. S.answers_packet before now bytes took)
+        (λ before now. D.answers_packet before now bytes took) (λ before now. L.answers_packet before now bytes took) old new };
+
     ghost answers_finish = { λ old new how shutting. SameSort (λ before now. S.answers_finish before now how shutting)
         (λ before now. D.answers_finish before now how shutting) (λ before now. L.answers_finish before now how shutting) old new };
 

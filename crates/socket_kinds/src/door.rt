@@ -1,5 +1,5 @@
 // Doors: sockets that listen for peers.
-ghost use Rattle.std.specs.Prelude.{◌≡◌, true, false, Some, Result};
+ghost use Rattle.std.specs.Prelude.{◌≡◌, true, false, Result};
 ghost use Rattle.std.specs.declared.io.Error.{Error};
 ghost use Rattle.std.specs.declared.net.socket_addr.SocketAddr.{SocketAddr};
 ghost use Rattle.mio.specs.declared.net.stream.TcpStream.{TcpStream};
@@ -9,15 +9,14 @@ ghost use Rattle.port_trait.specs.declared.answers.Settled.TheVariants as settle
 ghost use Rattle.port_trait.specs.declared.answers.Got.TheVariants as reads;
 ghost use Rattle.port_trait.specs.declared.answers.Took.TheVariants as writes;
 ghost use Rattle.port_trait.specs.declared.answers.Shutting.TheVariants as shuts;
-ghost use Rattle.socket_kinds.specs.Doors.{door_hint, has_left, is_unix, Comes, ComesAddressed, IsDeclined, IsOne, OnlyBlocked};
+ghost use Rattle.socket_kinds.specs.Doors.{door_hint, has_left, is_unix, ArrivesAt, Comes, ComesAddressed, IsDeclined, IsOne, OnlyBlocked};
 
 use crate::enrolled::EnrolledUdp;
-use crate::peers::peer_of;
 use crate::socket::Socket;
 use crate::stream::Stream;
 use mio::net::{TcpListener, TcpStream, UnixListener};
 use port_trait::{Got, Hint, Settled, Shutting, Took};
-use relay_model::{Peer, Shut};
+use relay_model::Shut;
 use std::io;
 use std::io::{Error, ErrorKind};
 use std::marker::Model;
@@ -28,8 +27,8 @@ const MOST_ABORTED: usize = 64;
 
 /// What listens.
 #[derive(Drop)]
-pub enum Listener {
-    Tcp(TcpListener),
+pub enum Listener<T = TcpListener> {
+    Tcp(T),
     Unix(UnixListener),
     Udp(EnrolledUdp),
     /// Each datagram is a peer's by itself.
@@ -39,7 +38,8 @@ pub enum Listener {
 /// What an accepting came to.
 #[derive(Drop)]
 pub(crate) enum Arrival {
-    Came(Stream, Peer),
+    /// A connection, with the address of its peer where that has one.
+    Came(Stream, Option<SocketAddr>),
     /// The connection was aborted before it was accepted.
     Aborted,
     /// It has to wait until a descriptor is free.
@@ -51,16 +51,17 @@ pub(crate) enum Arrival {
     Failed,
 }
 
-impl Listener {
+impl<T: Accepts> Listener<T> {
     /// Accepts once. A socket of datagrams has no connections.
     fn accept_one(&self) -> Arrival
         ensures blocked { OnlyBlocked result }
         ensures addressed { is_unix self.now ≡ false → ComesAddressed result }
+        ensures came { ArrivesAt T.comes self.now result }
     {
         match self {
             Listener::Tcp(listener) => accept_connection(listener),
             Listener::Unix(listener) => match listener.accept() {
-                Ok((stream, _)) => Arrival::Came(Stream::Unix(stream), Peer::Local),
+                Ok((stream, _)) => Arrival::Came(Stream::Unix(stream), None),
                 Err(error) => declined(error),
             },
             Listener::Udp(_) | Listener::Packets(_) => Arrival::Failed,
@@ -69,7 +70,7 @@ impl Listener {
 }
 
 /// What TCP connections are accepted from. As with `Wire`, its relation names the answer of a call.
-pub(crate) trait Accepts {
+pub trait Accepts: Drop {
     // what an accepting answers
     ghost comes: { Self → Result (TcpStream × SocketAddr) Error → Type 0 } = { λ _ _. Unit {0} };
 
@@ -100,7 +101,7 @@ fn arrived(accepted: io::Result<(TcpStream, SocketAddr)>) -> Arrival
     ensures addressed { ComesAddressed result }
 {
     match accepted {
-        Ok((stream, addr)) => Arrival::Came(Stream::Tcp(stream), peer_of(addr)),
+        Ok((stream, addr)) => Arrival::Came(Stream::Tcp(stream), Some(addr)),
         Err(error) => declined(error),
     }
 }
@@ -130,26 +131,26 @@ fn declined(error: Error) -> Arrival
 
 /// A socket that listens. It neither gives nor takes bytes.
 #[derive(Drop)]
-pub struct Door {
-    pub(crate) listener: Listener,
+pub struct Door<T = TcpListener> {
+    pub(crate) listener: Listener<T>,
     pub(crate) nodelay: bool,
     // whether the last accepting left off with connections that may wait, and whether it did so for want of descriptors
     pub(crate) cut_short: bool,
     pub(crate) starved: bool,
 }
 
-impl Model for Door {
-    ghost use Rattle.socket_kinds.specs.Doors.{DoorState, is_unix};
+impl<T> Model for Door<T> {
+    ghost use Rattle.socket_kinds.specs.Doors.{DoorState};
 
-    ghost Value = { DoorState };
+    ghost Value = { DoorState T };
 
-    ghost view = { λ door. record { cut_short = door.cut_short; unix = is_unix door.listener } };
+    ghost view = { λ door. record { cut_short = door.cut_short; listener = door.listener } };
 }
 
-impl Door {
+impl<T> Door<T> {
     /// The door of this listener. With `nodelay` the TCP connections that it accepts don't wait to fill a segment.
-    pub fn new(listener: Listener, nodelay: bool) -> Door
-        ensures { result ≡ record { cut_short = false; unix = is_unix listener } }
+    pub fn new(listener: Listener<T>, nodelay: bool) -> Door<T>
+        ensures { result ≡ record { cut_short = false; listener = listener } }
     {
         Door {
             listener,
@@ -159,18 +160,30 @@ impl Door {
         }
     }
 
+    /// Hints from now on that there may be more.
+    fn leave_off(&mut self) -> Arrival
+        ensures hints { self.new ≡ record self.old { cut_short = true } }
+        ensures left { result ≡ arrivals.LeftOff }
+    {
+        self.cut_short = true;
+        Arrival::LeftOff
+    }
+}
+
+impl<T: Accepts> Door<T> {
     /// Accepts a connection, and passes over those that were aborted. After 64 of these it leaves off, and hints
     /// that there may be more; so it does where no descriptor is free.
     pub(crate) fn accept_stream(&mut self) -> Arrival
         ensures one { IsOne result }
         ensures left_off { self.new ≡ record self.old { cut_short = has_left result } }
         ensures blocked { OnlyBlocked result }
-        ensures addressed { self.old.unix ≡ false → ComesAddressed result }
+        ensures addressed { is_unix self.old.listener ≡ false → ComesAddressed result }
+        ensures came { ArrivesAt T.comes self.old.listener result }
     {
         self.cut_short = false;
         for _ in 0..MOST_ABORTED {
             match self.listener.accept_one() {
-                Arrival::Came(stream, peer) => return Arrival::Came(stream, peer),
+                Arrival::Came(stream, from) => return Arrival::Came(stream, from),
                 Arrival::Aborted => {}
                 Arrival::Starved => {
                     self.starved = true;
@@ -182,15 +195,6 @@ impl Door {
             }
         }
         self.leave_off()
-    }
-
-    /// Hints from now on that there may be more.
-    fn leave_off(&mut self) -> Arrival
-        ensures hints { self.new ≡ record self.old { cut_short = true } }
-        ensures left { result ≡ arrivals.LeftOff }
-    {
-        self.cut_short = true;
-        Arrival::LeftOff
     }
 }
 
@@ -209,7 +213,7 @@ impl Door {
     }
 }
 
-impl Socket for Door {
+impl<T: Drop> Socket for Door<T> {
     ghost hints = { door_hint };
 
     fn settle(&mut self) -> Settled

@@ -12,10 +12,11 @@ mod peers;
 mod socket;
 mod stream;
 
-pub use answering::{receive_once, transmit_once};
+pub use accepting::SocketAt;
+pub use answering::{accepted, received};
 pub use any_socket::AnySocket;
 pub use datagram::DatagramSocket;
-pub use door::{Door, Listener};
+pub use door::{Accepts, Door, Listener};
 pub use enrolled::{EnrolledUdp, PacketWire};
 pub use peers::{address_of, peer_of};
 pub use socket::Socket;

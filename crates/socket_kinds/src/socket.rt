@@ -3,8 +3,10 @@ ghost use Rattle.std.specs.Prelude.{◌≡◌, ◌<◌, List, ℕ, length, Optio
 ghost use Rattle.port_trait.specs.Hinting.{no_hint};
 ghost use Rattle.port_trait.specs.Meanings.{Gives, Accepts, AcceptsWhole, noted};
 ghost use Rattle.port_trait.specs.declared.answers.Hint.{Hint};
+ghost use Rattle.port_trait.specs.declared.answers.Got.{Got};
 ghost use Rattle.port_trait.specs.declared.answers.Settled.{Settled};
 ghost use Rattle.port_trait.specs.declared.answers.Shutting.{Shutting};
+ghost use Rattle.port_trait.specs.declared.answers.Took.{Took as WriteAnswer};
 ghost use Rattle.relay_model.specs.declared.acts.Shut.{Shut};
 
 use port_trait::{Got, Hint, Settled, Shutting, Took};
@@ -20,9 +22,15 @@ pub trait Socket: Drop {
     ghost shuts: { Self → Option (List Shut) } = { λ _. None };
     // what it knows of its readiness by itself; only a call on it changes that
     ghost hints: { Self → Hint } = { λ _. no_hint };
-    // what a `settle` and a `finish` answer of it. A contract over any socket can name that answer by these alone, so it
-    // holds only of a caller that makes this one call
+    // what each call answers of it. A contract over any socket can name that answer by these alone, so it holds only of a
+    // caller that makes this one call
     ghost answers_settle: { Self → Self → Settled → Type 0 } = { λ _ _ _. Unit {0} };
+
+    ghost answers_receive: { Self → Self → List ℕ → Got → Type 0 } = { λ _ _ _ _. Unit {0} };
+
+    ghost answers_transmit: { Self → Self → List ℕ → WriteAnswer → Type 0 } = { λ _ _ _ _. Unit {0} };
+
+    ghost answers_packet: { Self → Self → List ℕ → WriteAnswer → Type 0 } = { λ _ _ _ _. Unit {0} };
 
     ghost answers_finish: { Self → Self → Shut → Shutting → Type 0 } = { λ _ _ _ _. Unit {0} };
 
@@ -34,18 +42,21 @@ pub trait Socket: Drop {
     /// Takes what there is, up to the length of `into`.
     fn receive(&mut self, into: &mut [u8]) -> Got
         requires { 0 < length into.old }
+        ensures answered { answers_receive self.old self.new into.new result }
         ensures gives { Gives (gave self.old) (gave self.new) into.new result }
         ensures kept { (took self.new ≡ took self.old) × (shuts self.new ≡ shuts self.old) };
 
     /// Accepts a front of the bytes.
     fn transmit(&mut self, bytes: &[u8]) -> Took
         requires { 0 < length bytes.now }
+        ensures answered { answers_transmit self.old self.new bytes.now result }
         ensures accepts { Accepts (took self.old) (took self.new) bytes.now result }
         ensures kept { (gave self.new ≡ gave self.old) × (shuts self.new ≡ shuts self.old) };
 
     /// Accepts the bytes as one datagram, or none of them.
     fn transmit_packet(&mut self, bytes: &[u8]) -> Took
         requires { 0 < length bytes.now }
+        ensures answered { answers_packet self.old self.new bytes.now result }
         ensures accepts { AcceptsWhole (took self.old) (took self.new) bytes.now result }
         ensures kept { (gave self.new ≡ gave self.old) × (shuts self.new ≡ shuts self.old) };
 

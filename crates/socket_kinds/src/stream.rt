@@ -23,7 +23,8 @@ use relay_model::Shut;
 use std::io;
 use std::io::{Error, Read, Write};
 use std::marker::Model;
-use std::net::Shutdown;
+use std::net::{Shutdown, SocketAddr};
+use std::snapshot::Snapshot;
 
 /// A stream of one of the two families.
 #[derive(Drop)]
@@ -151,6 +152,7 @@ impl Stream {
 pub struct StreamSocket<S = Stream> {
     stream: S,
     connection: Connection,
+    from: Snapshot<Option<SocketAddr>>,
 }
 
 impl<S> Model for StreamSocket<S> {
@@ -158,27 +160,29 @@ impl<S> Model for StreamSocket<S> {
 
     ghost Value = { StreamState S };
 
-    ghost view = { λ socket. record { stream = socket.stream; connection = socket.connection } };
+    ghost view = { λ socket. record { stream = socket.stream; connection = socket.connection; from = socket.from.value } };
 }
 
 impl<S> StreamSocket<S> {
     /// One that was begun to connect.
     pub fn connecting(stream: S) -> StreamSocket<S>
-        ensures { result ≡ record { stream = stream; connection = connections.UnderWay } }
+        ensures { result ≡ record { stream = stream; connection = connections.UnderWay; from = None } }
     {
         StreamSocket {
             stream,
             connection: Connection::UnderWay,
+            from: Snapshot::of(&None),
         }
     }
 
-    /// One that stands.
-    pub fn connected(stream: S) -> StreamSocket<S>
-        ensures { result ≡ record { stream = stream; connection = connections.Standing } }
+    /// One that stands, with its peer's address where an accepting told that.
+    pub fn connected(stream: S, from: Option<SocketAddr>) -> StreamSocket<S>
+        ensures { result ≡ record { stream = stream; connection = connections.Standing; from = from } }
     {
         StreamSocket {
             stream,
             connection: Connection::Standing,
+            from: Snapshot::of(&from),
         }
     }
 }
@@ -191,7 +195,7 @@ impl<S: Wire> Socket for StreamSocket<S> {
             → Answers (S.tells_error self.old.stream) (λ kept. (known : Bool) × S.knows_peer self.old.stream known
             × (self.new.connection ≡ connection_of kept known)) }
         ensures stays { self.old.connection ≢ connections.UnderWay → self.new ≡ self.old }
-        ensures stream { self.new.stream ≡ self.old.stream }
+        ensures kept { (self.new.stream ≡ self.old.stream) × (self.new.from ≡ self.old.from) }
     {
         if self.connection == Connection::UnderWay {
             self.connection = Connection::of(&self.stream.kept_error(), self.stream.has_peer());
@@ -206,7 +210,7 @@ impl<S: Wire> Socket for StreamSocket<S> {
         ensures bytes { ReaderGave (S.remaining self.old.stream) (S.remaining self.new.stream) into.new result }
         ensures gives { Gives None None into.new result }
         ensures stream { result ≢ reads.Empty }
-        ensures kept { self.new.connection ≡ self.old.connection }
+        ensures kept { (self.new.connection ≡ self.old.connection) × (self.new.from ≡ self.old.from) }
     {
         received(&self.stream.receive(into))
     }
@@ -217,7 +221,7 @@ impl<S: Wire> Socket for StreamSocket<S> {
         ensures once { Answers (S.transmits self.old.stream self.new.stream bytes.now) (λ written. IsAccepted written result) }
         ensures bytes { WriterTook (S.contents self.old.stream) (S.contents self.new.stream) bytes.now result }
         ensures accepts { Accepts None None bytes.now result }
-        ensures kept { self.new.connection ≡ self.old.connection }
+        ensures kept { (self.new.connection ≡ self.old.connection) × (self.new.from ≡ self.old.from) }
     {
         accepted(&self.stream.transmit(bytes))
     }
@@ -237,7 +241,7 @@ impl<S: Wire> Socket for StreamSocket<S> {
             → Answers (S.shuts_half self.old.stream self.new.stream halves.Write) (λ done. IsShutDown done result) }
         ensures silent { Keeps (S.contents self.old.stream) (S.contents self.new.stream) }
         ensures untouched { finishes how ≡ false → (result ≡ shuts.Done) × (self.new ≡ self.old) }
-        ensures kept { self.new.connection ≡ self.old.connection }
+        ensures kept { (self.new.connection ≡ self.old.connection) × (self.new.from ≡ self.old.from) }
     {
         match how {
             Shut::Down | Shut::Close => shut_down(&self.stream.shut(Shutdown::Write)),

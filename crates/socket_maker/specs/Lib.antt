@@ -5,3 +5,4 @@ pub mod Makers
 pub mod Makings
 pub mod Ports
 pub mod Reserves
+pub mod Unlinking

@@ -1,6 +1,5 @@
 -- Which sockets are made of which addresses.
-use Rattle.std.specs.Prelude.{◌≡◌, ℕ, true, List, Option, None, Some}
-use Rattle.relay_model.specs.declared.commands.EntryOptions.{EntryOptions}
+use Rattle.std.specs.Prelude.{Option, None, Some}
 use Rattle.relay_model.specs.declared.commands.Target.{Target}
 use Rattle.relay_model.specs.declared.commands.Target.TheVariants as targets
 use Rattle.port_trait.specs.declared.makers.Making.{Making}
@@ -23,7 +22,3 @@ socket_sort (makings.Made socket) = Some (sort_of socket)
 socket_sort (makings.Later socket) = Some (sort_of socket)
 socket_sort makings.Failed = None
 socket_sort makings.Memory = None
-
--- nothing is removed but the entry of this name: before, and with the port, only where the options say so
-abbrev pub IsRemovedEarly : EntryOptions → List ℕ → List ℕ → Type 0
-IsRemovedEarly options name path = (options.unlink_early ≡ true) × (path ≡ name)

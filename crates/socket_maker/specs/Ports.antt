@@ -5,7 +5,8 @@ use Rattle.port_trait.specs.declared.answers.Hint.{Hint}
 use Rattle.port_trait.specs.declared.counts.Counts.{Counts}
 use Rattle.port_trait.specs.declared.makers.Making.{Making}
 use Rattle.port_trait.specs.declared.makers.Making.TheVariants as makings
-use Rattle.socket_kinds.specs.Kinds.{Sort, hint_of, is_door, is_unix_door, has_left_off, sort_of, SystemSocket}
+use Rattle.relay_model.specs.declared.acts.Peer.{Peer}
+use Rattle.socket_kinds.specs.Kinds.{Sort, HasPartner, hint_of, is_door, is_unix_door, has_left_off, sort_of, SystemSocket}
 use Rattle.socket_ports.specs.Accepting.{IsFresh}
 use Rattle.socket_ports.specs.Sockets.{PortState, no_counts}
 use Rattle.host_lookup.specs.Hosts.{IsNameOf}
@@ -51,6 +52,11 @@ is_unix_door_port port = of_port (λ looking. false) (λ socket. is_unix_door so
 -- a door at which peers may wait that the system won't tell of again
 abbrev pub has_left_off_at : HostPort → Bool
 has_left_off_at port = of_port (λ looking. false) (λ socket. has_left_off socket.socket) port
+
+-- it is the port of what came with this peer
+abbrev pub HasPartnerAt : HostPort → Peer → Type 0
+HasPartnerAt (ports.Looking port) peer = ⊥
+HasPartnerAt (ports.Socket port) peer = HasPartner port.socket peer
 
 -- what it hints by itself; the end of a lookup is told by its thread
 abbrev pub hints_at : HostPort → Option Hint

@@ -6,11 +6,12 @@ ghost use Rattle.socket_kinds.specs.Kinds.{Connected, Listening, sort_of};
 ghost use Rattle.socket_kinds.specs.declared.any_socket.AnySocket.{AnySocket};
 ghost use Rattle.socket_ports.specs.Removals.{IsRemoval};
 ghost use Rattle.socket_ports.specs.Sockets.{fresh_port};
-ghost use Rattle.socket_maker.specs.Makings.{IsRemovedEarly};
+ghost use Rattle.socket_maker.specs.Unlinking.{UnlinksNamed};
 ghost use Rattle.socket_maker.specs.Ports.{IsFreshPort, port_sort};
 ghost use Rattle.socket_maker.specs.declared.port.HostPort.TheVariants as ports;
 
 use crate::port::HostPort;
+use crate::unlinking::{EntryCalls, unlink_early};
 use mio::net::{UnixListener, UnixStream};
 use mio::{Interest, Registry, Token};
 use port_trait::Making;
@@ -25,8 +26,9 @@ use std::{io, str};
 
 /// Connects to the entry of this name, and removes it before and after as the options say (socat(1),
 /// `unlink-early` and `unlink-close`).
-pub(crate) fn connect_unix<R>(
+pub(crate) fn connect_unix<R, C>(
     rt: R,
+    calls: &mut C,
     alloc: Global,
     registry: &Arc<Registry, Global>,
     key: usize,
@@ -35,6 +37,8 @@ pub(crate) fn connect_unix<R>(
 ) -> Making<HostPort>
 where
     R: Net + Files + Copy + Drop,
+    C: EntryCalls,
+    ensures unlinked { UnlinksNamed entry name.now result (C.unlinked calls.old) (C.unlinked calls.new) }
     ensures fresh { OnPort IsFreshPort result }
     ensures sort { IfSome (port_sort result) (λ sort. sort ≡ Connected) }
     ensures at_once { IsAtOnce result }
@@ -45,7 +49,7 @@ where
     let Ok(copy) = String::from_str(alloc, path) else {
         return Making::Memory;
     };
-    remove_early(&rt, name, entry, path);
+    unlink_early(calls, name, entry, path);
     let Ok(stream) = connect_at(&rt, name, path) else {
         return Making::Failed;
     };
@@ -54,13 +58,14 @@ where
     if !stream.enroll(registry, key) {
         return Making::Failed;
     }
-    let socket = AnySocket::Stream(StreamSocket::connected(stream));
+    let socket = AnySocket::Stream(StreamSocket::connected(stream, None));
     Making::Made(with_entry(socket, name, entry, removal))
 }
 
 /// Makes the entry of this name, which the options remove before and after.
-pub(crate) fn listen_unix<R>(
+pub(crate) fn listen_unix<R, C>(
     rt: R,
+    calls: &mut C,
     alloc: Global,
     registry: &Arc<Registry, Global>,
     key: usize,
@@ -69,6 +74,8 @@ pub(crate) fn listen_unix<R>(
 ) -> Making<HostPort>
 where
     R: Net + Files + Copy + Drop,
+    C: EntryCalls,
+    ensures unlinked { UnlinksNamed entry name.now result (C.unlinked calls.old) (C.unlinked calls.new) }
     ensures fresh { OnPort IsFreshPort result }
     ensures sort { IfSome (port_sort result) (λ sort. sort ≡ Listening) }
     ensures at_once { IsAtOnce result }
@@ -79,7 +86,7 @@ where
     let Ok(copy) = String::from_str(alloc, path) else {
         return Making::Memory;
     };
-    remove_early(&rt, name, entry, path);
+    unlink_early(calls, name, entry, path);
     let Ok(mut listener) = listen_at(&rt, name, path) else {
         return Making::Failed;
     };
@@ -92,24 +99,6 @@ where
     }
     let socket = AnySocket::Door(Door::new(Listener::Unix(listener), false));
     Making::Made(with_entry(socket, name, entry, removal))
-}
-
-/// Removes the entry where the options say so.
-fn remove_early<R: Files>(rt: &R, name: &Text, entry: EntryOptions, path: &str)
-    requires { path.now ≡ name.now }
-{
-    if entry.unlink_early {
-        remove(rt, name, entry, path);
-    }
-}
-
-/// A removal that fails is disregarded.
-fn remove<R: Files>(rt: &R, name: &Text, entry: EntryOptions, path: &str)
-    requires { IsRemovedEarly entry name.now path.now }
-{
-    let _removed_for = name;
-    let _removed_by = entry;
-    let _ = rt.remove_file(path);
 }
 
 fn connect_at<R: Net>(rt: &R, name: &Text, path: &str) -> io::Result<UnixStream>

@@ -10,6 +10,7 @@ mod making;
 mod port;
 mod reaching;
 mod reserve;
+mod unlinking;
 
 pub use aims::{Aim, Way};
 pub use local::door_address;

@@ -9,11 +9,11 @@ ghost use Rattle.port_trait.specs.Counted.{risen};
 ghost use Rattle.port_trait.specs.declared.makers.MadePeer.TheVariants as peers;
 ghost use Rattle.relay_model.specs.declared.acts.Peer.TheVariants as whose;
 ghost use Rattle.socket_kinds.specs.Kinds.{Listening};
-ghost use Rattle.socket_kinds.specs.Accepting.{OnCame, OnPort, OnPeer};
+ghost use Rattle.socket_kinds.specs.Accepting.{OnBoth, OnCame, OnPort, OnPeer};
 ghost use Rattle.host_lookup.specs.Hosts.{IsNameOf, WritesIp};
 ghost use Rattle.socket_maker.specs.Aims.{aim_of, host_of, server_aim, way_sort};
 ghost use Rattle.socket_maker.specs.Makings.{opened_sort};
-ghost use Rattle.socket_maker.specs.Ports.{Aims, IsFreshPort, has_left_off_at, is_door_port, is_unix_door_port, port_sort, sort_at};
+ghost use Rattle.socket_maker.specs.Ports.{Aims, HasPartnerAt, IsFreshPort, has_left_off_at, is_door_port, is_unix_door_port, port_sort, sort_at};
 ghost use Rattle.relay_model.specs.Configs.{listens};
 
 use crate::aims::{Aim, Way, aim_at};
@@ -21,6 +21,7 @@ use crate::looking::LookingPort;
 use crate::making::{listen_socket, nameless, open_socket};
 use crate::port::HostPort;
 use crate::reaching::{reach_written, written_out};
+use crate::unlinking::SystemEntries;
 use host_lookup::{Lookup, Lookups, Written, written_host};
 use mio::Registry;
 use mio_poller::MioPoller;
@@ -216,7 +217,10 @@ where
     {
         match aim_at(single) {
             Some((aim, host)) => self.open_host(key, host, aim),
-            None => open_socket(self.rt, self.alloc, &self.registry, key, single),
+            None => {
+                let calls = &mut SystemEntries { files: self.rt };
+                open_socket(self.rt, calls, self.alloc, &self.registry, key, single)
+            }
         }
     }
 
@@ -227,6 +231,7 @@ where
         ensures no_door { is_door_port door.old ≡ false → result ≡ peers.Failed }
         ensures left_off { has_left_off_at door.new ≡ true → result ≡ peers.NoPeer }
         ensures addressed { is_unix_door_port door.old ≡ false → OnCame (λ peer. peer ≢ whose.Local) result }
+        ensures partner { OnBoth HasPartnerAt result }
     {
         let HostPort::Socket(door) = door else {
             return MadePeer::Failed;
@@ -281,7 +286,8 @@ where
         ensures other { listens single.now.target ≡ false → result ≡ makings.Failed }
         ensures listens { Listens (seen_of self.old) (seen_of self.new) result }
     {
-        let making = listen_socket(self.rt, self.alloc, &self.registry, key, single);
+        let calls = &mut SystemEntries { files: self.rt };
+        let making = listen_socket(self.rt, calls, self.alloc, &self.registry, key, single);
         self.count_making(&making);
         making
     }
@@ -292,6 +298,7 @@ where
         ensures no_door { is_door_port door.old ≡ false → result ≡ peers.Failed }
         ensures left_off { has_left_off_at door.new ≡ true → result ≡ peers.NoPeer }
         ensures addressed { is_unix_door_port door.old ≡ false → OnCame (λ peer. peer ≢ whose.Local) result }
+        ensures partner { OnBoth HasPartnerAt result }
         ensures lets_in { let at = ⟦<HostPort as Port>⟧.seen in
             LetsIn (seen_of self.old) (seen_of self.new) (at door.old) (at door.new) result }
     {

@@ -7,6 +7,7 @@ ghost use Rattle.socket_maker.specs.Addresses.{IsDoorAddress, waits_at};
 ghost use Rattle.socket_maker.specs.Aims.{aim_of, way_sort};
 ghost use Rattle.socket_maker.specs.Makings.{opened_sort, socket_sort};
 ghost use Rattle.socket_maker.specs.Ports.{Aims, IsFreshPort, port_sort};
+ghost use Rattle.socket_maker.specs.Unlinking.{UnlinksOf};
 ghost use Rattle.socket_maker.specs.declared.aims.Aim.{Aim};
 ghost use Rattle.relay_model.specs.Configs.{listens};
 ghost use Rattle.socket_kinds.specs.Kinds.{Packets, Listening};
@@ -14,6 +15,7 @@ ghost use Rattle.socket_kinds.specs.Kinds.{Packets, Listening};
 use crate::entries::{connect_unix, listen_unix};
 use crate::local::door_address;
 use crate::port::HostPort;
+use crate::unlinking::EntryCalls;
 use mio::net::TcpListener;
 use mio::{Interest, Registry, Token};
 use port_trait::Making;
@@ -28,8 +30,9 @@ use std::sync::Arc;
 /// Opens the socket of an address without a host that doesn't listen: a Unix socket by `UNIX-CONNECT` or `GOPEN`, and one
 /// that takes datagrams (socat(1), `UDP-RECV`). The registry reports it under `key`. It answers `Failed` where the address
 /// is of another kind, where a text isn't UTF-8, and where the system refuses; never `Later`.
-pub(crate) fn open_socket<R>(
+pub(crate) fn open_socket<R, C>(
     rt: R,
+    calls: &mut C,
     alloc: Global,
     registry: &Arc<Registry, Global>,
     key: usize,
@@ -37,7 +40,9 @@ pub(crate) fn open_socket<R>(
 ) -> Making<HostPort>
 where
     R: Net + Files + Copy + Drop,
+    C: EntryCalls,
     requires { aim_of single.now.target single.now.options.socket ≡ None }
+    ensures unlinked { UnlinksOf single.now result (C.unlinked calls.old) (C.unlinked calls.new) }
     ensures fresh { OnPort IsFreshPort result }
     ensures at_once { IsAtOnce result }
     ensures sort { IfSome (port_sort result) (λ sort. opened_sort single.now.target ≡ Some sort) }
@@ -49,7 +54,7 @@ where
             None => Making::Failed,
         },
         Target::UnixConnect(name) | Target::GenericOpen(name) => {
-            connect_unix(rt, alloc, registry, key, name, single.options.entry)
+            connect_unix(rt, calls, alloc, registry, key, name, single.options.entry)
         }
         _ => Making::Failed,
     }
@@ -58,8 +63,9 @@ where
 /// Listens at an address: TCP, UDP or a Unix socket. The registry reports the door under `key`. It answers `Failed`
 /// where the address is of another kind, where a text isn't UTF-8, where the system refuses, and at `UDP-LISTEN` with
 /// `fork`, whose door and peers share a socket and are no ports of this crate's; never `Later`.
-pub(crate) fn listen_socket<R>(
+pub(crate) fn listen_socket<R, C>(
     rt: R,
+    calls: &mut C,
     alloc: Global,
     registry: &Arc<Registry, Global>,
     key: usize,
@@ -67,6 +73,8 @@ pub(crate) fn listen_socket<R>(
 ) -> Making<HostPort>
 where
     R: Net + Files + Copy + Drop,
+    C: EntryCalls,
+    ensures unlinked { UnlinksOf single.now result (C.unlinked calls.old) (C.unlinked calls.new) }
     ensures fresh { OnPort IsFreshPort result }
     ensures at_once { IsAtOnce result }
     ensures sort { IfSome (port_sort result) (λ sort. sort ≡ Listening) }
@@ -88,6 +96,7 @@ where
         },
         Target::UnixListen(name) => listen_unix(
             rt,
+            calls,
             alloc,
             registry,
             key,

@@ -1,14 +1,27 @@
 -- What contracts see of a poller that also takes what comes for peers.
-use Rattle.std.specs.Prelude.{◌≡◌, ◌⊎◌, ℕ, ◌^◌, ◌-◌, ◌==◌, Bool, List, Option, Some}
+use Rattle.std.specs.Prelude.{◌≡◌, ◌⊎◌, ◌++◌, ℕ, ◌^◌, ◌-◌, ◌==◌, Bool, true, false, List, Option, Some, IfSome}
 use Rattle.std.specs.List.{list_any}
 use Rattle.relay_model.specs.declared.places.Half.{Half}
+use Rattle.port_trait.specs.declared.pollers.Polled.{Polled}
 
--- the poller beneath, until when the last poll was asked to wait at most, what it named, and whether it said stop
+-- the poller beneath, whether ports are left that didn't fit, until when the last poll was asked to wait at most, what it named, and whether it said stop
 pub record PollerState (P : Type 0) : Type 0 where
   pub beneath : P
+  pub owed : Bool
   pub asked : Option ℕ
   pub named : List (ℕ × Half)
   pub stopped : Bool
+
+-- entries were appended, and those before them stay
+abbrev pub Appends : List (ℕ × Half) → List (ℕ × Half) → Type 0
+Appends before now = (more : List (ℕ × Half)) × (now ≡ before ++ more)
+
+-- the poller beneath was asked once, and what it named comes first; where ports were owed it wasn't asked
+abbrev pub AsksBeneath : {P : Type 0} → (P → Option ℕ → P → Polled → Type 0) → Bool → P → P → Polled → Type 0
+AsksBeneath polls owed before now polled = (owed ≡ true × (now ≡ before) × (polled.stop ≡ false)) ⊎ ((until : Option ℕ) × polls before until now polled)
+
+abbrev pub NamesBeneath : Bool → Option (List (ℕ × Half)) → List (ℕ × Half) → Type 0
+NamesBeneath owed told entries = owed ≡ true ⊎ IfSome told (λ below. Appends below entries)
 
 -- the key of sockets that are shared is named
 abbrev pub has_shared : List (ℕ × Half) → Bool

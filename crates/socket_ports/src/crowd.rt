@@ -7,6 +7,7 @@ ghost use Rattle.peer_demux.specs.Hubs.{HubState, ReadsRow};
 ghost use Rattle.peer_demux.specs.Links.{Sends};
 ghost use Rattle.peer_demux.specs.Tables.{IsLive, IsTrimmed, Stands, row_at};
 ghost use Rattle.socket_ports.specs.Crowds.{Accepts, Fills, Gathers, IsKnown};
+ghost use Rattle.socket_ports.specs.Pollers.{Appends};
 
 use key_map::KeyMap;
 use peer_demux::{Hub, Link, RowPeer};
@@ -79,7 +80,8 @@ impl<L: Link> Crowd<L> {
     /// Takes what the socket has, and names the ports that got something, as far as they fit.
     pub(crate) fn gather(&mut self, ready: &mut KeyList)
         requires { 256 ≤ ready.old.room }
-        ensures { ready.new.room ≡ ready.old.room }
+        ensures room { ready.new.room ≡ ready.old.room }
+        ensures appended { Appends ready.old.entries ready.new.entries }
     {
         if !self.fill() {
             self.fault = Fault::Untold;
@@ -113,13 +115,15 @@ impl<L: Link> Crowd<L> {
     }
 
     /// Names whoever is to be told of a fault.
+    #[tactic(auto, using(crate::proofs::Appending::appends_none))]
     fn name_fault(&mut self, ready: &mut KeyList)
         requires { 256 ≤ ready.old.room }
-        ensures { ready.new.room ≡ ready.old.room }
+        ensures room { ready.new.room ≡ ready.old.room }
+        ensures appended { Appends ready.old.entries ready.new.entries }
     {
         if self.fault == Fault::Untold
             && let Some(key) = self.first_key()
-            && ready.push((key, Half::ToRead))
+            && name(ready, key)
         {
             self.fault = Fault::Told;
         }
@@ -133,25 +137,28 @@ impl<L: Link> Crowd<L> {
         self.keys.get(self.keys.first_from(0)?)
     }
 
+    #[tactic(auto, using(crate::proofs::Appending::appends_none))]
     fn name_door(&mut self, ready: &mut KeyList)
         requires { 256 ≤ ready.old.room }
-        ensures { ready.new.room ≡ ready.old.room }
+        ensures room { ready.new.room ≡ ready.old.room }
+        ensures appended { Appends ready.old.entries ready.new.entries }
     {
-        if self.has_caller() && ready.push((self.door, Half::ToRead)) {
+        if self.has_caller() && name(ready, self.door) {
             self.bare = false;
         }
     }
 
     fn name_peers(&mut self, ready: &mut KeyList)
         requires { 256 ≤ ready.old.room }
-        ensures { ready.new.room ≡ ready.old.room }
+        ensures room { ready.new.room ≡ ready.old.room }
+        ensures appended { Appends ready.old.entries ready.new.entries }
     {
         for _ in ready.len()..KeyList::MOST {
             let Some(row) = self.hub.next_call() else {
                 return;
             };
             if let Some(key) = self.keys.get(row) {
-                ready.push((key, Half::ToRead));
+                name(ready, key);
             }
         }
     }
@@ -262,4 +269,13 @@ impl<L: Link> Crowd<L> {
             self.hub.drop_new();
         }
     }
+}
+
+/// Names the port of the key as readable, where that fits.
+fn name(ready: &mut KeyList, key: usize) -> bool
+    requires { 256 ≤ ready.old.room }
+    ensures room { ready.new.room ≡ ready.old.room }
+    ensures appended { Appends ready.old.entries ready.new.entries }
+{
+    ready.push((key, Half::ToRead))
 }

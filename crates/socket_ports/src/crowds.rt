@@ -1,5 +1,6 @@
 // All sockets that peers share, as their ports and the poller call them.
 ghost use Rattle.std.specs.Prelude.{◌≡◌, ◌≤◌};
+ghost use Rattle.socket_ports.specs.Pollers.{Appends};
 
 use crate::crowd::Crowd;
 use crate::socket::UdpLink;
@@ -63,7 +64,8 @@ impl Crowds {
 
     fn gather(&mut self, ready: &mut KeyList)
         requires { 256 ≤ ready.old.room }
-        ensures { ready.new.room ≡ ready.old.room }
+        ensures room { ready.new.room ≡ ready.old.room }
+        ensures appended { Appends ready.old.entries ready.new.entries }
     {
         for place in self.places.iter_mut() {
             if let Some(crowd) = place {
@@ -135,9 +137,11 @@ impl Gathering {
     }
 
     /// Takes what the sockets have, and names the ports that got something, as far as they fit.
+    #[tactic(auto, using(crate::proofs::Appending::appends_none))]
     pub(crate) fn gather(&self, ready: &mut KeyList)
         requires { 256 ≤ ready.old.room }
-        ensures { ready.new.room ≡ ready.old.room }
+        ensures room { ready.new.room ≡ ready.old.room }
+        ensures appended { Appends ready.old.entries ready.new.entries }
     {
         if let Some(mut crowds) = self.crowds.try_lock() {
             crowds.gather(ready);

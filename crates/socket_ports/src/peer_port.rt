@@ -1,5 +1,5 @@
 // The port of a door of datagrams, and of each peer that was accepted at it.
-ghost use Rattle.std.specs.Prelude.{◌≡◌, ◌≢◌, ◌<◌, ◌≤◌, ◌++◌, true, false, length, take, None};
+ghost use Rattle.std.specs.Prelude.{◌≡◌, ◌≢◌, ◌<◌, ◌≤◌, ◌++◌, true, false, length, take, None, Some};
 ghost use Rattle.port_trait.specs.Counting.{Tallied};
 ghost use Rattle.port_trait.specs.Made.{IsAtOnce};
 ghost use Rattle.port_trait.specs.Hinting.{IsWithin};
@@ -10,7 +10,7 @@ ghost use Rattle.port_trait.specs.declared.answers.Settled.TheVariants as settle
 ghost use Rattle.port_trait.specs.declared.answers.PortReap.TheVariants as reaps;
 ghost use Rattle.port_trait.specs.declared.answers.Joining.TheVariants as joining;
 ghost use Rattle.relay_model.specs.declared.acts.Peer.TheVariants as peers;
-ghost use Rattle.socket_kinds.specs.Accepting.{OnCame, OnPort, OnPeer};
+ghost use Rattle.socket_kinds.specs.Accepting.{OnBoth, OnCame, OnPort};
 ghost use Rattle.socket_ports.specs.Ports.{blocked_hint, fresh_port};
 
 use crate::crowds::Gathering;
@@ -47,12 +47,12 @@ impl Model for PeerPort {
 
     ghost Value = { PeerState };
 
-    ghost view = { λ port. record { counts = port.counts; begun = port.begun; ended = port.ended; blocked = is_some port.blocked } };
+    ghost view = { λ port. record { counts = port.counts; begun = port.begun; ended = port.ended; blocked = is_some port.blocked; peer = port.seat.peer.value } };
 }
 
 impl PeerPort {
     fn at(seat: Seat) -> PeerPort
-        ensures { result ≡ fresh_port }
+        ensures { result ≡ fresh_port seat.peer.value }
     {
         PeerPort {
             seat,
@@ -73,7 +73,7 @@ impl PeerPort {
         socket: UdpSocket,
     ) -> Making<PeerPort>
         ensures at_once { IsAtOnce result }
-        ensures fresh { OnPort (λ port. port ≡ fresh_port) result }
+        ensures fresh { OnPort (λ port. port ≡ fresh_port None) result }
     {
         match Seat::door(alloc, registry, gathering, key, socket) {
             Making::Made(seat) => Making::Made(PeerPort::at(seat)),
@@ -85,7 +85,7 @@ impl PeerPort {
     /// Takes the next peer at the door, whose port has this key. A peer is no door, and answers `Failed`.
     pub fn accept(&mut self, key: usize) -> MadePeer<PeerPort>
         ensures addressed { OnCame (λ peer. peer ≢ peers.Local) result }
-        ensures fresh { OnPeer (λ port. port ≡ fresh_port) result }
+        ensures fresh { OnBoth (λ port peer. port ≡ fresh_port (Some peer)) result }
         ensures kept { self.new ≡ self.old }
     {
         match self.seat.accept(key) {

@@ -1,7 +1,7 @@
 // A poller that takes what comes for peers which share a socket.
 ghost use Rattle.std.specs.Prelude.{◌≡◌, ◌≤◌, ◌⊎◌, ℕ, Some, true, false, IfSome, IfOk, length};
 ghost use Rattle.port_trait.specs.Counting.{Counted};
-ghost use Rattle.socket_ports.specs.Pollers.{AsksNoLater, has_shared};
+ghost use Rattle.socket_ports.specs.Pollers.{AsksBeneath, AsksNoLater, NamesBeneath, has_shared};
 
 use crate::crowds::Gathering;
 use mio_poller::SHARED;
@@ -31,7 +31,7 @@ impl<P: Poller> Model for PeerPoller<P> {
 
     ghost Value = { PollerState P };
 
-    ghost view = { λ poller. record { beneath = poller.beneath; asked = poller.asked; named = poller.named.entries; stopped = poller.stopped } };
+    ghost view = { λ poller. record { beneath = poller.beneath; owed = poller.owed; asked = poller.asked; named = poller.named.entries; stopped = poller.stopped } };
 
     ghost invariant = { λ poller. IfSome poller.at (λ at. at ≡ P.clock poller.beneath) × (256 ≤ poller.named.room) };
 }
@@ -72,6 +72,8 @@ impl<P: Poller + Drop> PeerPoller<P> {
         ensures clock { (P.clock self.old.beneath ≤ P.clock self.new.beneath) × (result.at ≡ P.clock self.new.beneath) }
         ensures stops { Counted result.stop (P.stops self.old.beneath) (P.stops self.new.beneath) }
         ensures asks { AsksNoLater (P.asked self.old.beneath) (P.asked self.new.beneath) until }
+        ensures beneath { AsksBeneath P.polls self.old.owed self.old.beneath self.new.beneath result }
+        ensures named { NamesBeneath self.old.owed (P.named self.new.beneath) ready.new.entries }
         ensures kept { self.new ≡ record self.old { beneath = self.new.beneath } }
     {
         if self.owed
@@ -118,6 +120,9 @@ impl<P: Poller + Drop> Poller for PeerPoller<P> {
         ensures at { (P.clock self.old.beneath ≤ P.clock self.new.beneath) × (result.at ≡ P.clock self.new.beneath) }
         ensures stops { Counted result.stop (P.stops self.old.beneath) (P.stops self.new.beneath) }
         ensures asks { AsksNoLater (P.asked self.old.beneath) (P.asked self.new.beneath) until }
+        ensures beneath { AsksBeneath P.polls self.old.owed self.old.beneath self.new.beneath result }
+        ensures kept { NamesBeneath self.old.owed (P.named self.new.beneath) ready.new.entries }
+        ensures owed { self.new.owed ≡ true → length ready.new.entries ≡ 256 }
     {
         let polled = self.ask(until, ready);
         if has_shared(ready) {

@@ -103,6 +103,7 @@ impl<S: Socket, G: Drop> Port for SocketPort<S, G> {
 
     fn read(&mut self, into: &mut [u8]) -> Got
         requires { 0 < length into.old }
+        ensures asked { S.answers_receive self.old.socket self.new.socket into.new result }
         ensures reads { let seen = ⟦<SocketPort<S, G> as Port>⟧.seen in Reads (seen self.old) (seen self.new) into.new result }
         ensures counted { self.new.counts ≡ counted (read_event result) self.old.counts }
     {
@@ -114,6 +115,7 @@ impl<S: Socket, G: Drop> Port for SocketPort<S, G> {
 
     fn write(&mut self, bytes: &[u8]) -> Took
         requires { 0 < length bytes.now }
+        ensures asked { S.answers_transmit self.old.socket self.new.socket bytes.now result }
         ensures writes { let seen = ⟦<SocketPort<S, G> as Port>⟧.seen in Writes (seen self.old) (seen self.new) bytes.now result }
         ensures counted { self.new.counts ≡ counted (write_event result) self.old.counts }
     {
@@ -124,6 +126,7 @@ impl<S: Socket, G: Drop> Port for SocketPort<S, G> {
 
     fn send(&mut self, bytes: &[u8]) -> Took
         requires { 0 < length bytes.now }
+        ensures asked { S.answers_packet self.old.socket self.new.socket bytes.now result }
         ensures sends { let seen = ⟦<SocketPort<S, G> as Port>⟧.seen in Sends (seen self.old) (seen self.new) bytes.now result }
         ensures counted { self.new.counts ≡ counted (write_event result) self.old.counts }
     {

@@ -1,7 +1,7 @@
 // A port's part in what a door and its peers share.
-ghost use Rattle.std.specs.Prelude.{◌≡◌, ◌≢◌, ◌<◌, ◌≤◌, length, None, IfOk};
+ghost use Rattle.std.specs.Prelude.{◌≡◌, ◌≢◌, ◌<◌, ◌≤◌, length, None, Some, IfOk};
 ghost use Rattle.relay_model.specs.declared.acts.Peer.TheVariants as peers;
-ghost use Rattle.socket_kinds.specs.Accepting.{OnCame};
+ghost use Rattle.socket_kinds.specs.Accepting.{OnBoth, OnCame, OnPort};
 ghost use Rattle.socket_ports.specs.Crowds.{IsKnown};
 ghost use Rattle.relay_model.specs.Conversions.{longest_packet};
 ghost use Rattle.port_trait.specs.Meanings.{Gives, AcceptsWhole};
@@ -13,9 +13,10 @@ use crate::socket::UdpLink;
 use mio::Registry;
 use peer_demux::{Hub, Mode, RowPeer};
 use port_trait::{Got, MadePeer, Making, Took};
-use relay_model::NoMemory;
+use relay_model::{NoMemory, Peer};
 use std::alloc::Global;
 use std::net::UdpSocket;
+use std::snapshot::Snapshot;
 
 /// Whose part it is.
 #[derive(Clone, Copy)]
@@ -30,6 +31,8 @@ pub(crate) struct Seat {
     gathering: Gathering,
     place: usize,
     role: Role,
+    // who came at it; a door has none
+    pub(crate) peer: Snapshot<Option<Peer>>,
 }
 
 impl Seat {
@@ -41,7 +44,8 @@ impl Seat {
         key: usize,
         socket: UdpSocket,
     ) -> Making<Seat>
-        ensures { IsAtOnce result }
+        ensures at_once { IsAtOnce result }
+        ensures alone { OnPort (λ seat. seat.peer.value ≡ None) result }
     {
         let Some(link) = UdpLink::enroll(registry, socket) else {
             return Making::Failed;
@@ -55,6 +59,7 @@ impl Seat {
                 gathering,
                 place,
                 role: Role::Door,
+                peer: Snapshot::of(&None),
             }),
             Err(NoMemory) => Making::Memory,
         }
@@ -62,7 +67,8 @@ impl Seat {
 
     /// Takes the next peer at the door, whose port has this key.
     pub(crate) fn accept(&self, key: usize) -> MadePeer<Seat>
-        ensures { OnCame (λ peer. peer ≢ peers.Local) result }
+        ensures addressed { OnCame (λ peer. peer ≢ peers.Local) result }
+        ensures told { OnBoth (λ seat peer. seat.peer.value ≡ Some peer) result }
     {
         let Role::Door = self.role else {
             return MadePeer::Failed;
@@ -76,6 +82,7 @@ impl Seat {
                     gathering,
                     place: self.place,
                     role: Role::Peer(row),
+                    peer: Snapshot::of(&Some(from)),
                 },
                 from,
             ),
@@ -138,6 +145,7 @@ impl Drop for Seat {
             gathering,
             place,
             role,
+            peer: _,
         } = self;
         if let Some(mut crowds) = gathering.crowds().try_lock() {
             if let Some(crowd) = crowds.at(place) {

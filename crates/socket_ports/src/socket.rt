@@ -1,12 +1,12 @@
 // The socket that a door and its peers share.
-ghost use Rattle.std.specs.Prelude.{◌≡◌, ◌≤◌, ◌⊎◌, ◌↔◌, ◌==◌, length, IfOk, IfErr, IsTrue};
+ghost use Rattle.std.specs.Prelude.{◌≡◌, ◌≤◌, ◌↔◌, length, take, None, IsTrue};
 ghost use Rattle.std.specs.IoError.{error_kind};
 ghost use Rattle.std.specs.declared.io.ErrorKind.TheVariants.{WouldBlock};
-ghost use Rattle.relay_model.specs.declared.acts.Peer.{Peer};
-ghost use Rattle.port_trait.specs.declared.answers.Took.TheVariants as writes;
-ghost use Rattle.peer_demux.specs.declared.links.Received.TheVariants as gots;
-ghost use Rattle.socket_kinds.specs.Peers.{IsPeer};
-ghost use Rattle.socket_ports.specs.Links.{IsUnmet};
+ghost use Rattle.relay_model.specs.Conversions.{longest_packet};
+ghost use Rattle.peer_demux.specs.Links.{Receives, Sends, has_failed, has_stalled, has_packet, send_failed, send_stalled};
+ghost use Rattle.peer_demux.specs.Tables.{risen_if};
+ghost use Rattle.socket_kinds.specs.Answering.{Answers};
+ghost use Rattle.socket_ports.specs.Links.{Arrives, Departs, SendsOnce};
 
 use mio::unix::SourceFd;
 use mio::{Interest, Registry, Token};
@@ -14,27 +14,51 @@ use mio_poller::SHARED;
 use peer_demux::{Link, Received};
 use port_trait::Took;
 use relay_model::{LONGEST_PACKET, Peer};
-use socket_kinds::{address_of, peer_of};
+use socket_kinds::{PacketWire, address_of, peer_of};
 use std::io::{self, Error, ErrorKind};
 use std::marker::Model;
 use std::net::{SocketAddr, UdpSocket};
 use std::os::fd::AsRawFd;
 
+/// The system's socket that a door and its peers share.
+#[derive(Drop)]
+pub(crate) struct SharedUdp {
+    socket: UdpSocket,
+}
+
+impl PacketWire for SharedUdp {
+    fn receive(&mut self, into: &mut [u8]) -> io::Result<usize> {
+        self.socket.recv(into)
+    }
+
+    fn receive_from(&mut self, into: &mut [u8]) -> io::Result<(usize, SocketAddr)> {
+        self.socket.recv_from(into)
+    }
+
+    fn send(&mut self, bytes: &[u8]) -> io::Result<usize> {
+        self.socket.send(bytes)
+    }
+
+    fn send_to(&mut self, bytes: &[u8], to: SocketAddr) -> io::Result<usize> {
+        self.socket.send_to(bytes, to)
+    }
+}
+
 /// A socket of datagrams, which sends to whom it is told (udp(7)).
 #[derive(Drop)]
-pub(crate) struct UdpLink {
-    socket: UdpSocket,
+pub(crate) struct UdpLink<U = SharedUdp> {
+    wire: U,
     faults: u64,
     stalls: u64,
     packets: u64,
 }
 
-impl Model for UdpLink {
+impl<U> Model for UdpLink<U> {
     ghost use Rattle.socket_ports.specs.Links.{LinkState};
 
-    ghost Value = { LinkState };
+    ghost Value = { LinkState U };
 
-    ghost view = { λ link. record { faults = link.faults; stalls = link.stalls; packets = link.packets } };
+    ghost view = { λ link. record { wire = link.wire; faults = link.faults; stalls = link.stalls; packets = link.packets } };
 }
 
 impl UdpLink {
@@ -50,7 +74,7 @@ impl UdpLink {
             return None;
         }
         Some(UdpLink {
-            socket,
+            wire: SharedUdp { socket },
             faults: 0,
             stalls: 0,
             packets: 0,
@@ -58,7 +82,7 @@ impl UdpLink {
     }
 }
 
-impl Link for UdpLink {
+impl<U: PacketWire> Link for UdpLink<U> {
     ghost faults = { λ link. link.faults };
 
     ghost stalls = { λ link. link.stalls };
@@ -66,11 +90,15 @@ impl Link for UdpLink {
     ghost packets = { λ link. link.packets };
 
     /// Takes at most 65,507 bytes of a datagram (RFC 768).
-    fn receive(&mut self, into: &mut [u8]) -> Received {
-        let answer = self
-            .socket
-            .recv_from(&mut into[..usize::from(LONGEST_PACKET)]);
-        let received = arrived(&answer);
+    fn receive(&mut self, into: &mut [u8]) -> Received
+        requires { longest_packet ≤ length into.old }
+        ensures once { Answers (U.receives_from self.old.wire self.new.wire (take longest_packet into.new)) (λ told. Arrives told result) }
+        ensures gives { Receives None None into.new result }
+        ensures faults { self.new.faults ≡ risen_if (has_failed result) self.old.faults }
+        ensures stalls { self.new.stalls ≡ risen_if (has_stalled result) self.old.stalls }
+        ensures packets { self.new.packets ≡ risen_if (has_packet result) self.old.packets }
+    {
+        let received = receive_packet(&mut self.wire, into);
         match received {
             Received::Packet { .. } => self.packets = self.packets.saturating_add(1),
             Received::NotYet => self.stalls = self.stalls.saturating_add(1),
@@ -80,9 +108,16 @@ impl Link for UdpLink {
     }
 
     /// Sends nothing to a peer without an address.
-    fn send_to(&mut self, to: Peer, bytes: &[u8]) -> Took {
+    fn send_to(&mut self, to: Peer, bytes: &[u8]) -> Took
+        requires { length bytes.now ≤ longest_packet }
+        ensures once { SendsOnce U.sends_to self.old.wire self.new.wire to bytes.now result }
+        ensures sends { Sends None None to bytes.now result }
+        ensures kept { self.new.packets ≡ self.old.packets }
+        ensures faults { self.new.faults ≡ risen_if (send_failed result) self.old.faults }
+        ensures stalls { self.new.stalls ≡ risen_if (send_stalled result) self.old.stalls }
+    {
         let took = match address_of(to) {
-            Some(addr) => departed(&self.socket.send_to(bytes, addr), bytes.len()),
+            Some(addr) => departed(&self.wire.send_to(bytes, addr), bytes.len()),
             None => Took::Failed,
         };
         match took {
@@ -94,10 +129,18 @@ impl Link for UdpLink {
     }
 }
 
+/// Receives one packet.
+fn receive_packet<U: PacketWire>(wire: &mut U, into: &mut [u8]) -> Received
+    requires { longest_packet ≤ length into.old }
+    ensures once { Answers (U.receives_from wire.old wire.new (take longest_packet into.new)) (λ told. Arrives told result) }
+    ensures gives { Receives None None into.new result }
+{
+    arrived(&wire.receive_from(&mut into[..usize::from(LONGEST_PACKET)]))
+}
+
 /// What came where the system answered so: the packet's sender is the address that it told.
 fn arrived(answer: &io::Result<(usize, SocketAddr)>) -> Received
-    ensures came { IfOk answer.now (λ pair. (peer : Peer) × IsPeer pair.1 peer × (result ≡ gots.Packet peer pair.0)) }
-    ensures blocked { IfErr answer.now (λ error. IsUnmet error gots.NotYet gots.Failed result) }
+    ensures { Arrives answer.now result }
 {
     match answer {
         Ok((len, sender)) => Received::Packet {
@@ -116,9 +159,7 @@ fn arrived(answer: &io::Result<(usize, SocketAddr)>) -> Received
 
 /// What a sending of so many bytes came to where the system answered so.
 fn departed(answer: &io::Result<usize>, len: usize) -> Took
-    ensures whole { (result ≡ writes.Took len) ⊎ (result ≡ writes.NotYet) ⊎ (result ≡ writes.Failed) }
-    ensures sent { IfOk answer.now (λ count. IsTrue (count == len) ↔ (result ≡ writes.Took len)) }
-    ensures blocked { IfErr answer.now (λ error. IsUnmet error writes.NotYet writes.Failed result) }
+    ensures { Departs len answer.now result }
 {
     match answer {
         Ok(count) if *count == len => Took::Took(len),

@@ -11,9 +11,11 @@ mod rows;
 mod runs;
 mod scripts;
 mod seen;
+mod settings;
 mod spelling;
 mod told;
 mod wants;
+mod worlds;
 
 pub use desk_rows::{ROOM, Run, Streams, carried_out};
 pub use faults::RowFault;
@@ -22,4 +24,5 @@ pub use rows::{Line, Row};
 pub use runs::{Parted, Ran, part};
 pub use scripts::{port_of, source_of};
 pub use seen::{Look, taken_line};
-pub use spelling::{act_of, place_of, push_digits, unquoted};
+pub use settings::{Input, Output, Setting, System};
+pub use worlds::world_of;

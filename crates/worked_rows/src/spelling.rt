@@ -4,7 +4,7 @@ use relay_model::{Act, NoMemory, Place};
 use std::alloc::{AllocError, Global};
 
 /// The act of this line of a journal, if it is one.
-pub fn act_of(alloc: Global, line: &str) -> Result<Option<Act>, NoMemory> {
+pub(crate) fn act_of(alloc: Global, line: &str) -> Result<Option<Act>, NoMemory> {
     let text = format!(in alloc; "{line}\n")?;
     match read_journal(alloc, text.as_bytes()) {
         Ok(journal) if journal.len() == 1 => Ok(Some(journal.get(0).copy()?)),
@@ -14,7 +14,7 @@ pub fn act_of(alloc: Global, line: &str) -> Result<Option<Act>, NoMemory> {
 }
 
 /// The place that is spelled so.
-pub fn place_of(alloc: Global, text: &str) -> Result<Option<Place>, NoMemory> {
+pub(crate) fn place_of(alloc: Global, text: &str) -> Result<Option<Place>, NoMemory> {
     let line = format!(in alloc; "opened {text}")?;
     match act_of(alloc, line.as_str())? {
         Some(Act::Opened(place)) => Ok(Some(place)),
@@ -23,7 +23,7 @@ pub fn place_of(alloc: Global, text: &str) -> Result<Option<Place>, NoMemory> {
 }
 
 /// Pushes two digits for each byte.
-pub fn push_digits(line: &mut String, bytes: &[u8]) -> Result<(), AllocError> {
+pub(crate) fn push_digits(line: &mut String, bytes: &[u8]) -> Result<(), AllocError> {
     for byte in bytes {
         write!(line, "{byte:02x}")?;
     }
@@ -52,7 +52,7 @@ fn push_quoted(line: &mut String, quoted: &str, behind: &str) -> Result<(), Allo
 }
 
 /// The line with each text between single quotes as the bytes of it: `'ab'` is `x6162`. None where a quote isn't closed.
-pub fn unquoted(alloc: Global, line: &str) -> Result<Option<String>, AllocError> {
+pub(crate) fn unquoted(alloc: Global, line: &str) -> Result<Option<String>, AllocError> {
     let mut whole = String::new(alloc);
     let mut quoted = None;
     for (i, part) in line.split('\'').enumerate() {

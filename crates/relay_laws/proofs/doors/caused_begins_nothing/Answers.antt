@@ -1,5 +1,5 @@
 -- Such a session calls for nothing.
-use Rattle.history_lemmas.proofs.Admissions.{ended_begins}
+use Rattle.relay_laws.proofs.Admissions.{ended_begins}
 use Rattle.relay_laws.proofs.doors.caused_begins_nothing.Goals as goal
 
 pub returns : goal.returns

@@ -1,5 +1,5 @@
 -- No act begins a holding of such a session.
-use Rattle.history_lemmas.proofs.Admissions.{ended_stays}
+use Rattle.relay_laws.proofs.Admissions.{ended_stays}
 use Rattle.relay_laws.proofs.doors.ended_stays_ended.Goals as goal
 
 pub returns : goal.returns

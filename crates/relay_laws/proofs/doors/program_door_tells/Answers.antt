@@ -1,5 +1,5 @@
 -- By the choices that the call is made of.
-use Rattle.history_lemmas.proofs.Admissions.{door_says}
+use Rattle.relay_laws.proofs.Admissions.{door_says}
 use Rattle.relay_laws.proofs.doors.program_door_tells.Goals as goal
 
 pub returns : goal.returns

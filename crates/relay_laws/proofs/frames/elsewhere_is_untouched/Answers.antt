@@ -1,5 +1,5 @@
 -- By cases on the act.
-use Rattle.history_lemmas.proofs.Elsewhere.{elsewhere}
+use Rattle.relay_laws.proofs.Elsewhere.{elsewhere}
 use Rattle.relay_laws.proofs.frames.elsewhere_is_untouched.Goals as goal
 
 pub returns : goal.returns

@@ -1,5 +1,5 @@
 -- By induction on the list.
-use Rattle.history_lemmas.proofs.Begun.{begun}
+use Rattle.relay_laws.proofs.Begun.{begun}
 use Rattle.relay_laws.proofs.histories.held_has_begun.Goals as goal
 
 pub returns : goal.returns

@@ -1,5 +1,5 @@
 -- By cases on the act.
-use Rattle.history_lemmas.proofs.Holdings.{used_held}
+use Rattle.relay_laws.proofs.Holdings.{used_held}
 use Rattle.relay_laws.proofs.histories.used_is_held.Goals as goal
 
 pub returns : goal.returns

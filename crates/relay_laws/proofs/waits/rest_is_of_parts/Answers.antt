@@ -1,5 +1,5 @@
 -- A session that has not begun rests.
-use Rattle.history_lemmas.proofs.Resting.{rest_of_parts}
+use Rattle.relay_laws.proofs.RestLemmas.{rest_of_parts}
 use Rattle.relay_laws.proofs.waits.rest_is_of_parts.Goals as goal
 
 pub returns : goal.returns

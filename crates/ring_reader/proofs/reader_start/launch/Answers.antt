@@ -18,8 +18,8 @@ keeps_feed left faults ends lines start promise (tasks.Running handle) of_lines 
 keeps_feed left faults ends lines start promise (tasks.Ended ending) of_lines of_start keeps = rw (← of_lines, ← of_start) keeps
 
 pub start-requires-clause-keeps : goal.start-requires-clause-keeps
-start-requires-clause-keeps g c κs within given feeds = rw (c.of.ensures, c.deref.ensures, c.of-2.ensures) feeds
+start-requires-clause-keeps g c κs within given feeds = rw (c.of.ensures, c.deref.ensures, c.snapshot.ensures) feeds
 
 pub returns-in-Ok-clause-started : goal.returns-in-Ok-clause-started
 returns-in-Ok-clause-started g c =
-    keeps_feed g.S.Source.left g.S.Source.faults g.S.Source.ends _ _ _ c.in-Ok.task (c.of.ensures ∙ c.deref.ensures) c.of-2.ensures c.in-Ok.ensures.started
+    keeps_feed g.S.Source.left g.S.Source.faults g.S.Source.ends _ _ _ c.in-Ok.task (c.of.ensures ∙ c.deref.ensures) c.snapshot.ensures c.in-Ok.ensures.started

@@ -1,6 +1,7 @@
 use Rattle.std.proofs.Common.{refl, sym, ap, ◌∙◌}
 use Rattle.relay_model.specs.Holding.{is_open, is_free}
 use Rattle.session_driver.proofs.Hearing.{unreaped_told}
+use Rattle.session_driver.proofs.Sizes.{wish_fits}
 use Rattle.session_driver.proofs.steps.step.Goals as goal
 
 pub open-requires-clause-wish : goal.open-requires-clause-wish
@@ -56,6 +57,11 @@ read-requires-clause-open g c = let at = c.requires.meets in ap is_open (at.hold
 
 pub read-requires-clause-some : goal.read-requires-clause-some
 read-requires-clause-some g c = let at = c.requires.meets in (c.in-Read.ensures.can c.args.config.now at.n at.past at.s at.stands at.legal).1
+
+pub read-requires-clause-within : goal.read-requires-clause-within
+read-requires-clause-within g c =
+    let at = c.requires.meets in
+    wish_fits c.args.config.now at.past at.s c.in-Read.place _ _ (c.in-Read.ensures.wished c.args.config.now at.n at.past at.s at.stands) c.requires.block
 
 pub read-requires-clause-own : goal.read-requires-clause-own
 read-requires-clause-own g c = let at = c.requires.meets in λ n past s st. c.in-Read.ensures.own c.args.config.now n past s st

@@ -3,6 +3,7 @@ use Rattle.port_desk.proofs.FollowLemmas.{no_acts, unused_passed}
 use Rattle.relay_model.specs.declared.places.Place.{Place}
 use Rattle.relay_model.specs.Holding.{Free}
 use Rattle.desk_places.specs.Stations.{StationTable, hold_at}
+use Rattle.socat_top.proofs.Asking.{asked_by}
 use Rattle.socat_top.proofs.Unheld.{no_station}
 use Rattle.socat_top.proofs.PassedEnds.{acts_of, nothing}
 use Rattle.socat_top.proofs.written.run_written.Goals as goal
@@ -47,3 +48,7 @@ returns-clause-behind g c = λ told unused.
 
 pub returns-in_default-clause-behind : goal.returns-in_default-clause-behind
 returns-in_default-clause-behind g c = λ told unused. rw (c.with_saving.ensures, c.in_default.ensures.flag.1) (c.run.ensures.behind (rw c.in_default.ensures.flag.0 at told) unused)
+
+pub returns-clause-tried : goal.returns-clause-tried
+returns-clause-tried g c _ =
+    rw (c.with_saving-2.ensures, ← c.in-Some.ensures.named) (asked_by g.F.JournalFile.creates g.F.JournalFile.refuses _ _ _ _ _ _ c.create-made.ensures.created c.create-made.ensures.refused (rw (← c.keep_history-creation.ensures.made) c.save-saving.ensures.unmade) (rw (← c.keep_history-creation.ensures.made) c.save-saving.ensures.failed))

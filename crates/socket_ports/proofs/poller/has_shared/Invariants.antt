@@ -1,4 +1,4 @@
-use Rattle.std.proofs.Common.{◌≡◌, ℕ, take, false}
+use Rattle.std.proofs.Common.{◌≡◌, take, false}
 use Rattle.socket_ports.specs.Pollers.{has_shared}
 use Rattle.socket_ports.proofs.poller.has_shared.Given as goal
 

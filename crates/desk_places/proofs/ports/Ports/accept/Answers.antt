@@ -15,7 +15,7 @@ pub welcome-requires-clause-made_room : goal.welcome-requires-clause-made_room
 welcome-requires-clause-made_room g c = rw c.list.ensures.table (record { room = c.accept_at-taken.ensures.room c.requires.made_room.room; covered = rw (c.list.ensures.covered, c.accept_at-taken.ensures.next) c.requires.made_room.covered })
 
 pub returns-in-Came-clause-cause : goal.returns-in-Came-clause-cause
-returns-in-Came-clause-cause g c = rw (c.welcome.ensures.maker, c.list.ensures.maker) (welcomed _ c.welcome.result c.in-Came.peer (g.M.Maker.seen c.args.self.now.maker) (g.M.Maker.seen c.accept_at-taken.new.maker) c.in-Came.ensures.came c.welcome.ensures.cause)
+returns-in-Came-clause-cause g c = rw (c.welcome.ensures.maker, c.list.ensures.maker) (welcomed (g.M.Maker.accepts c.args.self.now.maker c.accept_at-taken.new.maker) _ c.welcome.result c.in-Came.port c.in-Came.peer (g.M.Maker.seen c.args.self.now.maker) (g.M.Maker.seen c.accept_at-taken.new.maker) (c.in-Came.ensures.made (λ e. absurd cc)) c.in-Came.ensures.came c.welcome.ensures.cause)
 
 pub returns-in-Came-clause-kept : goal.returns-in-Came-clause-kept
 returns-in-Came-clause-kept g c = record {
@@ -70,8 +70,9 @@ returns-in-Failed-clause-bases g c = same_bases c.args.stations.now.entries c.ma
 pub returns-in-Came-clause-ports : goal.returns-in-Came-clause-ports
 returns-in-Came-clause-ports g c =
     let is = key_made c.held-station.result.base c.in-Some.door_key (sym c.made_key.ensures ∙ c.in-Some.is) in
-    at_base c.args.stations.now.entries c.args.door c.held-station.result _ c.held-station.ensures
-    (at_made c.held-station.result.base c.in-Some.door_key _ _ is (accepts_made _ c.welcome.result c.in-Some.door_key c.args.place _ c.args.self.now.table.made c.accept_at-taken.new.table.made _ c.accept_at-taken.ensures.door (rw c.list.ensures.table at c.welcome.ensures.ports)))
+    rw (c.welcome.ensures.maker, c.list.ensures.maker)
+    (at_base c.args.stations.now.entries c.args.door c.held-station.result _ c.held-station.ensures
+    (at_made c.held-station.result.base c.in-Some.door_key _ _ is (accepts_made (g.M.Maker.accepts c.args.self.now.maker c.accept_at-taken.new.maker) _ c.in-Came.port c.in-Came.peer c.welcome.result c.in-Some.door_key c.args.place _ c.args.self.now.table.made c.accept_at-taken.new.table.made _ (c.in-Came.ensures.made (λ e. absurd cc)) c.welcome.ensures.cause c.accept_at-taken.ensures.door (rw c.list.ensures.table at c.welcome.ensures.ports))))
 
 pub returns-in-NoPeer-clause-ports : goal.returns-in-NoPeer-clause-ports
 returns-in-NoPeer-clause-ports g c =

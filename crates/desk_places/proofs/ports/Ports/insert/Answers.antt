@@ -1,4 +1,4 @@
-use Rattle.std.proofs.Common.{◌≡◌, ◌∙◌, None, Some, ap, rules, subst, sym}
+use Rattle.std.proofs.Common.{◌≡◌, ◌∙◌, None, Some, ap, refl, rules, subst, sym}
 use Rattle.slab.specs.Slab.{Updates}
 use Rattle.port_table.specs.declared.bases.Base.TheVariants as bases
 use Rattle.desk_places.specs.PlaceBases.{ComesOn, is_made}
@@ -44,6 +44,7 @@ returns-clause-made g c =
       key = c.insert.result;
       vacant = c.insert.ensures.vacant;
       given = c.args.port;
+      gives = refl;
       port = c.new.result.port;
       begun = search rules;
       made = subst (λ q. Updates c.args.self.now.table.made c.insert.new.self.made c.insert.result (Some (record { place = q; port = c.new.result.port }))) c.new.ensures.place c.insert.ensures.made;

@@ -13,21 +13,21 @@ pub held-station-requires : goal.held-station-requires
 held-station-requires g c = ap is_free c.requires.open
 
 pub returns-clause-call : goal.returns-clause-call
-returns-clause-call g c = rw c.mark.ensures.table (at_base c.args.stations.now.entries c.args.place c.held-station.result _ c.held-station.ensures c.send-took.ensures.call)
+returns-clause-call g c = rw c.mark_held.ensures.table (at_base c.args.stations.now.entries c.args.place c.held-station.result _ c.held-station.ensures c.send-took.ensures.call)
 
 pub returns-clause-marks : goal.returns-clause-marks
 returns-clause-marks g c =
-    let Set : Bool → Type 0 = λ b. SetsStation c.args.place (option_map (with_half ToWrite b) (station_at c.args.stations.now.entries c.args.place)) (station_at c.args.stations.now.entries) (station_at c.mark.new.stations.entries) in
-    subst Set c.took_not_yet.ensures c.mark.ensures.set
+    let Set : Bool → Type 0 = λ b. SetsStation c.args.place (option_map (with_half ToWrite b) (station_at c.args.stations.now.entries c.args.place)) (station_at c.args.stations.now.entries) (station_at c.mark_held.new.stations.entries) in
+    subst Set c.took_not_yet.ensures c.mark_held.ensures.set
 
 pub returns-clause-kept : goal.returns-clause-kept
 returns-clause-kept g c = record {
   sound = λ sound.
-      c.mark.ensures.sound
-      (sound_marked c.args.stations.now.entries c.mark.new.stations.entries c.args.place c.held-station.result ToWrite c.took_not_yet.result c.args.self.now.table.made c.send-took.new.self.made c.args.self.now.listed c.held-station.ensures c.mark.ensures.set
+      c.mark_held.ensures.sound
+      (sound_marked c.args.stations.now.entries c.mark_held.new.stations.entries c.args.place c.held-station.result ToWrite c.took_not_yet.result c.args.self.now.table.made c.send-took.new.self.made c.args.self.now.listed c.held-station.ensures c.mark_held.ensures.set
       (id_keeps (taking_port c.held-station.result.base) c.held-station.result.base c.args.self.now.table.made c.send-took.new.self.made _ (taking_of c.held-station.result.base) (called_made false (taking_port c.held-station.result.base) c.args.self.now.table c.send-took.new.self _ c.send-took.ensures.call))
       sound);
-  bases = same_bases c.args.stations.now.entries c.mark.new.stations.entries c.mark.ensures.standing;
+  bases = same_bases c.args.stations.now.entries c.mark_held.new.stations.entries c.mark_held.ensures.standing;
   no_more = search rules;
   parents = search rules;
   maker = search rules;

@@ -12,6 +12,6 @@ returns-in-Some-clause-cuts g c =
     record {
       row = row_cut c.args.self.now.made c.args.self.now.clock c.args.why c.args.number _ _ c.in-Some.row.now c.wake_row.new.row _ (sym c.in-Some.ensures.value) ch.row c.wake_row.ensures refl c.cut.ensures.early c.cut.ensures.ending refl;
       others = ch.others;
-      same = record { door_same = refl; pending_session_same = refl; clock_same = refl; made_same = refl; admitted_same = ch.admitted; bounds_same = ch.bounds };
+      same = record { door_same = refl; pending_session_same = refl; clock_same = refl; made_same = refl; scratch_same = refl; admitted_same = ch.admitted; bounds_same = ch.bounds };
       lists = record { work_same = refl; timers_same = refl };
     }

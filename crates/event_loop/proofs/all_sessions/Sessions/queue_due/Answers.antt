@@ -13,7 +13,7 @@ loop-number-preserved c =
       moves = record {
         kept = λ s h. one_kept s c.in-Some.number c.loop-number.self.work.items c.push_back.new.self.items c.in_ok-push_back.ensures.items (i.kept s h);
         moved = λ s. one_moved s c.in-Some.number c.loop-number.self.work.items c.push_back.new.self.items c.args.self.now.timers.moments c.loop-number.self.timers.moments c.due.new.self.moments c.in-Some.ensures.taken.0 c.in_ok-push_back.ensures.items (i.moved s);
-        same = (let r = i.same in record { table_same = r.table_same; same = (let q = r.same in record { door_same = q.door_same; pending_session_same = q.pending_session_same; clock_same = q.clock_same; made_same = q.made_same; admitted_same = q.admitted_same; bounds_same = q.bounds_same }); ready_same = r.ready_same });
+        same = (let r = i.same in record { table_same = r.table_same; same = (let q = r.same in record { door_same = q.door_same; pending_session_same = q.pending_session_same; clock_same = q.clock_same; made_same = q.made_same; scratch_same = q.scratch_same; admitted_same = q.admitted_same; bounds_same = q.bounds_same }); ready_same = r.ready_same });
       };
       few = (let l = c.loop-number.invariant.few in let m = one_longer c.loop-number.self.work.items c.push_back.new.self.items c.in-Some.number c.in_ok-push_back.ensures.items in let d = c.in-Some.ensures.due in let n = fewer_by c.loop-number.self.timers.moments c.due.new.self.moments c.in-Some.number d.0 c.in-Some.ensures.taken.0 d.2.is_set in omega (arith, l, m, n));
       alone = λ none. (let d = c.in-Some.ensures.due in was_due c.in-Some.number d.0 c.args.self.now c.loop-number.self d.1 d.2.is_set i none);

@@ -15,7 +15,7 @@ loop-i-preserved c =
       | then-not-is_program_door+in_ok-push_back w ↦
           record {
             queued = row_queued c.args.config.now c.args.self.now c.loop-i.self c.if-not-is_program_door.self c.loop-i.i c.get.result got (sym c.is_program_door.ensures ∙ w.if-not-is_program_door.true) c.loop-i.invariant.queued (rw w.self-is w.in_ok-push_back.ensures.items)
-                (rw w.self-is (record { table_same = refl; timers_same = refl; same = record { door_same = refl; pending_session_same = refl; clock_same = refl; made_same = refl; admitted_same = refl; bounds_same = (refl, refl) }; ready_same = refl }));
+                (rw w.self-is (record { table_same = refl; timers_same = refl; same = record { door_same = refl; pending_session_same = refl; clock_same = refl; made_same = refl; scratch_same = refl; admitted_same = refl; bounds_same = (refl, refl) }; ready_same = refl }));
             few = (let l = c.loop-i.invariant.few in let m = one_longer c.loop-i.self.work.items c.if-not-is_program_door.self.work.items c.get.result.place.session (rw w.self-is w.in_ok-push_back.ensures.items) in omega (arith, l, m));
             came = name_came c.args.config.now c.args.self.now c.loop-i.self c.if-not-is_program_door.self.work.items c.loop-i.i c.get.result got (sym c.is_program_door.ensures ∙ w.if-not-is_program_door.true) (rw w.self-is w.in_ok-push_back.ensures.items) c.loop-i.invariant.came;
           }

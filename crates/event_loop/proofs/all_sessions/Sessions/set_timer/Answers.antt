@@ -12,7 +12,7 @@ returns-in_ok-reserve-in-Some-clause-kept c = record {
   others = λ s apart. rw c.set.ensures.moments (got_beside c.reserve.new.self.moments c.args.number c.in-Some.at s apart ∙ ap (λ (m : FinMap nat_cmp ℕ). get m s) c.reserve.ensures.moments);
   table_same = refl;
   work_same = refl;
-  same = record { door_same = refl; pending_session_same = refl; clock_same = refl; made_same = refl; admitted_same = refl; bounds_same = (refl, refl) };
+  same = record { door_same = refl; pending_session_same = refl; clock_same = refl; made_same = refl; scratch_same = refl; admitted_same = refl; bounds_same = (refl, refl) };
 }
 
 pub returns-in-None-clause-set : goal.returns-in-None-clause-set
@@ -23,5 +23,5 @@ returns-in-None-clause-kept c = record {
   others = λ s apart. rw c.clear.ensures.moments (got_left c.args.self.now.timers.moments c.args.number s apart);
   table_same = refl;
   work_same = refl;
-  same = record { door_same = refl; pending_session_same = refl; clock_same = refl; made_same = refl; admitted_same = refl; bounds_same = (refl, refl) };
+  same = record { door_same = refl; pending_session_same = refl; clock_same = refl; made_same = refl; scratch_same = refl; admitted_same = refl; bounds_same = (refl, refl) };
 }

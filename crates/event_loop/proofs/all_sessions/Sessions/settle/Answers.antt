@@ -15,7 +15,7 @@ returns-in-Done c = rw c.in-Done.is (record {
   rows = c.retire.ensures.others;
   timers = λ s apart. rw c.clear.ensures.moments (got_left c.args.self.now.timers.moments c.args.number s apart);
   work_same = refl;
-  same = record { door_same = refl; pending_session_same = refl; clock_same = refl; made_same = refl; admitted_same = c.retire.ensures.admitted; bounds_same = c.retire.ensures.bounds };
+  same = record { door_same = refl; pending_session_same = refl; clock_same = refl; made_same = refl; scratch_same = refl; admitted_same = c.retire.ensures.admitted; bounds_same = c.retire.ensures.bounds };
 })
 
 pub returns-in-Spreads : goal.returns-in-Spreads

@@ -13,7 +13,7 @@ returns-in-Some-clause-heard g c =
       row = row_hears c.args.self.now.made c.args.self.now.clock c.args.self.now.ready true _ _ c.in-Some.row.now _ (sym c.in-Some.ensures.value) ch.row c.hear_turn.ensures refl refl;
       others = ch.others;
       same = record {
-        same = record { door_same = refl; pending_session_same = refl; clock_same = refl; made_same = refl; admitted_same = ch.admitted; bounds_same = ch.bounds };
+        same = record { door_same = refl; pending_session_same = refl; clock_same = refl; made_same = refl; scratch_same = refl; admitted_same = ch.admitted; bounds_same = ch.bounds };
         lists = record { work_same = refl; timers_same = refl };
         ready_same = refl;
       };

@@ -10,5 +10,6 @@ returns c = record {
   pending_session_same = refl;
   clock_is = refl;
   made_is = refl;
+  scratch_same = refl;
   on_clock = omega arith;
 }

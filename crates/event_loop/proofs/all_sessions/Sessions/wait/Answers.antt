@@ -16,7 +16,7 @@ use Rattle.event_loop.proofs.all_sessions.Sessions.wait.Goals as goal
 pub hear_turn-requires : goal.hear_turn-requires
 hear_turn-requires g c =
     let h = has_waited c.in-Turned.at c.in-Turned.stop _ c.take_turn.new.self c.take_turn.ensures in
-    all_unheard c.args.config.now _ c.in-Turned.at c.in-Turned.stop c.args.self.now c.take_turn.new.self c.requires.course c.requires.idle (record { door = h.door; table_same = h.table_same; lists = record { work_same = h.lists.work_same; timers_same = h.lists.timers_same }; pending_session_same = h.pending_session_same; clock_is = h.clock_is; made_is = h.made_is })
+    all_unheard c.args.config.now _ c.in-Turned.at c.in-Turned.stop c.args.self.now c.take_turn.new.self c.requires.course c.requires.idle (record { door = h.door; table_same = h.table_same; lists = record { work_same = h.lists.work_same; timers_same = h.lists.timers_same }; pending_session_same = h.pending_session_same; clock_is = h.clock_is; made_is = h.made_is; scratch_same = h.scratch_same })
 
 pub returns-then-stop-clause-waits : goal.returns-then-stop-clause-waits
 returns-then-stop-clause-waits g c = (
@@ -28,7 +28,7 @@ returns-then-stop-clause-waits g c = (
         idle = c.requires.idle;
         order = order;
         turns = turned_there _ _ c.args.until c.in-Turned.at _ c.take_turn.new.self.ready c.in-Turned.stop c.take_turn.ensures.ready_same (record { did = c.in-Turned.ensures.act; named = c.in-Turned.ensures.named; later = c.in-Turned.ensures.faults; counts = c.in-Turned.ensures.counts });
-        has = record { door = h.door; table_same = h.table_same; lists = record { work_same = h.lists.work_same; timers_same = h.lists.timers_same }; pending_session_same = h.pending_session_same; clock_is = h.clock_is; made_is = h.made_is };
+        has = record { door = h.door; table_same = h.table_same; lists = record { work_same = h.lists.work_same; timers_same = h.lists.timers_same }; pending_session_same = h.pending_session_same; clock_is = h.clock_is; made_is = h.made_is; scratch_same = h.scratch_same };
         on_clock = c.take_turn.ensures.on_clock;
       }),
   c.take_turn.ensures.made_is ∙ add-one _,
@@ -47,7 +47,7 @@ returns-in-Ok-clause-waits g c = (
           idle = c.requires.idle;
           order = order;
           turns = turned_there _ _ c.args.until c.in-Turned.at _ c.take_turn.new.self.ready c.in-Turned.stop c.take_turn.ensures.ready_same (record { did = c.in-Turned.ensures.act; named = c.in-Turned.ensures.named; later = c.in-Turned.ensures.faults; counts = c.in-Turned.ensures.counts });
-          has = record { door = h.door; table_same = h.table_same; lists = record { work_same = h.lists.work_same; timers_same = h.lists.timers_same }; pending_session_same = h.pending_session_same; clock_is = h.clock_is; made_is = h.made_is };
+          has = record { door = h.door; table_same = h.table_same; lists = record { work_same = h.lists.work_same; timers_same = h.lists.timers_same }; pending_session_same = h.pending_session_same; clock_is = h.clock_is; made_is = h.made_is; scratch_same = h.scratch_same };
           on_clock = c.take_turn.ensures.on_clock;
         }) c.hear_turn.ensures.heard c.in-Ok.ensures.queued;
         came = came_for c.args.config.now c.args.turns start _ past c.in-Turned.at c.args.self.now c.take_turn.new.self c.hear_turn.new.self on c.requires.idle c.take_turn.ensures.clock_is (record { work_same = h.lists.work_same; timers_same = h.lists.timers_same }) c.hear_turn.ensures.came;
@@ -67,7 +67,7 @@ returns-in-Err-clause-waits g c = (
         idle = c.requires.idle;
         order = order;
         turns = turned_there _ _ c.args.until c.in-Turned.at _ c.take_turn.new.self.ready c.in-Turned.stop c.take_turn.ensures.ready_same (record { did = c.in-Turned.ensures.act; named = c.in-Turned.ensures.named; later = c.in-Turned.ensures.faults; counts = c.in-Turned.ensures.counts });
-        has = record { door = h.door; table_same = h.table_same; lists = record { work_same = h.lists.work_same; timers_same = h.lists.timers_same }; pending_session_same = h.pending_session_same; clock_is = h.clock_is; made_is = h.made_is };
+        has = record { door = h.door; table_same = h.table_same; lists = record { work_same = h.lists.work_same; timers_same = h.lists.timers_same }; pending_session_same = h.pending_session_same; clock_is = h.clock_is; made_is = h.made_is; scratch_same = h.scratch_same };
         on_clock = c.take_turn.ensures.on_clock;
       }) c.hear_turn.ensures.heard,
   c.hear_turn.ensures.heard.same.made_same ∙ (c.take_turn.ensures.made_is ∙ add-one _),
@@ -87,6 +87,7 @@ returns-in-Memory-clause-waits g c = (
           next = f.next;
           clock_is = f.clock_is;
           made_is = f.made_is;
+          room = f.room;
           unsaid = f.unsaid;
         };
         all = refl;
@@ -140,7 +141,7 @@ returns-in-Ok-clause-paid g c = λ start past on order longest.
       idle = c.requires.idle;
       order = order;
       turns = turned_there _ _ c.args.until c.in-Turned.at _ c.take_turn.new.self.ready c.in-Turned.stop c.take_turn.ensures.ready_same (record { did = c.in-Turned.ensures.act; named = c.in-Turned.ensures.named; later = c.in-Turned.ensures.faults; counts = c.in-Turned.ensures.counts });
-      has = record { door = h.door; table_same = h.table_same; lists = record { work_same = h.lists.work_same; timers_same = h.lists.timers_same }; pending_session_same = h.pending_session_same; clock_is = h.clock_is; made_is = h.made_is };
+      has = record { door = h.door; table_same = h.table_same; lists = record { work_same = h.lists.work_same; timers_same = h.lists.timers_same }; pending_session_same = h.pending_session_same; clock_is = h.clock_is; made_is = h.made_is; scratch_same = h.scratch_same };
       on_clock = c.take_turn.ensures.on_clock;
     })) c.hear_turn.ensures.looks
 
@@ -153,7 +154,7 @@ returns-in-Err-clause-paid g c = λ start past on order longest.
       idle = c.requires.idle;
       order = order;
       turns = turned_there _ _ c.args.until c.in-Turned.at _ c.take_turn.new.self.ready c.in-Turned.stop c.take_turn.ensures.ready_same (record { did = c.in-Turned.ensures.act; named = c.in-Turned.ensures.named; later = c.in-Turned.ensures.faults; counts = c.in-Turned.ensures.counts });
-      has = record { door = h.door; table_same = h.table_same; lists = record { work_same = h.lists.work_same; timers_same = h.lists.timers_same }; pending_session_same = h.pending_session_same; clock_is = h.clock_is; made_is = h.made_is };
+      has = record { door = h.door; table_same = h.table_same; lists = record { work_same = h.lists.work_same; timers_same = h.lists.timers_same }; pending_session_same = h.pending_session_same; clock_is = h.clock_is; made_is = h.made_is; scratch_same = h.scratch_same };
       on_clock = c.take_turn.ensures.on_clock;
     })) c.hear_turn.ensures.looks
 
@@ -166,7 +167,7 @@ returns-then-stop-clause-paid g c = λ start past on order longest.
       idle = c.requires.idle;
       order = order;
       turns = turned_there _ _ c.args.until c.in-Turned.at _ c.take_turn.new.self.ready c.in-Turned.stop c.take_turn.ensures.ready_same (record { did = c.in-Turned.ensures.act; named = c.in-Turned.ensures.named; later = c.in-Turned.ensures.faults; counts = c.in-Turned.ensures.counts });
-      has = record { door = h.door; table_same = h.table_same; lists = record { work_same = h.lists.work_same; timers_same = h.lists.timers_same }; pending_session_same = h.pending_session_same; clock_is = h.clock_is; made_is = h.made_is };
+      has = record { door = h.door; table_same = h.table_same; lists = record { work_same = h.lists.work_same; timers_same = h.lists.timers_same }; pending_session_same = h.pending_session_same; clock_is = h.clock_is; made_is = h.made_is; scratch_same = h.scratch_same };
       on_clock = c.take_turn.ensures.on_clock;
     })) (omega arith)
 

@@ -1,5 +1,5 @@
 use Rattle.std.proofs.Math.Logic.{∥∥₁_map}
-use Rattle.desk_places.specs.Stations.{base_at, hold_at}
+use Rattle.desk_places.specs.Stations.{base_at}
 use Rattle.port_desk.proofs.FollowLemmas.{accept_follows}
 use Rattle.port_desk.proofs.followed.FollowedWorld.accept.Goals as goal
 

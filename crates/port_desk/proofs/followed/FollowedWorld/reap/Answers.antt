@@ -1,6 +1,6 @@
 use Rattle.std.proofs.Math.Logic.{∥∥₁_map}
 use Rattle.std.proofs.Common.{ap}
-use Rattle.desk_places.specs.Stations.{base_at, hold_at}
+use Rattle.desk_places.specs.Stations.{base_at}
 use Rattle.port_desk.proofs.FollowLemmas.{reap_follows}
 use Rattle.port_desk.proofs.followed.FollowedWorld.reap.Goals as goal
 

@@ -1,7 +1,7 @@
 use Rattle.std.proofs.Math.Logic.{∥∥₁_map}
 use Rattle.std.proofs.Common.{ap, false}
 use Rattle.relay_model.specs.Holding.{is_free}
-use Rattle.desk_places.specs.Stations.{base_at, hold_at}
+use Rattle.desk_places.specs.Stations.{base_at}
 use Rattle.relay_model.specs.declared.places.Half.TheVariants.{ToWrite}
 use Rattle.port_table.specs.PortTables.{taking_port}
 use Rattle.port_desk.specs.Calls.{SendsSo}

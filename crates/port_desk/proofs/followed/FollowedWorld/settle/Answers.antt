@@ -1,7 +1,7 @@
 use Rattle.std.proofs.Math.Logic.{∥∥₁_map}
 use Rattle.std.proofs.Common.{ap}
 use Rattle.relay_model.specs.Holding.{is_free}
-use Rattle.desk_places.specs.Stations.{base_at, hold_at}
+use Rattle.desk_places.specs.Stations.{base_at}
 use Rattle.port_table.specs.PortTables.{giving_port}
 use Rattle.port_desk.proofs.FollowCalled.{settle_errors, settle_input, settle_output}
 use Rattle.port_desk.proofs.FollowLemmas.{settle_follows}

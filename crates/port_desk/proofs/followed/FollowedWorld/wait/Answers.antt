@@ -1,7 +1,7 @@
 use Rattle.std.proofs.Common.{ap}
 use Rattle.port_table.specs.Ports.{StreamSeen}
 use Rattle.std.proofs.Math.Logic.{∥∥₁_map}
-use Rattle.desk_places.specs.Stations.{base_at, hold_at}
+use Rattle.desk_places.specs.Stations.{base_at}
 use Rattle.port_desk.proofs.FollowLemmas.{wait_follows}
 use Rattle.port_desk.proofs.followed.FollowedWorld.wait.Goals as goal
 

@@ -1,4 +1,6 @@
 use Rattle.port_table.specs.Bases.{standard_of}
+use Rattle.desk_places.specs.Causes.{asking}
+use Rattle.desk_places.specs.Stations.{base_at}
 use Rattle.port_desk.proofs.OpenLemmas.{no_ports, opened_from, ports_from, unopened}
 use Rattle.port_desk.proofs.worlds.DeskWorld.open_place.Goals as goal
 
@@ -10,7 +12,7 @@ returns-clause-begun g c =
 
 pub returns-clause-ports : goal.returns-clause-ports
 returns-clause-ports g c =
-    rw c.keep_opening.ensures.stations (ports_from _ (standard_of c.args.place c.args.single.now.target) c.open-answer.result c.args.place _ c.args.self.now.ports.table.made c.prepare_opening.new.self.ports.table.made c.open-answer.new.self.table.made c.prepare_opening.ensures.made c.open-answer.ensures.ports)
+    rw c.keep_opening.ensures.stations (ports_from (g.M.Maker.makes c.args.self.now.ports.maker (asking c.args.place c.args.single.now c.args.behind) c.open-answer.new.self.maker) g.M.Made.Port.seen (standard_of c.args.place c.args.single.now.target) c.open-answer.result c.args.place (base_at c.open-answer.new.stations.entries c.args.place) c.args.self.now.ports.table.made c.prepare_opening.new.self.ports.table.made c.open-answer.new.self.table.made c.prepare_opening.ensures.made (rw c.prepare_opening.ensures.maker at c.open-answer.ensures.ports))
 
 pub returns-in_default-clause-begun : goal.returns-in_default-clause-begun
 returns-in_default-clause-begun g c =

@@ -1,5 +1,5 @@
 use Rattle.std.proofs.Common.{sym, ◌∙◌, ap, is_some}
-use Rattle.history_lemmas.proofs.OwnThings.{each_place, among_own}
+use Rattle.relay_laws.proofs.OwnThings.{each_place, among_own}
 use Rattle.relay_model.specs.Configs.{places}
 use Rattle.relay_session.proofs.Own.{of_places}
 use Rattle.relay_session.proofs.Plans.{ends_of}

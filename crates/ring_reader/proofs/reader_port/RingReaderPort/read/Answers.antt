@@ -13,7 +13,7 @@ pub invariant_of-self : goal.invariant_of-self
 invariant_of-self g c =
     let i = c.self.inside in
     let some : i.held ≢ [] = λ e. false≢true (sym c.if-not-is_empty.true ∙ c.is_empty.ensures.1 e) in
-    (c.self.invariant.0, c.self.invariant.1, rw c.give.ensures.rest (gives_held g.S.Source.left g.S.Source.faults g.S.Source.ends i.lines.value i.start.value i.tally.misuses (view i.items) (view i.words) i.held i.marked i.ended i.tally.counts i.stage _ c.self.invariant.2 some))
+    (c.self.invariant.0, c.self.invariant.1, rw c.give.ensures.rest (gives_held g.S.Source.left g.S.Source.faults g.S.Source.ends i.lines.value i.start.value i.tally.misuses (view i.items) (view i.words) i.held i.marked i.ended i.tally.counts i.stage _ c.self.invariant.2 some), c.self.invariant.3)
 
 pub returns-then-not-is_empty-clause-reads : goal.returns-then-not-is_empty-clause-reads
 returns-then-not-is_empty-clause-reads g c =
@@ -37,7 +37,7 @@ invariant_of-self-in-Some-Chunk g c =
     let i = c.self.inside in
     let runs = sym c.is_running.ensures ∙ c.if-not-is_running.false in
     let is = rw c.in-Some-Chunk.field-0-is at c.in-Some-Chunk.ensures.taken.0 in
-    (search rules, search rules, rw (c.give-in-Some-Chunk.ensures.rest, c.put.ensures) (takes_chunk g.S.Source.left g.S.Source.faults g.S.Source.ends i.lines.value i.start.value i.tally.misuses (view i.items) (view c.next.new.items) (view i.words) (view c.ask_again.new.words) i.held i.marked i.ended i.tally.counts i.stage _ _ c.self.invariant.2 runs c.ask_again.ensures.sends c.ask_again.ensures.asked is))
+    (search rules, search rules, rw (c.give-in-Some-Chunk.ensures.rest, c.put.ensures) (takes_chunk g.S.Source.left g.S.Source.faults g.S.Source.ends i.lines.value i.start.value i.tally.misuses (view i.items) (view c.next.new.items) (view i.words) (view c.ask_again.new.words) i.held i.marked i.ended i.tally.counts i.stage _ _ c.self.invariant.2 runs c.ask_again.ensures.sends c.ask_again.ensures.asked is), c.self.invariant.3)
 
 pub returns-in-Some-Chunk-clause-reads : goal.returns-in-Some-Chunk-clause-reads
 returns-in-Some-Chunk-clause-reads g c =
@@ -66,7 +66,7 @@ invariant_of-self-in-Some-End g c =
     let runs = sym c.is_running.ensures ∙ c.if-not-is_running.false in
     let is = rw c.in-Some-End.field-0-is at c.in-Some-End.ensures.taken.0 in
     let value = c.count_end.ensures.value in
-    (search rules, search rules, takes_end g.S.Source.left g.S.Source.faults g.S.Source.ends i.lines.value i.start.value i.tally.misuses (view i.items) (view c.next.new.items) (view i.words) (view c.ask_again.new.words) i.held i.marked i.ended i.tally.counts c.count_end.new.self i.stage _ (ap (λ (k : Counts). k.faults) value) (ap (λ (k : Counts). k.ends) value) c.self.invariant.2 nothing runs c.ask_again.ensures.sends c.ask_again.ensures.asked is)
+    (search rules, search rules, takes_end g.S.Source.left g.S.Source.faults g.S.Source.ends i.lines.value i.start.value i.tally.misuses (view i.items) (view c.next.new.items) (view i.words) (view c.ask_again.new.words) i.held i.marked i.ended i.tally.counts c.count_end.new.self i.stage _ (ap (λ (k : Counts). k.faults) value) (ap (λ (k : Counts). k.ends) value) c.self.invariant.2 nothing runs c.ask_again.ensures.sends c.ask_again.ensures.asked is, c.self.invariant.3)
 
 pub returns-in-Some-End-clause-reads : goal.returns-in-Some-End-clause-reads
 returns-in-Some-End-clause-reads g c =
@@ -91,7 +91,7 @@ invariant_of-self-in-Some-Fault g c =
     let runs = sym c.is_running.ensures ∙ c.if-not-is_running.false in
     let is = rw c.in-Some-Fault.field-0-is at c.in-Some-Fault.ensures.taken.0 in
     let value = c.count_fault.ensures.value in
-    (search rules, search rules, takes_fault g.S.Source.left g.S.Source.faults g.S.Source.ends i.lines.value i.start.value i.tally.misuses (view i.items) (view c.next.new.items) (view i.words) (view c.ask_again.new.words) i.held i.marked i.ended i.tally.counts c.count_fault.new.self i.stage _ c.count_fault.ensures.counted.0.faults (ap (λ (k : Counts). k.faults) value) (ap (λ (k : Counts). k.ends) value) c.self.invariant.2 nothing runs c.ask_again.ensures.sends c.ask_again.ensures.asked is)
+    (search rules, search rules, takes_fault g.S.Source.left g.S.Source.faults g.S.Source.ends i.lines.value i.start.value i.tally.misuses (view i.items) (view c.next.new.items) (view i.words) (view c.ask_again.new.words) i.held i.marked i.ended i.tally.counts c.count_fault.new.self i.stage _ c.count_fault.ensures.counted.0.faults (ap (λ (k : Counts). k.faults) value) (ap (λ (k : Counts). k.ends) value) c.self.invariant.2 nothing runs c.ask_again.ensures.sends c.ask_again.ensures.asked is, c.self.invariant.3)
 
 pub returns-in-Some-Fault-clause-reads : goal.returns-in-Some-Fault-clause-reads
 returns-in-Some-Fault-clause-reads g c =

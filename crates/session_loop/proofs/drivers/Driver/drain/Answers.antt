@@ -1,4 +1,4 @@
-use Rattle.std.proofs.Common.{◌∙◌, arith}
+use Rattle.std.proofs.Common.{◌∙◌}
 use Rattle.session_loop.proofs.Going.{kept_for}
 use Rattle.session_loop.proofs.drivers.Driver.drain.Goals as goal
 
@@ -13,5 +13,5 @@ loop-pause-preserved g c = record {
   keeps = λ n start past on. (let o = c.loop-pause.invariant.keeps n start past on in c.step.ensures.course n start o.past o.course);
   over = λ h. c.step.ensures.over (c.loop-pause.invariant.over h);
   made = c.step.ensures.made ∙ c.loop-pause.invariant.made;
-  some = omega arith;
+  room = c.step.ensures.scratch ∙ c.loop-pause.invariant.room;
 }

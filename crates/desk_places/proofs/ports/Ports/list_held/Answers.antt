@@ -1,0 +1,19 @@
+use Rattle.std.proofs.Common.{◌∙◌, ap, refl, sym}
+use Rattle.port_table.specs.declared.bases.Base.TheVariants as bases
+use Rattle.desk_places.proofs.PortLemmas.{key_made}
+use Rattle.desk_places.proofs.SoundLemmas.{heeds_set, heeds_standard, sound_listed}
+use Rattle.desk_places.proofs.ports.Ports.list_held.Goals as goal
+
+pub returns-in_default-clause-sound : goal.returns-in_default-clause-sound
+returns-in_default-clause-sound g c = λ stations here but.
+    sound_listed stations c.args.station.place c.args.self.now.table.made c.args.self.now.listed c.args.self.now.listed refl but
+    c.args.station here (λ key away. refl)
+    (λ stands. heeds_standard c.args.station c.args.self.now.listed.keys c.args.station.base c.args.self.now.table.made (sym c.made_key.ensures ∙ c.in_default.is))
+
+pub returns-clause-sound : goal.returns-clause-sound
+returns-clause-sound g c = λ stations here but.
+    let is = key_made c.args.station.base c.in-Some.key (sym c.made_key.ensures ∙ c.in-Some.is) in
+    sound_listed stations c.args.station.place c.args.self.now.table.made c.args.self.now.listed c.set.new.self c.set.ensures.covered but
+    c.args.station here
+    (λ key away. c.set.ensures.others key (λ same. away (is ∙ ap bases.Made (sym same))))
+    (λ stands. heeds_set c.args.station c.in-Some.key c.args.self.now.listed.covered c.args.station.place c.set.new.self.keys c.may_hint-may.result c.args.self.now.table.made is c.may_hint-may.ensures.halves c.may_hint-may.ensures.told (λ below. c.set.ensures.here below ∙ c.is_awaited.ensures) stands)

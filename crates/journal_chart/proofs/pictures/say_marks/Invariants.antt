@@ -1,5 +1,0 @@
-use Rattle.journal_chart.specs.Elements.{AddsElements}
-use Rattle.journal_chart.proofs.pictures.say_marks.Given as goal
-
-abbrev pub invariant-loop-column : goal.invariant-loop-column
-invariant-loop-column l = AddsElements l.initial.page l.page

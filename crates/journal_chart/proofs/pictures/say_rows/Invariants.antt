@@ -1,5 +1,0 @@
-use Rattle.journal_chart.specs.Pictures.{AddsPictureRows}
-use Rattle.journal_chart.proofs.pictures.say_rows.Given as goal
-
-abbrev pub invariant-loop-session : goal.invariant-loop-session
-invariant-loop-session l = AddsPictureRows l.overview.config l.overview.acts l.session l.initial.page l.page

@@ -1,5 +1,0 @@
-use Rattle.journal_chart.specs.Elements.{AddsElements}
-use Rattle.journal_chart.proofs.pictures.say_scale.Given as goal
-
-abbrev pub invariant-loop-part : goal.invariant-loop-part
-invariant-loop-part l = AddsElements l.initial.page l.page

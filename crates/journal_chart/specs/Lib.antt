@@ -1,3 +1,0 @@
-pub mod Timelines
-pub mod Elements
-pub mod Pictures

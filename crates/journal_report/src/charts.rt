@@ -1,0 +1,183 @@
+// A chart of a run: a row for each session, and in each column what happened in that part of the time.
+ghost use Rattle.std.specs.Prelude.{◌≡◌, ◌<◌, ◌≤◌, ◌*◌, length, IfOk};
+ghost use Rattle.relay_model.specs.Sessions.{numbers};
+
+use command_places::{way_from, way_to};
+use history_facts::now;
+use journal_table::Overview;
+use relay_model::{Act, NoMemory, Place, Way, Why};
+use std::alloc::Global;
+
+/// What happened in a part of the time, from the weakest sign to the strongest. Of several the strongest is shown.
+#[derive(Clone, Copy, Debug, PartialEq, Eq)]
+pub enum Mark {
+    /// Nothing.
+    Quiet,
+    /// Something was opened, or a peer came.
+    Opened,
+    /// An opening failed, or is under way.
+    Tried,
+    /// Bytes passed one way.
+    Passed(Way),
+    /// Bytes passed both ways.
+    PassedBoth,
+    /// The end of a direction was passed on.
+    PassedEnd(Way),
+    /// A read or a write failed.
+    Failed,
+    /// Something was closed as finished.
+    Finished,
+    /// Something was closed for another reason.
+    Cut,
+}
+
+/// The marks of all sessions, row by row.
+#[derive(Drop)]
+pub struct Chart {
+    /// How many columns a row has.
+    pub columns: usize,
+    /// The moment of the last turn, which is the end of the last column.
+    pub span: u64,
+    /// The rows, one behind the other.
+    pub marks: Vec<Mark>,
+}
+
+fn mark_of_closing(why: Why) -> Mark {
+    match why {
+        Why::Finished => Mark::Finished,
+        Why::Refused | Why::Served => Mark::Quiet,
+        _ => Mark::Cut,
+    }
+}
+
+/// Where an act leaves a mark, and which.
+fn mark_of(act: &Act) -> Option<(Place, Mark)> {
+    match act {
+        Act::Opened(place) | Act::Accepted(place, _) => Some((*place, Mark::Opened)),
+        Act::OpenLater(place) | Act::OpenFailed(place) => Some((*place, Mark::Tried)),
+        Act::ListenFailed(place) | Act::AcceptFailed(place) => Some((*place, Mark::Tried)),
+        Act::Read(place, _) => Some((*place, Mark::Passed(way_from(place.side)))),
+        Act::Wrote(place, _) => Some((*place, Mark::Passed(way_to(place.side)))),
+        Act::ReadFault(place) | Act::WriteFault(place) => Some((*place, Mark::Failed)),
+        Act::Shut(place, _) => Some((*place, Mark::PassedEnd(way_to(place.side)))),
+        Act::ShutFault(place, _) => Some((*place, Mark::Failed)),
+        Act::Closed(place, why) => Some((*place, mark_of_closing(*why))),
+        _ => None,
+    }
+}
+
+fn strength(mark: Mark) -> u8 {
+    match mark {
+        Mark::Quiet => 0,
+        Mark::Opened => 1,
+        Mark::Tried => 2,
+        Mark::Passed(_) => 3,
+        Mark::PassedBoth => 4,
+        Mark::PassedEnd(_) => 5,
+        Mark::Finished => 6,
+        Mark::Failed => 7,
+        Mark::Cut => 8,
+    }
+}
+
+/// The sign of two things in one part of the time.
+fn joined(one: Mark, other: Mark) -> Mark {
+    match (one, other) {
+        (Mark::Passed(way), Mark::Passed(back)) if way != back => Mark::PassedBoth,
+        _ => {
+            if strength(one) < strength(other) {
+                other
+            } else {
+                one
+            }
+        }
+    }
+}
+
+impl Chart {
+    /// A chart of nothing.
+    fn new(alloc: Global, span: u64, sessions: u32, columns: usize) -> Result<Chart, NoMemory>
+        ensures columns { IfOk result (λ chart. chart.columns ≡ columns) }
+        ensures rows { IfOk result (λ chart. length chart.marks.items ≡ sessions * columns) }
+    {
+        let count = (sessions as usize).checked_mul(columns).ok_or(NoMemory)?;
+        let mut marks = Vec::new(alloc);
+        marks.resize(count, Mark::Quiet)?;
+        Ok(Chart {
+            columns,
+            span,
+            marks,
+        })
+    }
+
+    /// The column of a moment.
+    pub fn column_of(&self, at: u64) -> usize
+        requires { 0 < self.now.columns }
+        ensures { result < self.now.columns }
+    {
+        let column = at as u128 * self.columns as u128 / (self.span as u128 + 1);
+        column.min((self.columns - 1) as u128) as usize
+    }
+
+    /// The mark at this place of all, counted row by row; none stands behind the last.
+    pub fn at(&self, place: usize) -> Mark {
+        match self.marks.get(place) {
+            Some(mark) => *mark,
+            None => Mark::Quiet,
+        }
+    }
+
+    fn put(&mut self, place: usize, mark: Mark)
+        ensures columns { self.new.columns ≡ self.old.columns }
+        ensures rows { length self.new.marks.items ≡ length self.old.marks.items }
+    {
+        let before = self.at(place);
+        if let Some(there) = self.marks.get_mut(place) {
+            *there = joined(before, mark);
+        }
+    }
+
+    /// Takes in an act that came at this moment.
+    fn note(&mut self, at: u64, act: &Act)
+        requires { 0 < self.old.columns }
+        ensures columns { self.new.columns ≡ self.old.columns }
+        ensures rows { length self.new.marks.items ≡ length self.old.marks.items }
+    {
+        if let Some((place, mark)) = mark_of(act) {
+            let column = self.column_of(at);
+            let row = (place.session as usize).saturating_mul(self.columns);
+            self.put(row.saturating_add(column), mark);
+        }
+    }
+}
+
+fn moment_after(at: u64, act: &Act) -> u64 {
+    match act {
+        Act::Turn { at, .. } => *at,
+        _ => at,
+    }
+}
+
+/// The chart of these acts, the newest first, in so many columns.
+pub fn chart_of(
+    alloc: Global,
+    overview: &Overview,
+    all: &[&Act],
+    columns: usize,
+) -> Result<Chart, NoMemory>
+    requires { 0 < columns }
+    ensures columns { IfOk result (λ chart. chart.columns ≡ columns) }
+    ensures rows { IfOk result (λ chart. length chart.marks.items ≡ numbers overview.now.config overview.now.acts * columns) }
+{
+    let span = now(overview.facts());
+    let mut chart = Chart::new(alloc, span, overview.sessions(), columns)?;
+    let mut at = 0;
+    let mut k = all.len();
+    while k > 0 {
+        k -= 1;
+        let act: &Act = all[k];
+        at = moment_after(at, act);
+        chart.note(at, act);
+    }
+    Ok(chart)
+}

@@ -1,5 +1,0 @@
-use Rattle.journal_story.proofs.Begins.{a_session_begins_once}
-use Rattle.journal_story.proofs.laws.a_session_begins_once.Goals as goal
-
-pub returns : goal.returns
-returns c = a_session_begins_once

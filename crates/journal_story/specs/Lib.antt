@@ -1,4 +1,0 @@
-pub mod Visits
-pub mod Told
-pub mod Rows
-pub mod Streams

@@ -1,0 +1,54 @@
+-- The row of a session in a table: when it began and ended, what passed each way, and how each way ended.
+use Rattle.std.specs.Prelude.{◌≡◌, ℕ, ◌-◌, Bool, ◌||◌, nat_lt, List, length, Option, Some, None, is_some, unwrap_or, if◌then◌else◌}
+use Rattle.relay_model.specs.declared.places.Way.{Way}
+use Rattle.relay_model.specs.declared.places.Way.TheVariants.{LeftToRight, RightToLeft}
+use Rattle.relay_model.specs.declared.commands.Config.{Config}
+use Rattle.relay_model.specs.declared.acts.Act.{Act}
+use Rattle.relay_model.specs.Configs.{input, output, formed}
+use Rattle.relay_model.specs.History.{now, got, put, read_fault_at, write_fault_at}
+use Rattle.relay_model.specs.Sessions.{numbers}
+use Rattle.relay_model.specs.Moments.{moved_at, passed}
+use Rattle.relay_model.specs.Cause.{closed_why}
+use Rattle.journal_table.specs.declared.rows.Ending.{Ending}
+use Rattle.journal_table.specs.declared.rows.Ending.TheVariants.{Open, Passed, Failed, Cut}
+use Rattle.journal_table.specs.declared.rows.Passage.{Passage}
+use Rattle.journal_table.specs.declared.rows.Row.{Row}
+use Rattle.journal_table.specs.Visits.{began_at, ended_at}
+
+-- a read or a write of a direction failed
+abbrev pub failed : Config → List Act → ℕ → Way → Bool
+failed c past s w = is_some (read_fault_at past (input c s w)) || is_some (write_fault_at past (output c s w))
+
+-- how far a direction came: its end was passed on, or something of it failed before, or its session was closed before
+abbrev pub ending_of : Config → List Act → ℕ → Way → Ending
+ending_of c past s w =
+    if passed c past s w then Passed
+    else (if failed c past s w then Failed
+    else (if is_some (closed_why c past s) then Cut else Open))
+
+-- what went through a direction, where the command forms it: how many bytes were read and how many were written
+abbrev pub passage_of : Config → List Act → ℕ → Way → Option Passage
+passage_of c past s w =
+    if formed c w
+    then Some (record { read = length (got past (input c s w)); written = length (put past (output c s w)); ending = ending_of c past s w })
+    else None
+
+-- how long nothing of a session had moved when it ended, or else when the last turn was made
+abbrev pub idle_of : Config → List Act → ℕ → ℕ
+idle_of c past s = unwrap_or (ended_at c past s) (now past) - moved_at c past s
+
+-- the row of a session
+abbrev pub row_of : Config → List Act → ℕ → Row
+row_of c past s = record {
+  session = s;
+  began = began_at c past s;
+  ended = ended_at c past s;
+  idle = idle_of c past s;
+  right = passage_of c past s LeftToRight;
+  left = passage_of c past s RightToLeft;
+  why = closed_why c past s;
+}
+
+-- the sessions that have begun are just those that have a moment at which they began
+abbrev pub ASessionBeginsOnce : Type 0
+ASessionBeginsOnce = (c : Config) (past : List Act) (s : ℕ) → is_some (began_at c past s) ≡ nat_lt s (numbers c past)

@@ -1,0 +1,124 @@
+// A flow that is filled and taken from step by step. First its lane: the block, how it is read and written, the number
+// of bytes that may be read and the escape byte, each a number or `-`, and `stream` or `packets`.
+ghost use Rattle.std.specs.Prelude.{◌≡◌, IfOk, IfSome};
+ghost use Rattle.relay_model.specs.Conversions.{packet_cap};
+
+use crate::spellings::conv_of;
+use case_rows::{Answered, Answers, Inputs, RowFault, bytes_of, step_parts};
+use line_ends::Convs;
+use relay_buffer::{Flow, Lane};
+use relay_model::Conv;
+use std::alloc::Global;
+
+pub(crate) fn ask(alloc: Global, inputs: &mut Inputs<'_>, answers: &mut Answers) -> Answered {
+    let lane = lane_of(inputs)?;
+    let flow = Flow::new(alloc, lane)?;
+    let mut tried = Tried { lane, flow };
+    for _ in 0..u64::MAX {
+        let Some(step) = inputs.step() else {
+            break;
+        };
+        tried.make_step(alloc, step, answers)?;
+    }
+    Ok(())
+}
+
+/// A flow beside the lane that it was made with.
+#[derive(Drop)]
+struct Tried {
+    lane: Lane,
+    flow: Flow,
+    ghost made_with: { flow.lane ≡ lane },
+}
+
+fn lane_of(inputs: &mut Inputs<'_>) -> Result<Lane, RowFault>
+    ensures { IfOk result (λ lane. IfSome lane.packets (λ cap. cap ≡ packet_cap lane.how.write)) }
+{
+    let block = inputs.small_number()?;
+    let read = conv_of(inputs.word()?)?;
+    let write = conv_of(inputs.word()?)?;
+    let readbytes = limit_of(inputs.word()?)?;
+    let escape = byte_of(inputs.word()?)?;
+    let packets = longest_packet(inputs.word()?, write)?;
+    Ok(Lane {
+        block,
+        how: Convs { read, write },
+        readbytes,
+        escape,
+        packets,
+    })
+}
+
+fn limit_of(word: &str) -> Result<Option<u64>, RowFault> {
+    match word {
+        "-" => Ok(None),
+        _ => Ok(Some(word.parse::<u64>()?)),
+    }
+}
+
+fn byte_of(word: &str) -> Result<Option<u8>, RowFault> {
+    match word {
+        "-" => Ok(None),
+        _ => Ok(Some(word.parse::<u8>()?)),
+    }
+}
+
+/// The longest piece that is read for one packet, so that with its line ends converted it fits a datagram.
+fn longest_packet(word: &str, write: Conv) -> Result<Option<u32>, RowFault>
+    ensures { IfOk result (λ most. IfSome most (λ cap. cap ≡ packet_cap write)) }
+{
+    match word {
+        "stream" => Ok(None),
+        "packets" => Ok(Some(u32::from(write.packet_cap()))),
+        _ => Err(RowFault::NoRow),
+    }
+}
+
+impl Tried {
+    fn make_step(&mut self, alloc: Global, step: &str, answers: &mut Answers) -> Answered {
+        let (name, value) = step_parts(step);
+        match name {
+            "fill" => self.fill(bytes_of(alloc, value)?.as_slice())?,
+            "took" => self.took(value.parse::<usize>()?)?,
+            "pending" => answers.bytes(self.flow.pending()),
+            "drain" => answers.bytes(self.drain(alloc)?.as_slice()),
+            "room" => answers.number(self.flow.room() as u64),
+            "waiting" => answers.number(self.flow.waiting() as u64),
+            "over" => answers.truth(self.flow.over()),
+            "spent" => answers.truth(self.flow.spent()),
+            _ => return Err(RowFault::NoRow),
+        }
+        Ok(())
+    }
+
+    /// Fills the bytes in, for which there has to be room.
+    fn fill(&mut self, bytes: &[u8]) -> Answered {
+        if bytes.len() > self.flow.room() {
+            return Err(RowFault::NoRow);
+        }
+        self.flow.fill(bytes);
+        Ok(())
+    }
+
+    /// Takes all that waits, piece by piece.
+    fn drain(&mut self, alloc: Global) -> Result<Vec<u8>, RowFault> {
+        let mut all = Vec::new(alloc);
+        for _ in 0..self.flow.waiting() {
+            let piece = self.flow.pending();
+            let count = piece.len();
+            all.extend_from_slice(piece)?;
+            self.flow.took(count);
+        }
+        Ok(all)
+    }
+
+    /// Lets so many bytes go, of a packet all.
+    fn took(&mut self, count: usize) -> Answered {
+        let waiting = self.flow.waiting();
+        if count > waiting || (self.lane.packets.is_some() && count != waiting) {
+            return Err(RowFault::NoRow);
+        }
+        self.flow.took(count);
+        Ok(())
+    }
+}
