@@ -16,10 +16,11 @@ pub record PollerState (P : Type 0) : Type 0 where
 abbrev pub Appends : List (ℕ × Half) → List (ℕ × Half) → Type 0
 Appends before now = (more : List (ℕ × Half)) × (now ≡ before ++ more)
 
--- the poller beneath was asked once, and what it named comes first; where ports were owed it wasn't asked
+-- the poller beneath was asked once; where ports were owed it wasn't asked
 abbrev pub AsksBeneath : {P : Type 0} → (P → Option ℕ → P → Polled → Type 0) → Bool → P → P → Polled → Type 0
 AsksBeneath polls owed before now polled = (owed ≡ true × (now ≡ before) × (polled.stop ≡ false)) ⊎ ((until : Option ℕ) × polls before until now polled)
 
+-- what the poller beneath named comes first, unless ports were owed
 abbrev pub NamesBeneath : Bool → Option (List (ℕ × Half)) → List (ℕ × Half) → Type 0
 NamesBeneath owed told entries = owed ≡ true ⊎ IfSome told (λ below. Appends below entries)
 
