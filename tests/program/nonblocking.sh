@@ -3,12 +3,13 @@
 
 if [ -n "$python" ]; then
     mkdir "$scratch/nonblocking"
-    while IFS=$'\t' read -r name problem; do
-        if [ "$problem" = 'left out' ]; then
-            echo "left out: $name"
-        else
-            report "$name" "$problem"
-        fi
+    while IFS=$'\t' read -r title fault; do
+        begin "$title"
+        case "$fault" in
+            'left out') left_out=yes ;;
+            *) wrong_if "$fault" ;;
+        esac
+        finish
     done < <("$python" -ES -B "$here/tests/program/nonblocking.py" "$program" "$scratch/nonblocking" ${own:+own} 2>&1)
 else
     echo "skipped streams that are set not to wait: there is no python3"

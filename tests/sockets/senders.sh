@@ -146,7 +146,9 @@ fi
 
 # socat(1) has a process for each sender, and so neither a watch nor a table of them.
 if [ -n "$own" ]; then
-    while IFS=$'\t' read -r name problem; do
-        report "$name" "$problem"
+    while IFS=$'\t' read -r title fault; do
+        begin "$title"
+        wrong_if "$fault"
+        finish
     done < <(UNAUDITED=yes "$python" -ES -X "pycache_prefix=$scratch/compiled" "$here/tests/sockets/door.py" "$program" 2>&1)
 fi
