@@ -40,7 +40,12 @@ fn report(alloc: Global, words: &[Text]) -> Result<(Bytes, u8), NoMemory>
     ensures { IfOk result (λ report. IsReport words.now report.0 report.1) }
 {
     match command_of(alloc, words) {
-        Ok(command) => Ok((explanation(alloc, &command)?, EXPLAINED)),
+        Ok(command) => {
+            let text = explanation(alloc, &command);
+            // (a call of its own, since the prover reads the end of a large value at each branch)
+            drop(command);
+            Ok((text?, EXPLAINED))
+        }
         Err(CommandFault::Refused(refused)) => {
             Ok((refusal_report(alloc, words, &refused)?, REFUSED))
         }

@@ -34,8 +34,13 @@ pub fn socat<W: World>(alloc: Global, world: &mut W, words: &[Text], turns: u64)
         (W.seen world.new).waits (W.seen world.old).stops (W.seen world.new).stops result }
 {
     match command_of(alloc, words) {
-        Ok(command) => obey(alloc, world, &command, turns),
-        Err(CommandFault::Refused(refused)) => { conclude(alloc, world, Outcome::Refused(refused)) }
+        Ok(command) => {
+            let outcome = obey(alloc, world, &command, turns);
+            // (a call of its own, since the prover reads the end of a large value at each branch)
+            drop(command);
+            outcome
+        }
+        Err(CommandFault::Refused(refused)) => conclude(alloc, world, Outcome::Refused(refused)),
         Err(CommandFault::Memory) => conclude(alloc, world, Outcome::Memory),
     }
 }

@@ -23,7 +23,9 @@ pub fn generated_run(alloc: Global, number: u64) -> Result<Summary, NoMemory>
     ensures { IfOk result (λ summary. GeneratedRun number summary) }
 {
     let mut world = NumberedWorld::new(alloc, number)?;
-    run_over(alloc, &mut world, number)
+    let summary = run_over(alloc, &mut world, number);
+    drop(world);
+    summary
 }
 
 /// Relays over the world of this number, in which nothing was done yet, and sums up what was done.
@@ -33,7 +35,9 @@ fn run_over(alloc: Global, world: &mut NumberedWorld, number: u64) -> Result<Sum
     ensures { IfOk result (λ summary. GeneratedRun number summary) }
 {
     let command = load_command(alloc)?;
-    summed_up(alloc, world, &command, number)
+    let summary = summed_up(alloc, world, &command, number);
+    drop(command);
+    summary
 }
 
 /// Relays as the command of a generated run asks, and sums up what was done.

@@ -4,7 +4,7 @@ ghost use Rattle.session_loop.specs.Headline.{StopCause};
 ghost use Rattle.socat_top.specs.Kept.{history_of};
 ghost use Rattle.socat_top.specs.Headline.{Leaves};
 ghost use Rattle.socat_top.specs.Programs.{is_relaying, last_status};
-ghost use Rattle.socat_top.specs.Tasks.{task};
+ghost use Rattle.socat_top.specs.Tasks.{command_task, task};
 ghost use Rattle.socat_top.specs.Written.{AsksForFile, asks_for_journal, journal_name, status_with, words_of_run};
 
 use crate::files::JournalFile;
@@ -40,12 +40,21 @@ fn words_of_run(words: &[Text]) -> &[Text]
 pub fn asks_for_relay(alloc: Global, words: &[Text]) -> Result<bool, NoMemory>
     ensures { IfOk result (λ relays. relays ≡ is_relaying (task (words_of_run words.now))) }
 {
-    match command_of(alloc, words_of_run(words)) {
-        Ok(Command::Relay(_)) => Ok(true),
-        Ok(Command::Load(_)) | Ok(Command::Usage) | Ok(Command::Version) => Ok(false),
+    let asked = command_of(alloc, words_of_run(words));
+    let relays = match &asked {
+        Ok(command) => Ok(is_relay(command)),
         Err(CommandFault::Refused(_)) => Ok(false),
         Err(CommandFault::Memory) => Err(NoMemory),
-    }
+    };
+    // (dropped by a call: the prover reads a large value's end once, and not at each branch)
+    drop(asked);
+    relays
+}
+
+fn is_relay(command: &Command) -> bool
+    ensures { result ≡ is_relaying (command_task command.now) }
+{
+    matches!(command, Command::Relay(_))
 }
 
 /// The run of a program: that of its words over a desk of these streams and of what the maker makes, with as many turns as can be
