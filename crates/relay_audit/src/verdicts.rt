@@ -87,6 +87,11 @@ pub fn audit(alloc: Global, text: &[u8], words: &[Text], turns: u64) -> Result<V
 {
     match relay_of(alloc, words)? {
         None => Ok(Verdict::BadWords),
-        Some(config) => verdict_by(alloc, &config, text, words, turns),
+        Some(config) => {
+            let verdict = verdict_by(alloc, &config, text, words, turns);
+            // (a call of its own, since the prover reads the end of a large value at each branch)
+            drop(config);
+            verdict
+        }
     }
 }
