@@ -6,7 +6,7 @@ use Rattle.addr_words.specs.declared.token_list.TokenKind.{TokenKind}
 use Rattle.addr_words.specs.declared.token_list.TokenKind.TheVariants.{Byte, Colon, Comma, Dual, Equals}
 use Rattle.addr_words.specs.declared.nesting.Enclosure.{Enclosure}
 use Rattle.addr_words.specs.declared.nesting.Enclosure.TheVariants.{DoubleQuote, SingleQuote, Bracket}
-use Rattle.addr_words.specs.declared.nesting.Opening.{Opening}
+use Rattle.addr_words.specs.declared.nesting.OpenEnclosure.{OpenEnclosure}
 use Rattle.addr_words.specs.declared.faults.WordFault.{WordFault}
 use Rattle.addr_words.specs.declared.faults.WordFault.TheVariants as faults
 use Rattle.addr_words.specs.Reading.{is_quote, innermost, outermost, escapes, is_dual, mark, meaning, token, single, open_after, after_front, over_at, tokens_from}
@@ -16,7 +16,7 @@ use Rattle.addr_words.proofs.Lies.{after_ok}
 use Rattle.addr_words.proofs.Stands.{closings, single_read, alone, dual_halves}
 
 -- some bytes in front are read as these tokens, up to this offset
-pub record ReadTo (around : List Opening) (at : ℕ) (bytes : List ℕ) (front : List Token) (to : ℕ) : Type 0 where
+pub record ReadTo (around : List OpenEnclosure) (at : ℕ) (bytes : List ℕ) (front : List Token) (to : ℕ) : Type 0 where
   pub count : ℕ
   pub place : to ≡ at + count
   pub read : tokens_from around at (take count bytes) ≡ Ok front
@@ -24,12 +24,12 @@ pub record ReadTo (around : List Opening) (at : ℕ) (bytes : List ℕ) (front :
 -- what is read last where the bytes are cut at a token of these kinds
 pub record Ending (Q : TokenKind → Type 0) (last : Token → List Token) (to : Token → ℕ) : Type 0 where
   pub no_byte : (b : ℕ) → Q (Byte b) → ⊥
-  pub one : (around : List Opening) (at b : ℕ) (bytes : List ℕ) (kind : TokenKind) → meaning (innermost around) b ≡ Some kind → Q kind
+  pub one : (around : List OpenEnclosure) (at b : ℕ) (bytes : List ℕ) (kind : TokenKind) → meaning (innermost around) b ≡ Some kind → Q kind
       → ReadTo around at (b ∷ bytes) (last (token kind at (at + 1))) (to (token kind at (at + 1)))
-  pub two : (around : List Opening) (at b c : ℕ) (bytes : List ℕ) → is_dual (innermost around) b c ≡ true → Q Dual
+  pub two : (around : List OpenEnclosure) (at b c : ℕ) (bytes : List ℕ) → is_dual (innermost around) b c ≡ true → Q Dual
       → ReadTo around at (b ∷ c ∷ bytes) (last (token Dual at (at + 2))) (to (token Dual at (at + 2)))
 
-abbrev pub EndsAt : (Q : TokenKind → Type 0) (last : Token → List Token) (to : Token → ℕ) (around : List Opening) (at : ℕ) (bytes : List ℕ) → Type 0
+abbrev pub EndsAt : (Q : TokenKind → Type 0) (last : Token → List Token) (to : Token → ℕ) (around : List OpenEnclosure) (at : ℕ) (bytes : List ℕ) → Type 0
 EndsAt Q last to around at bytes =
     (tokens : List Token) → tokens_from around at bytes ≡ Ok tokens → (front : List Token) (t : Token) (back : List Token) → tokens ≡ front ++ t ∷ back → Q t.kind → ReadTo around at bytes (front ++ last t) (to t)
 
@@ -51,19 +51,19 @@ not_ok : (fault : WordFault) (r : Result (List Token) WordFault) (tokens : List 
 not_ok fault r tokens e f = cc
 
 -- how a byte is read in front of any front of what follows
-abbrev Alone : List Opening → ℕ → List ℕ → Type 0
+abbrev Alone : List OpenEnclosure → ℕ → List ℕ → Type 0
 Alone around b bytes = (k : ℕ) → parts_halves (closings around) b (take k bytes) ≡ false
 
-none_alone : (around : List Opening) (b : ℕ) → Alone around b []
+none_alone : (around : List OpenEnclosure) (b : ℕ) → Alone around b []
 none_alone around b zero = alone around b
 none_alone around b (suc k) = alone around b
 
-next_alone : (around : List Opening) (b c : ℕ) (bytes : List ℕ) → is_dual (innermost around) b c ≡ false → Alone around b (c ∷ bytes)
+next_alone : (around : List OpenEnclosure) (b c : ℕ) (bytes : List ℕ) → is_dual (innermost around) b c ≡ false → Alone around b (c ∷ bytes)
 next_alone around b c bytes e zero = alone around b
 next_alone around b c bytes e (suc k) = dual_halves around b c (take k bytes) e
 
 -- with a byte in front
-behind_byte : (around : List Opening) (at b : ℕ) (bytes : List ℕ) (front : List Token) (to : ℕ) → escapes (innermost around) b ≡ false → Alone around b bytes
+behind_byte : (around : List OpenEnclosure) (at b : ℕ) (bytes : List ℕ) (front : List Token) (to : ℕ) → escapes (innermost around) b ≡ false → Alone around b bytes
     → ReadTo (open_after around at b) (at + 1) bytes front to → ReadTo around at (b ∷ bytes) (single (meaning (innermost around) b) at ++ front) to
 behind_byte around at b bytes front to escaping halves r = record {
   count = suc r.count;
@@ -71,7 +71,7 @@ behind_byte around at b bytes front to escaping halves r = record {
   read = single_read around at b (take r.count bytes) escaping (halves r.count) ∙ ap (after_front (single (meaning (innermost around) b) at)) r.read;
 }
 
-byte_ends : (Q : TokenKind → Type 0) (last : Token → List Token) (to : Token → ℕ) → Ending Q last to → (around : List Opening) (at b : ℕ) (bytes : List ℕ) → escapes (innermost around) b ≡ false → Alone around b bytes
+byte_ends : (Q : TokenKind → Type 0) (last : Token → List Token) (to : Token → ℕ) → Ending Q last to → (around : List OpenEnclosure) (at b : ℕ) (bytes : List ℕ) → escapes (innermost around) b ≡ false → Alone around b bytes
     → tokens_from around at (b ∷ bytes) ≡ after_front (single (meaning (innermost around) b) at) (tokens_from (open_after around at b) (at + 1) bytes)
     → EndsAt Q last to (open_after around at b) (at + 1) bytes → EndsAt Q last to around at (b ∷ bytes)
 byte_ends Q last to ending around at b bytes escaping halves reads rest tokens e front t back is q =
@@ -94,7 +94,7 @@ byte_ends Q last to ending around at b bytes escaping halves reads rest tokens e
         (behind (Some kind) means others read before (tail_is (token kind at (at + 1)) u others (before ++ t ∷ back) same))
 
 -- with a token of two bytes in front
-two_ends : (Q : TokenKind → Type 0) (last : Token → List Token) (to : Token → ℕ) (around : List Opening) (at b c : ℕ) (bytes : List ℕ) (first : Token)
+two_ends : (Q : TokenKind → Type 0) (last : Token → List Token) (to : Token → ℕ) (around : List OpenEnclosure) (at b c : ℕ) (bytes : List ℕ) (first : Token)
     → ((xs : List ℕ) → tokens_from around at (b ∷ c ∷ xs) ≡ after_front (first ∷ []) (tokens_from around (at + 2) xs))
     → (Q first.kind → ReadTo around at (b ∷ c ∷ bytes) (last first) (to first)) → EndsAt Q last to around (at + 2) bytes → EndsAt Q last to around at (b ∷ c ∷ bytes)
 two_ends Q last to around at b c bytes first reads here rest tokens e front t back is q =
@@ -113,13 +113,13 @@ two_ends Q last to around at b c bytes first reads here rest tokens e front t ba
           read = reads (take r.count bytes) ∙ ap (after_front (first ∷ [])) r.read;
         })
 
-last_ends : (Q : TokenKind → Type 0) (last : Token → List Token) (to : Token → ℕ) → Ending Q last to → (around : List Opening) (at b : ℕ) (x : Bool) → escapes (innermost around) b ≡ x
+last_ends : (Q : TokenKind → Type 0) (last : Token → List Token) (to : Token → ℕ) → Ending Q last to → (around : List OpenEnclosure) (at b : ℕ) (x : Bool) → escapes (innermost around) b ≡ x
     → EndsAt Q last to (open_after around at b) (at + 1) [] → EndsAt Q last to around at (b ∷ [])
 last_ends Q last to ending around at b true escaping rest tokens e front t back is q = absurd (not_ok (faults.LoneBackslash at) _ tokens (lone_read around at b escaping) e)
 last_ends Q last to ending around at b false escaping rest tokens e front t back is q =
     byte_ends Q last to ending around at b [] escaping (none_alone around b) (last_read around at b escaping) rest tokens e front t back is q
 
-next_ends : (Q : TokenKind → Type 0) (last : Token → List Token) (to : Token → ℕ) → Ending Q last to → (around : List Opening) (at b c : ℕ) (bytes : List ℕ) (x y : Bool) → escapes (innermost around) b ≡ x → is_dual (innermost around) b c ≡ y
+next_ends : (Q : TokenKind → Type 0) (last : Token → List Token) (to : Token → ℕ) → Ending Q last to → (around : List OpenEnclosure) (at b c : ℕ) (bytes : List ℕ) (x y : Bool) → escapes (innermost around) b ≡ x → is_dual (innermost around) b c ≡ y
     → EndsAt Q last to around (at + 2) bytes → EndsAt Q last to (open_after around at b) (at + 1) (c ∷ bytes) → EndsAt Q last to around at (b ∷ c ∷ bytes)
 next_ends Q last to ending around at b c bytes true y escaping dual behind rest =
     two_ends Q last to around at b c bytes (token (Byte c) at (at + 2)) (λ xs. escape_read around at b c xs escaping) (λ q. absurd (ending.no_byte c q)) behind
@@ -128,7 +128,7 @@ next_ends Q last to ending around at b c bytes false true escaping dual behind r
 next_ends Q last to ending around at b c bytes false false escaping dual behind rest =
     byte_ends Q last to ending around at b (c ∷ bytes) escaping (next_alone around b c bytes dual) (next_read around at b c bytes escaping dual) rest
 
-pub rest_ends : (Q : TokenKind → Type 0) (last : Token → List Token) (to : Token → ℕ) → Ending Q last to → (around : List Opening) (at : ℕ) (bytes : List ℕ) → EndsAt Q last to around at bytes
+pub rest_ends : (Q : TokenKind → Type 0) (last : Token → List Token) (to : Token → ℕ) → Ending Q last to → (around : List OpenEnclosure) (at : ℕ) (bytes : List ℕ) → EndsAt Q last to around at bytes
 rest_ends Q last to ending around at [] tokens e front t back is q = absurd (no_tokens front t back (over_none (outermost around) tokens (sym (at_end around at) ∙ e) ∙ is))
 rest_ends Q last to ending around at (b ∷ []) tokens e front t back is q =
     last_ends Q last to ending around at b (escapes (innermost around) b) refl (rest_ends Q last to ending (open_after around at b) (at + 1) []) tokens e front t back is q
@@ -196,10 +196,10 @@ byte_no_comma b e = cc
 byte_no_dual : (b : ℕ) → Byte b ≡ Dual → ⊥
 byte_no_dual b e = cc
 
-abbrev CommaAt : List Opening → ℕ → ℕ → List ℕ → TokenKind → Type 0
+abbrev CommaAt : List OpenEnclosure → ℕ → ℕ → List ℕ → TokenKind → Type 0
 CommaAt around at b bytes kind = ReadTo around at (b ∷ bytes) (token kind at (at + 1) ∷ []) (at + 1)
 
-comma_one : (around : List Opening) (at b : ℕ) (bytes : List ℕ) (kind : TokenKind) → meaning (innermost around) b ≡ Some kind → kind ≡ Comma → CommaAt around at b bytes kind
+comma_one : (around : List OpenEnclosure) (at b : ℕ) (bytes : List ℕ) (kind : TokenKind) → meaning (innermost around) b ≡ Some kind → kind ≡ Comma → CommaAt around at b bytes kind
 comma_one (o ∷ around) at b bytes kind means is = absurd (byte_no_comma b (sym (no_mark_inside o.what b kind means) ∙ is))
 comma_one [] at b bytes kind means is =
     subst (CommaAt [] at b bytes) (sym is) (subst (λ (n : ℕ). CommaAt [] at n bytes Comma) (sym (comma_byte b (means_mark b kind means ∙ is))) (record {
@@ -215,12 +215,12 @@ dual_no_comma e = cc
 pub at_comma : Ending (λ kind. kind ≡ Comma) whole (λ t. t.to)
 at_comma = record { no_byte = byte_no_comma; one = comma_one; two = λ around at b c bytes dual is. absurd (dual_no_comma is) }
 
-no_dual_one : (around : List Opening) (b : ℕ) (kind : TokenKind) → meaning (innermost around) b ≡ Some kind → kind ≡ Dual → ⊥
+no_dual_one : (around : List OpenEnclosure) (b : ℕ) (kind : TokenKind) → meaning (innermost around) b ≡ Some kind → kind ≡ Dual → ⊥
 no_dual_one [] b kind means is = no_dual_byte b (means_mark b kind means ∙ is)
 no_dual_one (o ∷ around) b kind means is = byte_no_dual b (sym (no_mark_inside o.what b kind means) ∙ is)
 
 -- two marks, the whole and its half
-both_marks : (P : List Opening → ℕ → ℕ → Type 0) → P [] 33 33 → (around : List Opening) (b c : ℕ) → is_dual (innermost around) b c ≡ true → P around b c
+both_marks : (P : List OpenEnclosure → ℕ → ℕ → Type 0) → P [] 33 33 → (around : List OpenEnclosure) (b c : ℕ) → is_dual (innermost around) b c ≡ true → P around b c
 both_marks P p [] b c dual =
     let marks = and_parts (b == 33) (c == 33) dual in
     subst (λ (n : ℕ). P [] n c) (sym (eqb-true b 33 marks.0)) (subst (λ (n : ℕ). P [] 33 n) (sym (eqb-true c 33 marks.1)) p)

@@ -49,7 +49,7 @@ fn is_empty(bytes: &[u8]) -> bool
 }
 
 /// The bytes that the tokens stand for.
-fn decoded(alloc: Global, tokens: &[Token]) -> Result<Bytes, NoMemory>
+fn decode(alloc: Global, tokens: &[Token]) -> Result<Bytes, NoMemory>
     ensures { IfOk result (λ bytes. bytes ≡ decoded tokens.now) }
 {
     let bytes: Vec<u8> = tokens
@@ -68,7 +68,7 @@ fn texts_of(alloc: Global, tokens: &[Token], at: u32) -> Result<Vec<Bytes>, NoMe
     let mut begin = at;
     loop {
         let cut = cut_at(rest, Mark::Colon);
-        found.push(decoded(alloc, cut.front)?)?;
+        found.push(decode(alloc, cut.front)?)?;
         match cut.back {
             Some((colon, after)) => {
                 rest = after;
@@ -84,12 +84,12 @@ fn option_of(alloc: Global, tokens: &[Token], at: u32) -> Result<RawOption, Gram
     ensures begins { IfOk result (λ option. option.at ≡ at) }
 {
     let cut = cut_at(tokens, Mark::Equals);
-    let name = decoded(alloc, cut.front)?;
+    let name = decode(alloc, cut.front)?;
     if is_empty(name.as_slice()) {
         return Err(GrammarFault::EmptyOption { at });
     }
     let value = match cut.back {
-        Some((_, after)) => Some(decoded(alloc, after)?),
+        Some((_, after)) => Some(decode(alloc, after)?),
         None => None,
     };
     Ok(RawOption { name, value, at })
@@ -137,7 +137,7 @@ fn file_head(alloc: Global, tokens: &[Token]) -> Result<Head, NoMemory>
     ensures { IfOk result (λ head. (head.keyword ≡ gopen) × (head.params.items ≡ decoded tokens.now ∷ [])) }
 {
     let mut params = Vec::new(alloc);
-    params.push(decoded(alloc, tokens)?)?;
+    params.push(decode(alloc, tokens)?)?;
     Ok(Head {
         keyword: Bytes::of(alloc, b"GOPEN")?,
         params,
@@ -148,7 +148,7 @@ fn head_of(alloc: Global, tokens: &[Token]) -> Result<Head, GrammarFault>
     ensures { Reads (λ head. record { keyword = head.keyword; params = head.params.items }) result (head_of tokens.now) }
 {
     let cut = cut_at(tokens, Mark::Colon);
-    let keyword = decoded(alloc, cut.front)?;
+    let keyword = decode(alloc, cut.front)?;
     if has_slash(keyword.as_slice()) {
         return Ok(file_head(alloc, tokens)?);
     }

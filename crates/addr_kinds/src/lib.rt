@@ -16,5 +16,5 @@ mod uses;
 pub use faults::KindFault;
 pub use laws::resolutions_are_told;
 pub use resolving::resolve;
-pub use targets::counted;
+pub use targets::report_number;
 pub use uses::Asked;

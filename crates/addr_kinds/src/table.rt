@@ -21,9 +21,9 @@ macro_rules! kinds {
     };
 }
 
-type Row = (&'static [&'static [u8]], KindRow);
+type KeywordRow = (&'static [&'static [u8]], KindRow);
 
-const KINDS: [Row; 36] = kinds! {
+const KINDS: [KeywordRow; 36] = kinds! {
     [b"STDIO"] Kind::Stream(StreamKind::Stdio), Any, [Relay];
     [b"STDIN"] Kind::Stream(StreamKind::Stdin), AllButWriting, [Relay];
     [b"STDOUT"] Kind::Stream(StreamKind::Stdout), AllButReading, [Relay];
@@ -113,7 +113,7 @@ fn is_among(mut known: &[&[u8]], keyword: &[u8]) -> bool
 }
 
 #[tactic(auto, unfolding(crate::specs::Kinds::row_of))]
-fn find_kind(mut table: &[Row], keyword: &[u8]) -> Option<KindRow>
+fn find_kind(mut table: &[KeywordRow], keyword: &[u8]) -> Option<KindRow>
     ensures { option_map known_of result ≡ row_of (map as_named table.entry.now) keyword.now }
 {
     while let [row, rest @ ..] = table {

@@ -12,7 +12,7 @@ use relay_model::{Bytes, Family, Target, Text};
 use std::alloc::Global;
 
 /// A count or a place for a report, which stands still at the end of 32 bits.
-pub fn counted(count: usize) -> u32
+pub fn report_number(count: usize) -> u32
     ensures { result ≡ counted count }
 {
     u32::try_from(count).unwrap_or(u32::MAX)
@@ -24,7 +24,7 @@ fn wrong_number(want: u32, params: &[Bytes]) -> KindFault
 {
     KindFault::Parameters {
         want,
-        have: counted(params.len()),
+        have: report_number(params.len()),
     }
 }
 

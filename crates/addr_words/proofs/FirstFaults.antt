@@ -4,7 +4,7 @@ use Rattle.std.specs.Prelude.{nat_lt, if◌then◌else◌, ◌⊎◌, map, IfErr
 use Rattle.std.proofs.lemmas.Bool.{ltb-false, ltb-true}
 use Rattle.std.proofs.lemmas.List.{take_all}
 use Rattle.addr_words.specs.declared.token_list.Token.{Token}
-use Rattle.addr_words.specs.declared.nesting.Opening.{Opening}
+use Rattle.addr_words.specs.declared.nesting.OpenEnclosure.{OpenEnclosure}
 use Rattle.addr_words.specs.declared.faults.WordFault.{WordFault}
 use Rattle.addr_words.specs.declared.faults.WordFault.TheVariants as faults
 use Rattle.addr_words.specs.Reading.{tokens_from, tokens_of, Reports, Reads}
@@ -15,7 +15,7 @@ use Rattle.addr_words.proofs.Stands.{closings, rest_stands}
 use Rattle.addr_words.proofs.Fronts.{IsRead, not_fine, read_closed, closed_read, rest_faults, closers_read, bracket_keeps}
 use Rattle.addr_words.proofs.Unclosed.{StaysOpen, rest_opens, GoesOn, rest_goes_on, EndsLone, rest_ends_lone}
 
-length_closings : (around : List Opening) → length (closings around) ≡ length around
+length_closings : (around : List OpenEnclosure) → length (closings around) ≡ length around
 length_closings [] = refl
 length_closings (o ∷ around) = omega (arith, length_closings around)
 

@@ -7,7 +7,7 @@ use Rattle.addr_words.specs.declared.token_list.TokenKind.{TokenKind}
 use Rattle.addr_words.specs.declared.token_list.TokenKind.TheVariants.{Byte, Colon, Comma, Dual, Equals}
 use Rattle.addr_words.specs.declared.nesting.Enclosure.{Enclosure}
 use Rattle.addr_words.specs.declared.nesting.Enclosure.TheVariants.{DoubleQuote, SingleQuote, Bracket}
-use Rattle.addr_words.specs.declared.nesting.Opening.{Opening}
+use Rattle.addr_words.specs.declared.nesting.OpenEnclosure.{OpenEnclosure}
 use Rattle.addr_words.specs.declared.faults.WordFault.{WordFault}
 use Rattle.addr_words.specs.declared.faults.WordFault.TheVariants as faults
 use Rattle.addr_words.specs.Reading.{is_quote, innermost, outermost, escapes, is_dual, mark, meaning, token, single, open_after, after_front, over_at, tokens_from, tokens_of}
@@ -106,7 +106,7 @@ are_marks : (place : Option Enclosure) (b c : ℕ) → is_dual place b c ≡ tru
 are_marks None b c e = let p = both_true (b == 33) (c == 33) e in (eqb-true b 33 p.0, eqb-true c 33 p.1)
 are_marks (Some place) b c e = absurd cc
 
-abbrev RestLies : List Opening → ℕ → List ℕ → Type 0
+abbrev RestLies : List OpenEnclosure → ℕ → List ℕ → Type 0
 RestLies around at bytes = (tokens : List Token) → tokens_from around at bytes ≡ Ok tokens → Spans at bytes tokens
 
 over_lies : (begun : Option ℕ) (at : ℕ) (tokens : List Token) → over_at begun ≡ Ok tokens → Spans at [] tokens
@@ -118,13 +118,13 @@ not_lone : (at : ℕ) (tokens : List Token) (r : Result (List Token) WordFault) 
 not_lone at tokens r lone e = cc
 
 -- a rest that begins with a byte, where the rests behind it lie so
-last_lies : (around : List Opening) (at b : ℕ) (x : Bool) → escapes (innermost around) b ≡ x → RestLies (open_after around at b) (at + 1) [] → RestLies around at (b ∷ [])
+last_lies : (around : List OpenEnclosure) (at b : ℕ) (x : Bool) → escapes (innermost around) b ≡ x → RestLies (open_after around at b) (at + 1) [] → RestLies around at (b ∷ [])
 last_lies around at b true escaping rest tokens e = absurd (not_lone at tokens (tokens_from around at (b ∷ [])) (lone_read around at b escaping) e)
 last_lies around at b false escaping rest tokens e =
     let a = after_ok (single (meaning (innermost around) b) at) (tokens_from (open_after around at b) (at + 1) []) tokens (sym (last_read around at b escaping) ∙ e) in
     subst (Spans at (b ∷ [])) (sym a.2) (meaning_in_front at b [] (meaning (innermost around) b) a.0 (meant (innermost around) b) (rest a.0 a.1))
 
-next_lies : (around : List Opening) (at b c : ℕ) (bytes : List ℕ) (x y : Bool) → escapes (innermost around) b ≡ x → is_dual (innermost around) b c ≡ y
+next_lies : (around : List OpenEnclosure) (at b c : ℕ) (bytes : List ℕ) (x y : Bool) → escapes (innermost around) b ≡ x → is_dual (innermost around) b c ≡ y
     → RestLies around (at + 2) bytes → RestLies (open_after around at b) (at + 1) (c ∷ bytes) → RestLies around at (b ∷ c ∷ bytes)
 next_lies around at b c bytes true y escaping dual behind rest tokens e =
     let a = after_ok (token (Byte c) at (at + 2) ∷ []) (tokens_from around (at + 2) bytes) tokens (sym (escape_read around at b c bytes escaping) ∙ e) in
@@ -137,7 +137,7 @@ next_lies around at b c bytes false false escaping dual behind rest tokens e =
     let a = after_ok (single (meaning (innermost around) b) at) (tokens_from (open_after around at b) (at + 1) (c ∷ bytes)) tokens (sym (next_read around at b c bytes escaping dual) ∙ e) in
     subst (Spans at (b ∷ c ∷ bytes)) (sym a.2) (meaning_in_front at b (c ∷ bytes) (meaning (innermost around) b) a.0 (meant (innermost around) b) (rest a.0 a.1))
 
-rest_lies : (around : List Opening) (at : ℕ) (bytes : List ℕ) → RestLies around at bytes
+rest_lies : (around : List OpenEnclosure) (at : ℕ) (bytes : List ℕ) → RestLies around at bytes
 rest_lies around at [] tokens e = over_lies (outermost around) at tokens (sym (at_end around at) ∙ e)
 rest_lies around at (b ∷ []) tokens e = last_lies around at b (escapes (innermost around) b) refl (rest_lies (open_after around at b) (at + 1) []) tokens e
 rest_lies around at (b ∷ c ∷ bytes) tokens e =

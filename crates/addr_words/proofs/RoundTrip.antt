@@ -4,7 +4,7 @@ use Rattle.std.specs.Prelude.{map, IfOk}
 use Rattle.std.proofs.lemmas.List.{append-nil, drop_all}
 use Rattle.addr_words.specs.declared.token_list.TokenKind.{TokenKind}
 use Rattle.addr_words.specs.declared.token_list.TokenKind.TheVariants.{Byte}
-use Rattle.addr_words.specs.declared.nesting.Opening.{Opening}
+use Rattle.addr_words.specs.declared.nesting.OpenEnclosure.{OpenEnclosure}
 use Rattle.addr_words.specs.Reading.{meaning, open_after, single, token, after_front, tokens_from}
 use Rattle.addr_words.specs.Writing.{is_special, written_byte, written, SpellsBytes, byte_tokens}
 use Rattle.addr_words.proofs.Steps.{after_front-after, after_front-none, escape_read, last_read, next_read, short_read, at_end}
@@ -31,7 +31,7 @@ plain_read at b more e =
     let is_outside : open_after [] at b ≡ [] = rw (p.1, p.2, p.3, p.4, p.5) refl in
     let goes_on : after_front (single (meaning None b) at) (tokens_from (open_after [] at b) (at + 1) more) ≡ after_front (token (Byte b) at (at + 1) ∷ []) (tokens_from [] (at + 1) more) =
     ap (λ (m : Option TokenKind). after_front (single m at) (tokens_from (open_after [] at b) (at + 1) more)) is_self
-    ∙ ap (λ (around : List Opening). after_front (token (Byte b) at (at + 1) ∷ []) (tokens_from around (at + 1) more)) is_outside in
+    ∙ ap (λ (around : List OpenEnclosure). after_front (token (Byte b) at (at + 1) ∷ []) (tokens_from around (at + 1) more)) is_outside in
     by_rest more p.0 (λ c. ap (λ (x : Bool). x && (c == 33)) p.8) ∙ goes_on
   where
     by_rest : (rest : List ℕ) → (b == 92) ≡ false → ((c : ℕ) → ((b == 33) && (c == 33)) ≡ false) → tokens_from [] at (b ∷ rest) ≡ after_front (single (meaning None b) at) (tokens_from (open_after [] at b) (at + 1) rest)

@@ -8,7 +8,7 @@ use Rattle.addr_words.specs.declared.token_list.TokenKind.{TokenKind}
 use Rattle.addr_words.specs.declared.token_list.TokenKind.TheVariants.{Byte, Colon, Comma, Dual, Equals}
 use Rattle.addr_words.specs.declared.nesting.Enclosure.{Enclosure}
 use Rattle.addr_words.specs.declared.nesting.Enclosure.TheVariants.{DoubleQuote, SingleQuote, Bracket}
-use Rattle.addr_words.specs.declared.nesting.Opening.{Opening}
+use Rattle.addr_words.specs.declared.nesting.OpenEnclosure.{OpenEnclosure}
 use Rattle.addr_words.specs.declared.faults.WordFault.{WordFault}
 use Rattle.addr_words.specs.declared.faults.WordFault.TheVariants as faults
 use Rattle.addr_words.specs.Reading.{is_quote, begun_by, is_ended_by, is_bracket, innermost, outermost, opened, escapes, is_dual, mark, meaning, token, single, open_after, after_front, over_at, tokens_from}
@@ -22,7 +22,7 @@ closing_of DoubleQuote = 34
 closing_of SingleQuote = 39
 closing_of (Bracket e) = e
 
-abbrev pub closings : List Opening → List ℕ
+abbrev pub closings : List OpenEnclosure → List ℕ
 closings around = map (λ o. closing_of o.what) around
 
 abbrev pub kinds_of : List Token → List TokenKind
@@ -44,7 +44,7 @@ Fits DoubleQuote = Unit {0}
 Fits SingleQuote = Unit {0}
 Fits (Bracket e) = Apart e
 
-abbrev pub Fit : List Opening → Type 0
+abbrev pub Fit : List OpenEnclosure → Type 0
 Fit = AllByRecursion (λ o. Fits o.what)
 
 apart_round : Apart 41
@@ -57,7 +57,7 @@ apart_curly : Apart 125
 apart_curly = record { double = refl; single = refl; round = refl; square = refl; curly = refl; no_escape = refl; no_double = refl; no_single = refl }
 
 -- what is open after a byte fits, too
-opened_fit : (b at : ℕ) (around : List Opening) → Fit around → Fit (opened (begun_by b) at around)
+opened_fit : (b at : ℕ) (around : List OpenEnclosure) → Fit around → Fit (opened (begun_by b) at around)
 opened_fit b at around fit = one (b == 34) (b == 39) (b == 40) (b == 91) (b == 123)
   where
     one : (x y z u v : Bool) → Fit (opened (cond x (Some DoubleQuote) (cond y (Some SingleQuote) (cond z (Some (Bracket 41)) (cond u (Some (Bracket 93)) (cond v (Some (Bracket 125)) None))))) at around)
@@ -68,7 +68,7 @@ opened_fit b at around fit = one (b == 34) (b == 39) (b == 40) (b == 91) (b == 1
     one false false false false true = (apart_curly, fit)
     one false false false false false = fit
 
-pub after_fit : (around : List Opening) (at b : ℕ) → Fit around → Fit (open_after around at b)
+pub after_fit : (around : List OpenEnclosure) (at b : ℕ) → Fit around → Fit (open_after around at b)
 after_fit [] at b fit = opened_fit b at [] fit
 after_fit (o ∷ around) at b fit = one (is_ended_by o.what b) (is_bracket o.what)
   where
@@ -113,15 +113,15 @@ outside at b bytes kinds no_escape halves =
         let stays : open_after [] at b ≡ [] = rw (p, q, r, u, v) refl in
         let apart : is_one_of (special_in []) b ≡ false = rw (no_escape, p, q, r, u, v, x, y, z) refl in
         subst (λ (m : Option TokenKind). SpellsKinds [] (b ∷ bytes) (lead m kinds)) (sym is_self)
-        (itself [] bytes kinds b apart halves (subst (λ (around : List Opening). SpellsKinds (closings around) bytes kinds) stays s))
+        (itself [] bytes kinds b apart halves (subst (λ (around : List OpenEnclosure). SpellsKinds (closings around) bytes kinds) stays s))
 
 -- the same inside, where whole is what is open and around what is open around that
-abbrev Inside : Enclosure → List Opening → List Opening → ℕ → List ℕ → List TokenKind → ℕ → Type 0
+abbrev Inside : Enclosure → List OpenEnclosure → List OpenEnclosure → ℕ → List ℕ → List TokenKind → ℕ → Type 0
 Inside w around whole at bytes kinds b =
     SpellsKinds (closings (cond (is_ended_by w b) around (cond (is_bracket w) (opened (begun_by b) at whole) whole))) bytes kinds
     → SpellsKinds (closing_of w ∷ closings around) (b ∷ bytes) (lead (meaning (Some w) b) kinds)
 
-inside : (w : Enclosure) (around whole : List Opening) (at b : ℕ) (bytes : List ℕ) (kinds : List TokenKind) → closings whole ≡ closing_of w ∷ closings around → Fits w → escapes (Some w) b ≡ false → Inside w around whole at bytes kinds b
+inside : (w : Enclosure) (around whole : List OpenEnclosure) (at b : ℕ) (bytes : List ℕ) (kinds : List TokenKind) → closings whole ≡ closing_of w ∷ closings around → Fits w → escapes (Some w) b ≡ false → Inside w around whole at bytes kinds b
 inside DoubleQuote around whole at b bytes kinds c fits no_escape =
     known (Inside DoubleQuote around whole at bytes kinds) b 34 (b == 34) refl (λ s. quote_ends (closings around) bytes kinds 34 (inl refl) s) (λ p.
     subst (λ (x : Bool). SpellsKinds (closings (cond x around whole)) bytes kinds → SpellsKinds (34 ∷ closings around) (b ∷ bytes) (lead (cond x None (Some (Byte b))) kinds)) (sym p)
@@ -160,27 +160,27 @@ inside (Bracket e) around whole at b bytes kinds c fits no_escape =
         let stays : cond (b == e) around (opened (begun_by b) at whole) ≡ whole = rw (z, p, q, r, u, v) refl in
         let apart : is_one_of (special_in (e ∷ closings around)) b ≡ false = rw (fits.no_single, fits.no_double, z, no_escape, p, q, r, u, v) refl in
         subst (λ (m : Option TokenKind). SpellsKinds (e ∷ closings around) (b ∷ bytes) (lead m kinds)) (sym is_self)
-        (itself (e ∷ closings around) bytes kinds b apart refl (subst (λ (ends : List ℕ). SpellsKinds ends bytes kinds) c (subst (λ (os : List Opening). SpellsKinds (closings os) bytes kinds) stays s)))
+        (itself (e ∷ closings around) bytes kinds b apart refl (subst (λ (ends : List ℕ). SpellsKinds ends bytes kinds) c (subst (λ (os : List OpenEnclosure). SpellsKinds (closings os) bytes kinds) stays s)))
 
 -- a byte that neither escapes nor parts halves, wherever it stands
-byte_stands : (around : List Opening) (at b : ℕ) (bytes : List ℕ) (kinds : List TokenKind) → Fit around → escapes (innermost around) b ≡ false → parts_halves (closings around) b bytes ≡ false
+byte_stands : (around : List OpenEnclosure) (at b : ℕ) (bytes : List ℕ) (kinds : List TokenKind) → Fit around → escapes (innermost around) b ≡ false → parts_halves (closings around) b bytes ≡ false
     → SpellsKinds (closings (open_after around at b)) bytes kinds → SpellsKinds (closings around) (b ∷ bytes) (lead (meaning (innermost around) b) kinds)
 byte_stands [] at b bytes kinds fit escaping halves s = outside at b bytes kinds escaping halves s
 byte_stands (o ∷ around) at b bytes kinds fit escaping halves s = inside o.what around (o ∷ around) at b bytes kinds refl fit.0 escaping s
 
-pub alone : (around : List Opening) (b : ℕ) → parts_halves (closings around) b [] ≡ false
+pub alone : (around : List OpenEnclosure) (b : ℕ) → parts_halves (closings around) b [] ≡ false
 alone [] b = refl
 alone (o ∷ around) b = refl
 
-pub dual_halves : (around : List Opening) (b c : ℕ) (bytes : List ℕ) → is_dual (innermost around) b c ≡ false → parts_halves (closings around) b (c ∷ bytes) ≡ false
+pub dual_halves : (around : List OpenEnclosure) (b c : ℕ) (bytes : List ℕ) → is_dual (innermost around) b c ≡ false → parts_halves (closings around) b (c ∷ bytes) ≡ false
 dual_halves [] b c bytes e = e
 dual_halves (o ∷ around) b c bytes e = refl
 
-halves_dual : (around : List Opening) (b c : ℕ) (bytes : List ℕ) → parts_halves (closings around) b (c ∷ bytes) ≡ false → is_dual (innermost around) b c ≡ false
+halves_dual : (around : List OpenEnclosure) (b c : ℕ) (bytes : List ℕ) → parts_halves (closings around) b (c ∷ bytes) ≡ false → is_dual (innermost around) b c ≡ false
 halves_dual [] b c bytes e = e
 halves_dual (o ∷ around) b c bytes e = refl
 
-pub whole_byte : (around : List Opening) (b : ℕ) (bytes : List ℕ) → (b == 33) ≡ false → parts_halves (closings around) b bytes ≡ false
+pub whole_byte : (around : List OpenEnclosure) (b : ℕ) (bytes : List ℕ) → (b == 33) ≡ false → parts_halves (closings around) b bytes ≡ false
 whole_byte [] b [] e = refl
 whole_byte [] b (c ∷ bytes) e = ap (λ (x : Bool). x && (c == 33)) e
 whole_byte (o ∷ around) b bytes e = refl
@@ -191,7 +191,7 @@ backslash (Some DoubleQuote) b e = eqb-true b 92 e
 backslash (Some SingleQuote) b e = absurd cc
 backslash (Some (Bracket closing)) b e = eqb-true b 92 e
 
-not_single : (around : List Opening) (b : ℕ) → Fit around → escapes (innermost around) b ≡ true → in_single_quotes (closings around) ≡ false
+not_single : (around : List OpenEnclosure) (b : ℕ) → Fit around → escapes (innermost around) b ≡ true → in_single_quotes (closings around) ≡ false
 not_single [] b fit e = refl
 not_single (o ∷ around) b fit e = one o.what fit.0 e
   where
@@ -200,14 +200,14 @@ not_single (o ∷ around) b fit e = one o.what fit.0 e
     one SingleQuote fits k = absurd cc
     one (Bracket closing) fits k = fits.no_single
 
-abbrev RestStands : List Opening → ℕ → List ℕ → Type 0
+abbrev RestStands : List OpenEnclosure → ℕ → List ℕ → Type 0
 RestStands around at bytes = (tokens : List Token) → tokens_from around at bytes ≡ Ok tokens → SpellsKinds (closings around) bytes (kinds_of tokens)
 
-pub still_open : (o : Opening) (around : List Opening) (tokens : List Token) → over_at (outermost (o ∷ around)) ≡ Ok tokens → ⊥
+pub still_open : (o : OpenEnclosure) (around : List OpenEnclosure) (tokens : List Token) → over_at (outermost (o ∷ around)) ≡ Ok tokens → ⊥
 still_open o [] tokens e = absurd cc
 still_open o (p ∷ around) tokens e = still_open p around tokens e
 
-over_stands : (around : List Opening) (tokens : List Token) → over_at (outermost around) ≡ Ok tokens → SpellsKinds (closings around) [] (kinds_of tokens)
+over_stands : (around : List OpenEnclosure) (tokens : List Token) → over_at (outermost around) ≡ Ok tokens → SpellsKinds (closings around) [] (kinds_of tokens)
 over_stands [] [] e = over
 over_stands [] (t ∷ tokens) e = absurd cc
 over_stands (o ∷ around) tokens e = absurd (still_open o around tokens e)
@@ -215,21 +215,21 @@ over_stands (o ∷ around) tokens e = absurd (still_open o around tokens e)
 not_lone : (at : ℕ) (tokens : List Token) (r : Result (List Token) WordFault) → r ≡ Err (faults.LoneBackslash at) → r ≡ Ok tokens → ⊥
 not_lone at tokens r lone e = cc
 
-last_stands : (around : List Opening) (at b : ℕ) (x : Bool) → escapes (innermost around) b ≡ x → Fit around → RestStands (open_after around at b) (at + 1) [] → RestStands around at (b ∷ [])
+last_stands : (around : List OpenEnclosure) (at b : ℕ) (x : Bool) → escapes (innermost around) b ≡ x → Fit around → RestStands (open_after around at b) (at + 1) [] → RestStands around at (b ∷ [])
 last_stands around at b true escaping fit rest tokens e = absurd (not_lone at tokens (tokens_from around at (b ∷ [])) (lone_read around at b escaping) e)
 last_stands around at b false escaping fit rest tokens e =
     let m = meaning (innermost around) b in
     let a = after_ok (single m at) (tokens_from (open_after around at b) (at + 1) []) tokens (sym (last_read around at b escaping) ∙ e) in
     subst (SpellsKinds (closings around) (b ∷ [])) (sym (ap kinds_of a.2 ∙ lead_single m at a.0)) (byte_stands around at b [] (kinds_of a.0) fit escaping (alone around b) (rest a.0 a.1))
 
-dual_stands : (around : List Opening) (b c : ℕ) (bytes : List ℕ) (kinds : List TokenKind) → is_dual (innermost around) b c ≡ true → SpellsKinds (closings around) bytes kinds → SpellsKinds (closings around) (b ∷ c ∷ bytes) (Dual ∷ kinds)
+dual_stands : (around : List OpenEnclosure) (b c : ℕ) (bytes : List ℕ) (kinds : List TokenKind) → is_dual (innermost around) b c ≡ true → SpellsKinds (closings around) bytes kinds → SpellsKinds (closings around) (b ∷ c ∷ bytes) (Dual ∷ kinds)
 dual_stands [] b c bytes kinds e s =
     let p = and_parts (b == 33) (c == 33) e in
     subst (λ (n : ℕ). SpellsKinds [] (n ∷ c ∷ bytes) (Dual ∷ kinds)) (sym (eqb-true b 33 p.0))
     (subst (λ (n : ℕ). SpellsKinds [] (33 ∷ n ∷ bytes) (Dual ∷ kinds)) (sym (eqb-true c 33 p.1)) (dual bytes kinds s))
 dual_stands (o ∷ around) b c bytes kinds e s = absurd cc
 
-next_stands : (around : List Opening) (at b c : ℕ) (bytes : List ℕ) (x y : Bool) → escapes (innermost around) b ≡ x → is_dual (innermost around) b c ≡ y → Fit around
+next_stands : (around : List OpenEnclosure) (at b c : ℕ) (bytes : List ℕ) (x y : Bool) → escapes (innermost around) b ≡ x → is_dual (innermost around) b c ≡ y → Fit around
     → RestStands around (at + 2) bytes → RestStands (open_after around at b) (at + 1) (c ∷ bytes) → RestStands around at (b ∷ c ∷ bytes)
 next_stands around at b c bytes true y escaping halves fit behind rest tokens e =
     let a = after_ok (token (Byte c) at (at + 2) ∷ []) (tokens_from around (at + 2) bytes) tokens (sym (escape_read around at b c bytes escaping) ∙ e) in
@@ -246,7 +246,7 @@ next_stands around at b c bytes false false escaping halves fit behind rest toke
     (byte_stands around at b (c ∷ bytes) (kinds_of a.0) fit escaping (dual_halves around b c bytes halves) (rest a.0 a.1))
 
 -- the kinds of the tokens are what the bytes spell
-pub rest_stands : (around : List Opening) (at : ℕ) (bytes : List ℕ) → Fit around → RestStands around at bytes
+pub rest_stands : (around : List OpenEnclosure) (at : ℕ) (bytes : List ℕ) → Fit around → RestStands around at bytes
 rest_stands around at [] fit tokens e = over_stands around tokens (sym (at_end around at) ∙ e)
 rest_stands around at (b ∷ []) fit tokens e =
     last_stands around at b (escapes (innermost around) b) refl fit (rest_stands (open_after around at b) (at + 1) [] (after_fit around at b fit)) tokens e
@@ -255,22 +255,22 @@ rest_stands around at (b ∷ c ∷ bytes) fit tokens e =
     (rest_stands (open_after around at b) (at + 1) (c ∷ bytes) (after_fit around at b fit)) tokens e
 
 -- bytes are read from an offset on as tokens of these kinds
-abbrev pub ReadsAs : List Opening → ℕ → List ℕ → List TokenKind → Type 0
+abbrev pub ReadsAs : List OpenEnclosure → ℕ → List ℕ → List TokenKind → Type 0
 ReadsAs around at bytes kinds = (tokens : List Token) × (tokens_from around at bytes ≡ Ok tokens) × (kinds_of tokens ≡ kinds)
 
-pub single_read : (around : List Opening) (at b : ℕ) (bytes : List ℕ) → escapes (innermost around) b ≡ false → parts_halves (closings around) b bytes ≡ false
+pub single_read : (around : List OpenEnclosure) (at b : ℕ) (bytes : List ℕ) → escapes (innermost around) b ≡ false → parts_halves (closings around) b bytes ≡ false
     → tokens_from around at (b ∷ bytes) ≡ after_front (single (meaning (innermost around) b) at) (tokens_from (open_after around at b) (at + 1) bytes)
 single_read around at b [] escaping halves = last_read around at b escaping
 single_read around at b (c ∷ bytes) escaping halves = next_read around at b c bytes escaping (halves_dual around b c bytes halves)
 
-byte_reads : (around : List Opening) (at b : ℕ) (bytes : List ℕ) (kinds : List TokenKind) (m : Option TokenKind) (next : List Opening)
+byte_reads : (around : List OpenEnclosure) (at b : ℕ) (bytes : List ℕ) (kinds : List TokenKind) (m : Option TokenKind) (next : List OpenEnclosure)
     → escapes (innermost around) b ≡ false → parts_halves (closings around) b bytes ≡ false → meaning (innermost around) b ≡ m → open_after around at b ≡ next
     → ReadsAs next (at + 1) bytes kinds → ReadsAs around at (b ∷ bytes) (lead m kinds)
 byte_reads around at b bytes kinds m next escaping halves means opens r =
     let read : tokens_from around at (b ∷ bytes) ≡ Ok (single m at ++ r.0) =
     single_read around at b bytes escaping halves
     ∙ ap (λ (x : Option TokenKind). after_front (single x at) (tokens_from (open_after around at b) (at + 1) bytes)) means
-    ∙ ap (λ (os : List Opening). after_front (single m at) (tokens_from os (at + 1) bytes)) opens
+    ∙ ap (λ (os : List OpenEnclosure). after_front (single m at) (tokens_from os (at + 1) bytes)) opens
     ∙ ap (after_front (single m at)) r.1 in
     (single m at ++ r.0, read, lead_single m at r.0 ∙ ap (lead m) r.2)
 
@@ -286,7 +286,7 @@ in_no_quotes SingleQuote e = absurd cc
 in_no_quotes (Bracket closing) e = (refl, λ b. refl)
 
 -- what a byte begins that begins something
-opens : (around : List Opening) (at b : ℕ) (what : Enclosure) → Fit around → in_quotes (closings around) ≡ false → begun_by b ≡ Some what → ((e : ℕ) → Apart e → (b == e) ≡ false)
+opens : (around : List OpenEnclosure) (at b : ℕ) (what : Enclosure) → Fit around → in_quotes (closings around) ≡ false → begun_by b ≡ Some what → ((e : ℕ) → Apart e → (b == e) ≡ false)
     → open_after around at b ≡ record { what = what; at = at } ∷ around
 opens [] at b what fit outer is apart = ap (λ (x : Option Enclosure). opened x at []) is
 opens (o ∷ around) at b what fit outer is apart = one o.what fit.0 outer
@@ -299,7 +299,7 @@ opens (o ∷ around) at b what fit outer is apart = one o.what fit.0 outer
         ap (λ (x : Bool). cond x around (opened (begun_by b) at (o ∷ around))) (apart closing fits) ∙ ap (λ (x : Option Enclosure). opened x at (o ∷ around)) is
 
 -- a mark of a quote, where one may begin
-quote_opens : (around : List Opening) (at q : ℕ) (ends : List ℕ) → IsQuoteMark q → Fit around → in_quotes (closings around) ≡ false → closings around ≡ ends → closings (open_after around at q) ≡ q ∷ ends
+quote_opens : (around : List OpenEnclosure) (at q : ℕ) (ends : List ℕ) → IsQuoteMark q → Fit around → in_quotes (closings around) ≡ false → closings around ≡ ends → closings (open_after around at q) ≡ q ∷ ends
 quote_opens around at q ends (inl h) fit outer c =
     subst (λ (n : ℕ). closings (open_after around at n) ≡ n ∷ ends) (sym h) (ap closings (opens around at 34 DoubleQuote fit outer refl (λ e apart. apart.double)) ∙ ap (λ (xs : List ℕ). 34 ∷ xs) c)
 quote_opens around at q ends (inr h) fit outer c =
@@ -309,7 +309,7 @@ quote_bytes : (q : ℕ) → IsQuoteMark q → ((q == 92) ≡ false) × ((q == 33
 quote_bytes q (inl h) = subst (λ (n : ℕ). ((n == 92) ≡ false) × ((n == 33) ≡ false) × (is_quote n ≡ true)) (sym h) (refl, refl, refl)
 quote_bytes q (inr h) = subst (λ (n : ℕ). ((n == 92) ≡ false) × ((n == 33) ≡ false) × (is_quote n ≡ true)) (sym h) (refl, refl, refl)
 
-quote_silent : (around : List Opening) (q : ℕ) → is_quote q ≡ true → in_quotes (closings around) ≡ false → meaning (innermost around) q ≡ None
+quote_silent : (around : List OpenEnclosure) (q : ℕ) → is_quote q ≡ true → in_quotes (closings around) ≡ false → meaning (innermost around) q ≡ None
 quote_silent [] q is outer = ap (λ (x : Bool). cond x None (Some (mark q))) is
 quote_silent (o ∷ around) q is outer = (in_no_quotes o.what outer).1 q ∙ ap (λ (x : Bool). cond x None (Some (Byte q))) is
 
@@ -321,7 +321,7 @@ quote_closes (Bracket e) q fits h (inl is) = absurd (both_ways (e == 34) fits.no
 quote_closes (Bracket e) q fits h (inr is) = absurd (both_ways (e == 39) fits.no_single (eq-eqb e 39 (h ∙ is)))
 
 -- an opening bracket, where one may begin
-bracket_opens : (around : List Opening) (at b e : ℕ) (ends : List ℕ) → IsBracketPair b e → Fit around → in_quotes (closings around) ≡ false → closings around ≡ ends → closings (open_after around at b) ≡ e ∷ ends
+bracket_opens : (around : List OpenEnclosure) (at b e : ℕ) (ends : List ℕ) → IsBracketPair b e → Fit around → in_quotes (closings around) ≡ false → closings around ≡ ends → closings (open_after around at b) ≡ e ∷ ends
 bracket_opens around at b e ends (inl h) fit outer c =
     subst (λ (n : ℕ). closings (open_after around at n) ≡ e ∷ ends) (sym h.0)
     (ap closings (opens around at 40 (Bracket 41) fit outer refl (λ x apart. apart.round)) ∙ ap (λ (xs : List ℕ). 41 ∷ xs) c ∙ ap (λ (x : ℕ). x ∷ ends) (sym h.1))
@@ -340,7 +340,7 @@ bracket_bytes b e (inl h) = subst IsPlainMark (sym h.0) (refl, refl, refl, refl)
 bracket_bytes b e (inr (inl h)) = subst IsPlainMark (sym h.0) (refl, refl, refl, refl)
 bracket_bytes b e (inr (inr h)) = subst IsPlainMark (sym h.0) (refl, refl, refl, refl)
 
-means_itself : (around : List Opening) (b : ℕ) → is_quote b ≡ false → mark b ≡ Byte b → in_quotes (closings around) ≡ false → meaning (innermost around) b ≡ Some (Byte b)
+means_itself : (around : List OpenEnclosure) (b : ℕ) → is_quote b ≡ false → mark b ≡ Byte b → in_quotes (closings around) ≡ false → meaning (innermost around) b ≡ Some (Byte b)
 means_itself [] b is marks outer = ap (λ (x : Bool). cond x None (Some (mark b))) is ∙ ap (λ (k : TokenKind). Some k) marks
 means_itself (o ∷ around) b is marks outer = (in_no_quotes o.what outer).1 b ∙ ap (λ (x : Bool). cond x None (Some (Byte b))) is
 
@@ -360,10 +360,10 @@ none_of (s ∷ specials) b e = let p = or_none (b == s) (is_one_of specials b) e
     or_none true y k = absurd cc
     or_none false y k = (refl, k)
 
-abbrev IsItself : List Opening → ℕ → ℕ → Type 0
+abbrev IsItself : List OpenEnclosure → ℕ → ℕ → Type 0
 IsItself around at b = (escapes (innermost around) b ≡ false) × (meaning (innermost around) b ≡ Some (Byte b)) × (open_after around at b ≡ around)
 
-itself_in : (w : Enclosure) (around whole : List Opening) (at b : ℕ) → Fits w → is_one_of (special_in (closing_of w ∷ closings around)) b ≡ false
+itself_in : (w : Enclosure) (around whole : List OpenEnclosure) (at b : ℕ) → Fits w → is_one_of (special_in (closing_of w ∷ closings around)) b ≡ false
     → (escapes (Some w) b ≡ false) × (meaning (Some w) b ≡ Some (Byte b)) × (cond (is_ended_by w b) around (cond (is_bracket w) (opened (begun_by b) at whole) whole) ≡ whole)
 itself_in DoubleQuote around whole at b fits e =
     let f = none_of (92 ∷ 34 ∷ []) b e in
@@ -378,7 +378,7 @@ itself_in (Bracket n) around whole at b fits e =
     let stays : cond (b == n) around (opened (begun_by b) at whole) ≡ whole = rw (f.0, f.1.1.0, f.1.1.1.0, f.1.1.1.1.0, f.1.1.1.1.1.0, f.1.1.1.1.1.1.0) refl in
     (f.1.0, is_self, stays)
 
-itself_is : (around : List Opening) (at b : ℕ) → Fit around → is_one_of (special_in (closings around)) b ≡ false → IsItself around at b
+itself_is : (around : List OpenEnclosure) (at b : ℕ) → Fit around → is_one_of (special_in (closings around)) b ≡ false → IsItself around at b
 itself_is [] at b fit e =
     let f = none_of (special_in []) b e in
     let is_self : meaning None b ≡ Some (Byte b) = rw (f.1.0, f.1.1.0, f.1.1.1.1.1.1.0, f.1.1.1.1.1.1.1.0, f.1.1.1.1.1.1.1.1.0) refl in
@@ -393,9 +393,9 @@ nothing_open : (x : ℕ) (xs : List ℕ) → x ∷ xs ≡ [] → ⊥
 nothing_open x xs e = cc
 
 -- what ends the innermost, where the rest is read
-ending_reads : (around : List Opening) (at b : ℕ) (ends bytes : List ℕ) (kinds : List TokenKind) (m : Option TokenKind) → Fit around → closings around ≡ b ∷ ends
+ending_reads : (around : List OpenEnclosure) (at b : ℕ) (ends bytes : List ℕ) (kinds : List TokenKind) (m : Option TokenKind) → Fit around → closings around ≡ b ∷ ends
     → ((w : Enclosure) → Fits w → closing_of w ≡ b → (escapes (Some w) b ≡ false) × (meaning (Some w) b ≡ m) × (is_ended_by w b ≡ true))
-    → ((outer : List Opening) (next : ℕ) → Fit outer → closings outer ≡ ends → ReadsAs outer next bytes kinds) → ReadsAs around at (b ∷ bytes) (lead m kinds)
+    → ((outer : List OpenEnclosure) (next : ℕ) → Fit outer → closings outer ≡ ends → ReadsAs outer next bytes kinds) → ReadsAs around at (b ∷ bytes) (lead m kinds)
 ending_reads [] at b ends bytes kinds m fit c closes read = absurd (nothing_open b ends (sym c))
 ending_reads (o ∷ around) at b ends bytes kinds m fit c closes read =
     let e = first_is (closing_of o.what) b (closings around) ends c in
@@ -404,22 +404,22 @@ ending_reads (o ∷ around) at b ends bytes kinds m fit c closes read =
     byte_reads (o ∷ around) at b bytes kinds m around f.0 refl f.1 ended (read around (at + 1) fit.1 e.1)
 
 -- a mark outside
-mark_reads : (around : List Opening) (at b : ℕ) (bytes : List ℕ) (kinds : List TokenKind) (kind : TokenKind) → closings around ≡ [] → (b == 92) ≡ false → (b == 33) ≡ false → meaning None b ≡ Some kind → begun_by b ≡ None
+mark_reads : (around : List OpenEnclosure) (at b : ℕ) (bytes : List ℕ) (kinds : List TokenKind) (kind : TokenKind) → closings around ≡ [] → (b == 92) ≡ false → (b == 33) ≡ false → meaning None b ≡ Some kind → begun_by b ≡ None
     → ReadsAs [] (at + 1) bytes kinds → ReadsAs around at (b ∷ bytes) (kind ∷ kinds)
 mark_reads [] at b bytes kinds kind c escaping halves means begins r =
     byte_reads [] at b bytes kinds (Some kind) [] escaping (whole_byte [] b bytes halves) means (ap (λ (x : Option Enclosure). opened x at []) begins) r
 mark_reads (o ∷ around) at b bytes kinds kind c escaping halves means begins r = absurd (nothing_open (closing_of o.what) (closings around) c)
 
-dual_reads : (around : List Opening) (at : ℕ) (bytes : List ℕ) (kinds : List TokenKind) → closings around ≡ [] → ReadsAs [] (at + 2) bytes kinds → ReadsAs around at (33 ∷ 33 ∷ bytes) (Dual ∷ kinds)
+dual_reads : (around : List OpenEnclosure) (at : ℕ) (bytes : List ℕ) (kinds : List TokenKind) → closings around ≡ [] → ReadsAs [] (at + 2) bytes kinds → ReadsAs around at (33 ∷ 33 ∷ bytes) (Dual ∷ kinds)
 dual_reads [] at bytes kinds c r =
     (token Dual at (at + 2) ∷ r.0, dual_read [] at 33 33 bytes refl refl ∙ ap (after_front (token Dual at (at + 2) ∷ [])) r.1, ap (λ (ks : List TokenKind). Dual ∷ ks) r.2)
 dual_reads (o ∷ around) at bytes kinds c r = absurd (nothing_open (closing_of o.what) (closings around) c)
 
-over_reads : (around : List Opening) (at : ℕ) → closings around ≡ [] → ReadsAs around at [] []
+over_reads : (around : List OpenEnclosure) (at : ℕ) → closings around ≡ [] → ReadsAs around at [] []
 over_reads [] at c = ([], at_end [] at, refl)
 over_reads (o ∷ around) at c = absurd (nothing_open (closing_of o.what) (closings around) c)
 
-is_escaping : (around : List Opening) → in_single_quotes (closings around) ≡ false → escapes (innermost around) 92 ≡ true
+is_escaping : (around : List OpenEnclosure) → in_single_quotes (closings around) ≡ false → escapes (innermost around) 92 ≡ true
 is_escaping [] e = refl
 is_escaping (o ∷ around) e = one o.what e
   where
@@ -428,12 +428,12 @@ is_escaping (o ∷ around) e = one o.what e
     one SingleQuote k = absurd cc
     one (Bracket closing) k = refl
 
-escape_reads : (around : List Opening) (at b : ℕ) (bytes : List ℕ) (kinds : List TokenKind) → in_single_quotes (closings around) ≡ false → ReadsAs around (at + 2) bytes kinds → ReadsAs around at (92 ∷ b ∷ bytes) (Byte b ∷ kinds)
+escape_reads : (around : List OpenEnclosure) (at b : ℕ) (bytes : List ℕ) (kinds : List TokenKind) → in_single_quotes (closings around) ≡ false → ReadsAs around (at + 2) bytes kinds → ReadsAs around at (92 ∷ b ∷ bytes) (Byte b ∷ kinds)
 escape_reads around at b bytes kinds e r =
     (token (Byte b) at (at + 2) ∷ r.0, escape_read around at 92 b bytes (is_escaping around e) ∙ ap (after_front (token (Byte b) at (at + 2) ∷ [])) r.1, ap (λ (ks : List TokenKind). Byte b ∷ ks) r.2)
 
 -- what the bytes spell is read
-pub kinds_read : (ends bytes : List ℕ) (kinds : List TokenKind) → SpellsKinds ends bytes kinds → (around : List Opening) (at : ℕ) → Fit around → closings around ≡ ends → ReadsAs around at bytes kinds
+pub kinds_read : (ends bytes : List ℕ) (kinds : List TokenKind) → SpellsKinds ends bytes kinds → (around : List OpenEnclosure) (at : ℕ) → Fit around → closings around ≡ ends → ReadsAs around at bytes kinds
 kinds_read _ _ _ over around at fit c = over_reads around at c
 kinds_read _ _ _ (escaped ends bytes kinds b e s) around at fit c = escape_reads around at b bytes kinds (ap in_single_quotes c ∙ e) (kinds_read ends bytes kinds s around (at + 2) fit c)
 kinds_read _ _ _ (quote_begins ends bytes kinds q is e s) around at fit c =

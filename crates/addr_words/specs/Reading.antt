@@ -5,7 +5,7 @@ use Rattle.addr_words.specs.declared.token_list.TokenKind.{TokenKind}
 use Rattle.addr_words.specs.declared.token_list.TokenKind.TheVariants.{Byte, Colon, Comma, Dual, Equals}
 use Rattle.addr_words.specs.declared.nesting.Enclosure.{Enclosure}
 use Rattle.addr_words.specs.declared.nesting.Enclosure.TheVariants.{DoubleQuote, SingleQuote, Bracket}
-use Rattle.addr_words.specs.declared.nesting.Opening.{Opening}
+use Rattle.addr_words.specs.declared.nesting.OpenEnclosure.{OpenEnclosure}
 use Rattle.addr_words.specs.declared.faults.WordFault.{WordFault}
 use Rattle.addr_words.specs.declared.faults.WordFault.TheVariants as faults
 
@@ -36,23 +36,23 @@ is_bracket SingleQuote = false
 is_bracket (Bracket closing) = true
 
 -- Lists of openings have the innermost first. This is what encloses the next byte; nothing does outside.
-abbrev pub innermost : List Opening → Option Enclosure
+abbrev pub innermost : List OpenEnclosure → Option Enclosure
 innermost [] = None
 innermost (o ∷ around) = Some o.what
 
 -- where the outermost begins
-abbrev pub outermost : List Opening → Option ℕ
+abbrev pub outermost : List OpenEnclosure → Option ℕ
 outermost [] = None
 outermost (o ∷ []) = Some o.at
 outermost (o ∷ p ∷ around) = outermost (p ∷ around)
 
 -- what is open, with one more thing where one was opened
-abbrev pub opened : Option Enclosure → ℕ → List Opening → List Opening
+abbrev pub opened : Option Enclosure → ℕ → List OpenEnclosure → List OpenEnclosure
 opened None at around = around
 opened (Some e) at around = record { what = e; at = at } ∷ around
 
 -- What is open after a byte that isn't escaped. Quotes don't nest.
-abbrev pub open_after : List Opening → ℕ → ℕ → List Opening
+abbrev pub open_after : List OpenEnclosure → ℕ → ℕ → List OpenEnclosure
 open_after [] at b = opened (begun_by b) at []
 open_after (o ∷ around) at b =
     if is_ended_by o.what b then around
@@ -101,7 +101,7 @@ over_at None = Ok []
 over_at (Some at) = Err (faults.Unclosed at)
 
 -- the tokens of the rest of a text, from an offset on, where these are open
-unfoldable pub tokens_from : List Opening → ℕ → List ℕ → Result (List Token) WordFault
+unfoldable pub tokens_from : List OpenEnclosure → ℕ → List ℕ → Result (List Token) WordFault
 tokens_from around at [] = over_at (outermost around)
 tokens_from around at (b ∷ []) =
     if escapes (innermost around) b then Err (faults.LoneBackslash at)

@@ -16,12 +16,12 @@ pub enum Enclosure {
 
 /// An enclosure and the offset of the byte that opens it.
 #[derive(Clone, Copy, Debug)]
-pub struct Opening {
+pub struct OpenEnclosure {
     pub what: Enclosure,
     pub at: u32,
 }
 
-fn begun_by(byte: u8) -> Option<Enclosure>
+fn enclosure_of(byte: u8) -> Option<Enclosure>
     ensures { result ≡ begun_by byte }
 {
     match byte {
@@ -54,24 +54,24 @@ impl Enclosure {
 
 /// What is open, which contracts see with the innermost first.
 #[derive(Drop)]
-pub struct Openings {
-    items: Vec<Opening>,
+pub struct OpenEnclosures {
+    items: Vec<OpenEnclosure>,
 }
 
-impl Model for Openings {
+impl Model for OpenEnclosures {
     ghost use Rattle.std.specs.Prelude.{List, reverse};
-    ghost use Rattle.addr_words.specs.declared.nesting.Opening.{Opening};
+    ghost use Rattle.addr_words.specs.declared.nesting.OpenEnclosure.{OpenEnclosure};
 
-    ghost Value = { List Opening };
+    ghost Value = { List OpenEnclosure };
 
     ghost view = { λ around. reverse around.items.items };
 }
 
-impl Openings {
-    pub fn new(alloc: Global) -> Openings
+impl OpenEnclosures {
+    pub fn new(alloc: Global) -> OpenEnclosures
         ensures { result ≡ [] }
     {
-        Openings {
+        OpenEnclosures {
             items: Vec::new(alloc),
         }
     }
@@ -93,7 +93,7 @@ impl Openings {
     fn begin(&mut self, what: Enclosure, at: u32) -> Result<(), AllocError>
         ensures { OnOk result (self.new ≡ record { what = what; at = at } ∷ self.old) }
     {
-        self.items.push(Opening { what, at })?;
+        self.items.push(OpenEnclosure { what, at })?;
         Ok(())
     }
 
@@ -116,7 +116,7 @@ impl Openings {
                 return Ok(());
             }
         }
-        match begun_by(byte) {
+        match enclosure_of(byte) {
             Some(what) => self.begin(what, at),
             None => Ok(()),
         }

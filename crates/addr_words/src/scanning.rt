@@ -5,7 +5,7 @@ ghost use Rattle.addr_words.specs.Spelling.{SpellsKinds};
 ghost use Rattle.addr_words.specs.FirstFaults.{IsFaultOf};
 
 use crate::faults::WordFault;
-use crate::nesting::{Enclosure, Openings};
+use crate::nesting::{Enclosure, OpenEnclosures};
 use crate::token_list::{Token, TokenKind, Words};
 use std::alloc::{AllocError, Global};
 
@@ -73,7 +73,7 @@ fn push_meaning(
 /// Reads the token, the mark of a quote or the escape at this offset, and answers the offset behind it.
 fn read_on(
     tokens: &mut Vec<Token>,
-    around: &mut Openings,
+    around: &mut OpenEnclosures,
     text: &[u8],
     at: usize,
 ) -> Result<usize, WordFault>
@@ -124,7 +124,7 @@ pub fn words_of(alloc: Global, text: &[u8]) -> Result<Words, WordFault>
         return Err(WordFault::TooLong);
     }
     let mut tokens = Vec::new(alloc);
-    let mut around = Openings::new(alloc);
+    let mut around = OpenEnclosures::new(alloc);
     let mut at = 0;
     while at < text.len() {
         at = read_on(&mut tokens, &mut around, text, at)?;

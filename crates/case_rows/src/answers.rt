@@ -1,5 +1,5 @@
 // What a part answered, in the spelling of the rows.
-use crate::rows::RowFault;
+use crate::rows::CaseFault;
 use percent_encoding::{AsciiSet, CONTROLS, ascii_set, percent_encode};
 use std::alloc::{AllocError, Global};
 use std::str;
@@ -12,7 +12,7 @@ const ENCODED: AsciiSet = ascii_set!(CONTROLS.add(b' ').add(b'%').add(b':'));
 #[derive(Drop)]
 pub struct Answers {
     text: String,
-    fault: Option<RowFault>,
+    fault: Option<CaseFault>,
 }
 
 impl Answers {
@@ -25,7 +25,7 @@ impl Answers {
     }
 
     /// All of them.
-    pub fn whole(self) -> Result<String, RowFault> {
+    pub fn into_text(self) -> Result<String, CaseFault> {
         match self.fault {
             None => Ok(self.text),
             Some(fault) => Err(fault),
@@ -34,7 +34,7 @@ impl Answers {
 
     fn note(&mut self, pushed: Result<(), AllocError>) {
         if pushed.is_err() {
-            self.fault = Some(RowFault::NoMemory);
+            self.fault = Some(CaseFault::NoMemory);
         }
     }
 
@@ -75,7 +75,7 @@ impl Answers {
     }
 
     /// A word and a number.
-    pub fn counted(&mut self, word: &str, number: u64) {
+    pub fn word_and_number(&mut self, word: &str, number: u64) {
         self.word(word);
         self.number_part(number);
     }
@@ -89,7 +89,7 @@ impl Answers {
     /// A word and a number, where it isn't the usual one.
     pub fn unusual(&mut self, word: &str, number: u64, usual: u64) {
         if number != usual {
-            self.counted(word, number);
+            self.word_and_number(word, number);
         }
     }
 
@@ -97,7 +97,7 @@ impl Answers {
     pub fn line(&mut self, line: &[u8]) {
         match str::from_utf8(line) {
             Ok(line) => self.word(line.trim_end()),
-            Err(_) => self.fault = Some(RowFault::NoRow),
+            Err(_) => self.fault = Some(CaseFault::NoRow),
         }
     }
 

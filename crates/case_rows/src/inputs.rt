@@ -1,5 +1,5 @@
 // What a row asks, word by word.
-use crate::rows::RowFault;
+use crate::rows::CaseFault;
 use percent_encoding::percent_decode;
 use relay_model::{Text, Texts};
 use std::alloc::Global;
@@ -22,7 +22,7 @@ impl<'a> Inputs<'a> {
     }
 
     /// All of the text as lines, where each `|` stands for a newline. No word is left.
-    pub fn lines(&mut self, alloc: Global) -> Result<Vec<u8>, RowFault> {
+    pub fn lines(&mut self, alloc: Global) -> Result<Vec<u8>, CaseFault> {
         self.words = "".split_whitespace();
         let mut lines = Vec::new(alloc);
         for byte in self.text.bytes() {
@@ -37,35 +37,35 @@ impl<'a> Inputs<'a> {
     }
 
     /// The next word, which has to be there.
-    pub fn word(&mut self) -> Result<&'a str, RowFault> {
-        self.words.next().ok_or(RowFault::NoRow)
+    pub fn word(&mut self) -> Result<&'a str, CaseFault> {
+        self.words.next().ok_or(CaseFault::NoRow)
     }
 
     /// There is no further word.
-    pub fn end(&mut self) -> Result<(), RowFault> {
+    pub fn end(&mut self) -> Result<(), CaseFault> {
         match self.words.next() {
             None => Ok(()),
-            Some(_) => Err(RowFault::NoRow),
+            Some(_) => Err(CaseFault::NoRow),
         }
     }
 
     /// The number that the next word spells.
-    pub fn number(&mut self) -> Result<u64, RowFault> {
+    pub fn number(&mut self) -> Result<u64, CaseFault> {
         Ok(self.word()?.parse::<u64>()?)
     }
 
     /// The number below 2 ^ 32 that the next word spells.
-    pub fn small_number(&mut self) -> Result<u32, RowFault> {
+    pub fn small_number(&mut self) -> Result<u32, CaseFault> {
         Ok(self.word()?.parse::<u32>()?)
     }
 
     /// The bytes that the next word spells.
-    pub fn bytes(&mut self, alloc: Global) -> Result<Vec<u8>, RowFault> {
+    pub fn bytes(&mut self, alloc: Global) -> Result<Vec<u8>, CaseFault> {
         bytes_of(alloc, self.word()?)
     }
 
     /// What all further words spell.
-    pub fn texts(&mut self, alloc: Global) -> Result<Texts, RowFault> {
+    pub fn texts(&mut self, alloc: Global) -> Result<Texts, CaseFault> {
         let mut texts = Texts::new(alloc);
         for _ in 0..u64::MAX {
             let Some(word) = self.words.next() else {
@@ -80,7 +80,7 @@ impl<'a> Inputs<'a> {
 
 /// The bytes that a word spells: percent-encoded as in a URL, or `%` for none; or `%*COUNT*BYTES*REST`, which is these
 /// bytes so often and then the rest.
-pub fn bytes_of(alloc: Global, word: &str) -> Result<Vec<u8>, RowFault> {
+pub fn bytes_of(alloc: Global, word: &str) -> Result<Vec<u8>, CaseFault> {
     let mut bytes = Vec::new(alloc);
     if let Some(spelling) = word.strip_prefix("%*") {
         push_repeated(&mut bytes, spelling)?;
@@ -90,9 +90,9 @@ pub fn bytes_of(alloc: Global, word: &str) -> Result<Vec<u8>, RowFault> {
     Ok(bytes)
 }
 
-fn push_repeated(bytes: &mut Vec<u8>, spelling: &str) -> Result<(), RowFault> {
-    let (count, spelling) = spelling.split_once('*').ok_or(RowFault::NoRow)?;
-    let (piece, rest) = spelling.split_once('*').ok_or(RowFault::NoRow)?;
+fn push_repeated(bytes: &mut Vec<u8>, spelling: &str) -> Result<(), CaseFault> {
+    let (count, spelling) = spelling.split_once('*').ok_or(CaseFault::NoRow)?;
+    let (piece, rest) = spelling.split_once('*').ok_or(CaseFault::NoRow)?;
     for _ in 0..count.parse::<u32>()? {
         percent_decode(piece.as_bytes()).append_to(bytes)?;
     }

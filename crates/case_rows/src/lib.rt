@@ -8,5 +8,5 @@ mod tries;
 
 pub use answers::Answers;
 pub use inputs::{Inputs, bytes_of, step_parts};
-pub use rows::{Answered, Row, RowFault, Tally};
+pub use rows::{Answered, CaseFault, CaseRow, Tally};
 pub use tries::{try_files, try_named};

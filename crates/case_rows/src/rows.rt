@@ -7,20 +7,20 @@ use std::num::ParseIntError;
 
 /// A case: its name, the part that is asked, what it is asked, and what it must answer.
 #[derive(Clone, Copy)]
-pub struct Row<'a> {
+pub struct CaseRow<'a> {
     pub name: &'a str,
     pub part: &'a str,
     pub inputs: &'a str,
     pub want: &'a str,
 }
 
-impl<'a> Row<'a> {
+impl<'a> CaseRow<'a> {
     /// The case of this line. `=` stands between what is asked and what is to be answered.
-    pub fn of(line: &'a str) -> Option<Row<'a>> {
+    pub fn of(line: &'a str) -> Option<CaseRow<'a>> {
         let (asked, want) = line.split_once(" = ")?;
         let (name, asked) = asked.split_once(' ')?;
         let (part, inputs) = asked.split_once(' ')?;
-        Some(Row {
+        Some(CaseRow {
             name,
             part,
             inputs,
@@ -51,36 +51,36 @@ impl Tally {
 }
 
 /// That an answer was given, or why there is none.
-pub type Answered = Result<(), RowFault>;
+pub type Answered = Result<(), CaseFault>;
 
 /// Why a row has no answer.
 #[derive(Clone, Copy, Debug, PartialEq, Eq)]
-pub enum RowFault {
+pub enum CaseFault {
     /// It isn't spelt as its part's rows are.
     NoRow,
     NoMemory,
 }
 
-impl From<NoMemory> for RowFault {
-    fn from(_error: NoMemory) -> RowFault {
-        RowFault::NoMemory
+impl From<NoMemory> for CaseFault {
+    fn from(_error: NoMemory) -> CaseFault {
+        CaseFault::NoMemory
     }
 }
 
-impl From<AllocError> for RowFault {
-    fn from(_error: AllocError) -> RowFault {
-        RowFault::NoMemory
+impl From<AllocError> for CaseFault {
+    fn from(_error: AllocError) -> CaseFault {
+        CaseFault::NoMemory
     }
 }
 
-impl<T: Drop> From<AllocFailed<T>> for RowFault {
-    fn from(_error: AllocFailed<T>) -> RowFault {
-        RowFault::NoMemory
+impl<T: Drop> From<AllocFailed<T>> for CaseFault {
+    fn from(_error: AllocFailed<T>) -> CaseFault {
+        CaseFault::NoMemory
     }
 }
 
-impl From<ParseIntError> for RowFault {
-    fn from(_error: ParseIntError) -> RowFault {
-        RowFault::NoRow
+impl From<ParseIntError> for CaseFault {
+    fn from(_error: ParseIntError) -> CaseFault {
+        CaseFault::NoRow
     }
 }

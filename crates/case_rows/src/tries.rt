@@ -1,7 +1,7 @@
 // Rows of files are tried, and each is told.
 use crate::answers::Answers;
 use crate::inputs::Inputs;
-use crate::rows::{Answered, Row, RowFault, Tally};
+use crate::rows::{Answered, CaseFault, CaseRow, Tally};
 use std::alloc::Global;
 use std::env::Env;
 use std::process::ExitCode;
@@ -65,7 +65,7 @@ where
     F: Fn(Global, &str, &mut Inputs<'_>, &mut Answers) -> Answered,
     requires { F.IsAlwaysCallable ask.now }
 {
-    let Some(row) = Row::of(line) else {
+    let Some(row) = CaseRow::of(line) else {
         println!(rt; "DIFFERS {line}: no row")?;
         return Ok(false);
     };
@@ -85,7 +85,7 @@ where
 }
 
 /// What the part answers, in the spelling of the rows. No word may be left.
-fn answer<F>(alloc: Global, ask: &F, row: &Row<'_>) -> Result<String, RowFault>
+fn answer<F>(alloc: Global, ask: &F, row: &CaseRow<'_>) -> Result<String, CaseFault>
 where
     F: Fn(Global, &str, &mut Inputs<'_>, &mut Answers) -> Answered,
     requires { F.IsAlwaysCallable ask.now }
@@ -94,5 +94,5 @@ where
     let mut answers = Answers::new(alloc);
     ask(alloc, row.part, &mut inputs, &mut answers)?;
     inputs.end()?;
-    answers.whole()
+    answers.into_text()
 }

@@ -3,7 +3,7 @@ use Rattle.std.proofs.Common.{◌≡◌, ℕ, ◌+◌, List, [], ◌∷◌, ◌+
 use Rattle.std.specs.Prelude.{Option, None, Some, slice_get, codes, IsSomeAnd, IsUtf8, MatchOption}
 use Rattle.std.specs.declared.process.command.Command.{Command}
 use Rattle.std.specs.Process.{command_program, command_args, SameProgramAndArgs, SameEnv}
-use Rattle.child_ports.specs.Commands.{RunsWords, Runs, TellsTexts, AddsArgument, shell_words}
+use Rattle.child_ports.specs.Commands.{RunsWords, RunsProgram, TellsTexts, AddsArgument, shell_words}
 use Rattle.child_ports.specs.Programs.{IsWordless, unreadable}
 use Rattle.std.proofs.lemmas.Option.{slice_get_within, get_or_from_slice_get}
 use Rattle.std.proofs.lemmas.List.{take_more}
@@ -23,7 +23,7 @@ runs_more words i before now word runs at adds =
     }
 
 -- what was silent before says these texts alone
-pub told_after : {A : Type 0} (texts : Option (Option (List ℕ × List ℕ))) (words : List (List ℕ)) (before now : Command A) → TellsTexts texts before now → RunsWords words before → Runs words texts now
+pub told_after : {A : Type 0} (texts : Option (Option (List ℕ × List ℕ))) (words : List (List ℕ)) (before now : Command A) → TellsTexts texts before now → RunsWords words before → RunsProgram words texts now
 told_after None words before now tells runs =
     let same : command_program now ∷ command_args now ≡ command_program before ∷ command_args before = cc (tells.0.0, tells.0.1) in
     record {
@@ -44,7 +44,7 @@ told_after (Some texts) words before now tells runs =
     }
 
 -- what keeps the call and the environment runs the same
-pub runs_on : {A : Type 0} (words : List (List ℕ)) (texts : Option (Option (List ℕ × List ℕ))) (before now : Command A) → Runs words texts before → SameProgramAndArgs before now → SameEnv before now → Runs words texts now
+pub runs_on : {A : Type 0} (words : List (List ℕ)) (texts : Option (Option (List ℕ × List ℕ))) (before now : Command A) → RunsProgram words texts before → SameProgramAndArgs before now → SameEnv before now → RunsProgram words texts now
 runs_on words None before now runs same environment =
     let grown : command_program now ∷ command_args now ≡ command_program before ∷ command_args before = cc (same.0, same.1) in
     record {

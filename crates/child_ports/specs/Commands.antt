@@ -67,11 +67,11 @@ Says None command = (name : List ℕ) → command_var command name ≡ None
 Says (Some texts) command = SaysTexts command texts
 
 -- it runs these words in this process's environment, and tells these texts besides
-pub record Runs {A : Type 0} (words : List (List ℕ)) (texts : Option (Option (List ℕ × List ℕ))) (command : Command A) : Type 0 where
+pub record RunsProgram {A : Type 0} (words : List (List ℕ)) (texts : Option (Option (List ℕ × List ℕ))) (command : Command A) : Type 0 where
   pub call : command_program command ∷ command_args command ≡ words
   pub inherits : clears_env command ≡ false
   pub told : Says texts command
 
 -- the command runs the words of the address, and tells the program of its peer
 abbrev pub IsCommandOf : {A : Type 0} → Target → Option Peer → Command A → Type 0
-IsCommandOf target peer command = Runs (words_of target) (told_texts peer) command
+IsCommandOf target peer command = RunsProgram (words_of target) (told_texts peer) command

@@ -34,7 +34,7 @@ pub trait ProgramCalls {
         ensures { IfErr result (λ _. lacks_pipes self.now) };
 
     /// Has the registry report this process's ends of a program's pipes under `key`.
-    fn enrolled(
+    fn enroll(
         &self,
         registry: &Registry,
         key: usize,
@@ -54,13 +54,13 @@ impl ProgramCalls for HostRuntime {
         pipe(self)
     }
 
-    fn enrolled(
+    fn enroll(
         &self,
         registry: &Registry,
         key: usize,
         output: Option<PipeReader>,
         input: Option<PipeWriter>,
     ) -> Option<Halves<PipeReader, PipeWriter>> {
-        Halves::enrolled(registry, key, output, input)
+        Halves::enroll(registry, key, output, input)
     }
 }

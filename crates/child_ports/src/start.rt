@@ -6,7 +6,7 @@ ghost use Rattle.port_trait.specs.Made.{IsAtOnce};
 ghost use Rattle.port_trait.specs.declared.makers.Making.TheVariants as makings;
 ghost use Rattle.file_ports.specs.Halves.{AreOf};
 ghost use Rattle.file_ports.specs.Opened.{OnMade};
-ghost use Rattle.socket_ports.specs.Accepting.{IsFresh};
+ghost use Rattle.socket_ports.specs.Accepting.{IsFreshPort};
 ghost use Rattle.child_ports.specs.Programs.{runs_program, IsWordless, IsUnstarted, Starts};
 ghost use Rattle.file_ports.specs.Access.{reads_by, writes_by};
 
@@ -38,7 +38,7 @@ pub fn make_child<C: ProgramCalls>(
     part: Part,
     peer: Option<Peer>,
 ) -> Making<ChildPort>
-    ensures fresh { OnMade result IsFresh }
+    ensures fresh { OnMade result IsFreshPort }
     ensures halves { OnMade result (λ port. AreOf part port.socket) }
     ensures at_once { IsAtOnce result }
     ensures other { runs_program target.now ≡ false → result ≡ makings.Failed }
@@ -54,7 +54,7 @@ pub fn make_child<C: ProgramCalls>(
     let Ok(PipeEnds { output, input }) = pipe_ends(&*calls, &mut command, part) else {
         return Making::Failed;
     };
-    let Some(pipes) = calls.enrolled(registry, key, output, input) else {
+    let Some(pipes) = calls.enroll(registry, key, output, input) else {
         return Making::Failed;
     };
     let Ok(ward) = unreaped.empty_ward() else {

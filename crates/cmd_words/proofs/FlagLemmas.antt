@@ -7,8 +7,8 @@ use Rattle.relay_model.specs.declared.refusals.Refusal.{Refusal}
 use Rattle.relay_model.specs.declared.refusals.Refused.{Refused}
 use Rattle.cmd_words.specs.declared.settings.Settings.{Settings}
 use Rattle.cmd_words.specs.declared.settings.Instead.{Instead}
-use Rattle.cmd_words.specs.declared.settings.Step.{Step}
-use Rattle.cmd_words.specs.declared.settings.Step.TheVariants.{Alone, WithNext, Stop}
+use Rattle.cmd_words.specs.declared.settings.FlagStep.{FlagStep}
+use Rattle.cmd_words.specs.declared.settings.FlagStep.TheVariants.{Alone, WithNext, Stop}
 use Rattle.cmd_words.specs.declared.settings.Flagged.{Flagged}
 use Rattle.cmd_words.specs.declared.settings.Flagged.TheVariants as flagged
 use Rattle.cmd_words.specs.Flags.{begins_addresses, step_of, after, flags_from, refused_at, IsBounded, IsSound}
@@ -69,12 +69,12 @@ read_end settings at words past =
       | inr w ↦ ap (flags_from settings at) (drop_all at words w.0) ∙ flags_from-nil settings at
     ]
 
-read_on : (settings : Settings) (at : ℕ) (words : List (List ℕ)) (word : List ℕ) (next : Option (List ℕ)) (step : Result Step Refusal) → Some word ≡ slice_get words at → false ≡ begins_addresses word → next ≡ slice_get words (at + 1) → step ≡ step_of settings word next → flags_from settings at (drop at words) ≡ after at step (λ changed. flags_from changed (at + 1) (drop (at + 1) words)) (λ changed. flags_from changed (at + 2) (drop 1 (drop (at + 1) words)))
+read_on : (settings : Settings) (at : ℕ) (words : List (List ℕ)) (word : List ℕ) (next : Option (List ℕ)) (step : Result FlagStep Refusal) → Some word ≡ slice_get words at → false ≡ begins_addresses word → next ≡ slice_get words (at + 1) → step ≡ step_of settings word next → flags_from settings at (drop at words) ≡ after at step (λ changed. flags_from changed (at + 1) (drop (at + 1) words)) (λ changed. flags_from changed (at + 2) (drop 1 (drop (at + 1) words)))
 read_on settings at words word next step here begins behind is =
     let rest : List (List ℕ) = drop (at + 1) words in
     let same : step_of settings word (next_of rest) ≡ step = ap (step_of settings word) (next_of-drop words (at + 1) ∙ sym behind) ∙ sym is in
     ap (flags_from settings at) (drop_here words at word here) ∙ flags_from-cons settings at word rest ∙ chosen_second (begins_addresses word) _ _ begins
-    ∙ ap (λ (s : Result Step Refusal). after at s (λ changed. flags_from changed (at + 1) rest) (λ changed. flags_from changed (at + 2) (drop 1 rest))) same
+    ∙ ap (λ (s : Result FlagStep Refusal). after at s (λ changed. flags_from changed (at + 1) rest) (λ changed. flags_from changed (at + 2) (drop 1 rest))) same
 
 pub read_alone : (settings : Settings) (at : ℕ) (words : List (List ℕ)) (word : List ℕ) (next : Option (List ℕ)) (changed : Settings) → Some word ≡ slice_get words at → false ≡ begins_addresses word → next ≡ slice_get words (at + 1) → Ok (Alone changed) ≡ step_of settings word next → flags_from changed (at + 1) (drop (at + 1) words) ≡ flags_from settings at (drop at words)
 read_alone settings at words word next changed here begins behind is = sym (read_on settings at words word next (Ok (Alone changed)) here begins behind is)

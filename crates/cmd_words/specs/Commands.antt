@@ -1,6 +1,6 @@
 -- Which command a list of words makes, or the first thing that is wrong with it: the flags from left to right, then
 -- the number of addresses, then the first address and the second, then the directions.
-use Rattle.std.specs.Prelude.{◌≡◌, ℕ, ◌+◌, Bool, not, ◌&&◌, ◌||◌, List, [], ◌∷◌, length, drop, Option, Some, None, Result, Ok, Err, if◌then◌else◌}
+use Rattle.std.specs.Prelude.{◌≡◌, ◌≢◌, ℕ, ◌+◌, Bool, not, ◌&&◌, ◌||◌, List, [], ◌∷◌, length, drop, Option, Some, None, Result, Ok, Err, if◌then◌else◌}
 use Rattle.relay_model.specs.declared.places.Side.{Side}
 use Rattle.relay_model.specs.declared.places.Side.TheVariants.{Left, Right}
 use Rattle.relay_model.specs.declared.places.Way.TheVariants.{LeftToRight, RightToLeft}
@@ -181,3 +181,12 @@ IsFit (commands.Relay c) = Fit c
 IsFit commands.Usage = Unit {0}
 IsFit commands.Version = Unit {0}
 IsFit (commands.Load number) = Unit {0}
+
+-- the words make no relay
+abbrev pub MakesNoRelay : List (List ℕ) → Type 0
+MakesNoRelay words = (c : Config) → command words ≢ Ok (commands.Relay c)
+
+-- the relay that the words make, or none
+abbrev pub IsRelayOf : List (List ℕ) → Option Config → Type 0
+IsRelayOf words None = MakesNoRelay words
+IsRelayOf words (Some c) = command words ≡ Ok (commands.Relay c)

@@ -18,8 +18,8 @@ use Rattle.cmd_words.specs.declared.settings.Switch.TheVariants.{OnlyRight, Only
 use Rattle.cmd_words.specs.declared.settings.Measure.{Measure}
 use Rattle.cmd_words.specs.declared.settings.Measure.TheVariants.{Block, Closing, Idle}
 use Rattle.cmd_words.specs.declared.settings.Instead.TheVariants as instead
-use Rattle.cmd_words.specs.declared.settings.Step.{Step}
-use Rattle.cmd_words.specs.declared.settings.Step.TheVariants.{Alone, WithNext, Stop}
+use Rattle.cmd_words.specs.declared.settings.FlagStep.{FlagStep}
+use Rattle.cmd_words.specs.declared.settings.FlagStep.TheVariants.{Alone, WithNext, Stop}
 use Rattle.cmd_words.specs.declared.settings.Flagged.{Flagged}
 use Rattle.cmd_words.specs.declared.settings.Flagged.TheVariants as flagged
 use Rattle.cmd_words.specs.declared.flags.Plain.{Plain}
@@ -137,35 +137,35 @@ if_written f (Some value) = Ok (f value)
 if_written f None = Err refusals.BadFlagValue
 
 -- the value is attached, or else it is the next word
-abbrev pub measure_step : Settings → Measure → List ℕ → Option (List ℕ) → Result Step Refusal
+abbrev pub measure_step : Settings → Measure → List ℕ → Option (List ℕ) → Result FlagStep Refusal
 measure_step settings measure (b ∷ attached) next = if_written Alone (set_to settings measure (b ∷ attached))
 measure_step settings measure [] (Some next) = if_written WithNext (set_to settings measure next)
 measure_step settings measure [] None = Err refusals.NoValue
 
 -- the number of a generated run is always the next word
-abbrev pub load_of : Option (List ℕ) → Result Step Refusal
+abbrev pub load_of : Option (List ℕ) → Result FlagStep Refusal
 load_of (Some next) = if_written (λ n. Stop (instead.Load n)) (number_of next)
 load_of None = Err refusals.NoValue
 
 -- what a flag without an attached value does
-abbrev pub plain_step : Settings → Plain → Option (List ℕ) → Result Step Refusal
+abbrev pub plain_step : Settings → Plain → Option (List ℕ) → Result FlagStep Refusal
 plain_step settings (plain.Switch switch) next = Ok (Alone (switched settings switch))
 plain_step settings plain.Usage next = Ok (Stop instead.Usage)
 plain_step settings plain.Version next = Ok (Stop instead.Version)
 plain_step settings plain.Load next = load_of next
 
 -- what a word does that is a known flag, else its refusal
-abbrev pub other_step : Settings → Option Plain → Option (List ℕ) → Result Step Refusal
+abbrev pub other_step : Settings → Option Plain → Option (List ℕ) → Result FlagStep Refusal
 other_step settings (Some flag) next = plain_step settings flag next
 other_step settings None next = Err refusals.UnknownFlag
 
 -- what a word does, with or without an attached value
-abbrev pub known_step : Settings → Option (Measure × List ℕ) → List ℕ → Option (List ℕ) → Result Step Refusal
+abbrev pub known_step : Settings → Option (Measure × List ℕ) → List ℕ → Option (List ℕ) → Result FlagStep Refusal
 known_step settings (Some m) word next = measure_step settings m.0 m.1 next
 known_step settings None word next = other_step settings (plain_flag word) next
 
 -- what a flag does, by its word and the word behind it
-unfoldable pub step_of : Settings → List ℕ → Option (List ℕ) → Result Step Refusal
+unfoldable pub step_of : Settings → List ℕ → Option (List ℕ) → Result FlagStep Refusal
 step_of settings word next = known_step settings (measured word) word next
 
 -- a block has 1 to 1,048,576 bytes
@@ -174,7 +174,7 @@ pub record IsBounded (settings : Settings) : Type 0 where
   pub high : settings.block ≤ 1048576
 
 -- a step goes behind the next word only where there is one
-abbrev pub IsSound : Option (List ℕ) → Step → Type 0
+abbrev pub IsSound : Option (List ℕ) → FlagStep → Type 0
 IsSound next (Alone settings) = IsBounded settings
 IsSound (Some word) (WithNext settings) = IsBounded settings
 IsSound None (WithNext settings) = ⊥
@@ -187,7 +187,7 @@ abbrev pub refused_at : ℕ → ℕ → Refusal → Refused
 refused_at at half why = record { word = counted (at + 1); half = half; why = why }
 
 -- reading goes on behind a flag or behind its value
-abbrev pub after : ℕ → Result Step Refusal → (Settings → Result Flagged Refused) → (Settings → Result Flagged Refused) → Result Flagged Refused
+abbrev pub after : ℕ → Result FlagStep Refusal → (Settings → Result Flagged Refused) → (Settings → Result Flagged Refused) → Result Flagged Refused
 after at (Ok (Alone settings)) one two = one settings
 after at (Ok (WithNext settings)) one two = two settings
 after at (Ok (Stop what)) one two = Ok (flagged.Instead what)

@@ -52,7 +52,7 @@ fn single_at(
 
 /// What the parts of an address ask for. Each half of a dual one is asked for its own use, also where only the
 /// other is opened.
-fn resolved(
+fn resolve_address(
     alloc: Global,
     settings: Settings,
     at: usize,
@@ -91,7 +91,7 @@ fn misplaced_fork(side: Side, address: &Address) -> Option<u8>
 }
 
 /// The address, where no `fork` is out of place.
-fn placed(at: usize, side: Side, address: Address) -> Result<Address, CommandFault>
+fn check_fork_place(at: usize, side: Side, address: Address) -> Result<Address, CommandFault>
     requires { at + 1 < 2 ^ 64 }
     ensures exact { result ≡ placed at address (misplaced_fork side address) }
     ensures placed { IfOk result (λ kept. misplaced_fork side kept ≡ None) }
@@ -115,8 +115,8 @@ fn read_at(
     ensures placed { IfOk result (λ address. misplaced_fork side address ≡ None) }
 {
     let raw = parse_at(alloc, at, word)?;
-    let address = resolved(alloc, settings, at, side, &raw)?;
-    placed(at, side, address)
+    let address = resolve_address(alloc, settings, at, side, &raw)?;
+    check_fork_place(at, side, address)
 }
 
 /// The address that the word at this place asks for on its side, or the first thing that is wrong with it.

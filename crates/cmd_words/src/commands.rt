@@ -1,18 +1,18 @@
 // What a command line asks for.
-ghost use Rattle.std.specs.Prelude.{◌≡◌, ◌+◌, ◌<◌, ◌^◌, ◌||◌, None, length, IfOk};
-ghost use Rattle.relay_model.specs.Configs.{formed};
+ghost use Rattle.std.specs.Prelude.{◌≡◌, ◌+◌, ◌<◌, ◌^◌, ◌||◌, None, length, IfOk, IfSome};
+ghost use Rattle.relay_model.specs.Configs.{Fit, formed};
 ghost use Rattle.relay_model.specs.declared.places.Way.TheVariants.{LeftToRight, RightToLeft};
 ghost use Rattle.relay_model.specs.declared.places.Side.TheVariants.{Left, Right};
 ghost use Rattle.cmd_words.specs.Flags.{IsBounded};
-ghost use Rattle.cmd_words.specs.Commands.{Answers, IsFit, whole, misplaced_fork, instead_of, directed, config_of, between, command};
+ghost use Rattle.cmd_words.specs.Commands.{Answers, IsFit, whole, misplaced_fork, instead_of, directed, config_of, between, command, IsRelayOf};
 
 use crate::addresses::address_at;
 use crate::faults::CommandFault;
 use crate::leading::read_flags;
 use crate::settings::{Flagged, Instead, Settings};
-use addr_kinds::counted;
-use command_places::formed;
-use relay_model::{Address, Config, Refusal, Refused, Side, Text, Way};
+use addr_kinds::report_number;
+use command_places::is_formed;
+use relay_model::{Address, Config, NoMemory, Refusal, Refused, Side, Text, Way};
 use std::alloc::Global;
 
 /// What a command line asks for: a relay, the usage, the version, or the run that is generated from a number.
@@ -49,12 +49,12 @@ fn whole(why: Refusal) -> CommandFault
 fn has_direction(config: &Config) -> bool
     ensures { result ≡ (formed config.now LeftToRight || formed config.now RightToLeft) }
 {
-    formed(config, Way::LeftToRight) || formed(config, Way::RightToLeft)
+    is_formed(config, Way::LeftToRight) || is_formed(config, Way::RightToLeft)
 }
 
 /// The relay between two addresses, where they form a direction.
 #[tactic(auto, using(crate::proofs::Fitting::fit_of))]
-fn directed(settings: Settings, left: Address, right: Address) -> Result<Command, CommandFault>
+fn relay_between(settings: Settings, left: Address, right: Address) -> Result<Command, CommandFault>
     requires bounded { IsBounded settings }
     requires left { misplaced_fork Left left ≡ None }
     requires right { misplaced_fork Right right ≡ None }
@@ -91,12 +91,12 @@ fn between(
     ensures fit { IfOk result IsFit }
 {
     let [left, right] = words else {
-        let have = counted(words.len());
+        let have = report_number(words.len());
         return Err(whole(Refusal::AddressCount { have }));
     };
     let left = address_at(alloc, settings, first, Side::Left, left.as_slice())?;
     let right = address_at(alloc, settings, first + 1, Side::Right, right.as_slice())?;
-    directed(settings, left, right)
+    relay_between(settings, left, right)
 }
 
 /// What a command line asks for (socat(1), "SYNOPSIS"); the words don't include the program's name. Words that
@@ -112,5 +112,20 @@ pub fn command_of(alloc: Global, words: &[Text]) -> Result<Command, CommandFault
         Ok(Flagged::Relay { settings, first }) => between(alloc, settings, first, &words[first..]),
         Ok(Flagged::Instead(what)) => Ok(instead_of(what)),
         Err(refused) => Err(CommandFault::Refused(refused)),
+    }
+}
+
+/// The relay for which the words ask, where they ask for one.
+pub fn relay_of(alloc: Global, words: &[Text]) -> Result<Option<Config>, NoMemory>
+    // It is the relay that the words make, and none only where they make none.
+    ensures exact { IfOk result (IsRelayOf words.now) }
+    // It can be run.
+    ensures fit { IfOk result (λ relay. IfSome relay Fit) }
+{
+    match command_of(alloc, words) {
+        Ok(Command::Relay(config)) => Ok(Some(config)),
+        Ok(Command::Usage) | Ok(Command::Version) | Ok(Command::Load(_)) => Ok(None),
+        Err(CommandFault::Refused(_)) => Ok(None),
+        Err(CommandFault::Memory) => Err(NoMemory),
     }
 }

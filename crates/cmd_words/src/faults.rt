@@ -4,7 +4,7 @@ ghost use Rattle.cmd_words.specs.Flags.{refused_at};
 ghost use Rattle.cmd_words.specs.Commands.{wrong_at, text_fault, kind_fault};
 
 use addr_grammar::GrammarFault;
-use addr_kinds::{KindFault, counted};
+use addr_kinds::{KindFault, report_number};
 use relay_model::{NoMemory, Refusal, Refused};
 use thiserror::Error;
 
@@ -26,7 +26,7 @@ pub fn refused_at(at: usize, half: u8, why: Refusal) -> Refused
     ensures { result ≡ refused_at at half why }
 {
     Refused {
-        word: counted(at + 1),
+        word: report_number(at + 1),
         half,
         why,
     }

@@ -2,7 +2,7 @@
 ghost use Rattle.std.specs.Prelude.{◌≡◌, map, option_map, option_copied, IfOk, IfSome};
 ghost use Rattle.cmd_words.specs.Flags.{begins_addresses, measured, with_text, with_hex, switched, set_to, plain_flag, found, as_named, step_of, plain_step, measure_step, load_of, IsBounded, IsSound};
 
-use crate::settings::{Instead, Measure, Settings, Step, Switch};
+use crate::settings::{FlagStep, Instead, Measure, Settings, Switch};
 use option_table::{read_number, read_time};
 use relay_model::{Dump, Refusal, Ways};
 
@@ -15,9 +15,9 @@ pub enum Plain {
     Load,
 }
 
-type Row = (&'static [u8], Plain);
+type FlagRow = (&'static [u8], Plain);
 
-const FLAGS: [Row; 14] = [
+const FLAGS: [FlagRow; 14] = [
     (b"-u", Plain::Switch(Switch::OnlyRight)),
     (b"-U", Plain::Switch(Switch::OnlyLeft)),
     (b"-v", Plain::Switch(Switch::TextDump)),
@@ -46,7 +46,7 @@ pub fn begins_addresses(word: &[u8]) -> bool
     }
 }
 
-fn find_flag(mut table: &[Row], word: &[u8]) -> Option<Plain>
+fn find_flag(mut table: &[FlagRow], word: &[u8]) -> Option<Plain>
     ensures { result ≡ found (map as_named table.entry.now) word.now }
 {
     while let [row, rest @ ..] = table {
@@ -66,7 +66,7 @@ fn plain_flag(word: &[u8]) -> Option<Plain>
 }
 
 /// The flag with a value that this word is, and what is attached to it.
-fn measured(word: &[u8]) -> Option<(Measure, &[u8])>
+fn find_measure(word: &[u8]) -> Option<(Measure, &[u8])>
     ensures { option_map (λ m. (m.0, m.1.now)) result ≡ measured word.now }
 {
     match word {
@@ -96,7 +96,7 @@ fn with_hex(dump: Dump) -> Dump
 }
 
 impl Settings {
-    fn switched(mut self, switch: Switch) -> Settings
+    fn with_switch(mut self, switch: Switch) -> Settings
         requires { IsBounded self }
         ensures value { result ≡ switched self switch }
         ensures bounded { IsBounded result }
@@ -138,50 +138,50 @@ fn measure_step(
     measure: Measure,
     attached: &[u8],
     next: Option<&[u8]>,
-) -> Result<Step, Refusal>
+) -> Result<FlagStep, Refusal>
     requires { IsBounded settings }
     ensures exact { result ≡ measure_step settings measure attached.now (option_copied next.entry) }
     ensures sound { IfOk result (IsSound (option_copied next.entry)) }
 {
     if !attached.is_empty() {
         let changed = settings.set_to(measure, attached);
-        return changed.map(Step::Alone).ok_or(Refusal::BadFlagValue);
+        return changed.map(FlagStep::Alone).ok_or(Refusal::BadFlagValue);
     }
     let value = next.ok_or(Refusal::NoValue)?;
     let changed = settings.set_to(measure, value);
-    changed.map(Step::WithNext).ok_or(Refusal::BadFlagValue)
+    changed.map(FlagStep::WithNext).ok_or(Refusal::BadFlagValue)
 }
 
-fn load_of(next: Option<&[u8]>) -> Result<Step, Refusal>
+fn load_of(next: Option<&[u8]>) -> Result<FlagStep, Refusal>
     ensures exact { result ≡ load_of (option_copied next.entry) }
     ensures sound { IfOk result (IsSound (option_copied next.entry)) }
 {
     let value = next.ok_or(Refusal::NoValue)?;
     let number = read_number(value).ok_or(Refusal::BadFlagValue)?;
-    Ok(Step::Stop(Instead::Load(number)))
+    Ok(FlagStep::Stop(Instead::Load(number)))
 }
 
-fn plain_step(settings: Settings, flag: Plain, next: Option<&[u8]>) -> Result<Step, Refusal>
+fn plain_step(settings: Settings, flag: Plain, next: Option<&[u8]>) -> Result<FlagStep, Refusal>
     requires { IsBounded settings }
     ensures exact { result ≡ plain_step settings flag (option_copied next.entry) }
     ensures sound { IfOk result (IsSound (option_copied next.entry)) }
 {
     match flag {
-        Plain::Switch(switch) => Ok(Step::Alone(settings.switched(switch))),
-        Plain::Usage => Ok(Step::Stop(Instead::Usage)),
-        Plain::Version => Ok(Step::Stop(Instead::Version)),
+        Plain::Switch(switch) => Ok(FlagStep::Alone(settings.with_switch(switch))),
+        Plain::Usage => Ok(FlagStep::Stop(Instead::Usage)),
+        Plain::Version => Ok(FlagStep::Stop(Instead::Version)),
         Plain::Load => load_of(next),
     }
 }
 
 /// What the flag does that this word is, with the word behind it.
 #[tactic(auto, unfolding(crate::specs::Flags::step_of))]
-pub fn step_of(settings: Settings, word: &[u8], next: Option<&[u8]>) -> Result<Step, Refusal>
+pub fn step_of(settings: Settings, word: &[u8], next: Option<&[u8]>) -> Result<FlagStep, Refusal>
     requires { IsBounded settings }
     ensures exact { result ≡ step_of settings word.now (option_copied next.entry) }
     ensures sound { IfOk result (IsSound (option_copied next.entry)) }
 {
-    match measured(word) {
+    match find_measure(word) {
         Some((measure, attached)) => measure_step(settings, measure, attached, next),
         None => match plain_flag(word) {
             Some(flag) => plain_step(settings, flag, next),

@@ -4,7 +4,7 @@ ghost use Rattle.cmd_words.specs.Flags.{flags_of, IsWithin};
 
 use crate::faults::refused_at;
 use crate::flags::{begins_addresses, step_of};
-use crate::settings::{Flagged, Settings, Step};
+use crate::settings::{FlagStep, Flagged, Settings};
 use relay_model::{Refused, Text};
 
 fn word_at(words: &[Text], at: usize) -> Option<&[u8]>
@@ -29,15 +29,15 @@ pub fn read_flags(words: &[Text]) -> Result<Flagged, Refused>
             break;
         }
         match step_of(settings, word, word_at(words, at + 1)) {
-            Ok(Step::Alone(changed)) => {
+            Ok(FlagStep::Alone(changed)) => {
                 settings = changed;
                 at += 1;
             }
-            Ok(Step::WithNext(changed)) => {
+            Ok(FlagStep::WithNext(changed)) => {
                 settings = changed;
                 at += 2;
             }
-            Ok(Step::Stop(what)) => return Ok(Flagged::Instead(what)),
+            Ok(FlagStep::Stop(what)) => return Ok(Flagged::Instead(what)),
             Err(why) => return Err(refused_at(at, 0, why)),
         }
     }

@@ -10,6 +10,6 @@ mod laws;
 mod leading;
 mod settings;
 
-pub use commands::{Command, command_of};
+pub use commands::{Command, command_of, relay_of};
 pub use faults::CommandFault;
 pub use laws::command_is_told;

@@ -58,7 +58,7 @@ pub enum Instead {
 
 /// What a flag does.
 #[derive(Clone, Copy)]
-pub enum Step {
+pub enum FlagStep {
     /// It stands alone, and these are the settings behind it.
     Alone(Settings),
     /// The next word is its value, and these are the settings behind that.

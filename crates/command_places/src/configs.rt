@@ -4,27 +4,17 @@ ghost use Rattle.std.specs.Prelude.{◌≡◌, ◌≤◌, ◌+◌, ◌++◌, ◌
 ghost use Rattle.std.specs.List.{list_any};
 ghost use Rattle.relay_model.specs.Places.{same_place, door_of};
 ghost use Rattle.relay_model.specs.Configs.{medium, is_datagrams, is_program, source, sink, way_from, way_to, address, narrowed, offered, parts_of, parts, place_at, places, single_for, single, options_of, medium_of, listens_at, forks, has_fork, program_door, is_left, is_program_door, has_own_door, accepting_door, own_doors, is_place_of, things, is_of, has_half, part_with, formed, input, output, keeps_borders, writes_output, stands_on_output, output_is_shared, is_error_stream, writes_shared_stream, datagram_shut, connection_shut, plain_shut, shut_on, how};
-ghost use Rattle.command_places.specs.Media.{as_medium};
 
 use crate::place_lists::PlaceList;
 use relay_model::{
-    Address, Config, FileFlags, Half, Options, Part, Place, Shut, Side, Single, Target, Way, Ways,
+    Address, Config, FileFlags, Half, Medium, Options, Part, Place, Shut, Side, Single, Target,
+    Way, Ways,
 };
 
 // ---- kinds
 
-/// What a kind stands on.
-#[derive(Clone, Copy, Debug, PartialEq, Eq)]
-pub enum Medium {
-    Standard,
-    Storage,
-    Program,
-    Connection,
-    Datagrams,
-}
-
 fn stands_on(target: &Target) -> Medium
-    ensures { as_medium result ≡ medium target.now }
+    ensures { result ≡ medium target.now }
 {
     match target {
         Target::Stdio | Target::Stdin | Target::Stdout | Target::Stderr => Medium::Standard,
@@ -102,7 +92,7 @@ pub fn address(config: &Config, side: Side) -> &Address
     }
 }
 
-fn narrowed(flags: FileFlags) -> Part
+fn file_part(flags: FileFlags) -> Part
     ensures { result ≡ narrowed flags }
 {
     if flags.rdonly {
@@ -115,13 +105,13 @@ fn narrowed(flags: FileFlags) -> Part
 }
 
 /// The part of a single address in a two-way call.
-fn offered(target: &Target, flags: FileFlags) -> Part
+fn two_way_part(target: &Target, flags: FileFlags) -> Part
     ensures { result ≡ offered target.now flags }
 {
     match target {
         Target::Stdin => Part::Reading,
         Target::Stdout | Target::Stderr => Part::Writing,
-        Target::FileAt(_) | Target::GenericOpen(_) => narrowed(flags),
+        Target::FileAt(_) | Target::GenericOpen(_) => file_part(flags),
         _ => Part::Both,
     }
 }
@@ -133,7 +123,7 @@ fn parts_of(ways: Ways, address: &Address, side: Side) -> &'static [Part]
 {
     match ways {
         Ways::Two => match address {
-            Address::One(single) => only(offered(&single.target, single.options.file)),
+            Address::One(single) => only(two_way_part(&single.target, single.options.file)),
             Address::Two { .. } => &[Part::Reading, Part::Writing],
         },
         Ways::OnlyRight => match side {
@@ -227,7 +217,7 @@ pub fn options_of(config: &Config, place: Place) -> &Options
 
 /// What the place stands on.
 pub fn medium_of(config: &Config, place: Place) -> Medium
-    ensures { as_medium result ≡ medium_of config.now place }
+    ensures { result ≡ medium_of config.now place }
 {
     stands_on(&single(config, place).target)
 }
@@ -381,7 +371,7 @@ fn part_with(half: Half, mut parts: &[Part]) -> Option<Part>
 }
 
 /// Whether both ends of the direction exist.
-pub fn formed(config: &Config, way: Way) -> bool
+pub fn is_formed(config: &Config, way: Way) -> bool
     ensures { result ≡ formed config.now way }
 {
     part_with(Half::ToRead, parts(config, source(way))).is_some()
@@ -405,7 +395,7 @@ pub fn output(config: &Config, session: u32, way: Way) -> Place
 }
 
 fn is_datagrams(medium: Medium) -> bool
-    ensures { result ≡ is_datagrams (as_medium medium) }
+    ensures { result ≡ is_datagrams medium }
 {
     match medium {
         Medium::Datagrams => true,
@@ -415,7 +405,7 @@ fn is_datagrams(medium: Medium) -> bool
 
 /// Whether it is a child, which is reaped after it was closed.
 pub fn is_program(medium: Medium) -> bool
-    ensures { result ≡ is_program (as_medium medium) }
+    ensures { result ≡ is_program medium }
 {
     match medium {
         Medium::Program => true,
@@ -427,7 +417,7 @@ pub fn is_program(medium: Medium) -> bool
 pub fn keeps_borders(config: &Config, way: Way) -> bool
     ensures { result ≡ keeps_borders config.now way }
 {
-    formed(config, way)
+    is_formed(config, way)
         && is_datagrams(medium_of(config, input(config, 0, way)))
         && is_datagrams(medium_of(config, output(config, 0, way)))
 }
@@ -513,7 +503,7 @@ fn plain_shut(asked: Option<Shut>) -> Shut
 }
 
 fn shut_on(medium: Medium, asked: Option<Shut>) -> Shut
-    ensures { result ≡ shut_on (as_medium medium) asked }
+    ensures { result ≡ shut_on medium asked }
 {
     match medium {
         Medium::Datagrams => datagram_shut(asked),

@@ -23,9 +23,9 @@ pub struct PlaceList {
 
 impl Model for PlaceList {
     ghost use Rattle.std.specs.Prelude.{List, take, ◌≤◌};
-    ghost use Rattle.relay_model.specs.declared.places.Place.{Place as Kept};
+    ghost use Rattle.relay_model.specs.declared.places.Place.{Place};
 
-    ghost Value = { List Kept };
+    ghost Value = { List Place };
 
     ghost view = { λ list. take list.count list.items };
 

@@ -42,7 +42,7 @@ fn load_told(alloc: Global, number: u64) -> Result<Page, NoMemory>
     Ok(page)
 }
 
-fn told(alloc: Global, command: &Command) -> Result<Page, NoMemory>
+fn page_of(alloc: Global, command: &Command) -> Result<Page, NoMemory>
     ensures { IfOk result (Tells command.now) }
 {
     match command {
@@ -68,6 +68,6 @@ pub fn explanation(alloc: Global, command: &Command) -> Result<Bytes, NoMemory>
     ensures printable { IfOk result IsPrintable }
     ensures whole { IfOk result EndsLine }
 {
-    let page = told(alloc, command)?;
+    let page = page_of(alloc, command)?;
     Bytes::of(alloc, page.as_slice())
 }

@@ -47,7 +47,7 @@ fn say_underlined(page: &mut Page, from: usize, word: &[u8]) -> Result<(), NoMem
 }
 
 /// The word that is blamed; words count from 1.
-fn blamed(words: &[Text], place: u32) -> Option<&[u8]>
+fn blamed_word(words: &[Text], place: u32) -> Option<&[u8]>
     ensures { option_copied result ≡ blamed words.now place }
 {
     if place == 0 {
@@ -84,7 +84,7 @@ pub fn refusal_report(alloc: Global, words: &[Text], refused: &Refused) -> Resul
     ensures printable { IfOk result IsPrintable }
     ensures whole { IfOk result EndsLine }
 {
-    let word = blamed(words, refused.word);
+    let word = blamed_word(words, refused.word);
     let mut page = Page::new(alloc);
     page.add(said_line(alloc, refused)?.as_slice())?;
     say_word(&mut page, refused.why, word)?;

@@ -5,7 +5,7 @@ ghost use Rattle.place_report.specs.Places.{title_of, use_line, IsTold};
 ghost use Rattle.place_report.specs.Shown.{shown, said};
 ghost use Rattle.command_report.specs.Reports.{ending_words, ending, ending_line, AreTold, SideTold};
 
-use command_places::{formed, how, output, parts, way_from, way_to};
+use command_places::{how, is_formed, output, parts, way_from, way_to};
 use place_report::{Page, Use, place_told};
 use relay_model::{Address, Config, NoMemory, Part, Shut, Side, Single};
 use std::alloc::Global;
@@ -28,7 +28,7 @@ fn ending(config: &Config, side: Side) -> Option<Shut>
     ensures { result ≡ ending config.now side }
 {
     let way = way_to(side);
-    if formed(config, way) {
+    if is_formed(config, way) {
         Some(how(config, output(config, 0, way)))
     } else {
         None
@@ -59,8 +59,8 @@ fn single_told(
     };
     let used = Use {
         part,
-        read: formed(config, way_from(side)),
-        written: formed(config, way_to(side)),
+        read: is_formed(config, way_from(side)),
+        written: is_formed(config, way_to(side)),
     };
     let mut page = place_told(alloc, side, ": ", single, used)?;
     say_ending(&mut page, config, side)?;
@@ -79,13 +79,13 @@ fn dual_told(
 {
     let read = Use {
         part: Part::Reading,
-        read: formed(config, way_from(side)),
+        read: is_formed(config, way_from(side)),
         written: false,
     };
     let written = Use {
         part: Part::Writing,
         read: false,
-        written: formed(config, way_to(side)),
+        written: is_formed(config, way_to(side)),
     };
     let mut page = place_told(alloc, side, ", to read from: ", reading, read)?;
     page.append(&place_told(alloc, side, ", to write to: ", writing, written)?)?;

@@ -2,7 +2,7 @@
 ghost use Rattle.std.specs.Prelude.{◌≡◌, ◌++◌, IfOk, OnOk};
 ghost use Rattle.command_report.specs.Reports.{block_line, SettingsTold};
 
-use command_places::{formed, has_fork, keeps_borders};
+use command_places::{has_fork, is_formed, keeps_borders};
 use place_report::{Page, line, say_time};
 use relay_model::{Config, Dump, NoMemory, Way};
 use std::alloc::Global;
@@ -22,13 +22,13 @@ fn say_block(page: &mut Page, block: u32) -> Result<(), NoMemory>
 
 /// Whether bytes pass in both directions.
 fn is_two_way(config: &Config) -> bool {
-    formed(config, Way::LeftToRight) && formed(config, Way::RightToLeft)
+    is_formed(config, Way::LeftToRight) && is_formed(config, Way::RightToLeft)
 }
 
 fn say_ways(page: &mut Page, config: &Config) -> Result<(), NoMemory> {
     if is_two_way(config) {
         line(page, "ways: both")
-    } else if formed(config, Way::LeftToRight) {
+    } else if is_formed(config, Way::LeftToRight) {
         line(page, "ways: from the first address to the second alone")
     } else {
         line(page, "ways: from the second address to the first alone")

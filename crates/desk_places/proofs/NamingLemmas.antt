@@ -21,7 +21,7 @@ use Rattle.desk_places.specs.Stations.{base_at, hold_at, hold_by, station_at}
 use Rattle.desk_places.proofs.PlaceLemmas.{same_place-same}
 use Rattle.desk_places.proofs.SoundLemmas.{stands_at}
 use Rattle.desk_places.proofs.StationLemmas.{standing_held}
-use Rattle.desk_places.specs.Naming.{Grown, IsNamed, KeyNamed, NamesKeyed}
+use Rattle.desk_places.specs.Naming.{Grown, IsNamed, KeyNamed, NamesAt, NamesKeyed}
 
 or_left : (a b : Bool) → a ≡ true → (a || b) ≡ true
 or_left true b e = refl
@@ -180,3 +180,15 @@ based_held stations p base based = held_slot (station_at stations p) base based
     held_slot : (slot : Option Station) (b : Base) → option_map (λ s. s.base) slot ≡ Some b → is_free (hold_by slot) ≡ false
     held_slot None b e = absurd cc
     held_slot (Some s) b e = standing_held s.standing
+
+push_room : (b : Bool) (old new : Listed) (e : ReadyAt) → OnTrue b (new ≡ record old { entries = old.entries ++ e ∷ [] }) → OnFalse b (new ≡ old) → new.room ≡ old.room
+push_room true old new e pushed refused = ap (λ (list : Listed). list.room) pushed
+push_room false old new e pushed refused = ap (λ (list : Listed). list.room) refused
+
+-- a half of this place more, full or not
+pub push_at : (b : Bool) (old new : Listed) (e : ReadyAt) → OnTrue b (new ≡ record old { entries = old.entries ++ e ∷ [] }) → OnFalse b (new ≡ old) → NamesAt e.place old new
+push_at b old new e pushed refused = record {
+  room = push_room b old new e pushed refused;
+  grown = push_grown b old new e pushed refused;
+  held = push_held b old new e pushed refused;
+}

@@ -14,7 +14,8 @@ use Rattle.port_table.specs.declared.table.PortTable.{PortTable}
 use Rattle.desk_places.specs.declared.ports.Ports.{Ports}
 use Rattle.desk_places.specs.declared.stations.Station.{Station}
 use Rattle.desk_places.specs.Stations.{half_disarmed, station_at}
-use Rattle.desk_places.specs.Naming.{IsDue, IsKeyed, MayHint, NamesOnly, SamePorts, WaitsIdle, half_port, is_hinted, told_by}
+use Rattle.desk_places.specs.Naming.{IsDue, IsKeyed, MayHint, NamesMore, NamesOnly, SamePorts, WaitsIdle, half_port, is_hinted, told_by}
+use Rattle.desk_places.proofs.NamingLemmas.{grown_then}
 use Rattle.desk_places.proofs.TurnLemmas.{told_same}
 
 only_last : (keys : List (ℕ × Half)) (told : PortId → Option Hint) (stations : List Station) (xs : List ReadyAt) (e : ReadyAt) → IsDue keys told stations e.place e.half → NamesOnly keys told stations xs → NamesOnly keys told stations (xs ++ e ∷ [])
@@ -87,6 +88,16 @@ same_then a b c first then = record {
   listed = then.listed ∙ first.listed;
   maker = then.maker ∙ first.maker;
   parents = then.parents ∙ first.parents;
+}
+
+-- one naming after another
+pub names_then : {A B C D E : Type 0} (stations : List Station) (a b c : Ports A B C D E) (before between now : Listed) → NamesMore stations a b before between → NamesMore stations b c between now → NamesMore stations a c before now
+names_then stations a b c before between now first then = record {
+  room = then.room ∙ first.room;
+  grown = grown_then before.entries between.entries now.entries first.grown then.grown;
+  only = λ keys only. only_step keys a.table b.table stations between.entries now.entries first.same.streams first.same.made (then.only keys) (first.only keys only);
+  held = then.held;
+  same = same_then a b c first.same then.same;
 }
 
 unkeyed : (stations : List Station) (p : Place) (half : Half) → IsKeyed [] stations p half → ⊥

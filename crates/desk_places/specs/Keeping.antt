@@ -1,10 +1,25 @@
 -- What a call leaves of the places and of the ports that they stand on.
-use Rattle.std.specs.Prelude.{◌≡◌, ◌≤◌, ◌+◌, List, length}
+use Rattle.std.specs.Prelude.{◌≡◌, ◌<◌, ◌≤◌, ◌+◌, List, length}
+use Rattle.relay_model.specs.declared.places.Place.{Place}
+use Rattle.relay_model.specs.Holding.{Free}
 use Rattle.desk_places.specs.declared.ports.Ports.{Ports}
 use Rattle.desk_places.specs.declared.stations.Station.{Station}
 use Rattle.desk_places.specs.PlaceBases.{SameBases}
-use Rattle.desk_places.specs.Standing.{IsSound}
-use Rattle.desk_places.specs.Stations.{base_at}
+use Rattle.desk_places.specs.Standing.{HasVacancy, IsSound}
+use Rattle.desk_places.specs.Stations.{StationTable, base_at, hold_at}
+
+-- the place is free, and there is room to hold it on one port more
+pub record CanTakeIn {A B C D E : Type 0} (place : Place) (stations : StationTable) (ports : Ports A B C D E) : Type 0 where
+  pub free : hold_at stations.entries place ≡ Free
+  pub spare : 0 < stations.spare
+  pub vacancy : HasVacancy ports.table.made ports.listed
+
+-- nothing has changed but which ports are listed
+pub record SameButListed {A B C D E : Type 0} (before now : Ports A B C D E) : Type 0 where
+  pub table : now.table ≡ before.table
+  pub maker : now.maker ≡ before.maker
+  pub parents : now.parents ≡ before.parents
+  pub covered : now.listed.covered ≡ before.listed.covered
 
 -- at most one place more is held, each stands on a port of its own as before, and no port is kept without its place
 pub record TakesOne {A B C D E : Type 0} (stations stations' : List Station) (before now : Ports A B C D E) : Type 0 where

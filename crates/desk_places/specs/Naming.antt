@@ -1,10 +1,12 @@
 -- What a turn is to name: halves whose key a poller named, and disarmed ones whose port hints that they are ready.
-use Rattle.std.specs.Prelude.{◌≡◌, ◌≤◌, ◌⊎◌, ℕ, Bool, true, List, [], ◌∷◌, length, slice_get, Option, None, Some, IfSome, ⊤}
+use Rattle.std.specs.Prelude.{◌≡◌, ◌≤◌, ◌⊎◌, ℕ, Bool, true, false, List, [], ◌∷◌, length, slice_get, Option, None, Some, IfSome, ⊤}
 use Rattle.relay_model.specs.declared.places.Place.{Place}
 use Rattle.relay_model.specs.declared.places.Half.{Half}
 use Rattle.relay_model.specs.declared.places.Half.TheVariants.{ToRead, ToWrite}
 use Rattle.relay_model.specs.declared.readiness.ReadyAt.{ReadyAt}
-use Rattle.relay_model.specs.Readiness.{names}
+use Rattle.relay_model.specs.Holding.{Hold, is_free}
+use Rattle.relay_model.specs.Readiness.{Listed, names}
+use Rattle.world_trait.specs.Answers.{NamesHeld}
 use Rattle.port_trait.specs.declared.answers.Hint.{Hint}
 use Rattle.slab.specs.Slab.{SameValues, Slab, get}
 use Rattle.port_table.specs.Bases.{is_standard}
@@ -15,7 +17,7 @@ use Rattle.port_table.specs.declared.bases.Base.TheVariants as bases
 use Rattle.port_table.specs.declared.table.PortTable.{PortTable}
 use Rattle.desk_places.specs.declared.ports.Ports.{Ports}
 use Rattle.desk_places.specs.declared.stations.Station.{Station}
-use Rattle.desk_places.specs.Stations.{base_at, half_disarmed, station_at}
+use Rattle.desk_places.specs.Stations.{base_at, half_disarmed, hold_at, station_at}
 
 -- the hint that each port of the table tells
 abbrev pub told_by : {T I O E : Type 0} → PortTable T I O E → PortId → Option Hint
@@ -110,6 +112,26 @@ IsDue keys told stations p half = IsKeyed keys stations p half ⊎ MayHint told 
 abbrev pub NamesOnly : List (ℕ × Half) → (PortId → Option Hint) → List Station → List ReadyAt → Type 0
 NamesOnly keys told stations [] = ⊤
 NamesOnly keys told stations (e ∷ ready) = IsDue keys told stations e.place e.half × NamesOnly keys told stations ready
+
+-- the list has room for what a turn names, and each half in it is of a held place
+pub record CanName (stations : List Station) (ready : Listed) : Type 0 where
+  pub room : 256 ≤ ready.room
+  pub held : NamesHeld (hold_at stations) ready.entries
+
+-- halves of this place were named, and what was named stays so
+pub record NamesAt (place : Place) (before now : Listed) : Type 0 where
+  pub room : now.room ≡ before.room
+  pub grown : Grown before.entries now.entries
+  pub held : (hold : Place → Hold) → is_free (hold place) ≡ false → NamesHeld hold before.entries → NamesHeld hold now.entries
+
+-- halves of held places were named that are due, what was named stays so, and of the ports nothing has changed but where
+-- the made ones lie
+pub record NamesMore {A B C D E : Type 0} (stations : List Station) (ports ports' : Ports A B C D E) (before now : Listed) : Type 0 where
+  pub room : now.room ≡ before.room
+  pub grown : Grown before.entries now.entries
+  pub only : (keys : List (ℕ × Half)) → NamesOnly keys (told_by ports.table) stations before.entries → NamesOnly keys (told_by ports.table) stations now.entries
+  pub held : NamesHeld (hold_at stations) now.entries
+  pub same : SamePorts ports ports'
 
 -- of a station the halves are named that are disarmed and that the hint finds ready, and no others
 abbrev pub HintsOnly : Station → Hint → List ReadyAt → List ReadyAt → Type 0

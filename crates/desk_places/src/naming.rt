@@ -1,7 +1,6 @@
 // What a turn names: halves that hint so, and those whose key was named.
 ghost use Rattle.std.specs.Prelude.{◌≡◌, ◌≤◌, ◌<◌, ◌+◌, ◌&&◌, ℕ, not, true, false, List, Option, Some, [], length, slice_get, IfSome};
 ghost use Rattle.slab.specs.Slab.{Slab, get};
-ghost use Rattle.relay_model.specs.Holding.{Hold, is_free};
 ghost use Rattle.relay_model.specs.Readiness.{names};
 ghost use Rattle.relay_model.specs.declared.places.Half.{Half};
 ghost use Rattle.relay_model.specs.declared.places.Place.{Place};
@@ -13,7 +12,7 @@ ghost use Rattle.desk_places.specs.declared.stations.Station.{Station};
 ghost use Rattle.desk_places.specs.Standing.{IsSound};
 ghost use Rattle.desk_places.specs.Keys.{KeyTable};
 ghost use Rattle.desk_places.specs.Stations.{SameStanding, SameHold, hold_at, is_disarmed, station_at};
-ghost use Rattle.desk_places.specs.Naming.{Grown, HintNamed, HintsOnly, IsDue, IsNamed, KeyNamed, NamesHinting, NamesKeyed, NamesListed, NamesOnly, NamesStandard, PlaceNamed, SamePorts, StationNamed, told_by};
+ghost use Rattle.desk_places.specs.Naming.{CanName, Grown, HintNamed, HintsOnly, IsDue, IsNamed, KeyNamed, NamesAt, NamesHinting, NamesKeyed, NamesListed, NamesMore, NamesOnly, NamesStandard, PlaceNamed, SamePorts, StationNamed, told_by};
 
 use crate::ports::Ports;
 use crate::stations::{Station, Stations};
@@ -23,16 +22,13 @@ use relay_model::{Half, Place, ReadyAt, ReadyList};
 /// Names the half, unless the list is full.
 fn name(ready: &mut ReadyList, place: Place, half: Half)
     requires { 256 ≤ ready.old.room }
-    ensures room { ready.new.room ≡ ready.old.room }
+    ensures list { NamesAt place ready.old ready.new }
     ensures named { IsNamed ready.new.entries place half }
     ensures fits { length ready.old.entries < 256 → names ready.new.entries place half ≡ true }
     ensures most { length ready.new.entries ≤ length ready.old.entries + 1 }
-    ensures grown { Grown ready.old.entries ready.new.entries }
     ensures only { (keys : List (ℕ × Half)) (told : PortId → Option Hint) (stations : List Station)
         → IsDue keys told stations place half → NamesOnly keys told stations ready.old.entries
         → NamesOnly keys told stations ready.new.entries }
-    ensures held { (hold : Place → Hold) → is_free (hold place) ≡ false → NamesHeld hold ready.old.entries
-        → NamesHeld hold ready.new.entries }
 {
     ready.push(ReadyAt { place, half });
 }
@@ -40,12 +36,9 @@ fn name(ready: &mut ReadyList, place: Place, half: Half)
 /// Names the halves of the station that are disarmed and that the hint finds ready.
 fn name_hinted(station: Station, hint: Hint, ready: &mut ReadyList)
     requires { 256 ≤ ready.old.room }
-    ensures room { ready.new.room ≡ ready.old.room }
+    ensures list { NamesAt station.place ready.old ready.new }
     ensures named { HintNamed station hint ready.new.entries }
-    ensures grown { Grown ready.old.entries ready.new.entries }
     ensures only { HintsOnly station hint ready.old.entries ready.new.entries }
-    ensures held { (hold : Place → Hold) → is_free (hold station.place) ≡ false → NamesHeld hold ready.old.entries
-        → NamesHeld hold ready.new.entries }
 {
     if station.reading_disarmed && hint.readable {
         name(ready, station.place, Half::ToRead);
@@ -63,14 +56,11 @@ fn name_station<M: Maker + Drop, I: Port, O: Port, E: Port>(
     ready: &mut ReadyList,
 )
     requires { 256 ≤ ready.old.room }
-    ensures room { ready.new.room ≡ ready.old.room }
+    ensures list { NamesAt station.place ready.old ready.new }
     ensures named { StationNamed (told_by ports.old.table) station ready.new.entries }
-    ensures grown { Grown ready.old.entries ready.new.entries }
     ensures only { (keys : List (ℕ × Half)) (stations : List Station) → station_at stations station.place ≡ Some station
         → NamesOnly keys (told_by ports.old.table) stations ready.old.entries
         → NamesOnly keys (told_by ports.old.table) stations ready.new.entries }
-    ensures held { (hold : Place → Hold) → is_free (hold station.place) ≡ false → NamesHeld hold ready.old.entries
-        → NamesHeld hold ready.new.entries }
     ensures same { SamePorts ports.old ports.new }
 {
     if !station.reading_disarmed && !station.writing_disarmed {
@@ -87,15 +77,9 @@ fn name_place<M: Maker + Drop, I: Port, O: Port, E: Port>(
     place: Place,
     ready: &mut ReadyList,
 )
-    requires room { 256 ≤ ready.old.room }
-    requires held { NamesHeld (hold_at stations.now.entries) ready.old.entries }
-    ensures room { ready.new.room ≡ ready.old.room }
+    requires { CanName stations.now.entries ready.old }
     ensures named { PlaceNamed (told_by ports.old.table) stations.now.entries place ready.new.entries }
-    ensures grown { Grown ready.old.entries ready.new.entries }
-    ensures only { (keys : List (ℕ × Half)) → NamesOnly keys (told_by ports.old.table) stations.now.entries ready.old.entries
-        → NamesOnly keys (told_by ports.old.table) stations.now.entries ready.new.entries }
-    ensures held { NamesHeld (hold_at stations.now.entries) ready.new.entries }
-    ensures same { SamePorts ports.old ports.new }
+    ensures list { NamesMore stations.now.entries ports.old ports.new ready.old ready.new }
 {
     if let Some(station) = stations.find(place) {
         name_station(ports, station, ready);
@@ -108,18 +92,12 @@ fn name_standard<M: Maker + Drop, I: Port, O: Port, E: Port>(
     stations: &Stations,
     ready: &mut ReadyList,
 )
-    requires room { 256 ≤ ready.old.room }
-    requires held { NamesHeld (hold_at stations.now.entries) ready.old.entries }
-    ensures room { ready.new.room ≡ ready.old.room }
+    requires { CanName stations.now.entries ready.old }
     ensures named { NamesStandard (told_by ports.old.table) stations.now.entries ready.new.entries }
-    ensures grown { Grown ready.old.entries ready.new.entries }
-    ensures only { (keys : List (ℕ × Half)) → NamesOnly keys (told_by ports.old.table) stations.now.entries ready.old.entries
-        → NamesOnly keys (told_by ports.old.table) stations.now.entries ready.new.entries }
-    ensures held { NamesHeld (hold_at stations.now.entries) ready.new.entries }
-    ensures same { SamePorts ports.old ports.new }
+    ensures list { NamesMore stations.now.entries ports.old ports.new ready.old ready.new }
 {
-    for i in 0..stations.asked_len() {
-        name_place(ports, stations, stations.asked(i), ready);
+    for i in 0..stations.listed_len() {
+        name_place(ports, stations, stations.listed_place(i), ready);
     }
 }
 
@@ -130,16 +108,10 @@ fn name_made<M: Maker + Drop, I: Port, O: Port, E: Port>(
     key: usize,
     ready: &mut ReadyList,
 )
-    requires room { 256 ≤ ready.old.room }
-    requires held { NamesHeld (hold_at stations.now.entries) ready.old.entries }
-    ensures room { ready.new.room ≡ ready.old.room }
+    requires { CanName stations.now.entries ready.old }
     ensures named { IfSome (place_of (get ports.old.table.made key))
         (λ place. PlaceNamed (told_by ports.old.table) stations.now.entries place ready.new.entries) }
-    ensures grown { Grown ready.old.entries ready.new.entries }
-    ensures only { (keys : List (ℕ × Half)) → NamesOnly keys (told_by ports.old.table) stations.now.entries ready.old.entries
-        → NamesOnly keys (told_by ports.old.table) stations.now.entries ready.new.entries }
-    ensures held { NamesHeld (hold_at stations.now.entries) ready.new.entries }
-    ensures same { SamePorts ports.old ports.new }
+    ensures list { NamesMore stations.now.entries ports.old ports.new ready.old ready.new }
 {
     if let Some(place) = ports.table.place_of(key) {
         name_place(ports, stations, place, ready);
@@ -152,16 +124,10 @@ fn name_listed<M: Maker + Drop, I: Port, O: Port, E: Port>(
     stations: &Stations,
     ready: &mut ReadyList,
 )
-    requires room { 256 ≤ ready.old.room }
-    requires held { NamesHeld (hold_at stations.now.entries) ready.old.entries }
-    ensures room { ready.new.room ≡ ready.old.room }
+    requires { CanName stations.now.entries ready.old }
     ensures named { NamesListed (told_by ports.old.table) stations.now.entries ports.old.table.made ports.old.listed.keys
         ready.new.entries }
-    ensures grown { Grown ready.old.entries ready.new.entries }
-    ensures only { (keys : List (ℕ × Half)) → NamesOnly keys (told_by ports.old.table) stations.now.entries ready.old.entries
-        → NamesOnly keys (told_by ports.old.table) stations.now.entries ready.new.entries }
-    ensures held { NamesHeld (hold_at stations.now.entries) ready.new.entries }
-    ensures same { SamePorts ports.old ports.new }
+    ensures list { NamesMore stations.now.entries ports.old ports.new ready.old ready.new }
 {
     for i in 0..ports.listed.len() {
         let key = ports.listed.get(i);
@@ -175,16 +141,10 @@ pub fn name_hinting<M: Maker + Drop, I: Port, O: Port, E: Port>(
     stations: &Stations,
     ready: &mut ReadyList,
 )
-    requires room { 256 ≤ ready.old.room }
-    requires held { NamesHeld (hold_at stations.now.entries) ready.old.entries }
+    requires list { CanName stations.now.entries ready.old }
     requires sound { IsSound stations.now.entries ports.old.table.made ports.old.listed }
-    ensures room { ready.new.room ≡ ready.old.room }
     ensures named { NamesHinting (told_by ports.old.table) stations.now.entries ready.new.entries }
-    ensures grown { Grown ready.old.entries ready.new.entries }
-    ensures only { (keys : List (ℕ × Half)) → NamesOnly keys (told_by ports.old.table) stations.now.entries ready.old.entries
-        → NamesOnly keys (told_by ports.old.table) stations.now.entries ready.new.entries }
-    ensures held { NamesHeld (hold_at stations.now.entries) ready.new.entries }
-    ensures same { SamePorts ports.old ports.new }
+    ensures list { NamesMore stations.now.entries ports.old ports.new ready.old ready.new }
 {
     name_standard(ports, stations, ready);
     name_listed(ports, stations, ready);
@@ -198,9 +158,8 @@ fn name_key<M: Maker + Drop, I: Port, O: Port, E: Port>(
     half: Half,
     ready: &mut ReadyList,
 )
-    requires room { 256 ≤ ready.old.room }
+    requires list { CanName stations.now.entries ready.old }
     requires fits { length ready.old.entries < 256 }
-    requires held { NamesHeld (hold_at stations.now.entries) ready.old.entries }
     requires sound { IsSound stations.now.entries ports.now.table.made ports.now.listed }
     ensures room { ready.new.room ≡ ready.old.room }
     ensures named { KeyNamed (key, half) stations.now.entries ready.new.entries }

@@ -18,7 +18,7 @@ ghost use Rattle.port_table.specs.Answers.{GotFits, SaidSo, TookFits, is_got_not
 ghost use Rattle.desk_places.specs.Changes.{AcceptsMade, BeginsMade, DropsFirst, ListensMade, OpensAt, OpensMade, WelcomesMade, HeldAfter, HeldSo, LeavesParent, LeftSo, ReapsKept, SettledAt, is_finished, joined_answer, made_at, shut_answer};
 ghost use Rattle.desk_places.specs.PlaceBases.{AcceptsOn, BeginsOn, Leaves, ListensOn, OpensOn, SettlesOn};
 ghost use Rattle.desk_places.specs.Standing.{HasVacancy, IsSound, IsSoundBut};
-ghost use Rattle.desk_places.specs.Keeping.{KeepsPlaces, TakesOne};
+ghost use Rattle.desk_places.specs.Keeping.{CanTakeIn, KeepsPlaces, SameButListed, TakesOne};
 ghost use Rattle.desk_places.specs.Keys.{is_in};
 ghost use Rattle.desk_places.specs.Marks.{AcceptMarks, BeginMarks, ListenMarks, MarksPlace, OpenMarks, SettleMarks};
 ghost use Rattle.desk_places.specs.declared.stations.Station.{Station};
@@ -107,10 +107,7 @@ impl<M: Maker + Drop, I: Port, O: Port, E: Port> Ports<M, I, O, E> {
     fn list(&mut self, stations: &Stations, place: Place)
         ensures sound { IsSoundBut place stations.now.entries self.old.table.made self.old.listed
             → IsSound stations.now.entries self.new.table.made self.new.listed }
-        ensures table { self.new.table ≡ self.old.table }
-        ensures maker { self.new.maker ≡ self.old.maker }
-        ensures parents { self.new.parents ≡ self.old.parents }
-        ensures covered { self.new.listed.covered ≡ self.old.listed.covered }
+        ensures rest { SameButListed self.old self.new }
     {
         if let Some(station) = stations.find(place) {
             self.list_held(station);
@@ -122,10 +119,7 @@ impl<M: Maker + Drop, I: Port, O: Port, E: Port> Ports<M, I, O, E> {
         ensures sound { (stations : List Station) → station_at stations station.place ≡ Some station
             → IsSoundBut station.place stations self.old.table.made self.old.listed
             → IsSound stations self.new.table.made self.new.listed }
-        ensures table { self.new.table ≡ self.old.table }
-        ensures maker { self.new.maker ≡ self.old.maker }
-        ensures parents { self.new.parents ≡ self.old.parents }
-        ensures covered { self.new.listed.covered ≡ self.old.listed.covered }
+        ensures rest { SameButListed self.old self.new }
     {
         let Some(key) = station.base.made_key() else {
             return;
@@ -151,10 +145,7 @@ impl<M: Maker + Drop, I: Port, O: Port, E: Port> Ports<M, I, O, E> {
         ensures held { SameHold (hold_at stations.old.entries) (hold_at stations.new.entries) }
         ensures standing { SameStanding stations.old.entries stations.new.entries }
         ensures len { length stations.new.entries ≡ length stations.old.entries }
-        ensures table { self.new.table ≡ self.old.table }
-        ensures maker { self.new.maker ≡ self.old.maker }
-        ensures parents { self.new.parents ≡ self.old.parents }
-        ensures covered { self.new.listed.covered ≡ self.old.listed.covered }
+        ensures rest { SameButListed self.old self.new }
     {
         let marked = stations.mark_held(station, half, disarmed);
         self.list_held(marked);
@@ -169,10 +160,7 @@ impl<M: Maker + Drop, I: Port, O: Port, E: Port> Ports<M, I, O, E> {
         ensures held { SameHold (hold_at stations.old.entries) (hold_at stations.new.entries) }
         ensures standing { SameStanding stations.old.entries stations.new.entries }
         ensures len { length stations.new.entries ≡ length stations.old.entries }
-        ensures table { self.new.table ≡ self.old.table }
-        ensures maker { self.new.maker ≡ self.old.maker }
-        ensures parents { self.new.parents ≡ self.old.parents }
-        ensures covered { self.new.listed.covered ≡ self.old.listed.covered }
+        ensures rest { SameButListed self.old self.new }
     {
         stations.mark(place, half, disarmed);
         self.list(stations, place);
@@ -186,9 +174,7 @@ impl<M: Maker + Drop, I: Port, O: Port, E: Port> Ports<M, I, O, E> {
         port: M::Made,
         settling: bool,
     ) -> Begun
-        requires free { hold_at stations.old.entries place ≡ Free }
-        requires stations_room { 0 < stations.old.spare }
-        requires made_room { HasVacancy self.old.table.made self.old.listed }
+        requires { CanTakeIn place stations.old self.old }
         ensures cause { BeginCause M.Made.seen port result }
         ensures made { BeginsMade M.Made.seen port place (base_at stations.new.entries place) result self.old.table.made
             self.new.table.made }
@@ -206,7 +192,7 @@ impl<M: Maker + Drop, I: Port, O: Port, E: Port> Ports<M, I, O, E> {
             Begun::Memory => return Begun::Memory,
         }
         let base = Base::Made(self.table.insert(PortEntry::new(place, begun)));
-        stations.add(Station::begun(place, base, settling));
+        stations.add(Station::after_opening(place, base, settling));
         self.list(stations, place);
         Begun::Begun
     }
@@ -219,9 +205,7 @@ impl<M: Maker + Drop, I: Port, O: Port, E: Port> Ports<M, I, O, E> {
         single: &Single,
         behind: Option<Peer>,
     ) -> OpenAnswer
-        requires free { hold_at stations.old.entries place ≡ Free }
-        requires stations_room { 0 < stations.old.spare }
-        requires made_room { HasVacancy self.old.table.made self.old.listed }
+        requires { CanTakeIn place stations.old self.old }
         ensures standard { IfSome (standard_of place single.now.target)
             (λ base. StandardCause (StreamFailed self.old.table self.new.table) result) }
         ensures made { IfNone (standard_of place single.now.target)
@@ -279,9 +263,7 @@ impl<M: Maker + Drop, I: Port, O: Port, E: Port> Ports<M, I, O, E> {
         single: &Single,
         behind: Option<Peer>,
     ) -> OpenAnswer
-        requires free { hold_at stations.old.entries place ≡ Free }
-        requires stations_room { 0 < stations.old.spare }
-        requires made_room { HasVacancy self.old.table.made self.old.listed }
+        requires { CanTakeIn place stations.old self.old }
         ensures cause { OpenCause (M.makes self.old.maker (asking place single.now behind) self.new.maker) M.Made.seen (M.seen self.old.maker)
             (M.seen self.new.maker) result }
         ensures asked { AskedFor place single.now behind (M.seen self.new.maker).asked }
@@ -328,7 +310,7 @@ impl<M: Maker + Drop, I: Port, O: Port, E: Port> Ports<M, I, O, E> {
         ensures room { length stations.new.entries + vec_len self.new.parents ≤ length stations.old.entries + vec_len self.old.parents }
         ensures capacity { vec_capacity self.new.parents ≡ vec_capacity self.old.parents }
     {
-        let station = stations.held(place);
+        let station = stations.station_of(place);
         match self.table.settle(station.base) {
             Settled::Ready => {
                 stations.replace(Station::open(place, station.base));
@@ -336,7 +318,7 @@ impl<M: Maker + Drop, I: Port, O: Port, E: Port> Ports<M, I, O, E> {
                 OpenAnswer::Opened
             }
             Settled::NotYet => {
-                stations.replace(Station::settling(place, station.base));
+                stations.replace(Station::new_settling(place, station.base));
                 self.list(stations, place);
                 OpenAnswer::Later
             }
@@ -349,9 +331,7 @@ impl<M: Maker + Drop, I: Port, O: Port, E: Port> Ports<M, I, O, E> {
 
     /// Listens at the door. The room was made before.
     pub fn listen(&mut self, stations: &mut Stations, door: Place, single: &Single) -> ListenAnswer
-        requires free { hold_at stations.old.entries door ≡ Free }
-        requires stations_room { 0 < stations.old.spare }
-        requires made_room { HasVacancy self.old.table.made self.old.listed }
+        requires { CanTakeIn door stations.old self.old }
         ensures cause { ListenCause (M.listens self.old.maker single.now self.new.maker) M.Made.seen (M.seen self.old.maker)
             (M.seen self.new.maker) result }
         ensures came { (M.seen self.new.maker).came ≡ (M.seen self.old.maker).came }
@@ -380,9 +360,7 @@ impl<M: Maker + Drop, I: Port, O: Port, E: Port> Ports<M, I, O, E> {
     /// on a standard stream there is no peer, and no memory for one either.
     pub fn accept(&mut self, stations: &mut Stations, door: Place, place: Place) -> AcceptAnswer
         requires door { hold_at stations.old.entries door ≡ Open }
-        requires free { hold_at stations.old.entries place ≡ Free }
-        requires stations_room { 0 < stations.old.spare }
-        requires made_room { HasVacancy self.old.table.made self.old.listed }
+        requires room { CanTakeIn place stations.old self.old }
         ensures cause { AcceptCause (M.accepts self.old.maker self.new.maker) M.Made.seen (M.seen self.old.maker)
             (M.seen self.new.maker) result }
         ensures streams { SameStreams self.old.table self.new.table }
@@ -395,7 +373,7 @@ impl<M: Maker + Drop, I: Port, O: Port, E: Port> Ports<M, I, O, E> {
         ensures kept { TakesOne stations.old.entries stations.new.entries self.old self.new }
         ensures held { HeldAfter (accept_act door place result) (hold_at stations.old.entries) (hold_at stations.new.entries) }
     {
-        let station = stations.held(door);
+        let station = stations.station_of(door);
         let Some(door_key) = station.base.made_key() else {
             return AcceptAnswer::Memory;
         };
@@ -425,9 +403,7 @@ impl<M: Maker + Drop, I: Port, O: Port, E: Port> Ports<M, I, O, E> {
         port: M::Made,
         peer: Peer,
     ) -> AcceptAnswer
-        requires free { hold_at stations.old.entries place ≡ Free }
-        requires stations_room { 0 < stations.old.spare }
-        requires made_room { HasVacancy self.old.table.made self.old.listed }
+        requires { CanTakeIn place stations.old self.old }
         ensures cause { WelcomeCause M.Made.seen port peer result }
         ensures maker { self.new.maker ≡ self.old.maker }
         ensures streams { SameStreams self.old.table self.new.table }
@@ -465,7 +441,7 @@ impl<M: Maker + Drop, I: Port, O: Port, E: Port> Ports<M, I, O, E> {
         ensures kept { KeepsPlaces stations.old.entries stations.new.entries self.old self.new }
         ensures held { SameHold (hold_at stations.old.entries) (hold_at stations.new.entries) }
     {
-        let station = stations.held(place);
+        let station = stations.station_of(place);
         let got = self.table.read(station.base, into);
         self.mark_held(stations, place, station, Half::ToRead, gave_not_yet(got));
         got
@@ -485,7 +461,7 @@ impl<M: Maker + Drop, I: Port, O: Port, E: Port> Ports<M, I, O, E> {
         ensures kept { KeepsPlaces stations.old.entries stations.new.entries self.old self.new }
         ensures held { SameHold (hold_at stations.old.entries) (hold_at stations.new.entries) }
     {
-        let station = stations.held(place);
+        let station = stations.station_of(place);
         let took = self.table.write(station.base, bytes);
         self.mark_held(stations, place, station, Half::ToWrite, took_not_yet(took));
         took
@@ -504,7 +480,7 @@ impl<M: Maker + Drop, I: Port, O: Port, E: Port> Ports<M, I, O, E> {
         ensures kept { KeepsPlaces stations.old.entries stations.new.entries self.old self.new }
         ensures held { SameHold (hold_at stations.old.entries) (hold_at stations.new.entries) }
     {
-        let station = stations.held(place);
+        let station = stations.station_of(place);
         let took = self.table.send(station.base, bytes);
         self.mark_held(stations, place, station, Half::ToWrite, took_not_yet(took));
         took
@@ -521,7 +497,7 @@ impl<M: Maker + Drop, I: Port, O: Port, E: Port> Ports<M, I, O, E> {
             (station_at stations.old.entries) (station_at stations.new.entries) }
         ensures held { HeldAfter (shut_act place how (shut_answer result)) (hold_at stations.old.entries) (hold_at stations.new.entries) }
     {
-        let station = stations.held(place);
+        let station = stations.station_of(place);
         let answer = self.table.shut(station.base, how);
         stations.replace(Station {
             place,
@@ -557,7 +533,7 @@ impl<M: Maker + Drop, I: Port, O: Port, E: Port> Ports<M, I, O, E> {
         ensures fewer { length stations.new.entries + 1 ≤ length stations.old.entries }
         ensures capacity { vec_capacity self.new.parents ≡ vec_capacity self.old.parents }
     {
-        let station = stations.held(place);
+        let station = stations.station_of(place);
         let joined = station.finished && is_finished(why);
         self.leave(stations, place, station.base, joined)
     }

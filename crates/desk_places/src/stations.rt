@@ -50,7 +50,7 @@ impl Station {
     }
 
     /// A place on this base whose opening is under way.
-    pub fn settling(place: Place, base: Base) -> Station
+    pub fn new_settling(place: Place, base: Base) -> Station
         ensures { result
             ≡ record {
               place = place;
@@ -71,14 +71,14 @@ impl Station {
     }
 
     /// A place on this base, whose opening is under way or not.
-    pub fn begun(place: Place, base: Base, settling: bool) -> Station
+    pub fn after_opening(place: Place, base: Base, settling: bool) -> Station
         ensures place { result.place ≡ place }
         ensures base { result.base ≡ base }
         ensures stands { hold_by (Some result) ≡ (if settling then Settling else Open) }
         ensures marked { (result.reading_disarmed ≡ settling) × (result.writing_disarmed ≡ settling) }
     {
         if settling {
-            return Station::settling(place, base);
+            return Station::new_settling(place, base);
         }
         Station::open(place, base)
     }
@@ -153,7 +153,7 @@ impl Stations {
     }
 
     /// How many places are listed, among them each held one on standard streams.
-    pub fn asked_len(&self) -> usize
+    pub fn listed_len(&self) -> usize
         ensures len { result ≡ length self.now.asked }
         ensures listed { AreListed self.now.entries self.now.asked }
     {
@@ -161,7 +161,7 @@ impl Stations {
     }
 
     /// The listed place at `i`, counted from 0.
-    pub fn asked(&self, i: usize) -> Place
+    pub fn listed_place(&self, i: usize) -> Place
         requires { i < length self.now.asked }
         ensures { slice_get self.now.asked i ≡ Some result }
     {
@@ -188,7 +188,7 @@ impl Stations {
     }
 
     /// The station of a place that is held.
-    pub fn held(&self, place: Place) -> Station
+    pub fn station_of(&self, place: Place) -> Station
         requires { is_free (hold_at self.now.entries place) ≡ false }
         ensures { station_at self.now.entries place ≡ Some result }
     {

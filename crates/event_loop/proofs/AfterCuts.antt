@@ -5,7 +5,7 @@ use Rattle.relay_model.specs.declared.acts.Act.{Act}
 use Rattle.relay_model.specs.declared.acts.Why.{Why}
 use Rattle.relay_model.specs.Readiness.{Listed}
 use Rattle.relay_model.specs.History.{turns}
-use Rattle.session_loop.specs.Ended.{Ended}
+use Rattle.session_loop.specs.Ended.{HasRunEnded}
 use Rattle.exit_status.specs.declared.outcomes.Outcome.{Outcome}
 use Rattle.fork_table.specs.Tables.{row_of}
 use Rattle.world_trait.specs.Seen.{Seen}
@@ -47,12 +47,12 @@ after_stop c n start now before first mid answer old ticks new heard looks l =
     after_looks c n start now before first mid answer old ticks new heard.same.same.made_same (λ s. same_heard first.made first.clock first.ready (row_of first.table s) (row_of mid.table s) (heard.rows s)) looks l
 
 -- the acts of the sessions, and those of the door
-pub left_two : (c : Config) (n : ℕ) (start now : Seen) (before : List Act) (first : Sessions) (answer : Outcome) (old new : ℕ) (one two : List Act) → Ended c n start now (two ++ (one ++ before)) answer → turns (two ++ (one ++ before)) ≡ first.made → ((k : ℕ) → rows_below first k ≤ length one) → new ≤ old + length one → LeftAt c n start now before first answer old new
+pub left_two : (c : Config) (n : ℕ) (start now : Seen) (before : List Act) (first : Sessions) (answer : Outcome) (old new : ℕ) (one two : List Act) → HasRunEnded c n start now (two ++ (one ++ before)) answer → turns (two ++ (one ++ before)) ≡ first.made → ((k : ℕ) → rows_below first k ≤ length one) → new ≤ old + length one → LeftAt c n start now before first answer old new
 left_two c n start now before first answer old new one two e t each few =
     let s = length-append two one in
     record {
       made = two ++ one;
-      ended = subst (λ (xs : List Act). Ended c n start now xs answer) (sym (append_assoc two one before)) e;
+      ended = subst (λ (xs : List Act). HasRunEnded c n start now xs answer) (sym (append_assoc two one before)) e;
       turned_is = ap turns (append_assoc two one before) ∙ t;
       each = λ k. (let h = each k in omega (arith, h, s));
       few = omega (arith, few, s);

@@ -19,7 +19,7 @@ use Rattle.event_loop.specs.declared.all_sessions.Sessions.{Sessions}
 use Rattle.event_loop.specs.Births.{Forks}
 use Rattle.event_loop.specs.declared.all_sessions.Row.{Row}
 use Rattle.event_loop.specs.Rows.{RowIs}
-use Rattle.event_loop.specs.Courses.{Course, timer_of}
+use Rattle.event_loop.specs.Courses.{SessionsCourse, timer_of}
 
 nil_right : {A : Type 0} (xs : List A) → xs ++ [] ≡ xs
 nil_right [] = refl
@@ -32,7 +32,7 @@ told_nothing (Some h) = ap (λ xs. Some (record { acts = h.acts; asked = xs })) 
 no_row_yet : (c : Config) (n : ℕ) (s : ℕ) (work : List ℕ) (timer : Option ℕ) (row : Option Row) → row ≡ None → timer ≡ None → RowIs c n [] s work timer row
 no_row_yet c n s work timer row e t = subst (RowIs c n [] s work timer) (sym e) (λ b. absurd (omega (arith, b)), t)
 
-pub begun : (c : Config) (n : ℕ) (start : Seen) (sessions : Sessions) → Forks c → DoorStands c [] sessions.door → sessions.pending_session ≡ None → sessions.clock ≡ 0 → sessions.made ≡ 0 → c.block ≤ vec_len sessions.scratch → sessions.table.admitted ≡ 0 → sessions.table.max_children ≡ (door_options c).sessions.max_children → sessions.table.stop_after ≡ (door_options c).sessions.stop_after → ((s : ℕ) → row_of sessions.table s ≡ None) → sessions.timers.moments ≡ empty → ((p : Place) → start.held p ≡ Free) → Course c n start start [] sessions
+pub begun : (c : Config) (n : ℕ) (start : Seen) (sessions : Sessions) → Forks c → DoorStands c [] sessions.door → sessions.pending_session ≡ None → sessions.clock ≡ 0 → sessions.made ≡ 0 → c.block ≤ vec_len sessions.scratch → sessions.table.admitted ≡ 0 → sessions.table.max_children ≡ (door_options c).sessions.max_children → sessions.table.stop_after ≡ (door_options c).sessions.stop_after → ((s : ℕ) → row_of sessions.table s ≡ None) → sessions.timers.moments ≡ empty → ((p : Place) → start.held p ≡ Free) → SessionsCourse c n start start [] sessions
 begun c n start sessions forks door eu ec em room ea eb es rows et free = record {
   frame = record {
     fork = forks.fork;

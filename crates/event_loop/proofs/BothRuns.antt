@@ -27,9 +27,9 @@ use Rattle.event_loop.specs.declared.steps.Step.{Step}
 use Rattle.event_loop.specs.declared.steps.Step.TheVariants.{Goes, Over}
 use Rattle.event_loop.specs.declared.one.OneSession.{OneSession}
 use Rattle.event_loop.specs.declared.many.ManySessions.{ManySessions}
-use Rattle.event_loop.specs.declared.courses.Course.{Course}
-use Rattle.event_loop.specs.declared.courses.Course.TheVariants.{One, Many}
-use Rattle.event_loop.specs.Loops.{CallPaid, Called, CountsWaits, HasEnded, IsCourse, AreSessions, IsMany, IsOne, IsToEnd, WentOn, is_late}
+use Rattle.event_loop.specs.declared.courses.LoopCourse.{LoopCourse}
+use Rattle.event_loop.specs.declared.courses.LoopCourse.TheVariants.{One, Many}
+use Rattle.event_loop.specs.Loops.{CallPaid, Called, CountsWaits, HasEnded, IsCourse, AreSessions, IsMany, IsOne, IsToEnd, LoopWentOn, is_late}
 
 -- ---- commands
 
@@ -55,7 +55,7 @@ happened_sessions : (c : Config) (n : ℕ) (start now : Seen) (past : List Act) 
 happened_sessions c n start now past sessions None is = several.happened c n start now past is.0.frame.fork is.0.frame.run
 happened_sessions c n start now past sessions (Some end) is = happened_end c n start now past sessions end is
 
-pub happened : (c : Config) (n : ℕ) (start now : Seen) (past : List Act) (course : Course) → IsCourse c n start now past course → Happened c n start now past
+pub happened : (c : Config) (n : ℕ) (start now : Seen) (past : List Act) (course : LoopCourse) → IsCourse c n start now past course → Happened c n start now past
 happened c n start now past (One one) is = single.happened c n start now one.driver past is.course
 happened c n start now past (Many many) is = happened_sessions c n start now past many.sessions many.end is.sessions
 
@@ -89,7 +89,7 @@ one_more : (k n m : ℕ) → k ≡ n → m ≡ suc n → m ≡ k + 1
 one_more k n m e f = omega (arith, e, f)
 
 -- a turn came, and the run goes on
-pub round_on : (c : Config) (n : ℕ) (start new : Seen) (past : List Act) (before : ℕ) (after : ManySessions) → Fit c → after.end ≡ None → turns past ≡ before → GoesRound c n start new after.sessions → after.sessions.made ≡ suc before → WentOn past (λ since. IsMany c n start new since after)
+pub round_on : (c : Config) (n : ℕ) (start new : Seen) (past : List Act) (before : ℕ) (after : ManySessions) → Fit c → after.end ≡ None → turns past ≡ before → GoesRound c n start new after.sessions → after.sessions.made ≡ suc before → LoopWentOn past (λ since. IsMany c n start new since after)
 round_on c n start new past before after fit going turned r made = record {
   since = Turn r.until r.turned.at r.turned.ready false ∷ r.past;
   stands = record { fit = fit; sessions = subst (AreSessions c n start new (Turn r.until r.turned.at r.turned.ready false ∷ r.past) after.sessions) (sym going) (r.turned.course, r.turned.begins) };
@@ -98,7 +98,7 @@ round_on c n start new past before after fit going turned r made = record {
 }
 
 -- a turn came that says stop
-pub stop_on : (c : Config) (n : ℕ) (start new : Seen) (past : List Act) (before : ℕ) (after : ManySessions) → Fit c → after.end ≡ Some ends.Stops → turns past ≡ before → Stopping c n start new after.sessions → after.sessions.made ≡ suc before → WentOn past (λ since. IsMany c n start new since after)
+pub stop_on : (c : Config) (n : ℕ) (start new : Seen) (past : List Act) (before : ℕ) (after : ManySessions) → Fit c → after.end ≡ Some ends.Stops → turns past ≡ before → Stopping c n start new after.sessions → after.sessions.made ≡ suc before → LoopWentOn past (λ since. IsMany c n start new since after)
 stop_on c n start new past before after fit end turned s made = record {
   since = Turn s.until after.sessions.clock (copied_list after.sessions.ready) true ∷ s.past;
   stands = record { fit = fit; sessions = subst (AreSessions c n start new (Turn s.until after.sessions.clock (copied_list after.sessions.ready) true ∷ s.past) after.sessions) (sym end) (s, refl) };
@@ -107,7 +107,7 @@ stop_on c n start new past before after fit end turned s made = record {
 }
 
 -- a turn came, and then there was no memory
-pub short_on : (c : Config) (n : ℕ) (start new : Seen) (past : List Act) (before : ℕ) (after : ManySessions) → Fit c → after.end ≡ Some ends.Short → turns past ≡ before → ShortAt c n start new after.sessions → after.sessions.made ≡ suc before → WentOn past (λ since. IsMany c n start new since after)
+pub short_on : (c : Config) (n : ℕ) (start new : Seen) (past : List Act) (before : ℕ) (after : ManySessions) → Fit c → after.end ≡ Some ends.Short → turns past ≡ before → ShortAt c n start new after.sessions → after.sessions.made ≡ suc before → LoopWentOn past (λ since. IsMany c n start new since after)
 short_on c n start new past before after fit end turned s made = record {
   since = s.ends.past;
   stands = record { fit = fit; sessions = subst (AreSessions c n start new s.ends.past after.sessions) (sym end) (s, refl) };
@@ -116,7 +116,7 @@ short_on c n start new past before after fit end turned s made = record {
 }
 
 -- a turn came for which the run is to be ended
-pub late_on : (c : Config) (n : ℕ) (start new : Seen) (past : List Act) (before : Sessions) (after : ManySessions) (end : RunEnd) → Fit c → after.end ≡ Some end → is_late end ≡ true → turns past ≡ before.made → RunIs c n start new after.sessions (Some end) → Further n before after.sessions (Some end) → WentOn past (λ since. IsMany c n start new since after)
+pub late_on : (c : Config) (n : ℕ) (start new : Seen) (past : List Act) (before : Sessions) (after : ManySessions) (end : RunEnd) → Fit c → after.end ≡ Some end → is_late end ≡ true → turns past ≡ before.made → RunIs c n start new after.sessions (Some end) → Further n before after.sessions (Some end) → LoopWentOn past (λ since. IsMany c n start new since after)
 late_on c n start new past before after ends.Stops fit e late turned is f = stop_on c n start new past before.made after fit e turned is f.1
 late_on c n start new past before after ends.Short fit e late turned is f = short_on c n start new past before.made after fit e turned is f.1
 late_on c n start new past before after ends.Over fit e late turned is f = absurd (false≢true late)

@@ -36,7 +36,7 @@ use Rattle.session_laws.specs.SessionSets.{IsSaid, MaySay}
 use Rattle.session_loop.specs.Runs.{Run}
 use Rattle.session_driver.proofs.Counting.{unread_owes}
 use Rattle.session_loop.proofs.DrainGoing.{AllCommands, acted_run, idle_run, uncommon}
-use Rattle.event_loop.specs.Closings.{Leaves, SomeLeaves, LeftBy, stayed, closed, acted, LeftTo, LeavesOn, closes}
+use Rattle.event_loop.specs.Closings.{IsLeaving, SomeLeaves, LeftBy, stayed, closed, acted, LeftTo, LeavesOn, closes}
 use Rattle.event_loop.specs.Waited.{OwesAtExit, StopsAt}
 
 -- ---- what is said stays said
@@ -97,7 +97,7 @@ closed_by_child : (c : Config) (past : List Act) (p : Place) (s : ℕ) → p.ses
 closed_by_child c past p s e h u = let k : is_some (closed_why c past s) ≡ true = subst (λ (t : ℕ). is_some (closed_why c past t) ≡ true) e h in false≢true (ap is_some (sym u) ∙ k)
 
 -- where the next call is no closing, one was made before
-wishes_no_closing : (c : Config) (n : ℕ) (start now : Seen) (past : List Act) (s : ℕ) (why : Why) (x : Session) (door : Door) → Leaves c n start now past s why x door → closed_why c past s ≡ None → (wish : Wish) → closes wish ≡ false → Allowed c n past s x.state wish → ⊥
+wishes_no_closing : (c : Config) (n : ℕ) (start now : Seen) (past : List Act) (s : ℕ) (why : Why) (x : Session) (door : Door) → IsLeaving c n start now past s why x door → closed_why c past s ≡ None → (wish : Wish) → closes wish ≡ false → Allowed c n past s x.state wish → ⊥
 wishes_no_closing c n start now past s why x door l u (wishes.Close q w) k a = true≢false k
 wishes_no_closing c n start now past s why x door l u (wishes.Reap p) k a =
     let r = a.0 in
@@ -114,7 +114,7 @@ wishes_no_closing c n start now past s why x door l u (wishes.Send p) k a = uncu
 wishes_no_closing c n start now past s why x door l u (wishes.Shut p how) k a = uncut x.state.ending why l.ending a.1
 wishes_no_closing c n start now past s why x door l u (wishes.Sleep until) k a = uncut x.state.ending why l.ending a.1
 
-said_by : (c : Config) (n : ℕ) (start now : Seen) (past : List Act) (s : ℕ) (why : Why) (x : Session) (door : Door) → Leaves c n start now past s why x door → closes (wish_of x) ≡ false → IsSaid why past
+said_by : (c : Config) (n : ℕ) (start now : Seen) (past : List Act) (s : ℕ) (why : Why) (x : Session) (door : Door) → IsLeaving c n start now past s why x door → closes (wish_of x) ≡ false → IsSaid why past
 said_by c n start now past s why x door l k = go l.said
   where
     go : (closed_why c past s ≡ None) ⊎ IsSaid why past → IsSaid why past
@@ -167,7 +167,7 @@ unread_by c n past s x why act end wish a e = e
 
 -- ---- the run goes on
 
-run_next : (c : Config) (n : ℕ) (start old new : Seen) (past : List Act) (s : ℕ) (why : Why) (x y : Session) (door : Door) (act : Act) → Leaves c n start old past s why x door → Acts c old new x y act → May c n past act → Run c n start new (act ∷ past)
+run_next : (c : Config) (n : ℕ) (start old new : Seen) (past : List Act) (s : ℕ) (why : Why) (x y : Session) (door : Door) (act : Act) → IsLeaving c n start old past s why x door → Acts c old new x y act → May c n past act → Run c n start new (act ∷ past)
 run_next c n start old new past s why x y door act l a may =
     acted_run c n start old new past act a.asked a.failed l.exit.run a.did (asked_own c s a.asked (a.own n past s l.stands)) may (a.here n past s l.stands).untimed a.no_turn a.rose (λ e. a.blameless e past) a.waitless
 
@@ -179,7 +179,7 @@ stops_on n why act past t m h e = go (h e)
     go (inr k) = inr (t ∙ k)
 
 -- a closing for the reason, of which the door heard
-closed_for : (c : Config) (n : ℕ) (start old new : Seen) (past : List Act) (s : ℕ) (why : Why) (x y : Session) (door after : Door) (q : Place) → Leaves c n start old past s why x door → Acts c old new x y (acts.Closed q why) → May c n past (acts.Closed q why) → (DoorStands c past door → ClosesElsewhere c past q why → DoorStands c (acts.Closed q why ∷ past) after) → LeftTo c n start new past s why y after
+closed_for : (c : Config) (n : ℕ) (start old new : Seen) (past : List Act) (s : ℕ) (why : Why) (x y : Session) (door after : Door) (q : Place) → IsLeaving c n start old past s why x door → Acts c old new x y (acts.Closed q why) → May c n past (acts.Closed q why) → (DoorStands c past door → ClosesElsewhere c past q why → DoorStands c (acts.Closed q why ∷ past) after) → LeftTo c n start new past s why y after
 closed_for c n start old new past s why x y door after q l a may hears =
     let o = l.exit in
     let h = a.heard n past s l.stands in
@@ -203,7 +203,7 @@ closed_for c n start old new past s why x y door after q l a may hears =
       };
     }
 
-pub closing_on : (c : Config) (n : ℕ) (start old new : Seen) (past : List Act) (s : ℕ) (why : Why) (x y : Session) (door after : Door) (act : Act) → Leaves c n start old past s why x door → Acts c old new x y act → closes (wish_of x) ≡ true → ((q : Place) → DoorStands c past door → ClosesElsewhere c past q why → DoorStands c (acts.Closed q why ∷ past) after) → LeftTo c n start new past s why y after
+pub closing_on : (c : Config) (n : ℕ) (start old new : Seen) (past : List Act) (s : ℕ) (why : Why) (x y : Session) (door after : Door) (act : Act) → IsLeaving c n start old past s why x door → Acts c old new x y act → closes (wish_of x) ≡ true → ((q : Place) → DoorStands c past door → ClosesElsewhere c past q why → DoorStands c (acts.Closed q why ∷ past) after) → LeftTo c n start new past s why y after
 closing_on c n start old new past s why x y door after act l a k hears =
     let w = wished_closing (wish_of x) k in
     let allowed : Allowed c n past s x.state (wishes.Close w.0 w.1) = subst (Allowed c n past s x.state) w.2 l.stands.allowed in
@@ -216,7 +216,7 @@ no_closing (wishes.Close q w) act k e = absurd (true≢false k)
 no_closing wish act k e = e
 
 -- any other act
-pub other_on : (c : Config) (n : ℕ) (start old new : Seen) (past : List Act) (s : ℕ) (why : Why) (x y : Session) (door : Door) (act : Act) → Leaves c n start old past s why x door → Acts c old new x y act → closes (wish_of x) ≡ false → LeftTo c n start new past s why y door
+pub other_on : (c : Config) (n : ℕ) (start old new : Seen) (past : List Act) (s : ℕ) (why : Why) (x y : Session) (door : Door) (act : Act) → IsLeaving c n start old past s why x door → Acts c old new x y act → closes (wish_of x) ≡ false → LeftTo c n start new past s why y door
 other_on c n start old new past s why x y door act l a k =
     let o = l.exit in
     let h = a.heard n past s l.stands in
@@ -250,7 +250,7 @@ not_closes (wishes.Open p) act k e = refl
 not_closes wish act k e = refl
 
 -- nothing was done
-pub idle_on : (c : Config) (n : ℕ) (start old new : Seen) (past : List Act) (s : ℕ) (why : Why) (x y : Session) (door : Door) → Leaves c n start old past s why x door → Idles c old new x y → LeftTo c n start new past s why y door
+pub idle_on : (c : Config) (n : ℕ) (start old new : Seen) (past : List Act) (s : ℕ) (why : Why) (x y : Session) (door : Door) → IsLeaving c n start old past s why x door → Idles c old new x y → LeftTo c n start new past s why y door
 idle_on c n start old new past s why x y door l a =
     let o = l.exit in
     record {
@@ -264,8 +264,8 @@ idle_on c n start old new past s why x y door l a =
       };
     }
 
-pub unmoved_on : (c : Config) (n : ℕ) (start old new : Seen) (past : List Act) (s : ℕ) (why : Why) (x y : Session) (door : Door) → Leaves c n start old past s why x door → new ≡ old → y ≡ x → LeftTo c n start new past s why y door
-unmoved_on c n start old new past s why x y door l e f = record { since = past; left = stayed; leaves = subst (λ (z : Session). Leaves c n start new past s why z door) (sym f) (subst (λ (z : Seen). Leaves c n start z past s why x door) (sym e) l) }
+pub unmoved_on : (c : Config) (n : ℕ) (start old new : Seen) (past : List Act) (s : ℕ) (why : Why) (x y : Session) (door : Door) → IsLeaving c n start old past s why x door → new ≡ old → y ≡ x → LeftTo c n start new past s why y door
+unmoved_on c n start old new past s why x y door l e f = record { since = past; left = stayed; leaves = subst (λ (z : Session). IsLeaving c n start new past s why z door) (sym f) (subst (λ (z : Seen). IsLeaving c n start z past s why x door) (sym e) l) }
 
 -- ---- one after another
 

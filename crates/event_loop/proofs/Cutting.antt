@@ -25,7 +25,7 @@ use Rattle.session_loop.specs.Runs.{Run, Ran, stayed, acted}
 use Rattle.event_loop.specs.declared.all_sessions.Sessions.{Sessions}
 use Rattle.event_loop.specs.declared.all_sessions.Row.{Row}
 use Rattle.event_loop.specs.Rows.{Has, RowIs, UpRow, SleepsIfLate}
-use Rattle.event_loop.specs.Courses.{Unsaid, Course, HereAt, SomewhereAt, Beside, Takes, TakesNone, NoWork, SameRest, SameButWork, timer_of}
+use Rattle.event_loop.specs.Courses.{Unsaid, SessionsCourse, HereAt, SomewhereAt, Beside, TakesFirst, TakesNone, NoWork, SameRest, SameButWork, timer_of}
 use Rattle.event_loop.specs.Endings.{MayLeave, MayLeaveThen, MayLeaveRow, MayEnd, RunsOut, CutRow, CutsRow, RowRan, RowEnds, RowRuns, AllQueued, FailedRow, FailedAt, Failed, SomeFailed, EndsRows, EndingRow, Ending, SomeEnding, Once, WorkLives, MayEndAfter}
 use Rattle.event_loop.specs.Paid.{IsBusy, LedOn, EndingPaid, EndsPaid}
 use Rattle.session_laws.proofs.Ended.{ended as ended_must}
@@ -99,13 +99,13 @@ late_sleeps : (c : Config) (n : ℕ) (past : List Act) (s made : ℕ) (timer : O
 late_sleeps c n past s made timer None e r = tt
 late_sleeps c n past s made timer (Some row) e r = λ h. (r.may.late (omega (arith, h, e))).0
 
-row_at : (c : Config) (n : ℕ) (start now : Seen) (past : List Act) (k : ℕ) (two three : Sessions) → Ending c n start now past two → Takes k two three → FailedAt c n past k (timer_of three k) (row_of three.table k)
+row_at : (c : Config) (n : ℕ) (start now : Seen) (past : List Act) (k : ℕ) (two three : Sessions) → Ending c n start now past two → TakesFirst k two three → FailedAt c n past k (timer_of three k) (row_of three.table k)
 row_at c n start now past k two three e t =
     subst (λ (x : Option ℕ). FailedAt c n past k x (row_of three.table k)) (sym (same_timer k two three t.timers_same))
     (subst (λ (x : Table Row). FailedAt c n past k (timer_of two k) (row_of x k)) (sym t.table_same)
     (failed_taken c n past k two.work.items three.work.items (timer_of two k) (row_of two.table k) t.work_is (e.rows k)))
 
-pub cut_late : (c : Config) (now : Seen) (k : ℕ) (two three : Sessions) → SomeEnding c now two → Takes k two three → SleepsIfLate three.made (row_of three.table k)
+pub cut_late : (c : Config) (now : Seen) (k : ℕ) (two three : Sessions) → SomeEnding c now two → TakesFirst k two three → SleepsIfLate three.made (row_of three.table k)
 cut_late c now k two three at t = late_sleeps c at.n at.past k three.made (timer_of three k) (row_of three.table k) (at.ending.frame.made_is ∙ sym t.same.made_same) (row_at c at.n at.start now at.past k two three at.ending t)
 
 -- what a session is that was cut: awake, and its cause is the failed accepting
@@ -130,7 +130,7 @@ must c n past s made at timer None after fork u f e m lives r cut = absurd (fals
 must c n past s made at timer (Some old) (Some new) fork u f e m lives r cut = record { begun = r.begun; must = ended_must c past s whys.AcceptFailed fork r.lives (caused c n past s made at old new fork u f e m r cut) }
 must c n past s made at timer (Some old) None fork u f e m lives r cut = absurd cut
 
-pub cut_here : (c : Config) (n : ℕ) (start now : Seen) (past : List Act) (k : ℕ) (two three four : Sessions) → Ending c n start now past two → Takes k two three → CutsRow k whys.AcceptFailed three four → HereAt c n start now past k four
+pub cut_here : (c : Config) (n : ℕ) (start now : Seen) (past : List Act) (k : ℕ) (two three four : Sessions) → Ending c n start now past two → TakesFirst k two three → CutsRow k whys.AcceptFailed three four → HereAt c n start now past k four
 cut_here c n start now past k two three four e t cuts = record {
   frame = frame_rest c n start now past two four e.frame (rest_then two three four t.same cuts.same);
   unowed = e.unowed;
@@ -138,18 +138,18 @@ cut_here c n start now past k two three four e t cuts = record {
       (rises c n past k three.made three.clock (timer_of three k) (row_of three.table k) (row_of four.table k) e.frame.fork e.frame.unsaid e.failed (e.frame.made_is ∙ sym t.same.made_same) (sym e.frame.clock_is ∙ sym t.same.clock_same) (row_at c n start now past k two three e t) cuts.row);
 }
 
-pub cut_busy : (c : Config) (n : ℕ) (start now : Seen) (past : List Act) (k : ℕ) (two three four : Sessions) → Ending c n start now past two → WorkLives two → Takes k two three → CutsRow k whys.AcceptFailed three four → IsBusy c past k
+pub cut_busy : (c : Config) (n : ℕ) (start now : Seen) (past : List Act) (k : ℕ) (two three four : Sessions) → Ending c n start now past two → WorkLives two → TakesFirst k two three → CutsRow k whys.AcceptFailed three four → IsBusy c past k
 cut_busy c n start now past k two three four e w t cuts =
     must c n past k three.made three.clock (timer_of three k) (row_of three.table k) (row_of four.table k) e.frame.fork e.frame.unsaid e.failed (e.frame.made_is ∙ sym t.same.made_same) (sym e.frame.clock_is ∙ sym t.same.clock_same)
     (ap (λ (x : Table Row). is_some (row_of x k)) t.table_same ∙ w.lives k (subst (Has k) (sym t.work_is) (inl refl))) (row_at c n start now past k two three e t) cuts.row
 
-pub some_cut : (c : Config) (now : Seen) (k : ℕ) (two three four : Sessions) → SomeEnding c now two → Takes k two three → CutsRow k whys.AcceptFailed three four → SomewhereAt c now k four
+pub some_cut : (c : Config) (now : Seen) (k : ℕ) (two three four : Sessions) → SomeEnding c now two → TakesFirst k two three → CutsRow k whys.AcceptFailed three four → SomewhereAt c now k four
 some_cut c now k two three four at t cuts = record { n = at.n; start = at.start; past = at.past; course = cut_here c at.n at.start now at.past k two three four at.ending t cuts }
 
 -- ---- and runs
 
 -- each of the others is as it was
-others_ran : (c : Config) (n : ℕ) (start old new : Seen) (past : List Act) (k : ℕ) (two three four five : Sessions) (since : List Act) → Ending c n start old past two → Takes k two three → CutsRow k whys.AcceptFailed three four → Beside k four five → Ran c k past since → Leave c n past since k → (s : ℕ) → s ≢ k → EndingRow c n since s five.work.items (timer_of five s) (row_of five.table s)
+others_ran : (c : Config) (n : ℕ) (start old new : Seen) (past : List Act) (k : ℕ) (two three four five : Sessions) (since : List Act) → Ending c n start old past two → TakesFirst k two three → CutsRow k whys.AcceptFailed three four → Beside k four five → Ran c k past since → Leave c n past since k → (s : ℕ) → s ≢ k → EndingRow c n since s five.work.items (timer_of five s) (row_of five.table s)
 others_ran c n start old new past k two three four five since e t cuts b ran l s apart =
     subst (λ (w : List ℕ). EndingRow c n since s w (timer_of five s) (row_of five.table s)) (sym (b.work_same ∙ cuts.lists.work_same))
     (subst (λ (x : Option ℕ). EndingRow c n since s three.work.items x (row_of five.table s)) (sym (b.timers s apart ∙ (same_timer s three four cuts.lists.timers_same ∙ same_timer s two three t.timers_same)))
@@ -162,17 +162,17 @@ row_over c n past s work timer (Some row) absent (inl h) = absurd h.0
 row_over c n past s work timer (Some row) absent (inr r) = inr (absent, r.0, r.1)
 
 -- the number that was taken out isn't there again
-pub once_taken : (k : ℕ) (two three four five : Sessions) → WorkLives two → Takes k two three → CutsRow k whys.AcceptFailed three four → Beside k four five → Has k five.work.items → ⊥
+pub once_taken : (k : ℕ) (two three four five : Sessions) → WorkLives two → TakesFirst k two three → CutsRow k whys.AcceptFailed three four → Beside k four five → Has k five.work.items → ⊥
 once_taken k two three four five w t cuts b h = (subst Once t.work_is w.once).0 (subst (Has k) (b.work_same ∙ cuts.lists.work_same) h)
 
-pub ran_ending : (c : Config) (n : ℕ) (start old new : Seen) (past : List Act) (k : ℕ) (two three four five : Sessions) → Ending c n start old past two → WorkLives two → Takes k two three → CutsRow k whys.AcceptFailed three four → (r : RowRan c n start new past k five) → Beside k four five → Ending c n start new r.since five
+pub ran_ending : (c : Config) (n : ℕ) (start old new : Seen) (past : List Act) (k : ℕ) (two three four five : Sessions) → Ending c n start old past two → WorkLives two → TakesFirst k two three → CutsRow k whys.AcceptFailed three four → (r : RowRan c n start new past k five) → Beside k four five → Ending c n start new r.since five
 ran_ending c n start old new past k two three four five e w t cuts r b = record { frame = r.frame; unowed = r.unowed; failed = still_failed c k past r.since r.only.ran e.failed; rows = λ s. go s (cases_eq s k) }
   where
     go : (s : ℕ) → (s ≡ k) ⊎ (s ≡ k → ⊥) → EndingRow c n r.since s five.work.items (timer_of five s) (row_of five.table s)
     go s (inl same) = subst (λ (x : ℕ). EndingRow c n r.since x five.work.items (timer_of five x) (row_of five.table x)) (sym same) (row_over c n r.since k five.work.items (timer_of five k) (row_of five.table k) (once_taken k two three four five w t cuts b) r.row)
     go s (inr apart) = others_ran c n start old new past k two three four five r.since e t cuts b r.only.ran (only_leaves c n k past r.since e.frame.fork r.frame.run.legal r.only) s apart
 
-pub lives_on : (k : ℕ) (two three four five : Sessions) → WorkLives two → Takes k two three → CutsRow k whys.AcceptFailed three four → Beside k four five → WorkLives five
+pub lives_on : (k : ℕ) (two three four five : Sessions) → WorkLives two → TakesFirst k two three → CutsRow k whys.AcceptFailed three four → Beside k four five → WorkLives five
 lives_on k two three four five w t cuts b = record {
   once = subst Once (sym (b.work_same ∙ cuts.lists.work_same)) (subst Once t.work_is w.once).1;
   lives = λ s h.
@@ -196,7 +196,7 @@ ending_may c n past s why work timer None e r = r.0
 ending_may c n past s why work timer (Some row) e (inl (h, r)) = row_may c n past s why row e r
 ending_may c n past s why work timer (Some row) e (inr (absent, o, k)) = up_may c n past s why timer (Some row) e (sleeper_wakes c n past s timer row o k)
 
-pub ends_ending : (c : Config) (n : ℕ) (start old new : Seen) (past : List Act) (k : ℕ) (why : Why) (two three four five : Sessions) → Ending c n start old past two → Takes k two three → CutsRow k whys.AcceptFailed three four → (r : RowEnds c n start new past k why five) → Beside k four five → MayEndAfter c n start new why five r.since
+pub ends_ending : (c : Config) (n : ℕ) (start old new : Seen) (past : List Act) (k : ℕ) (why : Why) (two three four five : Sessions) → Ending c n start old past two → TakesFirst k two three → CutsRow k whys.AcceptFailed three four → (r : RowEnds c n start new past k why five) → Beside k four five → MayEndAfter c n start new why five r.since
 ends_ending c n start old new past k why two three four five e t cuts r b = (record { past = r.since; frame = r.frame; all = r.all; ends = r.ends; owes = r.owes; rows = λ s. go s (cases_eq s k) }, refl)
   where
     go : (s : ℕ) → (s ≡ k) ⊎ (s ≡ k → ⊥) → MayLeaveRow c n r.since s why (row_of five.table s)
@@ -217,7 +217,7 @@ ends_first c now ticks sessions n start past e = led_itself past (λ since. Endi
 pub some_on : (c : Config) (from now : Seen) (old new : ℕ) (before after : Sessions) → SomeEnding c from before → EndsOn c from now old new before after → SomeEnding c now after
 some_on c from now old new before after at on = let o = on at.n at.start at.past at.ending in record { n = at.n; start = at.start; past = o.made ++ at.past; ending = o.holds }
 
-pub ends_next : (c : Config) (from mid now : Seen) (old ticks cut new k : ℕ) (one two three four five : Sessions) → EndsOn c from mid old ticks one two → WorkLives two → Takes k two three → CutsRow k whys.AcceptFailed three four → RowRuns c mid now k four five None → cut ≤ ticks + 1 → new ≤ cut + 1 → EndsOn c from now old new one five
+pub ends_next : (c : Config) (from mid now : Seen) (old ticks cut new k : ℕ) (one two three four five : Sessions) → EndsOn c from mid old ticks one two → WorkLives two → TakesFirst k two three → CutsRow k whys.AcceptFailed three four → RowRuns c mid now k four five None → cut ≤ ticks + 1 → new ≤ cut + 1 → EndsOn c from now old new one five
 ends_next c from mid now old ticks cut new k one two three four five on w t cuts run l m n start past e =
     let a = on n start past e in
     let so_far = a.made ++ past in
@@ -226,7 +226,7 @@ ends_next c from mid now old ticks cut new k one two three four five on w t cuts
     (led_acted c k so_far r.since (λ since. Ending c n start now since five) ticks new r.only.ran (busy_acts c n so_far r.since k five a.holds.frame.fork (cut_busy c n start mid so_far k two three four a.holds w t cuts) r.row)
     (ran_ending c n start mid now so_far k two three four five a.holds w t cuts r run.1) (omega (arith, l, m)))
 
-pub ends_by : (c : Config) (from mid now : Seen) (old ticks cut new k : ℕ) (why : Why) (one two three four five : Sessions) → EndsOn c from mid old ticks one two → Takes k two three → CutsRow k whys.AcceptFailed three four → RowRuns c mid now k four five (Some why) → cut ≤ ticks + 1 → new ≤ cut + 1 → EndingPaid c from now one five old new (Some why)
+pub ends_by : (c : Config) (from mid now : Seen) (old ticks cut new k : ℕ) (why : Why) (one two three four five : Sessions) → EndsOn c from mid old ticks one two → TakesFirst k two three → CutsRow k whys.AcceptFailed three four → RowRuns c mid now k four five (Some why) → cut ≤ ticks + 1 → new ≤ cut + 1 → EndingPaid c from now one five old new (Some why)
 ends_by c from mid now old ticks cut new k why one two three four five on t cuts run l m n start past e =
     let a = on n start past e in
     let so_far = a.made ++ past in
@@ -239,7 +239,7 @@ row_ended c n past s work more timer None e r = r
 row_ended c n past s work more timer (Some row) e (inl (h, r)) = has_none s work e h
 row_ended c n past s work more timer (Some row) e (inr (absent, o, k)) = inr (o, k)
 
-ended_course : (c : Config) (n : ℕ) (start now : Seen) (past : List Act) (two three : Sessions) → Ending c n start now past two → TakesNone two three → Course c n start now past three
+ended_course : (c : Config) (n : ℕ) (start now : Seen) (past : List Act) (two three : Sessions) → Ending c n start now past two → TakesNone two three → SessionsCourse c n start now past three
 ended_course c n start now past two three e t = record {
   frame = frame_rest c n start now past two three e.frame t.same;
   unowed = e.unowed;

@@ -11,7 +11,8 @@ use Rattle.relay_model.specs.declared.acts.Why.TheVariants as whys
 use Rattle.relay_model.specs.Places.{same_place}
 use Rattle.relay_model.specs.Holding.{is_free}
 use Rattle.relay_model.specs.Configs.{has_fork, program_door, parts, things}
-use Rattle.relay_model.specs.History.{turns, held, holds_at, stage, memory_said, stop_said, Gone}
+use Rattle.relay_model.specs.History.{turns, held, holds_at, stage, memory_said, stop_said}
+use Rattle.relay_model.specs.declared.stages.Stage.TheVariants.{Gone}
 use Rattle.relay_model.specs.Sessions.{admitted, next_place, first_part}
 use Rattle.relay_model.specs.Cause.{cause, closed_why}
 use Rattle.relay_model.specs.Rest.{Rest, owed}

@@ -17,7 +17,7 @@ use Rattle.relay_model.specs.declared.places.Side.{Side}
 use Rattle.relay_model.specs.Rest.{owed}
 use Rattle.relay_model.specs.Sessions.{admitted, holds, live, live_count, numbers, next_place, permits, door_options}
 use Rattle.relay_model.specs.Calls.{door_call}
-use Rattle.relay_model.specs.Openings.{Accept}
+use Rattle.relay_model.specs.declared.calls.Call.TheVariants.{Accept}
 use Rattle.relay_model.specs.Laws.{DoorTells}
 use Rattle.relay_model.specs.Frames.{IsForeign, is_common}
 use Rattle.relay_laws.proofs.Admissions.{door_says}
@@ -25,7 +25,7 @@ use Rattle.relay_session.specs.declared.sessions.Session.{Session}
 use Rattle.relay_session.specs.declared.sessions.PendingSession.{PendingSession}
 use Rattle.relay_session.specs.Sessions.{Hears, IsPendingSession}
 use Rattle.relay_session.specs.States.{home}
-use Rattle.relay_session.specs.Births.{Begins}
+use Rattle.relay_session.specs.Births.{BeginsSession}
 use Rattle.program_door.specs.Stands.{DoorStands}
 use Rattle.program_door.specs.declared.wishes.DoorWish.TheVariants as wishes
 use Rattle.program_door.specs.Steps.{steps_of}
@@ -46,10 +46,10 @@ use Rattle.session_driver.specs.DoorSteps.{DoorFor, DoorMeets, DoorActs, DoorAsk
 use Rattle.event_loop.specs.declared.all_sessions.Sessions.{Sessions}
 use Rattle.event_loop.specs.declared.all_sessions.Row.{Row}
 use Rattle.event_loop.specs.Rows.{RowIs, UpRow}
-use Rattle.event_loop.specs.Courses.{RowOf, NextIs, Counts, Unsaid, Frame, Course, CourseAt, Somewhere, SomewhereAt, Onward, Keeps, NoWork, SameLists, timer_of}
+use Rattle.event_loop.specs.Courses.{RowOf, NextIs, CountsSessions, Unsaid, Frame, SessionsCourse, CourseAt, SessionsSomewhere, SomewhereAt, SessionsOnward, Keeps, NoWork, SameLists, timer_of}
 use Rattle.event_loop.specs.Endings.{MayLeave, MayLeaveRow, MayEnd, RunsOut, RowRuns, FailedAt, Failed, SomeFailed, EndsRows, MayEndAfter}
-use Rattle.event_loop.specs.declared.asked.Asked.{Asked}
-use Rattle.event_loop.specs.declared.asked.Asked.TheVariants as asks
+use Rattle.event_loop.specs.declared.asked.DoorAsked.{DoorAsked}
+use Rattle.event_loop.specs.declared.asked.DoorAsked.TheVariants as asks
 use Rattle.event_loop.specs.Asking.{SameButNext, TakesNext, AskedIs, GoesOn}
 use Rattle.event_loop.proofs.Others.{unsaid_kept, moment_kept, turns_kept}
 use Rattle.event_loop.proofs.Counting.{counted_kept, counted_by, counted_first}
@@ -68,16 +68,16 @@ row_lives : (c : Config) (n : ℕ) (past : List Act) (s : ℕ) (timer : Option �
 row_lives c n past s timer None fork b r = let h = r.0 b in rw fork (sym (and_right (nat_lt s (admitted c past)) (holds c past s) h))
 row_lives c n past s timer (Some row) fork b r = sym r.lives
 
-pub live_is : (c : Config) (n : ℕ) (start now : Seen) (past : List Act) (sessions : Sessions) → Course c n start now past sessions → live_in sessions.table ≡ live_count c past
+pub live_is : (c : Config) (n : ℕ) (start now : Seen) (past : List Act) (sessions : Sessions) → SessionsCourse c n start now past sessions → live_in sessions.table ≡ live_count c past
 live_is c n start now past sessions on =
     let e = on.frame.counts.admitted_is in
     ap (count (λ s. is_some (row_of sessions.table s))) e
     ∙ count_same (λ s. is_some (row_of sessions.table s)) (live c past) (admitted c past) (λ s b. row_lives c n past s (timer_of sessions s) (row_of sessions.table s) on.frame.fork b (row_up c n past s sessions.work.items (timer_of sessions s) (row_of sessions.table s) (on.rows s)))
 
-pub door_for : (c : Config) (n : ℕ) (start now : Seen) (past : List Act) (sessions : Sessions) (live : ℕ) → live ≡ live_in sessions.table → Course c n start now past sessions → DoorFor c n past sessions.clock live sessions.door
+pub door_for : (c : Config) (n : ℕ) (start now : Seen) (past : List Act) (sessions : Sessions) (live : ℕ) → live ≡ live_in sessions.table → SessionsCourse c n start now past sessions → DoorFor c n past sessions.clock live sessions.door
 door_for c n start now past sessions live e on = record { legal = on.frame.run.legal; stands = on.frame.door; at_is = on.frame.clock_is; live_is = e ∙ live_is c n start now past sessions on }
 
-pub door_meets : (c : Config) (now : Seen) (sessions : Sessions) (live : ℕ) → live ≡ live_in sessions.table → Somewhere c now sessions → DoorMeets c now sessions.clock live sessions.door
+pub door_meets : (c : Config) (now : Seen) (sessions : Sessions) (live : ℕ) → live ≡ live_in sessions.table → SessionsSomewhere c now sessions → DoorMeets c now sessions.clock live sessions.door
 door_meets c now sessions live e at = record { n = at.n; past = at.past; meets = door_for c at.n at.start now at.past sessions live e at.course; holds = at.course.frame.run.holds }
 
 -- ---- acts of the door
@@ -131,7 +131,7 @@ pub record KeptBack (c : Config) (before after : Sessions) : Type 0 where
   pub lists : SameLists before after
   pub next : (past : List Act) → before.table.admitted ≡ admitted c past → NextIs c past after.pending_session
 
-pub door_course : (c : Config) (n : ℕ) (start old new : Seen) (past : List Act) (live : ℕ) (before after : Sessions) (act : Act) → live ≡ live_in before.table → Course c n start old past before → DoorActs c (λ m p. DoorFor c m p before.clock live before.door) old new before.door after.door act → ((m : ℕ) (p : List Act) → DoorFor c m p before.clock live before.door → AdmitsNone c p act) → KeptBack c before after → Course c n start new (act ∷ past) after
+pub door_course : (c : Config) (n : ℕ) (start old new : Seen) (past : List Act) (live : ℕ) (before after : Sessions) (act : Act) → live ≡ live_in before.table → SessionsCourse c n start old past before → DoorActs c (λ m p. DoorFor c m p before.clock live before.door) old new before.door after.door act → ((m : ℕ) (p : List Act) → DoorFor c m p before.clock live before.door → AdmitsNone c p act) → KeptBack c before after → SessionsCourse c n start new (act ∷ past) after
 door_course c n start old new past live before after act e on a none kept =
     let f = on.frame in
     let for = door_for c n start old past before live e on in
@@ -145,7 +145,7 @@ door_course c n start old new past live before after act e on a none kept =
         fork = f.fork;
         run = run_on c n start old new past (λ m p. DoorFor c m p before.clock live before.door) before after act f on.unowed for a;
         door = h.stands;
-        counts = subst (Counts c (act ∷ past)) (sym table) (record { admitted_is = f.counts.admitted_is ∙ sym same; children_is = f.counts.children_is; stop_is = f.counts.stop_is });
+        counts = subst (CountsSessions c (act ∷ past)) (sym table) (record { admitted_is = f.counts.admitted_is ∙ sym same; children_is = f.counts.children_is; stop_is = f.counts.stop_is });
         next = kept.next (act ∷ past) (f.counts.admitted_is ∙ sym same);
         clock_is = kept.clock_same ∙ f.clock_is ∙ sym (moment_kept act past a.untimed);
         made_is = turns_kept act past a.untimed ∙ f.made_is ∙ sym kept.made_same;
@@ -156,14 +156,14 @@ door_course c n start old new past live before after act e on a none kept =
       rows = λ s. row_listed c n (act ∷ past) s before after (ap (λ (t : Table Row). row_of t s) table) kept.lists (row_on c n act past s before.work.items (timer_of before s) (row_of before.table s) f.fork (a.apart n past for s) k (λ b. omega (arith, b, same)) (on.rows s));
     }
 
-pub door_acted : (c : Config) (n : ℕ) (start old new : Seen) (past : List Act) (live : ℕ) (before after : Sessions) (act : Act) → live ≡ live_in before.table → Course c n start old past before → DoorActs c (λ m p. DoorFor c m p before.clock live before.door) old new before.door after.door act → ((m : ℕ) (p : List Act) → DoorFor c m p before.clock live before.door → AdmitsNone c p act) → KeptBack c before after → Onward c n start new after
+pub door_acted : (c : Config) (n : ℕ) (start old new : Seen) (past : List Act) (live : ℕ) (before after : Sessions) (act : Act) → live ≡ live_in before.table → SessionsCourse c n start old past before → DoorActs c (λ m p. DoorFor c m p before.clock live before.door) old new before.door after.door act → ((m : ℕ) (p : List Act) → DoorFor c m p before.clock live before.door → AdmitsNone c p act) → KeptBack c before after → SessionsOnward c n start new after
 door_acted c n start old new past live before after act e on a none kept = record { past = act ∷ past; course = door_course c n start old new past live before after act e on a none kept }
 
-pub steps_fewer : (c : Config) (old new : Seen) (live : ℕ) (before after : Sessions) (act : Act) → live ≡ live_in before.table → Somewhere c old before → DoorActs c (λ m p. DoorFor c m p before.clock live before.door) old new before.door after.door act → steps_of after.door < steps_of before.door
+pub steps_fewer : (c : Config) (old new : Seen) (live : ℕ) (before after : Sessions) (act : Act) → live ≡ live_in before.table → SessionsSomewhere c old before → DoorActs c (λ m p. DoorFor c m p before.clock live before.door) old new before.door after.door act → steps_of after.door < steps_of before.door
 steps_fewer c old new live before after act e at a = (a.heard at.n at.past (door_for c at.n at.start old at.past before live e at.course)).fewer
 
 -- nothing was done
-pub door_idled : (c : Config) (n : ℕ) (start old new : Seen) (past : List Act) (before after : Sessions) → Course c n start old past before → DoorIdles old new before.door after.door → KeptBack c before after → Course c n start new past after
+pub door_idled : (c : Config) (n : ℕ) (start old new : Seen) (past : List Act) (before after : Sessions) → SessionsCourse c n start old past before → DoorIdles old new before.door after.door → KeptBack c before after → SessionsCourse c n start new past after
 door_idled c n start old new past before after on d kept =
     let f = on.frame in
     let table = kept.table_same in
@@ -172,7 +172,7 @@ door_idled c n start old new past before after on d kept =
         fork = f.fork;
         run = idle_run c n start old new past f.run d.did d.rose d.waitless;
         door = subst (DoorStands c past) (sym d.same) f.door;
-        counts = subst (Counts c past) (sym table) f.counts;
+        counts = subst (CountsSessions c past) (sym table) f.counts;
         next = kept.next past f.counts.admitted_is;
         clock_is = kept.clock_same ∙ f.clock_is;
         made_is = f.made_is ∙ sym kept.made_same;
@@ -183,7 +183,7 @@ door_idled c n start old new past before after on d kept =
       rows = λ s. row_listed c n past s before after (ap (λ (t : Table Row). row_of t s) table) kept.lists (on.rows s);
     }
 
-pub door_unmoved : (c : Config) (n : ℕ) (start old new : Seen) (past : List Act) (before after : Sessions) → Course c n start old past before → new ≡ old → after.door ≡ before.door → KeptBack c before after → Course c n start new past after
+pub door_unmoved : (c : Config) (n : ℕ) (start old new : Seen) (past : List Act) (before after : Sessions) → SessionsCourse c n start old past before → new ≡ old → after.door ≡ before.door → KeptBack c before after → SessionsCourse c n start new past after
 door_unmoved c n start old new past before after on e d kept =
     let f = on.frame in
     let table = kept.table_same in
@@ -192,7 +192,7 @@ door_unmoved c n start old new past before after on e d kept =
         fork = f.fork;
         run = subst (λ (x : Seen). Run c n start x past) (sym e) f.run;
         door = subst (DoorStands c past) (sym d) f.door;
-        counts = subst (Counts c past) (sym table) f.counts;
+        counts = subst (CountsSessions c past) (sym table) f.counts;
         next = kept.next past f.counts.admitted_is;
         clock_is = kept.clock_same ∙ f.clock_is;
         made_is = f.made_is ∙ sym kept.made_same;
@@ -208,7 +208,7 @@ idle_as before after e h = e.work_same ∙ h
 
 -- ---- the next session taken out
 
-pub next_taken : (c : Config) (n : ℕ) (start now : Seen) (past : List Act) (before after : Sessions) → Course c n start now past before → SameButNext before after → Course c n start now past after
+pub next_taken : (c : Config) (n : ℕ) (start now : Seen) (past : List Act) (before after : Sessions) → SessionsCourse c n start now past before → SameButNext before after → SessionsCourse c n start now past after
 next_taken c n start now past before after on same =
     let f = on.frame in
     record {
@@ -232,7 +232,7 @@ idle_but_next before after same h = idle_as before after same.lists h
 
 -- ---- the run may be ended
 
-pub course_may_end_after : (c : Config) (n : ℕ) (start now : Seen) (past : List Act) (why : Why) (sessions : Sessions) → ends_all why ≡ true → RunsOut c n past why → Course c n start now past sessions → MayEndAfter c n start now why sessions past
+pub course_may_end_after : (c : Config) (n : ℕ) (start now : Seen) (past : List Act) (why : Why) (sessions : Sessions) → ends_all why ≡ true → RunsOut c n past why → SessionsCourse c n start now past sessions → MayEndAfter c n start now why sessions past
 course_may_end_after c n start now past why sessions all ends on = (
   record {
     past = past;
@@ -245,18 +245,18 @@ course_may_end_after c n start now past why sessions all ends on = (
   refl,
 )
 
-pub memory_rows : (c : Config) (n : ℕ) (start now : Seen) (past : List Act) (sessions : Sessions) → Course c n start now past sessions → (s : ℕ) → MayLeaveRow c n past s whys.Memory (row_of sessions.table s)
+pub memory_rows : (c : Config) (n : ℕ) (start now : Seen) (past : List Act) (sessions : Sessions) → SessionsCourse c n start now past sessions → (s : ℕ) → MayLeaveRow c n past s whys.Memory (row_of sessions.table s)
 memory_rows c n start now past sessions on s = up_may c n past s whys.Memory (timer_of sessions s) (row_of sessions.table s) (inl refl) (row_up c n past s sessions.work.items (timer_of sessions s) (row_of sessions.table s) (on.rows s))
 
-pub memory_ends_after : (c : Config) (n : ℕ) (start now : Seen) (past : List Act) (sessions : Sessions) → Course c n start now past sessions → MayEndAfter c n start now whys.Memory sessions past
+pub memory_ends_after : (c : Config) (n : ℕ) (start now : Seen) (past : List Act) (sessions : Sessions) → SessionsCourse c n start now past sessions → MayEndAfter c n start now whys.Memory sessions past
 memory_ends_after c n start now past sessions on = course_may_end_after c n start now past whys.Memory sessions refl (inl refl) on
 
-pub memory_ends : (c : Config) (n : ℕ) (start now : Seen) (past : List Act) (sessions : Sessions) → Course c n start now past sessions → MayEnd c n start now whys.Memory sessions
+pub memory_ends : (c : Config) (n : ℕ) (start now : Seen) (past : List Act) (sessions : Sessions) → SessionsCourse c n start now past sessions → MayEnd c n start now whys.Memory sessions
 memory_ends c n start now past sessions on = (memory_ends_after c n start now past sessions on).0
 
 -- ---- a peer of the next session
 
-pub may_accept : (c : Config) (n : ℕ) (start now : Seen) (past : List Act) (sessions : Sessions) → Course c n start now past sessions → door_call c past ≡ Accept program_door (next_place c past) → may_accept_in sessions.table ≡ true
+pub may_accept : (c : Config) (n : ℕ) (start now : Seen) (past : List Act) (sessions : Sessions) → SessionsCourse c n start now past sessions → door_call c past ≡ Accept program_door (next_place c past) → may_accept_in sessions.table ≡ true
 may_accept c n start now past sessions on called =
     let t = subst (DoorTells c past) called (door_says c past) in
     let e = on.frame.counts.admitted_is in
@@ -284,8 +284,8 @@ pub record OneMore (born : Row) (before after : Sessions) : Type 0 where
 no_next : (c : Config) (past : List Act) (pending_session : Option PendingSession) → pending_session ≡ None → NextIs c past pending_session
 no_next c past pending_session e = subst (NextIs c past) (sym e) tt
 
-pub door_admitted : (c : Config) (n : ℕ) (start old new : Seen) (past : List Act) (live : ℕ) (before after : Sessions) (place : Place) (peer : Peer) (row : Row) → live ≡ live_in before.table → Course c n start old past before → DoorActs c (λ m p. DoorFor c m p before.clock live before.door) old new before.door after.door (acts.Accepted place peer) → ((m : ℕ) (p : List Act) → DoorFor c m p before.clock live before.door → Admits c p place peer) →
-    (Begins c n past (admitted c past) peer → Hears c n (acts.Accepted (home c (admitted c past)) peer ∷ past) (admitted c past) row.member.session) → OneMore row before after → CourseAt c n start new (acts.Accepted place peer ∷ past) before.table.admitted after
+pub door_admitted : (c : Config) (n : ℕ) (start old new : Seen) (past : List Act) (live : ℕ) (before after : Sessions) (place : Place) (peer : Peer) (row : Row) → live ≡ live_in before.table → SessionsCourse c n start old past before → DoorActs c (λ m p. DoorFor c m p before.clock live before.door) old new before.door after.door (acts.Accepted place peer) → ((m : ℕ) (p : List Act) → DoorFor c m p before.clock live before.door → Admits c p place peer) →
+    (BeginsSession c n past (admitted c past) peer → Hears c n (acts.Accepted (home c (admitted c past)) peer ∷ past) (admitted c past) row.member.session) → OneMore row before after → CourseAt c n start new (acts.Accepted place peer ∷ past) before.table.admitted after
 door_admitted c n start old new past live before after place peer row e on a admits hears more =
     let f = on.frame in
     let for = door_for c n start old past before live e on in
@@ -343,7 +343,7 @@ row_fails c n past s timer (Some row) fork u r = record {
   counted = counted_by c (acts.AcceptFailed program_door) past s row.member.dumper row.member.dumper refl refl r.counted;
 }
 
-pub door_failed : (c : Config) (n : ℕ) (start old new : Seen) (past : List Act) (live : ℕ) (before mid : Sessions) → live ≡ live_in before.table → Course c n start old past before → NoWork before → DoorActs c (λ m p. DoorFor c m p before.clock live before.door) old new before.door mid.door (acts.AcceptFailed program_door) → KeptBack c before mid → Failed c n start new past mid
+pub door_failed : (c : Config) (n : ℕ) (start old new : Seen) (past : List Act) (live : ℕ) (before mid : Sessions) → live ≡ live_in before.table → SessionsCourse c n start old past before → NoWork before → DoorActs c (λ m p. DoorFor c m p before.clock live before.door) old new before.door mid.door (acts.AcceptFailed program_door) → KeptBack c before mid → Failed c n start new past mid
 door_failed c n start old new past live before mid e on idle a kept =
     let f = on.frame in
     let for = door_for c n start old past before live e on in
@@ -354,7 +354,7 @@ door_failed c n start old new past live before mid e on idle a kept =
         fork = f.fork;
         run = run_on c n start old new past (λ m p. DoorFor c m p before.clock live before.door) before mid (acts.AcceptFailed program_door) f on.unowed for a;
         door = h.stands;
-        counts = subst (Counts c (acts.AcceptFailed program_door ∷ past)) (sym table) (record { admitted_is = f.counts.admitted_is; children_is = f.counts.children_is; stop_is = f.counts.stop_is });
+        counts = subst (CountsSessions c (acts.AcceptFailed program_door ∷ past)) (sym table) (record { admitted_is = f.counts.admitted_is; children_is = f.counts.children_is; stop_is = f.counts.stop_is });
         next = kept.next (acts.AcceptFailed program_door ∷ past) f.counts.admitted_is;
         clock_is = kept.clock_same ∙ f.clock_is;
         made_is = f.made_is ∙ sym kept.made_same;
@@ -375,10 +375,10 @@ fewer_kept one two three h e = let x = ap steps_of e in omega (arith, h, x)
 
 -- ---- before the next session was taken out
 
-pub some_next : (c : Config) (now : Seen) (before after : Sessions) → Somewhere c now before → SameButNext before after → Somewhere c now after
+pub some_next : (c : Config) (now : Seen) (before after : Sessions) → SessionsSomewhere c now before → SameButNext before after → SessionsSomewhere c now after
 some_next c now before after at same = record { n = at.n; start = at.start; past = at.past; course = next_taken c at.n at.start now at.past before after at.course same }
 
-pub asked_before : (c : Config) (old new : Seen) (before mid after : Sessions) (result : Option Asked) → SameButNext before mid → GoesOn c old new mid after result → GoesOn c old new before after result
+pub asked_before : (c : Config) (old new : Seen) (before mid after : Sessions) (result : Option DoorAsked) → SameButNext before mid → GoesOn c old new mid after result → GoesOn c old new before after result
 asked_before c old new before mid after None same r = (λ n start past on. r.0 n start past (next_taken c n start old past before mid on same), r.1, fewer_before before mid after r.2 same.door_same, r.3 ∙ same.made_same)
   where
     fewer_before : (one two three : Sessions) → steps_of three.door < steps_of two.door → two.door ≡ one.door → steps_of three.door < steps_of one.door
@@ -387,20 +387,20 @@ asked_before c old new before mid after (Some (asks.Waits until)) same r = (λ n
 asked_before c old new before mid after (Some asks.Over) same r = (λ n start past on. r.0 n start past (next_taken c n start old past before mid on same), r.1, r.2 ∙ same.made_same)
 asked_before c old new before mid after (Some (asks.Ends why)) same r = λ n start past on. r n start past (next_taken c n start old past before mid on same)
 
-pub next_for : (c : Config) (now : Seen) (sessions after : Sessions) (pending_session : PendingSession) → Somewhere c now sessions → SameButNext sessions after → TakesNext c pending_session sessions after → (past : List Act) → after.table.admitted ≡ admitted c past → IsPendingSession c (admitted c past) pending_session
+pub next_for : (c : Config) (now : Seen) (sessions after : Sessions) (pending_session : PendingSession) → SessionsSomewhere c now sessions → SameButNext sessions after → TakesNext c pending_session sessions after → (past : List Act) → after.table.admitted ≡ admitted c past → IsPendingSession c (admitted c past) pending_session
 next_for c now sessions after pending_session at same t past e =
     let f = at.course.frame in
     let is = t.is_next at.past f.next f.counts.admitted_is in
     subst (λ (k : ℕ). IsPendingSession c k pending_session) (sym f.counts.admitted_is ∙ sym same.admitted_same ∙ e) is
 
-pub asked_then : (c : Config) (old mid new : Seen) (one two three : Sessions) (asked : Asked) → Keeps c old mid one two → two.made ≡ one.made → AskedIs c mid new two three asked → AskedIs c old new one three asked
+pub asked_then : (c : Config) (old mid new : Seen) (one two three : Sessions) (asked : DoorAsked) → Keeps c old mid one two → two.made ≡ one.made → AskedIs c mid new two three asked → AskedIs c old new one three asked
 asked_then c old mid new one two three (asks.Waits until) k m r = (λ n start past on. let o = k n start past on in r.0 n start o.past o.course, r.1, r.2 ∙ m)
 asked_then c old mid new one two three asks.Over k m r = (λ n start past on. let o = k n start past on in r.0 n start o.past o.course, r.1, r.2 ∙ m)
 asked_then c old mid new one two three (asks.Ends why) k m r = λ n start past on. let o = k n start past on in r n start o.past o.course
 
 -- ---- each answer of the door, whole
 
-pub goes_acted : (c : Config) (old new : Seen) (live : ℕ) (before after : Sessions) (act : Act) → live ≡ live_in before.table → Somewhere c old before → NoWork before → DoorActs c (λ m p. DoorFor c m p before.clock live before.door) old new before.door after.door act → ((m : ℕ) (p : List Act) → DoorFor c m p before.clock live before.door → AdmitsNone c p act) → KeptBack c before after → GoesOn c old new before after None
+pub goes_acted : (c : Config) (old new : Seen) (live : ℕ) (before after : Sessions) (act : Act) → live ≡ live_in before.table → SessionsSomewhere c old before → NoWork before → DoorActs c (λ m p. DoorFor c m p before.clock live before.door) old new before.door after.door act → ((m : ℕ) (p : List Act) → DoorFor c m p before.clock live before.door → AdmitsNone c p act) → KeptBack c before after → GoesOn c old new before after None
 goes_acted c old new live before after act e at idle a none kept = (
   λ n start past on. door_acted c n start old new past live before after act e on a none kept,
   idle_as before after kept.lists idle,
@@ -424,21 +424,21 @@ goes_over c old new live before after e idle same door wished kept = (
 
 -- the session that its peer makes of the next one
 abbrev pub BornAs : Config → Sessions → Peer → Session → Type 0
-BornAs c before peer session = (n : ℕ) (past : List Act) → Begins c n past (admitted c past) peer → before.table.admitted ≡ admitted c past → before.clock ≡ moment past → Hears c n (acts.Accepted (home c (admitted c past)) peer ∷ past) (admitted c past) session
+BornAs c before peer session = (n : ℕ) (past : List Act) → BeginsSession c n past (admitted c past) peer → before.table.admitted ≡ admitted c past → before.clock ≡ moment past → Hears c n (acts.Accepted (home c (admitted c past)) peer ∷ past) (admitted c past) session
 
 -- what a session has heard is said of it in the table too
 pub born_as : (c : Config) (n : ℕ) (past : List Act) (peer : Peer) (x y : Session) → y ≡ x → Hears c n (acts.Accepted (home c (admitted c past)) peer ∷ past) (admitted c past) x → Hears c n (acts.Accepted (home c (admitted c past)) peer ∷ past) (admitted c past) y
 born_as c n past peer x y e h = subst (Hears c n (acts.Accepted (home c (admitted c past)) peer ∷ past) (admitted c past)) (sym e) h
 
-pub born_on : (c : Config) (n : ℕ) (start old new : Seen) (past : List Act) (live number : ℕ) (before after : Sessions) (place : Place) (peer : Peer) (row : Row) → live ≡ live_in before.table → Course c n start old past before → DoorActs c (λ m p. DoorFor c m p before.clock live before.door) old new before.door after.door (acts.Accepted place peer) → ((m : ℕ) (p : List Act) → DoorFor c m p before.clock live before.door → Admits c p place peer) → BornAs c before peer row.member.session → OneMore row before after → number ≡ before.table.admitted → CourseAt c n start new (acts.Accepted place peer ∷ past) number after
+pub born_on : (c : Config) (n : ℕ) (start old new : Seen) (past : List Act) (live number : ℕ) (before after : Sessions) (place : Place) (peer : Peer) (row : Row) → live ≡ live_in before.table → SessionsCourse c n start old past before → DoorActs c (λ m p. DoorFor c m p before.clock live before.door) old new before.door after.door (acts.Accepted place peer) → ((m : ℕ) (p : List Act) → DoorFor c m p before.clock live before.door → Admits c p place peer) → BornAs c before peer row.member.session → OneMore row before after → number ≡ before.table.admitted → CourseAt c n start new (acts.Accepted place peer ∷ past) number after
 born_on c n start old new past live number before after place peer row e on a admits born more same =
     subst (λ (k : ℕ). CourseAt c n start new (acts.Accepted place peer ∷ past) k after) (sym same)
     (door_admitted c n start old new past live before after place peer row e on a admits (λ b. born n past b on.frame.counts.admitted_is on.frame.clock_is) more)
 
-pub some_admitted : (c : Config) (old new : Seen) (live number : ℕ) (before after : Sessions) (place : Place) (peer : Peer) (row : Row) → live ≡ live_in before.table → Somewhere c old before → DoorActs c (λ m p. DoorFor c m p before.clock live before.door) old new before.door after.door (acts.Accepted place peer) → ((m : ℕ) (p : List Act) → DoorFor c m p before.clock live before.door → Admits c p place peer) → BornAs c before peer row.member.session → OneMore row before after → number ≡ before.table.admitted → SomewhereAt c new number after
+pub some_admitted : (c : Config) (old new : Seen) (live number : ℕ) (before after : Sessions) (place : Place) (peer : Peer) (row : Row) → live ≡ live_in before.table → SessionsSomewhere c old before → DoorActs c (λ m p. DoorFor c m p before.clock live before.door) old new before.door after.door (acts.Accepted place peer) → ((m : ℕ) (p : List Act) → DoorFor c m p before.clock live before.door → Admits c p place peer) → BornAs c before peer row.member.session → OneMore row before after → number ≡ before.table.admitted → SomewhereAt c new number after
 some_admitted c old new live number before after place peer row e at a admits born more same = record { n = at.n; start = at.start; past = acts.Accepted place peer ∷ at.past; course = here_of c at.n at.start new (acts.Accepted place peer ∷ at.past) number after (born_on c at.n at.start old new at.past live number before after place peer row e at.course a admits born more same) }
 
-pub goes_admitted : (c : Config) (old mid_seen new : Seen) (live number : ℕ) (before mid after : Sessions) (place : Place) (peer : Peer) (row : Row) → live ≡ live_in before.table → Somewhere c old before → NoWork before → DoorActs c (λ m p. DoorFor c m p before.clock live before.door) old mid_seen before.door mid.door (acts.Accepted place peer) → ((m : ℕ) (p : List Act) → DoorFor c m p before.clock live before.door → Admits c p place peer) → BornAs c before peer row.member.session → OneMore row before mid → number ≡ before.table.admitted → RowRuns c mid_seen new number mid after None → GoesOn c old new before after None
+pub goes_admitted : (c : Config) (old mid_seen new : Seen) (live number : ℕ) (before mid after : Sessions) (place : Place) (peer : Peer) (row : Row) → live ≡ live_in before.table → SessionsSomewhere c old before → NoWork before → DoorActs c (λ m p. DoorFor c m p before.clock live before.door) old mid_seen before.door mid.door (acts.Accepted place peer) → ((m : ℕ) (p : List Act) → DoorFor c m p before.clock live before.door → Admits c p place peer) → BornAs c before peer row.member.session → OneMore row before mid → number ≡ before.table.admitted → RowRuns c mid_seen new number mid after None → GoesOn c old new before after None
 goes_admitted c old mid_seen new live number before mid after place peer row e at idle a admits born more same run = (
   λ n start past on.
       let at = born_on c n start old mid_seen past live number before mid place peer row e on a admits born more same in
@@ -454,10 +454,10 @@ ends_admitted c old mid_seen new live number why before mid after place peer row
     let at = born_on c n start old mid_seen past live number before mid place peer row e on a admits born more same in
     ran_ends c n start mid_seen new (acts.Accepted place peer ∷ past) number why mid after at (run.0 n start (acts.Accepted place peer ∷ past) (here_of c n start mid_seen (acts.Accepted place peer ∷ past) number mid at)) run.1
 
-pub some_failed : (c : Config) (old new : Seen) (live : ℕ) (before mid : Sessions) → live ≡ live_in before.table → Somewhere c old before → NoWork before → DoorActs c (λ m p. DoorFor c m p before.clock live before.door) old new before.door mid.door (acts.AcceptFailed program_door) → KeptBack c before mid → SomeFailed c new mid
+pub some_failed : (c : Config) (old new : Seen) (live : ℕ) (before mid : Sessions) → live ≡ live_in before.table → SessionsSomewhere c old before → NoWork before → DoorActs c (λ m p. DoorFor c m p before.clock live before.door) old new before.door mid.door (acts.AcceptFailed program_door) → KeptBack c before mid → SomeFailed c new mid
 some_failed c old new live before mid e at idle a kept = record { n = at.n; start = at.start; past = at.past; failed = door_failed c at.n at.start old new at.past live before mid e at.course idle a kept }
 
-pub goes_failed : (c : Config) (old mid_seen new : Seen) (live : ℕ) (before mid after : Sessions) → live ≡ live_in before.table → Somewhere c old before → NoWork before → DoorActs c (λ m p. DoorFor c m p before.clock live before.door) old mid_seen before.door mid.door (acts.AcceptFailed program_door) → KeptBack c before mid → EndsRows c mid_seen new mid after None → GoesOn c old new before after None
+pub goes_failed : (c : Config) (old mid_seen new : Seen) (live : ℕ) (before mid after : Sessions) → live ≡ live_in before.table → SessionsSomewhere c old before → NoWork before → DoorActs c (λ m p. DoorFor c m p before.clock live before.door) old mid_seen before.door mid.door (acts.AcceptFailed program_door) → KeptBack c before mid → EndsRows c mid_seen new mid after None → GoesOn c old new before after None
 goes_failed c old mid_seen new live before mid after e at idle a kept run = (
   λ n start past on. run.0 n start past (door_failed c n start old mid_seen past live before mid e on idle a kept),
   run.1,

@@ -10,8 +10,9 @@ use Rattle.relay_model.specs.declared.acts.Act.TheVariants.{Closed}
 use Rattle.relay_model.specs.declared.acts.Why.{Why}
 use Rattle.relay_model.specs.Places.{same_place}
 use Rattle.relay_model.specs.Configs.{has_fork, things}
-use Rattle.relay_model.specs.History.{turns, stage, held, holds_at, Gone}
-use Rattle.relay_model.specs.History as stages
+use Rattle.relay_model.specs.History.{turns, stage, held, holds_at}
+use Rattle.relay_model.specs.declared.stages.Stage.TheVariants.{Gone}
+use Rattle.relay_model.specs.declared.stages.Stage.{Stage}
 use Rattle.relay_model.specs.Sessions.{admitted, holds}
 use Rattle.relay_model.specs.May.{Legal}
 use Rattle.relay_session.specs.declared.sessions.Session.{Session}
@@ -25,10 +26,10 @@ use Rattle.session_laws.specs.SessionSets.{Leaver, MaySay}
 use Rattle.session_laws.proofs.Members.{closings_leave, acts_leave}
 use Rattle.event_loop.specs.declared.all_sessions.Sessions.{Sessions}
 use Rattle.event_loop.specs.declared.all_sessions.Row.{Row}
-use Rattle.event_loop.specs.Courses.{Counts, OthersStay}
+use Rattle.event_loop.specs.Courses.{CountsSessions, OthersStay}
 use Rattle.event_loop.specs.Endings.{LeavesRow}
 use Rattle.event_loop.specs.Waited.{Exit, LeavingAt}
-use Rattle.event_loop.specs.Closings.{AllLeft, Emptied, Leaves, SomeLeaves, LeftBy, stayed, closed, acted, LeavesOn, IsOver, SomeLeaving, EmptiesRow, RowLeaves}
+use Rattle.event_loop.specs.Closings.{AllLeft, Emptied, IsLeaving, SomeLeaves, LeftBy, stayed, closed, acted, LeavesOn, IsOver, SomeLeaving, EmptiesRow, RowLeaves}
 use Rattle.event_loop.proofs.Closings.{may_on, may_still, unclosed_holds}
 use Rattle.event_loop.proofs.LivingRows.{EachTo, SameFrom, each_first, each_next}
 use Rattle.event_loop.proofs.RowLoops.{RowsTo, rows_first, rows_next}
@@ -37,7 +38,7 @@ use Rattle.event_loop.proofs.Rooms.{kept_room}
 
 -- ---- a closing ends holdings alone
 
-still_free : (b : Bool) (why : Why) (st : stages.Stage) → holds_at st ≡ false → holds_at (cond b (Gone why) st) ≡ false
+still_free : (b : Bool) (why : Why) (st : Stage) → holds_at st ≡ false → holds_at (cond b (Gone why) st) ≡ false
 still_free true why st e = refl
 still_free false why st e = e
 
@@ -86,7 +87,7 @@ left_others c n t why past all fork legal begun may (acted act since here k said
 
 -- ---- a row
 
-leaves_at : (c : Config) (n : ℕ) (start now : Seen) (past : List Act) (t : ℕ) (why : Why) (sessions : Sessions) (x : Row) → LeavingAt c n start now past why sessions → row_of sessions.table t ≡ Some x → Leaves c n start now past t why x.member.session sessions.door
+leaves_at : (c : Config) (n : ℕ) (start now : Seen) (past : List Act) (t : ℕ) (why : Why) (sessions : Sessions) (x : Row) → LeavingAt c n start now past why sessions → row_of sessions.table t ≡ Some x → IsLeaving c n start now past t why x.member.session sessions.door
 leaves_at c n start now past t why sessions x l had =
     let o : Leaver c n past t why x.member.session = subst (LeavesRow c n past t why) had (l.rows t) in
     record { exit = l.exit; stands = o.stands; ending = o.ending; said = inl o.unclosed }
@@ -109,7 +110,7 @@ over_holds c n past t x st over = (subst (Wished c n past t) over.1 st.allowed.0
 record HasEmptied (c : Config) (n : ℕ) (start now : Seen) (before : List Act) (t : ℕ) (why : Why) (was : Option Row) (sessions : Sessions) (made since : List Act) : Type 0 where
   acted : is_some was ≡ true → 1 ≤ length made
   exit : Exit c n start now since why sessions.door
-  counts : Counts c since sessions.table
+  counts : CountsSessions c since sessions.table
   made_is : turns since ≡ sessions.made
   room : c.block ≤ vec_len sessions.scratch
   rows : (s : ℕ) → s ≢ t → LeavesRow c n since s why (row_of sessions.table s)

@@ -13,7 +13,8 @@ use Rattle.relay_model.specs.Journals.{Asking}
 use Rattle.relay_model.specs.History.{turns, held, failures, accept_failed, memory_said, stop_said}
 use Rattle.relay_model.specs.Sessions.{admitted, holds, door_options}
 use Rattle.relay_model.specs.Openings.{out_of_tries}
-use Rattle.relay_model.specs.Outcome as whole
+use Rattle.relay_model.specs.declared.outcomes.RunOutcome.{RunOutcome}
+use Rattle.relay_model.specs.declared.outcomes.RunOutcome.TheVariants as whole
 use Rattle.relay_model.specs.Outcome.{outcome, holds_something}
 use Rattle.relay_model.specs.May.{Legal}
 use Rattle.relay_session.specs.Blames.{is_failing, is_blamed}
@@ -21,7 +22,7 @@ use Rattle.relay_session.specs.Told.{stop_turned}
 use Rattle.relay_session.proofs.Attempts.{counted}
 use Rattle.place_openings.specs.Attempts.{Spends, AreSpent}
 use Rattle.program_door.specs.Causes.{door_cause}
-use Rattle.program_door.specs.Wishes.{IsDone}
+use Rattle.program_door.specs.Wishes.{IsDoorDone}
 use Rattle.exit_status.specs.declared.outcomes.Outcome.{Outcome}
 use Rattle.exit_status.specs.declared.outcomes.Outcome.TheVariants as outcomes
 use Rattle.exit_status.specs.declared.outcomes.EndWhy.TheVariants as ends
@@ -29,7 +30,7 @@ use Rattle.exit_status.specs.Outcomes.{IsOutcome}
 use Rattle.session_loop.specs.Answers.{outcome_for}
 use Rattle.session_loop.proofs.Ends.{as_told}
 use Rattle.session_loop.specs.Courses.{IsOwn, OnlyOwn}
-use Rattle.session_loop.specs.Ended.{Ended, Happened}
+use Rattle.session_loop.specs.Ended.{HasRunEnded, Happened}
 use Rattle.session_loop.specs.Headline.{is_failure, is_relayed}
 use Rattle.world_trait.specs.Seen.{Seen}
 use Rattle.session_laws.specs.SessionSets.{IsSaid, MaySay}
@@ -79,7 +80,7 @@ happened c n start now past fork run = record {
   stopped = run.stopped;
 }
 
-ended_with : (c : Config) (n : ℕ) (start now : Seen) (past : List Act) (answer : Outcome) → has_fork c ≡ true → Run c n start now past → ((p : Place) → held past p ≡ false) → Answers c n past answer → Ended c n start now past answer
+ended_with : (c : Config) (n : ℕ) (start now : Seen) (past : List Act) (answer : Outcome) → has_fork c ≡ true → Run c n start now past → ((p : Place) → held past p ≡ false) → Answers c n past answer → HasRunEnded c n start now past answer
 ended_with c n start now past answer fork run free a = record {
   happened = happened c n start now past fork run;
   ends = record { free = free; outcome_is = a.outcome_is; relayed = a.relayed; failed = a.failed; stopped = a.stopped };
@@ -121,7 +122,7 @@ may_tell whys.Memory past made may = refl
 may_tell whys.Stopped past made may = refl
 may_tell why past made may = absurd may
 
-pub ended_empty : (c : Config) (n : ℕ) (start now : Seen) (before : List Act) (why : Why) (sessions : Sessions) (answer : Outcome) → (e : Empty c n start now before why sessions) → outcome_for why None None None sessions.made ≡ Some answer → Ended c n start now (e.made ++ before) answer
+pub ended_empty : (c : Config) (n : ℕ) (start now : Seen) (before : List Act) (why : Why) (sessions : Sessions) (answer : Outcome) → (e : Empty c n start now before why sessions) → outcome_for why None None None sessions.made ≡ Some answer → HasRunEnded c n start now (e.made ++ before) answer
 ended_empty c n start now before why sessions answer e is =
     let v = e.vacated in
     let o = v.exit in
@@ -151,7 +152,7 @@ exactly attempts l retry e f h = omega (arith, e, f, h)
 more_than : (l retry : ℕ) → l ≡ suc retry → 0 < l
 more_than l retry e = omega (arith, e)
 
-for_listening : (c : Config) (n : ℕ) (past : List Act) (attempts : ℕ) → Legal c n past → AreSpent (door_options c).tries.retry (door_options c).tries.forever (failures past program_door) attempts → ((answer : whole.Outcome) → told_by_door c past None answer → outcome c past ≡ Some answer) → Answers c n past (outcomes.ListenFailed attempts)
+for_listening : (c : Config) (n : ℕ) (past : List Act) (attempts : ℕ) → Legal c n past → AreSpent (door_options c).tries.retry (door_options c).tries.forever (failures past program_door) attempts → ((answer : RunOutcome) → told_by_door c past None answer → outcome c past ≡ Some answer) → Answers c n past (outcomes.ListenFailed attempts)
 for_listening c n past attempts legal spent told =
     let l = counted c n past program_door legal spent.out in
     let exact = exactly attempts (length (failures past program_door)) (door_options c).tries.retry spent.attempts_is l spent.can_count in
@@ -162,7 +163,7 @@ for_listening c n past attempts legal spent told =
       stopped = λ t e. cc;
     }
 
-for_served : (c : Config) (n : ℕ) (past : List Act) → out_of_tries c past program_door ≡ false → ((answer : whole.Outcome) → told_by_door c past None answer → outcome c past ≡ Some answer) → Answers c n past (outcomes.Ended ends.Served)
+for_served : (c : Config) (n : ℕ) (past : List Act) → out_of_tries c past program_door ≡ false → ((answer : RunOutcome) → told_by_door c past None answer → outcome c past ≡ Some answer) → Answers c n past (outcomes.Ended ends.Served)
 for_served c n past left told = record {
   outcome_is = inl (inl (whole.Ended whys.Served, told (whole.Ended whys.Served) (inr (left, refl)), refl));
   relayed = refl;
@@ -194,7 +195,7 @@ over_told past None None made e unsaid = refl
 over_told past None (Some attempts) made e unsaid = refl
 over_told past (Some why) listening made e unsaid = rw ((accept_alone past why e unsaid).0) refl
 
-answer_by : (c : Config) (n : ℕ) (past : List Act) (cause : Option Why) (listening : Option ℕ) (made : ℕ) (answer : Outcome) → Legal c n past → Unsaid past → cause ≡ door_cause past → Spends (door_options c).tries.retry (door_options c).tries.forever (failures past program_door) listening → ((answer : whole.Outcome) → told_by_door c past (door_cause past) answer → outcome c past ≡ Some answer) → outcome_for (why_over cause listening) listening None None made ≡ Some answer → Answers c n past answer
+answer_by : (c : Config) (n : ℕ) (past : List Act) (cause : Option Why) (listening : Option ℕ) (made : ℕ) (answer : Outcome) → Legal c n past → Unsaid past → cause ≡ door_cause past → Spends (door_options c).tries.retry (door_options c).tries.forever (failures past program_door) listening → ((answer : RunOutcome) → told_by_door c past (door_cause past) answer → outcome c past ≡ Some answer) → outcome_for (why_over cause listening) listening None None made ≡ Some answer → Answers c n past answer
 answer_by c n past None None made answer legal unsaid e spends told is =
     as_told (outcomes.Ended ends.Served) answer (Answers c n past) is (for_served c n past spends (λ answer h. told answer (subst (λ (k : Option Why). told_by_door c past k answer) e h)))
 answer_by c n past None (Some attempts) made answer legal unsaid e spends told is =
@@ -208,10 +209,10 @@ answer_by c n past (Some why) listening made answer legal unsaid e spends told i
 none_of_rows : (c : Config) (n : ℕ) (past : List Act) (s : ℕ) (sessions : Sessions) → NoneLives sessions → RowOf c n past sessions s → s < admitted c past → holds c past s ≡ false
 none_of_rows c n past s sessions none r = (subst (RowIs c n past s sessions.work.items (timer_of sessions s)) (none s) r).0
 
-pub ended_over : (c : Config) (n : ℕ) (start now : Seen) (sessions : Sessions) (cause : Option Why) (listening : Option ℕ) (made : ℕ) (why : Why) (answer : Outcome) → (over : DoorIsOver c n start now sessions) → NoneLives sessions → cause ≡ door_cause over.past → Spends (door_options c).tries.retry (door_options c).tries.forever (failures over.past program_door) listening → why ≡ why_over cause listening → outcome_for why listening None None made ≡ Some answer → Ended c n start now over.past answer
+pub ended_over : (c : Config) (n : ℕ) (start now : Seen) (sessions : Sessions) (cause : Option Why) (listening : Option ℕ) (made : ℕ) (why : Why) (answer : Outcome) → (over : DoorIsOver c n start now sessions) → NoneLives sessions → cause ≡ door_cause over.past → Spends (door_options c).tries.retry (door_options c).tries.forever (failures over.past program_door) listening → why ≡ why_over cause listening → outcome_for why listening None None made ≡ Some answer → HasRunEnded c n start now over.past answer
 ended_over c n start now sessions cause listening made why answer over none e spends by is =
     let f = over.course.frame in
-    let done : IsDone c over.past = over.wished in
+    let done : IsDoorDone c over.past = over.wished in
     let gone : (s : ℕ) → s < admitted c over.past → holds c over.past s ≡ false = λ s. none_of_rows c n over.past s sessions none (over.course.rows s) in
     let free = all_free c n over.past f.fork f.run.legal gone done.sleeps.no_peer done.no_door in
     ended_with c n start now over.past answer f.fork f.run free (answer_by c n over.past cause listening made answer f.run.legal f.unsaid e spends (λ answer h. told_outcome c n over.past answer f.run.legal f.fork done gone h)

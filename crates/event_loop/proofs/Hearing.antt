@@ -22,7 +22,7 @@ use Rattle.event_loop.specs.Rows.{Has, SleepsIfLate}
 use Rattle.event_loop.specs.Courses.{NoWork, SameButWork, SameButLists, timer_of}
 use Rattle.event_loop.specs.Endings.{Once}
 use Rattle.event_loop.specs.Looks.{AddsDue, AddsParts, CameByName, CameForCause, CameInTime, HasCome, NoneDue}
-use Rattle.event_loop.specs.Turns.{HearsTurn, HearsRow, SameBesides, RowHeard, UnheardRow, AllUnheard, names_own, NamedRow, NamedHeard, HearsOnce, RowHearsOnce, Queues, Moves, QueuesDue, Queued}
+use Rattle.event_loop.specs.Turns.{HearsTurn, HearsRow, SameBesides, RowHeard, UnheardRow, AllUnheard, names_own, NamedRow, NamedHeard, HearsOnce, RowHearsOnce, QueuesNamed, Moves, QueuesDue, Queued}
 use Rattle.event_loop.proofs.Lists.{has_left, has_last, has_none}
 use Rattle.event_loop.proofs.RowLoops.{RowsTo, rows_next}
 use Rattle.event_loop.proofs.RowLaws.{same_timer}
@@ -155,7 +155,7 @@ none_named c sessions = record { rows = λ s. refl; same = besides_itself sessio
 
 -- ---- the list of work
 
-pub none_queued : (c : Config) (sessions : Sessions) → Queues c [] sessions sessions
+pub none_queued : (c : Config) (sessions : Sessions) → QueuesNamed c [] sessions sessions
 none_queued c sessions = record { named = λ s e. absurd (true≢false (sym e)); kept = λ s h. h; same = record { table_same = refl; timers_same = refl; same = rest_itself sessions; ready_same = refl } }
 
 pub work_itself : (sessions : Sessions) → SameButWork sessions sessions
@@ -164,14 +164,14 @@ work_itself sessions = record { table_same = refl; timers_same = refl; same = re
 pub work_then : (one two three : Sessions) → SameButWork one two → SameButWork two three → SameButWork one three
 work_then one two three a b = record { table_same = b.table_same ∙ a.table_same; timers_same = b.timers_same ∙ a.timers_same; same = rest_then one two three a.same b.same; ready_same = b.ready_same ∙ a.ready_same }
 
-pub door_queued : (c : Config) (before after : Sessions) (i : ℕ) (e : ReadyAt) → slice_get before.ready.entries i ≡ Some e → is_program_door c e.place ≡ true → Queues c (take i before.ready.entries) before after → Queues c (take (i + 1) before.ready.entries) before after
+pub door_queued : (c : Config) (before after : Sessions) (i : ℕ) (e : ReadyAt) → slice_get before.ready.entries i ≡ Some e → is_program_door c e.place ≡ true → QueuesNamed c (take i before.ready.entries) before after → QueuesNamed c (take (i + 1) before.ready.entries) before after
 door_queued c before after i e g door q = record {
   named = λ s n. q.named s (sym (names_same c s before.ready.entries i e g (not_own c s e.place (λ k f. true≢false (sym door ∙ f)))) ∙ n);
   kept = q.kept;
   same = q.same;
 }
 
-pub row_queued : (c : Config) (before mid after : Sessions) (i : ℕ) (e : ReadyAt) → slice_get before.ready.entries i ≡ Some e → is_program_door c e.place ≡ false → Queues c (take i before.ready.entries) before mid → after.work.items ≡ mid.work.items ++ e.place.session ∷ [] → SameButWork mid after → Queues c (take (i + 1) before.ready.entries) before after
+pub row_queued : (c : Config) (before mid after : Sessions) (i : ℕ) (e : ReadyAt) → slice_get before.ready.entries i ≡ Some e → is_program_door c e.place ≡ false → QueuesNamed c (take i before.ready.entries) before mid → after.work.items ≡ mid.work.items ++ e.place.session ∷ [] → SameButWork mid after → QueuesNamed c (take (i + 1) before.ready.entries) before after
 row_queued c before mid after i e g door q w same = record { named = λ s n. go s n (cases_eq s e.place.session); kept = λ s h. more s (q.kept s h); same = work_then before mid after q.same same }
   where
     more : (s : ℕ) → Has s mid.work.items → Has s after.work.items
@@ -405,7 +405,7 @@ pub on_ok : {A E P Q : Type 0} (r : Result A E) → (P → Q) → OnOk r P → O
 on_ok (Ok x) f p = f p
 on_ok (Err e) f p = tt
 
-pub all_queued : (c : Config) (before heard named after : Sessions) → SameBesides before heard → Queues c heard.ready.entries heard named → QueuesDue named after → Queued c before after
+pub all_queued : (c : Config) (before heard named after : Sessions) → SameBesides before heard → QueuesNamed c heard.ready.entries heard named → QueuesDue named after → Queued c before after
 all_queued c before heard named after h q d = record {
   named = λ s n. d.moves.kept s (q.named s (ap (λ (l : Listed). names_own c s l.entries) h.ready_same ∙ n));
   moved = λ s. go s (d.moves.moved s);

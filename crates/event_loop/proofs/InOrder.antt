@@ -29,10 +29,10 @@ use Rattle.event_loop.specs.declared.all_sessions.Row.{Row}
 use Rattle.event_loop.specs.Rows.{Has, UpRow, RowIs}
 use Rattle.event_loop.specs.Turns.{names_own}
 use Rattle.event_loop.specs.Looks.{AddsParts, CameForCause, HasCome, LeftByTurn, NoneDue, WaitsNoLonger, WasDue}
-use Rattle.event_loop.specs.Courses.{Course, SameLists, Somewhere, Keeps, NoWork, timer_of}
+use Rattle.event_loop.specs.Courses.{SessionsCourse, SameLists, SessionsSomewhere, Keeps, NoWork, timer_of}
 use Rattle.event_loop.specs.Asking.{DoorWaits, DoorIsOver}
 use Rattle.event_loop.specs.Endings.{MayEnd, MayEndAfter}
-use Rattle.event_loop.specs.Waited.{InOrder}
+use Rattle.event_loop.specs.Waited.{IsWaitInOrder}
 use Rattle.event_loop.specs.Waits.{WaitsFor, IsLeast}
 use Rattle.event_loop.proofs.Looking.{none_then}
 use Rattle.event_loop.proofs.Lists.{has_none}
@@ -67,7 +67,7 @@ set_begun : (c : Config) (n : ℕ) (past : List Act) (s m : ℕ) (timer : Option
 set_begun c n past s m timer None e r = let y : None ≡ Some m = sym r.1 ∙ e in let x : ⊥ = cc in absurd x
 set_begun c n past s m timer (Some row) e r = r.begun
 
-pub in_order : (c : Config) (n : ℕ) (start now : Seen) (past : List Act) (sessions : Sessions) (first until : Option ℕ) → Course c n start now past sessions → Rested c past first sessions → NoWork sessions → IsLeast (WaitsFor first sessions) until → InOrder c past until
+pub in_order : (c : Config) (n : ℕ) (start now : Seen) (past : List Act) (sessions : Sessions) (first until : Option ℕ) → SessionsCourse c n start now past sessions → Rested c past first sessions → NoWork sessions → IsLeast (WaitsFor first sessions) until → IsWaitInOrder c past until
 in_order c n start now past sessions first until on rested idle least = record {
   rests = all_rest c n past first on.frame.run.legal on.frame.fork on.unowed (record { door = rested.door; remains = left rested.remains; sessions = λ s below. (each s (begun s below)).rests });
   is_until = least_wait c past until (go until least);
@@ -101,7 +101,7 @@ in_order c n start now past sessions first until on rested idle least = record {
 -- ---- after a wait
 
 -- what its sessions waited for is what their timers were set to
-pub came_for : (c : Config) (n : ℕ) (start now : Seen) (past : List Act) (at : ℕ) (before mid after : Sessions) → Course c n start now past before → NoWork before → mid.clock ≡ at → SameLists before mid → CameForCause c mid.ready.entries mid after → (s : ℕ) → Has s after.work.items → (names_own c s mid.ready.entries ≡ true) ⊎ ((m : ℕ) × (session_until c past s ≡ Some m) × (m ≤ at))
+pub came_for : (c : Config) (n : ℕ) (start now : Seen) (past : List Act) (at : ℕ) (before mid after : Sessions) → SessionsCourse c n start now past before → NoWork before → mid.clock ≡ at → SameLists before mid → CameForCause c mid.ready.entries mid after → (s : ℕ) → Has s after.work.items → (names_own c s mid.ready.entries ≡ true) ⊎ ((m : ℕ) × (session_until c past s ≡ Some m) × (m ≤ at))
 came_for c n start now past at before mid after on idle clock same came s has = go (came s has)
   where
     waited : (m : ℕ) → timer_of before s ≡ Some m → session_until c past s ≡ Some m
@@ -122,7 +122,7 @@ none_due mid [] none come = refl
 none_due mid (s ∷ ss) none come = let d = come s (inl refl) in let l = none s d.0 d.1 in let m = d.2 in absurd (omega (arith, l, m))
 
 -- the list of work after it
-pub left_by : (c : Config) (n : ℕ) (start now : Seen) (past : List Act) (until : Option ℕ) (at : ℕ) (before mid after : Sessions) → Course c n start now past before → NoWork before → mid.clock ≡ at → SameLists before mid → WaitsNoLonger until before → AddsParts (length mid.ready.entries) mid after → LeftByTurn c past until at mid.ready.entries after.work.items
+pub left_by : (c : Config) (n : ℕ) (start now : Seen) (past : List Act) (until : Option ℕ) (at : ℕ) (before mid after : Sessions) → SessionsCourse c n start now past before → NoWork before → mid.clock ≡ at → SameLists before mid → WaitsNoLonger until before → AddsParts (length mid.ready.entries) mid after → LeftByTurn c past until at mid.ready.entries after.work.items
 left_by c n start now past until at before mid after on idle clock same longest a = record {
   named = a.named;
   due = a.due;
@@ -152,14 +152,14 @@ turns_within c n [] l = omega (arith)
 turns_within c n (acts.Turn until at ready stop ∷ past) l = let x = l.0.1.turns_left in omega (arith, x)
 turns_within c n (act ∷ past) l = turns_within c n past l.1
 
-pub limit_ends_after : (c : Config) (n : ℕ) (start now : Seen) (past : List Act) (sessions : Sessions) (until : Option ℕ) → Course c n start now past sessions → InOrder c past until → n ≤ sessions.made → MayEndAfter c n start now whys.Stopped sessions past
+pub limit_ends_after : (c : Config) (n : ℕ) (start now : Seen) (past : List Act) (sessions : Sessions) (until : Option ℕ) → SessionsCourse c n start now past sessions → IsWaitInOrder c past until → n ≤ sessions.made → MayEndAfter c n start now whys.Stopped sessions past
 limit_ends_after c n start now past sessions until on order used =
     let e = on.frame.made_is in
     let within = turns_within c n past on.frame.run.legal in
     let all_used : turns past ≡ n = omega (arith, e, within, used) in
     course_may_end_after c n start now past whys.Stopped sessions refl (inr (refl, all_used, order.rests)) on
 
-pub limit_ends : (c : Config) (n : ℕ) (start now : Seen) (past : List Act) (sessions : Sessions) (until : Option ℕ) → Course c n start now past sessions → InOrder c past until → n ≤ sessions.made → MayEnd c n start now whys.Stopped sessions
+pub limit_ends : (c : Config) (n : ℕ) (start now : Seen) (past : List Act) (sessions : Sessions) (until : Option ℕ) → SessionsCourse c n start now past sessions → IsWaitInOrder c past until → n ≤ sessions.made → MayEnd c n start now whys.Stopped sessions
 limit_ends c n start now past sessions until on order used = (limit_ends_after c n start now past sessions until on order used).0
 
 -- ---- one more turn
@@ -176,15 +176,15 @@ further_then n before mid after (Some ends.Short) m r = further_made n before mi
 
 -- ---- after the door's calls
 
-pub door_waits : (c : Config) (old mid new : Seen) (one two three : Sessions) (first : Option ℕ) → Somewhere c old one → Keeps c old mid one two → ((n : ℕ) (start : Seen) (past : List Act) → Course c n start mid past two → DoorWaits c n start new first three) → Somewhere c new three
+pub door_waits : (c : Config) (old mid new : Seen) (one two three : Sessions) (first : Option ℕ) → SessionsSomewhere c old one → Keeps c old mid one two → ((n : ℕ) (start : Seen) (past : List Act) → SessionsCourse c n start mid past two → DoorWaits c n start new first three) → SessionsSomewhere c new three
 door_waits c old mid new one two three first at k w = let o = k at.n at.start at.past at.course in let d = w at.n at.start o.past o.course in record { n = at.n; start = at.start; past = d.past; course = d.course }
 
-pub door_over : (c : Config) (old mid new : Seen) (one two three : Sessions) → Somewhere c old one → Keeps c old mid one two → ((n : ℕ) (start : Seen) (past : List Act) → Course c n start mid past two → DoorIsOver c n start new three) → Somewhere c new three
+pub door_over : (c : Config) (old mid new : Seen) (one two three : Sessions) → SessionsSomewhere c old one → Keeps c old mid one two → ((n : ℕ) (start : Seen) (past : List Act) → SessionsCourse c n start mid past two → DoorIsOver c n start new three) → SessionsSomewhere c new three
 door_over c old mid new one two three at k w = let o = k at.n at.start at.past at.course in let d = w at.n at.start o.past o.course in record { n = at.n; start = at.start; past = d.past; course = d.course }
 
 -- ---- where the next call begins
 
-pub some_within : (c : Config) (n : ℕ) (now : Seen) (sessions : Sessions) → Within c n now sessions → Somewhere c now sessions
+pub some_within : (c : Config) (n : ℕ) (now : Seen) (sessions : Sessions) → Within c n now sessions → SessionsSomewhere c now sessions
 some_within c n now sessions w = record { n = n; start = w.start; past = w.past; course = w.course }
 
 pub within_round : (c : Config) (n : ℕ) (start now : Seen) (sessions : Sessions) → GoesRound c n start now sessions → Within c n now sessions

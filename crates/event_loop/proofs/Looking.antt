@@ -17,7 +17,7 @@ use Rattle.fork_table.specs.Tables.{live_in}
 use Rattle.world_trait.specs.Seen.{Seen}
 use Rattle.session_driver.specs.DoorSteps.{DoorFor, DoorActs}
 use Rattle.event_loop.specs.declared.all_sessions.Sessions.{Sessions}
-use Rattle.event_loop.specs.Courses.{NoWork, Somewhere, SameLists, SameRest}
+use Rattle.event_loop.specs.Courses.{NoWork, SessionsSomewhere, SameLists, SameRest}
 use Rattle.relay_model.specs.Readiness.{Listed, copied_list}
 use Rattle.event_loop.specs.Turns.{DoorHearsTurn}
 use Rattle.event_loop.specs.Looks.{LooksFew, NoneDue, OnlyNamedCame, WaitsNoLonger, WorksFew}
@@ -49,20 +49,20 @@ stays_uncut (acts.AcceptFailed q) past e =
 stays_uncut act past e = e
 
 -- an act of the door
-pub acted_uncut : (c : Config) (old new : Seen) (live : ℕ) (before : Sessions) (after : Door) (act : Act) → live ≡ live_in before.table → Somewhere c old before → DoorActs c (λ m p. DoorFor c m p before.clock live before.door) old new before.door after act → after.cut ≡ None → before.door.cut ≡ None
+pub acted_uncut : (c : Config) (old new : Seen) (live : ℕ) (before : Sessions) (after : Door) (act : Act) → live ≡ live_in before.table → SessionsSomewhere c old before → DoorActs c (λ m p. DoorFor c m p before.clock live before.door) old new before.door after act → after.cut ≡ None → before.door.cut ≡ None
 acted_uncut c old new live before after act e at a k =
     let s = (a.heard at.n at.past (door_for c at.n at.start old at.past before live e at.course)).stands in
     at.course.frame.door.cut_is ∙ stays_uncut act at.past (sym s.cut_is ∙ k)
 
 -- a failed accepting ends them
-pub failed_cut : {P : Type 0} (c : Config) (old new : Seen) (live : ℕ) (before : Sessions) (after : Door) → live ≡ live_in before.table → Somewhere c old before → DoorActs c (λ m p. DoorFor c m p before.clock live before.door) old new before.door after (acts.AcceptFailed program_door) → after.cut ≡ None → P
+pub failed_cut : {P : Type 0} (c : Config) (old new : Seen) (live : ℕ) (before : Sessions) (after : Door) → live ≡ live_in before.table → SessionsSomewhere c old before → DoorActs c (λ m p. DoorFor c m p before.clock live before.door) old new before.door after (acts.AcceptFailed program_door) → after.cut ≡ None → P
 failed_cut c old new live before after e at a k =
     let s = (a.heard at.n at.past (door_for c at.n at.start old at.past before live e at.course)).stands in
     let n = none_of (memory_said at.past) (stop_said at.past) true (sym s.cut_is ∙ k) in
     absurd (true≢false n.2)
 
 -- a turn leaves them ended
-pub turned_uncut : (c : Config) (now : Seen) (sessions : Sessions) (at : ℕ) (ready : Listed) (stop : Bool) (after : Door) → Somewhere c now sessions → DoorHearsTurn ready stop sessions.door after → after.cut ≡ None → sessions.door.cut ≡ None
+pub turned_uncut : (c : Config) (now : Seen) (sessions : Sessions) (at : ℕ) (ready : Listed) (stop : Bool) (after : Door) → SessionsSomewhere c now sessions → DoorHearsTurn ready stop sessions.door after → after.cut ≡ None → sessions.door.cut ≡ None
 turned_uncut c now sessions at ready stop after there hears k =
     let d = there.course.frame.door in
     let s = hears c there.past None at d in
@@ -94,7 +94,7 @@ looks_more more old new one two f = λ k. let a = f k in (a.0, (let x = a.1 in o
 
 -- ---- a wait
 
-pub looks_waited : (c : Config) (seen : Seen) (at : ℕ) (ready : Listed) (stop : Bool) (more old new : ℕ) (before mid after : Sessions) → Somewhere c seen before → DoorHearsTurn ready stop before.door mid.door → mid.table.admitted ≡ before.table.admitted → SameRest mid after → new ≤ old + more → LooksFew more old new before after
+pub looks_waited : (c : Config) (seen : Seen) (at : ℕ) (ready : Listed) (stop : Bool) (more old new : ℕ) (before mid after : Sessions) → SessionsSomewhere c seen before → DoorHearsTurn ready stop before.door mid.door → mid.table.admitted ≡ before.table.admitted → SameRest mid after → new ≤ old + more → LooksFew more old new before after
 looks_waited c seen at ready stop more old new before mid after there hears admitted same few = λ k.
     let a = same.admitted_same in
     (turned_uncut c seen before at ready stop mid.door there hears (same_cut mid.door after.door same.door_same k), omega (arith, a, admitted, few))

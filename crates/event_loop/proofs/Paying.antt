@@ -18,7 +18,7 @@ use Rattle.fork_table.specs.Tables.{row_of}
 use Rattle.session_laws.specs.Works.{MustAct}
 use Rattle.event_loop.specs.declared.all_sessions.Sessions.{Sessions}
 use Rattle.event_loop.specs.Rows.{Has, RowIs}
-use Rattle.event_loop.specs.Courses.{Course, CourseAt, Takes, TakesNone, timer_of}
+use Rattle.event_loop.specs.Courses.{SessionsCourse, CourseAt, TakesFirst, TakesNone, timer_of}
 use Rattle.event_loop.specs.Endings.{MayEndAfter, Once, RowRan, RowRuns}
 use Rattle.event_loop.specs.Looks.{BeginsCall, IsTimely, LeftByTurn, LooksPaid, WasDue, all_named, last_named}
 use Rattle.event_loop.specs.Paid.{IsBusy, Paid, LedOn}
@@ -114,12 +114,12 @@ paid_on c s past since (r ∷ rs) k ran (inr (inr (j, m, p))) = inr (inr (j + 1,
 -- the sessions that had work before the rest of it have run
 pub record RowsOn (c : Config) (n : ℕ) (start now : Seen) (past : List Act) (k old new : ℕ) (sessions : Sessions) : Type 0 where
   pub made : List Act
-  pub course : Course c n start now (made ++ past) sessions
+  pub course : SessionsCourse c n start now (made ++ past) sessions
   pub left : ℕ
   pub paid : Paid c (made ++ past) sessions.work.items left
   pub few : new + left ≤ old + 2 * (length made + all_named made) + k
 
-pub rows_first : (c : Config) (n : ℕ) (start now : Seen) (past : List Act) (k ticks : ℕ) (sessions : Sessions) → Course c n start now past sessions → Paid c past sessions.work.items k → RowsOn c n start now past k ticks ticks sessions
+pub rows_first : (c : Config) (n : ℕ) (start now : Seen) (past : List Act) (k ticks : ℕ) (sessions : Sessions) → SessionsCourse c n start now past sessions → Paid c past sessions.work.items k → RowsOn c n start now past k ticks ticks sessions
 rows_first c n start now past k ticks sessions on p = record { made = []; course = on; left = k; paid = p; few = omega arith }
 
 -- a session that has to act doesn't rest where it stayed
@@ -129,7 +129,7 @@ busy_acts c n past since s sessions fork busy row e =
     let k = numbers_are c past fork in
     busy.must (row_rests c n past s [] (timer_of sessions s) (row_of sessions.table s) fork (omega (arith, b, k)) refl (subst (λ (x : List Act). RowIs c n x s [] (timer_of sessions s) (row_of sessions.table s)) e row)).rests
 
-pub rows_next : (c : Config) (n : ℕ) (start mid new : Seen) (past : List Act) (k old ticks more s : ℕ) (two three four : Sessions) → (r : RowsOn c n start mid past k old ticks two) → Takes s two three → RowRuns c mid new s three four None → more ≤ ticks + 1 → RowsOn c n start new past k old more four
+pub rows_next : (c : Config) (n : ℕ) (start mid new : Seen) (past : List Act) (k old ticks more s : ℕ) (two three four : Sessions) → (r : RowsOn c n start mid past k old ticks two) → TakesFirst s two three → RowRuns c mid new s three four None → more ≤ ticks + 1 → RowsOn c n start new past k old more four
 rows_next c n start mid new past k old ticks more s two three four r takes run few = go (subst (λ (w : List ℕ). Paid c (r.made ++ past) w r.left) takes.work_is r.paid)
   where
     at : CourseAt c n start mid (r.made ++ past) s three
@@ -143,7 +143,7 @@ rows_next c n start mid new past k old ticks more s two three four r takes run f
         let same : ran.since ≡ (newer ++ r.made) ++ past = e ∙ sym (append_assoc newer r.made past) in
         record {
           made = newer ++ r.made;
-          course = subst (λ (x : List Act). Course c n start new x four) same (ran_course c n start mid new (r.made ++ past) s three four at ran run.1);
+          course = subst (λ (x : List Act). SessionsCourse c n start new x four) same (ran_course c n start mid new (r.made ++ past) s three four at ran run.1);
           left = left;
           paid = subst (λ (x : List Act). Paid c x four.work.items left) same (subst (λ (w : List ℕ). Paid c ran.since w left) (sym run.1.work_same) p);
           few = (let x = r.few in let y = length-append newer r.made in let z = named_append newer r.made in omega (arith, x, y, z, l));
@@ -162,18 +162,18 @@ rows_next c n start mid new past k old ticks more s two three four r takes run f
     go (inr (inr (j, m, p))) = with_newer newer.0 newer.1 (j + 1) (paid_on c s (r.made ++ past) ran.since three.work.items j ran.only.ran p) (omega (arith, few, m))
 
 -- one of them ends the run
-pub rows_end : (c : Config) (n : ℕ) (start mid new : Seen) (past : List Act) (k old ticks more s : ℕ) (why : Why) (two three four : Sessions) → (r : RowsOn c n start mid past k old ticks two) → Takes s two three → RowRuns c mid new s three four (Some why) → more ≤ ticks + 1 → LedOn past (MayEndAfter c n start new why four) (k + 2) old more
+pub rows_end : (c : Config) (n : ℕ) (start mid new : Seen) (past : List Act) (k old ticks more s : ℕ) (why : Why) (two three four : Sessions) → (r : RowsOn c n start mid past k old ticks two) → TakesFirst s two three → RowRuns c mid new s three four (Some why) → more ≤ ticks + 1 → LedOn past (MayEndAfter c n start new why four) (k + 2) old more
 rows_end c n start mid new past k old ticks more s why two three four r takes run few =
     let so_far = r.made ++ past in
     let at = taken_at c n start mid so_far s two three r.course takes in
     let ran = run.0 n start so_far (here_of c n start mid so_far s three at) in
     let x = r.few in
-    led_then past (λ since. Course c n start mid since two) (MayEndAfter c n start new why four) k 2 (k + 2) old ticks more (omega arith)
+    led_then past (λ since. SessionsCourse c n start mid since two) (MayEndAfter c n start new why four) k 2 (k + 2) old ticks more (omega arith)
     (record { made = r.made; holds = r.course; few = omega (arith, x) })
     (led_ran c s so_far ran.since (MayEndAfter c n start new why four) 2 ticks more ran.only.ran (ran_ends_after c n start mid new so_far s why three four at ran run.1) (omega (arith, few)))
 
 -- none is left
-pub rows_done : (c : Config) (n : ℕ) (start now : Seen) (past : List Act) (k old new : ℕ) (two three : Sessions) → RowsOn c n start now past k old new two → TakesNone two three → LedOn past (λ since. Course c n start now since three) k old new
+pub rows_done : (c : Config) (n : ℕ) (start now : Seen) (past : List Act) (k old new : ℕ) (two three : Sessions) → RowsOn c n start now past k old new two → TakesNone two three → LedOn past (λ since. SessionsCourse c n start now since three) k old new
 rows_done c n start now past k old new two three r t = record { made = r.made; holds = none_taken c n start now (r.made ++ past) two three r.course t; few = (let x = r.few in omega (arith, x)) }
 
 -- ---- the list of work as a turn leaves it

@@ -6,14 +6,14 @@ use Rattle.fork_table.specs.Tables.{row_of, IsFirstLive}
 use Rattle.world_trait.specs.Seen.{Seen}
 use Rattle.event_loop.specs.declared.all_sessions.Sessions.{Sessions}
 use Rattle.event_loop.specs.declared.all_sessions.Row.{Row}
-use Rattle.event_loop.specs.Courses.{Keeps, OthersStay, Somewhere}
+use Rattle.event_loop.specs.Courses.{Keeps, OthersStay, SessionsSomewhere}
 
 -- how many numbers are still ahead
 abbrev pub ahead : Option ℕ → ℕ
 ahead None = 0
 ahead (Some k) = 2 ^ 32 - k
 
-pub kept_on : (c : Config) (old new : Seen) (before after : Sessions) → Somewhere c old before → Keeps c old new before after → Somewhere c new after
+pub kept_on : (c : Config) (old new : Seen) (before after : Sessions) → SessionsSomewhere c old before → Keeps c old new before after → SessionsSomewhere c new after
 kept_on c old new before after at k = let o = k at.n at.start at.past at.course in record { n = at.n; start = at.start; past = o.past; course = o.course }
 
 pub keeps_all : (c : Config) (now : Seen) (sessions : Sessions) → Keeps c now now sessions sessions

@@ -29,7 +29,7 @@ use Rattle.event_loop.specs.declared.all_sessions.Sessions.{Sessions}
 use Rattle.session_loop.specs.Pauses.{Spreads, ends_all}
 use Rattle.event_loop.specs.declared.all_sessions.Row.{Row}
 use Rattle.event_loop.specs.Rows.{Sleeping, Wakes, Wakened, RowIs, UpRow}
-use Rattle.event_loop.specs.Courses.{RowOf, NextIs, OwesFor, Frame, Course, CourseAt, HereAt, Beside, Somewhere, SomewhereAt, Keeps, HasRow, DrainsTo, SetsTimer, Takes, TakesNone, Retires, Settles, SameRest, SameLists, timer_of}
+use Rattle.event_loop.specs.Courses.{RowOf, NextIs, OwesFor, Frame, SessionsCourse, CourseAt, HereAt, Beside, SessionsSomewhere, SomewhereAt, Keeps, HasRow, DrainsTo, SetsTimer, TakesFirst, TakesNone, Retires, Settles, SameRest, SameLists, timer_of}
 use Rattle.event_loop.specs.Endings.{MayLeaveRow, MayEnd, RunsOut, OnlyActs, RowRan, RowEnds, RowRuns, MayEndAfter}
 use Rattle.event_loop.proofs.Lists.{has_rest}
 use Rattle.event_loop.proofs.Others.{Leave, ran_leaves}
@@ -282,7 +282,7 @@ only_leaves c n t past since fork legal only = go only.begun
     go (inl b) = ran_leaves c n t past since fork legal b only.ran
     go (inr e) = subst (λ (x : List Act). Leave c n past x t) (sym e) (record { admitted_same = refl; moment_same = refl; turns_same = refl; unsaid = λ u. u; door = λ door d. d; rows = λ s work timer row apart r. r })
 
-pub ran_course : (c : Config) (n : ℕ) (start old new : Seen) (past : List Act) (t : ℕ) (before after : Sessions) → CourseAt c n start old past t before → (r : RowRan c n start new past t after) → Beside t before after → Course c n start new r.since after
+pub ran_course : (c : Config) (n : ℕ) (start old new : Seen) (past : List Act) (t : ℕ) (before after : Sessions) → CourseAt c n start old past t before → (r : RowRan c n start new past t after) → Beside t before after → SessionsCourse c n start new r.since after
 ran_course c n start old new past t before after on r b = record {
   frame = r.frame;
   unowed = r.unowed;
@@ -300,7 +300,7 @@ ran_ends c n start old new past t why before after on r b = (ran_ends_after c n 
 
 -- ---- a row that is taken out of the list of work
 
-pub taken_at : (c : Config) (n : ℕ) (start now : Seen) (past : List Act) (k : ℕ) (before after : Sessions) → Course c n start now past before → Takes k before after → CourseAt c n start now past k after
+pub taken_at : (c : Config) (n : ℕ) (start now : Seen) (past : List Act) (k : ℕ) (before after : Sessions) → SessionsCourse c n start now past before → TakesFirst k before after → CourseAt c n start now past k after
 taken_at c n start now past k before after on t = record {
   frame = frame_rest c n start now past before after on.frame t.same;
   unowed = on.unowed;
@@ -311,17 +311,17 @@ taken_at c n start now past k before after on t = record {
     row_same : (s : ℕ) → row_of after.table s ≡ row_of before.table s
     row_same s = ap (λ (x : Table Row). row_of x s) t.table_same
 
-pub some_taken : (c : Config) (now : Seen) (k : ℕ) (before after : Sessions) → Somewhere c now before → Takes k before after → SomewhereAt c now k after
+pub some_taken : (c : Config) (now : Seen) (k : ℕ) (before after : Sessions) → SessionsSomewhere c now before → TakesFirst k before after → SomewhereAt c now k after
 some_taken c now k before after at t = record { n = at.n; start = at.start; past = at.past; course = here_of c at.n at.start now at.past k after (taken_at c at.n at.start now at.past k before after at.course t) }
 
-pub keeps_run : (c : Config) (old mid new : Seen) (k : ℕ) (one two three four : Sessions) → Keeps c old mid one two → Takes k two three → RowRuns c mid new k three four None → Keeps c old new one four
+pub keeps_run : (c : Config) (old mid new : Seen) (k : ℕ) (one two three four : Sessions) → Keeps c old mid one two → TakesFirst k two three → RowRuns c mid new k three four None → Keeps c old new one four
 keeps_run c old mid new k one two three four keeps t run = λ n start past on.
     let a = keeps n start past on in
     let at = taken_at c n start mid a.past k two three a.course t in
     let r = run.0 n start a.past (here_of c n start mid a.past k three at) in
     record { past = r.since; course = ran_course c n start mid new a.past k three four at r run.1 }
 
-pub fewer_works : (k : ℕ) (before mid after : Sessions) → Takes k before mid → after.work.items ≡ mid.work.items → length after.work.items < length before.work.items
+pub fewer_works : (k : ℕ) (before mid after : Sessions) → TakesFirst k before mid → after.work.items ≡ mid.work.items → length after.work.items < length before.work.items
 fewer_works k before mid after t e = let x = ap length e in let y : length before.work.items ≡ suc (length mid.work.items) = ap length t.work_is in omega (arith, x, y)
 
 pub lists_itself : (sessions : Sessions) → SameLists sessions sessions
@@ -341,7 +341,7 @@ pub drains_up : (c : Config) (now : Seen) (t : ℕ) (sessions : Sessions) (was u
 drains_up c now t sessions was up at had wakened = record { n = at.n; start = at.start; past = at.past; s = t; run = record { run = at.course.frame.run; stands = (up_awake c at.n at.start now at.past t sessions was up at.course had wakened).stands; counted = up_counted c at.n at.start now at.past t sessions was up at.course had wakened; owes = inl at.course.unowed } }
 
 -- the list of work is empty
-pub none_taken : (c : Config) (n : ℕ) (start now : Seen) (past : List Act) (before after : Sessions) → Course c n start now past before → TakesNone before after → Course c n start now past after
+pub none_taken : (c : Config) (n : ℕ) (start now : Seen) (past : List Act) (before after : Sessions) → SessionsCourse c n start now past before → TakesNone before after → SessionsCourse c n start now past after
 none_taken c n start now past before after on t = record {
   frame = frame_rest c n start now past before after on.frame t.same;
   unowed = on.unowed;
@@ -364,8 +364,8 @@ settled_rest t before mid after (pauses.Spreads why) (Some other) same s = subst
 pub absent_rest : (before after : Sessions) → after ≡ before → SameRest before after
 absent_rest before after e = subst (SameRest before) (sym e) (rest_itself before)
 
-pub one_fewer : (k : ℕ) (before after : Sessions) → Takes k before after → length before.work.items ≡ suc (length after.work.items)
+pub one_fewer : (k : ℕ) (before after : Sessions) → TakesFirst k before after → length before.work.items ≡ suc (length after.work.items)
 one_fewer k before after t = ap length t.work_is
 
-pub one_run : (k : ℕ) (before mid after : Sessions) (old new ticks work : ℕ) → Takes k before mid → after.work.items ≡ mid.work.items → new ≤ old + 1 → old + length before.work.items ≤ ticks + work → new + length after.work.items ≤ ticks + work
+pub one_run : (k : ℕ) (before mid after : Sessions) (old new ticks work : ℕ) → TakesFirst k before mid → after.work.items ≡ mid.work.items → new ≤ old + 1 → old + length before.work.items ≤ ticks + work → new + length after.work.items ≤ ticks + work
 one_run k before mid after old new ticks work t e few l = let x = one_fewer k before mid t in let y = ap length e in omega (arith, x, y, few, l)

@@ -37,10 +37,10 @@ use Rattle.fork_table.specs.Tables.{row_of, Table}
 use Rattle.event_loop.specs.declared.all_sessions.Sessions.{Sessions}
 use Rattle.event_loop.specs.declared.all_sessions.Row.{Row}
 use Rattle.event_loop.specs.Rows.{Has, Wakes, UpRow, RowIs}
-use Rattle.event_loop.specs.Courses.{RowOf, NextIs, Counts, Frame, Course, Somewhere, NoWork, SameLists, timer_of}
+use Rattle.event_loop.specs.Courses.{RowOf, NextIs, CountsSessions, Frame, SessionsCourse, SessionsSomewhere, NoWork, SameLists, timer_of}
 use Rattle.event_loop.specs.Endings.{LeavesRow, MayEnd}
 use Rattle.event_loop.specs.Turns.{HearsTurn, HearsRow, DoorHearsTurn, AllHeard, AsleepRow, AllAsleep, UnheardRow, AllUnheard, NamedRow, HearsNamed, Queued, TakesTurn, names_own}
-use Rattle.event_loop.specs.Waited.{ShortAt, Exit, LeavingAt, InOrder, SleepsRow, Stopping}
+use Rattle.event_loop.specs.Waited.{ShortAt, Exit, LeavingAt, IsWaitInOrder, SleepsRow, Stopping}
 use Rattle.event_loop.proofs.Lists.{has_none}
 use Rattle.event_loop.proofs.Counting.{counted_by}
 use Rattle.event_loop.proofs.RowLaws.{awake_wakes, due_wakes, row_listed}
@@ -79,7 +79,7 @@ pub record Turns (old new : Seen) (until : Option ℕ) (at : ℕ) (ready : Liste
   pub later : old.faults ≤ new.faults
   pub counts : TurnCounts old new at stop
 
-turned_run : (c : Config) (n : ℕ) (start old new : Seen) (past : List Act) (until : Option ℕ) (at : ℕ) (ready : Listed) (stop : Bool) → Run c n start old past → Turns old new until at ready stop → turns past < n → InOrder c past until → Run c n start new (Turn until at (copied_list ready) stop ∷ past)
+turned_run : (c : Config) (n : ℕ) (start old new : Seen) (past : List Act) (until : Option ℕ) (at : ℕ) (ready : Listed) (stop : Bool) → Run c n start old past → Turns old new until at ready stop → turns past < n → IsWaitInOrder c past until → Run c n start new (Turn until at (copied_list ready) stop ∷ past)
 turned_run c n start old new past until at ready stop on t few order = record {
   legal = ((order.rests.no_dump, record { turns_left = few; rests = order.rests; is_until = order.is_until }), on.legal);
   named = (held_named c n past new.held ready.entries on.legal (λ p. t.did.held p ∙ on.holds p) t.named, on.named);
@@ -177,10 +177,10 @@ one_turn a b k e f = omega (arith, e, f)
 
 -- a turn that came where a wait was in order
 pub record Waits (c : Config) (n : ℕ) (start old new : Seen) (past : List Act) (until : Option ℕ) (at : ℕ) (stop : Bool) (before mid : Sessions) : Type 0 where
-  pub course : Course c n start old past before
+  pub course : SessionsCourse c n start old past before
   pub few : before.made < n
   pub idle : NoWork before
-  pub order : InOrder c past until
+  pub order : IsWaitInOrder c past until
   pub turns : Turns old new until at mid.ready stop
   pub has : HasWaited at stop before mid
   pub on_clock : at < 2 ^ 64
@@ -210,7 +210,7 @@ frame_turned c n start old new past until at before mid w =
       fork = f.fork;
       run = turned_run c n start old new past until at mid.ready false f.run w.turns (omega (arith, few, e)) w.order;
       door = w.has.door c past until at f.door;
-      counts = subst (Counts c (Turn until at (copied_list mid.ready) false ∷ past)) (sym table) (record { admitted_is = f.counts.admitted_is; children_is = f.counts.children_is; stop_is = f.counts.stop_is });
+      counts = subst (CountsSessions c (Turn until at (copied_list mid.ready) false ∷ past)) (sym table) (record { admitted_is = f.counts.admitted_is; children_is = f.counts.children_is; stop_is = f.counts.stop_is });
       next = subst (NextIs c (Turn until at (copied_list mid.ready) false ∷ past)) (sym w.has.pending_session_same) (next_after_turn c past until at (copied_list mid.ready) false before.pending_session f.next);
       clock_is = w.has.clock_is;
       made_is = one_turn (turns past) before.made mid.made e w.has.made_is;
@@ -231,7 +231,7 @@ no_work c n start old new past until at stop before mid w = w.has.lists.work_sam
 named_at : (at : ℕ) (mid after : Sessions) (b : Bool) (s : ℕ) → mid.clock ≡ at → NamedRow mid.made mid.clock mid.ready b (row_of mid.table s) (row_of after.table s) → NamedRow mid.made at mid.ready b (row_of mid.table s) (row_of after.table s)
 named_at at mid after b s e h = subst (λ (k : ℕ). NamedRow mid.made k mid.ready b (row_of mid.table s) (row_of after.table s)) e h
 
-pub goes_on : (c : Config) (n : ℕ) (start old new : Seen) (past : List Act) (until : Option ℕ) (at : ℕ) (before mid after : Sessions) → Waits c n start old new past until at false before mid → HearsNamed c mid after → Queued c mid after → Course c n start new (Turn until at (copied_list mid.ready) false ∷ past) after
+pub goes_on : (c : Config) (n : ℕ) (start old new : Seen) (past : List Act) (until : Option ℕ) (at : ℕ) (before mid after : Sessions) → Waits c n start old new past until at false before mid → HearsNamed c mid after → Queued c mid after → SessionsCourse c n start new (Turn until at (copied_list mid.ready) false ∷ past) after
 goes_on c n start old new past until at before mid after w h q = record {
   frame = frame_rest c n start new (Turn until at (copied_list mid.ready) false ∷ past) mid after (frame_turned c n start old new past until at before mid w) h.same;
   unowed = refl;
@@ -274,7 +274,7 @@ stops_at c n start old new past until at before mid w =
           stops = λ _. inl refl;
           owes = inl refl;
         });
-        counts = subst (Counts c past) (sym w.has.table_same) f.counts;
+        counts = subst (CountsSessions c past) (sym w.has.table_same) f.counts;
         made_is = one_turn (turns past) before.made mid.made e w.has.made_is;
         room = kept_room _ _ _ f.room w.has.scratch_same;
         unsaid = f.unsaid;
@@ -290,13 +290,13 @@ run_turned c n start old new past until at stop before mid w =
     let few = w.few in
     turned_run c n start old new past until at mid.ready stop w.course.frame.run w.turns (omega (arith, few, e)) w.order
 
-pub all_unheard : (c : Config) (now : Seen) (at : ℕ) (stop : Bool) (before mid : Sessions) → Somewhere c now before → NoWork before → HasWaited at stop before mid → AllUnheard mid
+pub all_unheard : (c : Config) (now : Seen) (at : ℕ) (stop : Bool) (before mid : Sessions) → SessionsSomewhere c now before → NoWork before → HasWaited at stop before mid → AllUnheard mid
 all_unheard c now at stop before mid there idle w s =
     let e = there.course.frame.made_is in
     unheard_row c there.n there.past s mid.made mid.work.items (timer_of mid s) (row_of mid.table s) (w.lists.work_same ∙ idle) (sym (one_turn (turns there.past) before.made mid.made e w.made_is))
     (row_listed c there.n there.past s before mid (ap (λ (t : Table Row). row_of t s) w.table_same) w.lists (there.course.rows s))
 
-pub when_going : (c : Config) (n : ℕ) (start old new : Seen) (past : List Act) (until : Option ℕ) (at : ℕ) (stop : Bool) (before mid after : Sessions) → stop ≡ false → Waits c n start old new past until at stop before mid → HearsNamed c mid after → Queued c mid after → Course c n start new (Turn until at (copied_list mid.ready) false ∷ past) after
+pub when_going : (c : Config) (n : ℕ) (start old new : Seen) (past : List Act) (until : Option ℕ) (at : ℕ) (stop : Bool) (before mid after : Sessions) → stop ≡ false → Waits c n start old new past until at stop before mid → HearsNamed c mid after → Queued c mid after → SessionsCourse c n start new (Turn until at (copied_list mid.ready) false ∷ past) after
 when_going c n start old new past until at false before mid after e w h q = goes_on c n start old new past until at before mid after w h q
 when_going c n start old new past until at true before mid after e w h q = absurd (true≢false e)
 

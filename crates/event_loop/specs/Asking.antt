@@ -11,9 +11,9 @@ use Rattle.program_door.specs.Wishes.{Wished}
 use Rattle.fork_table.specs.Tables.{HasRoom, SameBounds, row_of}
 use Rattle.world_trait.specs.Seen.{Seen}
 use Rattle.event_loop.specs.declared.all_sessions.Sessions.{Sessions}
-use Rattle.event_loop.specs.declared.asked.Asked.{Asked}
-use Rattle.event_loop.specs.declared.asked.Asked.TheVariants as asks
-use Rattle.event_loop.specs.Courses.{NextIs, Course, Keeps, NoWork, SameLists}
+use Rattle.event_loop.specs.declared.asked.DoorAsked.{DoorAsked}
+use Rattle.event_loop.specs.declared.asked.DoorAsked.TheVariants as asks
+use Rattle.event_loop.specs.Courses.{NextIs, SessionsCourse, Keeps, NoWork, SameLists}
 use Rattle.event_loop.specs.Endings.{MayEnd}
 
 -- the next session is taken out, and nothing else changed
@@ -37,22 +37,22 @@ pub record TakesNext (c : Config) (pending_session : PendingSession) (before aft
 -- the door waits until this moment
 pub record DoorWaits (c : Config) (n : ℕ) (start now : Seen) (until : Option ℕ) (sessions : Sessions) : Type 0 where
   pub past : List Act
-  pub course : Course c n start now past sessions
+  pub course : SessionsCourse c n start now past sessions
   pub wished : Wished c past (wishes.Sleep until)
 
 -- the door is over
 pub record DoorIsOver (c : Config) (n : ℕ) (start now : Seen) (sessions : Sessions) : Type 0 where
   pub past : List Act
-  pub course : Course c n start now past sessions
+  pub course : SessionsCourse c n start now past sessions
   pub wished : Wished c past wishes.Done
 
 -- the door and all sessions came to this
-abbrev pub AskedIs : Config → Seen → Seen → Sessions → Sessions → Asked → Type 0
-AskedIs c old new before after (asks.Waits until) = ((n : ℕ) (start : Seen) (past : List Act) → Course c n start old past before → DoorWaits c n start new until after) × NoWork after × (after.made ≡ before.made)
-AskedIs c old new before after asks.Over = ((n : ℕ) (start : Seen) (past : List Act) → Course c n start old past before → DoorIsOver c n start new after) × NoWork after × (after.made ≡ before.made)
-AskedIs c old new before after (asks.Ends why) = (n : ℕ) (start : Seen) (past : List Act) → Course c n start old past before → MayEnd c n start new why after
+abbrev pub AskedIs : Config → Seen → Seen → Sessions → Sessions → DoorAsked → Type 0
+AskedIs c old new before after (asks.Waits until) = ((n : ℕ) (start : Seen) (past : List Act) → SessionsCourse c n start old past before → DoorWaits c n start new until after) × NoWork after × (after.made ≡ before.made)
+AskedIs c old new before after asks.Over = ((n : ℕ) (start : Seen) (past : List Act) → SessionsCourse c n start old past before → DoorIsOver c n start new after) × NoWork after × (after.made ≡ before.made)
+AskedIs c old new before after (asks.Ends why) = (n : ℕ) (start : Seen) (past : List Act) → SessionsCourse c n start old past before → MayEnd c n start new why after
 
 -- they did, or one more call of the door was made
-abbrev pub GoesOn : Config → Seen → Seen → Sessions → Sessions → Option Asked → Type 0
+abbrev pub GoesOn : Config → Seen → Seen → Sessions → Sessions → Option DoorAsked → Type 0
 GoesOn c old new before after None = Keeps c old new before after × NoWork after × (steps_of after.door < steps_of before.door) × (after.made ≡ before.made)
 GoesOn c old new before after (Some asked) = AskedIs c old new before after asked

@@ -6,7 +6,7 @@ use Rattle.relay_model.specs.Configs.{Fit, has_fork}
 use Rattle.relay_model.specs.Holding.{Free}
 use Rattle.world_trait.specs.Seen.{Seen}
 use Rattle.event_loop.specs.declared.all_sessions.Sessions.{Sessions}
-use Rattle.event_loop.specs.Courses.{Course}
+use Rattle.event_loop.specs.Courses.{SessionsCourse}
 
 -- a command with `fork`
 pub record Forks (c : Config) : Type 0 where
@@ -15,4 +15,4 @@ pub record Forks (c : Config) : Type 0 where
 
 -- a run begins wherever nothing is held
 abbrev pub BeginsAll : Config → Sessions → Type 0
-BeginsAll c sessions = (n : ℕ) (start : Seen) → ((p : Place) → start.held p ≡ Free) → Course c n start start [] sessions
+BeginsAll c sessions = (n : ℕ) (start : Seen) → ((p : Place) → start.held p ≡ Free) → SessionsCourse c n start start [] sessions

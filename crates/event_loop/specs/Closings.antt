@@ -21,7 +21,7 @@ use Rattle.session_driver.specs.Steps.{IsActOf}
 use Rattle.session_laws.specs.SessionSets.{IsSaid}
 use Rattle.event_loop.specs.declared.all_sessions.Sessions.{Sessions}
 use Rattle.event_loop.specs.declared.all_sessions.Row.{Row}
-use Rattle.event_loop.specs.Courses.{Counts, OthersStay}
+use Rattle.event_loop.specs.Courses.{CountsSessions, OthersStay}
 use Rattle.event_loop.specs.Endings.{LeavesRow}
 use Rattle.event_loop.specs.Turned.{NoneLives}
 use Rattle.event_loop.specs.Waited.{Exit, LeavingAt}
@@ -32,7 +32,7 @@ closes (wishes.Close q why) = true
 closes wish = false
 
 -- the run is ended for this reason and the session was cut for it; nothing of it was closed yet, or a closing has said so
-pub record Leaves (c : Config) (n : ℕ) (start now : Seen) (past : List Act) (s : ℕ) (why : Why) (x : Session) (door : Door) : Type 0 where
+pub record IsLeaving (c : Config) (n : ℕ) (start now : Seen) (past : List Act) (s : ℕ) (why : Why) (x : Session) (door : Door) : Type 0 where
   pub exit : Exit c n start now past why door
   pub stands : Stands c n past s x
   pub ending : ending_of x ≡ Some why
@@ -44,7 +44,7 @@ pub record SomeLeaves (c : Config) (now : Seen) (why : Why) (x : Session) (door 
   pub start : Seen
   pub past : List Act
   pub s : ℕ
-  pub leaves : Leaves c n start now past s why x door
+  pub leaves : IsLeaving c n start now past s why x door
 
 -- since then only this session acted: it closed things for this reason and, once that was said, did what ends no session
 pub data LeftBy (c : Config) (s : ℕ) (why : Why) (past : List Act) : List Act → Type 0 where
@@ -56,12 +56,12 @@ pub data LeftBy (c : Config) (s : ℕ) (why : Why) (past : List Act) : List Act 
 pub record LeftTo (c : Config) (n : ℕ) (start now : Seen) (past : List Act) (s : ℕ) (why : Why) (x : Session) (door : Door) : Type 0 where
   pub since : List Act
   pub left : LeftBy c s why past since
-  pub leaves : Leaves c n start now since s why x door
+  pub leaves : IsLeaving c n start now since s why x door
 
 -- so of every run that led to the beginning
 abbrev pub LeavesOn : Config → Seen → Seen → Why → Session → Session → Door → Door → Type 0
 LeavesOn c old new why before after from to =
-    (n : ℕ) (start : Seen) (past : List Act) (s : ℕ) → Leaves c n start old past s why before from → LeftTo c n start new past s why after to
+    (n : ℕ) (start : Seen) (past : List Act) (s : ℕ) → IsLeaving c n start old past s why before from → LeftTo c n start new past s why after to
 
 -- the session holds nothing any more and has asked for its children
 abbrev pub IsOver : Session → Type 0
@@ -81,7 +81,7 @@ pub record Emptied (c : Config) (n : ℕ) (start now : Seen) (before : List Act)
   pub made : List Act
   pub acted : is_some was ≡ true → 1 ≤ length made
   pub exit : Exit c n start now (made ++ before) why sessions.door
-  pub counts : Counts c (made ++ before) sessions.table
+  pub counts : CountsSessions c (made ++ before) sessions.table
   pub made_is : turns (made ++ before) ≡ sessions.made
   pub room : c.block ≤ vec_len sessions.scratch
   pub rows : (s : ℕ) → s ≢ t → LeavesRow c n (made ++ before) s why (row_of sessions.table s)

@@ -22,7 +22,7 @@ use Rattle.session_loop.specs.Runs.{Ran}
 use Rattle.event_loop.specs.declared.all_sessions.Sessions.{Sessions}
 use Rattle.event_loop.specs.declared.all_sessions.Row.{Row}
 use Rattle.event_loop.specs.Rows.{Sleeping, Has, RowIs}
-use Rattle.event_loop.specs.Courses.{Frame, OwesFor, Course, HereAt, Beside, Onward, Keeps, NoWork, SameRest, SameLists, OthersStay, timer_of}
+use Rattle.event_loop.specs.Courses.{Frame, OwesFor, SessionsCourse, HereAt, Beside, SessionsOnward, Keeps, NoWork, SameRest, SameLists, OthersStay, timer_of}
 
 -- a session may be cut for this reason, and nothing of it was closed yet
 pub record MayLeave (c : Config) (n : ℕ) (past : List Act) (s : ℕ) (why : Why) (x : Session) : Type 0 where
@@ -117,7 +117,7 @@ RowRuns c old new t before after (Some why) = ((n : ℕ) (start : Seen) (past : 
 -- no session has work any more, or the run may be ended
 abbrev pub AllRun : Config → Seen → Seen → Sessions → Sessions → Option Why → Type 0
 AllRun c old new before after None = Keeps c old new before after × NoWork after × SameRest before after
-AllRun c old new before after (Some why) = (n : ℕ) (start : Seen) (past : List Act) → Course c n start old past before → MayEnd c n start new why after
+AllRun c old new before after (Some why) = (n : ℕ) (start : Seen) (past : List Act) → SessionsCourse c n start old past before → MayEnd c n start new why after
 
 -- each session that lives is in the list of work
 abbrev pub AllQueued : Sessions → Type 0
@@ -152,7 +152,7 @@ pub record SomeFailed (c : Config) (now : Seen) (sessions : Sessions) : Type 0 w
 
 -- each session was cut and has closed all, or the run may be ended
 abbrev pub EndsRows : Config → Seen → Seen → Sessions → Sessions → Option Why → Type 0
-EndsRows c old new before after None = ((n : ℕ) (start : Seen) (past : List Act) → Failed c n start old past before → Onward c n start new after) × NoWork after × SameRest before after
+EndsRows c old new before after None = ((n : ℕ) (start : Seen) (past : List Act) → Failed c n start old past before → SessionsOnward c n start new after) × NoWork after × SameRest before after
 EndsRows c old new before after (Some why) = (n : ℕ) (start : Seen) (past : List Act) → Failed c n start old past before → MayEnd c n start new why after
 
 -- ---- a failed accepting, session by session

@@ -12,7 +12,7 @@ use Rattle.exit_status.specs.declared.outcomes.Outcome.{Outcome}
 use Rattle.world_trait.specs.Seen.{Seen}
 use Rattle.session_loop.specs.Courses.{ends_in_turn}
 use Rattle.session_loop.specs.Courses as single
-use Rattle.session_loop.specs.Ended.{Ended, Happened}
+use Rattle.session_loop.specs.Ended.{HasRunEnded, Happened}
 use Rattle.event_loop.specs.declared.all_sessions.Sessions.{Sessions}
 use Rattle.event_loop.specs.declared.turned.RunEnd.{RunEnd}
 use Rattle.event_loop.specs.declared.turned.RunEnd.TheVariants as ends
@@ -23,15 +23,15 @@ use Rattle.event_loop.specs.declared.steps.Step.{Step}
 use Rattle.event_loop.specs.declared.steps.Step.TheVariants.{Goes, Over}
 use Rattle.event_loop.specs.declared.one.OneSession.{OneSession}
 use Rattle.event_loop.specs.declared.many.ManySessions.{ManySessions}
-use Rattle.event_loop.specs.declared.courses.Course.{Course}
-use Rattle.event_loop.specs.declared.courses.Course.TheVariants.{One, Many}
+use Rattle.event_loop.specs.declared.courses.LoopCourse.{LoopCourse}
+use Rattle.event_loop.specs.declared.courses.LoopCourse.TheVariants.{One, Many}
 use Rattle.event_loop.specs.declared.loops.Loop.{Loop}
 
 -- ---- what it stands for
 
 -- a run of one session, of at most n turns
 pub record IsOne (c : Config) (n : ℕ) (start now : Seen) (past : List Act) (one : OneSession) : Type 0 where
-  pub course : single.Course c n start now one.driver past
+  pub course : single.DriverCourse c n start now one.driver past
   pub within : one.driver.made ≤ n
   pub room : c.block ≤ vec_len one.scratch
 
@@ -49,7 +49,7 @@ is_late end = false
 
 -- or that goes on
 abbrev pub AreSessions : Config → ℕ → Seen → Seen → List Act → Sessions → Option RunEnd → Type 0
-AreSessions c n start now past sessions None = several.Course c n start now past sessions × BeginsCall c past sessions.work.items
+AreSessions c n start now past sessions None = several.SessionsCourse c n start now past sessions × BeginsCall c past sessions.work.items
 AreSessions c n start now past sessions (Some end) = IsToEnd c n start now past sessions end
 
 -- a run of many sessions
@@ -58,7 +58,7 @@ pub record IsMany (c : Config) (n : ℕ) (start now : Seen) (past : List Act) (m
   pub sessions : AreSessions c n start now past many.sessions many.end
 
 -- a run of either kind
-abbrev pub IsCourse : Config → ℕ → Seen → Seen → List Act → Course → Type 0
+abbrev pub IsCourse : Config → ℕ → Seen → Seen → List Act → LoopCourse → Type 0
 IsCourse c n start now past (One one) = IsOne c n start now past one
 IsCourse c n start now past (Many many) = IsMany c n start now past many
 
@@ -67,7 +67,7 @@ abbrev pub Drives : Seen → Seen → List Act → Loop → Type 0
 Drives start now past whole = IsCourse whole.config whole.turns start now past whole.course
 
 -- how many waits it has made
-abbrev pub made_in : Course → ℕ
+abbrev pub made_in : LoopCourse → ℕ
 made_in (One one) = one.driver.made
 made_in (Many many) = many.sessions.made
 
@@ -88,7 +88,7 @@ pub record SomeMany (c : Config) (n : ℕ) (now : Seen) (many : ManySessions) : 
   pub is : IsMany c n start now past many
 
 -- the same of a loop of either kind
-pub record Somewhere (now : Seen) (whole : Loop) : Type 0 where
+pub record LoopSomewhere (now : Seen) (whole : Loop) : Type 0 where
   pub start : Seen
   pub past : List Act
   pub drives : Drives start now past whole
@@ -104,7 +104,7 @@ abbrev pub BeginsMany : Config → ManySessions → Type 0
 BeginsMany c many = (n : ℕ) (start : Seen) → ((p : Place) → start.held p ≡ Free) → IsMany c n start start [] many
 
 -- the same of either kind
-abbrev pub Begins : Config → Course → Type 0
+abbrev pub Begins : Config → LoopCourse → Type 0
 Begins c course = (n : ℕ) (start : Seen) → ((p : Place) → start.held p ≡ Free) → IsCourse c n start start [] course
 
 -- so a loop of this command and so many turns
@@ -116,7 +116,7 @@ pub record BeginsLoop (c : Config) (n : ℕ) (whole : Loop) : Type 0 where
 -- ---- a call
 
 -- the run goes on by one turn, which is the last act of the call, and the loop stands for it
-pub record WentOn (past : List Act) (Stands : List Act → Type 0) : Type 0 where
+pub record LoopWentOn (past : List Act) (Stands : List Act → Type 0) : Type 0 where
   pub since : List Act
   pub stands : Stands since
   pub last : ends_in_turn since ≡ true
@@ -125,12 +125,12 @@ pub record WentOn (past : List Act) (Stands : List Act → Type 0) : Type 0 wher
 -- the run has ended with this answer, by a call that made no turn
 pub record HasEnded (c : Config) (n : ℕ) (start now : Seen) (past : List Act) (answer : Outcome) : Type 0 where
   pub since : List Act
-  pub ended : Ended c n start now since answer
+  pub ended : HasRunEnded c n start now since answer
   pub turned : turns since ≡ turns past
 
 -- one of these
 abbrev pub Called : Config → ℕ → Seen → Seen → List Act → (List Act → Type 0) → Step → Type 0
-Called c n start now past Stands Goes = WentOn past Stands
+Called c n start now past Stands Goes = LoopWentOn past Stands
 Called c n start now past Stands (Over answer) = HasEnded c n start now past answer
 
 -- so of each run that the loop stood for
@@ -174,7 +174,7 @@ abbrev pub ManyLook : Config → ℕ → Seen → Seen → ManySessions → ℕ 
 ManyLook c n from to before old new = (start : Seen) (past : List Act) → IsMany c n start from past before → IsTimely past → CallPaid c n start to past old new
 
 -- one session takes no look
-abbrev pub CourseLooks : Config → ℕ → Seen → Seen → Course → ℕ → ℕ → Type 0
+abbrev pub CourseLooks : Config → ℕ → Seen → Seen → LoopCourse → ℕ → ℕ → Type 0
 CourseLooks c n from to (One one) old new = new ≡ old
 CourseLooks c n from to (Many many) old new = ManyLook c n from to many old new
 
@@ -187,7 +187,7 @@ LooksFew from to before old new = CourseLooks before.config before.turns from to
 -- some acts led on to this answer
 pub record EndedOn (c : Config) (n : ℕ) (start now : Seen) (answer : Outcome) : Type 0 where
   pub since : List Act
-  pub ended : Ended c n start now since answer
+  pub ended : HasRunEnded c n start now since answer
 
 -- so of each run that the loop stood for
 abbrev pub EndsAll : Seen → Seen → Loop → Outcome → Type 0

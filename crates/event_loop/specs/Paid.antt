@@ -13,17 +13,17 @@ use Rattle.world_trait.specs.Seen.{Seen}
 use Rattle.session_loop.specs.Runs.{Run}
 use Rattle.session_laws.specs.Works.{MustAct}
 use Rattle.event_loop.specs.declared.all_sessions.Sessions.{Sessions}
-use Rattle.event_loop.specs.declared.asked.Asked.{Asked}
-use Rattle.event_loop.specs.declared.asked.Asked.TheVariants as asks
+use Rattle.event_loop.specs.declared.asked.DoorAsked.{DoorAsked}
+use Rattle.event_loop.specs.declared.asked.DoorAsked.TheVariants as asks
 use Rattle.event_loop.specs.Rows.{Has}
-use Rattle.event_loop.specs.Courses.{Course, NoWork}
+use Rattle.event_loop.specs.Courses.{SessionsCourse, NoWork}
 use Rattle.event_loop.specs.Endings.{Ending, Failed, MayEndAfter}
 use Rattle.event_loop.specs.Looks.{WaitsNoLonger, all_named}
 use Rattle.event_loop.specs.declared.turned.RunEnd.{RunEnd}
 use Rattle.event_loop.specs.declared.waited.Waited.{Waited}
 use Rattle.event_loop.specs.declared.waited.Waited.TheVariants as waits
 use Rattle.event_loop.specs.Turned.{ComesTo, Rested}
-use Rattle.event_loop.specs.Waited.{InOrder}
+use Rattle.event_loop.specs.Waited.{IsWaitInOrder}
 
 -- a session that has begun and has to act
 pub record IsBusy (c : Config) (past : List Act) (s : ℕ) : Type 0 where
@@ -45,32 +45,32 @@ pub record LedOn (past : List Act) (Holds : List Act → Type 0) (more old new :
 
 -- the sessions that have work
 abbrev pub RowsPaid : Config → Seen → Seen → Sessions → Sessions → ℕ → ℕ → Option Why → Type 0
-RowsPaid c from to before after old new None = (n : ℕ) (start : Seen) (past : List Act) (k : ℕ) → Course c n start from past before → Paid c past before.work.items k → LedOn past (λ since. Course c n start to since after) k old new
-RowsPaid c from to before after old new (Some why) = (n : ℕ) (start : Seen) (past : List Act) (k : ℕ) → Course c n start from past before → Paid c past before.work.items k → LedOn past (MayEndAfter c n start to why after) (k + 2) old new
+RowsPaid c from to before after old new None = (n : ℕ) (start : Seen) (past : List Act) (k : ℕ) → SessionsCourse c n start from past before → Paid c past before.work.items k → LedOn past (λ since. SessionsCourse c n start to since after) k old new
+RowsPaid c from to before after old new (Some why) = (n : ℕ) (start : Seen) (past : List Act) (k : ℕ) → SessionsCourse c n start from past before → Paid c past before.work.items k → LedOn past (MayEndAfter c n start to why after) (k + 2) old new
 
 -- the sessions that are cut for a failed accepting, one after another
 abbrev pub EndingPaid : Config → Seen → Seen → Sessions → Sessions → ℕ → ℕ → Option Why → Type 0
-EndingPaid c from to before after old new None = ((n : ℕ) (start : Seen) (past : List Act) → Ending c n start from past before → LedOn past (λ since. Course c n start to since after) 0 old new) × NoWork after
+EndingPaid c from to before after old new None = ((n : ℕ) (start : Seen) (past : List Act) → Ending c n start from past before → LedOn past (λ since. SessionsCourse c n start to since after) 0 old new) × NoWork after
 EndingPaid c from to before after old new (Some why) = (n : ℕ) (start : Seen) (past : List Act) → Ending c n start from past before → LedOn past (MayEndAfter c n start to why after) 2 old new
 
 -- the same from the failed accepting on
 abbrev pub EndsPaid : Config → Seen → Seen → Sessions → Sessions → ℕ → ℕ → Option Why → Type 0
-EndsPaid c from to before after old new None = (n : ℕ) (start : Seen) (past : List Act) → Failed c n start from past before → LedOn (AcceptFailed program_door ∷ past) (λ since. Course c n start to since after) 0 old new
+EndsPaid c from to before after old new None = (n : ℕ) (start : Seen) (past : List Act) → Failed c n start from past before → LedOn (AcceptFailed program_door ∷ past) (λ since. SessionsCourse c n start to since after) 0 old new
 EndsPaid c from to before after old new (Some why) = (n : ℕ) (start : Seen) (past : List Act) → Failed c n start from past before → LedOn (AcceptFailed program_door ∷ past) (MayEndAfter c n start to why after) 2 old new
 
 -- what the door came to
-abbrev pub AskedTo : Config → ℕ → Seen → Seen → Sessions → Asked → List Act → Type 0
-AskedTo c n start now sessions (asks.Waits until) since = Course c n start now since sessions × Wished c since (wishes.Sleep until)
-AskedTo c n start now sessions asks.Over since = Course c n start now since sessions × Wished c since wishes.Done
+abbrev pub AskedTo : Config → ℕ → Seen → Seen → Sessions → DoorAsked → List Act → Type 0
+AskedTo c n start now sessions (asks.Waits until) since = SessionsCourse c n start now since sessions × Wished c since (wishes.Sleep until)
+AskedTo c n start now sessions asks.Over since = SessionsCourse c n start now since sessions × Wished c since wishes.Done
 AskedTo c n start now sessions (asks.Ends why) since = MayEndAfter c n start now why sessions since
 
 -- its calls, and those of the sessions that its peers bring
-abbrev pub AskedPaid : Config → Seen → Seen → Sessions → Sessions → ℕ → ℕ → Asked → Type 0
-AskedPaid c from to before after old new asked = (n : ℕ) (start : Seen) (past : List Act) → Course c n start from past before → LedOn past (AskedTo c n start to after asked) 2 old new
+abbrev pub AskedPaid : Config → Seen → Seen → Sessions → Sessions → ℕ → ℕ → DoorAsked → Type 0
+AskedPaid c from to before after old new asked = (n : ℕ) (start : Seen) (past : List Act) → SessionsCourse c n start from past before → LedOn past (AskedTo c n start to after asked) 2 old new
 
 -- one of them
-abbrev pub AskPaid : Config → Seen → Seen → Sessions → Sessions → ℕ → ℕ → Option Asked → Type 0
-AskPaid c from to before after old new None = (n : ℕ) (start : Seen) (past : List Act) → Course c n start from past before → LedOn past (λ since. Course c n start to since after) 0 old new
+abbrev pub AskPaid : Config → Seen → Seen → Sessions → Sessions → ℕ → ℕ → Option DoorAsked → Type 0
+AskPaid c from to before after old new None = (n : ℕ) (start : Seen) (past : List Act) → SessionsCourse c n start from past before → LedOn past (λ since. SessionsCourse c n start to since after) 0 old new
 AskPaid c from to before after old new (Some asked) = AskedPaid c from to before after old new asked
 
 -- what a wait came to
@@ -82,8 +82,8 @@ WaitedTo c n start now sessions waits.Memory since = MayEndAfter c n start now w
 
 -- a wait
 abbrev pub WaitPaid : Config → ℕ → Option ℕ → Seen → Seen → Sessions → Sessions → ℕ → ℕ → Waited → Type 0
-WaitPaid c n until from to before after old new waited = (start : Seen) (past : List Act) → Course c n start from past before → InOrder c past until → WaitsNoLonger until before → LedOn past (WaitedTo c n start to after waited) 0 old new
+WaitPaid c n until from to before after old new waited = (start : Seen) (past : List Act) → SessionsCourse c n start from past before → IsWaitInOrder c past until → WaitsNoLonger until before → LedOn past (WaitedTo c n start to after waited) 0 old new
 
 -- the same, where the door waits until this moment
 abbrev pub WaitForPaid : Config → ℕ → Option ℕ → Seen → Seen → Sessions → Sessions → ℕ → ℕ → Option RunEnd → Type 0
-WaitForPaid c n first from to before after old new end = (start : Seen) (past : List Act) → Course c n start from past before → Rested c past first before → LedOn past (ComesTo c n start to after end) 0 old new
+WaitForPaid c n first from to before after old new end = (start : Seen) (past : List Act) → SessionsCourse c n start from past before → Rested c past first before → LedOn past (ComesTo c n start to after end) 0 old new

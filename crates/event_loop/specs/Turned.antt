@@ -2,14 +2,14 @@
 use Rattle.std.specs.Prelude.{◌≡◌, ◌⊎◌, ℕ, suc, ◌<◌, true, List, Option, Some, None, is_some}
 use Rattle.relay_model.specs.declared.commands.Config.{Config}
 use Rattle.relay_model.specs.declared.acts.Act.{Act}
-use Rattle.program_door.specs.Wishes.{Sleeps, GoesOn}
+use Rattle.program_door.specs.Wishes.{DoorSleeps, GoesOn}
 use Rattle.fork_table.specs.Tables.{row_of}
 use Rattle.world_trait.specs.Seen.{Seen}
 use Rattle.event_loop.specs.declared.all_sessions.Sessions.{Sessions}
 use Rattle.event_loop.specs.declared.turned.RunEnd.{RunEnd}
 use Rattle.event_loop.specs.declared.turned.RunEnd.TheVariants as ends
 use Rattle.event_loop.specs.Asking.{DoorIsOver}
-use Rattle.event_loop.specs.Courses.{Course}
+use Rattle.event_loop.specs.Courses.{SessionsCourse}
 use Rattle.session_loop.specs.Runs.{Run}
 use Rattle.event_loop.specs.Endings.{MayEnd, MayEndAfter}
 use Rattle.event_loop.specs.Looks.{BeginsCall, IsTimely, LooksPaid}
@@ -21,7 +21,7 @@ NoneLives sessions = (s : ℕ) → row_of sessions.table s ≡ None
 
 -- the door waits until this moment, and it goes on or some session lives
 pub record Rested (c : Config) (past : List Act) (first : Option ℕ) (sessions : Sessions) : Type 0 where
-  pub door : Sleeps c past first
+  pub door : DoorSleeps c past first
   pub remains : GoesOn c past ⊎ ((s : ℕ) × (is_some (row_of sessions.table s) ≡ true))
 
 -- the run went on by a turn after some acts, until some moment
@@ -48,7 +48,7 @@ Further n before after (Some ends.Short) = (before.made < n) × (after.made ≡ 
 
 -- so of each that led to the beginning
 abbrev pub EndsRun : Config → ℕ → Seen → Seen → Sessions → Sessions → Option RunEnd → Type 0
-EndsRun c n old new before after end = (start : Seen) (past : List Act) → Course c n start old past before → RunIs c n start new after end
+EndsRun c n old new before after end = (start : Seen) (past : List Act) → SessionsCourse c n start old past before → RunIs c n start new after end
 
 -- what a turn makes of it
 abbrev pub TurnIs : Config → ℕ → Seen → Seen → Sessions → Sessions → Option RunEnd → Type 0
@@ -57,7 +57,7 @@ TurnIs c n old new before after end = EndsRun c n old new before after end × Fu
 -- the same, where the door waits until this moment
 abbrev pub WaitsForAll : Config → ℕ → Option ℕ → Seen → Seen → Sessions → Sessions → Option RunEnd → Type 0
 WaitsForAll c n first old new before after end =
-    ((start : Seen) (past : List Act) → Course c n start old past before → Rested c past first before → RunIs c n start new after end) × Further n before after end
+    ((start : Seen) (past : List Act) → SessionsCourse c n start old past before → Rested c past first before → RunIs c n start new after end) × Further n before after end
 
 -- ---- where a call begins
 
@@ -65,7 +65,7 @@ WaitsForAll c n first old new before after end =
 pub record Within (c : Config) (n : ℕ) (now : Seen) (sessions : Sessions) : Type 0 where
   pub start : Seen
   pub past : List Act
-  pub course : Course c n start now past sessions
+  pub course : SessionsCourse c n start now past sessions
   pub begins : BeginsCall c past sessions.work.items
 
 -- the run that goes on, or where it is to be ended

@@ -115,7 +115,7 @@ pub record RowHearsOnce (t : ℕ) (before after : Sessions) : Type 0 where
 -- ---- the list of work
 
 -- the sessions that these entries name are in the list of work, and nothing else changed
-pub record Queues (c : Config) (entries : List ReadyAt) (before after : Sessions) : Type 0 where
+pub record QueuesNamed (c : Config) (entries : List ReadyAt) (before after : Sessions) : Type 0 where
   pub named : (s : ℕ) → names_own c s entries ≡ true → Has s after.work.items
   pub kept : (s : ℕ) → Has s before.work.items → Has s after.work.items
   pub same : SameButWork before after

@@ -16,7 +16,7 @@ use Rattle.event_loop.specs.declared.all_sessions.Sessions.{Sessions}
 use Rattle.event_loop.specs.declared.turned.RunEnd.{RunEnd}
 use Rattle.event_loop.specs.declared.turned.RunEnd.TheVariants as ends
 use Rattle.event_loop.specs.Closings.{rows_below}
-use Rattle.session_loop.specs.Ended.{Ended}
+use Rattle.session_loop.specs.Ended.{HasRunEnded}
 use Rattle.event_loop.specs.Asking.{DoorIsOver}
 use Rattle.event_loop.specs.Turned.{NoneLives, RunIs}
 use Rattle.event_loop.specs.Waited.{Exit, Leaving}
@@ -77,7 +77,7 @@ pub record SomeOver (sessions : Sessions) : Type 0 where
 -- the answer of a run whose door is over
 abbrev pub TellsOver : Sessions → Outcome → Type 0
 TellsOver sessions answer =
-    (c : Config) (n : ℕ) (start now : Seen) → (over : DoorIsOver c n start now sessions) → NoneLives sessions → Ended c n start now over.past answer
+    (c : Config) (n : ℕ) (start now : Seen) → (over : DoorIsOver c n start now sessions) → NoneLives sessions → HasRunEnded c n start now over.past answer
 
 -- the acts of a run that led to an end
 abbrev pub acts_to : (c : Config) (n : ℕ) (start now : Seen) (sessions : Sessions) (end : RunEnd) → RunIs c n start now sessions (Some end) → List Act
@@ -89,7 +89,7 @@ acts_to c n start now sessions ends.Short is = is.ends.past
 -- a run has ended with this answer, after so many turns; these acts came last, and the looks are no more than twice as many
 pub record EndedAt (c : Config) (n : ℕ) (start now : Seen) (before : List Act) (turned : ℕ) (answer : Outcome) (old new : ℕ) : Type 0 where
   pub made : List Act
-  pub ended : Ended c n start now (made ++ before) answer
+  pub ended : HasRunEnded c n start now (made ++ before) answer
   pub turned_is : turns (made ++ before) ≡ turned
   pub few : new ≤ old + 2 * length made
 
@@ -113,7 +113,7 @@ pub record SomeLeft (c : Config) (now : Seen) (why : Why) (sessions : Sessions) 
 -- a run whose sessions were cut has ended so; each of them made an act at least, and no look came without one
 pub record LeftAt (c : Config) (n : ℕ) (start now : Seen) (before : List Act) (first : Sessions) (answer : Outcome) (old new : ℕ) : Type 0 where
   pub made : List Act
-  pub ended : Ended c n start now (made ++ before) answer
+  pub ended : HasRunEnded c n start now (made ++ before) answer
   pub turned_is : turns (made ++ before) ≡ first.made
   pub each : (k : ℕ) → rows_below first k ≤ length made
   pub few : new ≤ old + length made

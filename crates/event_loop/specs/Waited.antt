@@ -23,7 +23,7 @@ use Rattle.event_loop.specs.declared.all_sessions.Sessions.{Sessions}
 use Rattle.event_loop.specs.declared.all_sessions.Row.{Row}
 use Rattle.event_loop.specs.declared.waited.Waited.{Waited}
 use Rattle.event_loop.specs.declared.waited.Waited.TheVariants as waits
-use Rattle.event_loop.specs.Courses.{Counts, Unsaid, Course}
+use Rattle.event_loop.specs.Courses.{CountsSessions, Unsaid, SessionsCourse}
 use Rattle.event_loop.specs.Endings.{LeavesRow, MayEnd, RunsOut}
 use Rattle.event_loop.specs.Looks.{BeginsCall, WaitsNoLonger}
 use Rattle.event_loop.specs.Rows.{Has}
@@ -50,7 +50,7 @@ pub record Exit (c : Config) (n : ℕ) (start now : Seen) (past : List Act) (why
 -- and each session was cut for it
 pub record LeavingAt (c : Config) (n : ℕ) (start now : Seen) (past : List Act) (why : Why) (sessions : Sessions) : Type 0 where
   pub exit : Exit c n start now past why sessions.door
-  pub counts : Counts c past sessions.table
+  pub counts : CountsSessions c past sessions.table
   pub made_is : turns past ≡ sessions.made
   pub room : c.block ≤ vec_len sessions.scratch
   pub rows : (s : ℕ) → LeavesRow c n past s why (row_of sessions.table s)
@@ -68,7 +68,7 @@ SleepsRow c n past s (Some row) = (until : Option ℕ) × (turn : ℕ) × Sleepe
 -- a turn that says stop came after these acts, and no session has heard it yet
 pub record StoppingAt (c : Config) (n : ℕ) (start now : Seen) (past : List Act) (until : Option ℕ) (sessions : Sessions) : Type 0 where
   pub exit : Exit c n start now (Turn until sessions.clock (copied_list sessions.ready) true ∷ past) whys.Stopped sessions.door
-  pub counts : Counts c past sessions.table
+  pub counts : CountsSessions c past sessions.table
   pub made_is : suc (turns past) ≡ sessions.made
   pub room : c.block ≤ vec_len sessions.scratch
   pub unsaid : Unsaid past
@@ -81,7 +81,7 @@ pub record Stopping (c : Config) (n : ℕ) (start now : Seen) (sessions : Sessio
   pub stopping : StoppingAt c n start now past until sessions
 
 -- a wait was in order, until this moment
-pub record InOrder (c : Config) (past : List Act) (until : Option ℕ) : Type 0 where
+pub record IsWaitInOrder (c : Config) (past : List Act) (until : Option ℕ) : Type 0 where
   pub rests : Rest c past
   pub is_until : until ≡ until_of c past
 
@@ -91,7 +91,7 @@ pub record InOrder (c : Config) (past : List Act) (until : Option ℕ) : Type 0 
 pub record TurnedOn (c : Config) (n : ℕ) (start now : Seen) (past : List Act) (until : Option ℕ) (sessions : Sessions) : Type 0 where
   pub at : ℕ
   pub ready : Listed
-  pub course : Course c n start now (Turn until at ready false ∷ past) sessions
+  pub course : SessionsCourse c n start now (Turn until at ready false ∷ past) sessions
   pub came : (s : ℕ) → Has s sessions.work.items → (names_own c s ready.entries ≡ true) ⊎ ((m : ℕ) × (session_until c past s ≡ Some m) × (m ≤ at))
   pub few : IsBefore at until → length sessions.work.items ≤ length ready.entries
   pub begins : BeginsCall c (Turn until at ready false ∷ past) sessions.work.items
@@ -107,7 +107,7 @@ pub record ShortAt (c : Config) (n : ℕ) (start now : Seen) (sessions : Session
 
 -- where it was, the run goes on after the turn, or is stopped by it
 abbrev pub WaitedIs : Config → ℕ → Option ℕ → Seen → Seen → Sessions → Sessions → Waited → Type 0
-WaitedIs c n until old new before after waits.Goes = ((start : Seen) (past : List Act) → Course c n start old past before → InOrder c past until → WaitsNoLonger until before → TurnedOn c n start new past until after) × (after.made ≡ suc before.made)
-WaitedIs c n until old new before after waits.Stops = ((start : Seen) (past : List Act) → Course c n start old past before → InOrder c past until → Stopping c n start new after) × (after.made ≡ suc before.made)
-WaitedIs c n until old new before after waits.Short = ((start : Seen) (past : List Act) → Course c n start old past before → InOrder c past until → ShortAt c n start new after) × (after.made ≡ suc before.made)
-WaitedIs c n until old new before after waits.Memory = ((start : Seen) (past : List Act) → Course c n start old past before → InOrder c past until → MayEnd c n start new whys.Memory after) × (after.made ≡ before.made)
+WaitedIs c n until old new before after waits.Goes = ((start : Seen) (past : List Act) → SessionsCourse c n start old past before → IsWaitInOrder c past until → WaitsNoLonger until before → TurnedOn c n start new past until after) × (after.made ≡ suc before.made)
+WaitedIs c n until old new before after waits.Stops = ((start : Seen) (past : List Act) → SessionsCourse c n start old past before → IsWaitInOrder c past until → Stopping c n start new after) × (after.made ≡ suc before.made)
+WaitedIs c n until old new before after waits.Short = ((start : Seen) (past : List Act) → SessionsCourse c n start old past before → IsWaitInOrder c past until → ShortAt c n start new after) × (after.made ≡ suc before.made)
+WaitedIs c n until old new before after waits.Memory = ((start : Seen) (past : List Act) → SessionsCourse c n start old past before → IsWaitInOrder c past until → MayEnd c n start new whys.Memory after) × (after.made ≡ before.made)

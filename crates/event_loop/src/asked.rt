@@ -18,7 +18,7 @@ use world_trait::World;
 
 /// What the program door came to.
 #[derive(Clone, Copy, Debug, PartialEq, Eq)]
-pub enum Asked {
+pub enum DoorAsked {
     /// It waits for a turn, until this moment in milliseconds, and so does every session.
     Waits(Option<u64>),
     /// It holds nothing any more and will call for nothing; every session waits.
@@ -28,7 +28,7 @@ pub enum Asked {
 }
 
 impl Sessions {
-    ghost use Rattle.event_loop.specs.Courses.{Somewhere, SameRest, NoWork};
+    ghost use Rattle.event_loop.specs.Courses.{SessionsSomewhere, SameRest, NoWork};
     ghost use Rattle.event_loop.specs.Asking.{AskedIs, GoesOn, TakesNext, SameButNext};
     ghost use Rattle.event_loop.specs.Endings.{SomeEnding, SomeFailed, EndsRows, WorkLives};
     ghost use Rattle.event_loop.specs.Paid.{AskPaid, AskedPaid, EndingPaid, EndsPaid};
@@ -41,9 +41,9 @@ impl Sessions {
         world: &mut W,
         config: &Config,
         steps: &mut Steps<L>,
-    ) -> Asked
+    ) -> DoorAsked
         requires fit { Fit config.now }
-        requires course { Somewhere config.now (W.seen world.old) self.old }
+        requires course { SessionsSomewhere config.now (W.seen world.old) self.old }
         requires idle { NoWork self.old }
         ensures asks { AskedIs config.now (W.seen world.old) (W.seen world.new) self.old self.new result }
         ensures made { self.new.made ≡ self.old.made }
@@ -64,9 +64,9 @@ impl Sessions {
         world: &mut W,
         config: &Config,
         steps: &mut Steps<L>,
-    ) -> Option<Asked>
+    ) -> Option<DoorAsked>
         requires fit { Fit config.now }
-        requires course { Somewhere config.now (W.seen world.old) self.old }
+        requires course { SessionsSomewhere config.now (W.seen world.old) self.old }
         requires idle { NoWork self.old }
         ensures asks { GoesOn config.now (W.seen world.old) (W.seen world.new) self.old self.new result }
         ensures made { self.new.made ≡ self.old.made }
@@ -75,7 +75,7 @@ impl Sessions {
     {
         match self.take_next(alloc, config) {
             Ok(pending_session) => self.ask_for(pending_session, alloc, world, config, steps),
-            Err(NoMemory) => Some(Asked::Ends(Why::Memory)),
+            Err(NoMemory) => Some(DoorAsked::Ends(Why::Memory)),
         }
     }
 
@@ -87,8 +87,8 @@ impl Sessions {
         world: &mut W,
         config: &Config,
         steps: &mut Steps<L>,
-    ) -> Option<Asked>
-        requires course { Somewhere config.now (W.seen world.old) self.old }
+    ) -> Option<DoorAsked>
+        requires course { SessionsSomewhere config.now (W.seen world.old) self.old }
         requires idle { NoWork self.old }
         requires room { HasRoom self.old.table }
         requires taken { self.old.pending_session ≡ None }
@@ -113,28 +113,28 @@ impl Sessions {
                     turn: self.made,
                 });
                 match self.run_row(number, world, config, steps) {
-                    Some(why) => Some(Asked::Ends(why)),
+                    Some(why) => Some(DoorAsked::Ends(why)),
                     None => None,
                 }
             }
             DoorStepped::AcceptFailed => {
                 self.pending_session = Some(pending_session);
                 match self.end_rows(world, config, steps) {
-                    Some(why) => Some(Asked::Ends(why)),
+                    Some(why) => Some(DoorAsked::Ends(why)),
                     None => None,
                 }
             }
             DoorStepped::Memory => {
                 self.pending_session = Some(pending_session);
-                Some(Asked::Ends(Why::Memory))
+                Some(DoorAsked::Ends(Why::Memory))
             }
             DoorStepped::Sleep(until) => {
                 self.pending_session = Some(pending_session);
-                Some(Asked::Waits(until))
+                Some(DoorAsked::Waits(until))
             }
             DoorStepped::Done => {
                 self.pending_session = Some(pending_session);
-                Some(Asked::Over)
+                Some(DoorAsked::Over)
             }
         }
     }

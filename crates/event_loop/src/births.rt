@@ -6,6 +6,7 @@ use command_places::{options_of, program_door};
 use fork_table::ForkTable;
 use program_door::Door;
 use relay_model::{Config, NoMemory, ReadyList};
+use relay_session::new_block;
 use std::alloc::Global;
 use std::collections::VecDeque;
 use timer_set::TimerSet;
@@ -22,7 +23,7 @@ impl Sessions {
     {
         let options = options_of(config, program_door());
         let ready = ReadyList::new(alloc)?;
-        let scratch = vec![in alloc; 0; config.block as usize]?;
+        let scratch = new_block(alloc, config.block)?;
         let door = Door::new(config);
         let sessions = options.sessions;
         let table = ForkTable::new(alloc, sessions.max_children, sessions.stop_after);

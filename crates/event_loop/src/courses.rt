@@ -10,23 +10,23 @@ use std::alloc::Global;
 
 /// One session, or with `fork` the session of each peer.
 #[derive(Drop)]
-pub enum Course {
+pub enum LoopCourse {
     One(OneSession),
     Many(ManySessions),
 }
 
-impl Course {
+impl LoopCourse {
     ghost use Rattle.event_loop.specs.Loops.{Begins};
 
     /// Nothing is open.
-    pub fn new(alloc: Global, config: &Config) -> Result<Course, NoMemory>
+    pub fn new(alloc: Global, config: &Config) -> Result<LoopCourse, NoMemory>
         requires { Fit config.now }
         ensures { IfOk result (Begins config.now) }
     {
         if has_fork(config) {
-            Ok(Course::Many(ManySessions::new(alloc, config)?))
+            Ok(LoopCourse::Many(ManySessions::new(alloc, config)?))
         } else {
-            Ok(Course::One(OneSession::new(alloc, config)?))
+            Ok(LoopCourse::One(OneSession::new(alloc, config)?))
         }
     }
 }

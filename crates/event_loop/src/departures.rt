@@ -61,13 +61,12 @@ impl Sessions {
         ensures made { self.new.made ≡ self.old.made }
     {
         if let Some(row) = self.table.session_mut(number, steps) {
-            let scratch = self.scratch.as_mut_slice();
             close_all(
                 &mut row.member.session,
                 &mut self.door,
                 world,
                 config,
-                scratch,
+                &mut self.scratch,
                 why,
             );
         }

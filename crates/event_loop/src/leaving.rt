@@ -1,5 +1,5 @@
 // The closings of one session that was cut, while the program door hears of them.
-ghost use Rattle.std.specs.Prelude.{◌≡◌, ◌<◌, ◌≤◌, true, false, length};
+ghost use Rattle.std.specs.Prelude.{◌≡◌, ◌<◌, ◌≤◌, true, false, vec_len};
 ghost use Rattle.relay_session.specs.Sessions.{left_of};
 ghost use Rattle.event_loop.specs.Closings.{IsOver, LeavesOn, SomeLeaves, closes};
 
@@ -15,14 +15,14 @@ pub fn close_all<W: World>(
     door: &mut Door,
     world: &mut W,
     config: &Config,
-    scratch: &mut [u8],
+    scratch: &mut Vec<u8>,
     why: Why,
 )
-    requires block { config.now.block ≤ length scratch.old }
+    requires block { config.now.block ≤ vec_len scratch.old }
     requires leaves { SomeLeaves config.now (W.seen world.old) why session.old door.old }
     ensures leaves { LeavesOn config.now (W.seen world.old) (W.seen world.new) why session.old session.new door.old door.new }
     ensures over { IsOver session.new }
-    ensures scratch { length scratch.new ≡ length scratch.old }
+    ensures scratch { vec_len scratch.new ≡ vec_len scratch.old }
 {
     loop {
         if close_next(session, door, world, config, scratch, why) {
@@ -37,15 +37,15 @@ fn close_next<W: World>(
     door: &mut Door,
     world: &mut W,
     config: &Config,
-    scratch: &mut [u8],
+    scratch: &mut Vec<u8>,
     why: Why,
 ) -> bool
-    requires block { config.now.block ≤ length scratch.old }
+    requires block { config.now.block ≤ vec_len scratch.old }
     requires leaves { SomeLeaves config.now (W.seen world.old) why session.old door.old }
     ensures leaves { LeavesOn config.now (W.seen world.old) (W.seen world.new) why session.old session.new door.old door.new }
     ensures over { result ≡ true → IsOver session.new }
     ensures fewer { result ≡ false → left_of session.new < left_of session.old }
-    ensures scratch { length scratch.new ≡ length scratch.old }
+    ensures scratch { vec_len scratch.new ≡ vec_len scratch.old }
 {
     let is_closing = closes(session.wish());
     match step(session, world, config, scratch) {

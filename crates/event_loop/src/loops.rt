@@ -2,7 +2,7 @@
 ghost use Rattle.std.specs.Prelude.{◌-◌, ◌^◌, IfOk};
 ghost use Rattle.relay_model.specs.Configs.{Fit};
 
-use crate::courses::Course;
+use crate::courses::LoopCourse;
 use crate::steps::Step;
 use exit_status::Outcome;
 use fork_table::Steps;
@@ -18,11 +18,11 @@ pub struct Loop {
     config: Config,
     /// How many waits it may make.
     turns: u64,
-    course: Course,
+    course: LoopCourse,
 }
 
 impl Loop {
-    ghost use Rattle.event_loop.specs.Loops.{BeginsLoop, CountsWaits, EndsAll, Further, LooksFew, Somewhere, TurnIs, SameCommand, made_of};
+    ghost use Rattle.event_loop.specs.Loops.{BeginsLoop, CountsWaits, EndsAll, Further, LooksFew, LoopSomewhere, TurnIs, SameCommand, made_of};
 
     /// The loop of a command, which holds nothing yet and makes as many waits as it needs. It takes all the memory of one
     /// session; with `fork` each session takes its own before its peer is asked for.
@@ -30,15 +30,15 @@ impl Loop {
         requires { Fit config.now }
         ensures { IfOk result (BeginsLoop config.now (2 ^ 64 - 1)) }
     {
-        Loop::limited(alloc, config, u64::MAX)
+        Loop::with_turns(alloc, config, u64::MAX)
     }
 
     /// The same with so many waits at most, and then the outcome `Stopped`.
-    pub fn limited(alloc: Global, config: &Config, turns: u64) -> Result<Loop, NoMemory>
+    pub fn with_turns(alloc: Global, config: &Config, turns: u64) -> Result<Loop, NoMemory>
         requires { Fit config.now }
         ensures { IfOk result (BeginsLoop config.now turns) }
     {
-        let course = Course::new(alloc, config)?;
+        let course = LoopCourse::new(alloc, config)?;
         let own = config.copy()?;
         Ok(Loop {
             alloc,
@@ -52,7 +52,7 @@ impl Loop {
     /// has to hold what the loop holds, which is nothing before the first call, and each call of the loop has to follow
     /// the one before it with no other act between. `steps` counts the looks at sessions of a command with `fork`.
     pub fn turn<W: World, L: Ledger>(&mut self, world: &mut W, steps: &mut Steps<L>) -> Step
-        requires { Somewhere (W.seen world.old) self.old }
+        requires { LoopSomewhere (W.seen world.old) self.old }
         ensures turns { TurnIs (W.seen world.old) (W.seen world.new) self.old self.new result }
         ensures same { SameCommand self.old self.new }
         ensures further { Further self.old.turns (made_of self.old) (made_of self.new) result }
@@ -60,14 +60,14 @@ impl Loop {
         ensures looks { LooksFew (W.seen world.old) (W.seen world.new) self.old steps.old.ticks steps.new.ticks }
     {
         match &mut self.course {
-            Course::One(one) => one.turn(world, &self.config, self.turns),
-            Course::Many(many) => many.turn(self.alloc, world, &self.config, self.turns, steps),
+            LoopCourse::One(one) => one.turn(world, &self.config, self.turns),
+            LoopCourse::Many(many) => many.turn(self.alloc, world, &self.config, self.turns, steps),
         }
     }
 
     /// Makes its calls up to the end.
     pub fn finish<W: World, L: Ledger>(&mut self, world: &mut W, steps: &mut Steps<L>) -> Outcome
-        requires { Somewhere (W.seen world.old) self.old }
+        requires { LoopSomewhere (W.seen world.old) self.old }
         ensures { EndsAll (W.seen world.old) (W.seen world.new) self.old result }
     {
         loop {

@@ -4,6 +4,7 @@ ghost use Rattle.session_loop.specs.Commands.{Runnable};
 
 use crate::steps::Step;
 use relay_model::{Config, NoMemory};
+use relay_session::new_block;
 use session_loop::Driver;
 use std::alloc::Global;
 use world_trait::World;
@@ -23,7 +24,7 @@ impl OneSession {
         requires { Runnable config.now }
         ensures { IfOk result (BeginsOne config.now) }
     {
-        let scratch = vec![in alloc; 0; config.block as usize]?;
+        let scratch = new_block(alloc, config.block)?;
         let driver = Driver::new(alloc, config)?;
         Ok(OneSession { driver, scratch })
     }
@@ -34,10 +35,7 @@ impl OneSession {
         ensures turns { OneTurns config.now turns (W.seen world.old) (W.seen world.new) self.old self.new result }
         ensures further { Further turns self.old.driver.made self.new.driver.made result }
     {
-        match self
-            .driver
-            .turn(world, config, self.scratch.as_mut_slice(), turns)
-        {
+        match self.driver.turn(world, config, &mut self.scratch, turns) {
             None => Step::Goes,
             Some(why) => Step::Over(self.driver.outcome(why)),
         }

@@ -6,13 +6,12 @@ ghost use Rattle.event_loop.specs.Rows.{Wakened, Sleeping};
 use crate::all_sessions::{Row, Sessions};
 use fork_table::Steps;
 use relay_model::{Config, NoMemory, Why};
-use relay_session::Answer;
 use session_loop::{Pause, drain};
 use std::sync::ledger::Ledger;
 use world_trait::World;
 
 impl Sessions {
-    ghost use Rattle.event_loop.specs.Courses.{Somewhere, SomewhereAt, SameRest, TakesWork, DrainsRow, Settles, SetsTimer, timer_of};
+    ghost use Rattle.event_loop.specs.Courses.{SessionsSomewhere, SomewhereAt, SameRest, TakesWork, DrainsRow, Settles, SetsTimer, timer_of};
     ghost use Rattle.event_loop.specs.Endings.{RowRuns, AllRun};
     ghost use Rattle.event_loop.specs.Paid.{RowsPaid};
 
@@ -24,7 +23,7 @@ impl Sessions {
         config: &Config,
         steps: &mut Steps<L>,
     ) -> Option<Why>
-        requires { Somewhere config.now (W.seen world.old) self.old }
+        requires { SessionsSomewhere config.now (W.seen world.old) self.old }
         ensures runs { AllRun config.now (W.seen world.old) (W.seen world.new) self.old self.new result }
         ensures rest { SameRest self.old self.new }
         ensures looks { steps.new.ticks ≤ steps.old.ticks + length self.old.work.items }
@@ -127,7 +126,7 @@ impl Sessions {
         match self.table.session_mut(number, steps) {
             Some(row) => {
                 wake_row(row, self.made, self.clock);
-                Some(drain(&mut row.member, world, config, self.scratch.as_mut_slice()))
+                Some(drain(&mut row.member, world, config, &mut self.scratch))
             }
             None => None,
         }
@@ -140,7 +139,7 @@ pub fn wake_row(row: &mut Row, made: u64, at: u64)
     ensures { Wakened made at row.old row.new }
 {
     if row.turn < made {
-        row.member.session.heard(at, Answer::Woken);
+        row.member.session.wake(at);
     }
     row.turn = made;
 }

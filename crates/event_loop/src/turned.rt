@@ -3,7 +3,7 @@ ghost use Rattle.std.specs.Prelude.{◌+◌, length};
 ghost use Rattle.relay_model.specs.Configs.{Fit};
 
 use crate::all_sessions::Sessions;
-use crate::asked::Asked;
+use crate::asked::DoorAsked;
 use crate::waited::Waited;
 use fork_table::Steps;
 use relay_model::{Config, Why};
@@ -25,7 +25,7 @@ pub enum RunEnd {
 }
 
 impl Sessions {
-    ghost use Rattle.event_loop.specs.Courses.{Somewhere, NoWork};
+    ghost use Rattle.event_loop.specs.Courses.{SessionsSomewhere, NoWork};
     ghost use Rattle.event_loop.specs.Looks.{LooksFew};
     ghost use Rattle.event_loop.specs.Paid.{WaitForPaid};
     ghost use Rattle.event_loop.specs.Turned.{LooksBounded, TurnIs, WaitsForAll, Within};
@@ -54,12 +54,12 @@ impl Sessions {
             return Some(RunEnd::Ends(why));
         }
         match self.ask_door(alloc, world, config, steps) {
-            Asked::Waits(first) => self.wait_for(first, world, config, turns, steps),
-            Asked::Over => match self.table.first_from(0) {
+            DoorAsked::Waits(first) => self.wait_for(first, world, config, turns, steps),
+            DoorAsked::Over => match self.table.first_from(0) {
                 Some(_) => self.wait_for(None, world, config, turns, steps),
                 None => Some(RunEnd::Over),
             },
-            Asked::Ends(why) => Some(RunEnd::Ends(why)),
+            DoorAsked::Ends(why) => Some(RunEnd::Ends(why)),
         }
     }
 
@@ -72,7 +72,7 @@ impl Sessions {
         turns: u64,
         steps: &mut Steps<L>,
     ) -> Option<RunEnd>
-        requires course { Somewhere config.now (W.seen world.old) self.old }
+        requires course { SessionsSomewhere config.now (W.seen world.old) self.old }
         requires idle { NoWork self.old }
         ensures waits { WaitsForAll config.now turns first (W.seen world.old) (W.seen world.new) self.old self.new result }
         ensures looks { LooksFew (length self.new.ready.entries) steps.old.ticks steps.new.ticks self.old self.new }

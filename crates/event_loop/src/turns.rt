@@ -3,12 +3,10 @@ ghost use Rattle.std.specs.Prelude.{◌≡◌, ℕ, ◌<◌, ◌≤◌, ◌+◌,
 ghost use Rattle.relay_model.specs.declared.acts.Act.{Act};
 ghost use Rattle.relay_model.specs.declared.acts.Act.TheVariants as acts;
 ghost use Rattle.relay_model.specs.declared.commands.Config.{Config as Command};
-ghost use Rattle.relay_model.specs.Readiness.{copied_list};
 ghost use Rattle.session_direction.specs.Directions.{listed};
 ghost use Rattle.relay_session.specs.declared.wishes.Wish.TheVariants as wishes;
 ghost use Rattle.relay_session.specs.Sessions.{Hears, wish_of};
 ghost use Rattle.fork_table.specs.Tables.{row_of};
-ghost use Rattle.program_door.specs.Stands.{DoorStands};
 ghost use Rattle.event_loop.specs.Rows.{Sleeping, SleepsIfLate};
 ghost use Rattle.event_loop.specs.Turns.{HearsTurn, HeardOnce, DoorHearsTurn};
 
@@ -17,12 +15,12 @@ use command_places::is_program_door;
 use fork_table::Steps;
 use program_door::Door;
 use relay_model::{Config, NoMemory, ReadyList, Why};
-use relay_session::{Answer, Session};
+use relay_session::Session;
 use std::sync::ledger::Ledger;
 
 impl Sessions {
     ghost use Rattle.event_loop.specs.Closings.{LooksAtRows};
-    ghost use Rattle.event_loop.specs.Turns.{RowHeard, AllHeard, AsleepRow, AllAsleep, AllUnheard, NamedHeard, RowHearsOnce, Queues, QueuesDue};
+    ghost use Rattle.event_loop.specs.Turns.{RowHeard, AllHeard, AsleepRow, AllAsleep, AllUnheard, NamedHeard, RowHearsOnce, QueuesNamed, QueuesDue};
     ghost use Rattle.event_loop.specs.Courses.{SameButWork, SameButLists};
     ghost use Rattle.event_loop.specs.Looks.{AddsDue, CameByName, CameInTime, OnlyNamedCame, WorksFew};
 
@@ -77,7 +75,7 @@ impl Sessions {
 
     /// Puts each session that the last turn names a thing of into the list of work. After an error some are there.
     pub fn queue_named(&mut self, config: &Config) -> Result<(), NoMemory>
-        ensures named { OnOk result (Queues config.now self.old.ready.entries self.old self.new) }
+        ensures named { OnOk result (QueuesNamed config.now self.old.ready.entries self.old self.new) }
         ensures same { SameButWork self.old self.new }
         ensures few { length self.new.work.items ≤ length self.old.work.items + length self.old.ready.entries }
         ensures came { CameByName config.now self.old.ready.entries self.old self.new }
@@ -123,7 +121,7 @@ fn hear_turn(session: &mut Session, at: u64, ready: &ReadyList, stop: bool)
     requires { (until : Option ℕ) × (wish_of session.old ≡ wishes.Sleep until) }
     ensures { HearsTurn at ready.now stop session.old session.new }
 {
-    session.heard(at, Answer::Woken);
+    session.wake(at);
     name_all(session, ready);
     if stop {
         session.cut(Why::Stopped);
@@ -145,7 +143,7 @@ fn name_all(session: &mut Session, ready: &ReadyList)
 pub fn hear_door(door: &mut Door, ready: &ReadyList, stop: bool)
     ensures { DoorHearsTurn ready.now stop door.old door.new }
 {
-    door.woken();
+    door.wake();
     for i in 0..ready.len() {
         door.ready(ready.get(i));
     }

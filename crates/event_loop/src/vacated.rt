@@ -24,9 +24,9 @@ impl Sessions {
         ensures closes { ClosesFirst (W.seen world.old) (W.seen world.new) why self.old self.new }
         ensures made { self.new.made ≡ self.old.made }
     {
-        if let Some(thing) = self.door.held() {
+        if let Some(thing) = self.door.held_thing() {
             world.close(thing, why);
-            self.door.closed(why);
+            self.door.hear_closing(why);
         }
     }
 }

@@ -21,7 +21,7 @@ pub enum Waited {
 }
 
 impl Sessions {
-    ghost use Rattle.event_loop.specs.Courses.{Somewhere, NoWork};
+    ghost use Rattle.event_loop.specs.Courses.{SessionsSomewhere, NoWork};
     ghost use Rattle.event_loop.specs.Turns.{AllUnheard, HearsNamed, Queued, TakesTurn};
     ghost use Rattle.event_loop.specs.Looks.{AddsParts, CameForCause, LooksFew, OnlyNamedCame, WorksFew};
     ghost use Rattle.event_loop.specs.Waited.{WaitedIs};
@@ -38,7 +38,7 @@ impl Sessions {
         steps: &mut Steps<L>,
     ) -> Waited
         requires few { self.old.made < turns }
-        requires course { Somewhere config.now (W.seen world.old) self.old }
+        requires course { SessionsSomewhere config.now (W.seen world.old) self.old }
         requires idle { NoWork self.old }
         ensures waits { WaitedIs config.now turns until (W.seen world.old) (W.seen world.new) self.old self.new result }
         ensures looks { LooksFew (length self.new.ready.entries) steps.old.ticks steps.new.ticks self.old self.new }

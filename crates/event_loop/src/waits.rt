@@ -1,8 +1,6 @@
 // Until when the loop waits.
-ghost use Rattle.std.specs.Prelude.{◌≡◌};
-ghost use Rattle.relay_model.specs.Choices.{earlier as earlier_of};
-
 use crate::all_sessions::Sessions;
+use relay_session::earlier;
 
 impl Sessions {
     ghost use Rattle.event_loop.specs.Waits.{IsLeast, WaitsFor};
@@ -15,16 +13,5 @@ impl Sessions {
             Some((at, _number)) => earlier(first, Some(at)),
             None => first,
         }
-    }
-}
-
-/// The lesser of two moments, where there are two.
-fn earlier(one: Option<u64>, other: Option<u64>) -> Option<u64>
-    ensures { result ≡ earlier_of one other }
-{
-    match (one, other) {
-        (Some(a), Some(b)) => Some(a.min(b)),
-        (Some(a), None) => Some(a),
-        (None, b) => b,
     }
 }

@@ -6,8 +6,8 @@ use Rattle.relay_model.specs.declared.acts.Why.{Why}
 use Rattle.relay_model.specs.declared.acts.Why.TheVariants as whys
 use Rattle.relay_model.specs.declared.places.Half.{Half}
 use Rattle.relay_model.specs.declared.places.Half.TheVariants.{ToRead, ToWrite}
-use Rattle.relay_model.specs.Outcome.{Outcome}
-use Rattle.relay_model.specs.Outcome as endings
+use Rattle.relay_model.specs.declared.outcomes.RunOutcome.{RunOutcome}
+use Rattle.relay_model.specs.declared.outcomes.RunOutcome.TheVariants as endings
 use Rattle.exit_status.specs.declared.outcomes.EndWhy.{EndWhy}
 use Rattle.exit_status.specs.declared.outcomes.EndWhy.TheVariants as ends
 use Rattle.exit_status.specs.declared.outcomes.Op.{Op}
@@ -37,7 +37,7 @@ op_of_half Reading = refl
 op_of_half Writing = refl
 
 -- the answer that tells an outcome
-abbrev answer_of : Option Outcome → Told
+abbrev answer_of : Option RunOutcome → Told
 answer_of None = told.Told
 answer_of (Some (endings.Ended why)) = told.Ended (end_of why)
 answer_of (Some (endings.OpenFailed side attempts)) = told.OpenFailed side attempts
@@ -48,7 +48,7 @@ answer_of (Some (endings.Stopped turns)) = told.Stopped turns
 answer_of (Some endings.Memory) = told.Memory
 
 -- an answer is the one that tells its outcome, where it has one
-told_back : (answer : Told) (ending : Outcome) → outcome_of answer ≡ Some ending → answer ≡ answer_of (Some ending)
+told_back : (answer : Told) (ending : RunOutcome) → outcome_of answer ≡ Some ending → answer ≡ answer_of (Some ending)
 told_back (told.Ended why) ending e = ap told.Ended (sym (end_of_why why)) ∙ ap answer_of e
 told_back told.Told ending e = cc
 told_back told.Loaded ending e = cc

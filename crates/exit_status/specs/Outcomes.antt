@@ -8,8 +8,10 @@ use Rattle.relay_model.specs.declared.places.Half.{Half}
 use Rattle.relay_model.specs.declared.places.Half.TheVariants.{ToRead, ToWrite}
 use Rattle.relay_model.specs.History.{turns}
 use Rattle.relay_model.specs.Rest.{Rest}
-use Rattle.relay_model.specs.Outcome.{Outcome, holds_something}
-use Rattle.relay_model.specs.Outcome as endings
+use Rattle.relay_model.specs.Outcome.{holds_something}
+use Rattle.relay_model.specs.declared.outcomes.RunOutcome.{RunOutcome}
+use Rattle.relay_model.specs.Outcome.{outcome}
+use Rattle.relay_model.specs.declared.outcomes.RunOutcome.TheVariants as endings
 use Rattle.exit_status.specs.declared.outcomes.EndWhy.{EndWhy}
 use Rattle.exit_status.specs.declared.outcomes.EndWhy.TheVariants as ends
 use Rattle.exit_status.specs.declared.outcomes.Op.{Op}
@@ -30,7 +32,7 @@ half_of Reading = ToRead
 half_of Writing = ToWrite
 
 -- the outcome of a run, where what is told is one: a refusal and what is printed are not
-abbrev pub outcome_of : Told → Option Outcome
+abbrev pub outcome_of : Told → Option RunOutcome
 outcome_of (told.Ended why) = Some (endings.Ended (why_of why))
 outcome_of told.Told = None
 outcome_of told.Loaded = None
@@ -45,7 +47,7 @@ outcome_of told.Memory = Some endings.Memory
 -- once nothing is held, the answer is the outcome of the acts; or the turns were used up while a wait was in order
 abbrev pub IsOutcome : Config → ℕ → List Act → Told → Type 0
 IsOutcome c n past answer =
-    ((ending : Outcome) × (endings.outcome c past ≡ Some ending) × (outcome_of answer ≡ Some ending))
+    ((ending : RunOutcome) × (outcome c past ≡ Some ending) × (outcome_of answer ≡ Some ending))
     ⊎ ((holds_something c past ≡ false) × (turns past ≡ n) × Rest c past × (answer ≡ told.Stopped n))
 
 -- at most one answer fits a list of acts

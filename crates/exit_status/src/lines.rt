@@ -87,7 +87,7 @@ fn reason_of(alloc: Global, why: Refusal) -> Result<String, AllocError>
 
 /// The label and the number, or nothing for 0.
 #[tactic(auto, unfolding(crate::specs::Lines::numbered))]
-fn labelled(alloc: Global, label: &str, number: u32) -> Result<String, AllocError>
+fn labelled_number(alloc: Global, label: &str, number: u32) -> Result<String, AllocError>
     ensures { IfOk result (λ text. string_bytes text ≡ numbered label.now number) }
 {
     if number == 0 {
@@ -101,8 +101,8 @@ fn line_of_refused(alloc: Global, refused: &Refused) -> Result<String, AllocErro
     ensures { IfOk result (λ text. string_bytes text ≡ refused_line refused.now) }
 {
     let code = code_of(refused.why);
-    let word = labelled(alloc, " word ", refused.word)?;
-    let half = labelled(alloc, " half ", u32::from(refused.half))?;
+    let word = labelled_number(alloc, " word ", refused.word)?;
+    let half = labelled_number(alloc, " half ", u32::from(refused.half))?;
     let reason = reason_of(alloc, refused.why)?;
     format!(in alloc; "socat: E{code}{word}{half}: {reason}\n")
 }

@@ -11,7 +11,7 @@ use Rattle.socket_ports.specs.Removals.{IsRemoval}
 use Rattle.file_ports.specs.Access.{access_of}
 use Rattle.file_ports.specs.Opened.{OnMade, AreOpened, IsOpened, file_named}
 use Rattle.file_ports.specs.declared.access.Access.{Access}
-use Rattle.file_ports.specs.declared.access.FileKind.{FileKind}
+use Rattle.file_ports.specs.declared.access.FileAddress.{FileAddress}
 use Rattle.file_ports.specs.declared.open.FileEnds.{FileEnds}
 use Rattle.file_ports.specs.declared.open.OpenedFile.{OpenedFile}
 
@@ -22,7 +22,7 @@ on_made P Q makings.Failed more is = tt
 on_made P Q makings.Memory more is = tt
 
 -- ends that were opened as the address asks are those of the file that keeps them
-pub opened_kept : (opens : OpenOptions → List ℕ → File → Type 0) (empties : File → Type 0) (copies : File → File → Type 0) (single : Single) (part : Part) (kind : FileKind) (name text : List ℕ) (access : Access) (ends : FileEnds) (result : Making OpenedFile) → file_named single.target ≡ Some (kind, name) → IsUtf8 name → access ≡ access_of kind single.options.file part → text ≡ name → AreOpened opens empties copies part access text ends → OnMade result (λ opened. (opened.ends ≡ ends) × IsRemoval single.options.entry.unlink_close text opened.removal) → OnMade result (λ opened. IsOpened opens empties copies single part opened.ends opened.removal)
+pub opened_kept : (opens : OpenOptions → List ℕ → File → Type 0) (empties : File → Type 0) (copies : File → File → Type 0) (single : Single) (part : Part) (kind : FileAddress) (name text : List ℕ) (access : Access) (ends : FileEnds) (result : Making OpenedFile) → file_named single.target ≡ Some (kind, name) → IsUtf8 name → access ≡ access_of kind single.options.file part → text ≡ name → AreOpened opens empties copies part access text ends → OnMade result (λ opened. (opened.ends ≡ ends) × IsRemoval single.options.entry.unlink_close text opened.removal) → OnMade result (λ opened. IsOpened opens empties copies single part opened.ends opened.removal)
 opened_kept opens empties copies single part kind name text access ends result found utf8 asked named opened kept =
     let asks = access_of kind single.options.file part in
     let by_access = subst (λ (how : Access). AreOpened opens empties copies part how text ends) asked opened in

@@ -3,15 +3,15 @@ use Rattle.std.specs.Prelude.{◌≡◌, Bool, true, false, not, ◌&&◌, Optio
 use Rattle.relay_model.specs.declared.places.Part.{Part}
 use Rattle.port_trait.specs.Hinting.{no_hint}
 use Rattle.port_trait.specs.declared.answers.Hint.{Hint}
-use Rattle.file_ports.specs.declared.halves.Readiness.{Readiness}
-use Rattle.file_ports.specs.declared.halves.Readiness.TheVariants as readiness
+use Rattle.file_ports.specs.declared.halves.HalfReadiness.{HalfReadiness}
+use Rattle.file_ports.specs.declared.halves.HalfReadiness.TheVariants as readiness
 use Rattle.file_ports.specs.Access.{reads_by, writes_by}
 
 -- whether there is something to read from and something to write to, and who knows when they are ready
 pub record HalvesState : Type 0 where
   pub reads : Bool
   pub writes : Bool
-  pub readiness : Readiness
+  pub readiness : HalfReadiness
 
 -- this is done to what the half has, and a half that isn't there stays so
 abbrev pub AtHalf : {T : Type 0} → (T → T → Type 0) → Option T → Option T → Type 0
@@ -19,12 +19,12 @@ AtHalf P None now = now ≡ None
 AtHalf P (Some before) now = IsSomeAnd now (P before)
 
 -- whether nothing reports them, since they are always ready
-abbrev pub is_always : Readiness → Bool
+abbrev pub is_always : HalfReadiness → Bool
 is_always readiness.Reported = false
 is_always readiness.Always = true
 
 -- a hint at these halves, where they are always ready
-abbrev pub hint_by : Readiness → Bool → Bool → Hint
+abbrev pub hint_by : HalfReadiness → Bool → Bool → Hint
 hint_by readiness.Reported reads writes = no_hint
 hint_by readiness.Always reads writes = record { readable = reads; writable = writes }
 

@@ -1,13 +1,13 @@
 // How a file is to be opened, by its address and its use.
-ghost use Rattle.std.specs.Prelude.{◌≡◌, false};
-ghost use Rattle.file_ports.specs.Access.{access_of, options_of, reads_by, writes_by};
+ghost use Rattle.std.specs.Prelude.{◌≡◌};
+ghost use Rattle.file_ports.specs.Access.{access_of, options_of, plain_access, reads_by, writes_by};
 
 use relay_model::{FileFlags, Part};
 use std::fs::OpenOptions;
 
 /// The addresses that open a file by its name (socat(1): `CREATE`, `OPEN`, `GOPEN`, `PIPE`).
 #[derive(Clone, Copy, Debug, PartialEq)]
-pub enum FileKind {
+pub enum FileAddress {
     Create,
     Open,
     Generic,
@@ -30,19 +30,19 @@ pub struct Access {
 
 impl Access {
     /// The access of an address of this kind with these flags, in this use. `excl` alone makes the file.
-    pub fn of(kind: FileKind, flags: FileFlags, part: Part) -> Access
+    pub fn of(kind: FileAddress, flags: FileFlags, part: Part) -> Access
         ensures { result ≡ access_of kind flags part }
     {
         let read = reads(part);
         let write = writes(part);
         let appends = write && flags.append;
         match kind {
-            FileKind::Create => Access {
+            FileAddress::Create => Access {
                 truncate: true,
                 create: true,
                 ..Access::plain(false, true)
             },
-            FileKind::Open => Access {
+            FileAddress::Open => Access {
                 append: appends,
                 truncate: flags.trunc && !appends,
                 empty: flags.trunc && appends && !flags.excl,
@@ -50,7 +50,7 @@ impl Access {
                 create_new: flags.excl,
                 ..Access::plain(read, write)
             },
-            FileKind::Generic => Access {
+            FileAddress::Generic => Access {
                 append: write,
                 truncate: flags.trunc && !write,
                 empty: flags.trunc && write && !flags.excl,
@@ -58,22 +58,13 @@ impl Access {
                 create_new: flags.excl,
                 ..Access::plain(read, write)
             },
-            FileKind::Pipe => Access::plain(read, write),
+            FileAddress::Pipe => Access::plain(read, write),
         }
     }
 
     /// What is there, to be read or written.
     pub(crate) fn plain(read: bool, write: bool) -> Access
-        ensures { result
-            ≡ record {
-              read = read;
-              write = write;
-              append = false;
-              truncate = false;
-              empty = false;
-              create = false;
-              create_new = false;
-            } }
+        ensures { result ≡ plain_access read write }
     {
         Access {
             read,
@@ -101,20 +92,16 @@ impl Access {
     }
 }
 
-fn reads(part: Part) -> bool
+/// Whether this use reads.
+pub(crate) fn reads(part: Part) -> bool
     ensures { result ≡ reads_by part }
 {
-    match part {
-        Part::Both | Part::Reading => true,
-        Part::Writing => false,
-    }
+    matches!(part, Part::Both | Part::Reading)
 }
 
-fn writes(part: Part) -> bool
+/// Whether this use writes.
+pub(crate) fn writes(part: Part) -> bool
     ensures { result ≡ writes_by part }
 {
-    match part {
-        Part::Both | Part::Writing => true,
-        Part::Reading => false,
-    }
+    matches!(part, Part::Both | Part::Writing)
 }

@@ -1,5 +1,5 @@
 // What is read from and written to by calls of the system, and what each call means to a port.
-ghost use Rattle.std.specs.Prelude.{◌≡◌, ◌≢◌, ◌<◌, ℕ, List, length, Result, None};
+ghost use Rattle.std.specs.Prelude.{◌≢◌, ◌<◌, ℕ, List, length, Result, None};
 ghost use Rattle.std.specs.Io.{ReadsAtMost, WritesAtMost};
 ghost use Rattle.std.specs.Io.KnownBytes.{ReadConsumes, WriteAppends};
 ghost use Rattle.std.specs.declared.io.Error.{Error};
@@ -8,7 +8,7 @@ ghost use Rattle.port_trait.specs.declared.answers.Got.TheVariants as reads;
 ghost use Rattle.socket_kinds.specs.Answering.{Answers, ReaderGave, WriterTook, IsReceived, IsAccepted};
 
 use port_trait::{Got, Took};
-use socket_kinds::{accepted, received};
+use socket_kinds::{receive_answer, send_answer};
 use std::fs::File;
 use std::io;
 use std::io::{PipeReader, PipeWriter, Read, Stdin, Stdout, Write};
@@ -82,7 +82,7 @@ pub(crate) fn receive_once<R: ReadEnd>(reader: &mut R, into: &mut [u8]) -> Got
     ensures gives { Gives None None into.new result }
     ensures stream { result ≢ reads.Empty }
 {
-    received(&reader.receive(into))
+    receive_answer(&reader.receive(into))
 }
 
 /// One write, and its answer.
@@ -92,5 +92,5 @@ pub(crate) fn transmit_once<W: WriteEnd>(writer: &mut W, bytes: &[u8]) -> Took
     ensures bytes { WriterTook (W.contents writer.old) (W.contents writer.new) bytes.now result }
     ensures accepts { Accepts None None bytes.now result }
 {
-    accepted(&writer.transmit(bytes))
+    send_answer(&writer.transmit(bytes))
 }

@@ -7,8 +7,8 @@ ghost use Rattle.port_trait.specs.declared.answers.Settled.TheVariants as settle
 ghost use Rattle.port_trait.specs.declared.answers.Shutting.TheVariants as shuts;
 ghost use Rattle.port_trait.specs.declared.answers.Took.TheVariants as writes;
 ghost use Rattle.socket_kinds.specs.Answering.{Answers, ReaderGave, WriterTook, IsReceived, IsAccepted};
-ghost use Rattle.file_ports.specs.Halves.{AtHalf, halves_hint, is_always};
-ghost use Rattle.file_ports.specs.declared.halves.Readiness.TheVariants as readiness;
+ghost use Rattle.file_ports.specs.Halves.{AtHalf, HalvesState, halves_hint, is_always};
+ghost use Rattle.file_ports.specs.declared.halves.HalfReadiness.TheVariants as readiness;
 
 use crate::ends::{ReadEnd, WriteEnd, receive_once, transmit_once};
 use mio::unix::SourceFd;
@@ -22,7 +22,7 @@ use std::os::fd::AsRawFd;
 
 /// Who knows when a descriptor is ready. A regular file always is, and no registry takes it (epoll_ctl(2), `EPERM`).
 #[derive(Clone, Copy, Debug, PartialEq)]
-pub enum Readiness {
+pub enum HalfReadiness {
     Reported,
     Always,
 }
@@ -33,13 +33,10 @@ pub enum Readiness {
 pub struct Halves<I, O> {
     reading: Option<I>,
     writing: Option<O>,
-    readiness: Readiness,
+    readiness: HalfReadiness,
 }
 
 impl<I, O> Model for Halves<I, O> {
-    ghost use Rattle.std.specs.Prelude.{is_some};
-    ghost use Rattle.file_ports.specs.Halves.{HalvesState};
-
     ghost Value = { HalvesState };
 
     ghost view = { λ halves. record { reads = is_some halves.reading; writes = is_some halves.writing; readiness = halves.readiness } };
@@ -47,7 +44,7 @@ impl<I, O> Model for Halves<I, O> {
 
 impl<I: AsRawFd + Drop, O: AsRawFd + Drop> Halves<I, O> {
     /// Has the registry report each half under this key. `None` where the system refuses.
-    pub fn enrolled(
+    pub fn enroll(
         registry: &Registry,
         key: usize,
         reading: Option<I>,
@@ -55,7 +52,7 @@ impl<I: AsRawFd + Drop, O: AsRawFd + Drop> Halves<I, O> {
     ) -> Option<Halves<I, O>>
         ensures { IfSome result (λ halves. (halves.reads ≡ is_some reading) × (halves.writes ≡ is_some writing)) }
     {
-        let mut readiness = Readiness::Reported;
+        let mut readiness = HalfReadiness::Reported;
         if let Some(input) = &reading {
             readiness = enroll(registry, key, input, Interest::READABLE)?;
         }
@@ -78,7 +75,7 @@ impl<I, O> Halves<I, O> {
         Halves {
             reading,
             writing,
-            readiness: Readiness::Always,
+            readiness: HalfReadiness::Always,
         }
     }
 
@@ -100,7 +97,7 @@ impl<I, O> Halves<I, O> {
     pub(crate) fn is_always_ready(&self) -> bool
         ensures { result ≡ is_always self.now.readiness }
     {
-        self.readiness == Readiness::Always
+        self.readiness == HalfReadiness::Always
     }
 }
 
@@ -110,14 +107,14 @@ fn enroll<F: AsRawFd>(
     key: usize,
     descriptor: &F,
     interest: Interest,
-) -> Option<Readiness> {
+) -> Option<HalfReadiness> {
     let fd = descriptor.as_raw_fd();
     if os::set_nonblocking(fd, true) != 0 {
         return None;
     }
     match registry.register(&mut SourceFd(&fd), Token(key), interest) {
-        Ok(()) => Some(Readiness::Reported),
-        Err(error) if error.kind() == ErrorKind::PermissionDenied => Some(Readiness::Always),
+        Ok(()) => Some(HalfReadiness::Reported),
+        Err(error) if error.kind() == ErrorKind::PermissionDenied => Some(HalfReadiness::Always),
         Err(_) => None,
     }
 }

@@ -60,13 +60,8 @@ fn read_to_hang_up<F: ReadEnd>(
 {
     match file.receive(into) {
         Ok(count) => Ok(count),
-        Err(error) => {
-            if is_hang_up(is_terminal, &error) {
-                Ok(0)
-            } else {
-                Err(error)
-            }
-        }
+        Err(error) if is_hang_up(is_terminal, &error) => Ok(0),
+        Err(error) => Err(error),
     }
 }
 

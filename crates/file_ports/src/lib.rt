@@ -12,9 +12,9 @@ mod port;
 mod stream;
 mod waiting;
 
-pub use access::{Access, FileKind};
+pub use access::{Access, FileAddress};
 pub use ends::{ReadEnd, WriteEnd};
-pub use halves::{Halves, Readiness};
+pub use halves::{HalfReadiness, Halves};
 pub use input::FileInput;
 pub use open::{FileEnds, NamedPipe, OpenedFile, PipeEntry, open_file};
 pub use opening::FileCalls;

@@ -3,10 +3,10 @@ ghost use Rattle.std.specs.Prelude.{◌≡◌, None, Some, IfSome, IfNone, IsUtf
 ghost use Rattle.std.specs.Fs.{IsValidOptions};
 ghost use Rattle.port_trait.specs.declared.makers.Making.TheVariants as makings;
 ghost use Rattle.file_ports.specs.Access.{access_of, options_of};
-ghost use Rattle.file_ports.specs.Opened.{file_named, OnMade, AreOpened, IsAsked, IsOpened, Unlinks, UnlinksEntry};
+ghost use Rattle.file_ports.specs.Opened.{file_named, OnMade, AreOpened, IsAskedFile, IsOpened, Unlinks, UnlinksEntry};
 ghost use Rattle.socket_ports.specs.Removals.{IsRemoval};
 
-use crate::access::{Access, FileKind};
+use crate::access::{Access, FileAddress};
 use crate::opening::{FileCalls, open_asked};
 use port_trait::Making;
 use relay_model::{Part, Single, Target, Text};
@@ -110,15 +110,15 @@ fn keep_entry(alloc: Global, ends: FileEnds, name: &str, wanted: bool) -> Making
 }
 
 /// The kind and the name of an address of a file.
-fn file_of(target: &Target) -> Option<(FileKind, &Text)>
+fn file_of(target: &Target) -> Option<(FileAddress, &Text)>
     ensures found { IfSome result (λ file. file_named target.now ≡ Some (file.0, file.1.now)) }
     ensures other { IfNone result (file_named target.now ≡ None) }
 {
     match target {
-        Target::Create(name) => Some((FileKind::Create, name)),
-        Target::FileAt(name) => Some((FileKind::Open, name)),
-        Target::GenericOpen(name) => Some((FileKind::Generic, name)),
-        Target::NamedPipe(name) => Some((FileKind::Pipe, name)),
+        Target::Create(name) => Some((FileAddress::Create, name)),
+        Target::FileAt(name) => Some((FileAddress::Open, name)),
+        Target::GenericOpen(name) => Some((FileAddress::Generic, name)),
+        Target::NamedPipe(name) => Some((FileAddress::Pipe, name)),
         _ => None,
     }
 }
@@ -127,7 +127,7 @@ fn file_of(target: &Target) -> Option<(FileKind, &Text)>
 fn open_ends<C: FileCalls>(
     calls: &C,
     alloc: Global,
-    kind: FileKind,
+    kind: FileAddress,
     access: Access,
     name: &str,
     part: Part,
@@ -146,10 +146,10 @@ fn open_ends<C: FileCalls>(
                 Err(_) => Making::Memory,
             };
         }
-    } else if kind == FileKind::Pipe {
+    } else if kind == FileAddress::Pipe {
         return Making::Failed;
     }
-    if kind == FileKind::Generic && !access.write && !access.create_new {
+    if kind == FileAddress::Generic && !access.write && !access.create_new {
         make_missing(calls, name);
     }
     match open_asked(calls, access, name) {
@@ -187,7 +187,7 @@ fn ends_of<C: FileCalls>(
     file: File,
     part: Part,
 ) -> Making<FileEnds>
-    requires { IsAsked (C.opens calls.now) (C.empties calls.now) access name.now file }
+    requires { IsAskedFile (C.opens calls.now) (C.empties calls.now) access name.now file }
     ensures { OnMade result (AreOpened (C.opens calls.now) (C.empties calls.now) (C.copies calls.now) part access name.now) }
 {
     match part {

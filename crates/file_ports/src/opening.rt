@@ -2,7 +2,7 @@
 ghost use Rattle.std.specs.Prelude.{◌≡◌, ◌∷◌, ◌++◌, [], ℕ, List, Option, None, option_map, ⊤, IfOk, OnOk};
 ghost use Rattle.std.specs.declared.fs.File.{File};
 ghost use Rattle.std.specs.declared.fs.options.OpenOptions.{OpenOptions};
-ghost use Rattle.file_ports.specs.Opened.{IsAsked};
+ghost use Rattle.file_ports.specs.Opened.{IsAskedFile};
 
 use crate::access::Access;
 use std::fs::{File, Metadata, OpenOptions};
@@ -68,7 +68,7 @@ impl FileCalls for HostRuntime {
 
 /// Opens the file of this name as it is asked.
 pub(crate) fn open_asked<C: FileCalls>(calls: &C, access: Access, name: &str) -> io::Result<File>
-    ensures { IfOk result (IsAsked (C.opens calls.now) (C.empties calls.now) access name.now) }
+    ensures { IfOk result (IsAskedFile (C.opens calls.now) (C.empties calls.now) access name.now) }
 {
     let file = calls.open_by(&access.options(), name)?;
     if access.empty {

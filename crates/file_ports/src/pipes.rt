@@ -8,7 +8,7 @@ use crate::open::{NamedPipe, PipeEntry};
 use crate::opening::FileCalls;
 use mio::Registry;
 use port_trait::Making;
-use std::alloc::Global;
+use std::alloc::{AllocError, AllocFailed, Global};
 use std::collections::VecDeque;
 use std::fs::File;
 use std::io::Read;
@@ -16,10 +16,10 @@ use std::net::Net;
 use std::os::unix::net::UnixStream;
 use std::rc::Rc;
 use std::rt::HostRuntime;
-use std::sync::{Arc, Mutex};
+use std::sync::{Arc, Mutex, MutexGuard};
 use std::thread::Threads;
 use std::time::Duration;
-use std::{mem, thread};
+use std::{io, mem, thread};
 
 /// The most pipes that may wait at once, each with a thread.
 const MOST_LINES: usize = 64;
@@ -30,24 +30,49 @@ const LAST_MOMENT: u64 = 200;
 
 /// What the opening of a pipe came to.
 #[derive(Drop)]
-pub(crate) enum Outcome {
+pub(crate) enum PipeOutcome {
     UnderWay,
     Opened(File),
     Refused,
 }
 
+/// Why nobody waits for a pipe.
+#[derive(Clone, Copy, Debug, PartialEq)]
+pub(crate) enum Refusal {
+    Failed,
+    Memory,
+}
+
+impl From<io::Error> for Refusal {
+    fn from(_error: io::Error) -> Refusal {
+        Refusal::Failed
+    }
+}
+
+impl From<AllocError> for Refusal {
+    fn from(_error: AllocError) -> Refusal {
+        Refusal::Memory
+    }
+}
+
+impl<T: Drop> From<AllocFailed<T>> for Refusal {
+    fn from(_error: AllocFailed<T>) -> Refusal {
+        Refusal::Memory
+    }
+}
+
 /// One that waits for a pipe, as the thread sees it. `done` is closed once it was told.
 #[derive(Drop)]
-pub(crate) struct Waiter {
+pub(crate) struct PipeWaiter {
     number: u64,
-    told: Arc<Mutex<Outcome>, Global>,
+    told: Arc<Mutex<PipeOutcome>, Global>,
     done: mio::net::UnixStream,
 }
 
 /// Those that wait for one pipe, in their order. It is over once the thread found nobody left.
 #[derive(Drop)]
-struct Line {
-    waiters: VecDeque<Waiter, Global>,
+struct PipeQueue {
+    waiters: VecDeque<PipeWaiter, Global>,
     next: u64,
     over: bool,
 }
@@ -57,26 +82,26 @@ struct Line {
 struct Awaited {
     entry: PipeEntry,
     access: Access,
-    line: Arc<Mutex<Line>, Global>,
+    line: Arc<Mutex<PipeQueue>, Global>,
     served: UnixStream,
 }
 
 /// A place in a line, which is left when it is let go.
 pub(crate) struct Spot {
     number: u64,
-    told: Arc<Mutex<Outcome>, Global>,
-    line: Arc<Mutex<Line>, Global>,
+    told: Arc<Mutex<PipeOutcome>, Global>,
+    line: Arc<Mutex<PipeQueue>, Global>,
 }
 
 impl Spot {
     /// What the opening came to. A file is taken away.
-    pub(crate) fn take(&self) -> Outcome {
+    pub(crate) fn take(&self) -> PipeOutcome {
         let Some(mut told) = self.told.try_lock() else {
-            return Outcome::UnderWay;
+            return PipeOutcome::UnderWay;
         };
-        let found = mem::replace(&mut *told, Outcome::Refused);
-        if let Outcome::UnderWay = found {
-            *told = Outcome::UnderWay;
+        let found = mem::replace(&mut *told, PipeOutcome::Refused);
+        if let PipeOutcome::UnderWay = found {
+            *told = PipeOutcome::UnderWay;
         }
         found
     }
@@ -87,20 +112,16 @@ impl Drop for Spot {
     fn drop(self) {
         let Spot { number, told, line } = self;
         drop(told);
-        leave(&line, number);
-    }
-}
-
-fn leave(line: &Mutex<Line>, number: u64) {
-    if let Some(mut line) = line.try_lock() {
-        line.waiters.retain(|waiter| waiter.number != number);
+        if let Some(mut line) = line.try_lock() {
+            line.waiters.retain(|waiter| waiter.number != number);
+        }
     }
 }
 
 /// What a new one at a line came to.
 enum Joined {
     Waits(u64),
-    Over(Waiter),
+    Over(PipeWaiter),
     Memory,
 }
 
@@ -108,8 +129,9 @@ enum Joined {
 /// wait for it, one after another, so that there is one thread a pipe and not one a session. Who is let go leaves the line,
 /// and the thread stays for the next.
 pub struct PipeOpenings {
-    alloc: Global,
-    registry: Rc<Registry, Global>,
+    pub(crate) alloc: Global,
+    /// The registry of the ports.
+    pub(crate) registry: Rc<Registry, Global>,
     lines: Vec<Awaited>,
 }
 
@@ -131,20 +153,6 @@ impl PipeOpenings {
         }
     }
 
-    pub(crate) fn alloc(&self) -> Global {
-        self.alloc
-    }
-
-    /// The registry of the ports.
-    pub(crate) fn registry(&self) -> &Registry {
-        &self.registry
-    }
-
-    /// Another owner of that registry.
-    pub(crate) fn share_registry(&self) -> Option<Rc<Registry, Global>> {
-        self.registry.clone().ok()
-    }
-
     /// A place in the line of this pipe. `done` is closed once the place was told. `system` opens the pipe, since only a
     /// known runtime may go to a thread.
     pub(crate) fn line_up<R: Net + Threads>(
@@ -153,25 +161,15 @@ impl PipeOpenings {
         system: HostRuntime,
         pipe: NamedPipe,
         done: mio::net::UnixStream,
-    ) -> Making<Spot>
-        ensures at_once { IsAtOnce result }
-    {
-        let Ok(told) = Arc::new(self.alloc, Mutex::new(Outcome::UnderWay)) else {
-            return Making::Memory;
-        };
-        let Ok(theirs) = Arc::try_clone(&told) else {
-            return Making::Memory;
-        };
-        let waiter = Waiter {
+    ) -> Result<Spot, Refusal> {
+        let told = Arc::new(self.alloc, Mutex::new(PipeOutcome::UnderWay))?;
+        let waiter = PipeWaiter {
             number: 0,
-            told: theirs,
+            told: Arc::try_clone(&told)?,
             done,
         };
-        match self.admit(rt, system, pipe, waiter) {
-            Making::Made((number, line)) => Making::Made(Spot { number, told, line }),
-            Making::Later(_) | Making::Failed => Making::Failed,
-            Making::Memory => Making::Memory,
-        }
+        let (number, line) = self.admit(rt, system, pipe, waiter)?;
+        Ok(Spot { number, told, line })
     }
 
     /// Puts it at the end of a line for this pipe, and begins one where there is none.
@@ -180,18 +178,15 @@ impl PipeOpenings {
         rt: &R,
         system: HostRuntime,
         pipe: NamedPipe,
-        waiter: Waiter,
-    ) -> Making<(u64, Arc<Mutex<Line>, Global>)>
-        ensures at_once { IsAtOnce result }
-    {
+        mut waiter: PipeWaiter,
+    ) -> Result<(u64, Arc<Mutex<PipeQueue>, Global>), Refusal> {
         self.lines.retain(|awaited| !is_over(&awaited.line));
-        let mut waiter = waiter;
         for awaited in self.lines.iter() {
             if awaited.entry == pipe.entry && awaited.access == pipe.access {
                 match join(&awaited.line, waiter) {
-                    Joined::Waits(number) => return with_line(number, &awaited.line),
+                    Joined::Waits(number) => return Ok((number, Arc::try_clone(&awaited.line)?)),
                     Joined::Over(back) => waiter = back,
-                    Joined::Memory => return Making::Memory,
+                    Joined::Memory => return Err(Refusal::Memory),
                 }
             }
         }
@@ -204,22 +199,14 @@ impl PipeOpenings {
         rt: &R,
         system: HostRuntime,
         pipe: NamedPipe,
-        waiter: Waiter,
-    ) -> Making<(u64, Arc<Mutex<Line>, Global>)>
-        ensures at_once { IsAtOnce result }
-    {
+        waiter: PipeWaiter,
+    ) -> Result<(u64, Arc<Mutex<PipeQueue>, Global>), Refusal> {
         if self.lines.len() >= MOST_LINES {
-            return Making::Failed;
+            return Err(Refusal::Failed);
         }
-        let Ok((served, serving)) = UnixStream::pair(rt) else {
-            return Making::Failed;
-        };
-        let Some(line) = line_of(self.alloc, waiter) else {
-            return Making::Memory;
-        };
-        let (Ok(theirs), Ok(ours)) = (Arc::try_clone(&line), Arc::try_clone(&line)) else {
-            return Making::Memory;
-        };
+        let (served, serving) = UnixStream::pair(rt)?;
+        let line = line_of(self.alloc, waiter)?;
+        let theirs = Arc::try_clone(&line)?;
         let NamedPipe {
             access,
             name,
@@ -228,16 +215,14 @@ impl PipeOpenings {
         let awaited = Awaited {
             entry,
             access,
-            line: ours,
+            line: Arc::try_clone(&line)?,
             served,
         };
-        if self.lines.push(awaited).is_err() {
-            return Making::Memory;
-        }
+        self.lines.push(awaited)?;
         if !launch(rt, system, access, name, theirs, serving) {
-            return Making::Failed;
+            return Err(Refusal::Failed);
         }
-        Making::Made((0, line))
+        Ok((0, line))
     }
 }
 
@@ -259,48 +244,31 @@ impl Drop for PipeOpenings {
 
 /// Waits for the end of the thread that has the other end, for the last moment at most.
 fn leave_a_moment(served: &mut UnixStream) {
-    if served
-        .set_read_timeout(Some(Duration::from_millis(LAST_MOMENT)))
-        .is_ok()
-    {
+    let moment = Duration::from_millis(LAST_MOMENT);
+    if served.set_read_timeout(Some(moment)).is_ok() {
         let _ = served.read(&mut [0u8; 1]);
     }
 }
 
 /// A line of one.
-fn line_of(alloc: Global, first: Waiter) -> Option<Arc<Mutex<Line>, Global>> {
+fn line_of(alloc: Global, first: PipeWaiter) -> Result<Arc<Mutex<PipeQueue>, Global>, Refusal> {
     let mut waiters = VecDeque::new(alloc);
-    waiters.push_back(first).ok()?;
-    let line = Line {
+    waiters.push_back(first)?;
+    let line = PipeQueue {
         waiters,
         next: 1,
         over: false,
     };
-    Arc::new(alloc, Mutex::new(line)).ok()
-}
-
-fn with_line(
-    number: u64,
-    line: &Arc<Mutex<Line>, Global>,
-) -> Making<(u64, Arc<Mutex<Line>, Global>)>
-    ensures at_once { IsAtOnce result }
-{
-    match Arc::try_clone(line) {
-        Ok(line) => Making::Made((number, line)),
-        Err(_) => Making::Memory,
-    }
+    Ok(Arc::new(alloc, Mutex::new(line))?)
 }
 
 /// Whether the line is over. One that the thread is at just now isn't.
-fn is_over(line: &Mutex<Line>) -> bool {
-    match line.try_lock() {
-        Some(line) => line.over,
-        None => false,
-    }
+fn is_over(line: &Mutex<PipeQueue>) -> bool {
+    line.try_lock().is_some_and(|line| line.over)
 }
 
 /// Puts it at the end of the line. A line that the thread is at just now counts as over.
-fn join(line: &Mutex<Line>, waiter: Waiter) -> Joined {
+fn join(line: &Mutex<PipeQueue>, mut waiter: PipeWaiter) -> Joined {
     let Some(mut line) = line.try_lock() else {
         return Joined::Over(waiter);
     };
@@ -309,12 +277,8 @@ fn join(line: &Mutex<Line>, waiter: Waiter) -> Joined {
     }
     let number = line.next;
     line.next = number.wrapping_add(1);
-    let Waiter {
-        number: _,
-        told,
-        done,
-    } = waiter;
-    match line.waiters.push_back(Waiter { number, told, done }) {
+    waiter.number = number;
+    match line.waiters.push_back(waiter) {
         Ok(()) => Joined::Waits(number),
         Err(_) => Joined::Memory,
     }
@@ -326,7 +290,7 @@ fn launch<R: Threads>(
     system: HostRuntime,
     access: Access,
     name: String,
-    line: Arc<Mutex<Line>, Global>,
+    line: Arc<Mutex<PipeQueue>, Global>,
     serving: UnixStream,
 ) -> bool {
     let work = move || {
@@ -337,7 +301,7 @@ fn launch<R: Threads>(
 }
 
 /// Opens the pipe for one after another, until nobody waits.
-fn serve<C: FileCalls>(calls: &C, access: Access, name: &str, line: &Mutex<Line>) {
+fn serve<C: FileCalls>(calls: &C, access: Access, name: &str, line: &Mutex<PipeQueue>) {
     for _ in 0..u64::MAX {
         let outcome = open_pipe(calls, access, name);
         let Some(waiter) = first_of(line) else {
@@ -350,58 +314,46 @@ fn serve<C: FileCalls>(calls: &C, access: Access, name: &str, line: &Mutex<Line>
     }
 }
 
-fn open_pipe<C: FileCalls>(calls: &C, access: Access, name: &str) -> Outcome
+fn open_pipe<C: FileCalls>(calls: &C, access: Access, name: &str) -> PipeOutcome
     ensures { OnOutcome result (C.opens calls.now (options_of access) name.now) }
 {
     match calls.open_by(&access.options(), name) {
-        Ok(file) => Outcome::Opened(file),
-        Err(_) => Outcome::Refused,
+        Ok(file) => PipeOutcome::Opened(file),
+        Err(_) => PipeOutcome::Refused,
     }
 }
 
-/// Takes the first of the line. With nobody there the line is over. A port holds the lock for a moment at most.
-fn first_of(line: &Mutex<Line>) -> Option<Waiter> {
+/// Takes the lock, which a port holds for a moment at most.
+fn lock<T>(mutex: &Mutex<T>) -> Option<MutexGuard<'_, T>> {
     for _ in 0..u64::MAX {
-        if let Some(mut line) = line.try_lock() {
-            let first = line.waiters.pop_front();
-            line.over = first.is_none();
-            return first;
+        if let Some(guard) = mutex.try_lock() {
+            return Some(guard);
         }
         thread::yield_now();
     }
     None
 }
 
+/// Takes the first of the line. With nobody there the line is over.
+fn first_of(line: &Mutex<PipeQueue>) -> Option<PipeWaiter> {
+    let mut line = lock(line)?;
+    let first = line.waiters.pop_front();
+    line.over = first.is_none();
+    first
+}
+
 /// Whether somebody waits. With nobody there the line is over.
-fn goes_on(line: &Mutex<Line>) -> bool {
-    for _ in 0..u64::MAX {
-        if let Some(mut line) = line.try_lock() {
-            line.over = line.waiters.is_empty();
-            return !line.over;
-        }
-        thread::yield_now();
-    }
-    false
+fn goes_on(line: &Mutex<PipeQueue>) -> bool {
+    let Some(mut line) = lock(line) else {
+        return false;
+    };
+    line.over = line.waiters.is_empty();
+    !line.over
 }
 
-/// Leaves what the opening came to with this one, who is then reported.
-fn tell(waiter: Waiter, outcome: Outcome) {
-    let Waiter {
-        number: _,
-        told,
-        done,
-    } = waiter;
-    leave_with(&told, outcome);
-    drop(told);
-    drop(done);
-}
-
-fn leave_with(told: &Mutex<Outcome>, outcome: Outcome) {
-    for _ in 0..u64::MAX {
-        if let Some(mut told) = told.try_lock() {
-            *told = outcome;
-            return;
-        }
-        thread::yield_now();
+/// Leaves what the opening came to with this one, who is reported once it is let go.
+fn tell(waiter: PipeWaiter, outcome: PipeOutcome) {
+    if let Some(mut told) = lock(&waiter.told) {
+        *told = outcome;
     }
 }

@@ -1,8 +1,8 @@
 // The port of a file.
-ghost use Rattle.std.specs.Prelude.{◌≡◌, None};
+ghost use Rattle.std.specs.Prelude.{◌≡◌, None, IfOk};
 ghost use Rattle.port_trait.specs.Made.{IsAtOnce};
 ghost use Rattle.port_trait.specs.declared.makers.Making.TheVariants as makings;
-ghost use Rattle.socket_ports.specs.Accepting.{IsFresh};
+ghost use Rattle.socket_ports.specs.Accepting.{IsFreshPort};
 ghost use Rattle.socket_ports.specs.Sockets.{fresh_port};
 ghost use Rattle.file_ports.specs.Halves.{AreOf};
 ghost use Rattle.file_ports.specs.Opened.{file_named, AreEndsOf, IsRemovalOf, OnMade};
@@ -11,7 +11,7 @@ ghost use Rattle.file_ports.specs.Streams.{halves_of};
 use crate::halves::Halves;
 use crate::input::FileInput;
 use crate::open::{FileEnds, OpenedFile, open_file};
-use crate::pipes::PipeOpenings;
+use crate::pipes::{PipeOpenings, Refusal};
 use crate::stream::FileStream;
 use crate::waiting::WaitingPipe;
 use port_trait::Making;
@@ -39,7 +39,7 @@ pub fn make_file<R>(
 ) -> Making<FilePort>
 where
     R: Net + Threads,
-    ensures fresh { OnMade result IsFresh }
+    ensures fresh { OnMade result IsFreshPort }
     ensures halves { OnMade result (λ port. AreOf part (halves_of port.socket)) }
     ensures at_once { IsAtOnce result }
     ensures other { file_named single.now.target ≡ None → result ≡ makings.Failed }
@@ -50,9 +50,9 @@ where
         Making::Memory => return Making::Memory,
     };
     match stream_of(rt, system, openings, key, single, part, ends) {
-        Making::Made(stream) => Making::Made(with_entry(stream, single, removal)),
-        Making::Later(_) | Making::Failed => Making::Failed,
-        Making::Memory => Making::Memory,
+        Ok(stream) => Making::Made(with_entry(stream, single, removal)),
+        Err(Refusal::Failed) => Making::Failed,
+        Err(Refusal::Memory) => Making::Memory,
     }
 }
 
@@ -74,31 +74,25 @@ fn stream_of<R>(
     single: &Single,
     part: Part,
     ends: FileEnds,
-) -> Making<FileStream>
+) -> Result<FileStream, Refusal>
 where
     R: Net + Threads,
     requires { AreEndsOf single.now part ends }
-    ensures { OnMade result (λ stream. AreOf part (halves_of stream)) }
+    ensures { IfOk result (λ stream. AreOf part (halves_of stream)) }
 {
-    let registry = openings.registry();
+    let registry = &*openings.registry;
     let halves = match ends {
         FileEnds::Reading(file) => {
-            Halves::enrolled(registry, key, Some(FileInput::of(file)), None)
+            Halves::enroll(registry, key, Some(FileInput::of(file)), None)
         }
-        FileEnds::Writing(file) => Halves::enrolled(registry, key, None, Some(file)),
+        FileEnds::Writing(file) => Halves::enroll(registry, key, None, Some(file)),
         FileEnds::Both(input, output) => {
-            Halves::enrolled(registry, key, Some(FileInput::of(input)), Some(output))
+            Halves::enroll(registry, key, Some(FileInput::of(input)), Some(output))
         }
         FileEnds::Waiting(pipe) => {
-            return match WaitingPipe::of(rt, system, openings, key, single, part, pipe) {
-                Making::Made(pipe) => Making::Made(FileStream::Waiting(pipe)),
-                Making::Later(_) | Making::Failed => Making::Failed,
-                Making::Memory => Making::Memory,
-            };
+            let pipe = WaitingPipe::of(rt, system, openings, key, single, part, pipe)?;
+            return Ok(FileStream::Waiting(pipe));
         }
     };
-    match halves {
-        Some(halves) => Making::Made(FileStream::Open(halves)),
-        None => Making::Failed,
-    }
+    Ok(FileStream::Open(halves.ok_or(Refusal::Failed)?))
 }

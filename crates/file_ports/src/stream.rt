@@ -1,5 +1,5 @@
 // A file, from its opening on.
-ghost use Rattle.std.specs.Prelude.{◌≡◌, ◌≢◌, ◌<◌, ◌&&◌, length, true, false, not, None, is_some};
+ghost use Rattle.std.specs.Prelude.{◌≡◌, ◌≢◌, ◌<◌, ◌&&◌, length, true, false, not, None};
 ghost use Rattle.port_trait.specs.Meanings.{Gives, Accepts};
 ghost use Rattle.port_trait.specs.Streams.{finishes};
 ghost use Rattle.port_trait.specs.declared.answers.Got.TheVariants as reads;
@@ -65,13 +65,8 @@ impl Socket for FileStream {
         let refused = self.advance();
         match self {
             FileStream::Open(halves) => halves.receive(into),
-            FileStream::Waiting(pipe) => {
-                if refused || !pipe.reads() {
-                    Got::Failed
-                } else {
-                    Got::NotYet
-                }
-            }
+            FileStream::Waiting(pipe) if refused || !pipe.reads() => Got::Failed,
+            FileStream::Waiting(_) => Got::NotYet,
         }
     }
 
@@ -85,13 +80,8 @@ impl Socket for FileStream {
         let refused = self.advance();
         match self {
             FileStream::Open(halves) => halves.transmit(bytes),
-            FileStream::Waiting(pipe) => {
-                if refused || !pipe.writes() {
-                    Took::Failed
-                } else {
-                    Took::NotYet
-                }
-            }
+            FileStream::Waiting(pipe) if refused || !pipe.writes() => Took::Failed,
+            FileStream::Waiting(_) => Took::NotYet,
         }
     }
 

@@ -1,23 +1,22 @@
 // The port's side of a named pipe whose opening waits for its other end.
-ghost use Rattle.std.specs.Prelude.{◌≡◌, ◌||◌, true, false, IfSome};
-ghost use Rattle.port_trait.specs.Made.{IsAtOnce};
+ghost use Rattle.std.specs.Prelude.{◌≡◌, ◌||◌, true, false, IfOk, IfSome};
 ghost use Rattle.port_trait.specs.Streams.{finishes};
 ghost use Rattle.port_trait.specs.declared.answers.Shutting.TheVariants as shuts;
 ghost use Rattle.file_ports.specs.Halves.{waiting_halves, halves_hint};
-ghost use Rattle.file_ports.specs.Opened.{OnMade, IsPipeOf};
+ghost use Rattle.file_ports.specs.Opened.{IsPipeOf};
 ghost use Rattle.file_ports.specs.Streams.{OnOpened};
 ghost use Rattle.file_ports.specs.Waiting.{shutting_after};
 
-use crate::access::Access;
+use crate::access::{Access, reads, writes};
 use crate::halves::Halves;
 use crate::input::FileInput;
 use crate::open::NamedPipe;
 use crate::opening::FileCalls;
-use crate::pipes::{Outcome, PipeOpenings, Spot};
+use crate::pipes::{PipeOpenings, PipeOutcome, Refusal, Spot};
 use mio::net::UnixStream;
 use mio::{Interest, Registry, Token};
-use port_trait::{Hint, Making, Shutting};
-use relay_model::{NoMemory, Part, Shut, Single};
+use port_trait::{Hint, Shutting};
+use relay_model::{Part, Shut, Single};
 use socket_kinds::Socket;
 use std::alloc::Global;
 use std::fs::File;
@@ -78,7 +77,7 @@ fn parting_of(
     alloc: Global,
     single: &Single,
     name: &str,
-) -> Result<Option<Parting>, NoMemory> {
+) -> Result<Option<Parting>, Refusal> {
     if !single.options.entry.unlink_close {
         return Ok(None);
     }
@@ -95,7 +94,7 @@ impl Model for WaitingPipe {
 }
 
 impl WaitingPipe {
-    /// Lines up for the pipe that the address names. What its opening came to is reported under `key`. Never `Later`.
+    /// Lines up for the pipe that the address names. What its opening came to is reported under `key`.
     pub(crate) fn of<R>(
         rt: &R,
         system: HostRuntime,
@@ -104,41 +103,26 @@ impl WaitingPipe {
         single: &Single,
         part: Part,
         pipe: NamedPipe,
-    ) -> Making<WaitingPipe>
+    ) -> Result<WaitingPipe, Refusal>
     where
         R: Net + Threads,
         requires { IsPipeOf single.now part pipe }
-        ensures at_once { IsAtOnce result }
-        ensures halves { OnMade result (λ pipe. pipe ≡ record { part = part; shut = false }) }
+        ensures { IfOk result (λ pipe. pipe ≡ record { part = part; shut = false }) }
     {
-        let Ok((mut notice, done)) = UnixStream::pair(rt) else {
-            return Making::Failed;
-        };
-        let Some(registry) = openings.share_registry() else {
-            return Making::Memory;
-        };
-        let Ok(parting) = parting_of(system, openings.alloc(), single, pipe.name.as_str()) else {
-            return Making::Memory;
-        };
-        if registry
-            .register(&mut notice, Token(key), Interest::READABLE)
-            .is_err()
-        {
-            return Making::Failed;
-        }
-        match openings.line_up(rt, system, pipe, done) {
-            Making::Made(spot) => Making::Made(WaitingPipe {
-                part,
-                shut: false,
-                spot: Some(spot),
-                registry,
-                key,
-                notice,
-                parting,
-            }),
-            Making::Later(_) | Making::Failed => Making::Failed,
-            Making::Memory => Making::Memory,
-        }
+        let (mut notice, done) = UnixStream::pair(rt)?;
+        let registry = openings.registry.clone()?;
+        let parting = parting_of(system, openings.alloc, single, pipe.name.as_str())?;
+        registry.register(&mut notice, Token(key), Interest::READABLE)?;
+        let spot = openings.line_up(rt, system, pipe, done)?;
+        Ok(WaitingPipe {
+            part,
+            shut: false,
+            spot: Some(spot),
+            registry,
+            key,
+            notice,
+            parting,
+        })
     }
 
     /// What the opening has come to. `Open` comes once. An entry that is no pipe any more is refused, and so is one whose
@@ -151,14 +135,14 @@ impl WaitingPipe {
             return Progress::Refused;
         };
         match spot.take() {
-            Outcome::UnderWay => Progress::NotYet,
-            Outcome::Opened(file) => self.opened(file),
-            Outcome::Refused => Progress::Refused,
+            PipeOutcome::UnderWay => Progress::NotYet,
+            PipeOutcome::Opened(file) => self.take_file(file),
+            PipeOutcome::Refused => Progress::Refused,
         }
     }
 
     /// The halves of the open pipe.
-    fn opened(&mut self, file: File) -> Progress
+    fn take_file(&mut self, file: File) -> Progress
         ensures opened { OnOpened result (λ halves. halves ≡ waiting_halves self.old) }
         ensures kept { self.new ≡ self.old }
     {
@@ -177,9 +161,9 @@ impl WaitingPipe {
         let (registry, key) = (&*self.registry, self.key);
         let halves = match (self.part, self.shut) {
             (Part::Reading, false) => {
-                Halves::enrolled(registry, key, Some(FileInput::of(file)), None)?
+                Halves::enroll(registry, key, Some(FileInput::of(file)), None)?
             }
-            (Part::Writing, false) => Halves::enrolled(registry, key, None, Some(file))?,
+            (Part::Writing, false) => Halves::enroll(registry, key, None, Some(file))?,
             _ => return None,
         };
         if halves.is_always_ready() {
@@ -191,19 +175,13 @@ impl WaitingPipe {
     pub(crate) fn reads(&self) -> bool
         ensures { result ≡ (waiting_halves self.now).reads }
     {
-        match self.part {
-            Part::Both | Part::Reading => true,
-            Part::Writing => false,
-        }
+        reads(self.part)
     }
 
     pub(crate) fn writes(&self) -> bool
         ensures { result ≡ (waiting_halves self.now).writes }
     {
-        match self.part {
-            Part::Both | Part::Writing => !self.shut,
-            Part::Reading => false,
-        }
+        writes(self.part) && !self.shut
     }
 
     /// The poller names the pipe.
@@ -241,11 +219,11 @@ impl WaitingPipe {
 }
 
 /// How the end is passed on to a pipe whose opening came to this.
-fn shutting_after(outcome: &Outcome) -> Shutting
+fn shutting_after(outcome: &PipeOutcome) -> Shutting
     ensures { result ≡ shutting_after outcome.now }
 {
     match outcome {
-        Outcome::UnderWay | Outcome::Opened(_) => Shutting::Done,
-        Outcome::Refused => Shutting::Failed,
+        PipeOutcome::UnderWay | PipeOutcome::Opened(_) => Shutting::Done,
+        PipeOutcome::Refused => Shutting::Failed,
     }
 }

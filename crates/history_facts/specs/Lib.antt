@@ -1,4 +1,3 @@
-pub mod Answers
 pub mod Pasts
 pub mod Tables
 pub mod Told

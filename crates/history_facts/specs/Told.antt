@@ -14,15 +14,14 @@ use Rattle.relay_model.specs.declared.acts.Why.{Why}
 use Rattle.history_facts.specs.declared.placed.Placed.{Placed}
 use Rattle.history_facts.specs.declared.numbered.Numbered.{Numbered}
 use Rattle.history_facts.specs.Tables.{numbered, placed}
-use Rattle.history_facts.specs.declared.clock.Clock.{Clock}
+use Rattle.history_facts.specs.declared.clock.TurnFacts.{TurnFacts}
 use Rattle.history_facts.specs.declared.traffic.Traffic.{Traffic}
-use Rattle.history_facts.specs.declared.sessions.Sessions.{Sessions}
-use Rattle.history_facts.specs.declared.openings.Stage.{Stage}
-use Rattle.history_facts.specs.declared.openings.Openings.{Openings}
-use Rattle.history_facts.specs.declared.armings.Arming.{Arming}
+use Rattle.history_facts.specs.declared.sessions.SessionFacts.{SessionFacts}
+use Rattle.relay_model.specs.declared.stages.Stage.{Stage}
+use Rattle.history_facts.specs.declared.openings.OpeningFacts.{OpeningFacts}
+use Rattle.relay_model.specs.declared.armings.Arming.{Arming}
 use Rattle.history_facts.specs.declared.armings.Armings.{Armings}
 use Rattle.history_facts.specs.Pasts.{Chronicle}
-use Rattle.history_facts.specs.Answers.{as_stage, as_arming}
 
 -- the first of a list
 abbrev pub newest : List ℕ → Option ℕ
@@ -33,7 +32,7 @@ newest (moment ∷ moments) = Some moment
 
 -- the table has each place's stage
 abbrev pub StagesTold : Placed Stage → List Act → Type 0
-StagesTold table past = (p : Place) → as_stage (placed table p) ≡ stage past p
+StagesTold table past = (p : Place) → (placed table p) ≡ stage past p
 
 -- the table has how many openings or listenings failed at each place
 abbrev pub FailuresCounted : Placed ℕ → List Act → Type 0
@@ -60,7 +59,7 @@ abbrev pub ReapedTold : Placed Bool → List Act → Type 0
 ReapedTold table past = (p : Place) → placed table p ≡ was_reaped past p
 
 -- what is kept of openings is what the acts say
-pub record OpeningsTold (o : Openings) (past : List Act) : Type 0 where
+pub record OpeningsTold (o : OpeningFacts) (past : List Act) : Type 0 where
   pub stages : StagesTold o.stages past
   pub failures_counted : FailuresCounted o.failure_counts past
   pub last_failures : LastFailuresTold o.last_failures past
@@ -73,7 +72,7 @@ pub record OpeningsTold (o : Openings) (past : List Act) : Type 0 where
 
 -- the table has how each input is armed
 abbrev pub ReadArmingsTold : Placed Arming → List Act → Type 0
-ReadArmingsTold table past = (p : Place) → as_arming (placed table p) ≡ read_arming past p
+ReadArmingsTold table past = (p : Place) → (placed table p) ≡ read_arming past p
 
 -- the table has whether each output is armed
 abbrev pub WriteArmingsTold : Placed Bool → List Act → Type 0
@@ -112,7 +111,7 @@ pub record ArmingsTold (c : Config) (a : Armings) (past : List Act) : Type 0 whe
 -- ---- turns
 
 -- what is kept of turns is what the acts say
-pub record ClockTold (k : Clock) (past : List Act) : Type 0 where
+pub record ClockTold (k : TurnFacts) (past : List Act) : Type 0 where
   pub now_told : k.now ≡ now past
   pub turn_told : k.turn ≡ suc (turns past)
   pub stop_told : k.stop_said ≡ stop_said past
@@ -173,7 +172,7 @@ abbrev pub AdmittedTold : Config → ℕ → List Act → Type 0
 AdmittedTold c count past = count ≡ admitted c past
 
 -- what is kept of sessions is what the acts say
-pub record SessionsTold (c : Config) (s : Sessions) (past : List Act) : Type 0 where
+pub record SessionsTold (c : Config) (s : SessionFacts) (past : List Act) : Type 0 where
   pub moves : MovesTold c s.moved past
   pub causes : CausesTold c s.closed past
   pub admitted_told : AdmittedTold c s.admitted past
@@ -181,7 +180,7 @@ pub record SessionsTold (c : Config) (s : Sessions) (past : List Act) : Type 0 w
 -- ---- all
 
 -- all that is kept is what the acts say
-pub record AllTold (h : Chronicle) (k : Clock) (o : Openings) (a : Armings) (t : Traffic) (s : Sessions) : Type 0 where
+pub record AllTold (h : Chronicle) (k : TurnFacts) (o : OpeningFacts) (a : Armings) (t : Traffic) (s : SessionFacts) : Type 0 where
   pub clock : ClockTold k h.acts
   pub openings : OpeningsTold o h.acts
   pub armings : ArmingsTold h.config a h.acts

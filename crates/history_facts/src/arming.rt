@@ -1,45 +1,33 @@
 // Which halves and doors are armed, which is to say worth asking, and which were asked since the last turn.
 ghost use Rattle.std.specs.Prelude.{◌≡◌};
-ghost use Rattle.relay_model.specs.Arming.{pause_after_end, read_arming, is_armed, armed_to_read, arming_moment, armed_to_write, armed_to_accept, asked_to_read, asked_to_write, asked_to_accept};
+ghost use Rattle.relay_model.specs.Arming.{pause_after_end, read_arming, armed_to_read, arming_moment, armed_to_write, armed_to_accept, asked_to_read, asked_to_write, asked_to_accept};
 ghost use Rattle.relay_model.specs.Configs.{input, output};
-ghost use Rattle.history_facts.specs.Answers.{as_arming};
 
-use crate::armings::Arming;
 use crate::history::now;
 use crate::past::Past;
 use command_places::output;
-use relay_model::{Place, Way};
+use relay_model::{Arming, Place, Way};
 
 /// How long after an end an input is asked again, in milliseconds (socat(1), `ignoreeof`).
 const PAUSE_AFTER_END: u128 = 1000;
 
 /// How an input stands after these acts: what the last act that arms or disarms it says.
 pub fn read_arming(past: &Past, place: Place) -> Arming
-    ensures { as_arming result ≡ read_arming past.now.acts place }
+    ensures { result ≡ read_arming past.now.acts place }
 {
     past.armings.reads.at(place)
-}
-
-fn is_armed(arming: Arming, at: u64) -> bool
-    ensures { result ≡ is_armed (as_arming arming) at }
-{
-    match arming {
-        Arming::Disarmed => false,
-        Arming::Armed => true,
-        Arming::AtEnd(met) => met as u128 + PAUSE_AFTER_END <= at as u128,
-    }
 }
 
 /// Whether a place is worth reading at the moment of the last turn.
 pub fn armed_to_read(past: &Past, place: Place) -> bool
     ensures { result ≡ armed_to_read past.now.acts place }
 {
-    is_armed(read_arming(past, place), now(past))
+    read_arming(past, place).is_armed(now(past))
 }
 
 /// The moment at which an input that met an end is armed again.
 pub fn arming_moment(arming: Arming) -> Option<u128>
-    ensures { result ≡ arming_moment (as_arming arming) }
+    ensures { result ≡ arming_moment arming }
 {
     match arming {
         Arming::Disarmed | Arming::Armed => None,

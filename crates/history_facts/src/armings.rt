@@ -14,19 +14,8 @@ ghost use Rattle.history_facts.specs.Told.{ReadArmingsTold, WriteArmingsTold, Ac
 use crate::naming::name_all;
 use crate::placed::Placed;
 use command_places::{accepting_door, input, output, way_from};
-use relay_model::{Act, Config, Half, NoMemory, Place};
+use relay_model::{Act, Arming, Config, Half, NoMemory, Place};
 use std::alloc::Global;
-
-/// How an input stands: not armed, armed, or at an end that was met at a moment.
-#[derive(Clone, Copy, Debug, PartialEq, Eq)]
-pub enum Arming {
-    /// Not worth asking.
-    Disarmed,
-    /// Worth asking now.
-    Armed,
-    /// It met an end at this moment, in milliseconds, and is worth asking again only after a pause.
-    AtEnd(u64),
-}
 
 /// What is armed, and what was asked. Each asking stands with the number of the turn that was to come next, counted
 /// from 1, so that every turn forgets them.

@@ -7,7 +7,7 @@ use relay_model::{Act, NoMemory, Why};
 
 /// The turns so far, and whether a stop or want of memory was said.
 #[derive(Drop)]
-pub struct Clock {
+pub struct TurnFacts {
     /// The moment of the last turn.
     pub now: u64,
     /// The number of the turn that comes next, counted from 1.
@@ -18,12 +18,12 @@ pub struct Clock {
     pub memory_said: bool,
 }
 
-impl Clock {
+impl TurnFacts {
     /// What holds before any act.
-    pub fn new() -> Clock
+    pub fn new() -> TurnFacts
         ensures { ClockTold result [] }
     {
-        Clock {
+        TurnFacts {
             now: 0,
             turn: 1,
             stop_said: false,

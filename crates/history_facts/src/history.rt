@@ -5,11 +5,9 @@ ghost use Rattle.relay_model.specs.History.{now, turns, stop_said, memory_said, 
 ghost use Rattle.relay_model.specs.Sessions.{admitted};
 ghost use Rattle.relay_model.specs.Moments.{moved_at};
 ghost use Rattle.relay_model.specs.Cause.{closed_why};
-ghost use Rattle.history_facts.specs.Answers.{as_stage};
 
-use crate::openings::Stage;
 use crate::past::Past;
-use relay_model::{Place, Why};
+use relay_model::{Place, Stage, Why};
 
 // ---- turns
 
@@ -45,29 +43,23 @@ pub fn memory_said(past: &Past) -> bool
 
 /// The last act of opening, accepting, listening or closing at a place or door, or that there was none.
 pub fn stage_of(past: &Past, place: Place) -> Stage
-    ensures { as_stage result ≡ stage past.now.acts place }
+    ensures { result ≡ stage past.now.acts place }
 {
     past.openings.stages.at(place)
 }
 
 /// Whether a place or door is held.
-pub fn held(past: &Past, place: Place) -> bool
+pub fn is_held(past: &Past, place: Place) -> bool
     ensures { result ≡ held past.now.acts place }
 {
-    match stage_of(past, place) {
-        Stage::Usable | Stage::Unsettled | Stage::Met(_) | Stage::Waiting => true,
-        Stage::Untried | Stage::Failed | Stage::Gone(_) => false,
-    }
+    stage_of(past, place).is_held()
 }
 
 /// Whether a door was closed since it had served.
-pub fn served(past: &Past, door: Place) -> bool
+pub fn has_served(past: &Past, door: Place) -> bool
     ensures { result ≡ served past.now.acts door }
 {
-    match stage_of(past, door) {
-        Stage::Gone(Why::Served) => true,
-        _ => false,
-    }
+    stage_of(past, door).has_served()
 }
 
 /// How many openings or listenings of a place or door failed.
@@ -89,7 +81,7 @@ pub fn next_due(past: &Past, place: Place, interval: u64) -> Option<u64>
 }
 
 /// Whether a turn named the place after its last opening act, which left it unsettled.
-pub fn woken(past: &Past, place: Place) -> bool
+pub fn was_woken(past: &Past, place: Place) -> bool
     ensures { result ≡ woken past.now.acts place }
 {
     past.openings.woken.at(place)
@@ -187,7 +179,7 @@ pub fn closed_why(past: &Past, session: u32) -> Option<Why>
 }
 
 /// How many permitted peers there were, which is the number of the next session.
-pub fn admitted(past: &Past) -> u32
+pub fn admitted_count(past: &Past) -> u32
     requires { admitted past.now.config past.now.acts < 2 ^ 32 }
     ensures { result ≡ admitted past.now.config past.now.acts }
 {

@@ -6,31 +6,12 @@ ghost use Rattle.history_facts.specs.Told.{StagesTold, FailuresCounted, LastFail
 
 use crate::naming::name_all;
 use crate::placed::Placed;
-use relay_model::{Act, Half, NoMemory, Peer, Why};
+use relay_model::{Act, Half, NoMemory, Stage};
 use std::alloc::Global;
-
-/// The last act of opening, accepting, listening or closing at a place or door.
-#[derive(Clone, Copy, Debug, PartialEq, Eq)]
-pub enum Stage {
-    /// There was none.
-    Untried,
-    /// It was opened.
-    Usable,
-    /// Its opening is under way.
-    Unsettled,
-    /// Its opening or listening failed.
-    Failed,
-    /// This peer was accepted there.
-    Met(Peer),
-    /// The door listens.
-    Waiting,
-    /// It was closed, for this reason.
-    Gone(Why),
-}
 
 /// What the openings, listenings and closings of places and doors came to.
 #[derive(Drop)]
-pub struct Openings {
+pub struct OpeningFacts {
     /// How each stands.
     pub stages: Placed<Stage>,
     /// How many openings or listenings of each failed.
@@ -47,12 +28,12 @@ pub struct Openings {
     pub reaped: Placed<bool>,
 }
 
-impl Openings {
+impl OpeningFacts {
     /// What holds before any act.
-    pub fn new(alloc: Global) -> Openings
+    pub fn new(alloc: Global) -> OpeningFacts
         ensures { OpeningsTold result [] }
     {
-        Openings {
+        OpeningFacts {
             stages: Placed::new(alloc, Stage::Untried),
             failure_counts: Placed::new(alloc, 0),
             last_failures: Placed::new(alloc, None),

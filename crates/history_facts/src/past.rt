@@ -3,9 +3,9 @@ ghost use Rattle.std.specs.Prelude.{◌≡◌, ◌∷◌, [], IfOk};
 ghost use Rattle.history_facts.specs.Pasts.{acts};
 
 use crate::armings::Armings;
-use crate::clock::Clock;
-use crate::openings::Openings;
-use crate::sessions::Sessions;
+use crate::clock::TurnFacts;
+use crate::openings::OpeningFacts;
+use crate::sessions::SessionFacts;
 use crate::traffic::Traffic;
 use relay_model::{Act, Config, NoMemory};
 use std::alloc::Global;
@@ -17,11 +17,11 @@ use std::marker::Model;
 pub struct Past<'a> {
     config: &'a Config,
     acts: &'a [&'a Act],
-    pub(crate) clock: Clock,
-    pub(crate) openings: Openings,
+    pub(crate) clock: TurnFacts,
+    pub(crate) openings: OpeningFacts,
     pub(crate) armings: Armings,
     pub(crate) traffic: Traffic,
-    pub(crate) sessions: Sessions,
+    pub(crate) sessions: SessionFacts,
 }
 
 impl<'a> Model for Past<'a> {
@@ -45,11 +45,11 @@ impl<'a> Past<'a> {
         Past {
             config,
             acts: &[],
-            clock: Clock::new(),
-            openings: Openings::new(alloc),
+            clock: TurnFacts::new(),
+            openings: OpeningFacts::new(alloc),
             armings: Armings::new(alloc),
             traffic: Traffic::new(alloc),
-            sessions: Sessions::new(alloc),
+            sessions: SessionFacts::new(alloc),
         }
     }
 

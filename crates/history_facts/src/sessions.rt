@@ -17,7 +17,7 @@ use std::alloc::Global;
 
 /// What is known of sessions.
 #[derive(Drop)]
-pub struct Sessions {
+pub struct SessionFacts {
     /// When each last moved.
     pub moved: Numbered<u64>,
     /// The reason of the closing that ended it.
@@ -26,12 +26,12 @@ pub struct Sessions {
     pub admitted: u64,
 }
 
-impl Sessions {
+impl SessionFacts {
     /// What holds before any act.
-    pub fn new(alloc: Global) -> Sessions
+    pub fn new(alloc: Global) -> SessionFacts
         ensures { (c : Config) → SessionsTold c result [] }
     {
-        Sessions {
+        SessionFacts {
             moved: Numbered::new(alloc, 0),
             closed: Numbered::new(alloc, None),
             admitted: 0,

@@ -12,23 +12,23 @@ use std::str;
 
 /// What the text of a host is: an address in numbers, a name, or no text.
 #[derive(Drop)]
-pub enum Written<'a> {
+pub enum WrittenHost<'a> {
     Address(IpAddr),
     Name(&'a str),
     Unnamed,
 }
 
 /// What the text is. An IPv6 address may stand in brackets (RFC 3986, `IP-literal`).
-pub fn written_host(host: &Text) -> Written<'_>
+pub fn written_host(host: &Text) -> WrittenHost<'_>
     ensures { IsWritten host.now result }
 {
     let Ok(text) = str::from_utf8(host.as_slice()) else {
-        return Written::Unnamed;
+        return WrittenHost::Unnamed;
     };
     let name = without_brackets(text);
     match name.parse::<IpAddr>() {
-        Ok(ip) => Written::Address(ip),
-        Err(_) => Written::Name(name),
+        Ok(ip) => WrittenHost::Address(ip),
+        Err(_) => WrittenHost::Name(name),
     }
 }
 

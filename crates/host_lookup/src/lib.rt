@@ -4,5 +4,5 @@
 mod hosts;
 mod lookups;
 
-pub use hosts::{HostAddresses, Written, written_host};
-pub use lookups::{Looked, Lookup, Lookups};
+pub use hosts::{HostAddresses, WrittenHost, written_host};
+pub use lookups::{HostLookup, Looked, Lookups};

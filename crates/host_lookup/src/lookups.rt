@@ -32,7 +32,7 @@ pub enum Looked {
 
 /// A name, and what its lookup has come to once that is told.
 #[derive(Drop)]
-struct Asked {
+struct AskedName {
     name: String,
     told: OnceLock<Looked>,
 }
@@ -40,11 +40,11 @@ struct Asked {
 /// A lookup of one name, for all who want it while it is under way. Nobody waits for its thread: one that is still under
 /// way ends with the program.
 #[derive(Drop)]
-pub struct Lookup {
-    asked: Arc<Asked, Global>,
+pub struct HostLookup {
+    asked: Arc<AskedName, Global>,
 }
 
-impl Model for Lookup {
+impl Model for HostLookup {
     ghost use Rattle.std.specs.Prelude.{List, ℕ, string_bytes};
 
     // the name
@@ -53,17 +53,17 @@ impl Model for Lookup {
     ghost view = { λ lookup. string_bytes lookup.asked.value.name };
 }
 
-impl Lookup {
+impl HostLookup {
     /// A lookup of this name, of which nothing is told yet.
-    fn of(alloc: Global, name: &str) -> Result<Lookup, NoMemory>
+    fn of(alloc: Global, name: &str) -> Result<HostLookup, NoMemory>
         ensures { IfOk result (λ lookup. lookup ≡ name.now) }
     {
         let name = String::from_str(alloc, name)?;
-        let asked = Asked {
+        let asked = AskedName {
             name,
             told: OnceLock::new(),
         };
-        Ok(Lookup {
+        Ok(HostLookup {
             asked: Arc::new(alloc, asked)?,
         })
     }
@@ -87,10 +87,10 @@ impl Lookup {
         self.asked.name.as_str() == name
     }
 
-    fn share(&self) -> Result<Lookup, NoMemory>
+    fn share(&self) -> Result<HostLookup, NoMemory>
         ensures { IfOk result (λ lookup. lookup ≡ self.now) }
     {
-        Ok(Lookup {
+        Ok(HostLookup {
             asked: Arc::try_clone(&self.asked)?,
         })
     }
@@ -108,7 +108,7 @@ pub struct Lookups {
     system: HostRuntime,
     alloc: Global,
     wake: MioWake,
-    begun: Vec<Lookup>,
+    begun: Vec<HostLookup>,
 }
 
 impl Lookups {
@@ -124,13 +124,13 @@ impl Lookups {
 
     /// The lookup of this name that is under way, or else a new one. It answers `Failed` where 16 other names are looked
     /// up already, and where no thread can be made; never `Later`.
-    pub fn begin<R: Threads>(&mut self, rt: &R, name: &str) -> Making<Lookup>
+    pub fn begin<R: Threads>(&mut self, rt: &R, name: &str) -> Making<HostLookup>
         ensures at_once { IsAtOnce result }
         ensures named { OnBegun result (λ lookup. lookup ≡ name.now) }
     {
         self.begun.retain(|lookup| !lookup.is_over());
         if let Some(lookup) = self.of_name(name) {
-            return shared(lookup);
+            return share_lookup(lookup);
         }
         match self.begin_new(rt, name) {
             Ok(Some(lookup)) => Making::Made(lookup),
@@ -140,7 +140,7 @@ impl Lookups {
     }
 
     /// The lookup of this name that is under way.
-    fn of_name(&self, name: &str) -> Option<&Lookup>
+    fn of_name(&self, name: &str) -> Option<&HostLookup>
         ensures { IfSome result (λ lookup. lookup.now ≡ name.now) }
     {
         for lookup in &self.begun {
@@ -152,13 +152,13 @@ impl Lookups {
     }
 
     /// Has a thread look the name up. `None` where there are too many, or none can be made.
-    fn begin_new<R: Threads>(&mut self, rt: &R, name: &str) -> Result<Option<Lookup>, NoMemory>
+    fn begin_new<R: Threads>(&mut self, rt: &R, name: &str) -> Result<Option<HostLookup>, NoMemory>
         ensures { IfOk result (λ begun. IfSome begun (λ lookup. lookup ≡ name.now)) }
     {
         if self.begun.len() >= MOST_NAMES {
             return Ok(None);
         }
-        let lookup = Lookup::of(self.alloc, name)?;
+        let lookup = HostLookup::of(self.alloc, name)?;
         self.begun.reserve(1)?;
         let (kept, told) = (lookup.share()?, lookup.share()?);
         if !launch(rt, self.system, told, self.wake.another()?) {
@@ -170,7 +170,7 @@ impl Lookups {
 }
 
 /// Another share of a lookup.
-fn shared(lookup: &Lookup) -> Making<Lookup>
+fn share_lookup(lookup: &HostLookup) -> Making<HostLookup>
     ensures at_once { IsAtOnce result }
     ensures same { OnBegun result (λ shared. shared ≡ lookup.now) }
 {
@@ -181,7 +181,7 @@ fn shared(lookup: &Lookup) -> Making<Lookup>
 }
 
 /// Starts the thread, whose last act is the wake.
-fn launch<R: Threads>(rt: &R, system: HostRuntime, lookup: Lookup, wake: MioWake) -> bool {
+fn launch<R: Threads>(rt: &R, system: HostRuntime, lookup: HostLookup, wake: MioWake) -> bool {
     let work = move || {
         lookup.answer(&system);
         wake.wake();
@@ -190,7 +190,7 @@ fn launch<R: Threads>(rt: &R, system: HostRuntime, lookup: Lookup, wake: MioWake
 }
 
 /// Waits for the system's resolver, which is asked for the name of the lookup.
-fn look_up<R: Net>(rt: &R, name: &str, lookup: &Lookup) -> Looked
+fn look_up<R: Net>(rt: &R, name: &str, lookup: &HostLookup) -> Looked
     requires { name.now ≡ lookup.now }
 {
     let _asked_for = lookup;

@@ -10,8 +10,8 @@ use Rattle.journal_report.specs.declared.views.View.{View}
 use Rattle.journal_report.specs.declared.shown.Unshown.TheVariants.{TooLong, BadWords, BadLine, NoSession}
 use Rattle.journal_report.specs.declared.shown.ViewFault.{ViewFault}
 use Rattle.journal_report.specs.declared.shown.ViewFault.TheVariants as faults
-use Rattle.journal_report.specs.Sources.{longest_text}
-use Rattle.journal_report.specs.Shown.{Reads, OnFault, WhyNoRelay, WhyNoJournal, WhyUnshownOf, WhyUnshownBy, WhyUnshown, IsViewBy, IsViewOf}
+use Rattle.journal_text.specs.Sources.{longest_text}
+use Rattle.journal_report.specs.Shown.{Reads, OnFault, WhyNoJournal, WhyUnshownOf, WhyUnshownBy, WhyUnshown, IsViewBy, IsViewOf}
 
 -- what follows from what is said of a value, or of an error
 if_ok : {T E : Type 0} (P Q : T → Type 0) → ((value : T) → P value → Q value) → (r : Result T E) → IfOk r P → IfOk r Q
@@ -37,14 +37,6 @@ unshown_by c text history asked (faults.Unshown BadWords) reads why = absurd why
 unshown_by c text history asked (faults.Unshown (BadLine number)) reads why = absurd why
 unshown_by c text history asked (faults.Unshown NoSession) reads why = (history, reads, why)
 unshown_by c text history asked faults.Memory reads why = why
-
--- of the words
-pub no_relay : (words : List (List ℕ)) (text : List ℕ) (asked : View) (fault : ViewFault) → length text ≤ longest_text → OnFault (WhyNoRelay words) fault → OnFault (WhyUnshown asked words text) fault
-no_relay words text asked (faults.Unshown TooLong) short why = absurd why
-no_relay words text asked (faults.Unshown BadWords) short why = (short, why)
-no_relay words text asked (faults.Unshown (BadLine number)) short why = absurd why
-no_relay words text asked (faults.Unshown NoSession) short why = absurd why
-no_relay words text asked faults.Memory short why = why
 
 -- of a text by its command
 pub unshown : (c : Config) (words : List (List ℕ)) (text : List ℕ) (asked : View) (fault : ViewFault) → length text ≤ longest_text → command words ≡ Ok (Relay c) → OnFault (WhyUnshownBy c text asked) fault → OnFault (WhyUnshown asked words text) fault

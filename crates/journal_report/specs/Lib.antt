@@ -1,7 +1,6 @@
 pub mod Timelines
 pub mod Elements
 pub mod Pictures
-pub mod Sources
 pub mod Views
 pub mod Shown
 pub mod Runs

@@ -1,5 +1,5 @@
 -- What a view of a journal shows, and why there may be none.
-use Rattle.std.specs.Prelude.{◌≡◌, ◌≢◌, ℕ, ◌<◌, ◌≤◌, Bool, true, false, nat_lt, List, length, Option, Some, None, Ok}
+use Rattle.std.specs.Prelude.{◌≡◌, ℕ, ◌<◌, ◌≤◌, Bool, true, false, nat_lt, List, length, Option, Some, None, Ok}
 use Rattle.relay_model.specs.declared.commands.Config.{Config}
 use Rattle.relay_model.specs.declared.commands.Dump.TheVariants as dumps
 use Rattle.relay_model.specs.declared.acts.Act.{Act}
@@ -7,25 +7,25 @@ use Rattle.relay_model.specs.Configs.{input, output}
 use Rattle.relay_model.specs.History.{got, put}
 use Rattle.relay_model.specs.Sessions.{numbers}
 use Rattle.cmd_words.specs.declared.commands.Command.TheVariants.{Relay}
-use Rattle.cmd_words.specs.Commands.{command}
+use Rattle.cmd_words.specs.Commands.{MakesNoRelay, command}
 use Rattle.journal_text.specs.Texts.{IsTextOf, IsFirstBadLine, kept}
 use Rattle.place_report.specs.Shown.{IsPrintable}
 use Rattle.journal_table.specs.Streams.{dumped}
-use Rattle.journal_report.specs.declared.views.Stream.{Stream}
+use Rattle.journal_report.specs.declared.views.ViewedStream.{ViewedStream}
 use Rattle.journal_report.specs.declared.views.View.{View}
 use Rattle.journal_report.specs.declared.views.View.TheVariants as view
 use Rattle.journal_report.specs.declared.shown.Unshown.{Unshown}
 use Rattle.journal_report.specs.declared.shown.Unshown.TheVariants.{TooLong, BadWords, BadLine, NoSession}
 use Rattle.journal_report.specs.declared.shown.ViewFault.{ViewFault}
 use Rattle.journal_report.specs.declared.shown.ViewFault.TheVariants as faults
-use Rattle.journal_report.specs.Sources.{longest_text}
+use Rattle.journal_text.specs.Sources.{longest_text}
 use Rattle.journal_table.specs.Tables.{TableTold}
 use Rattle.journal_table.specs.Acts.{acts_text}
 use Rattle.journal_report.specs.Timelines.{TimelineTold}
 use Rattle.journal_report.specs.Pictures.{IsPicture}
 
 -- the direction that is asked for, if one is
-abbrev pub stream_of : View → Option Stream
+abbrev pub stream_of : View → Option ViewedStream
 stream_of view.Table = None
 stream_of view.Timeline = None
 stream_of view.Picture = None
@@ -36,7 +36,7 @@ stream_of (view.Text stream) = Some stream
 stream_of (view.Hex stream) = Some stream
 
 -- whether the session of a direction, if there is one, has begun
-abbrev pub stream_begun : Config → List Act → Option Stream → Bool
+abbrev pub stream_begun : Config → List Act → Option ViewedStream → Bool
 stream_begun c past None = true
 stream_begun c past (Some stream) = nat_lt stream.session (numbers c past)
 
@@ -77,15 +77,6 @@ OnFault why faults.Memory = Unit {0}
 abbrev pub WhyUnshownOf : Config → List Act → View → Unshown → Type 0
 WhyUnshownOf c past asked NoSession = has_session c past asked ≡ false
 WhyUnshownOf c past asked other = ⊥
-
--- the words make no relay
-abbrev pub MakesNoRelay : List (List ℕ) → Type 0
-MakesNoRelay words = (c : Config) → command words ≢ Ok (Relay c)
-
--- why there is no command
-abbrev pub WhyNoRelay : List (List ℕ) → Unshown → Type 0
-WhyNoRelay words BadWords = MakesNoRelay words
-WhyNoRelay words other = ⊥
 
 -- the text is that of these acts, as they are read from it
 abbrev pub Reads : List ℕ → List Act → Type 0

@@ -5,7 +5,7 @@ use Rattle.std.specs.Str.{all_ascii_digits}
 use Rattle.std.specs.Str.Parse.{digits_value}
 use Rattle.relay_model.specs.declared.places.Way.{Way}
 use Rattle.relay_model.specs.declared.places.Way.TheVariants.{LeftToRight, RightToLeft}
-use Rattle.journal_report.specs.declared.views.Stream.{Stream}
+use Rattle.journal_report.specs.declared.views.ViewedStream.{ViewedStream}
 use Rattle.journal_report.specs.declared.views.View.{View}
 use Rattle.journal_report.specs.declared.views.View.TheVariants as view
 
@@ -33,24 +33,24 @@ way_in word =
     else (if bytes_eq word (codes "left") then Some RightToLeft else None)
 
 -- a direction of a session, where there are both
-abbrev pub stream_of : Option ℕ → Option Way → Option Stream
+abbrev pub stream_of : Option ℕ → Option Way → Option ViewedStream
 stream_of None way = None
 stream_of (Some session) None = None
 stream_of (Some session) (Some way) = Some (record { session = session; way = way })
 
 -- the direction of a session that two words name
-abbrev pub stream_in : List ℕ → List ℕ → Option Stream
+abbrev pub stream_in : List ℕ → List ℕ → Option ViewedStream
 stream_in session way = stream_of (number_in session) (way_in way)
 
 -- the view of this name on a direction
-abbrev pub view_in : List ℕ → Stream → Option View
+abbrev pub view_in : List ℕ → ViewedStream → Option View
 view_in name stream =
     if bytes_eq name (codes "--bytes") then Some (view.Written stream)
     else (if bytes_eq name (codes "--text") then Some (view.Text stream)
     else (if bytes_eq name (codes "--hex") then Some (view.Hex stream) else None))
 
 -- that view, and the words behind
-abbrev pub viewed : List ℕ → Option Stream → List (List ℕ) → Option (View × List (List ℕ))
+abbrev pub viewed : List ℕ → Option ViewedStream → List (List ℕ) → Option (View × List (List ℕ))
 viewed name None rest = None
 viewed name (Some stream) rest = option_map (λ asked. (asked, rest)) (view_in name stream)
 

@@ -10,7 +10,7 @@ use std::alloc::Global;
 
 /// What happened in a part of the time, from the weakest sign to the strongest. Of several the strongest is shown.
 #[derive(Clone, Copy, Debug, PartialEq, Eq)]
-pub enum Mark {
+pub enum ChartMark {
     /// Nothing.
     Quiet,
     /// Something was opened, or a peer came.
@@ -39,51 +39,51 @@ pub struct Chart {
     /// The moment of the last turn, which is the end of the last column.
     pub span: u64,
     /// The rows, one behind the other.
-    pub marks: Vec<Mark>,
+    pub marks: Vec<ChartMark>,
 }
 
-fn mark_of_closing(why: Why) -> Mark {
+fn mark_of_closing(why: Why) -> ChartMark {
     match why {
-        Why::Finished => Mark::Finished,
-        Why::Refused | Why::Served => Mark::Quiet,
-        _ => Mark::Cut,
+        Why::Finished => ChartMark::Finished,
+        Why::Refused | Why::Served => ChartMark::Quiet,
+        _ => ChartMark::Cut,
     }
 }
 
 /// Where an act leaves a mark, and which.
-fn mark_of(act: &Act) -> Option<(Place, Mark)> {
+fn mark_of(act: &Act) -> Option<(Place, ChartMark)> {
     match act {
-        Act::Opened(place) | Act::Accepted(place, _) => Some((*place, Mark::Opened)),
-        Act::OpenLater(place) | Act::OpenFailed(place) => Some((*place, Mark::Tried)),
-        Act::ListenFailed(place) | Act::AcceptFailed(place) => Some((*place, Mark::Tried)),
-        Act::Read(place, _) => Some((*place, Mark::Passed(way_from(place.side)))),
-        Act::Wrote(place, _) => Some((*place, Mark::Passed(way_to(place.side)))),
-        Act::ReadFault(place) | Act::WriteFault(place) => Some((*place, Mark::Failed)),
-        Act::Shut(place, _) => Some((*place, Mark::PassedEnd(way_to(place.side)))),
-        Act::ShutFault(place, _) => Some((*place, Mark::Failed)),
+        Act::Opened(place) | Act::Accepted(place, _) => Some((*place, ChartMark::Opened)),
+        Act::OpenLater(place) | Act::OpenFailed(place) => Some((*place, ChartMark::Tried)),
+        Act::ListenFailed(place) | Act::AcceptFailed(place) => Some((*place, ChartMark::Tried)),
+        Act::Read(place, _) => Some((*place, ChartMark::Passed(way_from(place.side)))),
+        Act::Wrote(place, _) => Some((*place, ChartMark::Passed(way_to(place.side)))),
+        Act::ReadFault(place) | Act::WriteFault(place) => Some((*place, ChartMark::Failed)),
+        Act::Shut(place, _) => Some((*place, ChartMark::PassedEnd(way_to(place.side)))),
+        Act::ShutFault(place, _) => Some((*place, ChartMark::Failed)),
         Act::Closed(place, why) => Some((*place, mark_of_closing(*why))),
         _ => None,
     }
 }
 
-fn strength(mark: Mark) -> u8 {
+fn strength(mark: ChartMark) -> u8 {
     match mark {
-        Mark::Quiet => 0,
-        Mark::Opened => 1,
-        Mark::Tried => 2,
-        Mark::Passed(_) => 3,
-        Mark::PassedBoth => 4,
-        Mark::PassedEnd(_) => 5,
-        Mark::Finished => 6,
-        Mark::Failed => 7,
-        Mark::Cut => 8,
+        ChartMark::Quiet => 0,
+        ChartMark::Opened => 1,
+        ChartMark::Tried => 2,
+        ChartMark::Passed(_) => 3,
+        ChartMark::PassedBoth => 4,
+        ChartMark::PassedEnd(_) => 5,
+        ChartMark::Finished => 6,
+        ChartMark::Failed => 7,
+        ChartMark::Cut => 8,
     }
 }
 
 /// The sign of two things in one part of the time.
-fn joined(one: Mark, other: Mark) -> Mark {
+fn join_marks(one: ChartMark, other: ChartMark) -> ChartMark {
     match (one, other) {
-        (Mark::Passed(way), Mark::Passed(back)) if way != back => Mark::PassedBoth,
+        (ChartMark::Passed(way), ChartMark::Passed(back)) if way != back => ChartMark::PassedBoth,
         _ => {
             if strength(one) < strength(other) {
                 other
@@ -102,7 +102,7 @@ impl Chart {
     {
         let count = (sessions as usize).checked_mul(columns).ok_or(NoMemory)?;
         let mut marks = Vec::new(alloc);
-        marks.resize(count, Mark::Quiet)?;
+        marks.resize(count, ChartMark::Quiet)?;
         Ok(Chart {
             columns,
             span,
@@ -120,20 +120,20 @@ impl Chart {
     }
 
     /// The mark at this place of all, counted row by row; none stands behind the last.
-    pub fn at(&self, place: usize) -> Mark {
+    pub fn at(&self, place: usize) -> ChartMark {
         match self.marks.get(place) {
             Some(mark) => *mark,
-            None => Mark::Quiet,
+            None => ChartMark::Quiet,
         }
     }
 
-    fn put(&mut self, place: usize, mark: Mark)
+    fn put(&mut self, place: usize, mark: ChartMark)
         ensures columns { self.new.columns ≡ self.old.columns }
         ensures rows { length self.new.marks.items ≡ length self.old.marks.items }
     {
         let before = self.at(place);
         if let Some(there) = self.marks.get_mut(place) {
-            *there = joined(before, mark);
+            *there = join_marks(before, mark);
         }
     }
 

@@ -7,10 +7,9 @@ mod elements;
 mod pictures;
 mod runs;
 mod shown;
-mod sources;
 mod timelines;
 mod views;
 
 pub use runs::journal_run;
 pub use shown::{Unshown, ViewFault, view_of_text};
-pub use views::{Stream, View, asked_view};
+pub use views::{View, ViewedStream, asked_view};

@@ -7,10 +7,10 @@ ghost use Rattle.history_facts.specs.Pasts.{acts};
 ghost use Rattle.journal_report.specs.Elements.{AddsElements};
 ghost use Rattle.journal_report.specs.Pictures.{label, AddsPictureRow, AddsPictureRows, head_text, IsPicture};
 
-use crate::charts::{Chart, Mark, chart_of};
+use crate::charts::{Chart, ChartMark, chart_of};
 use crate::elements::{Ink, Stroke, say_stroke, say_words};
 use history_facts::now;
-use journal_table::{Overview, Row, moment, number, peers_cell, say_why};
+use journal_table::{Overview, SessionRow, moment, number, peers_cell, say_why};
 use place_report::Page;
 use relay_model::{Act, NoMemory, Way};
 use std::alloc::Global;
@@ -71,24 +71,30 @@ fn across(column: usize, y: u64, width: u64, ink: Ink) -> Stroke {
 }
 
 /// How a mark is drawn in its column: at most two lines.
-fn strokes_of(mark: Mark, column: usize, y: u64) -> (Option<Stroke>, Option<Stroke>) {
+fn strokes_of(mark: ChartMark, column: usize, y: u64) -> (Option<Stroke>, Option<Stroke>) {
     let next = column.saturating_add(1);
     let above = y.saturating_sub(3);
     let below = y.saturating_add(3);
     let right = along(column, next, above, 5, Ink::Blue);
     let left = along(column, next, below, 5, Ink::Orange);
     match mark {
-        Mark::Quiet => (None, None),
-        Mark::Opened => (Some(across(column, y, 1, Ink::Grey)), None),
-        Mark::Tried => (Some(across(column, y, 3, Ink::Purple)), None),
-        Mark::Passed(Way::LeftToRight) => (Some(right), None),
-        Mark::Passed(Way::RightToLeft) => (Some(left), None),
-        Mark::PassedBoth => (Some(right), Some(left)),
-        Mark::PassedEnd(Way::LeftToRight) => (Some(across(column, above, 2, Ink::Green)), None),
-        Mark::PassedEnd(Way::RightToLeft) => (Some(across(column, below, 2, Ink::Green)), None),
-        Mark::Failed => (Some(across(column, y, 4, Ink::Red)), None),
-        Mark::Finished => (Some(across(column, y, 3, Ink::Black)), None),
-        Mark::Cut => (Some(across(column, y, 5, Ink::Red)), None),
+        ChartMark::Quiet => (None, None),
+        ChartMark::Opened => (Some(across(column, y, 1, Ink::Grey)), None),
+        ChartMark::Tried => (Some(across(column, y, 3, Ink::Purple)), None),
+        ChartMark::Passed(Way::LeftToRight) => (Some(right), None),
+        ChartMark::Passed(Way::RightToLeft) => (Some(left), None),
+        ChartMark::PassedBoth => (Some(right), Some(left)),
+        ChartMark::PassedEnd(Way::LeftToRight) => (
+            Some(across(column, above, 2, Ink::Green)),
+            None,
+        ),
+        ChartMark::PassedEnd(Way::RightToLeft) => (
+            Some(across(column, below, 2, Ink::Green)),
+            None,
+        ),
+        ChartMark::Failed => (Some(across(column, y, 4, Ink::Red)), None),
+        ChartMark::Finished => (Some(across(column, y, 3, Ink::Black)), None),
+        ChartMark::Cut => (Some(across(column, y, 5, Ink::Red)), None),
     }
 }
 
@@ -114,7 +120,7 @@ fn say_note(alloc: Global, page: &mut Page, x: u64, y: u64, words: &[u8]) -> Res
 fn say_mark(
     alloc: Global,
     page: &mut Page,
-    mark: Mark,
+    mark: ChartMark,
     column: usize,
     y: u64,
 ) -> Result<(), NoMemory>
@@ -127,7 +133,12 @@ fn say_mark(
 
 /// The marks of the row.
 #[tactic(auto, using(crate::proofs::Pictured::no_elements, crate::proofs::Pictured::elements_added))]
-fn say_marks(alloc: Global, page: &mut Page, chart: &Chart, row: &Row) -> Result<(), NoMemory>
+fn say_marks(
+    alloc: Global,
+    page: &mut Page,
+    chart: &Chart,
+    row: &SessionRow,
+) -> Result<(), NoMemory>
     ensures { OnOk result (AddsElements page.old page.new) }
 {
     let first = (row.session as usize).saturating_mul(chart.columns);
@@ -139,7 +150,7 @@ fn say_marks(alloc: Global, page: &mut Page, chart: &Chart, row: &Row) -> Result
 }
 
 /// The life of the session, as a thin line.
-fn life_of(chart: &Chart, row: &Row) -> Option<Stroke>
+fn life_of(chart: &Chart, row: &SessionRow) -> Option<Stroke>
     requires { 0 < chart.now.columns }
 {
     let from = chart.column_of(row.began?);
@@ -151,7 +162,12 @@ fn life_of(chart: &Chart, row: &Row) -> Option<Stroke>
 }
 
 /// What is drawn of a session behind its label: its life, its marks, and why it was closed.
-fn say_drawing(alloc: Global, page: &mut Page, chart: &Chart, row: &Row) -> Result<(), NoMemory>
+fn say_drawing(
+    alloc: Global,
+    page: &mut Page,
+    chart: &Chart,
+    row: &SessionRow,
+) -> Result<(), NoMemory>
     requires { 0 < chart.now.columns }
     ensures { OnOk result (AddsElements page.old page.new) }
 {

@@ -4,8 +4,8 @@ ghost use Rattle.port_trait.specs.Counting.{Rose};
 ghost use Rattle.journal_report.specs.Runs.{line_of, Shows, ShowsBeneath, Refuses, RefusesBeneath};
 
 use crate::shown::{Unshown, ViewFault, view_of_text};
-use crate::sources::{Unread, read_text};
 use crate::views::View;
+use journal_text::{Unread, read_text};
 use port_trait::{Sink, Source, write_whole};
 use relay_model::{NoMemory, Text};
 use std::alloc::Global;

@@ -1,7 +1,5 @@
 // The text of a view of a journal, or why there is none.
 ghost use Rattle.std.specs.Prelude.{◌≡◌, ◌≢◌, ◌<◌, ◌≤◌, ◌^◌, length, IfOk, IfErr, Ok};
-ghost use Rattle.cmd_words.specs.declared.commands.Command.TheVariants.{Relay};
-ghost use Rattle.cmd_words.specs.Commands.{command};
 ghost use Rattle.std.specs.List.{AllByRecursion};
 ghost use Rattle.journal_text.specs.Ranges.{IsAct};
 ghost use Rattle.history_facts.specs.Pasts.{acts};
@@ -10,19 +8,18 @@ ghost use Rattle.relay_model.specs.Configs.{input, output};
 ghost use Rattle.relay_model.specs.History.{got, put};
 ghost use Rattle.journal_table.specs.Streams.{dumped};
 ghost use Rattle.journal_report.specs.declared.shown.ViewFault.TheVariants as fault;
-ghost use Rattle.journal_report.specs.Sources.{longest_text};
-ghost use Rattle.journal_report.specs.Shown.{stream_of, has_session, ViewTold, IsPlain, ViewShown, Reads, IsViewOf, OnFault, WhyUnshownOf, WhyNoRelay, WhyNoJournal, IsViewBy, WhyUnshownBy, WhyUnshown};
+ghost use Rattle.journal_text.specs.Sources.{longest_text};
+ghost use Rattle.journal_report.specs.Shown.{stream_of, has_session, ViewTold, IsPlain, ViewShown, Reads, IsViewOf, OnFault, WhyUnshownOf, WhyNoJournal, IsViewBy, WhyUnshownBy, WhyUnshown};
 
 use crate::pictures::picture;
-use crate::sources::LONGEST_TEXT;
 use crate::timelines::timeline;
-use crate::views::{Stream, View};
-use cmd_words::{Command, CommandFault, command_of};
+use crate::views::{View, ViewedStream};
+use cmd_words::relay_of;
 use command_places::{input, output};
 use journal_table::{
-    Overview, acts_told, bytes_read, bytes_written, dumped, newest_first, overview_of, table,
+    Overview, acts_told, bytes_read, bytes_written, dump_stream, newest_first, overview_of, table,
 };
-use journal_text::{JournalFault, read_journal};
+use journal_text::{JournalFault, LONGEST_TEXT, read_journal};
 use place_report::Page;
 use relay_model::{Act, Config, Dump, Journal, NoMemory, Text};
 use std::alloc::Global;
@@ -71,7 +68,7 @@ fn dumped_stream(
     alloc: Global,
     config: &Config,
     all: &[&Act],
-    stream: Stream,
+    stream: ViewedStream,
     style: Dump,
 ) -> Result<Vec<u8>, NoMemory>
     requires style { style ≢ Dump.Off }
@@ -80,11 +77,11 @@ fn dumped_stream(
     ensures printable { IfOk result (λ text. IsPrintable text.items) }
 {
     let place = input(config, stream.session, stream.way);
-    dumped(alloc, all, place, stream.way, style)
+    dump_stream(alloc, all, place, stream.way, style)
 }
 
 /// The direction that is asked for, if one is.
-fn stream_of(view: View) -> Option<Stream>
+fn stream_of(view: View) -> Option<ViewedStream>
     ensures { result ≡ stream_of view }
 {
     match view {
@@ -151,21 +148,6 @@ fn view_of_acts(
     Ok(view_on(alloc, view, &overview, all.as_slice())?)
 }
 
-/// The relay that the words make.
-fn relay_of(alloc: Global, words: &[Text]) -> Result<Config, ViewFault>
-    ensures made { IfOk result (λ c. command words.now ≡ Ok (Relay c)) }
-    ensures unmade { IfErr result (OnFault (WhyNoRelay words.now)) }
-{
-    match command_of(alloc, words) {
-        Ok(Command::Relay(config)) => Ok(config),
-        Ok(Command::Usage) => Err(ViewFault::Unshown(Unshown::BadWords)),
-        Ok(Command::Version) => Err(ViewFault::Unshown(Unshown::BadWords)),
-        Ok(Command::Load(_)) => Err(ViewFault::Unshown(Unshown::BadWords)),
-        Err(CommandFault::Refused(_)) => Err(ViewFault::Unshown(Unshown::BadWords)),
-        Err(CommandFault::Memory) => Err(ViewFault::Memory),
-    }
-}
-
 /// The journal that the text spells.
 fn journal_of(alloc: Global, text: &[u8]) -> Result<Journal, ViewFault>
     ensures read { IfOk result (λ journal. Reads text.now journal.acts) }
@@ -202,8 +184,13 @@ pub fn view_of_text(
     if text.len() > LONGEST_TEXT {
         return Err(ViewFault::Unshown(Unshown::TooLong));
     }
-    match relay_of(alloc, words) {
-        Ok(config) => view_by(alloc, view, &config, text),
-        Err(fault) => Err(fault),
+    match relay_of(alloc, words)? {
+        None => Err(ViewFault::Unshown(Unshown::BadWords)),
+        Some(config) => {
+            let shown = view_by(alloc, view, &config, text);
+            // (a call of its own, since the prover reads the end of a large value at each branch)
+            drop(config);
+            shown
+        }
     }
 }

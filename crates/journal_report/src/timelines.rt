@@ -6,9 +6,11 @@ ghost use Rattle.relay_model.specs.Sessions.{numbers};
 ghost use Rattle.history_facts.specs.Pasts.{acts};
 ghost use Rattle.journal_report.specs.Timelines.{AddsCells, AddsRow, AddsRows, TimelineTold, legend, scale_line};
 
-use crate::charts::{Chart, Mark, chart_of};
+use crate::charts::{Chart, ChartMark, chart_of};
 use history_facts::now;
-use journal_table::{Overview, Row, moment, number, peers_cell, say_left, say_right, say_why};
+use journal_table::{
+    Overview, SessionRow, moment, number, peers_cell, say_left, say_right, say_why,
+};
 use place_report::Page;
 use relay_model::{Act, NoMemory, Way};
 use std::alloc::Global;
@@ -17,26 +19,26 @@ use std::alloc::Global;
 const COLUMNS: usize = 60;
 
 /// The sign of a mark.
-fn sign(mark: Mark) -> &'static str
+fn sign(mark: ChartMark) -> &'static str
     ensures { length (shown result.now) ≡ 1 }
 {
     match mark {
-        Mark::Quiet => "-",
-        Mark::Opened => "o",
-        Mark::Tried => "?",
-        Mark::Passed(Way::LeftToRight) => ">",
-        Mark::Passed(Way::RightToLeft) => "<",
-        Mark::PassedBoth => "=",
-        Mark::PassedEnd(Way::LeftToRight) => ")",
-        Mark::PassedEnd(Way::RightToLeft) => "(",
-        Mark::Failed => "!",
-        Mark::Finished => "|",
-        Mark::Cut => "x",
+        ChartMark::Quiet => "-",
+        ChartMark::Opened => "o",
+        ChartMark::Tried => "?",
+        ChartMark::Passed(Way::LeftToRight) => ">",
+        ChartMark::Passed(Way::RightToLeft) => "<",
+        ChartMark::PassedBoth => "=",
+        ChartMark::PassedEnd(Way::LeftToRight) => ")",
+        ChartMark::PassedEnd(Way::RightToLeft) => "(",
+        ChartMark::Failed => "!",
+        ChartMark::Finished => "|",
+        ChartMark::Cut => "x",
     }
 }
 
 /// Whether a column lies in the life of a session.
-fn lives(chart: &Chart, row: &Row, column: usize) -> bool
+fn lives(chart: &Chart, row: &SessionRow, column: usize) -> bool
     requires { 0 < chart.now.columns }
 {
     let begins = match row.began {
@@ -51,7 +53,7 @@ fn lives(chart: &Chart, row: &Row, column: usize) -> bool
 }
 
 /// The sign in this column of the row.
-fn sign_at(chart: &Chart, row: &Row, column: usize) -> &'static str
+fn sign_at(chart: &Chart, row: &SessionRow, column: usize) -> &'static str
     requires { 0 < chart.now.columns }
     ensures { length (shown result.now) ≡ 1 }
 {
@@ -59,7 +61,7 @@ fn sign_at(chart: &Chart, row: &Row, column: usize) -> &'static str
         .saturating_mul(chart.columns)
         .saturating_add(column);
     let mark = chart.at(place);
-    if mark == Mark::Quiet && !lives(chart, row, column) {
+    if mark == ChartMark::Quiet && !lives(chart, row, column) {
         " "
     } else {
         sign(mark)
@@ -68,7 +70,7 @@ fn sign_at(chart: &Chart, row: &Row, column: usize) -> &'static str
 
 /// The signs of the row, a column each.
 #[tactic(auto, using(crate::proofs::Drawn::no_cells, crate::proofs::Drawn::cells_more))]
-fn say_signs(page: &mut Page, chart: &Chart, row: &Row) -> Result<(), NoMemory>
+fn say_signs(page: &mut Page, chart: &Chart, row: &SessionRow) -> Result<(), NoMemory>
     requires { 0 < chart.now.columns }
     ensures { OnOk result (AddsCells chart.now.columns page.old page.new) }
 {

@@ -7,7 +7,7 @@ use std::str;
 
 /// A direction of a session.
 #[derive(Clone, Copy, Debug, PartialEq, Eq)]
-pub struct Stream {
+pub struct ViewedStream {
     pub session: u32,
     pub way: Way,
 }
@@ -24,17 +24,17 @@ pub enum View {
     /// A line for each act.
     Acts,
     /// The bytes that were written in a direction.
-    Written(Stream),
+    Written(ViewedStream),
     /// The bytes that were read in a direction.
-    Read(Stream),
+    Read(ViewedStream),
     /// What was read in a direction, as a dump of text shows it.
-    Text(Stream),
+    Text(ViewedStream),
     /// What was read in a direction, as a dump in hexadecimal shows it.
-    Hex(Stream),
+    Hex(ViewedStream),
 }
 
 /// The number of these digits.
-fn parsed(digits: &[u8]) -> Option<u64>
+fn parse_number(digits: &[u8]) -> Option<u64>
     requires { slice_index digits.now 0 ≢ 43 }
     ensures { result ≡ value_in digits.now }
 {
@@ -58,7 +58,7 @@ fn number_of(digits: &[u8]) -> Option<u32>
     ensures { result ≡ number_in digits.now }
 {
     match digits {
-        [b'0'..=b'9', ..] => session_of(parsed(digits)?),
+        [b'0'..=b'9', ..] => session_of(parse_number(digits)?),
         _ => None,
     }
 }
@@ -75,17 +75,17 @@ fn way_of(word: &[u8]) -> Option<Way>
     }
 }
 
-fn stream_of(session: &Text, way: &Text) -> Option<Stream>
+fn stream_of(session: &Text, way: &Text) -> Option<ViewedStream>
     ensures { result ≡ stream_in session.now way.now }
 {
-    Some(Stream {
+    Some(ViewedStream {
         session: number_of(session.as_slice())?,
         way: way_of(way.as_slice())?,
     })
 }
 
 /// The view of this name on a direction.
-fn view_of(name: &[u8], stream: Stream) -> Option<View>
+fn view_of(name: &[u8], stream: ViewedStream) -> Option<View>
     ensures { result ≡ view_in name.now stream }
 {
     if name == b"--bytes".as_slice() {

@@ -10,8 +10,8 @@ use Rattle.relay_model.specs.declared.acts.ChildEnd.TheVariants as ends
 use Rattle.relay_model.specs.declared.acts.Why.{Why}
 use Rattle.relay_model.specs.declared.acts.Why.TheVariants as whys
 use Rattle.place_report.specs.Shown.{shown, said}
-use Rattle.journal_table.specs.declared.rows.Ending.{Ending}
-use Rattle.journal_table.specs.declared.rows.Ending.TheVariants as endings
+use Rattle.journal_table.specs.declared.rows.WayEnding.{WayEnding}
+use Rattle.journal_table.specs.declared.rows.WayEnding.TheVariants as endings
 
 -- so many blanks
 abbrev pub blanks : ℕ → List ℕ
@@ -78,7 +78,7 @@ why_text whys.Stopped = codes "a stop"
 why_text whys.Memory = codes "want of memory"
 
 -- how far a direction came, in a word
-abbrev pub ending_text : Ending → List ℕ
+abbrev pub ending_text : WayEnding → List ℕ
 ending_text endings.Open = codes "open"
 ending_text endings.Passed = codes "passed"
 ending_text endings.Failed = codes "failed"

@@ -9,10 +9,10 @@ use Rattle.relay_model.specs.History.{now, got, put, read_fault_at, write_fault_
 use Rattle.relay_model.specs.Sessions.{numbers}
 use Rattle.relay_model.specs.Moments.{moved_at, passed}
 use Rattle.relay_model.specs.Cause.{closed_why}
-use Rattle.journal_table.specs.declared.rows.Ending.{Ending}
-use Rattle.journal_table.specs.declared.rows.Ending.TheVariants.{Open, Passed, Failed, Cut}
-use Rattle.journal_table.specs.declared.rows.Passage.{Passage}
-use Rattle.journal_table.specs.declared.rows.Row.{Row}
+use Rattle.journal_table.specs.declared.rows.WayEnding.{WayEnding}
+use Rattle.journal_table.specs.declared.rows.WayEnding.TheVariants.{Open, Passed, Failed, Cut}
+use Rattle.journal_table.specs.declared.rows.WayTraffic.{WayTraffic}
+use Rattle.journal_table.specs.declared.rows.SessionRow.{SessionRow}
 use Rattle.journal_table.specs.Visits.{began_at, ended_at}
 
 -- a read or a write of a direction failed
@@ -20,14 +20,14 @@ abbrev pub failed : Config → List Act → ℕ → Way → Bool
 failed c past s w = is_some (read_fault_at past (input c s w)) || is_some (write_fault_at past (output c s w))
 
 -- how far a direction came: its end was passed on, or something of it failed before, or its session was closed before
-abbrev pub ending_of : Config → List Act → ℕ → Way → Ending
+abbrev pub ending_of : Config → List Act → ℕ → Way → WayEnding
 ending_of c past s w =
     if passed c past s w then Passed
     else (if failed c past s w then Failed
     else (if is_some (closed_why c past s) then Cut else Open))
 
 -- what went through a direction, where the command forms it: how many bytes were read and how many were written
-abbrev pub passage_of : Config → List Act → ℕ → Way → Option Passage
+abbrev pub passage_of : Config → List Act → ℕ → Way → Option WayTraffic
 passage_of c past s w =
     if formed c w
     then Some (record { read = length (got past (input c s w)); written = length (put past (output c s w)); ending = ending_of c past s w })
@@ -38,7 +38,7 @@ abbrev pub idle_of : Config → List Act → ℕ → ℕ
 idle_of c past s = unwrap_or (ended_at c past s) (now past) - moved_at c past s
 
 -- the row of a session
-abbrev pub row_of : Config → List Act → ℕ → Row
+abbrev pub row_of : Config → List Act → ℕ → SessionRow
 row_of c past s = record {
   session = s;
   began = began_at c past s;

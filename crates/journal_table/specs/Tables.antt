@@ -10,12 +10,13 @@ use Rattle.relay_model.specs.declared.acts.Why.{Why}
 use Rattle.relay_model.specs.declared.acts.Act.{Act}
 use Rattle.relay_model.specs.Configs.{places}
 use Rattle.relay_model.specs.Sessions.{numbers}
-use Rattle.relay_model.specs.Outcome.{Outcome, outcome}
-use Rattle.relay_model.specs.Outcome as outcomes
+use Rattle.relay_model.specs.Outcome.{outcome}
+use Rattle.relay_model.specs.declared.outcomes.RunOutcome.{RunOutcome}
+use Rattle.relay_model.specs.declared.outcomes.RunOutcome.TheVariants as outcomes
 use Rattle.relay_model.specs.Dumps.{newline}
 use Rattle.place_report.specs.Shown.{shown, said}
-use Rattle.journal_table.specs.declared.rows.Passage.{Passage}
-use Rattle.journal_table.specs.declared.rows.Row.{Row}
+use Rattle.journal_table.specs.declared.rows.WayTraffic.{WayTraffic}
+use Rattle.journal_table.specs.declared.rows.SessionRow.{SessionRow}
 use Rattle.journal_table.specs.Visits.{met_at, child_at, began_at}
 use Rattle.journal_table.specs.Rows.{row_of}
 use Rattle.journal_table.specs.Cells.{to_left, to_right, moment_text, peer_cell, child_cell, beside, why_text, ending_text}
@@ -44,13 +45,13 @@ abbrev pub children_cell : Config → List Act → ℕ → List ℕ
 children_cell c past s = or_dash (children_beside past [] (places c s))
 
 -- a session, its peers, when it began and ended, and how long nothing had moved then
-abbrev pub visit_cells : Row → List ℕ → List ℕ
+abbrev pub visit_cells : SessionRow → List ℕ → List ℕ
 visit_cells row peers =
     to_right 7 (decimal row.session) ++ (to_left 22 peers ++ (to_right 10 (moment_text row.began)
     ++ (to_right 10 (moment_text row.ended) ++ to_right 10 (moment_text (Some row.idle)))))
 
 -- what went through a direction, or dashes where the command doesn't form it
-abbrev pub passage_cells : Option Passage → List ℕ
+abbrev pub passage_cells : Option WayTraffic → List ℕ
 passage_cells None = to_right 10 (said "-") ++ (to_right 10 (said "-") ++ to_left 6 (said "-"))
 passage_cells (Some passage) =
     to_right 10 (decimal passage.read) ++ (to_right 10 (decimal passage.written) ++ to_left 6 (shown (ending_text passage.ending)))
@@ -61,7 +62,7 @@ why_cell None = said "-"
 why_cell (Some why) = shown (why_text why)
 
 -- the line of a row
-abbrev pub row_line : Row → List ℕ → List ℕ → List ℕ
+abbrev pub row_line : SessionRow → List ℕ → List ℕ → List ℕ
 row_line row peers children =
     visit_cells row peers ++ (passage_cells row.right ++ (passage_cells row.left ++ (to_left 8 children ++ (why_cell row.why ++ newline))))
 
@@ -90,7 +91,7 @@ half_words ToRead = codes "read"
 half_words ToWrite = codes "write"
 
 -- how a run ended, in words
-abbrev pub outcome_words : Option Outcome → List ℕ
+abbrev pub outcome_words : Option RunOutcome → List ℕ
 outcome_words None = codes "none yet"
 outcome_words (Some outcomes.Memory) = codes "memory was wanting"
 outcome_words (Some (outcomes.Stopped turns)) = codes "stopped after " ++ decimal turns ++ codes " turns"
@@ -103,7 +104,7 @@ outcome_words (Some (outcomes.Faulted place half)) =
 outcome_words (Some (outcomes.Ended why)) = why_text why
 
 -- the last line
-abbrev pub outcome_line : Option Outcome → List ℕ
+abbrev pub outcome_line : Option RunOutcome → List ℕ
 outcome_line ended = said "outcome: " ++ (shown (outcome_words ended) ++ newline)
 
 -- a line for each session that has begun, and how the run ended

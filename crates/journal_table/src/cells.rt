@@ -4,7 +4,7 @@ ghost use Rattle.std.specs.Net.Text.{ipv4_text};
 ghost use Rattle.place_report.specs.Shown.{shown};
 ghost use Rattle.journal_table.specs.Cells.{blanks, to_left, to_right, seconds, moment_text, peer_text, peer_cell, child_text, child_cell, why_text, ending_text, beside};
 
-use crate::rows::Ending;
+use crate::rows::WayEnding;
 use place_report::Page;
 use relay_model::{ChildEnd, NoMemory, Peer, Why};
 use std::alloc::Global;
@@ -165,13 +165,13 @@ pub(crate) fn why_words(why: Why) -> &'static str
 }
 
 /// How far a direction came, in a word.
-pub(crate) fn ending_words(ending: Ending) -> &'static str
+pub(crate) fn ending_words(ending: WayEnding) -> &'static str
     ensures { result.now ≡ ending_text ending }
 {
     match ending {
-        Ending::Open => "open",
-        Ending::Passed => "passed",
-        Ending::Failed => "failed",
-        Ending::Cut => "cut",
+        WayEnding::Open => "open",
+        WayEnding::Passed => "passed",
+        WayEnding::Failed => "failed",
+        WayEnding::Cut => "cut",
     }
 }

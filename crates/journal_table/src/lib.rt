@@ -16,6 +16,6 @@ pub use acts::acts_told;
 pub use cells::{moment, number, say_left, say_right};
 pub use newest::newest_first;
 pub use overviews::{Overview, overview_of};
-pub use rows::{Ending, Passage, Row};
-pub use streams::{bytes_read, bytes_written, dumped};
+pub use rows::{SessionRow, WayEnding, WayTraffic};
+pub use streams::{bytes_read, bytes_written, dump_stream};
 pub use tables::{peers_cell, say_why, table};

@@ -6,14 +6,13 @@ ghost use Rattle.relay_model.specs.Sessions.{admitted, numbers};
 ghost use Rattle.relay_model.specs.Moments.{moved_at};
 ghost use Rattle.relay_model.specs.Cause.{closed_why};
 ghost use Rattle.relay_model.specs.Outcome.{outcome};
-ghost use Rattle.session_facts.specs.Answers.{as_outcome};
 ghost use Rattle.journal_table.specs.Visits.{met_at, child_at, began_at, ended_at};
 
 use crate::visits::Visits;
 use command_places::has_fork;
-use history_facts::{Past, admitted};
-use relay_model::{Act, ChildEnd, Config, NoMemory, Peer, Place};
-use session_facts::{Outcome, holds, numbers, outcome_of};
+use history_facts::{Past, admitted_count};
+use relay_model::{Act, ChildEnd, Config, NoMemory, Peer, Place, RunOutcome};
+use session_facts::{holds, numbers, outcome_of};
 use std::alloc::Global;
 use std::marker::Model;
 
@@ -62,7 +61,7 @@ impl<'a> Overview<'a> {
             past.config(),
             act,
             history_facts::now(&past),
-            admitted(&past),
+            admitted_count(&past),
         )?;
         let past = past.with(act, grown)?;
         Ok(Overview { past, visits })
@@ -92,8 +91,8 @@ impl<'a> Overview<'a> {
 
     /// How the run ended, once nothing is held.
     #[tactic(auto, using(crate::proofs::Few::admitted_few))]
-    pub fn outcome(&self) -> Option<Outcome>
-        ensures { option_map as_outcome result ≡ outcome self.now.config self.now.acts }
+    pub fn outcome(&self) -> Option<RunOutcome>
+        ensures { result ≡ outcome self.now.config self.now.acts }
     {
         outcome_of(&self.past)
     }
@@ -113,7 +112,7 @@ impl<'a> Overview<'a> {
     }
 
     /// The moment at which the session began.
-    pub fn began(&self, session: u32) -> Option<u64>
+    pub fn begin_moment(&self, session: u32) -> Option<u64>
         ensures { result ≡ began_at self.now.config self.now.acts session }
     {
         if has_fork(self.config()) {
@@ -126,7 +125,7 @@ impl<'a> Overview<'a> {
     }
 
     /// The moment at which the session ended.
-    pub fn ended(&self, session: u32) -> Option<u64>
+    pub fn end_moment(&self, session: u32) -> Option<u64>
         ensures { result ≡ ended_at self.now.config self.now.acts session }
     {
         if holds(&self.past, session) {

@@ -4,7 +4,7 @@ ghost use Rattle.relay_model.specs.Moments.{passed};
 ghost use Rattle.journal_table.specs.Rows.{failed, ending_of, passage_of, idle_of, row_of};
 
 use crate::overviews::Overview;
-use command_places::{formed, input, output};
+use command_places::{input, is_formed, output};
 use history_facts::{
     closed_why, got_length, moved_at, now, put_length, read_fault_at, shut_at, write_fault_at,
 };
@@ -12,7 +12,7 @@ use relay_model::{Way, Why};
 
 /// How far a direction of a session came.
 #[derive(Clone, Copy, Debug, PartialEq, Eq)]
-pub enum Ending {
+pub enum WayEnding {
     /// It goes on.
     Open,
     /// Its end was passed on.
@@ -25,28 +25,28 @@ pub enum Ending {
 
 /// What went through a direction: the bytes that were read and those that were written.
 #[derive(Clone, Copy, Debug, PartialEq, Eq)]
-pub struct Passage {
+pub struct WayTraffic {
     pub read: usize,
     pub written: usize,
-    pub ending: Ending,
+    pub ending: WayEnding,
 }
 
 /// A session: its number, the moments at which it began and ended, and how long nothing had moved then. A direction
 /// that the command doesn't form has no passage.
 #[derive(Clone, Copy, Debug, PartialEq, Eq)]
-pub struct Row {
+pub struct SessionRow {
     pub session: u32,
     pub began: Option<u64>,
     pub ended: Option<u64>,
     pub idle: u64,
-    pub right: Option<Passage>,
-    pub left: Option<Passage>,
+    pub right: Option<WayTraffic>,
+    pub left: Option<WayTraffic>,
     pub why: Option<Why>,
 }
 
 impl<'a> Overview<'a> {
     /// Whether a read or a write of the direction failed.
-    fn failed(&self, session: u32, way: Way) -> bool
+    fn has_failed(&self, session: u32, way: Way) -> bool
         ensures { result ≡ failed self.now.config self.now.acts session way }
     {
         let past = self.facts();
@@ -54,29 +54,29 @@ impl<'a> Overview<'a> {
             || write_fault_at(past, output(self.config(), session, way)).is_some()
     }
 
-    fn ending(&self, session: u32, way: Way) -> Ending
+    fn ending(&self, session: u32, way: Way) -> WayEnding
         ensures { result ≡ ending_of self.now.config self.now.acts session way }
     {
         let past = self.facts();
         if shut_at(past, output(self.config(), session, way)).is_some() {
-            Ending::Passed
-        } else if self.failed(session, way) {
-            Ending::Failed
+            WayEnding::Passed
+        } else if self.has_failed(session, way) {
+            WayEnding::Failed
         } else if closed_why(past, session).is_some() {
-            Ending::Cut
+            WayEnding::Cut
         } else {
-            Ending::Open
+            WayEnding::Open
         }
     }
 
-    fn passage(&self, session: u32, way: Way) -> Option<Passage>
+    fn passage(&self, session: u32, way: Way) -> Option<WayTraffic>
         ensures { result ≡ passage_of self.now.config self.now.acts session way }
     {
-        if !formed(self.config(), way) {
+        if !is_formed(self.config(), way) {
             return None;
         }
         let past = self.facts();
-        Some(Passage {
+        Some(WayTraffic {
             read: got_length(past, input(self.config(), session, way)),
             written: put_length(past, output(self.config(), session, way)),
             ending: self.ending(session, way),
@@ -87,7 +87,7 @@ impl<'a> Overview<'a> {
     fn idle(&self, session: u32) -> u64
         ensures { result ≡ idle_of self.now.config self.now.acts session }
     {
-        let until = match self.ended(session) {
+        let until = match self.end_moment(session) {
             Some(ended) => ended,
             None => now(self.facts()),
         };
@@ -95,13 +95,13 @@ impl<'a> Overview<'a> {
     }
 
     /// The row of the session.
-    pub fn row(&self, session: u32) -> Row
+    pub fn row(&self, session: u32) -> SessionRow
         ensures { result ≡ row_of self.now.config self.now.acts session }
     {
-        Row {
+        SessionRow {
             session,
-            began: self.began(session),
-            ended: self.ended(session),
+            began: self.begin_moment(session),
+            ended: self.end_moment(session),
             idle: self.idle(session),
             right: self.passage(session, Way::LeftToRight),
             left: self.passage(session, Way::RightToLeft),

@@ -103,7 +103,7 @@ fn note_dump(
 }
 
 /// How a dump in this style shows what was read at the place, by these acts, the newest first.
-pub fn dumped(
+pub fn dump_stream(
     alloc: Global,
     all: &[&Act],
     place: Place,

@@ -3,7 +3,6 @@ ghost use Rattle.std.specs.Prelude.{◌≡◌, ◌++◌, ◌<◌, [], None, Some
 ghost use Rattle.place_report.specs.Shown.{shown};
 ghost use Rattle.relay_model.specs.Configs.{places};
 ghost use Rattle.relay_model.specs.Dumps.{newline};
-ghost use Rattle.session_facts.specs.Answers.{as_outcome};
 ghost use Rattle.journal_table.specs.Cells.{to_left, to_right, ending_text};
 ghost use Rattle.journal_table.specs.Tables.{peers_beside, peers_cell, children_beside, children_cell, visit_cells, passage_cells, why_cell, row_line, session_line, heading, rows_below, side_words, half_words, outcome_words, outcome_line, TableTold};
 
@@ -12,11 +11,10 @@ use crate::cells::{
 };
 use crate::laws::a_session_begins_once;
 use crate::overviews::Overview;
-use crate::rows::{Ending, Passage, Row};
+use crate::rows::{SessionRow, WayEnding, WayTraffic};
 use command_places::places;
 use place_report::Page;
-use relay_model::{Half, NoMemory, Place, Side, Why};
-use session_facts::Outcome;
+use relay_model::{Half, NoMemory, Place, RunOutcome, Side, Why};
 use std::alloc::Global;
 
 /// The peers that came to these places, in their order.
@@ -78,7 +76,7 @@ fn children_cell(alloc: Global, overview: &Overview, session: u32) -> Result<Pag
 }
 
 /// The session, its peers, when it began and ended, and how long nothing had moved then.
-fn say_visit(alloc: Global, page: &mut Page, row: &Row, peers: &Page) -> Result<(), NoMemory>
+fn say_visit(alloc: Global, page: &mut Page, row: &SessionRow, peers: &Page) -> Result<(), NoMemory>
     ensures { OnOk result (page.new ≡ page.old ++ visit_cells row.now peers.now) }
 {
     say_right(page, 7, &number(alloc, u64::from(row.session))?)?;
@@ -97,14 +95,14 @@ fn say_number(alloc: Global, page: &mut Page, value: usize) -> Result<(), NoMemo
 }
 
 /// How a direction ended.
-fn say_ending(alloc: Global, page: &mut Page, ending: Ending) -> Result<(), NoMemory>
+fn say_ending(alloc: Global, page: &mut Page, ending: WayEnding) -> Result<(), NoMemory>
     ensures { OnOk result (page.new ≡ page.old ++ to_left 6 (shown (ending_text ending))) }
 {
     let cell = words(alloc, ending_words(ending))?;
     say_left(page, 6, &cell)
 }
 
-fn say_counts(alloc: Global, page: &mut Page, passage: Passage) -> Result<(), NoMemory>
+fn say_counts(alloc: Global, page: &mut Page, passage: WayTraffic) -> Result<(), NoMemory>
     ensures { OnOk result (page.new ≡ page.old ++ passage_cells (Some passage)) }
 {
     say_number(alloc, page, passage.read)?;
@@ -122,7 +120,7 @@ fn say_dashes(alloc: Global, page: &mut Page) -> Result<(), NoMemory>
 }
 
 /// What went through a direction, or dashes where the command doesn't form it.
-fn say_passage(alloc: Global, page: &mut Page, passage: Option<Passage>) -> Result<(), NoMemory>
+fn say_passage(alloc: Global, page: &mut Page, passage: Option<WayTraffic>) -> Result<(), NoMemory>
     ensures { OnOk result (page.new ≡ page.old ++ passage_cells passage) }
 {
     match passage {
@@ -144,7 +142,7 @@ pub fn say_why(page: &mut Page, why: Option<Why>) -> Result<(), NoMemory>
 fn say_row(
     alloc: Global,
     page: &mut Page,
-    row: &Row,
+    row: &SessionRow,
     peers: &Page,
     children: &Page,
 ) -> Result<(), NoMemory>
@@ -208,42 +206,44 @@ fn half_words(half: Half) -> &'static str
 }
 
 /// How the run ended, in words.
-fn outcome_string(alloc: Global, outcome: Option<Outcome>) -> Result<String, NoMemory>
-    ensures { IfOk result (λ text. string_bytes text ≡ outcome_words (option_map as_outcome outcome)) }
+fn outcome_string(alloc: Global, outcome: Option<RunOutcome>) -> Result<String, NoMemory>
+    ensures { IfOk result (λ text. string_bytes text ≡ outcome_words outcome) }
 {
     match outcome {
         None => Ok(format!(in alloc; "none yet")?),
-        Some(Outcome::Memory) => Ok(format!(in alloc; "memory was wanting")?),
-        Some(Outcome::Stopped(turns)) => { Ok(format!(in alloc; "stopped after {turns} turns")?) }
-        Some(Outcome::AcceptFailed) => Ok(format!(in alloc; "an accepting failed")?),
-        Some(Outcome::ListenFailed(tries)) => {
+        Some(RunOutcome::Memory) => Ok(format!(in alloc; "memory was wanting")?),
+        Some(RunOutcome::Stopped(turns)) => {
+            Ok(format!(in alloc; "stopped after {turns} turns")?)
+        }
+        Some(RunOutcome::AcceptFailed) => Ok(format!(in alloc; "an accepting failed")?),
+        Some(RunOutcome::ListenFailed(tries)) => {
             Ok(format!(in alloc; "no listening succeeded in {tries} tries")?)
         }
-        Some(Outcome::OpenFailed(side, tries)) => {
+        Some(RunOutcome::OpenFailed(side, tries)) => {
             let side = side_words(side);
             Ok(format!(in alloc; "no opening of the {side} address succeeded in {tries} tries")?)
         }
-        Some(Outcome::Faulted(place, half)) => {
+        Some(RunOutcome::Faulted(place, half)) => {
             let side = side_words(place.side);
             let half = half_words(half);
             Ok(format!(in alloc; "a {half} failed at the {side} address")?)
         }
-        Some(Outcome::Ended(why)) => {
+        Some(RunOutcome::Ended(why)) => {
             let why = why_words(why);
             Ok(format!(in alloc; "{why}")?)
         }
     }
 }
 
-fn say_ended(alloc: Global, page: &mut Page, outcome: Option<Outcome>) -> Result<(), NoMemory>
-    ensures { OnOk result (page.new ≡ page.old ++ shown (outcome_words (option_map as_outcome outcome))) }
+fn say_ended(alloc: Global, page: &mut Page, outcome: Option<RunOutcome>) -> Result<(), NoMemory>
+    ensures { OnOk result (page.new ≡ page.old ++ shown (outcome_words outcome)) }
 {
     let text = outcome_string(alloc, outcome)?;
     page.say(text.as_str())
 }
 
-fn say_outcome(alloc: Global, page: &mut Page, outcome: Option<Outcome>) -> Result<(), NoMemory>
-    ensures { OnOk result (page.new ≡ page.old ++ outcome_line (option_map as_outcome outcome)) }
+fn say_outcome(alloc: Global, page: &mut Page, outcome: Option<RunOutcome>) -> Result<(), NoMemory>
+    ensures { OnOk result (page.new ≡ page.old ++ outcome_line outcome) }
 {
     page.say("outcome: ")?;
     say_ended(alloc, page, outcome)?;

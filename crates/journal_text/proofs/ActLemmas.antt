@@ -9,8 +9,8 @@ use Rattle.relay_model.specs.declared.places.Place.{Place}
 use Rattle.relay_model.specs.declared.acts.Act.{Act}
 use Rattle.relay_model.specs.declared.acts.Act.TheVariants as act
 use Rattle.relay_model.specs.Readiness.{Listed}
-use Rattle.journal_text.specs.declared.kinds.Kind.{Kind}
-use Rattle.journal_text.specs.declared.kinds.Kind.TheVariants as kind
+use Rattle.journal_text.specs.declared.kinds.ActKind.{ActKind}
+use Rattle.journal_text.specs.declared.kinds.ActKind.TheVariants as kind
 use Rattle.journal_text.specs.Fields.{flag_text, optional_text, place_text, ready_text, bytes_text, peer_text, shut_text, why_text, child_text}
 use Rattle.journal_text.specs.Kinds.{kind_of, fields_of}
 use Rattle.journal_text.specs.Lines.{words_of, body_of, line_of}
@@ -57,7 +57,7 @@ turn_again until at ready stop first second third =
 
 -- ---- what was read as the fields of a kind
 
-pub record IsFieldsOf (k : Kind) (text : List ℕ) (a : Act) : Type 0 where
+pub record IsFieldsOf (k : ActKind) (text : List ℕ) (a : Act) : Type 0 where
   pub of_kind : kind_of a ≡ k
   pub fields : text ≡ fields_of a
   pub fits : IsAct a
@@ -87,21 +87,21 @@ turn_takes text a e =
     subst (λ (x : Act). IsFieldsOf kind.Turn text x) {x = made} (same_Some made a stop.2) (record { of_kind = refl; fields = spelt; fits = (u.1, moment, r.1); copied = refl })
 
 -- an act of a place alone
-at_place : (k : Kind) (make : Place → Act) (text : List ℕ) (a : Act) → ((p : Place) → IsPlace p → IsFieldsOf k (place_text p) (make p)) → option_map make (place_in text) ≡ Some a → IsFieldsOf k text a
+at_place : (k : ActKind) (make : Place → Act) (text : List ℕ) (a : Act) → ((p : Place) → IsPlace p → IsFieldsOf k (place_text p) (make p)) → option_map make (place_in text) ≡ Some a → IsFieldsOf k text a
 at_place k make text a made e =
     let m = map_some make (place_in text) a e in
     let t = place_takes text m.0 m.1 in
     subst (λ (x : Act). IsFieldsOf k text x) m.2 (subst (λ (x : List ℕ). IsFieldsOf k x (make m.0)) (sym t.0) (made m.0 t.1))
 
 -- an act of bytes alone
-of_bytes : (k : Kind) (make : List ℕ → Act) (text : List ℕ) (a : Act) → ((bytes : List ℕ) → IsBytes bytes → IsFieldsOf k (bytes_text bytes) (make bytes)) → option_map make (bytes_in text) ≡ Some a → IsFieldsOf k text a
+of_bytes : (k : ActKind) (make : List ℕ → Act) (text : List ℕ) (a : Act) → ((bytes : List ℕ) → IsBytes bytes → IsFieldsOf k (bytes_text bytes) (make bytes)) → option_map make (bytes_in text) ≡ Some a → IsFieldsOf k text a
 of_bytes k make text a made e =
     let m = map_some make (bytes_in text) a e in
     let t = bytes_take text m.0 m.1 in
     subst (λ (x : Act). IsFieldsOf k text x) m.2 (subst (λ (x : List ℕ). IsFieldsOf k x (make m.0)) (sym t.0) (made m.0 t.1))
 
 -- an act of a place and a further field
-with_field : {A : Type 0} (Fits : A → Type 0) (spelling : A → List ℕ) (k : Kind) (make : Place → A → Act) (field_in : List ℕ → Option A) (takes : (field : List ℕ) (value : A) → field_in field ≡ Some value → (field ≡ spelling value) × Fits value) (text : List ℕ) (a : Act) → ((p : Place) (value : A) → IsPlace p → Fits value → IsFieldsOf k (place_text p ++ 32 ∷ spelling value) (make p value)) → placed_in make field_in text ≡ Some a → IsFieldsOf k text a
+with_field : {A : Type 0} (Fits : A → Type 0) (spelling : A → List ℕ) (k : ActKind) (make : Place → A → Act) (field_in : List ℕ → Option A) (takes : (field : List ℕ) (value : A) → field_in field ≡ Some value → (field ≡ spelling value) × Fits value) (text : List ℕ) (a : Act) → ((p : Place) (value : A) → IsPlace p → Fits value → IsFieldsOf k (place_text p ++ 32 ∷ spelling value) (make p value)) → placed_in make field_in text ≡ Some a → IsFieldsOf k text a
 with_field Fits spelling k make field_in takes text a made e =
     let f = bind_some (front_in text) (λ front. field_in front.1 >>= λ value. Some (make front.0 value)) a e in
     let v = bind_some (field_in f.0.1) (λ value. Some (make f.0.0 value)) a f.2 in
@@ -139,7 +139,7 @@ fields_again (act.Reaped p end) fits = placed_again act.Reaped child_in p end (c
 fields_again (act.Note bytes) fits = ap (option_map act.Note) (bytes_again bytes fits)
 fields_again (act.NoteFault bytes) fits = ap (option_map act.NoteFault) (bytes_again bytes fits)
 
-pub fields_take : (k : Kind) (text : List ℕ) (a : Act) → fields_in k text ≡ Some a → IsFieldsOf k text a
+pub fields_take : (k : ActKind) (text : List ℕ) (a : Act) → fields_in k text ≡ Some a → IsFieldsOf k text a
 unfolding fields_in
 fields_take kind.Turn text a e = turn_takes text a e
 fields_take kind.Opened text a e = at_place kind.Opened act.Opened text a (λ p fits. record { of_kind = refl; fields = refl; fits = fits; copied = refl }) e
@@ -167,7 +167,7 @@ fields_take kind.NoteFault text a e = of_bytes kind.NoteFault act.NoteFault text
 
 -- ---- words
 
-kind_again : (k : Kind) → kind_in (kind_text k) ≡ Some k
+kind_again : (k : ActKind) → kind_in (kind_text k) ≡ Some k
 unfolding kind_in
 kind_again kind.Turn = refl
 kind_again kind.Opened = refl
@@ -193,11 +193,11 @@ kind_again kind.Reaped = refl
 kind_again kind.Note = refl
 kind_again kind.NoteFault = refl
 
-kind_takes : (word : List ℕ) (k : Kind) → kind_in word ≡ Some k → word ≡ kind_text k
+kind_takes : (word : List ℕ) (k : ActKind) → kind_in word ≡ Some k → word ≡ kind_text k
 unfolding kind_in
 kind_takes word k e = sym (same_bytes (kind_text k) word (find_some (λ x. bytes_eq (kind_text x) word) all_kinds k e))
 
-kind_over : (k : Kind) → is_over 32 (kind_text k) ≡ true
+kind_over : (k : ActKind) → is_over 32 (kind_text k) ≡ true
 kind_over kind.Turn = refl
 kind_over kind.Opened = refl
 kind_over kind.OpenLater = refl

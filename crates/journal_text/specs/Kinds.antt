@@ -4,12 +4,12 @@ use Rattle.std.specs.List.{join_with_byte}
 use Rattle.std.specs.Str.{byte}
 use Rattle.relay_model.specs.declared.acts.Act.{Act}
 use Rattle.relay_model.specs.declared.acts.Act.TheVariants as act
-use Rattle.journal_text.specs.declared.kinds.Kind.{Kind}
-use Rattle.journal_text.specs.declared.kinds.Kind.TheVariants as kind
+use Rattle.journal_text.specs.declared.kinds.ActKind.{ActKind}
+use Rattle.journal_text.specs.declared.kinds.ActKind.TheVariants as kind
 use Rattle.journal_text.specs.Lines.{words_of}
 
 -- the kind of an act
-abbrev pub kind_of : Act → Kind
+abbrev pub kind_of : Act → ActKind
 kind_of (act.Turn until at ready stop) = kind.Turn
 kind_of (act.Opened p) = kind.Opened
 kind_of (act.OpenLater p) = kind.OpenLater

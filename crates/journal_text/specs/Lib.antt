@@ -3,4 +3,5 @@ pub mod Kinds
 pub mod Lines
 pub mod Ranges
 pub mod Reading
+pub mod Sources
 pub mod Texts

@@ -24,8 +24,8 @@ use Rattle.relay_model.specs.declared.acts.Act.{Act}
 use Rattle.relay_model.specs.declared.acts.Act.TheVariants as act
 use Rattle.journal_text.specs.declared.faults.LineFault.{LineFault}
 use Rattle.journal_text.specs.declared.faults.LineFault.TheVariants as fault
-use Rattle.journal_text.specs.declared.kinds.Kind.{Kind}
-use Rattle.journal_text.specs.declared.kinds.Kind.TheVariants as kind
+use Rattle.journal_text.specs.declared.kinds.ActKind.{ActKind}
+use Rattle.journal_text.specs.declared.kinds.ActKind.TheVariants as kind
 use Rattle.journal_text.specs.Fields.{shut_text, why_text}
 
 infixl 10 ◌>>=◌
@@ -231,7 +231,7 @@ child_in text =
     if bytes_eq parts.0 (codes "ended") then option_map Ended (status_in parts.1) else None)
 
 -- the word for a kind of act
-abbrev pub kind_text : Kind → List ℕ
+abbrev pub kind_text : ActKind → List ℕ
 kind_text kind.Turn = codes "turn"
 kind_text kind.Opened = codes "opened"
 kind_text kind.OpenLater = codes "later"
@@ -257,7 +257,7 @@ kind_text kind.Note = codes "note"
 kind_text kind.NoteFault = codes "notefault"
 
 -- each kind of act
-abbrev pub all_kinds : List Kind
+abbrev pub all_kinds : List ActKind
 all_kinds =
     kind.Turn
     ∷ kind.Opened
@@ -285,7 +285,7 @@ all_kinds =
     ∷ []
 
 -- the kind that a word stands for
-unfoldable pub kind_in : List ℕ → Option Kind
+unfoldable pub kind_in : List ℕ → Option ActKind
 kind_in word = find (λ k. bytes_eq (kind_text k) word) all_kinds
 
 -- a place, and what stands after the space behind it
@@ -315,7 +315,7 @@ turn_in text = do
   Some (act.Turn until at (record { entries = entries; room = 0 }) stop)
 
 -- the act of this kind that has these fields
-unfoldable pub fields_in : Kind → List ℕ → Option Act
+unfoldable pub fields_in : ActKind → List ℕ → Option Act
 fields_in kind.Turn text = turn_in text
 fields_in kind.Opened text = option_map act.Opened (place_in text)
 fields_in kind.OpenLater text = option_map act.OpenLater (place_in text)

@@ -27,7 +27,7 @@ pub(crate) fn split_around(text: &[u8], byte: u8) -> Option<(&[u8], &[u8])>
 }
 
 /// The number of these digits.
-fn parsed(digits: &[u8]) -> Option<u64>
+fn parse_number(digits: &[u8]) -> Option<u64>
     requires { slice_index digits.now 0 ≢ 43 }
     ensures { result ≡ only_if (all_ascii_digits digits.now && nat_le 1 (length digits.now) && nat_lt (digits_value 10 digits.now) (2 ^ 64)) (digits_value 10 digits.now) }
 {
@@ -43,7 +43,7 @@ pub(crate) fn read_number(field: &[u8], greatest: u64) -> Option<u64>
 {
     let number = match field {
         [b'0'] => 0,
-        [b'1'..=b'9', ..] => parsed(field)?,
+        [b'1'..=b'9', ..] => parse_number(field)?,
         _ => return None,
     };
     (number <= greatest).then_some(number)

@@ -7,7 +7,7 @@ use relay_model::Act;
 
 /// What an act tells of, without its fields.
 #[derive(Clone, Copy, Debug, PartialEq, Eq)]
-pub(crate) enum Kind {
+pub(crate) enum ActKind {
     Turn,
     Opened,
     OpenLater,
@@ -33,60 +33,60 @@ pub(crate) enum Kind {
     NoteFault,
 }
 
-const KINDS: [Kind; 23] = [
-    Kind::Turn,
-    Kind::Opened,
-    Kind::OpenLater,
-    Kind::OpenFailed,
-    Kind::Listening,
-    Kind::ListenFailed,
-    Kind::Accepted,
-    Kind::NoPeer,
-    Kind::AcceptFailed,
-    Kind::Read,
-    Kind::ReadEmpty,
-    Kind::ReadEnd,
-    Kind::ReadNotYet,
-    Kind::ReadFault,
-    Kind::Wrote,
-    Kind::WriteNotYet,
-    Kind::WriteFault,
-    Kind::Shut,
-    Kind::ShutFault,
-    Kind::Closed,
-    Kind::Reaped,
-    Kind::Note,
-    Kind::NoteFault,
+const KINDS: [ActKind; 23] = [
+    ActKind::Turn,
+    ActKind::Opened,
+    ActKind::OpenLater,
+    ActKind::OpenFailed,
+    ActKind::Listening,
+    ActKind::ListenFailed,
+    ActKind::Accepted,
+    ActKind::NoPeer,
+    ActKind::AcceptFailed,
+    ActKind::Read,
+    ActKind::ReadEmpty,
+    ActKind::ReadEnd,
+    ActKind::ReadNotYet,
+    ActKind::ReadFault,
+    ActKind::Wrote,
+    ActKind::WriteNotYet,
+    ActKind::WriteFault,
+    ActKind::Shut,
+    ActKind::ShutFault,
+    ActKind::Closed,
+    ActKind::Reaped,
+    ActKind::Note,
+    ActKind::NoteFault,
 ];
 
-impl Kind {
-    pub(crate) fn of(act: &Act) -> Kind
+impl ActKind {
+    pub(crate) fn of(act: &Act) -> ActKind
         ensures { result ≡ kind_of act.now }
     {
         match act {
-            Act::Turn { .. } => Kind::Turn,
-            Act::Opened(_) => Kind::Opened,
-            Act::OpenLater(_) => Kind::OpenLater,
-            Act::OpenFailed(_) => Kind::OpenFailed,
-            Act::Listening(_) => Kind::Listening,
-            Act::ListenFailed(_) => Kind::ListenFailed,
-            Act::Accepted(..) => Kind::Accepted,
-            Act::NoPeer(_) => Kind::NoPeer,
-            Act::AcceptFailed(_) => Kind::AcceptFailed,
-            Act::Read(..) => Kind::Read,
-            Act::ReadEmpty(_) => Kind::ReadEmpty,
-            Act::ReadEnd(_) => Kind::ReadEnd,
-            Act::ReadNotYet(_) => Kind::ReadNotYet,
-            Act::ReadFault(_) => Kind::ReadFault,
-            Act::Wrote(..) => Kind::Wrote,
-            Act::WriteNotYet(_) => Kind::WriteNotYet,
-            Act::WriteFault(_) => Kind::WriteFault,
-            Act::Shut(..) => Kind::Shut,
-            Act::ShutFault(..) => Kind::ShutFault,
-            Act::Closed(..) => Kind::Closed,
-            Act::Reaped(..) => Kind::Reaped,
-            Act::Note(_) => Kind::Note,
-            Act::NoteFault(_) => Kind::NoteFault,
+            Act::Turn { .. } => ActKind::Turn,
+            Act::Opened(_) => ActKind::Opened,
+            Act::OpenLater(_) => ActKind::OpenLater,
+            Act::OpenFailed(_) => ActKind::OpenFailed,
+            Act::Listening(_) => ActKind::Listening,
+            Act::ListenFailed(_) => ActKind::ListenFailed,
+            Act::Accepted(..) => ActKind::Accepted,
+            Act::NoPeer(_) => ActKind::NoPeer,
+            Act::AcceptFailed(_) => ActKind::AcceptFailed,
+            Act::Read(..) => ActKind::Read,
+            Act::ReadEmpty(_) => ActKind::ReadEmpty,
+            Act::ReadEnd(_) => ActKind::ReadEnd,
+            Act::ReadNotYet(_) => ActKind::ReadNotYet,
+            Act::ReadFault(_) => ActKind::ReadFault,
+            Act::Wrote(..) => ActKind::Wrote,
+            Act::WriteNotYet(_) => ActKind::WriteNotYet,
+            Act::WriteFault(_) => ActKind::WriteFault,
+            Act::Shut(..) => ActKind::Shut,
+            Act::ShutFault(..) => ActKind::ShutFault,
+            Act::Closed(..) => ActKind::Closed,
+            Act::Reaped(..) => ActKind::Reaped,
+            Act::Note(_) => ActKind::Note,
+            Act::NoteFault(_) => ActKind::NoteFault,
         }
     }
 
@@ -94,35 +94,35 @@ impl Kind {
         ensures { result.now ≡ kind_text self }
     {
         match self {
-            Kind::Turn => b"turn",
-            Kind::Opened => b"opened",
-            Kind::OpenLater => b"later",
-            Kind::OpenFailed => b"openfail",
-            Kind::Listening => b"listening",
-            Kind::ListenFailed => b"listenfail",
-            Kind::Accepted => b"accepted",
-            Kind::NoPeer => b"nopeer",
-            Kind::AcceptFailed => b"acceptfail",
-            Kind::Read => b"read",
-            Kind::ReadEmpty => b"empty",
-            Kind::ReadEnd => b"end",
-            Kind::ReadNotYet => b"readnotyet",
-            Kind::ReadFault => b"readfault",
-            Kind::Wrote => b"wrote",
-            Kind::WriteNotYet => b"writenotyet",
-            Kind::WriteFault => b"writefault",
-            Kind::Shut => b"shut",
-            Kind::ShutFault => b"shutfault",
-            Kind::Closed => b"closed",
-            Kind::Reaped => b"reaped",
-            Kind::Note => b"note",
-            Kind::NoteFault => b"notefault",
+            ActKind::Turn => b"turn",
+            ActKind::Opened => b"opened",
+            ActKind::OpenLater => b"later",
+            ActKind::OpenFailed => b"openfail",
+            ActKind::Listening => b"listening",
+            ActKind::ListenFailed => b"listenfail",
+            ActKind::Accepted => b"accepted",
+            ActKind::NoPeer => b"nopeer",
+            ActKind::AcceptFailed => b"acceptfail",
+            ActKind::Read => b"read",
+            ActKind::ReadEmpty => b"empty",
+            ActKind::ReadEnd => b"end",
+            ActKind::ReadNotYet => b"readnotyet",
+            ActKind::ReadFault => b"readfault",
+            ActKind::Wrote => b"wrote",
+            ActKind::WriteNotYet => b"writenotyet",
+            ActKind::WriteFault => b"writefault",
+            ActKind::Shut => b"shut",
+            ActKind::ShutFault => b"shutfault",
+            ActKind::Closed => b"closed",
+            ActKind::Reaped => b"reaped",
+            ActKind::Note => b"note",
+            ActKind::NoteFault => b"notefault",
         }
     }
 
     /// The kind of this word, if it is one.
     #[tactic(auto, unfolding(crate::specs::Reading::kind_in))]
-    pub(crate) fn named(word: &[u8]) -> Option<Kind>
+    pub(crate) fn of_word(word: &[u8]) -> Option<ActKind>
         ensures { result ≡ kind_in word.now }
     {
         KINDS.iter().copied().find(|kind| kind.word() == word)

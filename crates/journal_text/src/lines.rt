@@ -2,14 +2,14 @@
 ghost use Rattle.std.specs.Prelude.{◌≡◌, ◌≤◌, ◌∷◌, [], MatchBool, IfSome, Some, None, IfOk};
 ghost use Rattle.journal_text.specs.Reading.{Gives, GivesSeen, ready_in, hex_in, byte_in, digits_in, bytes_in, octets_in, addressed_in, peer_in, child_in, place_in, front_in, turn_in, fields_in, act_in, line_in};
 ghost use Rattle.relay_model.specs.declared.acts.Peer.TheVariants as peer;
-ghost use Rattle.journal_text.specs.declared.kinds.Kind.TheVariants as kinds;
+ghost use Rattle.journal_text.specs.declared.kinds.ActKind.TheVariants as kinds;
 
 use crate::faults::LineFault;
 use crate::fields::{
     read_entry, read_flag, read_moment, read_number, read_optional, read_place, read_shut,
     read_status, read_why, split_around,
 };
-use crate::kinds::Kind;
+use crate::kinds::ActKind;
 use relay_model::{Act, Bytes, ChildEnd, Peer, Place, ReadyList};
 use std::alloc::Global;
 
@@ -250,7 +250,7 @@ fn read_reaping(fields: &[u8]) -> Result<Act, LineFault>
 #[tactic(auto, unfolding(crate::specs::Reading::fields_in))]
 fn read_fields(
     alloc: Global,
-    kind: Kind,
+    kind: ActKind,
     fields: &[u8],
     scratch: &mut Scratch,
 ) -> Result<Act, LineFault>
@@ -259,29 +259,29 @@ fn read_fields(
     ensures room { scratch.new.ready.room ≡ scratch.old.ready.room }
 {
     match kind {
-        Kind::Turn => read_turn(fields, &mut scratch.ready),
-        Kind::Opened => Ok(Act::Opened(read_at_place(fields)?)),
-        Kind::OpenLater => Ok(Act::OpenLater(read_at_place(fields)?)),
-        Kind::OpenFailed => Ok(Act::OpenFailed(read_at_place(fields)?)),
-        Kind::Listening => Ok(Act::Listening(read_at_place(fields)?)),
-        Kind::ListenFailed => Ok(Act::ListenFailed(read_at_place(fields)?)),
-        Kind::NoPeer => Ok(Act::NoPeer(read_at_place(fields)?)),
-        Kind::AcceptFailed => Ok(Act::AcceptFailed(read_at_place(fields)?)),
-        Kind::ReadEmpty => Ok(Act::ReadEmpty(read_at_place(fields)?)),
-        Kind::ReadEnd => Ok(Act::ReadEnd(read_at_place(fields)?)),
-        Kind::ReadNotYet => Ok(Act::ReadNotYet(read_at_place(fields)?)),
-        Kind::ReadFault => Ok(Act::ReadFault(read_at_place(fields)?)),
-        Kind::WriteNotYet => Ok(Act::WriteNotYet(read_at_place(fields)?)),
-        Kind::WriteFault => Ok(Act::WriteFault(read_at_place(fields)?)),
-        Kind::Note => Ok(Act::Note(read_bytes(alloc, fields, &mut scratch.bytes)?)),
-        Kind::NoteFault => Ok(Act::NoteFault(read_bytes(alloc, fields, &mut scratch.bytes)?)),
-        Kind::Accepted => read_accepting(fields, &mut scratch.bytes),
-        Kind::Read => read_input(alloc, fields, &mut scratch.bytes),
-        Kind::Wrote => read_output(alloc, fields, &mut scratch.bytes),
-        Kind::Shut => read_passed_end(fields),
-        Kind::ShutFault => read_failed_end(fields),
-        Kind::Closed => read_closing(fields),
-        Kind::Reaped => read_reaping(fields),
+        ActKind::Turn => read_turn(fields, &mut scratch.ready),
+        ActKind::Opened => Ok(Act::Opened(read_at_place(fields)?)),
+        ActKind::OpenLater => Ok(Act::OpenLater(read_at_place(fields)?)),
+        ActKind::OpenFailed => Ok(Act::OpenFailed(read_at_place(fields)?)),
+        ActKind::Listening => Ok(Act::Listening(read_at_place(fields)?)),
+        ActKind::ListenFailed => Ok(Act::ListenFailed(read_at_place(fields)?)),
+        ActKind::NoPeer => Ok(Act::NoPeer(read_at_place(fields)?)),
+        ActKind::AcceptFailed => Ok(Act::AcceptFailed(read_at_place(fields)?)),
+        ActKind::ReadEmpty => Ok(Act::ReadEmpty(read_at_place(fields)?)),
+        ActKind::ReadEnd => Ok(Act::ReadEnd(read_at_place(fields)?)),
+        ActKind::ReadNotYet => Ok(Act::ReadNotYet(read_at_place(fields)?)),
+        ActKind::ReadFault => Ok(Act::ReadFault(read_at_place(fields)?)),
+        ActKind::WriteNotYet => Ok(Act::WriteNotYet(read_at_place(fields)?)),
+        ActKind::WriteFault => Ok(Act::WriteFault(read_at_place(fields)?)),
+        ActKind::Note => Ok(Act::Note(read_bytes(alloc, fields, &mut scratch.bytes)?)),
+        ActKind::NoteFault => Ok(Act::NoteFault(read_bytes(alloc, fields, &mut scratch.bytes)?)),
+        ActKind::Accepted => read_accepting(fields, &mut scratch.bytes),
+        ActKind::Read => read_input(alloc, fields, &mut scratch.bytes),
+        ActKind::Wrote => read_output(alloc, fields, &mut scratch.bytes),
+        ActKind::Shut => read_passed_end(fields),
+        ActKind::ShutFault => read_failed_end(fields),
+        ActKind::Closed => read_closing(fields),
+        ActKind::Reaped => read_reaping(fields),
     }
 }
 
@@ -293,7 +293,7 @@ fn read_act(alloc: Global, line: &[u8], scratch: &mut Scratch) -> Result<Act, Li
     ensures room { scratch.new.ready.room ≡ scratch.old.ready.room }
 {
     let (word, fields) = split_around(line, b' ').ok_or(LineFault::NoAct)?;
-    let kind = Kind::named(word).ok_or(LineFault::NoAct)?;
+    let kind = ActKind::of_word(word).ok_or(LineFault::NoAct)?;
     read_fields(alloc, kind, fields, scratch)
 }
 

@@ -11,7 +11,7 @@ ghost use Rattle.journal_text.specs.Ranges.{IsMoment, IsOptionalMoment, IsPlace,
 ghost use Rattle.journal_text.specs.Texts.{IsTextOf};
 
 use crate::fields::{shut_word, why_word};
-use crate::kinds::Kind;
+use crate::kinds::ActKind;
 use itoa::{Buffer, Integer};
 use relay_model::{
     Act, Bytes, ChildEnd, Half, Journal, NoMemory, Part, Peer, Place, ReadyAt, ReadyList, Shut,
@@ -283,7 +283,7 @@ fn push_line(text: &mut Vec<u8>, act: &Act) -> Result<(), NoMemory>
     ensures text { OnOk result (text.new.items ≡ text.old.items ++ line_of act.now) }
     ensures range { OnOk result (IsAct act.now) }
 {
-    text.extend_from_slice(Kind::of(act).word())?;
+    text.extend_from_slice(ActKind::of(act).word())?;
     text.push(b' ')?;
     push_fields(text, act)?;
     text.push(b'\n')?;

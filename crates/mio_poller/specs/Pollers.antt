@@ -12,7 +12,7 @@ use Rattle.relay_model.specs.declared.places.Half.{Half}
 use Rattle.relay_model.specs.declared.places.Half.TheVariants as halves
 
 -- the system that it waits with, the moment of its last poll, and the one until which it was asked to wait at most
-pub record PollerState (S : Type 0) : Type 0 where
+pub record MioPollerState (S : Type 0) : Type 0 where
   pub system : S
   pub clock : ℕ
   pub asked : Option ℕ

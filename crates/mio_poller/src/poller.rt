@@ -21,13 +21,13 @@ use std::time::{Clock, Duration};
 
 /// Ends the poller's sleep. Between two polls it writes at most once to the system's counter (eventfd(2)).
 #[derive(Drop)]
-struct WakeSignal {
+struct PollSignal {
     waker: Waker,
     // 1 from a ring to the end of the poll that hears it
     rung: AtomicU64,
 }
 
-impl WakeSignal {
+impl PollSignal {
     fn ring(&self) {
         if self.rung.load(Ordering::SeqCst) == 0 && self.rung.swap(1, Ordering::SeqCst) == 0 {
             let _ = self.waker.wake();
@@ -42,7 +42,7 @@ impl WakeSignal {
 /// Wakes the poller from any thread.
 #[derive(Drop)]
 pub struct MioWake {
-    wake_signal: Arc<WakeSignal, Global>,
+    wake_signal: Arc<PollSignal, Global>,
 }
 
 impl MioWake {
@@ -65,7 +65,7 @@ impl Wake for MioWake {
 #[derive(Drop)]
 pub struct SystemPoller<S> {
     system: S,
-    wake_signal: Arc<WakeSignal, Global>,
+    wake_signal: Arc<PollSignal, Global>,
     watches: Watches,
     at: u64,
     asked: Option<u64>,
@@ -75,9 +75,9 @@ pub struct SystemPoller<S> {
 pub type MioPoller<R> = SystemPoller<System<R>>;
 
 impl<S> Model for SystemPoller<S> {
-    ghost use Rattle.mio_poller.specs.Pollers.{PollerState};
+    ghost use Rattle.mio_poller.specs.Pollers.{MioPollerState};
 
-    ghost Value = { PollerState S };
+    ghost Value = { MioPollerState S };
 
     ghost view = { λ poller. record { system = poller.system; clock = poller.at; asked = poller.asked } };
 }
@@ -101,7 +101,7 @@ impl<R: Net + Clock + Drop> SystemPoller<System<R>> {
         };
         match Arc::new(
             alloc,
-            WakeSignal {
+            PollSignal {
                 waker,
                 rung: AtomicU64::new(0),
             },
@@ -182,10 +182,10 @@ pub(crate) fn wait_once<S: Readiness>(system: &mut S, last: u64, until: Option<u
     ensures at { IsMoment S.tells last system.new result }
     ensures grows { last ≤ result }
 {
-    let now = moment_after(last, &system.elapsed());
+    let now = moment_after(last, &system.time_since_start());
     // one that is refused names nothing
     let _ = system.wait(time_left(now, until));
-    moment_after(last, &system.elapsed())
+    moment_after(last, &system.time_since_start())
 }
 
 /// The moment that is told after this one, where the system's clock answered so.

@@ -7,7 +7,7 @@ ghost use Rattle.mio.specs.Events.{items, capacity as events_capacity};
 
 use mio::event::Event;
 use mio::{Events, Poll, Registry};
-use port_trait::KeyList;
+use relay_model::MOST_READY;
 use std::alloc::Global;
 use std::io;
 use std::marker::Model;
@@ -16,7 +16,7 @@ use std::time::{Clock, Duration, Instant};
 
 /// The events of one wait. Each may name both halves of a port, so they fit a list of keys. What doesn't fit
 /// stays for the next wait.
-const MOST_EVENTS: usize = KeyList::MOST / 2;
+const MOST_EVENTS: usize = MOST_READY / 2;
 
 /// The system's clock and its wait for readiness.
 pub trait Readiness: Drop {
@@ -28,7 +28,7 @@ pub trait Readiness: Drop {
     ghost seen: { Self → List Event };
 
     /// The time since its clock began.
-    fn elapsed(&self) -> io::Result<Duration>
+    fn time_since_start(&self) -> io::Result<Duration>
         ensures { tells self.now result };
 
     /// Sleeps until something is ready or the time is up; `None` sets no limit. One that is refused leaves no events.
@@ -97,7 +97,7 @@ impl<R: Net + Clock + Drop> System<R> {
 impl<R: Net + Clock + Drop> Readiness for System<R> {
     ghost seen = { λ system. system };
 
-    fn elapsed(&self) -> io::Result<Duration> {
+    fn time_since_start(&self) -> io::Result<Duration> {
         self.start.elapsed(&self.rt)
     }
 

@@ -21,7 +21,7 @@ struct Ticks<R> {
 impl<R: Clock + Drop> Readiness for Ticks<R> {
     ghost seen = { λ _. [] };
 
-    fn elapsed(&self) -> io::Result<Duration> {
+    fn time_since_start(&self) -> io::Result<Duration> {
         self.start.elapsed(&self.rt)
     }
 

@@ -33,9 +33,9 @@ macro_rules! options {
     };
 }
 
-type Row = (&'static [u8], OptionId, Group, Phase, Form);
+type NamedRow = (&'static [u8], OptionId, Group, Phase, Form);
 
-const OPTIONS: [Row; 34] = options! {
+const OPTIONS: [NamedRow; 34] = options! {
     b"cr": Cr, Relay, Relaying, Form::Bool;
     b"crnl": Crnl, Relay, Relaying, Form::Bool;
     b"ignoreeof": Ignoreeof, Relay, Relaying, Form::Bool;
@@ -117,7 +117,7 @@ const LEFT_OUT: [&[u8]; 42] = [
     b"nonblock",
 ];
 
-fn find_option(mut table: &[Row], name: &[u8]) -> Option<OptionRow>
+fn find_option(mut table: &[NamedRow], name: &[u8]) -> Option<OptionRow>
     ensures { result ≡ found (map as_named table.entry.now) name.now }
 {
     while let [row, rest @ ..] = table {

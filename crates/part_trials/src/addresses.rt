@@ -4,7 +4,7 @@ use addr_grammar::{
     GrammarFault, RawAddress, RawOption, RawSingle, addresses_are_told, one_address, options_begin,
     parse_address, print_address,
 };
-use case_rows::{Answered, Answers, Inputs, RowFault};
+use case_rows::{Answered, Answers, CaseFault, Inputs};
 use relay_model::Bytes;
 use std::alloc::Global;
 
@@ -15,7 +15,7 @@ pub(crate) fn ask(alloc: Global, inputs: &mut Inputs<'_>, answers: &mut Answers)
     options_begin();
     match parse_address(alloc, text.as_slice()) {
         Ok(address) => say_address(&address, answers),
-        Err(GrammarFault::Memory) => return Err(RowFault::NoMemory),
+        Err(GrammarFault::Memory) => return Err(CaseFault::NoMemory),
         Err(fault) => {
             let line = format!(in alloc; "{fault}")?;
             answers.word(line.as_str());
@@ -32,7 +32,7 @@ pub(crate) fn ask_printed(
 ) -> Answered {
     let text = inputs.bytes(alloc)?;
     let Ok(address) = parse_address(alloc, text.as_slice()) else {
-        return Err(RowFault::NoRow);
+        return Err(CaseFault::NoRow);
     };
     let printed = print_address(alloc, &address)?;
     answers.bytes(printed.as_slice());

@@ -1,7 +1,7 @@
 // What words ask for. A relay: the block, the two times, the ways, the dump, and what stands on the left and on the
 // right. A refusal: its line.
 use crate::places::say_address;
-use case_rows::{Answered, Answers, Inputs, RowFault};
+use case_rows::{Answered, Answers, CaseFault, Inputs};
 use cmd_words::{Command, CommandFault, command_is_told, command_of};
 use exit_status::{Outcome, line_of};
 use relay_model::{Config, Dump, Refused, Ways};
@@ -16,7 +16,7 @@ pub(crate) fn ask(alloc: Global, inputs: &mut Inputs<'_>, answers: &mut Answers)
             Ok(())
         }
         Err(CommandFault::Refused(refused)) => tell_refused(alloc, refused, answers),
-        Err(CommandFault::Memory) => Err(RowFault::NoMemory),
+        Err(CommandFault::Memory) => Err(CaseFault::NoMemory),
     }
 }
 
@@ -44,12 +44,12 @@ fn say_command(command: &Command, answers: &mut Answers) {
         Command::Relay(config) => say_relay(config, answers),
         Command::Usage => answers.word("usage"),
         Command::Version => answers.word("version"),
-        Command::Load(number) => answers.counted("load", *number),
+        Command::Load(number) => answers.word_and_number("load", *number),
     }
 }
 
 fn say_relay(config: &Config, answers: &mut Answers) {
-    answers.counted("relay", u64::from(config.block));
+    answers.word_and_number("relay", u64::from(config.block));
     answers.number_part(config.closing);
     answers.number_part(config.idle);
     answers.word_part(ways_word(config.ways));

@@ -4,7 +4,7 @@ ghost use Rattle.std.specs.Prelude.{◌≡◌, None};
 use crate::random::next;
 use circular_buffer::HeapCircularBuffer;
 use line_ends::Convs;
-use relay_buffer::{Flow, Lane};
+use relay_buffer::{Flow, Lane, new_block};
 use relay_model::Conv;
 use std::alloc::Global;
 use std::io;
@@ -20,7 +20,7 @@ const SEED: u64 = 1;
 
 /// What was passed on, and in what time. `seen` depends on the bytes, so that the work can't be left out.
 #[derive(Clone, Copy)]
-struct Spent {
+struct SpentTime {
     bytes: u64,
     micros: u128,
     seen: u8,
@@ -30,6 +30,18 @@ struct Spent {
 fn pass(flow: &mut Flow, source: &[u8]) -> (usize, u8) {
     let room = flow.room().min(source.len());
     flow.fill(&source[..room]);
+    (room, take(flow))
+}
+
+/// The same for a block that the flow may keep.
+fn pass_block(flow: &mut Flow, block: &mut Vec<u8>) -> (usize, u8) {
+    let room = flow.room().min(block.len());
+    flow.fill_block(block, room);
+    (room, take(flow))
+}
+
+/// Takes what waits. Answers a byte of it.
+fn take(flow: &mut Flow) -> u8 {
     let mut seen = 0;
     for _ in 0..2 {
         let piece = flow.pending();
@@ -37,7 +49,7 @@ fn pass(flow: &mut Flow, source: &[u8]) -> (usize, u8) {
         seen ^= piece.last().copied().unwrap_or(0);
         flow.took(len);
     }
-    (room, seen)
+    seen
 }
 
 /// The same for the ring alone.
@@ -53,7 +65,12 @@ fn last_of(piece: &[u8]) -> u8 {
     piece.last().copied().unwrap_or(0)
 }
 
-fn flow_rate(clock: &impl Clock, flow: &mut Flow, source: &[u8], rounds: u64) -> io::Result<Spent> {
+fn flow_rate(
+    clock: &impl Clock,
+    flow: &mut Flow,
+    source: &[u8],
+    rounds: u64,
+) -> io::Result<SpentTime> {
     let start = Instant::now(clock)?;
     let mut bytes = 0u64;
     let mut seen = 0;
@@ -63,7 +80,29 @@ fn flow_rate(clock: &impl Clock, flow: &mut Flow, source: &[u8], rounds: u64) ->
         seen ^= byte;
     }
     let micros = start.elapsed(clock)?.as_micros();
-    Ok(Spent {
+    Ok(SpentTime {
+        bytes,
+        micros,
+        seen,
+    })
+}
+
+fn block_rate(
+    clock: &impl Clock,
+    flow: &mut Flow,
+    block: &mut Vec<u8>,
+    rounds: u64,
+) -> io::Result<SpentTime> {
+    let start = Instant::now(clock)?;
+    let mut bytes = 0u64;
+    let mut seen = 0;
+    for _ in 0..rounds {
+        let (count, byte) = pass_block(flow, block);
+        bytes = bytes.saturating_add(count as u64);
+        seen ^= byte;
+    }
+    let micros = start.elapsed(clock)?.as_micros();
+    Ok(SpentTime {
         bytes,
         micros,
         seen,
@@ -75,7 +114,7 @@ fn ring_rate(
     ring: &mut HeapCircularBuffer<u8>,
     source: &[u8],
     rounds: u64,
-) -> io::Result<Spent> {
+) -> io::Result<SpentTime> {
     let start = Instant::now(clock)?;
     let mut bytes = 0u64;
     let mut seen = 0;
@@ -85,14 +124,19 @@ fn ring_rate(
         seen ^= byte;
     }
     let micros = start.elapsed(clock)?.as_micros();
-    Ok(Spent {
+    Ok(SpentTime {
         bytes,
         micros,
         seen,
     })
 }
 
-fn copy_rate(clock: &impl Clock, source: &[u8], out: &mut [u8], rounds: u64) -> io::Result<Spent> {
+fn copy_rate(
+    clock: &impl Clock,
+    source: &[u8],
+    out: &mut [u8],
+    rounds: u64,
+) -> io::Result<SpentTime> {
     let start = Instant::now(clock)?;
     let len = source.len().min(out.len());
     let mut bytes = 0u64;
@@ -107,15 +151,15 @@ fn copy_rate(clock: &impl Clock, source: &[u8], out: &mut [u8], rounds: u64) -> 
         }
     }
     let micros = start.elapsed(clock)?.as_micros();
-    Ok(Spent {
+    Ok(SpentTime {
         bytes,
         micros,
         seen,
     })
 }
 
-fn report(rt: &impl Print, name: &str, spent: Spent) -> io::Result<()> {
-    let Spent {
+fn report(rt: &impl Print, name: &str, spent: SpentTime) -> io::Result<()> {
+    let SpentTime {
         bytes,
         micros,
         seen,
@@ -132,7 +176,7 @@ fn measure(
     lane: Lane,
     source: &[u8],
     rounds: u64,
-) -> io::Result<Spent>
+) -> io::Result<SpentTime>
     requires { lane.packets ≡ None }
 {
     let Ok(mut flow) = Flow::new(alloc, lane) else {
@@ -143,8 +187,28 @@ fn measure(
     Ok(spent)
 }
 
+/// Prints how fast a flow by this lane passes blocks on that it may keep.
+fn measure_blocks(
+    rt: &(impl Clock + Print),
+    alloc: Global,
+    name: &str,
+    lane: Lane,
+    rounds: u64,
+) -> io::Result<()>
+    requires { lane.packets ≡ None }
+{
+    let Ok(mut flow) = Flow::new(alloc, lane) else {
+        return Err(io::ErrorKind::OutOfMemory.into());
+    };
+    let Ok(mut block) = new_block(alloc, lane.block) else {
+        return Err(io::ErrorKind::OutOfMemory.into());
+    };
+    let spent = block_rate(rt, &mut flow, &mut block, rounds)?;
+    report(rt, name, spent)
+}
+
 /// Prints how the time of the one stands to that of the other, in hundredths.
-fn report_ratio(rt: &impl Print, name: &str, base: Spent, spent: Spent) -> io::Result<()> {
+fn report_ratio(rt: &impl Print, name: &str, base: SpentTime, spent: SpentTime) -> io::Result<()> {
     let hundredths = base.micros.saturating_mul(100) / spent.micros.max(1);
     println!(rt; "{name}: {}.{:02}", hundredths / 100, hundredths % 100)
 }
@@ -196,6 +260,7 @@ pub(crate) fn measure_all(rt: &(impl Clock + Print), alloc: Global, rounds: u64)
     let passed = measure(rt, alloc, "plain", plain, &text, rounds)?;
     report_ratio(rt, "plain to memcpy", copy, passed)?;
     report_ratio(rt, "plain to ring", alone, passed)?;
+    measure_blocks(rt, alloc, "plain in blocks", plain, rounds)?;
     measure_conversions(rt, alloc, &text, rounds)
 }
 

@@ -1,11 +1,32 @@
 // How a run ended: the exit status, and the line that is said.
-use crate::spellings::side_of;
-use case_rows::{Answered, Answers, Inputs, RowFault};
+use crate::spellings::{SIDES, Spelling, value_of};
+use case_rows::{Answered, Answers, CaseFault, Inputs};
 use exit_status::{
     EndWhy, Op, Outcome, line_of, one_answer_fits, status, usage_text, version_text,
 };
 use relay_model::{Part, Place, Refusal, Refused};
 use std::alloc::Global;
+
+/// The outcomes that are one word.
+const OUTCOMES: [Spelling<Outcome>; 8] = [
+    ("finished", Outcome::Ended(EndWhy::Finished)),
+    ("closing-time", Outcome::Ended(EndWhy::ClosingTime)),
+    ("idle", Outcome::Ended(EndWhy::Idle)),
+    ("served", Outcome::Ended(EndWhy::Served)),
+    ("told", Outcome::Told),
+    ("loaded", Outcome::Loaded),
+    ("accept-failed", Outcome::AcceptFailed),
+    ("memory", Outcome::Memory),
+];
+
+/// The refusals that are one word.
+const REFUSALS: [Spelling<Refusal>; 3] = [
+    ("left-out-kind", Refusal::LeftOutKind),
+    ("unknown-kind", Refusal::UnknownKind),
+    ("no-direction", Refusal::NoDirection),
+];
+
+const OPS: [Spelling<Op>; 2] = [("reading", Op::Reading), ("writing", Op::Writing)];
 
 pub(crate) fn ask(alloc: Global, inputs: &mut Inputs<'_>, answers: &mut Answers) -> Answered {
     let outcome = outcome_of(inputs)?;
@@ -20,13 +41,13 @@ pub(crate) fn ask_text(alloc: Global, inputs: &mut Inputs<'_>, answers: &mut Ans
     let text = match inputs.word()? {
         "usage" => usage_text(alloc)?,
         "version" => version_text(alloc)?,
-        _ => return Err(RowFault::NoRow),
+        _ => return Err(CaseFault::NoRow),
     };
     answers.bytes(text.as_slice());
     Ok(())
 }
 
-fn outcome_of(inputs: &mut Inputs<'_>) -> Result<Outcome, RowFault> {
+fn outcome_of(inputs: &mut Inputs<'_>) -> Result<Outcome, CaseFault> {
     match inputs.word()? {
         "refused" => refused_of(inputs),
         "faulted" => faulted_of(inputs),
@@ -37,33 +58,14 @@ fn outcome_of(inputs: &mut Inputs<'_>) -> Result<Outcome, RowFault> {
         "stopped" => Ok(Outcome::Stopped {
             turns: inputs.number()?,
         }),
-        word => plain_outcome(word),
-    }
-}
-
-/// An outcome that is one word.
-fn plain_outcome(word: &str) -> Result<Outcome, RowFault> {
-    match word {
-        "finished" => Ok(Outcome::Ended(EndWhy::Finished)),
-        "closing-time" => Ok(Outcome::Ended(EndWhy::ClosingTime)),
-        "idle" => Ok(Outcome::Ended(EndWhy::Idle)),
-        "served" => Ok(Outcome::Ended(EndWhy::Served)),
-        "told" => Ok(Outcome::Told),
-        "loaded" => Ok(Outcome::Loaded),
-        "accept-failed" => Ok(Outcome::AcceptFailed),
-        "memory" => Ok(Outcome::Memory),
-        _ => Err(RowFault::NoRow),
+        word => value_of(&OUTCOMES, word),
     }
 }
 
 /// The side, and what was done there.
-fn faulted_of(inputs: &mut Inputs<'_>) -> Result<Outcome, RowFault> {
-    let side = side_of(inputs.word()?)?;
-    let op = match inputs.word()? {
-        "reading" => Op::Reading,
-        "writing" => Op::Writing,
-        _ => return Err(RowFault::NoRow),
-    };
+fn faulted_of(inputs: &mut Inputs<'_>) -> Result<Outcome, CaseFault> {
+    let side = value_of(&SIDES, inputs.word()?)?;
+    let op = value_of(&OPS, inputs.word()?)?;
     let place = Place {
         session: 0,
         side,
@@ -74,21 +76,21 @@ fn faulted_of(inputs: &mut Inputs<'_>) -> Result<Outcome, RowFault> {
 }
 
 /// The side, and how many tries failed.
-fn open_failed_of(inputs: &mut Inputs<'_>) -> Result<Outcome, RowFault> {
-    let side = side_of(inputs.word()?)?;
+fn open_failed_of(inputs: &mut Inputs<'_>) -> Result<Outcome, CaseFault> {
+    let side = value_of(&SIDES, inputs.word()?)?;
     let attempts = inputs.number()?;
     Ok(Outcome::OpenFailed { side, attempts })
 }
 
 /// The word and the half of it, and what is wrong there.
-fn refused_of(inputs: &mut Inputs<'_>) -> Result<Outcome, RowFault> {
+fn refused_of(inputs: &mut Inputs<'_>) -> Result<Outcome, CaseFault> {
     let word = inputs.small_number()?;
     let half = inputs.word()?.parse::<u8>()?;
     let why = refusal_of(inputs)?;
     Ok(Outcome::Refused(Refused { word, half, why }))
 }
 
-fn refusal_of(inputs: &mut Inputs<'_>) -> Result<Refusal, RowFault> {
+fn refusal_of(inputs: &mut Inputs<'_>) -> Result<Refusal, CaseFault> {
     match inputs.word()? {
         "empty-option" => Ok(Refusal::EmptyOption {
             at: inputs.small_number()?,
@@ -100,23 +102,13 @@ fn refusal_of(inputs: &mut Inputs<'_>) -> Result<Refusal, RowFault> {
             have: inputs.small_number()?,
         }),
         "parameters" => parameters_of(inputs),
-        word => plain_refusal(word),
+        word => value_of(&REFUSALS, word),
     }
 }
 
 /// How many parameters there are to be, and how many there are.
-fn parameters_of(inputs: &mut Inputs<'_>) -> Result<Refusal, RowFault> {
+fn parameters_of(inputs: &mut Inputs<'_>) -> Result<Refusal, CaseFault> {
     let want = inputs.small_number()?;
     let have = inputs.small_number()?;
     Ok(Refusal::Parameters { want, have })
-}
-
-/// A refusal that is one word.
-fn plain_refusal(word: &str) -> Result<Refusal, RowFault> {
-    match word {
-        "left-out-kind" => Ok(Refusal::LeftOutKind),
-        "unknown-kind" => Ok(Refusal::UnknownKind),
-        "no-direction" => Ok(Refusal::NoDirection),
-        _ => Err(RowFault::NoRow),
-    }
 }

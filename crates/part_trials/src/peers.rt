@@ -1,5 +1,5 @@
 // Peers at a listening address: its options, and then the peers that come, written as in `bind`, or `local`.
-use case_rows::{Answered, Answers, Inputs, RowFault};
+use case_rows::{Answered, Answers, CaseFault, Inputs};
 use option_table::{read_bind, read_range};
 use peer_filter::Filter;
 use relay_model::{Options, Peer};
@@ -20,7 +20,7 @@ fn make_step(options: &mut Options, word: &str, answers: &mut Answers) -> Answer
     if word == "lowport" {
         options.admission.lowport = true;
     } else if let Some(text) = word.strip_prefix("range=") {
-        options.admission.range = Some(read_range(text.as_bytes()).ok_or(RowFault::NoRow)?);
+        options.admission.range = Some(read_range(text.as_bytes()).ok_or(CaseFault::NoRow)?);
     } else if let Some(text) = word.strip_prefix("sourceport=") {
         options.admission.sourceport = Some(text.parse::<u16>()?);
     } else {
@@ -29,9 +29,9 @@ fn make_step(options: &mut Options, word: &str, answers: &mut Answers) -> Answer
     Ok(())
 }
 
-fn peer_of(word: &str) -> Result<Peer, RowFault> {
+fn peer_of(word: &str) -> Result<Peer, CaseFault> {
     if word == "local" {
         return Ok(Peer::Local);
     }
-    Ok(read_bind(word.as_bytes()).ok_or(RowFault::NoRow)?.addr)
+    Ok(read_bind(word.as_bytes()).ok_or(CaseFault::NoRow)?.addr)
 }

@@ -31,10 +31,10 @@ fn say_relaying(options: &Options, answers: &mut Answers) {
     answers.word_if("ignoreeof", options.input.ignoreeof);
     answers.word_if("null-eof", options.input.null_eof);
     if let Some(limit) = options.input.readbytes {
-        answers.counted("readbytes", limit);
+        answers.word_and_number("readbytes", limit);
     }
     if let Some(byte) = options.input.escape {
-        answers.counted("escape", u64::from(byte));
+        answers.word_and_number("escape", u64::from(byte));
     }
     match options.shut {
         None => {}
@@ -78,7 +78,7 @@ fn say_sessions(options: &Options, answers: &mut Answers) {
         say_range(range, answers);
     }
     if let Some(port) = options.admission.sourceport {
-        answers.counted("sourceport", u64::from(port));
+        answers.word_and_number("sourceport", u64::from(port));
     }
     answers.word_if("lowport", options.admission.lowport);
 }

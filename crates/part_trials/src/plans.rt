@@ -1,5 +1,5 @@
 // Failed tries at a place: the number of retries, `forever` or `-`, the interval, and then the steps.
-use case_rows::{Answered, Answers, Inputs, RowFault, step_parts};
+use case_rows::{Answered, Answers, CaseFault, Inputs, step_parts};
 use retry_plan::{NextTry, Plan};
 
 pub(crate) fn ask(inputs: &mut Inputs<'_>, answers: &mut Answers) -> Answered {
@@ -27,7 +27,7 @@ fn make_step(plan: &mut Plan, step: &str, answers: &mut Answers) -> Answered {
             say_next(plan.next(), answers);
             Ok(())
         }
-        _ => Err(RowFault::NoRow),
+        _ => Err(CaseFault::NoRow),
     }
 }
 
@@ -36,6 +36,6 @@ fn say_next(next: NextTry, answers: &mut Answers) {
         NextTry::Now => answers.word("now"),
         NextTry::At(at) => answers.number(at),
         NextTry::Never => answers.word("never"),
-        NextTry::GiveUp { attempts } => answers.counted("given-up", attempts),
+        NextTry::GiveUp { attempts } => answers.word_and_number("given-up", attempts),
     }
 }

@@ -1,5 +1,5 @@
 // What is told of words: the lines that begin so, with a bar between.
-use case_rows::{Answered, Answers, Inputs, RowFault};
+use case_rows::{Answered, Answers, CaseFault, Inputs};
 use cmd_words::{CommandFault, command_of};
 use command_report::{explanation, refusal_report};
 use relay_model::{Bytes, NoMemory, Text};
@@ -8,7 +8,11 @@ use std::str;
 
 fn report(alloc: Global, words: &[Text]) -> Result<Bytes, NoMemory> {
     match command_of(alloc, words) {
-        Ok(command) => explanation(alloc, &command),
+        Ok(command) => {
+            let text = explanation(alloc, &command);
+            drop(command);
+            text
+        }
         Err(CommandFault::Refused(refused)) => refusal_report(alloc, words, &refused),
         Err(CommandFault::Memory) => Err(NoMemory),
     }
@@ -45,6 +49,6 @@ pub(crate) fn ask(alloc: Global, inputs: &mut Inputs<'_>, answers: &mut Answers)
             say_lines(report, beginning, answers);
             Ok(())
         }
-        _ => Err(RowFault::NoRow),
+        _ => Err(CaseFault::NoRow),
     }
 }

@@ -1,38 +1,36 @@
 // Words of the rows that stand for values of the model.
-use case_rows::RowFault;
+use case_rows::CaseFault;
 use relay_model::{Conv, Dump, Side, Way};
 
-pub(crate) fn conv_of(word: &str) -> Result<Conv, RowFault> {
-    match word {
-        "plain" => Ok(Conv::Plain),
-        "cr" => Ok(Conv::Cr),
-        "crnl" => Ok(Conv::Crnl),
-        _ => Err(RowFault::NoRow),
-    }
-}
+/// A word and what it stands for.
+pub(crate) type Spelling<T> = (&'static str, T);
 
-pub(crate) fn side_of(word: &str) -> Result<Side, RowFault> {
-    match word {
-        "left" => Ok(Side::Left),
-        "right" => Ok(Side::Right),
-        _ => Err(RowFault::NoRow),
-    }
-}
+pub(crate) const CONVS: [Spelling<Conv>; 3] = [
+    ("plain", Conv::Plain),
+    ("cr", Conv::Cr),
+    ("crnl", Conv::Crnl),
+];
 
-pub(crate) fn way_of(word: &str) -> Result<Way, RowFault> {
-    match word {
-        "right" => Ok(Way::LeftToRight),
-        "left" => Ok(Way::RightToLeft),
-        _ => Err(RowFault::NoRow),
-    }
-}
+pub(crate) const SIDES: [Spelling<Side>; 2] = [("left", Side::Left), ("right", Side::Right)];
 
-/// A style that dumps something.
-pub(crate) fn style_of(word: &str) -> Result<Dump, RowFault> {
-    match word {
-        "text" => Ok(Dump::Text),
-        "hex" => Ok(Dump::Hex),
-        "mixed" => Ok(Dump::Mixed),
-        _ => Err(RowFault::NoRow),
+pub(crate) const WAYS: [Spelling<Way>; 2] = [
+    ("right", Way::LeftToRight),
+    ("left", Way::RightToLeft),
+];
+
+/// The styles that dump something.
+pub(crate) const STYLES: [Spelling<Dump>; 3] = [
+    ("text", Dump::Text),
+    ("hex", Dump::Hex),
+    ("mixed", Dump::Mixed),
+];
+
+/// What the word stands for by these spellings.
+pub(crate) fn value_of<T: Copy>(spellings: &[Spelling<T>], word: &str) -> Result<T, CaseFault> {
+    for spelling in spellings {
+        if spelling.0 == word {
+            return Ok(spelling.1);
+        }
     }
+    Err(CaseFault::NoRow)
 }

@@ -1,5 +1,5 @@
 // Timers that are set, cleared and taken out step by step. Moments are milliseconds.
-use case_rows::{Answered, Answers, Inputs, RowFault, step_parts};
+use case_rows::{Answered, Answers, CaseFault, Inputs, step_parts};
 use std::alloc::Global;
 use timer_set::TimerSet;
 
@@ -30,7 +30,7 @@ fn make_step(timers: &mut TimerSet, step: &str, answers: &mut Answers) -> Answer
             say_due(timers.due(value.parse::<u64>()?), answers);
             Ok(())
         }
-        _ => Err(RowFault::NoRow),
+        _ => Err(CaseFault::NoRow),
     }
 }
 

@@ -2,7 +2,7 @@
 use addr_words::{
     Token, TokenKind, WordFault, one_fault, spans_cover, tokens_are_told, words_of, write_word,
 };
-use case_rows::{Answered, Answers, Inputs, RowFault};
+use case_rows::{Answered, Answers, CaseFault, Inputs};
 use std::alloc::Global;
 
 pub(crate) fn ask(alloc: Global, inputs: &mut Inputs<'_>, answers: &mut Answers) -> Answered {
@@ -12,7 +12,7 @@ pub(crate) fn ask(alloc: Global, inputs: &mut Inputs<'_>, answers: &mut Answers)
     one_fault();
     match words_of(alloc, text.as_slice()) {
         Ok(words) => say_tokens(words.as_slice(), answers),
-        Err(WordFault::Memory) => return Err(RowFault::NoMemory),
+        Err(WordFault::Memory) => return Err(CaseFault::NoMemory),
         Err(fault) => {
             let line = format!(in alloc; "{fault}")?;
             answers.word(line.as_str());

@@ -1,6 +1,6 @@
 // Options, their values, and the numbers, networks and names that these are made of. What is no value is `none`.
 use crate::places::{say_bind, say_range};
-use case_rows::{Answered, Answers, Inputs, RowFault};
+use case_rows::{Answered, Answers, CaseFault, Inputs};
 use option_table::{
     Lookup, Value, has_port, ipv4_literal, ipv6_literal, lookup, read_bind, read_number,
     read_range, read_short_number, read_time, read_value, same_name,
@@ -36,23 +36,17 @@ fn ask_text(part: &str, text: &[u8], answers: &mut Answers) -> Answered {
         "range" => say_value(read_range(text).map(Value::Range), answers),
         "bind" => say_value(read_bind(text).map(Value::Address), answers),
         "has-port" => answers.truth(has_port(text)),
-        "ipv4" => say_ipv4(text, answers),
-        "ipv6" => say_ipv6(text, answers),
-        _ => return Err(RowFault::NoRow),
+        "ipv4" => say_octets(4, ipv4_literal(text), answers),
+        "ipv6" => say_octets(6, ipv6_literal(text), answers),
+        _ => return Err(CaseFault::NoRow),
     }
     Ok(())
 }
 
-fn say_ipv4(text: &[u8], answers: &mut Answers) {
-    match ipv4_literal(text) {
-        Some(octets) => answers.octets(4, &octets),
-        None => answers.word("none"),
-    }
-}
-
-fn say_ipv6(text: &[u8], answers: &mut Answers) {
-    match ipv6_literal(text) {
-        Some(octets) => answers.octets(6, &octets),
+/// The octets of an address of this version.
+fn say_octets<const N: usize>(version: u64, octets: Option<[u8; N]>, answers: &mut Answers) {
+    match octets {
+        Some(octets) => answers.octets(version, &octets),
         None => answers.word("none"),
     }
 }
@@ -78,7 +72,7 @@ fn ask_value(name: &[u8], text: Option<&[u8]>, answers: &mut Answers) -> Answere
             say_value(read_value(row, text), answers);
             Ok(())
         }
-        Lookup::LeftOut | Lookup::Unknown => Err(RowFault::NoRow),
+        Lookup::LeftOut | Lookup::Unknown => Err(CaseFault::NoRow),
     }
 }
 
@@ -93,9 +87,9 @@ fn say_value(value: Option<Value>, answers: &mut Answers) {
     match value {
         None => answers.word("none"),
         Some(Value::Bool(on)) => answers.truth(on),
-        Some(Value::Number(number)) => answers.counted("number", number),
-        Some(Value::Time(time)) => answers.counted("time", time),
-        Some(Value::Port(port)) => answers.counted("port", u64::from(port)),
+        Some(Value::Number(number)) => answers.word_and_number("number", number),
+        Some(Value::Time(time)) => answers.word_and_number("time", time),
+        Some(Value::Port(port)) => answers.word_and_number("port", u64::from(port)),
         Some(Value::Range(range)) => say_range(range, answers),
         Some(Value::Address(bind)) => say_bind(bind, answers),
         Some(Value::Text) => answers.word("text"),

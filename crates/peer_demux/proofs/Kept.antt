@@ -12,35 +12,35 @@ use Rattle.peer_demux.specs.declared.answers.Put.TheVariants as puts
 use Rattle.peer_demux.specs.declared.answers.Taken.{Taken}
 use Rattle.peer_demux.specs.declared.answers.Taken.TheVariants as takes
 use Rattle.peer_demux.specs.Rows.{GivesPart, RowState, after_giving, first_packet, fresh_row}
-use Rattle.peer_demux.specs.Tables.{GivesAt, GivesTaken, IsRising, IsTable, Stands, TableState, no_row, row_at}
+use Rattle.peer_demux.specs.Tables.{GivesAt, GivesTaken, IsRising, IsRowTable, RowStands, TableState, no_row, row_at}
 use Rattle.peer_demux.proofs.Places.{set_table}
-use Rattle.peer_demux.specs.Stories.{Step, Came, HandedOut, Gave, LetGo, TurnedAway, Told, IsStep, Leads, IsKept, NothingIsLost, arrived, came_by, taken, taken_by}
+use Rattle.peer_demux.specs.Stories.{DemuxStep, Came, HandedOut, Gave, LetGo, TurnedAway, Told, IsStep, Leads, IsKept, NothingIsLost, arrived, came_by, taken, taken_by}
 
 -- ---- what is known of all rows after some calls
 
-record Inv (steps : List Step) (rows : List RowState) (made : ℕ) : Type 0 where
-  order : IsTable rows made
+record Inv (steps : List DemuxStep) (rows : List RowState) (made : ℕ) : Type 0 where
+  order : IsRowTable rows made
   empty : (place : ℕ) → length (row_at rows place).packets ≡ 0 → (row_at rows place).given ≡ 0
-  kept : (number place : ℕ) → Stands rows number place → IsKept number steps (row_at rows place)
+  kept : (number place : ℕ) → RowStands rows number place → IsKept number steps (row_at rows place)
   unmade : (number : ℕ) → made ≤ number → (arrived number steps ≡ []) × (taken number steps ≡ [])
 
 -- ---- a call that concerns another row
 
-quiet_arrived : (number : ℕ) (steps : List Step) (step : Step) → came_by number step ≡ [] → arrived number (step ∷ steps) ≡ arrived number steps
+quiet_arrived : (number : ℕ) (steps : List DemuxStep) (step : DemuxStep) → came_by number step ≡ [] → arrived number (step ∷ steps) ≡ arrived number steps
 quiet_arrived number steps step e = ap (λ (more : List (List ℕ)). arrived number steps ++ more) e ∙ append-nil (arrived number steps)
 
-quiet_taken : (number : ℕ) (steps : List Step) (step : Step) → taken_by number step ≡ [] → taken number (step ∷ steps) ≡ taken number steps
+quiet_taken : (number : ℕ) (steps : List DemuxStep) (step : DemuxStep) → taken_by number step ≡ [] → taken number (step ∷ steps) ≡ taken number steps
 quiet_taken number steps step e = ap (λ (more : List ℕ). taken number steps ++ more) e ∙ append-nil (taken number steps)
 
-quiet : (number : ℕ) (steps : List Step) (step : Step) (row : RowState) → came_by number step ≡ [] → taken_by number step ≡ [] → IsKept number steps row → IsKept number (step ∷ steps) row
+quiet : (number : ℕ) (steps : List DemuxStep) (step : DemuxStep) (row : RowState) → came_by number step ≡ [] → taken_by number step ≡ [] → IsKept number steps row → IsKept number (step ∷ steps) row
 quiet number steps step row came took kept = (kept.0, quiet_arrived number steps step came ∙ kept.1, quiet_taken number steps step took ∙ kept.2)
 
-quiet_unmade : (steps : List Step) (rows : List RowState) (made : ℕ) (step : Step) (number : ℕ) → Inv steps rows made → made ≤ number → came_by number step ≡ [] → taken_by number step ≡ [] → (arrived number (step ∷ steps) ≡ []) × (taken number (step ∷ steps) ≡ [])
+quiet_unmade : (steps : List DemuxStep) (rows : List RowState) (made : ℕ) (step : DemuxStep) (number : ℕ) → Inv steps rows made → made ≤ number → came_by number step ≡ [] → taken_by number step ≡ [] → (arrived number (step ∷ steps) ≡ []) × (taken number (step ∷ steps) ≡ [])
 quiet_unmade steps rows made step number inv le came took =
     (quiet_arrived number steps step came ∙ (inv.unmade number le).0, quiet_taken number steps step took ∙ (inv.unmade number le).1)
 
 -- a call that concerns no row
-quiet_all : (steps : List Step) (rows : List RowState) (made : ℕ) (step : Step) → ((number : ℕ) → came_by number step ≡ []) → ((number : ℕ) → taken_by number step ≡ []) → Inv steps rows made → Inv (step ∷ steps) rows made
+quiet_all : (steps : List DemuxStep) (rows : List RowState) (made : ℕ) (step : DemuxStep) → ((number : ℕ) → came_by number step ≡ []) → ((number : ℕ) → taken_by number step ≡ []) → Inv steps rows made → Inv (step ∷ steps) rows made
 quiet_all steps rows made step came took inv = record {
   order = inv.order;
   empty = inv.empty;
@@ -50,7 +50,7 @@ quiet_all steps rows made step came took inv = record {
 
 -- ---- one row changes
 
-pub once : (rows : List RowState) (number p q : ℕ) → IsRising rows → Stands rows number p → Stands rows number q → p ≡ q
+pub once : (rows : List RowState) (number p q : ℕ) → IsRising rows → RowStands rows number p → RowStands rows number q → p ≡ q
 once rows number p q rising one other =
     elim (cases_order p q) [
       | inl e ↦ e
@@ -58,7 +58,7 @@ once rows number p q rising one other =
       | inr (inr more) ↦ let r = rising q p more one.within in absurd (omega (arith, r, one.here, other.here))
     ]
 
-set_inv : (steps : List Step) (rows : List RowState) (made number place : ℕ) (row : RowState) (step : Step) → Inv steps rows made → Stands rows number place → row.number ≡ number → (length row.packets ≡ 0 → row.given ≡ 0) → IsKept number (step ∷ steps) row → ((n : ℕ) → n ≢ number → came_by n step ≡ []) → ((n : ℕ) → n ≢ number → taken_by n step ≡ []) → Inv (step ∷ steps) (set rows place row) made
+set_inv : (steps : List DemuxStep) (rows : List RowState) (made number place : ℕ) (row : RowState) (step : DemuxStep) → Inv steps rows made → RowStands rows number place → row.number ≡ number → (length row.packets ≡ 0 → row.given ≡ 0) → IsKept number (step ∷ steps) row → ((n : ℕ) → n ≢ number → came_by n step ≡ []) → ((n : ℕ) → n ≢ number → taken_by n step ≡ []) → Inv (step ∷ steps) (set rows place row) made
 set_inv steps rows made number place row step inv stands same empty kept came took = record {
   order = set_table rows made place row (same ∙ sym stands.here) inv.order;
   empty = λ q. emptied q (cases_eq q place);
@@ -76,13 +76,13 @@ set_inv steps rows made number place row step inv stands same empty kept came to
     emptied q (inl e) = subst (λ (r : RowState). length r.packets ≡ 0 → r.given ≡ 0) (sym (ap (row_at (set rows place row)) e ∙ here)) empty
     emptied q (inr differ) = subst (λ (r : RowState). length r.packets ≡ 0 → r.given ≡ 0) (sym (other q differ)) (inv.empty q)
 
-    keeps : (n q : ℕ) → Stands (set rows place row) n q → (q ≡ place) ⊎ (q ≢ place) → IsKept n (step ∷ steps) (row_at (set rows place row) q)
+    keeps : (n q : ℕ) → RowStands (set rows place row) n q → (q ≡ place) ⊎ (q ≢ place) → IsKept n (step ∷ steps) (row_at (set rows place row) q)
     keeps n q at (inl e) =
         let r = ap (row_at (set rows place row)) e ∙ here in
         let m : number ≡ n = sym same ∙ ap (λ (x : RowState). x.number) (sym r) ∙ at.here in
         subst (λ (x : RowState). IsKept n (step ∷ steps) x) (sym r) (subst (λ (k : ℕ). IsKept k (step ∷ steps) row) m kept)
     keeps n q at (inr differ) =
-        let old : Stands rows n q = record { within = (let l = length-set rows place row in omega (arith, l, at.within)); here = ap (λ (x : RowState). x.number) (sym (other q differ)) ∙ at.here } in
+        let old : RowStands rows n q = record { within = (let l = length-set rows place row in omega (arith, l, at.within)); here = ap (λ (x : RowState). x.number) (sym (other q differ)) ∙ at.here } in
         let apart : n ≢ number = λ e. differ (once rows n q place inv.order.rising old (record { within = stands.within; here = stands.here ∙ sym e })) in
         subst (λ (x : RowState). IsKept n (step ∷ steps) x) (sym (other q differ)) (quiet n steps step (row_at rows q) (came n apart) (took n apart) (inv.kept n q old))
 
@@ -114,7 +114,7 @@ push_past [] x (suc i) more = refl
 push_past (r ∷ rows) x zero more = absurd (omega arith)
 push_past (r ∷ rows) x (suc i) more = push_past rows x i (omega arith)
 
-push_inv : (steps : List Step) (rows : List RowState) (made : ℕ) (from : Peer) (bytes : List ℕ) → Inv steps rows made → Inv (Came from bytes (puts.New made) ∷ steps) (rows ++ fresh_row made from bytes ∷ []) (made + 1)
+push_inv : (steps : List DemuxStep) (rows : List RowState) (made : ℕ) (from : Peer) (bytes : List ℕ) → Inv steps rows made → Inv (Came from bytes (puts.New made) ∷ steps) (rows ++ fresh_row made from bytes ∷ []) (made + 1)
 push_inv steps rows made from bytes inv = record {
   order = record {
     rising = λ i j less within. rises i j less within (cases_lt j (length rows));
@@ -125,7 +125,7 @@ push_inv steps rows made from bytes inv = record {
   unmade = λ n le. quiet_unmade steps rows made step n inv (omega (arith, le)) (put_else made n (bytes ∷ []) (λ e. omega (arith, e, le))) refl;
 }
   where
-    step : Step
+    step : DemuxStep
     step = Came from bytes (puts.New made)
 
     row : RowState
@@ -163,10 +163,10 @@ push_inv steps rows made from bytes inv = record {
       quiet_taken made steps step refl ∙ (inv.unmade made (omega arith)).1,
     )
 
-    keeps : (n q : ℕ) → Stands (rows ++ row ∷ []) n q → (q < length rows) ⊎ (length rows ≤ q) → IsKept n (step ∷ steps) (row_at (rows ++ row ∷ []) q)
+    keeps : (n q : ℕ) → RowStands (rows ++ row ∷ []) n q → (q < length rows) ⊎ (length rows ≤ q) → IsKept n (step ∷ steps) (row_at (rows ++ row ∷ []) q)
     keeps n q at (inl l) =
         let r = push_below rows row q l in
-        let old : Stands rows n q = record { within = l; here = ap (λ (x : RowState). x.number) (sym r) ∙ at.here } in
+        let old : RowStands rows n q = record { within = l; here = ap (λ (x : RowState). x.number) (sym r) ∙ at.here } in
         let b = inv.order.below q l in
         subst (λ (x : RowState). IsKept n (step ∷ steps) x) (sym r) (quiet n steps step (row_at rows q) (put_else made n (bytes ∷ []) (λ e. omega (arith, e, b, old.here))) refl (inv.kept n q old))
     keeps n q at (inr m) =
@@ -174,7 +174,7 @@ push_inv steps rows made from bytes inv = record {
         let e : made ≡ n = ap (λ (x : RowState). x.number) (sym r) ∙ at.here in
         subst (λ (x : RowState). IsKept n (step ∷ steps) x) (sym r) (subst (λ (k : ℕ). IsKept k (step ∷ steps) row) e fresh)
 
-queue_inv : (steps : List Step) (rows : List RowState) (made number place : ℕ) (from : Peer) (bytes : List ℕ) → Inv steps rows made → Stands rows number place → Inv (Came from bytes (puts.Queued number) ∷ steps) (set rows place (record (row_at rows place) { packets = (row_at rows place).packets ++ bytes ∷ [] })) made
+queue_inv : (steps : List DemuxStep) (rows : List RowState) (made number place : ℕ) (from : Peer) (bytes : List ℕ) → Inv steps rows made → RowStands rows number place → Inv (Came from bytes (puts.Queued number) ∷ steps) (set rows place (record (row_at rows place) { packets = (row_at rows place).packets ++ bytes ∷ [] })) made
 queue_inv steps rows made number place from bytes inv stands =
     let row = row_at rows place in
     let step = Came from bytes (puts.Queued number) in
@@ -200,7 +200,7 @@ further whole before more first into given count had is same =
     ap (λ (b : List ℕ). b ++ more) had ∙ ap (λ (m : List ℕ). (concat whole ++ take given first) ++ m) (is ∙ same) ∙ append_assoc (concat whole) (take given first) (take count (drop given first))
     ∙ ap (λ (t : List ℕ). concat whole ++ t) (sym (take-add given count first))
 
-gives_kept : (steps : List Step) (step : Step) (number : ℕ) (row now : RowState) (into : List ℕ) (count : ℕ) → IsKept number steps row → GivesPart row now into count → came_by number step ≡ [] → taken_by number step ≡ take count into → IsKept number (step ∷ steps) now
+gives_kept : (steps : List DemuxStep) (step : DemuxStep) (number : ℕ) (row now : RowState) (into : List ℕ) (count : ℕ) → IsKept number steps row → GivesPart row now into count → came_by number step ≡ [] → taken_by number step ≡ take count into → IsKept number (step ∷ steps) now
 gives_kept steps step number row now into count had part came took =
     subst (λ (r : RowState). IsKept number (step ∷ steps) r) (sym part.left) (split (ltb (row.given + count) (length (first_packet row.packets))) refl)
   where
@@ -224,7 +224,7 @@ gives_empty : (row : RowState) (count : ℕ) → 0 < length row.packets → leng
 gives_empty row count some =
     elim (ltb (row.given + count) (length (first_packet row.packets))) as (λ b. length (cond b (record row { given = row.given + count }) (record row { packets = drop 1 row.packets; given = 0 })).packets ≡ 0 → (cond b (record row { given = row.given + count }) (record row { packets = drop 1 row.packets; given = 0 })).given ≡ 0) [ true ↦ λ e. absurd (omega (arith, some, e)) | false ↦ λ e. refl ]
 
-give_inv : (steps : List Step) (before now : TableState) (number place : ℕ) (into : List ℕ) (count : ℕ) (step : Step) → Inv steps before.rows before.made → Stands before.rows number place → GivesAt before now into place count → came_by number step ≡ [] → taken_by number step ≡ take count into → ((n : ℕ) → came_by n step ≡ []) → ((n : ℕ) → n ≢ number → taken_by n step ≡ []) → Inv (step ∷ steps) now.rows now.made
+give_inv : (steps : List DemuxStep) (before now : TableState) (number place : ℕ) (into : List ℕ) (count : ℕ) (step : DemuxStep) → Inv steps before.rows before.made → RowStands before.rows number place → GivesAt before now into place count → came_by number step ≡ [] → taken_by number step ≡ take count into → ((n : ℕ) → came_by n step ≡ []) → ((n : ℕ) → n ≢ number → taken_by n step ≡ []) → Inv (step ∷ steps) now.rows now.made
 give_inv steps before now number place into count step inv stands gives came took quiets others =
     let row = row_at now.rows place in
     subst (λ (t : TableState). Inv (step ∷ steps) t.rows t.made) (sym gives.left) (
@@ -239,7 +239,7 @@ give_inv steps before now number place into count step inv stands gives came too
 took_here : (number : ℕ) (bytes : List ℕ) → cond (eqb number number) bytes [] ≡ bytes
 took_here number bytes = ap (λ (b : Bool). cond b bytes []) (eq-eqb number number refl)
 
-take_inv : (steps : List Step) (before now : TableState) (number place : ℕ) (into : List ℕ) (taken : Taken) → Inv steps before.rows before.made → Stands before.rows number place → GivesTaken before now into place taken → Inv (Gave number into taken ∷ steps) now.rows now.made
+take_inv : (steps : List DemuxStep) (before now : TableState) (number place : ℕ) (into : List ℕ) (taken : Taken) → Inv steps before.rows before.made → RowStands before.rows number place → GivesTaken before now into place taken → Inv (Gave number into taken ∷ steps) now.rows now.made
 take_inv steps before now number place into (takes.Bytes count) inv stands gives = give_inv steps before now number place into count (Gave number into (takes.Bytes count)) inv stands gives.1 refl (took_here number (take count into)) (λ n. refl) (λ n differ. put_else number n (take count into) (λ e. differ (sym e)))
 take_inv steps before now number place into takes.Empty inv stands gives = give_inv steps before now number place into 0 (Gave number into takes.Empty) inv stands gives refl refl (λ n. refl) (λ n differ. refl)
 take_inv steps before now number place into takes.NotYet inv stands gives = subst (λ (t : TableState). Inv (Gave number into takes.NotYet ∷ steps) t.rows t.made) (sym gives.1.left) (quiet_all steps before.rows before.made (Gave number into takes.NotYet) (λ n. refl) (λ n. refl) inv)
@@ -254,7 +254,7 @@ record Stayed (rows left : List RowState) : Type 0 where
   row : (q : ℕ) → q < length left → row_at left q ≡ row_at rows (from q)
   rising : (i j : ℕ) → i < j → from i < from j
 
-stay_inv : (steps : List Step) (rows left : List RowState) (made : ℕ) (step : Step) → ((number : ℕ) → came_by number step ≡ []) → ((number : ℕ) → taken_by number step ≡ []) → Stayed rows left → ((q : ℕ) → length left ≤ q → row_at left q ≡ no_row) → Inv steps rows made → Inv (step ∷ steps) left made
+stay_inv : (steps : List DemuxStep) (rows left : List RowState) (made : ℕ) (step : DemuxStep) → ((number : ℕ) → came_by number step ≡ []) → ((number : ℕ) → taken_by number step ≡ []) → Stayed rows left → ((q : ℕ) → length left ≤ q → row_at left q ≡ no_row) → Inv steps rows made → Inv (step ∷ steps) left made
 stay_inv steps rows left made step came took stayed past inv = record {
   order = record {
     rising = λ i j less within.
@@ -269,7 +269,7 @@ stay_inv steps rows left made step came took stayed past inv = record {
   };
   empty = λ q. emptied q (cases_lt q (length left));
   kept = λ n q at.
-      let old : Stands rows n (stayed.from q) = record { within = stayed.within q at.within; here = ap (λ (r : RowState). r.number) (sym (stayed.row q at.within)) ∙ at.here } in
+      let old : RowStands rows n (stayed.from q) = record { within = stayed.within q at.within; here = ap (λ (r : RowState). r.number) (sym (stayed.row q at.within)) ∙ at.here } in
       subst (λ (r : RowState). IsKept n (step ∷ steps) r) (sym (stayed.row q at.within)) (quiet n steps step (row_at rows (stayed.from q)) (came n) (took n) (inv.kept n (stayed.from q) old));
   unmade = λ n le. quiet_unmade steps rows made step n inv le (came n) (took n);
 }
@@ -331,7 +331,7 @@ others_stay rows place within = record {
 
 -- ---- any call
 
-step_inv : (steps : List Step) (before now : TableState) (step : Step) → Inv steps before.rows before.made → IsStep before now step → Inv (step ∷ steps) now.rows now.made
+step_inv : (steps : List DemuxStep) (before now : TableState) (step : DemuxStep) → Inv steps before.rows before.made → IsStep before now step → Inv (step ∷ steps) now.rows now.made
 step_inv steps before now (Came from bytes (puts.New number)) inv is =
     subst (λ (t : TableState). Inv (Came from bytes (puts.New number) ∷ steps) t.rows t.made) (sym is.left) (
     subst (λ (n : ℕ). Inv (Came from bytes (puts.New n) ∷ steps) (before.rows ++ fresh_row n from bytes ∷ []) (before.made + 1)) (sym is.next) (push_inv steps before.rows before.made from bytes inv)
@@ -362,7 +362,7 @@ fresh_inv = record {
   unmade = λ n le. (refl, refl);
 }
 
-holds : (mode : Mode) (steps : List Step) (table : TableState) → Leads mode steps table → Inv steps table.rows table.made
+holds : (mode : Mode) (steps : List DemuxStep) (table : TableState) → Leads mode steps table → Inv steps table.rows table.made
 holds mode [] table leads = subst (λ (t : TableState). Inv [] t.rows t.made) (sym leads) fresh_inv
 holds mode (step ∷ steps) table leads = step_inv steps leads.0 table step (holds mode steps leads.0 leads.1) leads.2
 
@@ -370,5 +370,5 @@ pub nothing_lost : NothingIsLost
 nothing_lost mode steps table leads number place stands = (holds mode steps table leads).kept number place stands
 
 -- the rows stand in order after any calls
-pub in_order : (mode : Mode) (steps : List Step) (table : TableState) → Leads mode steps table → IsTable table.rows table.made
+pub in_order : (mode : Mode) (steps : List DemuxStep) (table : TableState) → Leads mode steps table → IsRowTable table.rows table.made
 in_order mode steps table leads = (holds mode steps table leads).order

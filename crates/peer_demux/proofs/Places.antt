@@ -7,13 +7,13 @@ use Rattle.peer_demux.specs.Rows.{RowState, GivesFirst, GivesPart, after_giving,
 use Rattle.peer_demux.specs.declared.answers.Mode.{Mode}
 use Rattle.peer_demux.specs.declared.answers.Mode.TheVariants as modes
 use Rattle.std.specs.List.{remove}
-use Rattle.peer_demux.specs.Tables.{GivesNone, GivesOne, GivesTaken, IsDropped, IsLive, IsRising, IsTable, Stands, TableState, no_row, nothing_of, row_at}
+use Rattle.peer_demux.specs.Tables.{GivesNone, GivesOne, GivesTaken, IsDropped, IsLive, IsRising, IsRowTable, RowStands, TableState, no_row, nothing_of, row_at}
 
 -- the row of a live number stands where the numbers below it end
-pub found_at : (rows : List RowState) (number place : ℕ) → IsRising rows → ((i : ℕ) → i < place → (row_at rows i).number < number) → ((i : ℕ) → place ≤ i → i < length rows → number ≤ (row_at rows i).number) → IsLive rows number → Stands rows number place
+pub found_at : (rows : List RowState) (number place : ℕ) → IsRising rows → ((i : ℕ) → i < place → (row_at rows i).number < number) → ((i : ℕ) → place ≤ i → i < length rows → number ≤ (row_at rows i).number) → IsLive rows number → RowStands rows number place
 found_at rows number place rising below above live =
     elim (cases_order live.0 place) [
-      | inl e ↦ subst (Stands rows number) e live.1
+      | inl e ↦ subst (RowStands rows number) e live.1
       | inr (inl less) ↦ let h = below live.0 less in absurd (omega (arith, h, live.1.here))
       | inr (inr more) ↦
           let within = live.1.within in
@@ -30,7 +30,7 @@ same_number (r ∷ rows) (suc place) zero row same = refl
 same_number (r ∷ rows) (suc place) (suc i) row same = same_number rows place i row same
 
 -- a row that keeps its number keeps the table in order
-pub set_table : (rows : List RowState) (made place : ℕ) (row : RowState) → row.number ≡ (row_at rows place).number → IsTable rows made → IsTable (set rows place row) made
+pub set_table : (rows : List RowState) (made place : ℕ) (row : RowState) → row.number ≡ (row_at rows place).number → IsRowTable rows made → IsRowTable (set rows place row) made
 set_table rows made place row same is = record {
   rising = λ i j less within.
       let a = same_number rows place i row same in
@@ -77,5 +77,5 @@ gives_nothing before now into place none =
     elim before.mode as (λ (m : Mode). before.mode ≡ m → GivesTaken before now into place (nothing_of m)) [ modes.ByPeer ↦ λ e. (e, none) | modes.ByPacket ↦ λ e. (e, none) ] refl
 
 -- the table without the row at this place
-pub dropped : (table : TableState) (number place : ℕ) (rows : List RowState) → Stands table.rows number place → rows ≡ remove table.rows place → IsDropped table (record table { rows = rows }) number
+pub dropped : (table : TableState) (number place : ℕ) (rows : List RowState) → RowStands table.rows number place → rows ≡ remove table.rows place → IsDropped table (record table { rows = rows }) number
 dropped table number place rows stands e = (place, stands, ap (λ (kept : List RowState). record table { rows = kept }) e)

@@ -11,10 +11,10 @@ use Rattle.peer_demux.specs.declared.answers.Put.TheVariants as puts
 use Rattle.peer_demux.specs.declared.answers.Taken.{Taken}
 use Rattle.peer_demux.specs.declared.answers.Taken.TheVariants as takes
 use Rattle.peer_demux.specs.Rows.{RowState, after_giving, first_packet, fresh_row}
-use Rattle.peer_demux.specs.Tables.{GivesAt, GivesTaken, IsTable, IsUnknown, Stands, TableState, row_at}
+use Rattle.peer_demux.specs.Tables.{GivesAt, GivesTaken, IsRowTable, IsUnknown, RowStands, TableState, row_at}
 use Rattle.peer_demux.proofs.Places.{same_number}
 use Rattle.std.proofs.Common.{true, false, cond, ltb, drop}
-use Rattle.peer_demux.specs.Stories.{Step, Came, HandedOut, Gave, LetGo, TurnedAway, Told, IsStep, Leads, IsFrom, AllFrom, PacketsAreTheSenders, OneRowASender}
+use Rattle.peer_demux.specs.Stories.{DemuxStep, Came, HandedOut, Gave, LetGo, TurnedAway, Told, IsStep, Leads, IsFrom, AllFrom, PacketsAreTheSenders, OneRowASender}
 use Rattle.peer_demux.proofs.Kept.{in_order, once, push_below, push_here, shift, shift_row, shift_within, taken_front}
 
 -- ---- where each row comes from
@@ -26,13 +26,13 @@ record Was (rows now : List RowState) (q p : ℕ) : Type 0 where
   whose : (row_at now q).peer ≡ (row_at rows p).peer
 
 -- it was made of a packet of its sender, who had none
-record IsMade (before now : TableState) (step : Step) (q : ℕ) (bytes : List ℕ) : Type 0 where
+record IsMade (before now : TableState) (step : DemuxStep) (q : ℕ) (bytes : List ℕ) : Type 0 where
   next : (row_at now.rows q).number ≡ before.made
   made : now.made ≡ before.made + 1
   came : step ≡ Came (row_at now.rows q).peer bytes (puts.New before.made)
   unknown : IsUnknown before (row_at now.rows q).peer
 
-abbrev Origin : TableState → TableState → Step → ℕ → Type 0
+abbrev Origin : TableState → TableState → DemuxStep → ℕ → Type 0
 Origin before now step q = ((p : ℕ) × Was before.rows now.rows q p) ⊎ ((bytes : List ℕ) × IsMade before now step q bytes)
 
 same_peer : (rows : List RowState) (place i : ℕ) (row : RowState) → row.peer ≡ (row_at rows place).peer → (row_at (set rows place row) i).peer ≡ (row_at rows i).peer
@@ -113,7 +113,7 @@ pushed before now from bytes q left unknown within (inr m) =
     )
 
 -- what a call leaves was there, or was made by it
-origin : (before now : TableState) (step : Step) (q : ℕ) → IsStep before now step → q < length now.rows → Origin before now step q
+origin : (before now : TableState) (step : DemuxStep) (q : ℕ) → IsStep before now step → q < length now.rows → Origin before now step q
 origin before now (Came from bytes (puts.New number)) q is within =
     subst (λ (n : ℕ). Origin before now (Came from bytes (puts.New n)) q) (sym is.next) (
     pushed before now from bytes q
@@ -159,7 +159,7 @@ taken_goes before now into place takes.Empty gives = record { made = (let e = ap
 taken_goes before now into place takes.NotYet gives = record { made = (let e = ap (λ (t : TableState). t.made) gives.1.left in omega (arith, e)); mode = ap (λ (t : TableState). t.mode) gives.1.left }
 taken_goes before now into place takes.End gives = record { made = (let e = ap (λ (t : TableState). t.made) gives.1.left in omega (arith, e)); mode = ap (λ (t : TableState). t.mode) gives.1.left }
 
-goes : (before now : TableState) (step : Step) → IsStep before now step → Goes before now
+goes : (before now : TableState) (step : DemuxStep) → IsStep before now step → Goes before now
 goes before now (Came from bytes (puts.New number)) is = record { made = (let e = ap (λ (t : TableState). t.made) is.left in omega (arith, e)); mode = ap (λ (t : TableState). t.mode) is.left }
 goes before now (Came from bytes (puts.Queued number)) is = record { made = (let e = ap (λ (t : TableState). t.made) is.1.left in omega (arith, e)); mode = ap (λ (t : TableState). t.mode) is.1.left }
 goes before now (Came from bytes (puts.Dropped why)) is = record { made = (let e = ap (λ (t : TableState). t.made) is.1 in omega (arith, e)); mode = ap (λ (t : TableState). t.mode) is.1 }
@@ -172,7 +172,7 @@ goes before now (Told None) is = record { made = (let e = ap (λ (t : TableState
 goes before now (Told (Some number)) is = record { made = (let e = ap (λ (t : TableState). t.made) is.1 in omega (arith, e)); mode = ap (λ (t : TableState). t.mode) is.1 }
 
 -- a packet that a call puts into a row that stands is of its sender
-puts_own : (before now : TableState) (step : Step) (number place : ℕ) → IsTable before.rows before.made → IsStep before now step → Stands before.rows number place → IsFrom number (row_at before.rows place).peer step
+puts_own : (before now : TableState) (step : DemuxStep) (number place : ℕ) → IsRowTable before.rows before.made → IsStep before now step → RowStands before.rows number place → IsFrom number (row_at before.rows place).peer step
 puts_own before now (Came from bytes (puts.New row)) number place order is stands = λ same. let b = order.below place stands.within in absurd (omega (arith, same, is.next, b, stands.here))
 puts_own before now (Came from bytes (puts.Queued row)) number place order is stands = λ same.
     let at : is.0 ≡ place = once before.rows number is.0 place order.rising (record { within = is.1.sender.stands.within; here = is.1.sender.stands.here ∙ same }) stands in
@@ -185,7 +185,7 @@ puts_own before now TurnedAway number place order is stands = tt
 puts_own before now (Told found) number place order is stands = tt
 
 -- no call puts a packet into a row that isn't made yet
-puts_none : (before now : TableState) (step : Step) (number : ℕ) (peer : Peer) → IsTable before.rows before.made → IsStep before now step → now.made ≤ number → IsFrom number peer step
+puts_none : (before now : TableState) (step : DemuxStep) (number : ℕ) (peer : Peer) → IsRowTable before.rows before.made → IsStep before now step → now.made ≤ number → IsFrom number peer step
 puts_none before now (Came from bytes (puts.New row)) number peer order is le = λ same. let e = ap (λ (t : TableState). t.made) is.left in absurd (omega (arith, same, is.next, e, le))
 puts_none before now (Came from bytes (puts.Queued row)) number peer order is le = λ same.
     let b = order.below is.0 is.1.sender.stands.within in
@@ -200,7 +200,7 @@ puts_none before now (Told found) number peer order is le = tt
 
 -- ---- after any calls
 
-unmade : (mode : Mode) (steps : List Step) (table : TableState) → Leads mode steps table → (number : ℕ) (peer : Peer) → table.made ≤ number → AllFrom number peer steps
+unmade : (mode : Mode) (steps : List DemuxStep) (table : TableState) → Leads mode steps table → (number : ℕ) (peer : Peer) → table.made ≤ number → AllFrom number peer steps
 unmade mode [] table leads number peer le = tt
 unmade mode (step ∷ steps) table leads number peer le =
     let g = goes leads.0 table step leads.2 in
@@ -213,9 +213,9 @@ senders_own mode (step ∷ steps) table leads number place stands = own (senders
     before : TableState
     before = leads.0
 
-    own : ((n p : ℕ) → Stands before.rows n p → AllFrom n (row_at before.rows p).peer steps) → Origin before table step place → AllFrom number (row_at table.rows place).peer (step ∷ steps)
+    own : ((n p : ℕ) → RowStands before.rows n p → AllFrom n (row_at before.rows p).peer steps) → Origin before table step place → AllFrom number (row_at table.rows place).peer (step ∷ steps)
     own again (inl was) =
-        let old : Stands before.rows number was.0 = record { within = was.1.inside; here = sym was.1.same ∙ stands.here } in
+        let old : RowStands before.rows number was.0 = record { within = was.1.inside; here = sym was.1.same ∙ stands.here } in
         subst (λ (peer : Peer). AllFrom number peer (step ∷ steps)) (sym was.1.whose) (
           puts_own before table step number was.0 (in_order mode steps before leads.1) leads.2 old,
           again number was.0 old,
@@ -225,12 +225,12 @@ senders_own mode (step ∷ steps) table leads number place stands = own (senders
       unmade mode steps before leads.1 number (row_at table.rows place).peer (let e = made.1.next in let h = stands.here in omega (arith, e, h)),
     )
 
-same_mode : (mode : Mode) (steps : List Step) (table : TableState) → Leads mode steps table → table.mode ≡ mode
+same_mode : (mode : Mode) (steps : List DemuxStep) (table : TableState) → Leads mode steps table → table.mode ≡ mode
 same_mode mode [] table leads = ap (λ (t : TableState). t.mode) leads
 same_mode mode (step ∷ steps) table leads = (goes leads.0 table step leads.2).mode ∙ same_mode mode steps leads.0 leads.1
 
 -- two rows of one number are one
-number_once : (rows : List RowState) (made p q : ℕ) → IsTable rows made → p < length rows → q < length rows → (row_at rows p).number ≡ (row_at rows q).number → p ≡ q
+number_once : (rows : List RowState) (made p q : ℕ) → IsRowTable rows made → p < length rows → q < length rows → (row_at rows p).number ≡ (row_at rows q).number → p ≡ q
 number_once rows made p q order one other same = once rows (row_at rows q).number p q order.rising (record { within = one; here = same }) (record { within = other; here = refl })
 
 pub one_row : OneRowASender
@@ -240,7 +240,7 @@ one_row (step ∷ steps) table leads p q one other same = both (one_row steps le
     before : TableState
     before = leads.0
 
-    order : IsTable table.rows table.made
+    order : IsRowTable table.rows table.made
     order = in_order modes.ByPeer (step ∷ steps) table leads
 
     by_peer : before.mode ≡ modes.ByPeer

@@ -10,8 +10,8 @@ use Rattle.peer_demux.specs.declared.answers.Put.TheVariants as puts
 use Rattle.peer_demux.specs.declared.answers.Taken.{Taken}
 use Rattle.peer_demux.specs.declared.answers.Taken.TheVariants as takes
 use Rattle.peer_demux.specs.Rows.{RowState, fresh_row}
-use Rattle.peer_demux.specs.Tables.{GivesAt, GivesNone, IsRising, IsTable, Stands, TableState, no_row, row_at, with_call, with_packet}
-use Rattle.peer_demux.specs.Stories.{Step, Came, HandedOut, Gave, LetGo, TurnedAway, Told, IsStep, Leads, NobodyWaitsInVain, is_awake, wakes}
+use Rattle.peer_demux.specs.Tables.{GivesAt, GivesNone, IsRising, IsRowTable, RowStands, TableState, no_row, row_at, with_call, with_packet}
+use Rattle.peer_demux.specs.Stories.{DemuxStep, Came, HandedOut, Gave, LetGo, TurnedAway, Told, IsStep, Leads, NobodyWaitsInVain, is_awake, wakes}
 use Rattle.peer_demux.proofs.Places.{gives_number}
 use Rattle.peer_demux.proofs.Kept.{in_order, once, push_below, push_here, shift, shift_row, shift_within, taken_front}
 
@@ -40,11 +40,11 @@ call_made calling row =
 
 -- whoever isn't awake for the row of this number is called if that holds packets
 abbrev Hears : ℕ → Bool → TableState → Type 0
-Hears number awake table = (place : ℕ) → Stands table.rows number place → awake ≡ false → 0 < length (row_at table.rows place).packets → calls number table.calling ≡ true
+Hears number awake table = (place : ℕ) → RowStands table.rows number place → awake ≡ false → 0 < length (row_at table.rows place).packets → calls number table.calling ≡ true
 
 -- the row of this number was there, and held packets if it does now
 abbrev Stays : ℕ → List RowState → List RowState → Type 0
-Stays number rows now = (place : ℕ) → Stands now number place → (p : ℕ) × Stands rows number p × (0 < length (row_at now place).packets → 0 < length (row_at rows p).packets)
+Stays number rows now = (place : ℕ) → RowStands now number place → (p : ℕ) × RowStands rows number p × (0 < length (row_at now place).packets → 0 < length (row_at rows p).packets)
 
 hears_on : (number : ℕ) (was is : Bool) (before now : TableState) → (is ≡ false → was ≡ false) → Stays number before.rows now.rows → (calls number before.calling ≡ true → calls number now.calling ≡ true) → Hears number was before → Hears number is now
 hears_on number was is before now asleep stays kept hears = λ place stands still some.
@@ -159,7 +159,7 @@ hears_given number awake before now into place count inside gives hears =
     ))
     hears
 
-hears_nothing : (number row : ℕ) (awake : Bool) (before : TableState) (place : ℕ) → IsRising before.rows → Stands before.rows row place → length (row_at before.rows place).packets ≡ 0 → Hears number awake before → Hears number (not (row == number) && awake) before
+hears_nothing : (number row : ℕ) (awake : Bool) (before : TableState) (place : ℕ) → IsRising before.rows → RowStands before.rows row place → length (row_at before.rows place).packets ≡ 0 → Hears number awake before → Hears number (not (row == number) && awake) before
 hears_nothing number row awake before place rising stands none hears = λ q at still some.
     elim (cases_eq row number) [
       | inl e ↦
@@ -171,10 +171,10 @@ hears_nothing number row awake before place rising stands none hears = λ q at s
 
 hears_told : (number row : ℕ) (awake : Bool) (before now : TableState) → before.calling ≡ row ∷ now.calling → now.rows ≡ before.rows → Hears number awake before → Hears number ((row == number) || awake) now
 hears_told number row awake before now first rows hears = λ q stands still some.
-    let h = hears q (subst (λ (r : List RowState). Stands r number q) rows stands) (or_right _ _ still) (subst (λ (r : List RowState). 0 < length (row_at r q).packets) rows some) in
+    let h = hears q (subst (λ (r : List RowState). RowStands r number q) rows stands) (or_right _ _ still) (subst (λ (r : List RowState). 0 < length (row_at r q).packets) rows some) in
     or_second (row == number) (calls number now.calling) (subst (λ (c : List ℕ). calls number c ≡ true) first h) (or_left _ _ still)
 
-hears_step : (number : ℕ) (awake : Bool) (before now : TableState) (step : Step) → IsTable before.rows before.made → IsStep before now step → Hears number awake before → Hears number (wakes number step awake) now
+hears_step : (number : ℕ) (awake : Bool) (before now : TableState) (step : DemuxStep) → IsRowTable before.rows before.made → IsStep before now step → Hears number awake before → Hears number (wakes number step awake) now
 hears_step number awake before now (Came from bytes (puts.New row)) order is hears =
     subst (Hears number ((row == number) || awake)) (sym is.left) (hears_new number awake before (fresh_row row from bytes) (before.made + 1) hears)
 hears_step number awake before now (Came from bytes (puts.Queued row)) order is hears =
@@ -203,7 +203,7 @@ hears_step number awake before now (Told (Some row)) order is hears = hears_told
 
 -- ---- after any calls
 
-hears_always : (mode : Mode) (steps : List Step) (table : TableState) → Leads mode steps table → (number : ℕ) → Hears number (is_awake number steps) table
+hears_always : (mode : Mode) (steps : List DemuxStep) (table : TableState) → Leads mode steps table → (number : ℕ) → Hears number (is_awake number steps) table
 hears_always mode [] table leads number = λ place stands still some. let e = ap (λ (t : TableState). length t.rows) leads in let w = stands.within in absurd (omega (arith, e, w))
 hears_always mode (step ∷ steps) table leads number = hears_step number (is_awake number steps) leads.0 table step (in_order mode steps leads.0 leads.1) leads.2 (hears_always mode steps leads.0 leads.1 number)
 

@@ -29,7 +29,7 @@ Absorbs before [] now = now ≡ before
 Absorbs before (packet ∷ more) now = (mid : TableState) × (put : Put) × IsPut before mid packet.0 packet.1 put × Absorbs mid more now
 
 -- the packets by which what the socket gave has grown are those that the table has taken, at most 64 of them
-pub record Takes (before now : TableState) (gave_before gave_now : Option (List Packet)) (more : List Packet) : Type 0 where
+pub record TakesPackets (before now : TableState) (gave_before gave_now : Option (List Packet)) (more : List Packet) : Type 0 where
   pub absorbed : Absorbs before more now
   pub told : Adds gave_before gave_now more
   pub few : length more ≤ 64

@@ -49,23 +49,23 @@ abbrev pub IsRising : List RowState → Type 0
 IsRising rows = (i j : ℕ) → i < j → j < length rows → (row_at rows i).number < (row_at rows j).number
 
 -- the numbers of the rows rise, and are numbers of rows that were made
-pub record IsTable (rows : List RowState) (made : ℕ) : Type 0 where
+pub record IsRowTable (rows : List RowState) (made : ℕ) : Type 0 where
   pub rising : IsRising rows
   pub below : (i : ℕ) → i < length rows → (row_at rows i).number < made
 
 -- the live row of this number stands at this place
-pub record Stands (rows : List RowState) (number place : ℕ) : Type 0 where
+pub record RowStands (rows : List RowState) (number place : ℕ) : Type 0 where
   pub within : place < length rows
   pub here : (row_at rows place).number ≡ number
 
 -- a live row has this number
 abbrev pub IsLive : List RowState → ℕ → Type 0
-IsLive rows number = (place : ℕ) × Stands rows number place
+IsLive rows number = (place : ℕ) × RowStands rows number place
 
 -- the row of this sender stands at this place, in a table that sorts by senders
 pub record IsSender (table : TableState) (from : Peer) (number place : ℕ) : Type 0 where
   pub by_peer : table.mode ≡ modes.ByPeer
-  pub stands : Stands table.rows number place
+  pub stands : RowStands table.rows number place
   pub whose : (row_at table.rows place).peer ≡ from
 
 -- no live row is looked for, or none is this sender's
@@ -73,7 +73,7 @@ abbrev pub IsUnknown : TableState → Peer → Type 0
 IsUnknown table from = table.mode ≡ modes.ByPeer → (i : ℕ) → i < length table.rows → (row_at table.rows i).peer ≢ from
 
 -- a new row has the packet
-pub record Opens (before now : TableState) (from : Peer) (bytes : List ℕ) (number : ℕ) : Type 0 where
+pub record OpensRow (before now : TableState) (from : Peer) (bytes : List ℕ) (number : ℕ) : Type 0 where
   pub unknown : IsUnknown before from
   pub few : length before.rows < 4096
   pub fresh : before.made < 2 ^ 32 - 1
@@ -90,7 +90,7 @@ with_packet table place bytes =
     record table { calling = with_call table.calling (row_at table.rows place).number (length (row_at table.rows place).packets == 0); rows = set table.rows place (record (row_at table.rows place) { packets = (row_at table.rows place).packets ++ bytes ∷ [] }) }
 
 -- the row of the sender has the packet behind all others
-pub record Queues (before now : TableState) (from : Peer) (bytes : List ℕ) (number place : ℕ) : Type 0 where
+pub record QueuesPacket (before now : TableState) (from : Peer) (bytes : List ℕ) (number place : ℕ) : Type 0 where
   pub sender : IsSender before from number place
   pub room : is_full (row_at before.rows place) (length bytes) ≡ false
   pub left : now ≡ with_packet before place bytes
@@ -120,13 +120,13 @@ IsLoss table from bytes losses.Memory = MayOpen table from ⊎ ((number : ℕ) �
 
 -- what becomes of a packet
 abbrev pub IsPut : TableState → TableState → Peer → List ℕ → Put → Type 0
-IsPut before now from bytes (puts.New number) = Opens before now from bytes number
-IsPut before now from bytes (puts.Queued number) = (place : ℕ) × Queues before now from bytes number place
+IsPut before now from bytes (puts.New number) = OpensRow before now from bytes number
+IsPut before now from bytes (puts.Queued number) = (place : ℕ) × QueuesPacket before now from bytes number place
 IsPut before now from bytes (puts.Dropped why) = IsLoss before from bytes why × (now ≡ record before { lost = risen before.lost })
 
 -- the first row that wasn't handed out is handed out
 pub record HandsOut (before now : TableState) (number place : ℕ) (peer : Peer) : Type 0 where
-  pub stands : Stands before.rows number place
+  pub stands : RowStands before.rows number place
   pub whose : peer ≡ (row_at before.rows place).peer
   pub unhanded : before.handed ≤ number
   pub first : (i : ℕ) → i < place → (row_at before.rows i).number < before.handed
@@ -166,11 +166,11 @@ GivesTaken before now into place takes.End = (before.mode ≡ modes.ByPacket) ×
 
 -- what the row of this number gives
 abbrev pub IsTaken : TableState → TableState → ℕ → List ℕ → Taken → Type 0
-IsTaken before now number into taken = (place : ℕ) × Stands before.rows number place × GivesTaken before now into place taken
+IsTaken before now number into taken = (place : ℕ) × RowStands before.rows number place × GivesTaken before now into place taken
 
 -- the row of this number is live no more, and all others are as before
 abbrev pub IsDropped : TableState → TableState → ℕ → Type 0
-IsDropped before now number = (place : ℕ) × Stands before.rows number place × (now ≡ record before { rows = remove before.rows place })
+IsDropped before now number = (place : ℕ) × RowStands before.rows number place × (now ≡ record before { rows = remove before.rows place })
 
 -- a live row wasn't handed out, or all were
 abbrev pub HasNew : TableState → Bool → Type 0

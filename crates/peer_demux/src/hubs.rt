@@ -1,9 +1,9 @@
 // One socket for the sessions of many peers.
 ghost use Rattle.std.specs.Prelude.{◌≡◌, ◌<◌, ◌≤◌, ◌↔◌, nat_lt, List, ℕ, length, true, false, IfOk, IsTrue, not};
 ghost use Rattle.relay_model.specs.Conversions.{longest_packet};
-ghost use Rattle.peer_demux.specs.Hubs.{AcceptsRow, Drains, ReadsRow, Takes, TakesOne, accept_failed, fresh_hub, got_of, read_failed};
+ghost use Rattle.peer_demux.specs.Hubs.{AcceptsRow, Drains, ReadsRow, TakesPackets, TakesOne, accept_failed, fresh_hub, got_of, read_failed};
 ghost use Rattle.peer_demux.specs.Links.{Packet, Sends, has_failed, has_packet, has_stalled, send_failed, send_stalled};
-ghost use Rattle.peer_demux.specs.Tables.{HasNew, IsDropped, IsLive, IsNextCall, IsTrimmed, Stands, TableState, risen_if, row_at};
+ghost use Rattle.peer_demux.specs.Tables.{HasNew, IsDropped, IsLive, IsNextCall, IsTrimmed, RowStands, TableState, risen_if, row_at};
 
 use crate::answers::{Mode, Taken};
 use crate::links::{Link, Received};
@@ -64,7 +64,7 @@ impl<L: Link> Hub<L> {
         requires live { IsLive self.old.table.rows row }
         requires room { 0 < length into.old }
         ensures taken { (mid : TableState) × (more : List Packet)
-            × Takes self.old.table mid (L.gave self.old.link) (L.gave self.new.link) more
+            × TakesPackets self.old.table mid (L.gave self.old.link) (L.gave self.new.link) more
             × ReadsRow mid self.new.table row into.new result }
         ensures drained { Drains (read_failed result) self.new.left_off (L.stalls self.old.link) (L.stalls self.new.link)
             (L.packets self.old.link) (L.packets self.new.link) }
@@ -93,7 +93,7 @@ impl<L: Link> Hub<L> {
     /// failed.
     pub fn accept_row(&mut self) -> RowPeer
         ensures taken { (mid : TableState) × (more : List Packet)
-            × Takes self.old.table mid (L.gave self.old.link) (L.gave self.new.link) more
+            × TakesPackets self.old.table mid (L.gave self.old.link) (L.gave self.new.link) more
             × AcceptsRow mid self.new.table result }
         ensures drained { Drains (accept_failed result) self.new.left_off (L.stalls self.old.link) (L.stalls self.new.link)
             (L.packets self.old.link) (L.packets self.new.link) }
@@ -123,7 +123,7 @@ impl<L: Link> Hub<L> {
     pub fn send_row(&mut self, row: u32, bytes: &[u8]) -> Took
         requires live { IsLive self.old.table.rows row }
         requires few { length bytes.now ≤ longest_packet }
-        ensures sent { (place : ℕ) × Stands self.old.table.rows row place
+        ensures sent { (place : ℕ) × RowStands self.old.table.rows row place
             × Sends (L.sent self.old.link) (L.sent self.new.link) (row_at self.old.table.rows
             place).peer bytes.now result }
         ensures table { self.new.table ≡ self.old.table }
@@ -153,7 +153,7 @@ impl<L: Link> Hub<L> {
     }
 
     /// Whether packets may wait that the system won't tell of again: the last call took 64.
-    pub fn left_off(&self) -> bool
+    pub fn has_left_off(&self) -> bool
         ensures { result ≡ self.now.left_off }
     {
         self.left_off
@@ -162,7 +162,7 @@ impl<L: Link> Hub<L> {
     /// Whether the live row holds a packet.
     pub fn has_packets(&self, row: u32) -> bool
         requires { IsLive self.now.table.rows row }
-        ensures { (place : ℕ) × Stands self.now.table.rows row place
+        ensures { (place : ℕ) × RowStands self.now.table.rows row place
             × (IsTrue result ↔ (0 < length (row_at self.now.table.rows place).packets)) }
     {
         self.table.has_packets(row)
@@ -217,7 +217,7 @@ impl<L: Link> Hub<L> {
 
     /// Takes what the socket has, at most 64 packets. False exactly where the socket failed.
     pub fn fill(&mut self) -> bool
-        ensures taken { (more : List Packet) × Takes self.old.table self.new.table (L.gave self.old.link) (L.gave self.new.link) more }
+        ensures taken { (more : List Packet) × TakesPackets self.old.table self.new.table (L.gave self.old.link) (L.gave self.new.link) more }
         ensures lives { (row : ℕ) → IsLive self.old.table.rows row → IsLive self.new.table.rows row }
         ensures drained { Drains (not result) self.new.left_off (L.stalls self.old.link) (L.stalls self.new.link)
             (L.packets self.old.link) (L.packets self.new.link) }

@@ -1,8 +1,7 @@
 // A socket in memory.
-ghost use Rattle.std.specs.Prelude.{◌≡◌, ◌≤◌, ◌++◌, ◌∷◌, [], length, OnOk, OnErr, None, Some, option_copied, slice_get};
+ghost use Rattle.std.specs.Prelude.{◌≡◌, ◌≤◌, ◌++◌, ◌∷◌, [], length, OnOk, OnErr, Some};
 ghost use Rattle.relay_model.specs.Conversions.{longest_packet};
-ghost use Rattle.peer_demux.specs.Links.{AllFit, IsFit, Receives, Sends, fresh_link, given_by, has_failed, has_stalled, has_packet, IsGiven};
-ghost use Rattle.peer_demux.specs.Tables.{risen_if};
+ghost use Rattle.peer_demux.specs.Links.{AllFit, IsFit, fresh_link, given_by, IsGiven};
 ghost use Rattle.port_trait.specs.declared.answers.Took.TheVariants as writes;
 
 use crate::links::{Link, Received};
@@ -81,7 +80,7 @@ impl Link for MemLink {
             self.stalls = self.stalls.saturating_add(1);
             return Received::NotYet;
         }
-        let received = given(&self.items[self.next], into);
+        let received = item_answer(&self.items[self.next], into);
         self.next += 1;
         match received {
             Received::Packet { .. } => self.packets = self.packets.saturating_add(1),
@@ -101,7 +100,7 @@ impl Link for MemLink {
 }
 
 /// What the item answers.
-fn given(item: &LinkItem, into: &mut [u8]) -> Received
+fn item_answer(item: &LinkItem, into: &mut [u8]) -> Received
     requires fit { IsFit item.now }
     requires room { longest_packet ≤ length into.old }
     ensures { IsGiven item.now into.new result }

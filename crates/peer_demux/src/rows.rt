@@ -16,7 +16,7 @@ const MOST_BYTES: usize = 65_536;
 
 /// The packets of one sender, in the order in which they came.
 #[derive(Drop)]
-pub(crate) struct Row {
+pub(crate) struct SenderRow {
     number: u32,
     peer: Peer,
     packets: VecDeque<Bytes>,
@@ -25,7 +25,7 @@ pub(crate) struct Row {
     held: usize,
 }
 
-impl Model for Row {
+impl Model for SenderRow {
     ghost use Rattle.std.specs.Prelude.{◌≡◌, ◌+◌, ◌≤◌, length};
     ghost use Rattle.std.specs.List.{sum_by};
     ghost use Rattle.peer_demux.specs.Rows.{RowState, IsWithin};
@@ -37,14 +37,19 @@ impl Model for Row {
     ghost invariant = { λ row. IsWithin row.packets.items row.given × (row.held + row.given ≡ sum_by length row.packets.items) };
 }
 
-impl Row {
+impl SenderRow {
     /// A row of one packet.
-    pub(crate) fn new(alloc: Global, number: u32, peer: Peer, bytes: &[u8]) -> Result<Row, NoMemory>
+    pub(crate) fn new(
+        alloc: Global,
+        number: u32,
+        peer: Peer,
+        bytes: &[u8],
+    ) -> Result<SenderRow, NoMemory>
         ensures { IfOk result (λ row. row ≡ fresh_row number peer bytes.now) }
     {
         let mut packets = VecDeque::new(alloc);
         packets.push_back(Bytes::of(alloc, bytes)?)?;
-        Ok(Row {
+        Ok(SenderRow {
             number,
             peer,
             packets,

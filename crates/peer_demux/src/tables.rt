@@ -1,15 +1,15 @@
 // The rows of all senders.
-ghost use Rattle.std.specs.Prelude.{◌≡◌, ◌≢◌, ℕ, ◌<◌, ◌≤◌, ◌↔◌, ◌+◌, nat_lt, length, true, false, IfSome, IfNone, IsTrue, OnOk, OnErr};
+ghost use Rattle.std.specs.Prelude.{◌≡◌, ◌≢◌, ℕ, ◌<◌, ◌≤◌, ◌↔◌, ◌+◌, nat_lt, length, false, IfSome, IfNone, IsTrue, OnOk, OnErr};
 ghost use Rattle.std.specs.VecDeque.{deque_len, deque_capacity};
 ghost use Rattle.relay_model.specs.Conversions.{longest_packet};
 ghost use Rattle.relay_model.specs.declared.acts.Peer.{Peer};
 ghost use Rattle.peer_demux.specs.declared.answers.Mode.TheVariants as modes;
 ghost use Rattle.peer_demux.specs.declared.answers.Put.TheVariants as puts;
-ghost use Rattle.peer_demux.specs.Tables.{fresh_table, HasNew, IsTrimmed, row_at, IsLive, IsRising, IsLoss, IsUnknown, GivesOne, IsPut, IsNext, IsTaken, IsDropped, IsNextCall, Stands, nothing_of, risen, with_call, with_packet};
+ghost use Rattle.peer_demux.specs.Tables.{fresh_table, HasNew, IsTrimmed, row_at, IsLive, IsRising, IsUnknown, GivesOne, IsPut, IsNext, IsTaken, IsDropped, IsNextCall, RowStands, nothing_of, risen, with_call, with_packet};
 ghost use Rattle.peer_demux.specs.Rows.{is_full};
 
 use crate::answers::{Lost, Mode, Put, Taken};
-use crate::rows::Row;
+use crate::rows::SenderRow;
 use crate::senders::Senders;
 use relay_model::{NoMemory, Peer};
 use std::alloc::Global;
@@ -25,7 +25,7 @@ const MOST_ROWS: usize = 4_096;
 pub struct Demux {
     alloc: Global,
     mode: Mode,
-    rows: Vec<Row>,
+    rows: Vec<SenderRow>,
     senders: Senders,
     calling: VecDeque<u32>,
     made: u32,
@@ -34,13 +34,13 @@ pub struct Demux {
 }
 
 impl Model for Demux {
-    ghost use Rattle.peer_demux.specs.Tables.{TableState, IsTable};
+    ghost use Rattle.peer_demux.specs.Tables.{TableState, IsRowTable};
 
     ghost Value = { TableState };
 
     ghost view = { λ table. record { mode = table.mode; rows = table.rows.items; calling = table.calling.items; made = table.made; handed = table.handed; lost = table.lost } };
 
-    ghost invariant = { λ table. IsTable table.rows.items table.made };
+    ghost invariant = { λ table. IsRowTable table.rows.items table.made };
 }
 
 impl Demux {
@@ -98,7 +98,7 @@ impl Demux {
     /// Whether the live row holds a packet.
     pub fn has_packets(&self, row: u32) -> bool
         requires { IsLive self.now.rows row }
-        ensures { (place : ℕ) × Stands self.now.rows row place × (IsTrue result ↔ (0 < length (row_at self.now.rows place).packets)) }
+        ensures { (place : ℕ) × RowStands self.now.rows row place × (IsTrue result ↔ (0 < length (row_at self.now.rows place).packets)) }
     {
         self.rows[place_of(&self.rows, row)].has_packets()
     }
@@ -106,7 +106,7 @@ impl Demux {
     /// The sender of the live row.
     pub fn peer(&self, row: u32) -> Peer
         requires { IsLive self.now.rows row }
-        ensures { (place : ℕ) × Stands self.now.rows row place × (result ≡ (row_at self.now.rows place).peer) }
+        ensures { (place : ℕ) × RowStands self.now.rows row place × (result ≡ (row_at self.now.rows place).peer) }
     {
         self.rows[place_of(&self.rows, row)].peer()
     }
@@ -247,7 +247,7 @@ impl Demux {
             return self.lose(Lost::Numbers);
         }
         let number = self.made;
-        let Ok(row) = Row::new(self.alloc, number, from, bytes) else {
+        let Ok(row) = SenderRow::new(self.alloc, number, from, bytes) else {
             return self.lose(Lost::Memory);
         };
         if self.rows.push(row).is_err() {
@@ -306,7 +306,7 @@ fn nothing_of(mode: Mode) -> Taken
 }
 
 /// How many rows have numbers below this one.
-fn place_of(rows: &[Row], number: u32) -> usize
+fn place_of(rows: &[SenderRow], number: u32) -> usize
     requires { IsRising rows.now }
     ensures bound { result ≤ length rows.now }
     ensures below { (i : ℕ) → i < result → (row_at rows.now i).number < number }
@@ -326,7 +326,7 @@ fn place_of(rows: &[Row], number: u32) -> usize
 }
 
 /// Where the row of this sender stands.
-fn place_of_peer(rows: &[Row], peer: Peer) -> Option<usize>
+fn place_of_peer(rows: &[SenderRow], peer: Peer) -> Option<usize>
     ensures found { IfSome result (λ place. (place < length rows.now) × ((row_at rows.now place).peer ≡ peer)) }
     ensures none { IfNone result ((i : ℕ) → i < length rows.now → (row_at rows.now i).peer ≢ peer) }
 {

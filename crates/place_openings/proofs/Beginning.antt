@@ -9,19 +9,19 @@ use Rattle.relay_model.specs.Configs.{places, parts, place_at}
 use Rattle.relay_model.specs.declared.places.Place.{Place}
 use Rattle.relay_model.specs.declared.commands.Config.{Config}
 use Rattle.relay_model.specs.declared.acts.Act.{Act}
-use Rattle.place_openings.specs.OpeningState.{OpeningState}
+use Rattle.place_openings.specs.declared.one_place.Opening.{Opening}
 use Rattle.relay_model.specs.Places.{same_place}
 use Rattle.place_openings.specs.Stands.{IsOpening, Each}
 use Rattle.place_openings.specs.Steps.{asked_by, has_asked}
 
-each_append : (c : Config) (past : List Act) (ps : List Place) (os : List OpeningState) (p : Place) (o : OpeningState) → Each c past ps os → IsOpening c past p o → Each c past (ps ++ p ∷ []) (os ++ o ∷ [])
+each_append : (c : Config) (past : List Act) (ps : List Place) (os : List Opening) (p : Place) (o : Opening) → Each c past ps os → IsOpening c past p o → Each c past (ps ++ p ∷ []) (os ++ o ∷ [])
 each_append c past [] [] p o each i = (i, tt)
 each_append c past [] (x ∷ os) p o each i = absurd each
 each_append c past (q ∷ ps) [] p o each i = absurd each
 each_append c past (q ∷ ps) (x ∷ os) p o each i = (each.0, each_append c past ps os p o each.1 i)
 
 -- one place more
-pub one_place_more : (c : Config) (past : List Act) (ps : List Place) (i : ℕ) (d : Place) (os ns : List OpeningState) (o : OpeningState) → i < length ps → Each c past (take i ps) os → IsOpening c past (get_or ps i d) o → ns ≡ os ++ o ∷ [] → Each c past (take (i + 1) ps) ns
+pub one_place_more : (c : Config) (past : List Act) (ps : List Place) (i : ℕ) (d : Place) (os ns : List Opening) (o : Opening) → i < length ps → Each c past (take i ps) os → IsOpening c past (get_or ps i d) o → ns ≡ os ++ o ∷ [] → Each c past (take (i + 1) ps) ns
 one_place_more c past ps i d os ns o lt each is e =
     subst (λ xs. Each c past xs ns) (sym (take_more ps i d lt)) (subst (Each c past (take i ps ++ get_or ps i d ∷ [])) (sym e) (each_append c past (take i ps) os (get_or ps i d) o each is))
 
@@ -32,7 +32,7 @@ no_doors c s =
 
 -- ---- no child was asked for
 
-unasked_last : (os : List OpeningState) (o : OpeningState) (p : Place) → has_asked os p ≡ false → o.asked_child ≡ false → has_asked (os ++ o ∷ []) p ≡ false
+unasked_last : (os : List Opening) (o : Opening) (p : Place) → has_asked os p ≡ false → o.asked_child ≡ false → has_asked (os ++ o ∷ []) p ≡ false
 unasked_last [] o p none fresh = ap (λ a. (a && same_place p o.place) || false) fresh
 unasked_last (x ∷ os) o p none fresh = go (asked_by p x) none (unasked_last os o p)
   where
@@ -40,5 +40,5 @@ unasked_last (x ∷ os) o p none fresh = go (asked_by p x) none (unasked_last os
     go true e ih = absurd (true≢false e)
     go false e ih = ih e fresh
 
-pub unasked_more : (os ns : List OpeningState) (o : OpeningState) → ((p : Place) → has_asked os p ≡ false) → o.asked_child ≡ false → ns ≡ os ++ o ∷ [] → (p : Place) → has_asked ns p ≡ false
+pub unasked_more : (os ns : List Opening) (o : Opening) → ((p : Place) → has_asked os p ≡ false) → o.asked_child ≡ false → ns ≡ os ++ o ∷ [] → (p : Place) → has_asked ns p ≡ false
 unasked_more os ns o none fresh e p = ap (λ xs. has_asked xs p) e ∙ unasked_last os o p (none p) fresh

@@ -13,17 +13,15 @@ use Rattle.relay_model.specs.Places.{same_bool, door_of}
 use Rattle.relay_model.specs.Configs.{places, options_of, listens_at, has_own_door}
 use Rattle.relay_model.specs.History.{failures}
 use Rattle.relay_model.specs.Openings.{out_of_tries}
-use Rattle.retry_plan.specs.Ledger.{Ledger}
+use Rattle.retry_plan.specs.Ledger.{PlanLedger}
 use Rattle.retry_plan.specs.Plans.{PlanIs, attempts_of, next_try, at_or_never}
 use Rattle.retry_plan.specs.declared.NextTry.{NextTry}
 use Rattle.retry_plan.specs.declared.NextTry.TheVariants.{GiveUp}
-use Rattle.place_openings.specs.declared.calls.GivenUp.{GivenUp}
+use Rattle.place_openings.specs.declared.given_up.GivenUp.{GivenUp}
 use Rattle.place_openings.specs.declared.one_place.Opening.{Opening}
 use Rattle.place_openings.specs.Attempts.{first_unopened, first_unlistened, CanCount, FirstCanCount, attempts_in, given_up_by, attempts_told, Spends, GivesUp, FirstGivesUp}
-use Rattle.place_openings.specs.OpeningState.{OpeningState}
 use Rattle.place_openings.specs.Queries.{gave_up}
 use Rattle.place_openings.specs.Stands.{IsOpening, Each, AreOpenings, tried_at}
-use Rattle.place_openings.specs.States.{state_of}
 use Rattle.place_openings.specs.Tried.{is_end_of_tries}
 use Rattle.place_openings.proofs.Asked.{next_is, no_failures, place_gave_up, out_by}
 use Rattle.place_openings.proofs.Tries.{some_left, gives_up}
@@ -31,7 +29,7 @@ use Rattle.place_openings.proofs.Tries.{some_left, gives_up}
 -- ---- a plan that gives up
 
 -- what a plan says, whichever failures it stands for
-abbrev pub SaysNext : Ledger → NextTry → Type 0
+abbrev pub SaysNext : PlanLedger → NextTry → Type 0
 SaysNext plan next = (retry : ℕ) (forever : Bool) (interval : ℕ) (failures : List ℕ) → PlanIs retry forever interval failures plan → next ≡ next_try retry forever interval failures
 
 -- a list of failures that is as long as can be counted
@@ -56,7 +54,7 @@ short : (m n k : ℕ) → k ≡ min m n → suc k ≤ suc m
 short m n k e = omega (arith, e)
 
 -- a plan that gives up after as many failures as can be counted would give up no sooner
-can_count_by : (m : ℕ) → suc m ≡ 2 ^ 64 - 1 → (retry : ℕ) (forever : Bool) (interval : ℕ) (f : ℕ) (fs : List ℕ) (plan : Ledger) (next : NextTry) → PlanIs retry forever interval (f ∷ fs) plan → SaysNext plan next → is_out_of_tries retry forever (f ∷ fs) ≡ true → (retry < suc m → ⊥) → ⊥
+can_count_by : (m : ℕ) → suc m ≡ 2 ^ 64 - 1 → (retry : ℕ) (forever : Bool) (interval : ℕ) (f : ℕ) (fs : List ℕ) (plan : PlanLedger) (next : NextTry) → PlanIs retry forever interval (f ∷ fs) plan → SaysNext plan next → is_out_of_tries retry forever (f ∷ fs) ≡ true → (retry < suc m → ⊥) → ⊥
 can_count_by m top retry forever interval f fs plan next is says out above =
     let size = length-take m fs in
     let other : PlanIs retry forever interval (f ∷ cut m fs) plan = record {
@@ -86,7 +84,7 @@ below retry m twice = go (nat_lt retry m) refl
     go true e = ltb-true retry m e
     go false e = let k = ltb-false retry m e in absurd (twice (λ lt. let x : ⊥ = omega (arith, k, lt) in x))
 
-pub spends : (retry : ℕ) (forever : Bool) (interval : ℕ) (failures : List ℕ) (plan : Ledger) (next : NextTry) → PlanIs retry forever interval failures plan → SaysNext plan next → Spends retry forever failures (attempts_in next)
+pub spends : (retry : ℕ) (forever : Bool) (interval : ℕ) (failures : List ℕ) (plan : PlanLedger) (next : NextTry) → PlanIs retry forever interval failures plan → SaysNext plan next → Spends retry forever failures (attempts_in next)
 spends retry forever interval [] plan next is says = subst (λ x. Spends retry forever [] (attempts_in x)) (sym (says retry forever interval [] is)) (some_left retry forever)
 spends retry forever interval (f ∷ fs) plan next is says =
     let can = λ (out : is_out_of_tries retry forever (f ∷ fs) ≡ true). below retry (2 ^ 64 - 1) (can_count_by (2 ^ 64 - 2) refl retry forever interval f fs plan next is says out) in
@@ -120,25 +118,25 @@ gives_by c past p d has_door side (Some a) own here spent = go (same_bool d has_
     go false e =
         and_false_first (same_bool (has_own_door c p) has_door) (out_of_tries c past (tried_at (has_own_door c p) p)) (ap (λ b. same_bool b has_door) (sym own) ∙ e)
 
-pub gives : (c : Config) (past : List Act) (p : Place) (o : OpeningState) (has_door : Bool) (attempts : Option ℕ) → IsOpening c past p o → Spends (options_of c p).tries.retry (options_of c p).tries.forever (failures past (tried_at o.has_door p)) attempts → GivesUp c past has_door p (given_up_by o.place.side (same_bool o.has_door has_door) attempts)
+pub gives : (c : Config) (past : List Act) (p : Place) (o : Opening) (has_door : Bool) (attempts : Option ℕ) → IsOpening c past p o → Spends (options_of c p).tries.retry (options_of c p).tries.forever (failures past (tried_at o.has_door p)) attempts → GivesUp c past has_door p (given_up_by o.place.side (same_bool o.has_door has_door) attempts)
 gives c past p o has_door attempts i spent =
     gives_by c past p o.has_door has_door o.place.side attempts i.has_door_is (ap (λ (x : Place). x.side) i.place_is) spent
 
 -- ---- the first of several places
 
 -- the places that are left, after some that have tries
-pub record After (c : Config) (past : List Act) (has_door : Bool) (ps : List Place) (os : List OpeningState) : Type 0 where
+pub record After (c : Config) (past : List Act) (has_door : Bool) (ps : List Place) (os : List Opening) : Type 0 where
   pub left : List Place
   pub each : Each c past left os
   pub same : (answer : Option GivenUp) → FirstGivesUp c past has_door left answer → FirstGivesUp c past has_door ps answer
 
-by_first : (c : Config) (past : List Act) (has_door : Bool) (ps left : List Place) (o : OpeningState) (os : List OpeningState) (g : GivenUp) → Each c past left (o ∷ os) → ((answer : Option GivenUp) → FirstGivesUp c past has_door left answer → FirstGivesUp c past has_door ps answer) → ((p : Place) → IsOpening c past p o → GivesUp c past has_door p (Some g)) → FirstGivesUp c past has_door ps (Some g)
+by_first : (c : Config) (past : List Act) (has_door : Bool) (ps left : List Place) (o : Opening) (os : List Opening) (g : GivenUp) → Each c past left (o ∷ os) → ((answer : Option GivenUp) → FirstGivesUp c past has_door left answer → FirstGivesUp c past has_door ps answer) → ((p : Place) → IsOpening c past p o → GivesUp c past has_door p (Some g)) → FirstGivesUp c past has_door ps (Some g)
 by_first c past has_door ps [] o os g each same told = absurd each
 by_first c past has_door ps (p ∷ left) o os g each same told =
     let here = told p each.0 in
     same (Some g) ((λ _. here), (λ none. absurd (false≢true (sym none ∙ here.out))))
 
-past_one : (c : Config) (past : List Act) (has_door : Bool) (ps left : List Place) (o : OpeningState) (os : List OpeningState) → Each c past left (o ∷ os) → ((answer : Option GivenUp) → FirstGivesUp c past has_door left answer → FirstGivesUp c past has_door ps answer) → ((p : Place) → IsOpening c past p o → gave_up c past has_door p ≡ false) → After c past has_door ps os
+past_one : (c : Config) (past : List Act) (has_door : Bool) (ps left : List Place) (o : Opening) (os : List Opening) → Each c past left (o ∷ os) → ((answer : Option GivenUp) → FirstGivesUp c past has_door left answer → FirstGivesUp c past has_door ps answer) → ((p : Place) → IsOpening c past p o → gave_up c past has_door p ≡ false) → After c past has_door ps os
 past_one c past has_door ps [] o os each same none = absurd each
 past_one c past has_door ps (p ∷ left) o os each same none =
     let here = none p each.0 in
@@ -148,17 +146,17 @@ by_none : (c : Config) (past : List Act) (has_door : Bool) (ps left : List Place
 by_none c past has_door ps [] each same = same None refl
 by_none c past has_door ps (p ∷ left) each same = absurd each
 
-pub first_found : (c : Config) (past : List Act) (has_door : Bool) (ps : List Place) (xs : List Opening) (i : ℕ) (x : Opening) (g : GivenUp) → i < length xs → x ≡ get_or xs i x → After c past has_door ps (map state_of (drop i xs)) → ((p : Place) → IsOpening c past p (state_of x) → GivesUp c past has_door p (Some g)) → FirstGivesUp c past has_door ps (Some g)
+pub first_found : (c : Config) (past : List Act) (has_door : Bool) (ps : List Place) (xs : List Opening) (i : ℕ) (x : Opening) (g : GivenUp) → i < length xs → x ≡ get_or xs i x → After c past has_door ps ((drop i xs)) → ((p : Place) → IsOpening c past p x → GivesUp c past has_door p (Some g)) → FirstGivesUp c past has_door ps (Some g)
 first_found c past has_door ps xs i x g lt e a told =
-    by_first c past has_door ps a.left (state_of x) (map state_of (drop (suc i) xs)) g (subst (Each c past a.left) (next_is xs i x lt e) a.each) a.same told
+    by_first c past has_door ps a.left x ((drop (suc i) xs)) g (subst (Each c past a.left) (next_is xs i x lt e) a.each) a.same told
 
-pub one_passed : (c : Config) (past : List Act) (has_door : Bool) (ps : List Place) (xs : List Opening) (i : ℕ) (x : Opening) → i < length xs → x ≡ get_or xs i x → After c past has_door ps (map state_of (drop i xs)) → ((p : Place) → IsOpening c past p (state_of x) → gave_up c past has_door p ≡ false) → After c past has_door ps (map state_of (drop (suc i) xs))
+pub one_passed : (c : Config) (past : List Act) (has_door : Bool) (ps : List Place) (xs : List Opening) (i : ℕ) (x : Opening) → i < length xs → x ≡ get_or xs i x → After c past has_door ps ((drop i xs)) → ((p : Place) → IsOpening c past p x → gave_up c past has_door p ≡ false) → After c past has_door ps ((drop (suc i) xs))
 one_passed c past has_door ps xs i x lt e a none =
-    past_one c past has_door ps a.left (state_of x) (map state_of (drop (suc i) xs)) (subst (Each c past a.left) (next_is xs i x lt e) a.each) a.same none
+    past_one c past has_door ps a.left x ((drop (suc i) xs)) (subst (Each c past a.left) (next_is xs i x lt e) a.each) a.same none
 
-pub none_found : (c : Config) (past : List Act) (has_door : Bool) (ps : List Place) (xs : List Opening) (i : ℕ) → length xs ≤ i → After c past has_door ps (map state_of (drop i xs)) → FirstGivesUp c past has_door ps None
+pub none_found : (c : Config) (past : List Act) (has_door : Bool) (ps : List Place) (xs : List Opening) (i : ℕ) → length xs ≤ i → After c past has_door ps ((drop i xs)) → FirstGivesUp c past has_door ps None
 none_found c past has_door ps xs i le a =
-    by_none c past has_door ps a.left (subst (Each c past a.left) (ap (map state_of) (drop_all i xs le)) a.each) a.same
+    by_none c past has_door ps a.left (subst (Each c past a.left) ((drop_all i xs le)) a.each) a.same
 
 -- ---- openings and listenings
 
@@ -182,7 +180,7 @@ one_opening c past p ps (Some g) true e k told rest =
     let h = told k in
     (ap Some (equal_given_up g (record { side = p.side; attempts = attempts_of (failures past p) }) h.side_is h.attempts_is), (λ _. h.can_count), (λ x. absurd (false≢true (sym x))))
 
-openings_told : (c : Config) (past : List Act) (ps : List Place) (os : List OpeningState) (answer : Option GivenUp) → Each c past ps os → FirstGivesUp c past false ps answer → Tells c past ps answer
+openings_told : (c : Config) (past : List Act) (ps : List Place) (os : List Opening) (answer : Option GivenUp) → Each c past ps os → FirstGivesUp c past false ps answer → Tells c past ps answer
 openings_told c past [] os answer each first = record { first = first; can_count = tt }
 openings_told c past (p ∷ ps) [] answer each first = absurd each
 openings_told c past (p ∷ ps) (o ∷ os) answer each first =
@@ -192,7 +190,7 @@ openings_told c past (p ∷ ps) (o ∷ os) answer each first =
     let k = one_opening c past p ps answer (out_of_tries c past p) refl same first.0 (λ none. ih (first.1 (same ∙ none))) in
     record { first = k.0; can_count = (k.1, k.2) }
 
-pub opening_told : (c : Config) (past : List Act) (s : ℕ) (os : List OpeningState) (answer : Option GivenUp) → AreOpenings c past s os → FirstGivesUp c past false (places c s) answer → Tells c past (places c s) answer
+pub opening_told : (c : Config) (past : List Act) (s : ℕ) (os : List Opening) (answer : Option GivenUp) → AreOpenings c past s os → FirstGivesUp c past false (places c s) answer → Tells c past (places c s) answer
 opening_told c past s os answer are first = openings_told c past (places c s) os answer are.each first
 
 pub record TellsDoor (c : Config) (past : List Act) (ds : List Place) (answer : Option GivenUp) : Type 0 where

@@ -12,10 +12,11 @@ use Rattle.relay_model.specs.Choices.{noted}
 use Rattle.relay_model.specs.Readiness.{Listed}
 use Rattle.relay_model.specs.Places.{same_bool, same_side, same_part, same_place, door_of}
 use Rattle.relay_model.specs.Configs.{places, options_of, has_own_door, accepting_door, is_of}
-use Rattle.relay_model.specs.History.{now, Usable, Unsettled, Failed, Met, Waiting, Gone, stage, woken, failures, was_closed, was_reaped}
+use Rattle.relay_model.specs.History.{now, stage, woken, failures, was_closed, was_reaped}
+use Rattle.relay_model.specs.declared.stages.Stage.TheVariants.{Usable, Unsettled, Failed, Met, Waiting, Gone}
 use Rattle.relay_model.specs.Arming.{armed_to_accept, asked_to_accept}
 use Rattle.retry_plan.specs.Plans.{PlanIs, last_of}
-use Rattle.place_openings.specs.OpeningState.{OpeningState}
+use Rattle.place_openings.specs.declared.one_place.Opening.{Opening}
 use Rattle.place_openings.specs.Stands.{IsOpening, Each, AreOpenings, tried_at}
 use Rattle.place_openings.specs.Touching.{touches}
 use Rattle.place_openings.proofs.PlaceLemmas.{accepts_for}
@@ -46,14 +47,14 @@ record Aside (c : Config) (q p : Place) : Type 0 where
   no_place : same_place q p ≡ false
   no_door : has_own_door c p ≡ true → same_place q (door_of p) ≡ false
 
-own_door : {c : Config} {past : List Act} {p : Place} {o : OpeningState} → IsOpening c past p o → o.has_door ≡ true → has_own_door c p ≡ true
+own_door : {c : Config} {past : List Act} {p : Place} {o : Opening} → IsOpening c past p o → o.has_door ≡ true → has_own_door c p ≡ true
 own_door i h = sym i.has_door_is ∙ h
 
 tried_by : (q p : Place) (b : Bool) → same_place q p ≡ false → (b ≡ true → same_place q (door_of p) ≡ false) → same_place q (tried_at b p) ≡ false
 tried_by q p true x y = y refl
 tried_by q p false x y = x
 
-tried_apart : {c : Config} {past : List Act} {p q : Place} {o : OpeningState} → IsOpening c past p o → Aside c q p → same_place q (tried_at o.has_door p) ≡ false
+tried_apart : {c : Config} {past : List Act} {p q : Place} {o : Opening} → IsOpening c past p o → Aside c q p → same_place q (tried_at o.has_door p) ≡ false
 tried_apart {p = p} {q = q} {o = o} i a = tried_by q p o.has_door a.no_place (λ h. a.no_door (own_door i h))
 
 same_but_door : (a n d e : Bool) → d ≡ true → e ≡ false → (a && same_bool false e && n) ≡ (a && same_bool d true && n)
@@ -69,7 +70,7 @@ accepts_elsewhere c q p no_door own x y true e =
 
 -- ---- one opening
 
-stopped_one : (c : Config) (past : List Act) (until : Option ℕ) (at : ℕ) (ready : Listed) (p : Place) (o : OpeningState) → IsOpening c (acts.Turn until at ready false ∷ past) p o → IsOpening c (acts.Turn until at ready true ∷ past) p o
+stopped_one : (c : Config) (past : List Act) (until : Option ℕ) (at : ℕ) (ready : Listed) (p : Place) (o : Opening) → IsOpening c (acts.Turn until at ready false ∷ past) p o → IsOpening c (acts.Turn until at ready true ∷ past) p o
 stopped_one c past until at ready p o i =
     record {
       no_door = i.no_door;
@@ -90,7 +91,7 @@ stopped_one c past until at ready p o i =
       asked_child_is = i.asked_child_is;
     }
 
-stays_Opened : (c : Config) (past : List Act) (q : Place) (p : Place) (o : OpeningState) → IsOpening c past p o → Aside c q p → IsOpening c (acts.Opened q ∷ past) p o
+stays_Opened : (c : Config) (past : List Act) (q : Place) (p : Place) (o : Opening) → IsOpening c past p o → Aside c q p → IsOpening c (acts.Opened q ∷ past) p o
 stays_Opened c past q p o i a =
     record {
       no_door = i.no_door;
@@ -111,7 +112,7 @@ stays_Opened c past q p o i a =
       asked_child_is = i.asked_child_is;
     }
 
-stays_OpenLater : (c : Config) (past : List Act) (q : Place) (p : Place) (o : OpeningState) → IsOpening c past p o → Aside c q p → IsOpening c (acts.OpenLater q ∷ past) p o
+stays_OpenLater : (c : Config) (past : List Act) (q : Place) (p : Place) (o : Opening) → IsOpening c past p o → Aside c q p → IsOpening c (acts.OpenLater q ∷ past) p o
 stays_OpenLater c past q p o i a =
     record {
       no_door = i.no_door;
@@ -132,7 +133,7 @@ stays_OpenLater c past q p o i a =
       asked_child_is = i.asked_child_is;
     }
 
-stays_OpenFailed : (c : Config) (past : List Act) (q : Place) (p : Place) (o : OpeningState) → IsOpening c past p o → Aside c q p → IsOpening c (acts.OpenFailed q ∷ past) p o
+stays_OpenFailed : (c : Config) (past : List Act) (q : Place) (p : Place) (o : Opening) → IsOpening c past p o → Aside c q p → IsOpening c (acts.OpenFailed q ∷ past) p o
 stays_OpenFailed c past q p o i a =
     record {
       no_door = i.no_door;
@@ -153,7 +154,7 @@ stays_OpenFailed c past q p o i a =
       asked_child_is = i.asked_child_is;
     }
 
-stays_Listening : (c : Config) (past : List Act) (q : Place) (p : Place) (o : OpeningState) → IsOpening c past p o → Aside c q p → IsOpening c (acts.Listening q ∷ past) p o
+stays_Listening : (c : Config) (past : List Act) (q : Place) (p : Place) (o : Opening) → IsOpening c past p o → Aside c q p → IsOpening c (acts.Listening q ∷ past) p o
 stays_Listening c past q p o i a =
     record {
       no_door = i.no_door;
@@ -174,7 +175,7 @@ stays_Listening c past q p o i a =
       asked_child_is = i.asked_child_is;
     }
 
-stays_ListenFailed : (c : Config) (past : List Act) (q : Place) (p : Place) (o : OpeningState) → IsOpening c past p o → Aside c q p → IsOpening c (acts.ListenFailed q ∷ past) p o
+stays_ListenFailed : (c : Config) (past : List Act) (q : Place) (p : Place) (o : Opening) → IsOpening c past p o → Aside c q p → IsOpening c (acts.ListenFailed q ∷ past) p o
 stays_ListenFailed c past q p o i a =
     record {
       no_door = i.no_door;
@@ -195,7 +196,7 @@ stays_ListenFailed c past q p o i a =
       asked_child_is = i.asked_child_is;
     }
 
-stays_Accepted : (c : Config) (past : List Act) (q : Place) (peer : Peer) (p : Place) (o : OpeningState) → IsOpening c past p o → Aside c q p → IsOpening c (acts.Accepted q peer ∷ past) p o
+stays_Accepted : (c : Config) (past : List Act) (q : Place) (peer : Peer) (p : Place) (o : Opening) → IsOpening c past p o → Aside c q p → IsOpening c (acts.Accepted q peer ∷ past) p o
 stays_Accepted c past q peer p o i a =
     record {
       no_door = i.no_door;
@@ -216,7 +217,7 @@ stays_Accepted c past q peer p o i a =
       asked_child_is = i.asked_child_is;
     }
 
-stays_NoPeer : (c : Config) (past : List Act) (q : Place) (p : Place) (o : OpeningState) → IsOpening c past p o → Aside c q p → IsOpening c (acts.NoPeer q ∷ past) p o
+stays_NoPeer : (c : Config) (past : List Act) (q : Place) (p : Place) (o : Opening) → IsOpening c past p o → Aside c q p → IsOpening c (acts.NoPeer q ∷ past) p o
 stays_NoPeer c past q p o i a =
     record {
       no_door = i.no_door;
@@ -237,7 +238,7 @@ stays_NoPeer c past q p o i a =
       asked_child_is = i.asked_child_is;
     }
 
-stays_AcceptFailed : (c : Config) (past : List Act) (q : Place) (p : Place) (o : OpeningState) → IsOpening c past p o → Aside c q p → IsOpening c (acts.AcceptFailed q ∷ past) p o
+stays_AcceptFailed : (c : Config) (past : List Act) (q : Place) (p : Place) (o : Opening) → IsOpening c past p o → Aside c q p → IsOpening c (acts.AcceptFailed q ∷ past) p o
 stays_AcceptFailed c past q p o i a =
     record {
       no_door = i.no_door;
@@ -258,7 +259,7 @@ stays_AcceptFailed c past q p o i a =
       asked_child_is = i.asked_child_is;
     }
 
-stays_Closed : (c : Config) (past : List Act) (q : Place) (why : Why) (p : Place) (o : OpeningState) → IsOpening c past p o → Aside c q p → IsOpening c (acts.Closed q why ∷ past) p o
+stays_Closed : (c : Config) (past : List Act) (q : Place) (why : Why) (p : Place) (o : Opening) → IsOpening c past p o → Aside c q p → IsOpening c (acts.Closed q why ∷ past) p o
 stays_Closed c past q why p o i a =
     record {
       no_door = i.no_door;
@@ -279,7 +280,7 @@ stays_Closed c past q why p o i a =
       asked_child_is = i.asked_child_is;
     }
 
-stays_Reaped : (c : Config) (past : List Act) (q : Place) (end : ChildEnd) (p : Place) (o : OpeningState) → IsOpening c past p o → Aside c q p → IsOpening c (acts.Reaped q end ∷ past) p o
+stays_Reaped : (c : Config) (past : List Act) (q : Place) (end : ChildEnd) (p : Place) (o : Opening) → IsOpening c past p o → Aside c q p → IsOpening c (acts.Reaped q end ∷ past) p o
 stays_Reaped c past q end p o i a =
     record {
       no_door = i.no_door;
@@ -302,7 +303,7 @@ stays_Reaped c past q end p o i a =
 
 -- ---- all of them
 
-each_by : (c : Config) (past later : List Act) → ((p : Place) (o : OpeningState) → IsOpening c past p o → IsOpening c later p o) → (ps : List Place) (os : List OpeningState) → Each c past ps os → Each c later ps os
+each_by : (c : Config) (past later : List Act) → ((p : Place) (o : Opening) → IsOpening c past p o → IsOpening c later p o) → (ps : List Place) (os : List Opening) → Each c past ps os → Each c later ps os
 each_by c past later f [] [] each = tt
 each_by c past later f [] (o ∷ os) each = absurd each
 each_by c past later f (p ∷ ps) [] each = absurd each
@@ -312,7 +313,7 @@ and_false_by : (b x : Bool) → (b && x) ≡ false → b ≡ true → x ≡ fals
 and_false_by true x e h = e
 and_false_by false x e h = absurd cc
 
-each_aside : (c : Config) (past later : List Act) (q : Place) → ((p : Place) (o : OpeningState) → IsOpening c past p o → Aside c q p → IsOpening c later p o) → (ps : List Place) (os : List OpeningState) → Each c past ps os → some_thing c (same_place q) ps ≡ false → Each c later ps os
+each_aside : (c : Config) (past later : List Act) (q : Place) → ((p : Place) (o : Opening) → IsOpening c past p o → Aside c q p → IsOpening c later p o) → (ps : List Place) (os : List Opening) → Each c past ps os → some_thing c (same_place q) ps ≡ false → Each c later ps os
 each_aside c past later q f [] [] each none = tt
 each_aside c past later q f [] (o ∷ os) each none = absurd each
 each_aside c past later q f (p ∷ ps) [] each none = absurd each
@@ -321,16 +322,16 @@ each_aside c past later q f (p ∷ ps) (o ∷ os) each none =
     let a = or_parts (same_place q p) (has_own_door c p && same_place q (door_of p)) k.0 in
     (f p o each.0 (record { no_place = a.0; no_door = and_false_by (has_own_door c p) (same_place q (door_of p)) a.1 }), each_aside c past later q f ps os each.1 k.1)
 
-pub stopped : (c : Config) (past : List Act) (s : ℕ) (until : Option ℕ) (at : ℕ) (ready : Listed) (os : List OpeningState) → AreOpenings c (acts.Turn until at ready false ∷ past) s os → AreOpenings c (acts.Turn until at ready true ∷ past) s os
+pub stopped : (c : Config) (past : List Act) (s : ℕ) (until : Option ℕ) (at : ℕ) (ready : Listed) (os : List Opening) → AreOpenings c (acts.Turn until at ready false ∷ past) s os → AreOpenings c (acts.Turn until at ready true ∷ past) s os
 stopped c past s until at ready os are =
     record { each = each_by c (acts.Turn until at ready false ∷ past) (acts.Turn until at ready true ∷ past) (stopped_one c past until at ready) (places c s) os are.each }
 
-aside : (c : Config) (past later : List Act) (s : ℕ) (q : Place) (os : List OpeningState) → AreOpenings c past s os → is_of c s q ≡ false → ((p : Place) (o : OpeningState) → IsOpening c past p o → Aside c q p → IsOpening c later p o) → AreOpenings c later s os
+aside : (c : Config) (past later : List Act) (s : ℕ) (q : Place) (os : List Opening) → AreOpenings c past s os → is_of c s q ≡ false → ((p : Place) (o : Opening) → IsOpening c past p o → Aside c q p → IsOpening c later p o) → AreOpenings c later s os
 aside c past later s q os are none f =
     record { each = each_aside c past later q f (places c s) os are.each (sym (things_are c (same_place q) s) ∙ none) }
 
 -- an act that is none of the session's opening leaves it
-pub stays : (c : Config) (past : List Act) (s : ℕ) (act : Act) (os : List OpeningState) → AreOpenings c past s os → touches c s act ≡ false → AreOpenings c (act ∷ past) s os
+pub stays : (c : Config) (past : List Act) (s : ℕ) (act : Act) (os : List Opening) → AreOpenings c past s os → touches c s act ≡ false → AreOpenings c (act ∷ past) s os
 stays c past s (acts.Turn until at ready stop) os are none = absurd cc
 stays c past s (acts.Opened q) os are none = aside c past (acts.Opened q ∷ past) s q os are none (stays_Opened c past q)
 stays c past s (acts.OpenLater q) os are none = aside c past (acts.OpenLater q ∷ past) s q os are none (stays_OpenLater c past q)

@@ -2,7 +2,9 @@
 use Rattle.std.proofs.Common.{◌≡◌, ℕ, ◌^◌, ◌-◌, Bool, true, false, ◌&&◌, not, ◌==◌, nat_lt, nat_le, List, [], ◌∷◌, Option, Some, None, if◌then◌else◌, refl, arith}
 use Rattle.std.proofs.lemmas.Bool.Decides.{nat_tests}
 use Rattle.relay_model.specs.Tries.{is_out_of_tries, next_due}
-use Rattle.relay_model.specs.Openings.{Call, Nothing, when_due}
+use Rattle.relay_model.specs.Openings.{when_due}
+use Rattle.relay_model.specs.declared.calls.Call.{Call}
+use Rattle.relay_model.specs.declared.calls.Call.TheVariants.{Nothing}
 use Rattle.retry_plan.specs.declared.NextTry.TheVariants.{GiveUp}
 use Rattle.retry_plan.specs.Plans.{next_try, at_or_never, attempts_of}
 use Rattle.place_openings.specs.Tried.{try_call, call_by, is_end_of_tries}

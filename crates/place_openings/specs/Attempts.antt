@@ -14,7 +14,7 @@ use Rattle.retry_plan.specs.declared.NextTry.{NextTry}
 use Rattle.retry_plan.specs.declared.NextTry.TheVariants.{Now, At, Never, GiveUp}
 use Rattle.place_openings.specs.Queries.{gave_up}
 use Rattle.place_openings.specs.Stands.{tried_at}
-use Rattle.place_openings.specs.declared.calls.GivenUp.{GivenUp}
+use Rattle.place_openings.specs.declared.given_up.GivenUp.{GivenUp}
 
 -- ---- what the openings of a session tell
 

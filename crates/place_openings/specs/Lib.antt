@@ -1,10 +1,7 @@
-pub mod Answers
 pub mod Attempts
 pub mod Moves
-pub mod OpeningState
 pub mod Queries
 pub mod Stands
-pub mod States
 pub mod Steps
 pub mod Summaries
 pub mod Touching

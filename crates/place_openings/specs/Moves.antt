@@ -9,15 +9,15 @@ use Rattle.relay_model.specs.declared.acts.Act.TheVariants as acts
 use Rattle.relay_model.specs.Places.{same_place}
 use Rattle.relay_model.specs.Configs.{listens_at}
 use Rattle.relay_model.specs.History.{now, holds_at}
-use Rattle.place_openings.specs.OpeningState.{OpeningState}
+use Rattle.place_openings.specs.declared.one_place.Opening.{Opening}
 use Rattle.place_openings.specs.Queries.{ready_by}
 use Rattle.place_openings.specs.Stands.{kept, IsOpening}
 use Rattle.place_openings.specs.Steps.{stage_weight, steps_of, is_place, is_own_door, asks_child, asked_by}
-use Rattle.place_openings.specs.declared.steps.Step.{Step}
-use Rattle.place_openings.specs.declared.steps.Step.TheVariants.{Opened, OpenedLater, OpenFailed, Listening, ListenFailed, Accepted, NoPeer, AcceptFailed, Closed, Reaped, Woken, Named}
+use Rattle.place_openings.specs.declared.steps.OpeningStep.{OpeningStep}
+use Rattle.place_openings.specs.declared.steps.OpeningStep.TheVariants.{Opened, OpenedLater, OpenFailed, Listening, ListenFailed, Accepted, NoPeer, AcceptFailed, Closed, Reaped, Woken, Named}
 
 -- a turn that names nothing yet
-pub record Wakes (past later : List Act) : Type 0 where
+pub record IsBareTurn (past later : List Act) : Type 0 where
   pub until : Option ℕ
   pub at : ℕ
   pub later_is : later ≡ acts.Turn until at (kept []) false ∷ past
@@ -32,12 +32,12 @@ pub record NamesMore (entry : ReadyAt) (past later : List Act) : Type 0 where
   pub later_is : later ≡ acts.Turn until at (kept (names ++ entry ∷ [])) false ∷ older
 
 -- the acts have one reaping of this place more
-pub record Reaps (place : Place) (past later : List Act) : Type 0 where
+pub record ReapsOnceMore (place : Place) (past later : List Act) : Type 0 where
   pub end : ChildEnd
   pub later_is : later ≡ acts.Reaped place end ∷ past
 
 -- the later list of acts that a step stands for; where there is no child to be reaped, nothing is added
-abbrev pub Follows : Config → Step → List Act → List Act → Type 0
+abbrev pub Follows : Config → OpeningStep → List Act → List Act → Type 0
 Follows c (Opened q) past later = later ≡ acts.Opened q ∷ past
 Follows c (OpenedLater q) past later = later ≡ acts.OpenLater q ∷ past
 Follows c (OpenFailed q at) past later = (listens_at c q ≡ false) × (at ≡ now past) × (later ≡ acts.OpenFailed q ∷ past)
@@ -47,27 +47,27 @@ Follows c (Accepted q peer) past later = (q.door ≡ false) × (later ≡ acts.A
 Follows c (NoPeer d) past later = later ≡ acts.NoPeer d ∷ past
 Follows c (AcceptFailed d) past later = later ≡ acts.AcceptFailed d ∷ past
 Follows c (Closed q why) past later = later ≡ acts.Closed q why ∷ past
-Follows c (Reaped q) past later = Reaps q past later ⊎ (later ≡ past)
-Follows c Woken past later = Wakes past later
+Follows c (Reaped q) past later = ReapsOnceMore q past later ⊎ (later ≡ past)
+Follows c Woken past later = IsBareTurn past later
 Follows c (Named entry) past later = NamesMore entry past later
 
 -- the step is at the place of this opening, at its own door, or at neither
-pub record AtPlace (q : Place) (o : OpeningState) : Type 0 where
+pub record AtPlace (q : Place) (o : Opening) : Type 0 where
   pub is_there : is_place q o ≡ true
   pub no_door : is_own_door q o ≡ false
 
 -- the thing is the opening's own door
-pub record AtDoor (d : Place) (o : OpeningState) : Type 0 where
+pub record AtDoor (d : Place) (o : Opening) : Type 0 where
   pub no_place : is_place d o ≡ false
   pub is_there : is_own_door d o ≡ true
 
 -- the thing is neither the opening's place nor its own door
-pub record Elsewhere (q : Place) (o : OpeningState) : Type 0 where
+pub record Elsewhere (q : Place) (o : Opening) : Type 0 where
   pub no_place : is_place q o ≡ false
   pub no_door : is_own_door q o ≡ false
 
 -- the step is at no thing of this opening
-abbrev pub Apart : Step → OpeningState → Type 0
+abbrev pub Apart : OpeningStep → Opening → Type 0
 Apart (Opened q) o = Elsewhere q o
 Apart (OpenedLater q) o = Elsewhere q o
 Apart (OpenFailed q at) o = Elsewhere q o
@@ -82,15 +82,15 @@ Apart Woken o = ⊥
 Apart (Named entry) o = ⊥
 
 -- an opening or a settling, or a listening, is left
-abbrev pub CanOpen : OpeningState → Type 0
+abbrev pub CanOpen : Opening → Type 0
 CanOpen o = stage_weight o.stage o.woken o.tried ≡ 2
 
 -- the door calls for a listening
-abbrev pub CanListen : OpeningState → Type 0
+abbrev pub CanListen : Opening → Type 0
 CanListen o = stage_weight o.door false o.tried ≡ 2
 
 -- the step lowers the number of calls that are left at this opening
-abbrev pub Lower : Step → OpeningState → Type 0
+abbrev pub Lower : OpeningStep → Opening → Type 0
 Lower (Opened q) o = AtPlace q o × CanOpen o
 Lower (OpenedLater q) o = AtPlace q o × CanOpen o
 Lower (OpenFailed q at) o = AtPlace q o × (o.has_door ≡ false) × CanOpen o
@@ -105,22 +105,22 @@ Lower Woken o = ⊥
 Lower (Named entry) o = ⊥
 
 -- each opening is apart from the step or lowered by it
-abbrev pub Weighed : Step → List OpeningState → Type 0
+abbrev pub Weighed : OpeningStep → List Opening → Type 0
 Weighed step [] = Unit {0}
 Weighed step (o ∷ os) = (Apart step o ⊎ Lower step o) × Weighed step os
 
 -- and one is lowered
-abbrev pub SomeLower : Step → List OpeningState → Type 0
+abbrev pub SomeLower : OpeningStep → List Opening → Type 0
 SomeLower step [] = ⊥
 SomeLower step (o ∷ os) = Lower step o ⊎ SomeLower step os
 
 -- the step asks for the child of this place
-abbrev pub asks_at : Step → Place → Bool
+abbrev pub asks_at : OpeningStep → Place → Bool
 asks_at (Reaped q) p = same_place q p
 asks_at step p = false
 
 -- the step moves no stage, and no try failed by it
-abbrev pub is_still : Step → Bool
+abbrev pub is_still : OpeningStep → Bool
 is_still (NoPeer d) = true
 is_still (AcceptFailed d) = true
 is_still (Reaped q) = true
@@ -129,14 +129,14 @@ is_still (Named entry) = true
 is_still step = false
 
 -- an opening is as ready as before, and was tried as often
-pub record Alike (old new : OpeningState) : Type 0 where
+pub record Alike (old new : Opening) : Type 0 where
   pub ready_is : ready_by new ≡ ready_by old
   pub listens_is : new.listens ≡ old.listens
   pub has_door_is : new.has_door ≡ old.has_door
   pub plan_is : new.plan ≡ old.plan
 
 -- what a step makes of one opening
-pub record Took (step : Step) (old new : OpeningState) : Type 0 where
+pub record TakesStep (step : OpeningStep) (old new : Opening) : Type 0 where
   pub goes : (c : Config) (past later : List Act) (p : Place) → Follows c step past later → IsOpening c past p old → IsOpening c later p new
   pub apart : Apart step old → new ≡ old
   pub fewer : Lower step old → steps_of new < steps_of old
@@ -144,8 +144,8 @@ pub record Took (step : Step) (old new : OpeningState) : Type 0 where
   pub still : is_still step ≡ true → Alike old new
 
 -- and of each of these
-abbrev pub TookEach : Step → List OpeningState → List OpeningState → Type 0
+abbrev pub TookEach : OpeningStep → List Opening → List Opening → Type 0
 TookEach step [] [] = Unit {0}
 TookEach step [] (n ∷ ns) = ⊥
 TookEach step (o ∷ os) [] = ⊥
-TookEach step (o ∷ os) (n ∷ ns) = Took step o n × TookEach step os ns
+TookEach step (o ∷ os) (n ∷ ns) = TakesStep step o n × TookEach step os ns

@@ -7,30 +7,32 @@ use Rattle.relay_model.specs.declared.commands.Config.{Config}
 use Rattle.relay_model.specs.declared.acts.Act.{Act}
 use Rattle.relay_model.specs.Places.{same_bool, door_of}
 use Rattle.relay_model.specs.Configs.{options_of, has_own_door}
-use Rattle.relay_model.specs.History.{Stage, Usable, Met, holds_at, is_gone_with, stage, held}
+use Rattle.relay_model.specs.History.{holds_at, is_gone_with, stage, held}
+use Rattle.relay_model.specs.declared.stages.Stage.{Stage}
+use Rattle.relay_model.specs.declared.stages.Stage.TheVariants.{Usable, Met}
 use Rattle.relay_model.specs.declared.commands.Admission.{Admission}
 use Rattle.relay_model.specs.Permits.{is_permitted}
 use Rattle.relay_model.specs.Choices.{only_if, or_else}
 use Rattle.relay_model.specs.Openings.{out_of_tries}
-use Rattle.place_openings.specs.OpeningState.{OpeningState}
+use Rattle.place_openings.specs.declared.one_place.Opening.{Opening}
 use Rattle.place_openings.specs.Stands.{tried_at}
 
 -- an opening with a peer is ready where the peer is permitted and its own door has served
-abbrev pub met_ready : OpeningState → Peer → Bool
+abbrev pub met_ready : Opening → Peer → Bool
 met_ready o peer = o.listens && is_permitted o.filter peer && (not o.has_door || is_gone_with whys.Served o.door)
 
 -- an opening at this stage is ready
-abbrev pub ready_at : OpeningState → Stage → Bool
+abbrev pub ready_at : Opening → Stage → Bool
 ready_at o Usable = not o.listens
 ready_at o (Met peer) = met_ready o peer
 ready_at o other = false
 
 -- an opening is ready
-abbrev pub ready_by : OpeningState → Bool
+abbrev pub ready_by : Opening → Bool
 ready_by o = ready_at o o.stage
 
 -- the first of these that isn't ready
-abbrev pub first_unready : List OpeningState → Option OpeningState
+abbrev pub first_unready : List Opening → Option Opening
 first_unready [] = None
 first_unready (o ∷ os) = if ready_by o then first_unready os else Some o
 
@@ -40,7 +42,7 @@ first_of answer [] = None
 first_of answer (x ∷ xs) = or_else (answer x) (first_of answer xs)
 
 -- the place, or else its own door, where it is held
-abbrev pub held_by : OpeningState → Option Place
+abbrev pub held_by : Opening → Option Place
 held_by o = or_else (only_if (holds_at o.stage) o.place) (only_if (o.has_door && holds_at o.door) (door_of o.place))
 
 -- the place, or its own door, that is held
@@ -48,7 +50,7 @@ abbrev pub held_at : Config → List Act → Place → Option Place
 held_at c past p = or_else (only_if (held past p) p) (only_if (has_own_door c p && held past (door_of p)) (door_of p))
 
 -- a child that was closed and wasn't asked for yet
-abbrev pub child_by : OpeningState → Option Place
+abbrev pub child_by : Opening → Option Place
 child_by o = only_if (o.is_child && o.closed && not o.asked_child) o.place
 
 -- a permitted peer

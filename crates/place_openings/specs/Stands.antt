@@ -10,14 +10,14 @@ use Rattle.relay_model.specs.Configs.{places, options_of, medium_of, is_program,
 use Rattle.relay_model.specs.History.{now, stage, woken, failures, was_closed, was_reaped}
 use Rattle.relay_model.specs.Arming.{armed_to_accept, asked_to_accept}
 use Rattle.retry_plan.specs.Plans.{PlanIs, last_of}
-use Rattle.place_openings.specs.OpeningState.{OpeningState}
+use Rattle.place_openings.specs.declared.one_place.Opening.{Opening}
 
 -- where tries are made: at the place's own door, or at the place itself
 abbrev pub tried_at : Bool → Place → Place
 tried_at has_door p = if has_door then door_of p else p
 
 -- an opening says of its place what the acts say
-pub record IsOpening (c : Config) (past : List Act) (p : Place) (o : OpeningState) : Type 0 where
+pub record IsOpening (c : Config) (past : List Act) (p : Place) (o : Opening) : Type 0 where
   -- what the command says of the place
   pub no_door : p.door ≡ false
   pub place_is : o.place ≡ p
@@ -41,25 +41,25 @@ pub record IsOpening (c : Config) (past : List Act) (p : Place) (o : OpeningStat
   pub asked_child_is : was_reaped past p ≡ true → o.asked_child ≡ true
 
 -- the openings of these places, in their order
-abbrev pub Each : Config → List Act → List Place → List OpeningState → Type 0
+abbrev pub Each : Config → List Act → List Place → List Opening → Type 0
 Each c past [] [] = Unit {0}
 Each c past [] (o ∷ os) = ⊥
 Each c past (p ∷ ps) [] = ⊥
 Each c past (p ∷ ps) (o ∷ os) = IsOpening c past p o × Each c past ps os
 
 -- the openings of the places of a session
-pub record AreOpenings (c : Config) (past : List Act) (s : ℕ) (os : List OpeningState) : Type 0 where
+pub record AreOpenings (c : Config) (past : List Act) (s : ℕ) (os : List Opening) : Type 0 where
   pub each : Each c past (places c s) os
 
 -- an opening says of the tries at its place what the acts say
-pub record IsTried (c : Config) (past : List Act) (p : Place) (o : OpeningState) : Type 0 where
+pub record IsTried (c : Config) (past : List Act) (p : Place) (o : Opening) : Type 0 where
   pub listens_is : o.listens ≡ listens_at c p
   pub has_door_is : o.has_door ≡ has_own_door c p
   pub tries_are : PlanIs (options_of c p).tries.retry (options_of c p).tries.forever (options_of c p).tries.interval (failures past (tried_at o.has_door p)) o.plan
   pub untried : o.listens ≡ true → failures past p ≡ []
 
 -- the openings of these places say so, in their order
-abbrev pub EachTried : Config → List Act → List Place → List OpeningState → Type 0
+abbrev pub EachTried : Config → List Act → List Place → List Opening → Type 0
 EachTried c past [] [] = Unit {0}
 EachTried c past [] (o ∷ os) = ⊥
 EachTried c past (p ∷ ps) [] = ⊥

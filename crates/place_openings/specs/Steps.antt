@@ -3,8 +3,9 @@ use Rattle.std.specs.Prelude.{ℕ, ◌+◌, Bool, true, false, not, ◌&&◌, Li
 use Rattle.std.specs.List.{list_any}
 use Rattle.relay_model.specs.declared.places.Place.{Place}
 use Rattle.relay_model.specs.Places.{same_place, door_of}
-use Rattle.relay_model.specs.History.{Stage, Untried, Usable, Unsettled, Failed, Met, Waiting, Gone}
-use Rattle.place_openings.specs.OpeningState.{OpeningState}
+use Rattle.relay_model.specs.declared.stages.Stage.{Stage}
+use Rattle.relay_model.specs.declared.stages.Stage.TheVariants.{Untried, Usable, Unsettled, Failed, Met, Waiting, Gone}
+use Rattle.place_openings.specs.declared.one_place.Opening.{Opening}
 
 -- the calls left at a place or door: an opening or a settling, and a closing; none further after a try that failed
 -- since the last turn
@@ -23,30 +24,30 @@ left_unless true n = 0
 left_unless false n = n
 
 -- a peer that is accepted may have to be refused too, so an accepting counts twice
-abbrev pub steps_of : OpeningState → ℕ
+abbrev pub steps_of : Opening → ℕ
 steps_of o = stage_weight o.stage o.woken o.tried + stage_weight o.door false o.tried + left_unless o.asked 2 + left_unless o.asked_child 1
 
 -- how many calls openings take at most before the next turn
-abbrev pub steps_in : List OpeningState → ℕ
+abbrev pub steps_in : List Opening → ℕ
 steps_in [] = 0
 steps_in (o ∷ os) = steps_of o + steps_in os
 
 -- whether a place or door is the one of this opening
-abbrev pub is_place : Place → OpeningState → Bool
+abbrev pub is_place : Place → Opening → Bool
 is_place q o = same_place q o.place
 
 -- the thing is the opening's own door
-abbrev pub is_own_door : Place → OpeningState → Bool
+abbrev pub is_own_door : Place → Opening → Bool
 is_own_door q o = o.has_door && same_place q (door_of o.place)
 
 -- whether the child of this place was asked for
-abbrev pub asked_by : Place → OpeningState → Bool
+abbrev pub asked_by : Place → Opening → Bool
 asked_by p o = o.asked_child && same_place p o.place
 
 -- it was asked what became of the child of this place
-abbrev pub has_asked : List OpeningState → Place → Bool
+abbrev pub has_asked : List Opening → Place → Bool
 has_asked os p = list_any (asked_by p) os
 
 -- whether it is asked for the first time what became of the child of this opening
-abbrev pub asks_child : Place → OpeningState → Bool
+abbrev pub asks_child : Place → Opening → Bool
 asks_child q o = is_place q o && not o.asked_child

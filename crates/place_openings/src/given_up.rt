@@ -1,19 +1,24 @@
 // Where no try is left, and how many failed there.
 ghost use Rattle.std.specs.Prelude.{◌≡◌, ℕ, Bool, List, map};
-ghost use Rattle.relay_model.specs.declared.places.Place.{Place as At};
+ghost use Rattle.relay_model.specs.declared.places.Place.{Place};
 ghost use Rattle.relay_model.specs.declared.commands.Config.{Config as Command};
 ghost use Rattle.relay_model.specs.declared.acts.Act.{Act};
 ghost use Rattle.relay_model.specs.Configs.{places, own_doors};
 ghost use Rattle.retry_plan.specs.Plans.{PlanIs};
 ghost use Rattle.place_openings.specs.Attempts.{attempts_in, attempts_told, given_up_by, first_unlistened, first_unopened, FirstCanCount, FirstGivesUp, GivesUp, Spends};
 ghost use Rattle.place_openings.specs.Stands.{AreOpenings, Each, IsOpening};
-ghost use Rattle.place_openings.specs.States.{state_of};
 
-use crate::calls::GivenUp;
 use crate::one_place::Opening;
 use crate::session_openings::Openings;
 use relay_model::Side;
 use retry_plan::NextTry;
+
+/// The tries at a place were given up: the side of its address, and how many failed. The count stops at `u64::MAX`.
+#[derive(Clone, Copy, Debug, PartialEq, Eq)]
+pub struct GivenUp {
+    pub side: Side,
+    pub attempts: u64,
+}
 
 impl Openings {
     /// The first place, in opening order, at which no try is left; where the place has an own door its door's tries
@@ -38,8 +43,8 @@ impl Openings {
 
 impl Opening {
     /// What is told of the place, where it has an own door, or has none, as it is asked for, and no try is left.
-    pub fn given_up(&self, has_door: bool) -> Option<GivenUp>
-        ensures { (c : Command) (past : List Act) (p : At) → IsOpening c past p (state_of self.now) → GivesUp c past has_door p result }
+    pub fn find_given_up(&self, has_door: bool) -> Option<GivenUp>
+        ensures { (c : Command) (past : List Act) (p : Place) → IsOpening c past p self.now → GivesUp c past has_door p result }
     {
         let is_meant = self.has_door == has_door;
         given_up_by(self.place.side, is_meant, self.spent_attempts())
@@ -55,11 +60,11 @@ impl Opening {
 }
 
 fn first_given_up(openings: &[Opening], has_door: bool) -> Option<GivenUp>
-    ensures { (c : Command) (past : List Act) (ps : List At) → Each c past ps (map state_of openings.now)
+    ensures { (c : Command) (past : List Act) (ps : List Place) → Each c past ps openings.now
         → FirstGivesUp c past has_door ps result }
 {
     for opening in openings {
-        if let Some(given_up) = opening.given_up(has_door) {
+        if let Some(given_up) = opening.find_given_up(has_door) {
             return Some(given_up);
         }
     }

@@ -1,6 +1,6 @@
 // The opening of one place: how far it and its own door have come, and what is called for there.
 ghost use Rattle.std.specs.Prelude.{◌≡◌, ◌<◌, ◌||◌, ◌&&◌, ℕ, Bool, List, Option, ◌∷◌, ◌++◌, [], true, false};
-ghost use Rattle.relay_model.specs.declared.places.Place.{Place as At};
+ghost use Rattle.relay_model.specs.declared.places.Place.{Place};
 ghost use Rattle.relay_model.specs.declared.readiness.ReadyAt.{ReadyAt as Entry};
 ghost use Rattle.relay_model.specs.declared.commands.Config.{Config as Command};
 ghost use Rattle.relay_model.specs.declared.acts.Act.{Act};
@@ -13,19 +13,15 @@ ghost use Rattle.relay_model.specs.History.{now as moment, stage, holds_at};
 ghost use Rattle.relay_model.specs.Tries.{is_out_of_tries};
 ghost use Rattle.relay_model.specs.Openings.{opening_call, listening_call, peer_call, place_call};
 ghost use Rattle.retry_plan.specs.Plans.{PlanIs};
-ghost use Rattle.place_openings.specs.Answers.{as_stage, as_call};
 ghost use Rattle.place_openings.specs.Moves.{Alike};
 ghost use Rattle.place_openings.specs.Queries.{ready_by, held_by, child_by, peer_by, gave_up};
 ghost use Rattle.place_openings.specs.Stands.{IsOpening, IsTried, kept, tried_at};
-ghost use Rattle.place_openings.specs.States.{state_of};
 ghost use Rattle.place_openings.specs.Steps.{stage_weight, steps_of, is_place, is_own_door, asks_child, asked_by};
 ghost use Rattle.place_openings.specs.Tried.{try_call, call_by, is_end_of_tries};
 
-use crate::calls::Call;
-use crate::stages::Stage;
 use command_places::{has_own_door, is_program, listens_at, medium_of, options_of};
 use peer_filter::Filter;
-use relay_model::{Config, Half, Peer, Place, ReadyAt, Why};
+use relay_model::{Call, Config, Half, Peer, Place, ReadyAt, Stage, Why};
 use retry_plan::{NextTry, Plan};
 
 /// How far a place and its own door have come, and what was tried and asked there since the last turn. The tries are
@@ -51,7 +47,7 @@ pub struct Opening {
 impl Opening {
     /// Nothing happened at the place yet.
     pub fn new(config: &Config, place: Place) -> Opening
-        ensures stands { place.door ≡ false → IsOpening config.now [] place (state_of result) }
+        ensures stands { place.door ≡ false → IsOpening config.now [] place result }
         ensures unasked { result.asked_child ≡ false }
     {
         let options = options_of(config, place);
@@ -97,14 +93,14 @@ impl Opening {
     fn try_again(&self, wanted: Call, at: u64) -> Call
         ensures { (retry : ℕ) (forever : Bool) (interval : ℕ) (failures : List ℕ)
             → PlanIs retry forever interval failures self.now.plan
-            → as_call result ≡ try_call retry forever interval failures at (as_call wanted) }
+            → result ≡ try_call retry forever interval failures at wanted }
     {
         once_due(self.plan.next(), wanted, at)
     }
 
     /// Whether the place has an own door, or has none, as it is asked for, and no try is left there.
     pub fn gave_up(&self, has_door: bool) -> bool
-        ensures { (c : Command) (past : List Act) (p : At) → IsTried c past p (state_of self.now) → result ≡ gave_up c past has_door p }
+        ensures { (c : Command) (past : List Act) (p : Place) → IsTried c past p self.now → result ≡ gave_up c past has_door p }
     {
         (self.has_door == has_door) & self.gives_up()
     }
@@ -120,7 +116,7 @@ impl Opening {
     /// Whether the place is ready: one that doesn't listen where it was opened, another one where it is held by a
     /// permitted peer and its own door has served.
     pub fn is_ready(&self) -> bool
-        ensures { result ≡ ready_by (state_of self.now) }
+        ensures { result ≡ ready_by self.now }
     {
         match self.stage {
             Stage::Usable => !self.listens,
@@ -135,8 +131,8 @@ impl Opening {
 
     /// An opening, a settling once a turn named the place, or a further try.
     fn opening_call(&self, at: u64) -> Call
-        ensures { (c : Command) (past : List Act) (p : At) → IsOpening c past p (state_of self.now)
-            → self.now.has_door ≡ false → at ≡ moment past → as_call result ≡ opening_call c past p (stage past p) }
+        ensures { (c : Command) (past : List Act) (p : Place) → IsOpening c past p self.now
+            → self.now.has_door ≡ false → at ≡ moment past → result ≡ opening_call c past p (stage past p) }
     {
         match self.stage {
             Stage::Untried => Call::Open(self.place),
@@ -148,9 +144,9 @@ impl Opening {
 
     /// A listening, a further try of one, or an accepting where the door is armed.
     fn listening_call(&self, at: u64) -> Call
-        ensures { (c : Command) (past : List Act) (p : At) → IsOpening c past p (state_of self.now)
+        ensures { (c : Command) (past : List Act) (p : Place) → IsOpening c past p self.now
             → self.now.has_door ≡ true → at ≡ moment past
-            → as_call result ≡ listening_call c past (door_of p) p (stage past (door_of p)) }
+            → result ≡ listening_call c past (door_of p) p (stage past (door_of p)) }
     {
         let door = self.place.own_door();
         match self.door {
@@ -166,8 +162,8 @@ impl Opening {
 
     /// A peer that isn't permitted is refused; after a permitted one the own door has served.
     fn peer_call(&self, at: u64) -> Call
-        ensures { (c : Command) (past : List Act) (p : At) → IsOpening c past p (state_of self.now)
-            → self.now.has_door ≡ true → at ≡ moment past → as_call result ≡ peer_call c past p (stage past p) }
+        ensures { (c : Command) (past : List Act) (p : Place) → IsOpening c past p self.now
+            → self.now.has_door ≡ true → at ≡ moment past → result ≡ peer_call c past p (stage past p) }
     {
         match self.stage {
             Stage::Met(peer) if !self.filter.permits(peer) => Call::Refuse(self.place),
@@ -180,8 +176,8 @@ impl Opening {
     /// What the place calls for at this moment. With `fork` a left place calls for nothing, since its peer comes by
     /// the program door.
     pub fn call(&self, at: u64) -> Call
-        ensures { (c : Command) (past : List Act) (p : At) → IsOpening c past p (state_of self.now) → at ≡ moment past
-            → as_call result ≡ place_call c past p }
+        ensures { (c : Command) (past : List Act) (p : Place) → IsOpening c past p self.now → at ≡ moment past
+            → result ≡ place_call c past p }
     {
         if self.has_door {
             self.peer_call(at)
@@ -193,8 +189,8 @@ impl Opening {
     }
 
     /// The place, or else its own door, where it is held.
-    pub fn held(&self) -> Option<Place>
-        ensures { result ≡ held_by (state_of self.now) }
+    pub fn held_thing(&self) -> Option<Place>
+        ensures { result ≡ held_by self.now }
     {
         if self.stage.is_held() {
             return Some(self.place);
@@ -207,7 +203,7 @@ impl Opening {
 
     /// The place, where it is a child that was closed and wasn't asked for yet.
     pub fn child(&self) -> Option<Place>
-        ensures { result ≡ child_by (state_of self.now) }
+        ensures { result ≡ child_by self.now }
     {
         if self.is_child && self.closed && !self.asked_child {
             Some(self.place)
@@ -218,7 +214,7 @@ impl Opening {
 
     /// The permitted peer that holds the place.
     pub fn peer(&self) -> Option<Peer>
-        ensures { result ≡ peer_by self.now.filter (as_stage self.now.stage) }
+        ensures { result ≡ peer_by self.now.filter self.now.stage }
     {
         match self.stage {
             Stage::Met(peer) if self.filter.permits(peer) => Some(peer),
@@ -229,30 +225,30 @@ impl Opening {
     // ---- steps
 
     /// The place was opened.
-    pub fn opened(&mut self, place: Place)
-        ensures goes { (c : Command) (past : List Act) (p : At) → IsOpening c past p (state_of self.old)
-            → IsOpening c (acts.Opened place ∷ past) p (state_of self.new) }
-        ensures apart { is_place place (state_of self.old) ≡ false → is_own_door place (state_of self.old) ≡ false
-            → state_of self.new ≡ state_of self.old }
-        ensures fewer { is_place place (state_of self.old) ≡ true → is_own_door place (state_of self.old) ≡ false
-            → stage_weight (as_stage self.old.stage) self.old.woken self.old.tried ≡ 2
-            → steps_of (state_of self.new) < steps_of (state_of self.old) }
-        ensures asked { (p : At) → asked_by p (state_of self.new) ≡ asked_by p (state_of self.old) }
+    pub fn hear_opening(&mut self, place: Place)
+        ensures goes { (c : Command) (past : List Act) (p : Place) → IsOpening c past p self.old
+            → IsOpening c (acts.Opened place ∷ past) p self.new }
+        ensures apart { is_place place self.old ≡ false → is_own_door place self.old ≡ false
+            → self.new ≡ self.old }
+        ensures fewer { is_place place self.old ≡ true → is_own_door place self.old ≡ false
+            → stage_weight self.old.stage self.old.woken self.old.tried ≡ 2
+            → steps_of self.new < steps_of self.old }
+        ensures asked { (p : Place) → asked_by p self.new ≡ asked_by p self.old }
     {
         self.stage = self.stage.after(place.is(self.place), Stage::Usable);
         self.door = self.door.after(self.is_own_door(place), Stage::Usable);
     }
 
     /// The opening of the place is under way.
-    pub fn opened_later(&mut self, place: Place)
-        ensures goes { (c : Command) (past : List Act) (p : At) → IsOpening c past p (state_of self.old)
-            → IsOpening c (acts.OpenLater place ∷ past) p (state_of self.new) }
-        ensures apart { is_place place (state_of self.old) ≡ false → is_own_door place (state_of self.old) ≡ false
-            → state_of self.new ≡ state_of self.old }
-        ensures fewer { is_place place (state_of self.old) ≡ true → is_own_door place (state_of self.old) ≡ false
-            → stage_weight (as_stage self.old.stage) self.old.woken self.old.tried ≡ 2
-            → steps_of (state_of self.new) < steps_of (state_of self.old) }
-        ensures asked { (p : At) → asked_by p (state_of self.new) ≡ asked_by p (state_of self.old) }
+    pub fn hear_later(&mut self, place: Place)
+        ensures goes { (c : Command) (past : List Act) (p : Place) → IsOpening c past p self.old
+            → IsOpening c (acts.OpenLater place ∷ past) p self.new }
+        ensures apart { is_place place self.old ≡ false → is_own_door place self.old ≡ false
+            → self.new ≡ self.old }
+        ensures fewer { is_place place self.old ≡ true → is_own_door place self.old ≡ false
+            → stage_weight self.old.stage self.old.woken self.old.tried ≡ 2
+            → steps_of self.new < steps_of self.old }
+        ensures asked { (p : Place) → asked_by p self.new ≡ asked_by p self.old }
     {
         self.stage = self.stage.after(place.is(self.place), Stage::Unsettled);
         self.door = self.door.after(self.is_own_door(place), Stage::Unsettled);
@@ -260,16 +256,16 @@ impl Opening {
     }
 
     /// The opening of a place that doesn't listen failed at this moment.
-    pub fn open_failed(&mut self, place: Place, at: u64)
-        ensures goes { (c : Command) (past : List Act) (p : At) → IsOpening c past p (state_of self.old)
+    pub fn hear_open_failure(&mut self, place: Place, at: u64)
+        ensures goes { (c : Command) (past : List Act) (p : Place) → IsOpening c past p self.old
             → listens_at c place ≡ false → at ≡ moment past
-            → IsOpening c (acts.OpenFailed place ∷ past) p (state_of self.new) }
-        ensures apart { is_place place (state_of self.old) ≡ false → is_own_door place (state_of self.old) ≡ false
-            → state_of self.new ≡ state_of self.old }
-        ensures fewer { is_place place (state_of self.old) ≡ true → is_own_door place (state_of self.old) ≡ false
-            → self.old.has_door ≡ false → stage_weight (as_stage self.old.stage) self.old.woken self.old.tried ≡ 2
-            → steps_of (state_of self.new) < steps_of (state_of self.old) }
-        ensures asked { (p : At) → asked_by p (state_of self.new) ≡ asked_by p (state_of self.old) }
+            → IsOpening c (acts.OpenFailed place ∷ past) p self.new }
+        ensures apart { is_place place self.old ≡ false → is_own_door place self.old ≡ false
+            → self.new ≡ self.old }
+        ensures fewer { is_place place self.old ≡ true → is_own_door place self.old ≡ false
+            → self.old.has_door ≡ false → stage_weight self.old.stage self.old.woken self.old.tried ≡ 2
+            → steps_of self.new < steps_of self.old }
+        ensures asked { (p : Place) → asked_by p self.new ≡ asked_by p self.old }
     {
         self.stage = self.stage.after(place.is(self.place), Stage::Failed);
         self.door = self.door.after(self.is_own_door(place), Stage::Failed);
@@ -280,15 +276,15 @@ impl Opening {
     }
 
     /// A door listens.
-    pub fn listening(&mut self, door: Place)
-        ensures goes { (c : Command) (past : List Act) (p : At) → IsOpening c past p (state_of self.old)
-            → IsOpening c (acts.Listening door ∷ past) p (state_of self.new) }
-        ensures apart { is_place door (state_of self.old) ≡ false → is_own_door door (state_of self.old) ≡ false
-            → state_of self.new ≡ state_of self.old }
-        ensures fewer { is_place door (state_of self.old) ≡ false → is_own_door door (state_of self.old) ≡ true
-            → stage_weight (as_stage self.old.door) false self.old.tried ≡ 2
-            → steps_of (state_of self.new) < steps_of (state_of self.old) }
-        ensures asked { (p : At) → asked_by p (state_of self.new) ≡ asked_by p (state_of self.old) }
+    pub fn hear_listening(&mut self, door: Place)
+        ensures goes { (c : Command) (past : List Act) (p : Place) → IsOpening c past p self.old
+            → IsOpening c (acts.Listening door ∷ past) p self.new }
+        ensures apart { is_place door self.old ≡ false → is_own_door door self.old ≡ false
+            → self.new ≡ self.old }
+        ensures fewer { is_place door self.old ≡ false → is_own_door door self.old ≡ true
+            → stage_weight self.old.door false self.old.tried ≡ 2
+            → steps_of self.new < steps_of self.old }
+        ensures asked { (p : Place) → asked_by p self.new ≡ asked_by p self.old }
     {
         self.stage = self.stage.after(door.is(self.place), Stage::Waiting);
         self.door = self.door.after(self.is_own_door(door), Stage::Waiting);
@@ -296,15 +292,15 @@ impl Opening {
     }
 
     /// The listening of a door failed at this moment.
-    pub fn listen_failed(&mut self, door: Place, at: u64)
-        ensures goes { (c : Command) (past : List Act) (p : At) → IsOpening c past p (state_of self.old) → door.door ≡ true
-            → at ≡ moment past → IsOpening c (acts.ListenFailed door ∷ past) p (state_of self.new) }
-        ensures apart { is_place door (state_of self.old) ≡ false → is_own_door door (state_of self.old) ≡ false
-            → state_of self.new ≡ state_of self.old }
-        ensures fewer { is_place door (state_of self.old) ≡ false → is_own_door door (state_of self.old) ≡ true
-            → stage_weight (as_stage self.old.door) false self.old.tried ≡ 2
-            → steps_of (state_of self.new) < steps_of (state_of self.old) }
-        ensures asked { (p : At) → asked_by p (state_of self.new) ≡ asked_by p (state_of self.old) }
+    pub fn hear_listen_failure(&mut self, door: Place, at: u64)
+        ensures goes { (c : Command) (past : List Act) (p : Place) → IsOpening c past p self.old → door.door ≡ true
+            → at ≡ moment past → IsOpening c (acts.ListenFailed door ∷ past) p self.new }
+        ensures apart { is_place door self.old ≡ false → is_own_door door self.old ≡ false
+            → self.new ≡ self.old }
+        ensures fewer { is_place door self.old ≡ false → is_own_door door self.old ≡ true
+            → stage_weight self.old.door false self.old.tried ≡ 2
+            → steps_of self.new < steps_of self.old }
+        ensures asked { (p : Place) → asked_by p self.new ≡ asked_by p self.old }
     {
         self.stage = self.stage.after(door.is(self.place), Stage::Failed);
         self.door = self.door.after(self.is_own_door(door), Stage::Failed);
@@ -316,14 +312,14 @@ impl Opening {
 
     /// A peer was accepted for the place.
     #[tactic(auto, using(crate::proofs::PlaceLemmas::accepts_for))]
-    pub fn accepted(&mut self, place: Place, peer: Peer)
-        ensures goes { (c : Command) (past : List Act) (p : At) → IsOpening c past p (state_of self.old) → place.door ≡ false
-            → IsOpening c (acts.Accepted place peer ∷ past) p (state_of self.new) }
-        ensures apart { is_place place (state_of self.old) ≡ false → is_own_door place (state_of self.old) ≡ false
-            → state_of self.new ≡ state_of self.old }
-        ensures fewer { is_place place (state_of self.old) ≡ true → is_own_door place (state_of self.old) ≡ false
-            → self.old.asked ≡ false → steps_of (state_of self.new) < steps_of (state_of self.old) }
-        ensures asked { (p : At) → asked_by p (state_of self.new) ≡ asked_by p (state_of self.old) }
+    pub fn hear_peer(&mut self, place: Place, peer: Peer)
+        ensures goes { (c : Command) (past : List Act) (p : Place) → IsOpening c past p self.old → place.door ≡ false
+            → IsOpening c (acts.Accepted place peer ∷ past) p self.new }
+        ensures apart { is_place place self.old ≡ false → is_own_door place self.old ≡ false
+            → self.new ≡ self.old }
+        ensures fewer { is_place place self.old ≡ true → is_own_door place self.old ≡ false
+            → self.old.asked ≡ false → steps_of self.new < steps_of self.old }
+        ensures asked { (p : Place) → asked_by p self.new ≡ asked_by p self.old }
     {
         self.stage = self.stage.after(place.is(self.place), Stage::Met(peer));
         self.door = self.door.after(self.is_own_door(place), Stage::Met(peer));
@@ -331,15 +327,15 @@ impl Opening {
     }
 
     /// No peer stood at the door.
-    pub fn no_peer(&mut self, door: Place)
-        ensures goes { (c : Command) (past : List Act) (p : At) → IsOpening c past p (state_of self.old)
-            → IsOpening c (acts.NoPeer door ∷ past) p (state_of self.new) }
-        ensures apart { is_place door (state_of self.old) ≡ false → is_own_door door (state_of self.old) ≡ false
-            → state_of self.new ≡ state_of self.old }
-        ensures fewer { is_place door (state_of self.old) ≡ false → is_own_door door (state_of self.old) ≡ true
-            → self.old.asked ≡ false → steps_of (state_of self.new) < steps_of (state_of self.old) }
-        ensures asked { (p : At) → asked_by p (state_of self.new) ≡ asked_by p (state_of self.old) }
-        ensures still { Alike (state_of self.old) (state_of self.new) }
+    pub fn hear_no_peer(&mut self, door: Place)
+        ensures goes { (c : Command) (past : List Act) (p : Place) → IsOpening c past p self.old
+            → IsOpening c (acts.NoPeer door ∷ past) p self.new }
+        ensures apart { is_place door self.old ≡ false → is_own_door door self.old ≡ false
+            → self.new ≡ self.old }
+        ensures fewer { is_place door self.old ≡ false → is_own_door door self.old ≡ true
+            → self.old.asked ≡ false → steps_of self.new < steps_of self.old }
+        ensures asked { (p : Place) → asked_by p self.new ≡ asked_by p self.old }
+        ensures still { Alike self.old self.new }
     {
         let is_here = self.is_own_door(door);
         self.armed = self.armed && !is_here;
@@ -347,30 +343,30 @@ impl Opening {
     }
 
     /// An accepting failed at the door.
-    pub fn accept_failed(&mut self, door: Place)
-        ensures goes { (c : Command) (past : List Act) (p : At) → IsOpening c past p (state_of self.old)
-            → IsOpening c (acts.AcceptFailed door ∷ past) p (state_of self.new) }
-        ensures apart { is_place door (state_of self.old) ≡ false → is_own_door door (state_of self.old) ≡ false
-            → state_of self.new ≡ state_of self.old }
-        ensures fewer { is_place door (state_of self.old) ≡ false → is_own_door door (state_of self.old) ≡ true
-            → self.old.asked ≡ false → steps_of (state_of self.new) < steps_of (state_of self.old) }
-        ensures asked { (p : At) → asked_by p (state_of self.new) ≡ asked_by p (state_of self.old) }
-        ensures still { Alike (state_of self.old) (state_of self.new) }
+    pub fn hear_accept_failure(&mut self, door: Place)
+        ensures goes { (c : Command) (past : List Act) (p : Place) → IsOpening c past p self.old
+            → IsOpening c (acts.AcceptFailed door ∷ past) p self.new }
+        ensures apart { is_place door self.old ≡ false → is_own_door door self.old ≡ false
+            → self.new ≡ self.old }
+        ensures fewer { is_place door self.old ≡ false → is_own_door door self.old ≡ true
+            → self.old.asked ≡ false → steps_of self.new < steps_of self.old }
+        ensures asked { (p : Place) → asked_by p self.new ≡ asked_by p self.old }
+        ensures still { Alike self.old self.new }
     {
         self.asked = self.is_own_door(door) | self.asked;
     }
 
     /// The place or door was closed.
-    pub fn closed(&mut self, thing: Place, why: Why)
-        ensures goes { (c : Command) (past : List Act) (p : At) → IsOpening c past p (state_of self.old)
-            → IsOpening c (acts.Closed thing why ∷ past) p (state_of self.new) }
-        ensures apart { is_place thing (state_of self.old) ≡ false → is_own_door thing (state_of self.old) ≡ false
-            → state_of self.new ≡ state_of self.old }
-        ensures fewer_places { is_place thing (state_of self.old) ≡ true → is_own_door thing (state_of self.old) ≡ false
-            → holds_at (as_stage self.old.stage) ≡ true → steps_of (state_of self.new) < steps_of (state_of self.old) }
-        ensures fewer_doors { is_place thing (state_of self.old) ≡ false → is_own_door thing (state_of self.old) ≡ true
-            → holds_at (as_stage self.old.door) ≡ true → steps_of (state_of self.new) < steps_of (state_of self.old) }
-        ensures asked { (p : At) → asked_by p (state_of self.new) ≡ asked_by p (state_of self.old) }
+    pub fn hear_closing(&mut self, thing: Place, why: Why)
+        ensures goes { (c : Command) (past : List Act) (p : Place) → IsOpening c past p self.old
+            → IsOpening c (acts.Closed thing why ∷ past) p self.new }
+        ensures apart { is_place thing self.old ≡ false → is_own_door thing self.old ≡ false
+            → self.new ≡ self.old }
+        ensures fewer_places { is_place thing self.old ≡ true → is_own_door thing self.old ≡ false
+            → holds_at self.old.stage ≡ true → steps_of self.new < steps_of self.old }
+        ensures fewer_doors { is_place thing self.old ≡ false → is_own_door thing self.old ≡ true
+            → holds_at self.old.door ≡ true → steps_of self.new < steps_of self.old }
+        ensures asked { (p : Place) → asked_by p self.new ≡ asked_by p self.old }
     {
         self.stage = self.stage.after(thing.is(self.place), Stage::Gone(why));
         self.door = self.door.after(self.is_own_door(thing), Stage::Gone(why));
@@ -378,38 +374,38 @@ impl Opening {
     }
 
     /// The child of the place was reaped, or there was none.
-    pub fn reaped(&mut self, place: Place)
-        ensures goes { (c : Command) (past : List Act) (p : At) (end : Ending) → IsOpening c past p (state_of self.old)
-            → IsOpening c (acts.Reaped place end ∷ past) p (state_of self.new) }
-        ensures childless { (c : Command) (past : List Act) (p : At) → IsOpening c past p (state_of self.old)
-            → IsOpening c past p (state_of self.new) }
-        ensures apart { asks_child place (state_of self.old) ≡ false → state_of self.new ≡ state_of self.old }
-        ensures fewer { asks_child place (state_of self.old) ≡ true → steps_of (state_of self.new) < steps_of (state_of self.old) }
-        ensures asked { (p : At) → asked_by p (state_of self.new) ≡ true → (asked_by p (state_of self.old) || same_place place p) ≡ true }
-        ensures still { Alike (state_of self.old) (state_of self.new) }
+    pub fn hear_reaping(&mut self, place: Place)
+        ensures goes { (c : Command) (past : List Act) (p : Place) (end : Ending) → IsOpening c past p self.old
+            → IsOpening c (acts.Reaped place end ∷ past) p self.new }
+        ensures childless { (c : Command) (past : List Act) (p : Place) → IsOpening c past p self.old
+            → IsOpening c past p self.new }
+        ensures apart { asks_child place self.old ≡ false → self.new ≡ self.old }
+        ensures fewer { asks_child place self.old ≡ true → steps_of self.new < steps_of self.old }
+        ensures asked { (p : Place) → asked_by p self.new ≡ true → (asked_by p self.old || same_place place p) ≡ true }
+        ensures still { Alike self.old self.new }
     {
         self.asked_child = self.asked_child || place.is(self.place);
     }
 
     /// A wait has returned that names nothing yet.
-    pub fn woken(&mut self)
-        ensures goes { (c : Command) (past : List Act) (p : At) (until : Option ℕ) (at : ℕ)
-            → IsOpening c past p (state_of self.old)
-            → IsOpening c (acts.Turn until at (kept []) false ∷ past) p (state_of self.new) }
-        ensures asked { (p : At) → asked_by p (state_of self.new) ≡ asked_by p (state_of self.old) }
-        ensures still { Alike (state_of self.old) (state_of self.new) }
+    pub fn wake(&mut self)
+        ensures goes { (c : Command) (past : List Act) (p : Place) (until : Option ℕ) (at : ℕ)
+            → IsOpening c past p self.old
+            → IsOpening c (acts.Turn until at (kept []) false ∷ past) p self.new }
+        ensures asked { (p : Place) → asked_by p self.new ≡ asked_by p self.old }
+        ensures still { Alike self.old self.new }
     {
         self.asked = false;
         self.tried = false;
     }
 
     /// The last turn names this half too.
-    pub fn named(&mut self, entry: ReadyAt)
-        ensures goes { (c : Command) (past : List Act) (p : At) (until : Option ℕ) (at : ℕ) (names : List Entry)
-            → IsOpening c (acts.Turn until at (kept names) false ∷ past) p (state_of self.old)
-            → IsOpening c (acts.Turn until at (kept (names ++ entry ∷ [])) false ∷ past) p (state_of self.new) }
-        ensures asked { (p : At) → asked_by p (state_of self.new) ≡ asked_by p (state_of self.old) }
-        ensures still { Alike (state_of self.old) (state_of self.new) }
+    pub fn hear_entry(&mut self, entry: ReadyAt)
+        ensures goes { (c : Command) (past : List Act) (p : Place) (until : Option ℕ) (at : ℕ) (names : List Entry)
+            → IsOpening c (acts.Turn until at (kept names) false ∷ past) p self.old
+            → IsOpening c (acts.Turn until at (kept (names ++ entry ∷ [])) false ∷ past) p self.new }
+        ensures asked { (p : Place) → asked_by p self.new ≡ asked_by p self.old }
+        ensures still { Alike self.old self.new }
     {
         let is_armed = self.is_own_door(entry.place) & is_to_read(entry.half);
         self.woken |= entry.place.is(self.place);
@@ -419,7 +415,7 @@ impl Opening {
 
 /// The call, once it is due.
 fn once_due(next: NextTry, wanted: Call, at: u64) -> Call
-    ensures { as_call result ≡ call_by at (as_call wanted) next }
+    ensures { result ≡ call_by at wanted next }
 {
     match next {
         NextTry::Now => wanted,

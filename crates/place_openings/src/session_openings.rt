@@ -1,7 +1,7 @@
 // The openings of a session, place by place in opening order.
 ghost use Rattle.std.specs.Prelude.{◌≡◌, ◌<◌, ◌≤◌, ◌||◌, ◌∷◌, ◌++◌, [], ℕ, true, false, List, Option, length, Some, None, map};
 ghost use Rattle.std.specs.List.{All};
-ghost use Rattle.relay_model.specs.declared.places.Place.{Place as At};
+ghost use Rattle.relay_model.specs.declared.places.Place.{Place};
 ghost use Rattle.relay_model.specs.declared.readiness.ReadyAt.{ReadyAt as Entry};
 ghost use Rattle.relay_model.specs.declared.commands.Config.{Config as Command};
 ghost use Rattle.relay_model.specs.declared.acts.Act.{Act};
@@ -15,23 +15,20 @@ ghost use Rattle.relay_model.specs.History.{now as moment, held, was_closed, was
 ghost use Rattle.relay_model.specs.Arming.{asked_to_accept};
 ghost use Rattle.relay_model.specs.Sessions.{holds};
 ghost use Rattle.relay_model.specs.Openings.{first_call, ready};
-ghost use Rattle.relay_model.specs.Openings as calls;
+ghost use Rattle.relay_model.specs.declared.calls.Call.TheVariants as calls;
 ghost use Rattle.relay_model.specs.Cause.{listening_failed, opening_failed};
-ghost use Rattle.place_openings.specs.Answers.{as_call};
 ghost use Rattle.place_openings.specs.Moves.{TookEach};
 ghost use Rattle.place_openings.specs.Queries.{first_of, held_by, child_by, peer_of_first};
 ghost use Rattle.place_openings.specs.Stands.{Each, AreOpenings, kept};
-ghost use Rattle.place_openings.specs.States.{state_of};
 ghost use Rattle.place_openings.specs.Steps.{has_asked, steps_in};
 ghost use Rattle.place_openings.specs.Touching.{touches};
 ghost use Rattle.relay_model.specs.Readiness.{Listed};
 
-use crate::calls::Call;
 use crate::one_place::Opening;
-use crate::steps::Step;
-use crate::summaries::{Summary, first_unready};
+use crate::steps::OpeningStep;
+use crate::summaries::{OpeningSummary, first_unready};
 use command_places::{place_at, places};
-use relay_model::{Config, Part, Peer, Place, ReadyAt, Side, Why};
+use relay_model::{Call, Config, Part, Peer, Place, ReadyAt, Side, Why};
 use std::marker::Model;
 
 /// The openings of the places of a session, which are at most four, in opening order. Contracts see them as a list of
@@ -40,28 +37,27 @@ use std::marker::Model;
 pub struct Openings {
     items: [Opening; 4],
     count: usize,
-    summary: Summary,
+    summary: OpeningSummary,
 }
 
 impl Model for Openings {
     ghost use Rattle.std.specs.Prelude.{List, take, map, ◌≤◌};
-    ghost use Rattle.place_openings.specs.OpeningState.{OpeningState};
+    ghost use Rattle.place_openings.specs.declared.one_place.Opening.{Opening};
 
-    ghost Value = { List OpeningState };
+    ghost Value = { List Opening };
 
-    ghost use Rattle.place_openings.specs.States.{state_of};
     ghost use Rattle.place_openings.specs.Summaries.{Sums};
 
-    ghost view = { λ openings. map state_of (take openings.count openings.items) };
+    ghost view = { λ openings. (take openings.count openings.items) };
 
-    ghost invariant = { λ openings. (openings.count ≤ 4) × Sums openings.summary (map state_of (take openings.count openings.items)) };
+    ghost invariant = { λ openings. (openings.count ≤ 4) × Sums openings.summary ((take openings.count openings.items)) };
 }
 
 impl Openings {
     /// The openings of the places of a session with this number, where nothing happened yet.
     pub fn new(config: &Config, number: u32) -> Openings
         ensures stands { AreOpenings config.now [] number result }
-        ensures unasked { (p : At) → has_asked result p ≡ false }
+        ensures unasked { (p : Place) → has_asked result p ≡ false }
     {
         let list = places(config, number);
         of_places(config, list.as_slice())
@@ -75,23 +71,23 @@ impl Openings {
         Openings {
             items: [filler; 4],
             count: 0,
-            summary: Summary::of(&[]),
+            summary: OpeningSummary::of(&[]),
         }
     }
 
     fn push(&mut self, opening: Opening)
         requires { length self.old < 4 }
-        ensures { self.new ≡ self.old ++ state_of opening ∷ [] }
+        ensures { self.new ≡ self.old ++ opening ∷ [] }
     {
         self.items[self.count] = opening;
         self.count += 1;
-        self.summary = Summary::of(&self.items[..self.count]);
+        self.summary = OpeningSummary::of(&self.items[..self.count]);
     }
 
     /// What the first place that isn't ready calls for at this moment.
     pub fn call(&self, at: u64) -> Call
         ensures { (c : Command) (past : List Act) (s : ℕ) → AreOpenings c past s self.now → at ≡ moment past
-            → as_call result ≡ first_call c past (places c s) }
+            → result ≡ first_call c past (places c s) }
     {
         if self.summary.ready {
             return Call::Nothing;
@@ -104,7 +100,7 @@ impl Openings {
 
     /// Where an accepting is called for, whether the door was asked since the last turn.
     pub fn has_asked(&self) -> bool
-        ensures { (c : Command) (past : List Act) (s : ℕ) (door place : At) → AreOpenings c past s self.now
+        ensures { (c : Command) (past : List Act) (s : ℕ) (door place : Place) → AreOpenings c past s self.now
             → first_call c past (places c s) ≡ calls.Accept door place → result ≡ asked_to_accept c past door }
     {
         match first_unready(self.as_slice()) {
@@ -121,7 +117,7 @@ impl Openings {
     }
 
     /// Why the session ends, where no try is left at one of its places or doors.
-    pub fn given_up(&self) -> Option<Why>
+    pub fn why_given_up(&self) -> Option<Why>
         ensures { (c : Command) (past : List Act) (s : ℕ) → AreOpenings c past s self.now
             → result ≡ or_else (only_if (listening_failed c past s) whys.ListenFailed) (only_if
             (opening_failed c past s) whys.OpenFailed) }
@@ -130,8 +126,8 @@ impl Openings {
     }
 
     /// A place or own door of the session that is held.
-    pub fn held(&self) -> Option<Place>
-        ensures some { (c : Command) (past : List Act) (s : ℕ) (q : At) → AreOpenings c past s self.now → result ≡ Some q
+    pub fn held_thing(&self) -> Option<Place>
+        ensures some { (c : Command) (past : List Act) (s : ℕ) (q : Place) → AreOpenings c past s self.now → result ≡ Some q
             → (held past q ≡ true) × (is_of c s q ≡ true) }
         ensures none { (c : Command) (past : List Act) (s : ℕ) → AreOpenings c past s self.now → result ≡ None → holds c past s ≡ false }
     {
@@ -140,7 +136,7 @@ impl Openings {
 
     /// A child that was closed and wasn't asked for yet.
     pub fn child(&self) -> Option<Place>
-        ensures some { (c : Command) (past : List Act) (s : ℕ) (p : At) → AreOpenings c past s self.now → result ≡ Some p
+        ensures some { (c : Command) (past : List Act) (s : ℕ) (p : Place) → AreOpenings c past s self.now → result ≡ Some p
             → (is_program (medium_of c p) ≡ true) × (was_closed past p ≡ true) × (was_reaped past p
             ≡ false) × (is_place_of c s p ≡ true) }
         ensures none { result ≡ None → first_of child_by self.now ≡ None }
@@ -160,7 +156,7 @@ impl Openings {
     }
 
     pub(crate) fn as_slice(&self) -> &[Opening]
-        ensures { map state_of result.now ≡ self.now }
+        ensures { result.now ≡ self.now }
     {
         &self.items[..self.count]
     }
@@ -168,104 +164,104 @@ impl Openings {
     // ---- steps
 
     /// The place was opened.
-    pub fn opened(&mut self, place: Place)
+    pub fn hear_opening(&mut self, place: Place)
         ensures goes { (c : Command) (past : List Act) (s : ℕ) → AreOpenings c past s self.old
             → AreOpenings c (acts.Opened place ∷ past) s self.new }
         ensures fewer_opening { (c : Command) (past : List Act) (s : ℕ) → AreOpenings c past s self.old
             → first_call c past (places c s) ≡ calls.Open place → steps_in self.new < steps_in self.old }
         ensures fewer_settling { (c : Command) (past : List Act) (s : ℕ) → AreOpenings c past s self.old
             → first_call c past (places c s) ≡ calls.Settle place → steps_in self.new < steps_in self.old }
-        ensures asked { (p : At) → has_asked self.new p ≡ true → has_asked self.old p ≡ true }
+        ensures asked { (p : Place) → has_asked self.new p ≡ true → has_asked self.old p ≡ true }
     {
-        self.take(Step::Opened(place));
+        self.take(OpeningStep::Opened(place));
     }
 
     /// The opening of the place is under way.
-    pub fn opened_later(&mut self, place: Place)
+    pub fn hear_later(&mut self, place: Place)
         ensures goes { (c : Command) (past : List Act) (s : ℕ) → AreOpenings c past s self.old
             → AreOpenings c (acts.OpenLater place ∷ past) s self.new }
         ensures fewer_opening { (c : Command) (past : List Act) (s : ℕ) → AreOpenings c past s self.old
             → first_call c past (places c s) ≡ calls.Open place → steps_in self.new < steps_in self.old }
         ensures fewer_settling { (c : Command) (past : List Act) (s : ℕ) → AreOpenings c past s self.old
             → first_call c past (places c s) ≡ calls.Settle place → steps_in self.new < steps_in self.old }
-        ensures asked { (p : At) → has_asked self.new p ≡ true → has_asked self.old p ≡ true }
+        ensures asked { (p : Place) → has_asked self.new p ≡ true → has_asked self.old p ≡ true }
     {
-        self.take(Step::OpenedLater(place));
+        self.take(OpeningStep::OpenedLater(place));
     }
 
     /// The opening of a place that doesn't listen failed at this moment.
-    pub fn open_failed(&mut self, place: Place, at: u64)
+    pub fn hear_open_failure(&mut self, place: Place, at: u64)
         ensures goes { (c : Command) (past : List Act) (s : ℕ) → AreOpenings c past s self.old → listens_at c place ≡ false
             → at ≡ moment past → AreOpenings c (acts.OpenFailed place ∷ past) s self.new }
         ensures fewer_opening { (c : Command) (past : List Act) (s : ℕ) → AreOpenings c past s self.old
             → first_call c past (places c s) ≡ calls.Open place → steps_in self.new < steps_in self.old }
         ensures fewer_settling { (c : Command) (past : List Act) (s : ℕ) → AreOpenings c past s self.old
             → first_call c past (places c s) ≡ calls.Settle place → steps_in self.new < steps_in self.old }
-        ensures asked { (p : At) → has_asked self.new p ≡ true → has_asked self.old p ≡ true }
+        ensures asked { (p : Place) → has_asked self.new p ≡ true → has_asked self.old p ≡ true }
     {
-        self.take(Step::OpenFailed { place, at });
+        self.take(OpeningStep::OpenFailed { place, at });
     }
 
     /// A door listens.
-    pub fn listening(&mut self, door: Place)
+    pub fn hear_listening(&mut self, door: Place)
         ensures goes { (c : Command) (past : List Act) (s : ℕ) → AreOpenings c past s self.old
             → AreOpenings c (acts.Listening door ∷ past) s self.new }
         ensures fewer { (c : Command) (past : List Act) (s : ℕ) → AreOpenings c past s self.old
             → first_call c past (places c s) ≡ calls.Listen door → steps_in self.new < steps_in self.old }
-        ensures asked { (p : At) → has_asked self.new p ≡ true → has_asked self.old p ≡ true }
+        ensures asked { (p : Place) → has_asked self.new p ≡ true → has_asked self.old p ≡ true }
     {
-        self.take(Step::Listening(door));
+        self.take(OpeningStep::Listening(door));
     }
 
     /// The listening of a door failed at this moment.
-    pub fn listen_failed(&mut self, door: Place, at: u64)
+    pub fn hear_listen_failure(&mut self, door: Place, at: u64)
         ensures goes { (c : Command) (past : List Act) (s : ℕ) → AreOpenings c past s self.old → door.door ≡ true
             → at ≡ moment past → AreOpenings c (acts.ListenFailed door ∷ past) s self.new }
         ensures fewer { (c : Command) (past : List Act) (s : ℕ) → AreOpenings c past s self.old
             → first_call c past (places c s) ≡ calls.Listen door → steps_in self.new < steps_in self.old }
-        ensures asked { (p : At) → has_asked self.new p ≡ true → has_asked self.old p ≡ true }
+        ensures asked { (p : Place) → has_asked self.new p ≡ true → has_asked self.old p ≡ true }
     {
-        self.take(Step::ListenFailed { door, at });
+        self.take(OpeningStep::ListenFailed { door, at });
     }
 
     /// A peer was accepted for the place.
-    pub fn accepted(&mut self, place: Place, peer: Peer)
+    pub fn hear_peer(&mut self, place: Place, peer: Peer)
         ensures goes { (c : Command) (past : List Act) (s : ℕ) → AreOpenings c past s self.old → place.door ≡ false
             → AreOpenings c (acts.Accepted place peer ∷ past) s self.new }
-        ensures fewer { (c : Command) (past : List Act) (s : ℕ) (door : At) → AreOpenings c past s self.old
+        ensures fewer { (c : Command) (past : List Act) (s : ℕ) (door : Place) → AreOpenings c past s self.old
             → first_call c past (places c s) ≡ calls.Accept door place → asked_to_accept c past door ≡ false
             → steps_in self.new < steps_in self.old }
-        ensures asked { (p : At) → has_asked self.new p ≡ true → has_asked self.old p ≡ true }
+        ensures asked { (p : Place) → has_asked self.new p ≡ true → has_asked self.old p ≡ true }
     {
-        self.take(Step::Accepted { place, peer });
+        self.take(OpeningStep::Accepted { place, peer });
     }
 
     /// No peer stood at the door.
-    pub fn no_peer(&mut self, door: Place)
+    pub fn hear_no_peer(&mut self, door: Place)
         ensures goes { (c : Command) (past : List Act) (s : ℕ) → AreOpenings c past s self.old
             → AreOpenings c (acts.NoPeer door ∷ past) s self.new }
-        ensures fewer { (c : Command) (past : List Act) (s : ℕ) (place : At) → AreOpenings c past s self.old
+        ensures fewer { (c : Command) (past : List Act) (s : ℕ) (place : Place) → AreOpenings c past s self.old
             → first_call c past (places c s) ≡ calls.Accept door place → asked_to_accept c past door ≡ false
             → steps_in self.new < steps_in self.old }
-        ensures asked { (p : At) → has_asked self.new p ≡ true → has_asked self.old p ≡ true }
+        ensures asked { (p : Place) → has_asked self.new p ≡ true → has_asked self.old p ≡ true }
     {
-        self.take(Step::NoPeer(door));
+        self.take(OpeningStep::NoPeer(door));
     }
 
     /// An accepting failed at the door.
-    pub fn accept_failed(&mut self, door: Place)
+    pub fn hear_accept_failure(&mut self, door: Place)
         ensures goes { (c : Command) (past : List Act) (s : ℕ) → AreOpenings c past s self.old
             → AreOpenings c (acts.AcceptFailed door ∷ past) s self.new }
-        ensures fewer { (c : Command) (past : List Act) (s : ℕ) (place : At) → AreOpenings c past s self.old
+        ensures fewer { (c : Command) (past : List Act) (s : ℕ) (place : Place) → AreOpenings c past s self.old
             → first_call c past (places c s) ≡ calls.Accept door place → asked_to_accept c past door ≡ false
             → steps_in self.new < steps_in self.old }
-        ensures asked { (p : At) → has_asked self.new p ≡ true → has_asked self.old p ≡ true }
+        ensures asked { (p : Place) → has_asked self.new p ≡ true → has_asked self.old p ≡ true }
     {
-        self.take(Step::AcceptFailed(door));
+        self.take(OpeningStep::AcceptFailed(door));
     }
 
     /// The place or door was closed.
-    pub fn closed(&mut self, thing: Place, why: Why)
+    pub fn hear_closing(&mut self, thing: Place, why: Why)
         ensures goes { (c : Command) (past : List Act) (s : ℕ) → AreOpenings c past s self.old
             → AreOpenings c (acts.Closed thing why ∷ past) s self.new }
         ensures fewer { (c : Command) (past : List Act) (s : ℕ) → AreOpenings c past s self.old → held past thing ≡ true
@@ -274,43 +270,43 @@ impl Openings {
             → first_call c past (places c s) ≡ calls.Refuse thing → steps_in self.new < steps_in self.old }
         ensures fewer_serving { (c : Command) (past : List Act) (s : ℕ) → AreOpenings c past s self.old
             → first_call c past (places c s) ≡ calls.Serve thing → steps_in self.new < steps_in self.old }
-        ensures asked { (p : At) → has_asked self.new p ≡ true → has_asked self.old p ≡ true }
+        ensures asked { (p : Place) → has_asked self.new p ≡ true → has_asked self.old p ≡ true }
     {
-        self.take(Step::Closed { thing, why });
+        self.take(OpeningStep::Closed { thing, why });
     }
 
     /// The child of the place was reaped, whatever became of it, or there was none. It isn't asked for again.
-    pub fn reaped(&mut self, place: Place)
+    pub fn hear_reaping(&mut self, place: Place)
         ensures goes { (c : Command) (past : List Act) (s : ℕ) (end : Ending) → AreOpenings c past s self.old
             → AreOpenings c (acts.Reaped place end ∷ past) s self.new }
         ensures childless { (c : Command) (past : List Act) (s : ℕ) → AreOpenings c past s self.old → AreOpenings c past s self.new }
         ensures fewer { first_of child_by self.old ≡ Some place → steps_in self.new < steps_in self.old }
-        ensures asked { (p : At) → has_asked self.new p ≡ true → (has_asked self.old p || same_place place p) ≡ true }
+        ensures asked { (p : Place) → has_asked self.new p ≡ true → (has_asked self.old p || same_place place p) ≡ true }
     {
-        self.take(Step::Reaped(place));
+        self.take(OpeningStep::Reaped(place));
     }
 
     /// A wait has returned that names nothing yet.
-    pub fn woken(&mut self)
+    pub fn wake(&mut self)
         ensures goes { (c : Command) (past : List Act) (s : ℕ) (until : Option ℕ) (at : ℕ) → AreOpenings c past s self.old
             → AreOpenings c (acts.Turn until at (kept []) false ∷ past) s self.new }
-        ensures asked { (p : At) → has_asked self.new p ≡ true → has_asked self.old p ≡ true }
+        ensures asked { (p : Place) → has_asked self.new p ≡ true → has_asked self.old p ≡ true }
     {
-        self.take(Step::Woken);
+        self.take(OpeningStep::Woken);
     }
 
     /// The last turn names this half too.
-    pub fn named(&mut self, entry: ReadyAt)
+    pub fn hear_entry(&mut self, entry: ReadyAt)
         ensures goes { (c : Command) (past : List Act) (s : ℕ) (until : Option ℕ) (at : ℕ) (names : List Entry)
             → AreOpenings c (acts.Turn until at (kept names) false ∷ past) s self.old
             → AreOpenings c (acts.Turn until at (kept (names ++ entry ∷ [])) false ∷ past) s self.new }
-        ensures asked { (p : At) → has_asked self.new p ≡ true → has_asked self.old p ≡ true }
+        ensures asked { (p : Place) → has_asked self.new p ≡ true → has_asked self.old p ≡ true }
     {
-        self.take(Step::Named(entry));
+        self.take(OpeningStep::Named(entry));
     }
 
     /// A law: an act that doesn't touch the openings leaves them, and so does a stop that a turn tells of.
-    pub fn unmoved(&self)
+    pub fn stay_unmoved(&self)
         ensures stopped { (c : Command) (past : List Act) (s : ℕ) (until : Option ℕ) (at : ℕ) (ready : Listed)
             → AreOpenings c (acts.Turn until at ready false ∷ past) s self.now
             → AreOpenings c (acts.Turn until at ready true ∷ past) s self.now }
@@ -319,7 +315,7 @@ impl Openings {
     {}
 
     /// One step of each.
-    fn take(&mut self, step: Step)
+    fn take(&mut self, step: OpeningStep)
         ensures { TookEach step self.old self.new }
     {
         take_each(&mut self.items[..self.count], step);
@@ -331,7 +327,7 @@ fn of_places(config: &Config, places: &[Place]) -> Openings
     requires few { length places.now ≤ 4 }
     requires no_doors { All (λ p. p.door ≡ false) places.now }
     ensures stands { Each config.now [] places.now result }
-    ensures unasked { (p : At) → has_asked result p ≡ false }
+    ensures unasked { (p : Place) → has_asked result p ≡ false }
 {
     let mut openings = Openings::none(config);
     for place in places {
@@ -340,8 +336,8 @@ fn of_places(config: &Config, places: &[Place]) -> Openings
     openings
 }
 
-fn take_each(openings: &mut [Opening], step: Step)
-    ensures { TookEach step (map state_of openings.old) (map state_of openings.new) }
+fn take_each(openings: &mut [Opening], step: OpeningStep)
+    ensures { TookEach step openings.old openings.new }
 {
     for opening in openings.iter_mut() {
         opening.take(step);
@@ -349,10 +345,10 @@ fn take_each(openings: &mut [Opening], step: Step)
 }
 
 fn first_held(mut openings: &[Opening]) -> Option<Place>
-    ensures { result ≡ first_of held_by (map state_of openings.entry.now) }
+    ensures { result ≡ first_of held_by openings.entry.now }
 {
     while let [opening, rest @ ..] = openings {
-        if let Some(place) = opening.held() {
+        if let Some(place) = opening.held_thing() {
             return Some(place);
         }
         openings = rest;
@@ -361,7 +357,7 @@ fn first_held(mut openings: &[Opening]) -> Option<Place>
 }
 
 fn first_child(mut openings: &[Opening]) -> Option<Place>
-    ensures { result ≡ first_of child_by (map state_of openings.entry.now) }
+    ensures { result ≡ first_of child_by openings.entry.now }
 {
     while let [opening, rest @ ..] = openings {
         if let Some(place) = opening.child() {

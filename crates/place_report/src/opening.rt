@@ -163,7 +163,7 @@ fn every_address(family: Family) -> &'static str {
 }
 
 /// What a socket is bound to where no option says so; nothing where there is no such option.
-fn unbound(target: &Target) -> Option<&'static str> {
+fn default_binding(target: &Target) -> Option<&'static str> {
     match target {
         Target::TcpListen { family, .. }
         | Target::UdpListen { family, .. }
@@ -181,7 +181,7 @@ fn say_bound(page: &mut Page, bind: Bind) -> Result<(), NoMemory> {
 }
 
 fn say_local(page: &mut Page, single: &Single) -> Result<(), NoMemory> {
-    match (single.options.socket.bind, unbound(&single.target)) {
+    match (single.options.socket.bind, default_binding(&single.target)) {
         (_, None) => Ok(()),
         (Some(bind), Some(_)) => say_bound(page, bind),
         (None, Some(words)) => {

@@ -49,7 +49,7 @@ use Rattle.desk_places.proofs.StationLemmas.{found_none, free_station}
 use Rattle.port_desk.specs.Records.{NotedSo, are_none, has_no_acts}
 use Rattle.port_desk.specs.Calls.{ReadsSo, SendsSo, ShutsSo, WritesSo}
 use Rattle.port_desk.specs.Following.{FollowsTold, IsUnused, Passed, PassedBy, PassedTold, Start, StartsInStep, are_noted, errors_written, input_ended, input_read, output_written, reads_input, stream_of, writes_errors, writes_output}
-use Rattle.port_desk.proofs.FollowSteps.{Goes, IsStill, Stands, acted, asked, ended_of, found, gave_of, grown_sum, kept_over, kept_sum, kept_told, nothing, on_slot, own_reads, own_said, own_writes, quiet, stands_comes, stands_leaves, stands_same, still_follows, took_of, unmapped}
+use Rattle.port_desk.proofs.FollowSteps.{Goes, IsStill, AllStandFor, acted, asked, ended_of, found, gave_of, grown_sum, kept_over, kept_sum, kept_told, nothing, on_slot, own_reads, own_said, own_writes, quiet, stands_comes, stands_leaves, stands_same, still_follows, took_of, unmapped}
 
 -- ---- a read
 
@@ -657,7 +657,7 @@ close_follows place why old new base base' input input' output output' errors er
 
 -- ---- the start
 
-nowhere : (own : Place → Single) (base : Place → Option Base) → ((p : Place) → base p ≡ None) → Stands own base
+nowhere : (own : Place → Single) (base : Place → Option Base) → ((p : Place) → base p ≡ None) → AllStandFor own base
 nowhere own base none p = subst (λ slot. IfSome slot (λ b. StandsFor (stream_of own p) (Some b))) (sym (none p)) tt
 
 -- where nothing is held, what was passed follows what is told

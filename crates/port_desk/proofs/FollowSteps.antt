@@ -21,10 +21,10 @@ use Rattle.port_desk.specs.Following.{AllOwn, Follows, FollowsTold, IsElsewhere,
 -- ---- what a place stands on
 
 -- each place stands on the streams of its address
-abbrev pub Stands : (Place → Single) → (Place → Option Base) → Type 0
-Stands own base = (p : Place) → IfSome (base p) (λ b. StandsFor (stream_of own p) (Some b))
+abbrev pub AllStandFor : (Place → Single) → (Place → Option Base) → Type 0
+AllStandFor own base = (p : Place) → IfSome (base p) (λ b. StandsFor (stream_of own p) (Some b))
 
-pub stands_same : (own : Place → Single) (base base' : Place → Option Base) → SameBases base base' → Stands own base → Stands own base'
+pub stands_same : (own : Place → Single) (base base' : Place → Option Base) → SameBases base base' → AllStandFor own base → AllStandFor own base'
 stands_same own base base' same stands p = subst (λ slot. IfSome slot (λ b. StandsFor (stream_of own p) (Some b))) (sym (same p)) (stands p)
 
 pub on_own : (asked slot : Option Base) → StandsFor asked slot → IfSome slot (λ b. StandsFor asked (Some b))
@@ -32,24 +32,24 @@ on_own asked None h = tt
 on_own asked (Some b) h = h
 
 -- a place that comes to stand on what is its own
-pub comes_here : (own : Place → Single) (place p : Place) (asked : Option Base) (base base' : Place → Option Base) → stream_of own place ≡ asked → ComesOn asked place base base' → Stands own base → (b : Bool) → same_place place p ≡ b → IfSome (base' p) (λ d. StandsFor (stream_of own p) (Some d))
+pub comes_here : (own : Place → Single) (place p : Place) (asked : Option Base) (base base' : Place → Option Base) → stream_of own place ≡ asked → ComesOn asked place base base' → AllStandFor own base → (b : Bool) → same_place place p ≡ b → IfSome (base' p) (λ d. StandsFor (stream_of own p) (Some d))
 comes_here own place p asked base base' is comes stands true e =
     subst (λ q. IfSome (base' q) (λ d. StandsFor (stream_of own q) (Some d))) (same_place-eq place p e)
     (subst (λ slot. IfSome (base' place) (λ d. StandsFor slot (Some d))) (sym is) (on_own asked (base' place) comes.0))
 comes_here own place p asked base base' is comes stands false e =
     subst (λ slot. IfSome slot (λ d. StandsFor (stream_of own p) (Some d))) (sym (comes.1 p e)) (stands p)
 
-pub stands_comes : (own : Place → Single) (place : Place) (asked : Option Base) (base base' : Place → Option Base) → stream_of own place ≡ asked → ComesOn asked place base base' → Stands own base → Stands own base'
+pub stands_comes : (own : Place → Single) (place : Place) (asked : Option Base) (base base' : Place → Option Base) → stream_of own place ≡ asked → ComesOn asked place base base' → AllStandFor own base → AllStandFor own base'
 stands_comes own place asked base base' is comes stands p = comes_here own place p asked base base' is comes stands (same_place place p) refl
 
-pub leaves_here : (own : Place → Single) (place p : Place) (base base' : Place → Option Base) → Leaves place base base' → Stands own base → (b : Bool) → same_place place p ≡ b → IfSome (base' p) (λ d. StandsFor (stream_of own p) (Some d))
+pub leaves_here : (own : Place → Single) (place p : Place) (base base' : Place → Option Base) → Leaves place base base' → AllStandFor own base → (b : Bool) → same_place place p ≡ b → IfSome (base' p) (λ d. StandsFor (stream_of own p) (Some d))
 leaves_here own place p base base' leaves stands true e =
     subst (λ q. IfSome (base' q) (λ d. StandsFor (stream_of own q) (Some d))) (same_place-eq place p e)
     (subst (λ slot. IfSome slot (λ d. StandsFor (stream_of own place) (Some d))) (sym leaves.0) tt)
 leaves_here own place p base base' leaves stands false e =
     subst (λ slot. IfSome slot (λ d. StandsFor (stream_of own p) (Some d))) (sym (leaves.1 p e)) (stands p)
 
-pub stands_leaves : (own : Place → Single) (place : Place) (base base' : Place → Option Base) → Leaves place base base' → Stands own base → Stands own base'
+pub stands_leaves : (own : Place → Single) (place : Place) (base base' : Place → Option Base) → Leaves place base base' → AllStandFor own base → AllStandFor own base'
 stands_leaves own place base base' leaves stands p = leaves_here own place p base base' leaves stands (same_place place p) refl
 
 -- what stands on the streams of its address is read and written as these are
@@ -141,7 +141,7 @@ pub kept_over : (before now over over' : Bool) → over' ≡ over → now ≡ be
 kept_over before now over over' e f h is = e ∙ h (sym f ∙ is)
 
 -- an act that passes no bytes
-pub quiet : (own : Place → Single) (act : Act) (base base' : Place → Option Base) (gave gave' took took' said said' : Option (List ℕ)) (over over' : Bool) → (Stands own base → Stands own base') → gave' ≡ gave → took' ≡ took → said' ≡ said → over' ≡ over → ((past : List Act) → IsStillAt own act past) → Goes own act base base' gave gave' took took' said said' over over'
+pub quiet : (own : Place → Single) (act : Act) (base base' : Place → Option Base) (gave gave' took took' said said' : Option (List ℕ)) (over over' : Bool) → (AllStandFor own base → AllStandFor own base') → gave' ≡ gave → took' ≡ took → said' ≡ said → over' ≡ over → ((past : List Act) → IsStillAt own act past) → Goes own act base base' gave gave' took took' said said' over over'
 quiet own act base base' gave gave' took took' said said' over over' stands e f g k still past follows = record {
   stands = stands follows.stands;
   given = kept_sum gave gave' _ _ e (still past).0 follows.given;

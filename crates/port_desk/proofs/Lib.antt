@@ -5,3 +5,4 @@ pub mod FollowSteps
 pub mod OpenLemmas
 pub mod PollLemmas
 pub mod RowLemmas
+pub mod Unheld

@@ -6,18 +6,19 @@ ghost use Rattle.world_trait.specs.Answers.{NamesHeld};
 ghost use Rattle.world_trait.specs.HoldTables.{hold_found};
 ghost use Rattle.world_trait.specs.Recordings.{HasAskingRoom, HasRoom, KeepsNothing, told_by};
 ghost use Rattle.world_trait.specs.Seen.{IsFresh};
-ghost use Rattle.relay_model.specs.Holding.{Free};
 ghost use Rattle.relay_model.specs.declared.places.Place.{Place};
 ghost use Rattle.port_trait.specs.Counting.{Counted};
 ghost use Rattle.port_trait.specs.Ports.{Agrees};
 ghost use Rattle.port_table.specs.Endings.{EndsSo, OnJoinedBack, handed, is_left};
 ghost use Rattle.port_table.specs.PortTables.{SameStreams};
+ghost use Rattle.port_desk.specs.Models.{BeginsHistory, IsFree};
 ghost use Rattle.desk_places.specs.Standing.{HasVacancy, IsSound};
 ghost use Rattle.desk_places.specs.Stations.{hold_at};
 ghost use Rattle.desk_places.specs.Naming.{NamesHinting, NamesKeyed, NamesOnly, PollsUntil, WaitsIdle, told_by as hints_told};
 
 use crate::clocks::Clock;
 use crate::endings::{Backs, Counts, Ended};
+use crate::models::Modelled;
 use crate::records::Log;
 use desk_places::{Ports, name_hinting, name_keyed};
 use port_table::Standard;
@@ -53,13 +54,13 @@ impl<M: Maker + Drop, P: Poller + Drop, I: Port, O: Port, E: Port> Desk<M, P, I,
         ensures told { IfOk result (λ desk. (⟦<Desk<M, P, I, O, E> as World>⟧.seen desk).told ≡ told_by recorder
             (record { acts = []; spare = 0 }) (record { pairs = []; spare = 0 })) }
         ensures fresh { IfOk result (λ desk. IsFresh (⟦<Desk<M, P, I, O, E> as World>⟧.seen desk)) }
-        ensures untouched { IfOk result (λ desk. desk.log.acted ≡ false) }
-        ensures stdin { IfOk result (λ desk. (desk.ports.table.input.port ≡ I.seen standard.stdin) × (desk.ports.table.input.begun ≡ false)
-            × (desk.ports.table.input.finished ≡ false)) }
-        ensures stdout { IfOk result (λ desk. (desk.ports.table.output.port ≡ O.seen standard.stdout)
-            × (desk.ports.table.output.begun ≡ false) × (desk.ports.table.output.finished ≡ false)) }
-        ensures stderr { IfOk result (λ desk. (desk.ports.table.errors.port ≡ E.seen standard.stderr)
-            × (desk.ports.table.errors.begun ≡ false) × (desk.ports.table.errors.finished ≡ false)) }
+        ensures untouched { IfOk result (λ desk. (⟦<Desk<M, P, I, O, E> as Modelled>⟧.model desk).acted ≡ false) }
+        ensures stdin { IfOk result (λ desk. (⟦<Desk<M, P, I, O, E> as Modelled>⟧.model desk).stdin
+            ≡ record { port = I.seen standard.stdin; begun = false; finished = false }) }
+        ensures stdout { IfOk result (λ desk. (⟦<Desk<M, P, I, O, E> as Modelled>⟧.model desk).stdout
+            ≡ record { port = O.seen standard.stdout; begun = false; finished = false }) }
+        ensures stderr { IfOk result (λ desk. (⟦<Desk<M, P, I, O, E> as Modelled>⟧.model desk).stderr
+            ≡ record { port = E.seen standard.stderr; begun = false; finished = false }) }
     {
         Ok(Desk {
             ports: Ports::new(alloc, standard, maker),
@@ -73,16 +74,10 @@ impl<M: Maker + Drop, P: Poller + Drop, I: Port, O: Port, E: Port> Desk<M, P, I,
 
     /// Keeps the history from now on. No act was made before, and so nothing is held. Takes no memory.
     pub fn keep(&mut self)
-        requires untouched { self.old.log.acted ≡ false }
-        requires free { self.old.log.stations.entries ≡ [] }
-        ensures told { (⟦<Desk<M, P, I, O, E> as World>⟧.seen self.new).told ≡ Some (record { acts = []; asked = [] }) }
-        ensures untouched { self.new.log.acted ≡ false }
-        ensures ports { self.new.ports ≡ self.old.ports }
-        ensures stations { self.new.log.stations ≡ self.old.log.stations }
-        ensures faults { self.new.log.faults ≡ self.old.log.faults }
-        ensures waits { self.new.waits ≡ self.old.waits }
-        ensures stops { self.new.stops ≡ self.old.stops }
-        ensures clock { self.new.clock ≡ self.old.clock }
+        requires untouched { (⟦<Desk<M, P, I, O, E> as Modelled>⟧.model self.old).acted ≡ false }
+        requires free { IsFree (⟦<Desk<M, P, I, O, E> as Modelled>⟧.model self.old) }
+        ensures begins { let model = ⟦<Desk<M, P, I, O, E> as Modelled>⟧.model in BeginsHistory (model self.old) (model self.new) }
+        ensures clock { let seen = ⟦<Desk<M, P, I, O, E> as World>⟧.seen in (seen self.new).clock ≡ (seen self.old).clock }
     {
         self.log.keep();
     }
@@ -100,21 +95,20 @@ impl<M: Maker + Drop, P: Poller + Drop, I: Port, O: Port, E: Port> Desk<M, P, I,
     /// Ends the desk, at which nothing is held. Each standard port that has begun and wasn't told the end of its output
     /// is shut with `Close`; then each is joined. Takes no memory.
     pub fn end(self) -> Ended<I, O, E>
-        requires { (p : Place) → (⟦<Desk<M, P, I, O, E> as World>⟧.seen self).held p ≡ Free }
-        ensures stdin { EndsSo (self.ports.table.input.begun && not self.ports.table.input.finished) self.ports.table.input.port
-            (is_left result.standard.stdin) (I.seen (handed result.standard.stdin)) }
+        requires { IsFree (⟦<Desk<M, P, I, O, E> as Modelled>⟧.model self) }
+        ensures stdin { let stream = (⟦<Desk<M, P, I, O, E> as Modelled>⟧.model self).stdin in
+            EndsSo (stream.begun && not stream.finished) stream.port (is_left result.standard.stdin) (I.seen (handed result.standard.stdin)) }
         ensures stdin_behind { OnJoinedBack (λ port. Agrees (I.seen port)) result.standard.stdin }
-        ensures stdout { EndsSo (self.ports.table.output.begun && not self.ports.table.output.finished) self.ports.table.output.port
-            (is_left result.standard.stdout) (O.seen (handed result.standard.stdout)) }
+        ensures stdout { let stream = (⟦<Desk<M, P, I, O, E> as Modelled>⟧.model self).stdout in
+            EndsSo (stream.begun && not stream.finished) stream.port (is_left result.standard.stdout) (O.seen (handed result.standard.stdout)) }
         ensures stdout_behind { OnJoinedBack (λ port. Agrees (O.seen port)) result.standard.stdout }
-        ensures stderr { EndsSo (self.ports.table.errors.begun && not self.ports.table.errors.finished) self.ports.table.errors.port
-            (is_left result.standard.stderr) (E.seen (handed result.standard.stderr)) }
+        ensures stderr { let stream = (⟦<Desk<M, P, I, O, E> as Modelled>⟧.model self).stderr in
+            EndsSo (stream.begun && not stream.finished) stream.port (is_left result.standard.stderr) (E.seen (handed result.standard.stderr)) }
         ensures stderr_behind { OnJoinedBack (λ port. Agrees (E.seen port)) result.standard.stderr }
-        ensures skipped { is_some (⟦<Desk<M, P, I, O, E> as World>⟧.seen self).told ≡ false → KeepsNothing result.kept }
-        ensures kept { let now = ⟦<Desk<M, P, I, O, E> as World>⟧.seen self in is_some now.told ≡ true
-            → now.told ≡ Some (record { acts = result.kept.journal.acts; asked = result.kept.asked.pairs }) }
-        ensures counts { let now = ⟦<Desk<M, P, I, O, E> as World>⟧.seen self in result.counts
-            ≡ record { faults = now.faults; waits = now.waits; stops = now.stops } }
+        ensures skipped { is_some (⟦<Desk<M, P, I, O, E> as Modelled>⟧.model self).history ≡ false → KeepsNothing result.kept }
+        ensures kept { let history = (⟦<Desk<M, P, I, O, E> as Modelled>⟧.model self).history in is_some history ≡ true
+            → history ≡ Some (record { acts = result.kept.journal.acts; asked = result.kept.asked.pairs }) }
+        ensures counts { result.counts ≡ (⟦<Desk<M, P, I, O, E> as Modelled>⟧.model self).counts }
     {
         let counts = Counts::new(self.log.faults, self.waits, self.stops);
         let Desk {
@@ -179,7 +173,7 @@ impl<M: Maker + Drop, P: Poller + Drop, I: Port, O: Port, E: Port> Desk<M, P, I,
         ensures clock { self.new.clock ≡ self.old.clock }
     {
         self.prepare_port()?;
-        self.log.copied_asking(single)
+        self.log.copy_asking(single)
     }
 
     /// Names what is ready, and waits for it where nothing is ready yet. A poll tells of a half once, so what it names comes

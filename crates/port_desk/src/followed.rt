@@ -1,11 +1,11 @@
 // The calls of a desk, each of which keeps what its standard streams passed in step with what its history tells.
 ghost use Rattle.std.specs.Prelude.{◌≡◌, IfSome, None, false};
-ghost use Rattle.relay_model.specs.Holding.{Free};
-ghost use Rattle.relay_model.specs.declared.places.Place.{Place as Spot};
 ghost use Rattle.desk_places.specs.Stations.{base_at};
-ghost use Rattle.port_desk.specs.Following.{FollowsTold, Passed, Start, StartsInStep};
+ghost use Rattle.port_desk.specs.Following.{FollowsTold, Start, StartsInStep};
+ghost use Rattle.port_desk.specs.Models.{HasPassed, IsFree, start_of};
 
 use crate::desk::Desk;
+use crate::models::Modelled;
 use port_trait::{Maker, Poller, Port};
 use relay_model::{Peer, Place, ReadyList, Shut, Single, Why};
 use std::marker::{Brand, PhantomData};
@@ -25,7 +25,7 @@ impl Beginning for Brand {
 
 /// Names the beginning, and holds nothing.
 #[derive(Drop)]
-struct Since<B: Beginning> {
+struct SinceBeginning<B: Beginning> {
     of: PhantomData<B>,
 }
 
@@ -33,7 +33,7 @@ struct Since<B: Beginning> {
 #[derive(Drop)]
 pub struct Followed<M: Maker + Drop, P: Poller + Drop, I: Port, O: Port, E: Port, B: Beginning> {
     desk: Desk<M, P, I, O, E>,
-    since: Since<B>,
+    since: SinceBeginning<B>,
     ghost follows: { ∥ (StartsInStep B.start
         → FollowsTold desk.log.recording.told (base_at desk.log.stations.entries) desk.ports.table.input.port.gave
         desk.ports.table.output.port.took desk.ports.table.errors.port.took desk.ports.table.input.port.ended) ∥₁ },
@@ -46,28 +46,21 @@ where
 {
     /// Follows the desk, at which nothing is held, from here on.
     pub fn new(desk: Desk<M, P, I, O, E>) -> Followed<M, P, I, O, E, B>
-        requires free { (p : Spot) → (⟦<Desk<M, P, I, O, E> as World>⟧.seen desk).held p ≡ Free }
-        requires start { B.start ≡ record {
-          told = desk.log.recording.told;
-          gave = desk.ports.table.input.port.gave;
-          took = desk.ports.table.output.port.took;
-          said = desk.ports.table.errors.port.took;
-          ended = desk.ports.table.input.port.ended;
-        } }
+        requires free { IsFree (⟦<Desk<M, P, I, O, E> as Modelled>⟧.model desk) }
+        requires start { B.start ≡ start_of (⟦<Desk<M, P, I, O, E> as Modelled>⟧.model desk) }
         ensures { result.desk ≡ desk }
     {
         Followed {
             desk,
-            since: Since { of: PhantomData },
+            since: SinceBeginning { of: PhantomData },
         }
     }
 
     /// The desk again.
     pub fn into_desk(self) -> Desk<M, P, I, O, E>
         ensures desk { result ≡ self.desk }
-        ensures passed { StartsInStep B.start → IfSome result.log.recording.told (λ history. Passed history
-            result.ports.table.input.port.gave result.ports.table.output.port.took result.ports.table.errors.port.took
-            result.ports.table.input.port.ended) }
+        ensures passed { StartsInStep B.start
+            → IfSome (⟦<Desk<M, P, I, O, E> as Modelled>⟧.model result).history (λ history. HasPassed history (⟦<Desk<M, P, I, O, E> as Modelled>⟧.model result)) }
     {
         let Followed { desk, since: _ } = self;
         desk

@@ -86,11 +86,11 @@ impl Log {
     }
 
     /// A copy of these bytes for an act, where acts are kept.
-    pub fn copied(&self, bytes: &[u8]) -> Result<Option<Bytes>, NoMemory>
+    pub fn copy_if_kept(&self, bytes: &[u8]) -> Result<Option<Bytes>, NoMemory>
         ensures ok { IfOk result (λ copy. MatchOption copy (self.now.recording.told ≡ None) (λ kept. kept ≡ bytes.now)) }
         ensures lacked { OnErr result (is_some self.now.recording.told ≡ true) }
     {
-        self.recording.copied(self.alloc, bytes)
+        self.recording.copy_if_kept(self.alloc, bytes)
     }
 
     /// Makes room for one further act, and a copy of these bytes for it where acts are kept.
@@ -103,11 +103,11 @@ impl Log {
         ensures faults { self.new.faults ≡ self.old.faults }
     {
         self.reserve(1)?;
-        self.copied(bytes)
+        self.copy_if_kept(bytes)
     }
 
     /// Makes room for what is asked, and a copy of it where that is kept.
-    pub fn copied_asking(&mut self, single: &Single) -> Result<Option<Single>, NoMemory>
+    pub fn copy_asking(&mut self, single: &Single) -> Result<Option<Single>, NoMemory>
         ensures stations { self.new.stations ≡ self.old.stations }
         ensures ok { IfOk result (λ copy. MatchOption copy (self.new.recording.told ≡ None) (λ kept. kept ≡ single.now)) }
         ensures asking_room { OnOk result (HasAskingRoom 1 self.new.recording) }
@@ -275,7 +275,7 @@ impl Log {
             return;
         };
         self.recording
-            .put(Act::Read(place, fitted(self.alloc, copy, bytes)));
+            .put(Act::Read(place, fit_copy(self.alloc, copy, bytes)));
     }
 
     /// Keeps a write of these bytes, in the copy that was made for it.
@@ -291,7 +291,7 @@ impl Log {
             return;
         };
         self.recording
-            .put(Act::Wrote(place, fitted(self.alloc, copy, bytes)));
+            .put(Act::Wrote(place, fit_copy(self.alloc, copy, bytes)));
     }
 
     /// The answer of a read, whose act it keeps.
@@ -501,7 +501,7 @@ impl Log {
 }
 
 /// These bytes, in no more memory than they need where there is some, else in the copy.
-fn fitted(alloc: Global, copy: Bytes, bytes: &[u8]) -> Bytes
+fn fit_copy(alloc: Global, copy: Bytes, bytes: &[u8]) -> Bytes
     requires { length bytes.now ≤ length copy }
     ensures { result ≡ bytes.now }
 {

@@ -2,7 +2,7 @@
 use Rattle.std.specs.Prelude.{◌≡◌, ℕ, zero, suc, ◌-◌, min, Bool, true, false, nat_lt, nat_le, ◌||◌, List, [], ◌∷◌, ◌++◌, length, take, if◌then◌else◌}
 use Rattle.relay_model.specs.declared.acts.Shut.{Shut}
 use Rattle.relay_model.specs.declared.acts.Shut.TheVariants as hows
-use Rattle.port_trait.specs.declared.counts.Counts.{Counts}
+use Rattle.port_trait.specs.declared.counts.PortCounts.{PortCounts}
 use Rattle.port_trait.specs.declared.answers.Hint.{Hint}
 use Rattle.port_trait.specs.declared.answers.Got.{Got}
 use Rattle.port_trait.specs.declared.answers.Got.TheVariants as reads
@@ -14,7 +14,7 @@ pub record EchoState : Type 0 where
   pub held : List ℕ
   pub capacity : ℕ
   pub is_shut : Bool
-  pub counts : Counts
+  pub counts : PortCounts
   pub begun : Bool
   pub ended : Bool
 

@@ -8,10 +8,10 @@ use Rattle.port_trait.specs.declared.makers.MadePeer.{MadePeer}
 use Rattle.port_trait.specs.declared.makers.MadePeer.TheVariants as peers
 use Rattle.port_objects.specs.declared.makers.MakeItem.{MakeItem}
 use Rattle.port_objects.specs.declared.makers.MakeItem.TheVariants as items
-use Rattle.port_objects.specs.Ports.{PortState}
+use Rattle.port_objects.specs.Ports.{MemPortState}
 
 -- what contracts see of a maker in memory
-pub record MakerState : Type 0 where
+pub record MemMakerState : Type 0 where
   pub items : List MakeItem
   pub came : Option PeerAddress
   pub asked : Option AskedPlace
@@ -19,11 +19,11 @@ pub record MakerState : Type 0 where
   pub stalls : ℕ
 
 -- a maker without items
-abbrev pub fresh_maker : MakerState
+abbrev pub fresh_maker : MemMakerState
 fresh_maker = record { items = []; came = None; asked = None; faults = 0; stalls = 0 }
 
 -- only a port can be made
-abbrev pub scripted_make : List MakeItem → Making PortState
+abbrev pub scripted_make : List MakeItem → Making MemPortState
 scripted_make [] = makings.Failed
 scripted_make (items.Port port ∷ rest) = makings.Made port
 scripted_make (items.Peer peer port ∷ rest) = makings.Failed
@@ -35,7 +35,7 @@ items_after_make [] = []
 items_after_make (item ∷ rest) = rest
 
 -- a port that is next isn't for an accepting
-abbrev pub scripted_accept : List MakeItem → MadePeer PortState
+abbrev pub scripted_accept : List MakeItem → MadePeer MemPortState
 scripted_accept [] = peers.NoPeer
 scripted_accept (items.Port port ∷ rest) = peers.NoPeer
 scripted_accept (items.Peer peer port ∷ rest) = peers.Came port peer

@@ -5,14 +5,14 @@ use Rattle.relay_model.specs.declared.places.Half.{Half}
 use Rattle.port_trait.specs.Keys.{KeysListed}
 
 -- what contracts see of a poller in memory
-pub record PollerState : Type 0 where
+pub record MemPollerState : Type 0 where
   pub clock : ℕ
   pub asked : Option ℕ
   pub next : List (ℕ × Half)
   pub last : List (ℕ × Half)
 
 -- a poller that will name these keys
-abbrev pub fresh_poller : List (ℕ × Half) → PollerState
+abbrev pub fresh_poller : List (ℕ × Half) → MemPollerState
 fresh_poller keys = record { clock = 0; asked = None; next = keys; last = [] }
 
 -- the keys of a list, if there is one

@@ -10,7 +10,7 @@ ghost use Rattle.port_trait.specs.declared.answers.Joining.TheVariants as joinin
 ghost use Rattle.port_objects.specs.Echoes.{fresh_echo, room_of, echo_read, echo_write, echo_put_all, echo_hint, got_front, held_after, shut_after, KeptByTransfer};
 
 use circular_buffer::HeapCircularBuffer;
-use port_trait::{Begun, Counts, Got, Hint, Joining, Port, PortReap, Settled, Shutting, Took};
+use port_trait::{Begun, Got, Hint, Joining, Port, PortCounts, PortReap, Settled, Shutting, Took};
 use relay_model::{NoMemory, Shut};
 use std::alloc::Global;
 use std::marker::Model;
@@ -20,7 +20,7 @@ use std::marker::Model;
 pub struct EchoPort {
     held: HeapCircularBuffer<u8>,
     is_shut: bool,
-    counts: Counts,
+    counts: PortCounts,
     begun: bool,
     ended: bool,
 }
@@ -48,7 +48,7 @@ impl EchoPort {
         Ok(EchoPort {
             held: HeapCircularBuffer::with_capacity(alloc, capacity)?,
             is_shut: false,
-            counts: Counts::new(),
+            counts: PortCounts::new(),
             begun: false,
             ended: false,
         })

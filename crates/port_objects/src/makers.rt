@@ -30,9 +30,9 @@ pub struct MemMaker {
 }
 
 impl Model for MemMaker {
-    ghost use Rattle.port_objects.specs.Makers.{MakerState};
+    ghost use Rattle.port_objects.specs.Makers.{MemMakerState};
 
-    ghost Value = { MakerState };
+    ghost Value = { MemMakerState };
 
     ghost view = { λ maker. record { items = maker.items.items; came = maker.came; asked = maker.asked; faults = maker.faults; stalls = maker.stalls } };
 }

@@ -16,9 +16,9 @@ pub struct MemPoller {
 }
 
 impl Model for MemPoller {
-    ghost use Rattle.port_objects.specs.Pollers.{PollerState, entries_of};
+    ghost use Rattle.port_objects.specs.Pollers.{MemPollerState, entries_of};
 
-    ghost Value = { PollerState };
+    ghost Value = { MemPollerState };
 
     ghost view = { λ poller. record { clock = poller.clock; asked = poller.asked; next = entries_of poller.next; last = entries_of poller.last } };
 }

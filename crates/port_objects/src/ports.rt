@@ -11,8 +11,8 @@ ghost use Rattle.port_objects.specs.Scripts.{IsFilled, given_of, scripted_read, 
 ghost use Rattle.port_objects.specs.Ports.{fresh_port, mem_seen, scripted_hint, scripted_write, scripted_send, scripted_put_all, KeptByWrite};
 
 use crate::intake::{Intake, Tap};
-use crate::scripts::{PortItem, Script};
-use port_trait::{Begun, Counts, Got, Hint, Joining, Port, PortReap, Settled, Shutting, Took};
+use crate::scripts::{PortItem, PortScript};
+use port_trait::{Begun, Got, Hint, Joining, Port, PortCounts, PortReap, Settled, Shutting, Took};
 use relay_model::{NoMemory, Shut};
 use std::alloc::Global;
 use std::marker::Model;
@@ -20,17 +20,17 @@ use std::marker::Model;
 /// Reads answer what the script says, and `NotYet` after it. Writes are taken as far as there is room.
 #[derive(Drop)]
 pub struct MemPort {
-    script: Script,
+    script: PortScript,
     intake: Intake,
-    counts: Counts,
+    counts: PortCounts,
     begun: bool,
     ended: bool,
 }
 
 impl Model for MemPort {
-    ghost use Rattle.port_objects.specs.Ports.{PortState};
+    ghost use Rattle.port_objects.specs.Ports.{MemPortState};
 
-    ghost Value = { PortState };
+    ghost Value = { MemPortState };
 
     ghost view = { λ port. record { script = port.script; intake = port.intake; counts = port.counts; begun = port.begun; ended = port.ended } };
 }
@@ -41,9 +41,9 @@ impl MemPort {
         ensures { IfOk result (λ port. port ≡ fresh_port room) }
     {
         Ok(MemPort {
-            script: Script::new(alloc),
+            script: PortScript::new(alloc),
             intake: Intake::new(alloc, room)?,
-            counts: Counts::new(),
+            counts: PortCounts::new(),
             begun: false,
             ended: false,
         })

@@ -20,13 +20,13 @@ pub enum PortItem {
 
 /// The items, the first that wasn't used up, and how many of its bytes were given.
 #[derive(Drop)]
-pub struct Script {
+pub struct PortScript {
     items: Vec<PortItem>,
     next: usize,
     at: usize,
 }
 
-impl Model for Script {
+impl Model for PortScript {
     ghost use Rattle.std.specs.Prelude.{◌≤◌, length, slice_get};
     ghost use Rattle.port_objects.specs.Scripts.{ScriptState, AllFilled, IsWithin};
 
@@ -38,12 +38,12 @@ impl Model for Script {
         × IsWithin (slice_get script.items.items script.next) script.at };
 }
 
-impl Script {
+impl PortScript {
     /// No items.
-    pub fn new(alloc: Global) -> Script
+    pub fn new(alloc: Global) -> PortScript
         ensures { result ≡ fresh_script }
     {
-        Script {
+        PortScript {
             items: Vec::new(alloc),
             next: 0,
             at: 0,

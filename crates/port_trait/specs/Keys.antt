@@ -1,12 +1,12 @@
 -- What a list of keyed halves holds.
-use Rattle.std.specs.Prelude.{ℕ, List, []}
+use Rattle.std.specs.Prelude.{ℕ}
 use Rattle.relay_model.specs.declared.places.Half.{Half}
+use Rattle.relay_model.specs.Readiness.{ListOf, fresh_list}
 
 -- the entries, and the number of entries that the list was given room for
-pub record KeysListed : Type 0 where
-  pub entries : List (ℕ × Half)
-  pub room : ℕ
+abbrev pub KeysListed : Type 0
+KeysListed = ListOf (ℕ × Half)
 
 -- a list that was just made
 abbrev pub fresh_keys : KeysListed
-fresh_keys = record { entries = []; room = 256 }
+fresh_keys = fresh_list

@@ -5,8 +5,8 @@ use Rattle.port_trait.specs.Counting.{Tallied}
 use Rattle.port_trait.specs.Direct.{no_counts}
 use Rattle.port_trait.specs.Hinting.{IsWithin, all_hints}
 use Rattle.port_trait.specs.Meanings.{Gives, Accepts, AcceptsWhole, AcceptsAll, ReapsChild, Behind, FinishedBehind, OnJoined, join_answer, begun_after, is_end, emptied, begin_event, settle_event, read_event, write_event, shut_event, noted}
-use Rattle.port_trait.specs.Serving.{Serving, Called, Shuts as ShutsServed, MisusesCounted, Explained, is_begin_served}
-use Rattle.port_trait.specs.declared.counts.Counts.{Counts}
+use Rattle.port_trait.specs.Serving.{Serving, Called, Shuts as ShutsServed, MisusesCounted, AreExplained, is_begin_served}
+use Rattle.port_trait.specs.declared.counts.PortCounts.{PortCounts}
 use Rattle.port_trait.specs.declared.answers.Hint.{Hint}
 use Rattle.port_trait.specs.declared.answers.Begun.{Begun as BeginAnswer}
 use Rattle.port_trait.specs.declared.answers.Begun.TheVariants as begins
@@ -42,7 +42,7 @@ pub record PortSeen : Type 0 where
   pub served : Option Serving
   pub hints : Option Hint
   pub hinting : Hint
-  pub counts : Counts
+  pub counts : PortCounts
   pub begun : Bool
   pub ended : Bool
   pub joins : Bool
@@ -170,7 +170,7 @@ pub record Reaps (before now : PortSeen) (answer : PortReap) : Type 0 where
 
 -- a port that was joined and what is behind it agree
 pub record Agrees (port : PortSeen) : Type 0 where
-  pub explained : Explained port.served port.counts port.behind.faults port.behind.ends
+  pub explained : AreExplained port.served port.counts port.behind.faults port.behind.ends
   pub behind : Behind port.gave port.took port.behind.gave port.behind.took port.behind.left port.behind.faults port.ended
   pub finished : FinishedBehind port.behind.faults port.behind.finished
 

@@ -1,7 +1,7 @@
 -- Which calls a port over a source or a sink serves, and what its counts tell of these.
 use Rattle.std.specs.Prelude.{◌≡◌, ℕ, ◌+◌, ◌-◌, ◌^◌, ◌≤◌, max, nat_lt, Bool, true, false, Option, None, Some, IfSome, if◌then◌else◌}
 use Rattle.relay_model.specs.declared.acts.Shut.{Shut}
-use Rattle.port_trait.specs.declared.counts.Counts.{Counts}
+use Rattle.port_trait.specs.declared.counts.PortCounts.{PortCounts}
 use Rattle.port_trait.specs.declared.answers.Begun.{Begun as BeginAnswer}
 use Rattle.port_trait.specs.declared.answers.Begun.TheVariants as begins
 use Rattle.port_trait.specs.Streams.{finishes}
@@ -32,7 +32,7 @@ is_begin_served begins.Failed = false
 is_begin_served begins.Memory = true
 
 -- every misuse was counted as a fault
-abbrev pub MisusesCounted : Option Serving → Counts → Type 0
+abbrev pub MisusesCounted : Option Serving → PortCounts → Type 0
 MisusesCounted served counts = IfSome served (λ serving. serving.misuses ≤ counts.faults)
 
 -- writes are served until the port is shut in a way that ends the bytes
@@ -46,6 +46,6 @@ abbrev pub rise : ℕ → ℕ → ℕ → ℕ
 rise before now seen = if nat_lt now (2 ^ 64 - 1) then now - before else max (now - before) seen
 
 -- the faults that aren't misuses, and the ends, are those of the source or the sink behind
-pub record Explained (served : Option Serving) (counts : Counts) (behind_faults behind_ends : Option ℕ) : Type 0 where
+pub record AreExplained (served : Option Serving) (counts : PortCounts) (behind_faults behind_ends : Option ℕ) : Type 0 where
   pub faults : IfSome served (λ serving. IfSome behind_faults (λ behind. counts.faults ≤ serving.misuses + behind))
   pub ends : IfSome served (λ serving. IfSome behind_ends (λ behind. counts.ends ≤ behind))

@@ -3,7 +3,7 @@ ghost use Rattle.std.specs.Prelude.{◌≡◌};
 ghost use Rattle.port_trait.specs.Passages.{Passage, none_passed, passage_code};
 ghost use base.Fml.{ftrue};
 
-use crate::call::Call;
+use crate::call::PortCall;
 use std::marker::Model;
 
 /// What passed a port from its first call on. It has no bytes when the program runs: only clauses read it.
@@ -28,7 +28,7 @@ impl Account {
 
     /// The account with one call more.
     #[inline(always)]
-    pub fn with(&self, _call: &Call<'_>) -> Account
+    pub fn with(&self, _call: &PortCall<'_>) -> Account
         ensures { result.passed ≡ passed_with self.now.passed _call.now }
     {
         Account {}

@@ -5,19 +5,19 @@ ghost use Rattle.port_trait.specs.Counting.{Tallied, Fault, End, Empty, Stall};
 /// How often a port failed, ended, gave an empty datagram, and had nothing to give or no room. Each number
 /// stays at its last value.
 #[derive(Clone, Copy, Debug, PartialEq)]
-pub struct Counts {
+pub struct PortCounts {
     pub faults: u64,
     pub ends: u64,
     pub empties: u64,
     pub stalls: u64,
 }
 
-impl Counts {
+impl PortCounts {
     /// Nothing was counted yet.
-    pub fn new() -> Counts
+    pub fn new() -> PortCounts
         ensures { result ≡ record { faults = 0; ends = 0; empties = 0; stalls = 0 } }
     {
-        Counts {
+        PortCounts {
             faults: 0,
             ends: 0,
             empties: 0,

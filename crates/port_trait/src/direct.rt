@@ -1,7 +1,7 @@
 // Ports that call their source or sink in the call itself, which may block.
 ghost use Rattle.std.specs.Prelude.{◌≡◌, ◌≢◌, ◌<◌, Bool, true, false, not, length};
 ghost use Rattle.port_trait.specs.Counting.{Tallied, Counted};
-ghost use Rattle.port_trait.specs.Direct.{fresh_reading, fresh_writing, with_fault};
+ghost use Rattle.port_trait.specs.Direct.{WriteRefused, fresh_reading, fresh_writing, with_fault};
 ghost use Rattle.port_trait.specs.Hinting.{no_hint};
 ghost use Rattle.port_trait.specs.Meanings.{AcceptsAll, is_end, read_event, write_event, shut_event, is_write_fault, is_shut_fault, IsOfStream};
 ghost use Rattle.port_trait.specs.Ports.{untold};
@@ -18,7 +18,7 @@ ghost use Rattle.port_trait.specs.declared.answers.Joining.TheVariants as joinin
 use crate::answers::{
     Begun, Got, Hint, Joining, PortReap, Settled, Shutting, SinkTook, SourceGot, Took,
 };
-use crate::counts::Counts;
+use crate::counts::PortCounts;
 use crate::ports::Port;
 use crate::streams::{Sink, Source};
 use crate::texts::write_front;
@@ -29,7 +29,7 @@ use std::marker::Model;
 #[derive(Drop)]
 pub struct DirectReader<S> {
     pub source: S,
-    counts: Counts,
+    counts: PortCounts,
     begun: bool,
     ended: bool,
 }
@@ -49,7 +49,7 @@ impl<S: Source> DirectReader<S> {
     {
         DirectReader {
             source,
-            counts: Counts::new(),
+            counts: PortCounts::new(),
             begun: false,
             ended: false,
         }
@@ -105,27 +105,24 @@ impl<S: Source + Drop> Port for DirectReader<S> {
     }
 
     fn write(&mut self, _bytes: &[u8]) -> Took
-        ensures failed { result ≡ writes.Failed }
-        ensures counted { self.new ≡ record self.old { counts = with_fault self.old.counts } }
-        ensures counts { Tallied (write_event result) self.old.counts self.new.counts }
+        ensures refused { WriteRefused result self.old.counts self.new.counts }
+        ensures kept { self.new ≡ record self.old { counts = self.new.counts } }
     {
         self.counts.count_fault();
         Took::Failed
     }
 
     fn send(&mut self, _bytes: &[u8]) -> Took
-        ensures failed { result ≡ writes.Failed }
-        ensures counted { self.new ≡ record self.old { counts = with_fault self.old.counts } }
-        ensures counts { Tallied (write_event result) self.old.counts self.new.counts }
+        ensures refused { WriteRefused result self.old.counts self.new.counts }
+        ensures kept { self.new ≡ record self.old { counts = self.new.counts } }
     {
         self.counts.count_fault();
         Took::Failed
     }
 
     fn put_all(&mut self, _bytes: &[u8]) -> Took
-        ensures failed { result ≡ writes.Failed }
-        ensures counted { self.new ≡ record self.old { counts = with_fault self.old.counts } }
-        ensures counts { Tallied (write_event result) self.old.counts self.new.counts }
+        ensures refused { WriteRefused result self.old.counts self.new.counts }
+        ensures kept { self.new ≡ record self.old { counts = self.new.counts } }
     {
         self.counts.count_fault();
         Took::Failed
@@ -176,7 +173,7 @@ impl<S: Source + Drop> Port for DirectReader<S> {
 #[derive(Drop)]
 pub struct DirectWriter<K> {
     pub sink: K,
-    counts: Counts,
+    counts: PortCounts,
     begun: bool,
     ended: bool,
 }
@@ -196,7 +193,7 @@ impl<K: Sink> DirectWriter<K> {
     {
         DirectWriter {
             sink,
-            counts: Counts::new(),
+            counts: PortCounts::new(),
             begun: false,
             ended: false,
         }
@@ -252,9 +249,8 @@ impl<K: Sink + Drop> Port for DirectWriter<K> {
     }
 
     fn send(&mut self, _bytes: &[u8]) -> Took
-        ensures failed { result ≡ writes.Failed }
-        ensures counted { self.new ≡ record self.old { counts = with_fault self.old.counts } }
-        ensures counts { Tallied (write_event result) self.old.counts self.new.counts }
+        ensures refused { WriteRefused result self.old.counts self.new.counts }
+        ensures kept { self.new ≡ record self.old { counts = self.new.counts } }
     {
         self.counts.count_fault();
         Took::Failed

@@ -20,8 +20,8 @@ pub use account::Account;
 pub use answers::{
     Begun, Got, Hint, Joining, PortReap, Settled, Shutting, SinkTook, SourceGot, Took,
 };
-pub use call::Call;
-pub use counts::Counts;
+pub use call::PortCall;
+pub use counts::PortCounts;
 pub use direct::{DirectReader, DirectWriter};
 pub use keys::KeyList;
 pub use makers::{AskedPlace, MadePeer, Maker, Making};

@@ -6,7 +6,7 @@ ghost use Rattle.port_trait.specs.Meanings.{begin_event, settle_event, read_even
 ghost use Rattle.port_trait.specs.Counted.{counted};
 
 use crate::answers::{Begun, Got, Settled, Shutting, Took};
-use crate::counts::Counts;
+use crate::counts::PortCounts;
 
 /// Whether a read answered the end.
 pub fn is_end(got: Got) -> bool
@@ -19,7 +19,7 @@ pub fn is_end(got: Got) -> bool
 }
 
 /// A beginning that fails is a fault.
-pub fn count_beginning(counts: &mut Counts, begun: Begun)
+pub fn count_beginning(counts: &mut PortCounts, begun: Begun)
     ensures counted { counts.new ≡ counted (begin_event begun) counts.old }
     ensures tallied { Tallied (begin_event begun) counts.old counts.new }
 {
@@ -30,7 +30,7 @@ pub fn count_beginning(counts: &mut Counts, begun: Begun)
 }
 
 /// A settling that isn't over is a stall, and a failed one a fault.
-pub fn count_settling(counts: &mut Counts, settled: Settled)
+pub fn count_settling(counts: &mut PortCounts, settled: Settled)
     ensures counted { counts.new ≡ counted (settle_event settled) counts.old }
     ensures tallied { Tallied (settle_event settled) counts.old counts.new }
 {
@@ -42,7 +42,7 @@ pub fn count_settling(counts: &mut Counts, settled: Settled)
 }
 
 /// What a read came to, where it gave no bytes.
-pub fn count_reading(counts: &mut Counts, got: Got)
+pub fn count_reading(counts: &mut PortCounts, got: Got)
     ensures counted { counts.new ≡ counted (read_event got) counts.old }
     ensures tallied { Tallied (read_event got) counts.old counts.new }
 {
@@ -56,7 +56,7 @@ pub fn count_reading(counts: &mut Counts, got: Got)
 }
 
 /// A write that takes nothing yet is a stall, and a failed one a fault.
-pub fn count_writing(counts: &mut Counts, took: Took)
+pub fn count_writing(counts: &mut PortCounts, took: Took)
     ensures counted { counts.new ≡ counted (write_event took) counts.old }
     ensures tallied { Tallied (write_event took) counts.old counts.new }
 {
@@ -68,7 +68,7 @@ pub fn count_writing(counts: &mut Counts, took: Took)
 }
 
 /// A shut that fails is a fault.
-pub fn count_shutting(counts: &mut Counts, shutting: Shutting)
+pub fn count_shutting(counts: &mut PortCounts, shutting: Shutting)
     ensures counted { counts.new ≡ counted (shut_event shutting) counts.old }
     ensures tallied { Tallied (shut_event shutting) counts.old counts.new }
 {

@@ -2,7 +2,7 @@
 // and join; gives:BYTES reads until so many bytes came, and says whether they are these; taken says what was taken in
 // memory, and took:BYTES whether it is this.
 use crate::spellings::{begun_word, hint_word, settled_word, shutting_word, truth_word};
-use case_rows::{Answered, Answers, Inputs, RowFault, bytes_of, step_parts};
+use case_rows::{Answered, Answers, CaseFault, Inputs, bytes_of, step_parts};
 use port_objects::Tap;
 use port_trait::{Got, Joining, Port, PortReap, Took};
 use relay_model::Shut;
@@ -17,7 +17,7 @@ const BLOCK: usize = 4096;
 
 /// What a call came to.
 #[derive(Drop)]
-enum Answer {
+enum CallAnswer {
     Word(&'static str),
     /// Nothing for now, in this word.
     Later(&'static str),
@@ -66,13 +66,13 @@ pub(crate) fn call_port<P: Port>(
 }
 
 fn tell_taken(tap: Option<&Tap>, answers: &mut Answers) -> Answered {
-    let tap = tap.ok_or(RowFault::NoRow)?;
+    let tap = tap.ok_or(CaseFault::NoRow)?;
     answers.bytes(tap.bytes()?.as_slice());
     Ok(())
 }
 
-fn has_taken(tap: Option<&Tap>, want: &[u8]) -> Result<bool, RowFault> {
-    let tap = tap.ok_or(RowFault::NoRow)?;
+fn has_taken(tap: Option<&Tap>, want: &[u8]) -> Result<bool, CaseFault> {
+    let tap = tap.ok_or(CaseFault::NoRow)?;
     Ok(tap.bytes()?.as_slice() == want)
 }
 
@@ -87,7 +87,7 @@ fn insist<P: Port>(
 ) -> Answered {
     for _ in 1..tries {
         match call(alloc, port, name, value)? {
-            Answer::Later(_) => thread::yield_now(),
+            CallAnswer::Later(_) => thread::yield_now(),
             answer => {
                 say(answer, answers);
                 return Ok(());
@@ -98,56 +98,61 @@ fn insist<P: Port>(
     Ok(())
 }
 
-fn say(answer: Answer, answers: &mut Answers) {
+fn say(answer: CallAnswer, answers: &mut Answers) {
     match answer {
-        Answer::Word(word) | Answer::Later(word) => answers.word(word),
-        Answer::Count(count) => answers.number(count as u64),
-        Answer::Bytes(bytes) => answers.bytes(bytes.as_slice()),
+        CallAnswer::Word(word) | CallAnswer::Later(word) => answers.word(word),
+        CallAnswer::Count(count) => answers.number(count as u64),
+        CallAnswer::Bytes(bytes) => answers.bytes(bytes.as_slice()),
     }
 }
 
-fn call<P: Port>(alloc: Global, port: &mut P, name: &str, value: &str) -> Result<Answer, RowFault> {
+fn call<P: Port>(
+    alloc: Global,
+    port: &mut P,
+    name: &str,
+    value: &str,
+) -> Result<CallAnswer, CaseFault> {
     match name {
-        "begin" => Ok(Answer::Word(begun_word(port.begin()))),
-        "settle" => Ok(Answer::Word(settled_word(port.settle()))),
+        "begin" => Ok(CallAnswer::Word(begun_word(port.begin()))),
+        "settle" => Ok(CallAnswer::Word(settled_word(port.settle()))),
         "read" => read(alloc, port, value.parse::<usize>()?),
         "write" | "send" | "put" => put(port, name, bytes_of(alloc, value)?.as_slice()),
-        "shut" => Ok(Answer::Word(shutting_word(port.shut(Shut::Down)))),
-        "hint" => Ok(Answer::Word(hint_word(port.hint()))),
-        "may-hint" => Ok(Answer::Word(hint_word(port.may_hint()))),
-        "has-child" => Ok(Answer::Word(truth_word(port.has_child()))),
+        "shut" => Ok(CallAnswer::Word(shutting_word(port.shut(Shut::Down)))),
+        "hint" => Ok(CallAnswer::Word(hint_word(port.hint()))),
+        "may-hint" => Ok(CallAnswer::Word(hint_word(port.may_hint()))),
+        "has-child" => Ok(CallAnswer::Word(truth_word(port.has_child()))),
         "reap" => Ok(reap(port)),
         "join" => Ok(join(port)),
-        _ => Err(RowFault::NoRow),
+        _ => Err(CaseFault::NoRow),
     }
 }
 
-fn read<P: Port>(alloc: Global, port: &mut P, count: usize) -> Result<Answer, RowFault> {
+fn read<P: Port>(alloc: Global, port: &mut P, count: usize) -> Result<CallAnswer, CaseFault> {
     if count == 0 {
-        return Err(RowFault::NoRow);
+        return Err(CaseFault::NoRow);
     }
     let mut into = vec![in alloc; 0u8; count]?;
     let got = port.read(into.as_mut_slice());
     Ok(answer_of(got, into))
 }
 
-fn answer_of(got: Got, into: Vec<u8>) -> Answer {
+fn answer_of(got: Got, into: Vec<u8>) -> CallAnswer {
     match got {
         Got::Bytes(count) => {
             let mut bytes = into;
             bytes.truncate(count);
-            Answer::Bytes(bytes)
+            CallAnswer::Bytes(bytes)
         }
-        Got::Empty => Answer::Word("empty"),
-        Got::End => Answer::Word("end"),
-        Got::NotYet => Answer::Later("not-yet"),
-        Got::Failed => Answer::Word("failed"),
+        Got::Empty => CallAnswer::Word("empty"),
+        Got::End => CallAnswer::Word("end"),
+        Got::NotYet => CallAnswer::Later("not-yet"),
+        Got::Failed => CallAnswer::Word("failed"),
     }
 }
 
-fn put<P: Port>(port: &mut P, name: &str, bytes: &[u8]) -> Result<Answer, RowFault> {
+fn put<P: Port>(port: &mut P, name: &str, bytes: &[u8]) -> Result<CallAnswer, CaseFault> {
     if bytes.is_empty() {
-        return Err(RowFault::NoRow);
+        return Err(CaseFault::NoRow);
     }
     let took = match name {
         "write" => port.write(bytes),
@@ -155,28 +160,28 @@ fn put<P: Port>(port: &mut P, name: &str, bytes: &[u8]) -> Result<Answer, RowFau
         _ => port.put_all(bytes),
     };
     match took {
-        Took::Took(count) => Ok(Answer::Count(count)),
-        Took::NotYet => Ok(Answer::Later("not-yet")),
-        Took::Failed => Ok(Answer::Word("failed")),
+        Took::Took(count) => Ok(CallAnswer::Count(count)),
+        Took::NotYet => Ok(CallAnswer::Later("not-yet")),
+        Took::Failed => Ok(CallAnswer::Word("failed")),
     }
 }
 
-fn reap<P: Port>(port: &mut P) -> Answer {
+fn reap<P: Port>(port: &mut P) -> CallAnswer {
     match port.reap() {
-        PortReap::NoChild => Answer::Word("no-child"),
-        PortReap::Reaped(_) => Answer::Word("reaped"),
+        PortReap::NoChild => CallAnswer::Word("no-child"),
+        PortReap::Reaped(_) => CallAnswer::Word("reaped"),
     }
 }
 
-fn join<P: Port>(port: &mut P) -> Answer {
+fn join<P: Port>(port: &mut P) -> CallAnswer {
     match port.join() {
-        Joining::Joined => Answer::Word("joined"),
-        Joining::Running => Answer::Later("running"),
+        Joining::Joined => CallAnswer::Word("joined"),
+        Joining::Running => CallAnswer::Later("running"),
     }
 }
 
 /// Whether the port gives these bytes, in however many parts.
-fn gives<P: Port>(alloc: Global, port: &mut P, tries: u32, want: &[u8]) -> Result<bool, RowFault> {
+fn gives<P: Port>(alloc: Global, port: &mut P, tries: u32, want: &[u8]) -> Result<bool, CaseFault> {
     let mut into = [0u8; BLOCK];
     let mut have = Vec::new(alloc);
     for _ in 0..tries {
@@ -206,7 +211,7 @@ pub(crate) fn read_boxed(
         };
         let count = word.parse::<usize>()?;
         if count == 0 {
-            return Err(RowFault::NoRow);
+            return Err(CaseFault::NoRow);
         }
         let mut into = vec![in alloc; 0u8; count]?;
         let got = port.read(into.as_mut_slice());

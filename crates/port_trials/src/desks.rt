@@ -1,7 +1,7 @@
 // The desk of a row.
 use crate::memory::add_items;
 use crate::waits::make_waits;
-use case_rows::{Answered, Answers, Inputs, RowFault};
+use case_rows::{Answered, Answers, CaseFault, Inputs};
 use port_desk::{Desk, Standard};
 use port_objects::{MakeItem, MemMaker, MemPoller, MemPort};
 use port_trait::{KeyList, Maker, Poller, Port};
@@ -50,11 +50,11 @@ where
     make_waits(alloc, &mut desk, PLACE, answers)
 }
 
-fn recorder_of(word: &str) -> Result<Recorder, RowFault> {
+fn recorder_of(word: &str) -> Result<Recorder, CaseFault> {
     match word {
         "skip" => Ok(Recorder::Skip),
         "keep" => Ok(Recorder::Keep),
-        _ => Err(RowFault::NoRow),
+        _ => Err(CaseFault::NoRow),
     }
 }
 
@@ -68,7 +68,7 @@ fn standard(alloc: Global) -> Result<Standard<MemPort, MemPort, MemPort>, NoMemo
 }
 
 /// A maker of one port, with the items of the next words, up to `poll`.
-fn maker_of(alloc: Global, inputs: &mut Inputs<'_>) -> Result<MemMaker, RowFault> {
+fn maker_of(alloc: Global, inputs: &mut Inputs<'_>) -> Result<MemMaker, CaseFault> {
     let mut port = MemPort::new(alloc, ROOM)?;
     add_items(alloc, &mut port, "poll", inputs)?;
     let mut maker = MemMaker::new(alloc);
@@ -77,12 +77,12 @@ fn maker_of(alloc: Global, inputs: &mut Inputs<'_>) -> Result<MemMaker, RowFault
 }
 
 /// The key of the next word, and the half of the one behind it.
-fn keys_of(alloc: Global, inputs: &mut Inputs<'_>) -> Result<KeyList, RowFault> {
+fn keys_of(alloc: Global, inputs: &mut Inputs<'_>) -> Result<KeyList, CaseFault> {
     let key = inputs.word()?.parse::<usize>()?;
     let half = match inputs.word()? {
         "to-read" => Half::ToRead,
         "to-write" => Half::ToWrite,
-        _ => return Err(RowFault::NoRow),
+        _ => return Err(CaseFault::NoRow),
     };
     let mut keys = KeyList::new(alloc)?;
     keys.push((key, half));

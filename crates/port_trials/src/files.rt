@@ -1,6 +1,6 @@
 // The files of rows.
 use crate::calls::{PATIENCE, call_port};
-use case_rows::{Answered, Answers, Inputs, RowFault};
+use case_rows::{Answered, Answers, CaseFault, Inputs};
 use file_ports::{PipeOpenings, make_file};
 use mio::Poll;
 use port_trait::{Making, Port};
@@ -29,7 +29,7 @@ where
     let mut openings = match PipeOpenings::new(alloc, poll.registry()) {
         Making::Made(openings) => openings,
         Making::Later(_) | Making::Failed => return no_poll(answers),
-        Making::Memory => return Err(RowFault::NoMemory),
+        Making::Memory => return Err(CaseFault::NoMemory),
     };
     let made = make_file(rt, system, alloc, &mut openings, 0, &single, part);
     call_made(alloc, made, inputs, answers)
@@ -56,22 +56,22 @@ fn call_made<P: Port>(
             answers.word("failed");
             Ok(())
         }
-        Making::Memory => Err(RowFault::NoMemory),
+        Making::Memory => Err(CaseFault::NoMemory),
     }
 }
 
 /// The use of a file.
-fn part_of(word: &str) -> Result<Part, RowFault> {
+fn part_of(word: &str) -> Result<Part, CaseFault> {
     match word {
         "reading" => Ok(Part::Reading),
         "writing" => Ok(Part::Writing),
         "both" => Ok(Part::Both),
-        _ => Err(RowFault::NoRow),
+        _ => Err(CaseFault::NoRow),
     }
 }
 
 /// The address of a file: its kind, and its name.
-fn single_of(alloc: Global, inputs: &mut Inputs<'_>) -> Result<Single, RowFault> {
+fn single_of(alloc: Global, inputs: &mut Inputs<'_>) -> Result<Single, CaseFault> {
     let kind = inputs.word()?;
     let name = Text::of(alloc, inputs.bytes(alloc)?.as_slice())?;
     let target = match kind {
@@ -79,7 +79,7 @@ fn single_of(alloc: Global, inputs: &mut Inputs<'_>) -> Result<Single, RowFault>
         "open" => Target::FileAt(name),
         "generic" => Target::GenericOpen(name),
         "pipe" => Target::NamedPipe(name),
-        _ => return Err(RowFault::NoRow),
+        _ => return Err(CaseFault::NoRow),
     };
     let options = Options::defaults(alloc)?;
     Ok(Single { target, options })

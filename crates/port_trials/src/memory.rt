@@ -3,7 +3,7 @@ ghost use Rattle.std.specs.Prelude.{◌≡◌, IfOk};
 ghost use Rattle.port_objects.specs.Scripts.{IsFilled, given_of};
 
 use crate::calls::{call_port, read_boxed};
-use case_rows::{Answered, Answers, Inputs, RowFault, bytes_of, step_parts};
+use case_rows::{Answered, Answers, CaseFault, Inputs, bytes_of, step_parts};
 use port_objects::{EchoPort, MemPort, MemSink, MemSource, PortItem};
 use port_trait::{DirectReader, DirectWriter, Port, StdSource};
 use relay_model::Bytes;
@@ -23,7 +23,7 @@ pub(crate) fn ask(
         "sink" => ask_sink(alloc, inputs, answers),
         "reader" => ask_reader(alloc, inputs, answers),
         "echo" => ask_echo(alloc, inputs, answers),
-        _ => Err(RowFault::NoRow),
+        _ => Err(CaseFault::NoRow),
     }
 }
 
@@ -52,17 +52,17 @@ pub(crate) fn add_items(
         }
         port.add(item_of(alloc, word)?)?;
     }
-    Err(RowFault::NoRow)
+    Err(CaseFault::NoRow)
 }
 
-fn item_of(alloc: Global, word: &str) -> Result<PortItem, RowFault>
+fn item_of(alloc: Global, word: &str) -> Result<PortItem, CaseFault>
     ensures { IfOk result IsFilled }
 {
     match step_parts(word) {
         ("bytes", value) => {
             let bytes = bytes_of(alloc, value)?;
             if bytes.is_empty() {
-                return Err(RowFault::NoRow);
+                return Err(CaseFault::NoRow);
             }
             Ok(PortItem::Bytes(Bytes::of(alloc, bytes.as_slice())?))
         }
@@ -70,23 +70,23 @@ fn item_of(alloc: Global, word: &str) -> Result<PortItem, RowFault>
         ("end", _) => Ok(PortItem::End),
         ("not-yet", _) => Ok(PortItem::NotYet),
         ("fault", _) => Ok(PortItem::Fault),
-        _ => Err(RowFault::NoRow),
+        _ => Err(CaseFault::NoRow),
     }
 }
 
 /// The source of the next words: `ends` or `fails`, as it does behind its bytes, and the bytes.
-pub(crate) fn source_of(alloc: Global, inputs: &mut Inputs<'_>) -> Result<MemSource, RowFault> {
+pub(crate) fn source_of(alloc: Global, inputs: &mut Inputs<'_>) -> Result<MemSource, CaseFault> {
     let ends = match inputs.word()? {
         "ends" => true,
         "fails" => false,
-        _ => return Err(RowFault::NoRow),
+        _ => return Err(CaseFault::NoRow),
     };
     let bytes = inputs.bytes(alloc)?;
     Ok(MemSource::new(Bytes::of(alloc, bytes.as_slice())?, ends))
 }
 
 /// The sink of the next word, which is its room.
-pub(crate) fn sink_of(alloc: Global, inputs: &mut Inputs<'_>) -> Result<MemSink, RowFault> {
+pub(crate) fn sink_of(alloc: Global, inputs: &mut Inputs<'_>) -> Result<MemSink, CaseFault> {
     let room = inputs.word()?.parse::<usize>()?;
     Ok(MemSink::new(alloc, room)?)
 }

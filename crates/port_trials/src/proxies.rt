@@ -4,7 +4,7 @@ ghost use Rattle.port_objects.specs.Scripts.{given_of};
 
 use crate::calls::make_calls;
 use crate::memory::add_items;
-use case_rows::{Answered, Answers, Inputs, RowFault};
+use case_rows::{Answered, Answers, CaseFault, Inputs};
 use port_objects::{MemPort, Tap};
 use port_trait::Port;
 use std::alloc::Global;
@@ -21,7 +21,7 @@ pub(crate) fn ask(
         "socks4" => ask_socks4(alloc, inputs, answers),
         "socks4a" => ask_socks4a(alloc, inputs, answers),
         "connect" => ask_connect(alloc, inputs, answers),
-        _ => Err(RowFault::NoRow),
+        _ => Err(CaseFault::NoRow),
     }
 }
 
@@ -50,7 +50,7 @@ fn ask_connect(alloc: Global, inputs: &mut Inputs<'_>, answers: &mut Answers) ->
     let (inner, tap) = inner_of(alloc, inputs)?;
     match ConnectPort::new(alloc, inner, host.as_slice(), number) {
         Ok(port) => call_connect(alloc, port, &tap, inputs, answers),
-        Err(_) => Err(RowFault::NoMemory),
+        Err(_) => Err(CaseFault::NoMemory),
     }
 }
 
@@ -92,7 +92,7 @@ fn call_socks<P: Port>(
 }
 
 /// The port to the proxy: its room, the items of its script, and `calls`.
-fn inner_of(alloc: Global, inputs: &mut Inputs<'_>) -> Result<(MemPort, Tap), RowFault>
+fn inner_of(alloc: Global, inputs: &mut Inputs<'_>) -> Result<(MemPort, Tap), CaseFault>
     ensures given { IfOk result (λ made. given_of made.0.script ≡ []) }
     ensures taken { IfOk result (λ made. made.0.intake.bytes ≡ []) }
 {
@@ -102,20 +102,20 @@ fn inner_of(alloc: Global, inputs: &mut Inputs<'_>) -> Result<(MemPort, Tap), Ro
     Ok((port, tap))
 }
 
-fn address_of(bytes: &[u8]) -> Result<[u8; 4], RowFault> {
+fn address_of(bytes: &[u8]) -> Result<[u8; 4], CaseFault> {
     match bytes {
         [a, b, c, d] => Ok([*a, *b, *c, *d]),
-        _ => Err(RowFault::NoRow),
+        _ => Err(CaseFault::NoRow),
     }
 }
 
 /// A name of at most 255 bytes.
-fn name_of(alloc: Global, inputs: &mut Inputs<'_>) -> Result<Vec<u8>, RowFault>
+fn name_of(alloc: Global, inputs: &mut Inputs<'_>) -> Result<Vec<u8>, CaseFault>
     ensures { IfOk result (λ name. length name.items ≤ 255) }
 {
     let name = inputs.bytes(alloc)?;
     if name.len() > 255 {
-        return Err(RowFault::NoRow);
+        return Err(CaseFault::NoRow);
     }
     Ok(name)
 }
@@ -123,18 +123,21 @@ fn name_of(alloc: Global, inputs: &mut Inputs<'_>) -> Result<Vec<u8>, RowFault>
 fn say_socks_end(end: Option<SocksEnd>, answers: &mut Answers) {
     match end {
         None => answers.word("unrefused"),
-        Some(SocksEnd::Denied { code }) => answers.counted("denied", u64::from(code)),
-        Some(SocksEnd::BadReply { first }) => answers.counted("bad-reply", u64::from(first)),
-        Some(SocksEnd::Short { have }) => answers.counted("short", u64::from(have)),
+        Some(SocksEnd::Denied { code }) => answers.word_and_number("denied", u64::from(code)),
+        Some(SocksEnd::BadReply { first }) => answers.word_and_number(
+            "bad-reply",
+            u64::from(first),
+        ),
+        Some(SocksEnd::Short { have }) => answers.word_and_number("short", u64::from(have)),
     }
 }
 
 fn say_connect_end(end: Option<ConnectEnd>, answers: &mut Answers) {
     match end {
         None => answers.word("unrefused"),
-        Some(ConnectEnd::Denied { status }) => answers.counted("denied", u64::from(status)),
-        Some(ConnectEnd::BadHead { have }) => answers.counted("bad-head", u64::from(have)),
+        Some(ConnectEnd::Denied { status }) => answers.word_and_number("denied", u64::from(status)),
+        Some(ConnectEnd::BadHead { have }) => answers.word_and_number("bad-head", u64::from(have)),
         Some(ConnectEnd::TooLong) => answers.word("too-long"),
-        Some(ConnectEnd::Short { have }) => answers.counted("short", u64::from(have)),
+        Some(ConnectEnd::Short { have }) => answers.word_and_number("short", u64::from(have)),
     }
 }

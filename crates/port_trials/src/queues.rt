@@ -2,8 +2,10 @@
 ghost use Rattle.std.specs.Prelude.{◌≡◌, ◌<◌, ⊤, true, IfOk};
 ghost use Rattle.crossbeam_queue.specs.Passes.{view, IsPassOf};
 
-use case_rows::{Answered, Answers, Inputs, RowFault, step_parts};
-use ring_queue::{Item, OrderedPass, OrderedQueue, is_empty, is_full, ordered, put, settle, take};
+use case_rows::{Answered, Answers, CaseFault, Inputs, step_parts};
+use ring_queue::{
+    Item, OrderedPass, OrderedQueue, is_empty, is_full, ordered_queue, put, settle, take,
+};
 use std::alloc::Global;
 use std::sync::Wait;
 use std::thread;
@@ -34,7 +36,7 @@ pub(crate) fn ask_queue<R: Wait>(
     inputs: &mut Inputs<'_>,
     answers: &mut Answers,
 ) -> Answered {
-    let (queue, sender, taker) = ordered::<Number>(alloc, capacity_of(inputs)?)?;
+    let (queue, sender, taker) = ordered_queue::<Number>(alloc, capacity_of(inputs)?)?;
     let mut tried = Queue {
         queue,
         sender,
@@ -50,12 +52,12 @@ pub(crate) fn ask_queue<R: Wait>(
     Ok(())
 }
 
-fn capacity_of(inputs: &mut Inputs<'_>) -> Result<usize, RowFault>
+fn capacity_of(inputs: &mut Inputs<'_>) -> Result<usize, CaseFault>
     ensures { IfOk result (λ capacity. 0 < capacity) }
 {
     let capacity = inputs.word()?.parse::<usize>()?;
     if capacity == 0 {
-        return Err(RowFault::NoRow);
+        return Err(CaseFault::NoRow);
     }
     Ok(capacity)
 }
@@ -71,7 +73,7 @@ impl Queue {
                     Number(value.parse::<u64>()?),
                 ) {
                     Ok(()) => answers.word("put"),
-                    Err(Number(back)) => answers.counted("back", back),
+                    Err(Number(back)) => answers.word_and_number("back", back),
                 }
             }
             ("take", _) => match take(rt, &self.queue, &mut self.taker) {
@@ -80,7 +82,7 @@ impl Queue {
             },
             ("full", _) => answers.truth(is_full(&self.queue, &mut self.sender)),
             ("empty", _) => answers.truth(is_empty(&self.queue, &mut self.taker)),
-            _ => return Err(RowFault::NoRow),
+            _ => return Err(CaseFault::NoRow),
         }
         Ok(())
     }
@@ -98,14 +100,14 @@ impl Queue {
 
 /// The side of a thread that sends.
 #[derive(Drop)]
-struct Sender<'q> {
+struct QueueSender<'q> {
     queue: &'q OrderedQueue<Number>,
     pass: OrderedPass<Number>,
     ghost of_queue: { IsPassOf queue.now pass },
     ghost sends: { (view pass).sends ≡ true },
 }
 
-impl<'q> Sender<'q> {
+impl<'q> QueueSender<'q> {
     fn send<R: Wait>(&mut self, rt: &R, number: u64) {
         for _ in rt.forever() {
             match put(rt, self.queue, &mut self.pass, Number(number)) {
@@ -162,9 +164,9 @@ pub(crate) fn ask_numbers<R: Threads + Wait + Sync>(
     inputs: &mut Inputs<'_>,
     answers: &mut Answers,
 ) -> Answered {
-    let (queue, sender, taker) = ordered::<Number>(alloc, capacity_of(inputs)?)?;
+    let (queue, sender, taker) = ordered_queue::<Number>(alloc, capacity_of(inputs)?)?;
     let count = inputs.number()?;
-    let sender = Sender {
+    let sender = QueueSender {
         queue: &queue,
         pass: sender,
     };

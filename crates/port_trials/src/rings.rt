@@ -1,7 +1,7 @@
 // Rings over sources and sinks in memory, and the calls.
 use crate::calls::{PATIENCE, call_port};
 use crate::memory::{sink_of, source_of};
-use case_rows::{Answered, Answers, Inputs, RowFault};
+use case_rows::{Answered, Answers, CaseFault, Inputs};
 use port_objects::{ListSpawner, Tap};
 use port_trait::{Sink, Source, Spawner, Wake};
 use relay_model::Bytes;
@@ -99,10 +99,10 @@ where
 }
 
 /// The numbers of the starts that a spawner refuses.
-fn refused_of(alloc: Global, inputs: &mut Inputs<'_>) -> Result<Bytes, RowFault> {
+fn refused_of(alloc: Global, inputs: &mut Inputs<'_>) -> Result<Bytes, CaseFault> {
     match inputs.word()? {
         "started" => Ok(Bytes::of(alloc, &[])?),
         "refused" => Ok(Bytes::of(alloc, &[0])?),
-        _ => Err(RowFault::NoRow),
+        _ => Err(CaseFault::NoRow),
     }
 }

@@ -3,7 +3,7 @@ ghost use Rattle.std.specs.Prelude.{◌≤◌, IfOk, length};
 ghost use Rattle.relay_model.specs.Conversions.{longest_packet};
 ghost use Rattle.peer_demux.specs.Links.{IsFit};
 
-use case_rows::{Answered, Answers, Inputs, RowFault, bytes_of, step_parts};
+use case_rows::{Answered, Answers, CaseFault, Inputs, bytes_of, step_parts};
 use peer_demux::{Demux, Hub, Link, LinkItem, Lost, MemLink, Mode, Put, RowPeer, Taken};
 use port_trait::{Got, Took};
 use relay_model::{Bytes, LONGEST_PACKET, Peer};
@@ -50,11 +50,11 @@ fn call_link<L: Link>(
     Ok(())
 }
 
-fn mode_of(inputs: &mut Inputs<'_>) -> Result<Mode, RowFault> {
+fn mode_of(inputs: &mut Inputs<'_>) -> Result<Mode, CaseFault> {
     match inputs.word()? {
         "by-peer" => Ok(Mode::ByPeer),
         "by-packet" => Ok(Mode::ByPacket),
-        _ => Err(RowFault::NoRow),
+        _ => Err(CaseFault::NoRow),
     }
 }
 
@@ -66,10 +66,10 @@ fn add_items(alloc: Global, link: &mut MemLink, inputs: &mut Inputs<'_>) -> Answ
         }
         link.add(item_of(alloc, word)?)?;
     }
-    Err(RowFault::NoRow)
+    Err(CaseFault::NoRow)
 }
 
-fn item_of(alloc: Global, word: &str) -> Result<LinkItem, RowFault>
+fn item_of(alloc: Global, word: &str) -> Result<LinkItem, CaseFault>
     ensures { IfOk result IsFit }
 {
     match step_parts(word) {
@@ -79,31 +79,31 @@ fn item_of(alloc: Global, word: &str) -> Result<LinkItem, RowFault>
         }
         ("not-yet", _) => Ok(LinkItem::NotYet),
         ("fault", _) => Ok(LinkItem::Fault),
-        _ => Err(RowFault::NoRow),
+        _ => Err(CaseFault::NoRow),
     }
 }
 
 /// A peer and the bytes of a packet: PEER:BYTES.
-fn packet_of(alloc: Global, value: &str) -> Result<(Peer, Vec<u8>), RowFault>
+fn packet_of(alloc: Global, value: &str) -> Result<(Peer, Vec<u8>), CaseFault>
     ensures { IfOk result (λ packet. length packet.1.items ≤ longest_packet) }
 {
     let (peer, bytes) = step_parts(value);
     let peer = peer_of(peer)?;
     let bytes = bytes_of(alloc, bytes)?;
     if bytes.len() > usize::from(LONGEST_PACKET) {
-        return Err(RowFault::NoRow);
+        return Err(CaseFault::NoRow);
     }
     Ok((peer, bytes))
 }
 
 /// The peer of a letter.
-fn peer_of(letter: &str) -> Result<Peer, RowFault> {
+fn peer_of(letter: &str) -> Result<Peer, CaseFault> {
     match letter.as_bytes() {
         [letter] => Ok(Peer::V4 {
             addr: [127, 0, 0, *letter],
             port: 9,
         }),
-        _ => Err(RowFault::NoRow),
+        _ => Err(CaseFault::NoRow),
     }
 }
 
@@ -127,7 +127,7 @@ fn call_table(alloc: Global, table: &mut Demux, step: &str, answers: &mut Answer
         ("drop", value) => drop_of_table(table, value.parse::<u32>()?, answers),
         ("call", _) => say_call(table.next_call(), answers),
         ("lost", _) => answers.number(table.lost()),
-        _ => return Err(RowFault::NoRow),
+        _ => return Err(CaseFault::NoRow),
     }
     Ok(())
 }
@@ -170,12 +170,12 @@ fn take_row(alloc: Global, table: &mut Demux, value: &str, answers: &mut Answers
 }
 
 /// A row, and room for so many bytes: ROW:COUNT.
-fn row_and_room(alloc: Global, value: &str) -> Result<(u32, Vec<u8>), RowFault> {
+fn row_and_room(alloc: Global, value: &str) -> Result<(u32, Vec<u8>), CaseFault> {
     let (row, count) = step_parts(value);
     let row = row.parse::<u32>()?;
     let count = count.parse::<usize>()?;
     if count > MOST {
-        return Err(RowFault::NoRow);
+        return Err(CaseFault::NoRow);
     }
     Ok((row, vec![in alloc; 0u8; count]?))
 }
@@ -200,10 +200,10 @@ fn call_hub<L: Link>(
             answers.word("dropped");
         }
         ("new", _) => answers.truth(hub.has_new()),
-        ("more", _) => answers.truth(hub.left_off()),
+        ("more", _) => answers.truth(hub.has_left_off()),
         ("call", _) => say_call(hub.next_call(), answers),
         ("lost", _) => answers.number(hub.lost()),
-        _ => return Err(RowFault::NoRow),
+        _ => return Err(CaseFault::NoRow),
     }
     Ok(())
 }
@@ -258,10 +258,10 @@ fn read_row<L: Link>(
 
 fn say_put(put: Put, answers: &mut Answers) {
     match put {
-        Put::New { row } => answers.counted("new", u64::from(row)),
-        Put::Queued { row } => answers.counted("queued", u64::from(row)),
+        Put::New { row } => answers.word_and_number("new", u64::from(row)),
+        Put::Queued { row } => answers.word_and_number("queued", u64::from(row)),
         Put::Dropped { why } => match why {
-            Lost::RowFull { row } => answers.counted("full", u64::from(row)),
+            Lost::RowFull { row } => answers.word_and_number("full", u64::from(row)),
             Lost::Rows => answers.word("rows"),
             Lost::Numbers => answers.word("numbers"),
             Lost::Memory => answers.word("memory"),

@@ -3,7 +3,7 @@
 ghost use Rattle.std.specs.Prelude.{◌≡◌, true, IfOk};
 ghost use Rattle.relay_model.specs.Holding.{Free, Open};
 
-use case_rows::{Answered, Answers, RowFault};
+use case_rows::{Answered, Answers, CaseFault};
 use relay_model::{Half, Options, Place, ReadyAt, ReadyList, Single, Target, Text};
 use std::alloc::Global;
 use world_trait::{OpenAnswer, ReadAnswer, Turned, World};
@@ -30,7 +30,7 @@ fn open<W: World>(
     world: &mut W,
     place: Place,
     answers: &mut Answers,
-) -> Result<bool, RowFault>
+) -> Result<bool, CaseFault>
     requires { (W.seen world.old).held place ≡ Free }
     ensures { IfOk result (λ stands. stands ≡ true → (W.seen world.new).held place ≡ Open) }
 {
@@ -83,7 +83,7 @@ fn wait<W: World>(alloc: Global, world: &mut W, place: Place, answers: &mut Answ
 
 /// How many halves are named, and which of the place's.
 fn say_named(ready: &ReadyList, place: Place, answers: &mut Answers) {
-    answers.counted("named", ready.len() as u64);
+    answers.word_and_number("named", ready.len() as u64);
     if is_named(ready, place, Half::ToRead) {
         answers.word_part("to-read");
     }

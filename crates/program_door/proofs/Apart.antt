@@ -16,7 +16,7 @@ use Rattle.relay_model.specs.Configs.{has_fork, is_left, program_door, place_at,
 use Rattle.relay_model.specs.History.{holds_at, held, same_why, memory_said, stop_said, accept_failed}
 use Rattle.relay_model.specs.Arming.{armed_to_accept, asked_to_accept}
 use Rattle.relay_model.specs.Sessions.{admitted, holds, next_place, first_part, permits}
-use Rattle.relay_model.specs.Openings.{Accept}
+use Rattle.relay_model.specs.declared.calls.Call.TheVariants.{Accept}
 use Rattle.relay_model.specs.Cause.{closed_why}
 use Rattle.relay_model.specs.Calls.{called_at}
 use Rattle.relay_model.specs.May.{Legal}

@@ -10,9 +10,12 @@ use Rattle.relay_model.specs.declared.acts.Act.TheVariants.{Opened, OpenLater, O
 use Rattle.relay_model.specs.Places.{same_place}
 use Rattle.relay_model.specs.Choices.{one_more}
 use Rattle.relay_model.specs.Configs.{has_fork, is_left, program_door, is_program_door, things}
-use Rattle.relay_model.specs.History.{Stage, Usable, Unsettled, Failed, Met, Waiting, Gone, stage, held, holds_at}
+use Rattle.relay_model.specs.History.{stage, held, holds_at}
+use Rattle.relay_model.specs.declared.stages.Stage.{Stage}
+use Rattle.relay_model.specs.declared.stages.Stage.TheVariants.{Usable, Unsettled, Failed, Met, Waiting, Gone}
 use Rattle.relay_model.specs.Sessions.{admitted, live, holds, next_place, is_admission}
-use Rattle.relay_model.specs.Openings.{Call, Nothing, Open, Settle, Listen, Accept}
+use Rattle.relay_model.specs.declared.calls.Call.{Call}
+use Rattle.relay_model.specs.declared.calls.Call.TheVariants.{Nothing, Open, Settle, Listen, Accept}
 use Rattle.relay_model.specs.Calls.{call, called_at, door_call}
 use Rattle.relay_model.specs.May.{Legal}
 use Rattle.relay_model.specs.Laws.{DoorTells}

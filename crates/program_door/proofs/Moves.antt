@@ -14,11 +14,14 @@ use Rattle.relay_model.specs.Places.{same_place}
 use Rattle.relay_model.specs.Choices.{only_if, first_some, one_more}
 use Rattle.relay_model.specs.Configs.{has_fork, program_door, place_at, things, is_of, parts, options_of}
 use Rattle.relay_model.specs.Permits.{is_permitted}
-use Rattle.relay_model.specs.History.{now, failures, Stage, stage, Waiting, Met, holds_at, held, memory_said, stop_said, accept_failed}
-use Rattle.relay_model.specs.History as stages
+use Rattle.relay_model.specs.History.{now, failures, stage, holds_at, held, memory_said, stop_said, accept_failed}
+use Rattle.relay_model.specs.declared.stages.Stage.{Stage}
+use Rattle.relay_model.specs.declared.stages.Stage.TheVariants.{Waiting, Met}
+use Rattle.relay_model.specs.declared.stages.Stage.TheVariants as stages
 use Rattle.relay_model.specs.Arming.{armed_to_accept, asked_to_accept}
 use Rattle.relay_model.specs.Sessions.{admitted, numbers, next_place, first_part, permits, is_admission, door_options}
-use Rattle.relay_model.specs.Openings.{Call, Nothing, Listen, Accept, Refuse, Serve}
+use Rattle.relay_model.specs.declared.calls.Call.{Call}
+use Rattle.relay_model.specs.declared.calls.Call.TheVariants.{Nothing, Listen, Accept, Refuse, Serve}
 use Rattle.relay_model.specs.Cause.{closed_why, is_end}
 use Rattle.relay_model.specs.Calls.{call, called_at, door_call, door_cut, enough, full, program_door_call}
 use Rattle.relay_model.specs.May.{Legal}
@@ -29,8 +32,8 @@ use Rattle.relay_laws.proofs.Admissions.{door_says}
 use Rattle.relay_laws.proofs.OwnThings.{each_thing, among_own}
 use Rattle.relay_laws.proofs.Begun.{begun}
 use Rattle.retry_plan.specs.Plans.{last_of}
-use Rattle.program_door.specs.declared.stages.Stage.{Stage as AtStage}
-use Rattle.program_door.specs.declared.stages.Stage.TheVariants as at
+use Rattle.program_door.specs.declared.stages.DoorStage.{DoorStage as AtStage}
+use Rattle.program_door.specs.declared.stages.DoorStage.TheVariants as at
 use Rattle.program_door.specs.Answers.{as_stage}
 use Rattle.program_door.specs.Causes.{door_cause}
 use Rattle.program_door.specs.Stands.{is_before}

@@ -5,14 +5,14 @@ use Rattle.port_objects.specs.Echoes.{EchoState}
 use Rattle.file_ports.specs.Halves.{HalvesState}
 use Rattle.file_ports.specs.declared.stream.FileStream.{FileStream}
 use Rattle.tunnel_port.specs.Tunnels.{TunnelState}
-use Rattle.real_maker.specs.SocksStages.{OpeningState}
+use Rattle.real_maker.specs.SocksStages.{SocksOpeningState}
 use Rattle.tunnel_port.specs.ConnectReplies.{ConnectState}
 use Rattle.socket_ports.specs.Ports.{PeerState}
-use Rattle.socket_ports.specs.Sockets.{PortState}
+use Rattle.socket_ports.specs.Sockets.{SocketPortState}
 use Rattle.socket_maker.specs.declared.port.HostPort.{HostPort}
 
 -- what the port that it is tells
-abbrev pub of_port : {T : Type 0} → (EchoState → T) → (HostPort → T) → (PortState FileStream → T) → (PortState HalvesState → T) → (OpeningState HostPort → T) → (TunnelState HostPort ConnectState → T) → (PeerState → T) → RealPort → T
+abbrev pub of_port : {T : Type 0} → (EchoState → T) → (HostPort → T) → (SocketPortState FileStream → T) → (SocketPortState HalvesState → T) → (SocksOpeningState HostPort → T) → (TunnelState HostPort ConnectState → T) → (PeerState → T) → RealPort → T
 of_port echo socket file child socks proxy peer (ports.Echo port) = echo port
 of_port echo socket file child socks proxy peer (ports.Socket port) = socket port
 of_port echo socket file child socks proxy peer (ports.File port) = file port

@@ -6,14 +6,14 @@ use Rattle.port_trait.specs.Ports.{PortSeen}
 use Rattle.port_trait.specs.declared.answers.Hint.{Hint}
 use Rattle.port_trait.specs.declared.answers.Shutting.{Shutting}
 use Rattle.port_trait.specs.declared.answers.Shutting.TheVariants as shuts
-use Rattle.port_trait.specs.declared.counts.Counts.{Counts}
+use Rattle.port_trait.specs.declared.counts.PortCounts.{PortCounts}
 use Rattle.real_maker.specs.declared.socks.SocksStage.{SocksStage}
 use Rattle.real_maker.specs.declared.socks.SocksStage.TheVariants as stages
 
 -- how far it has come, what was counted, whether a begin came, and whether the last read answered the end
-pub record OpeningState (P : Type 0) : Type 0 where
+pub record SocksOpeningState (P : Type 0) : Type 0 where
   pub stage : SocksStage P
-  pub counts : Counts
+  pub counts : PortCounts
   pub begun : Bool
   pub ended : Bool
 

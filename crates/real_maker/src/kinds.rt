@@ -1,7 +1,7 @@
 // Which of the makers opens an address.
 ghost use Rattle.std.specs.Prelude.{◌≡◌};
 ghost use Rattle.relay_model.specs.declared.commands.Target.TheVariants as targets;
-ghost use Rattle.real_maker.specs.declared.kinds.Kind.TheVariants as kinds;
+ghost use Rattle.real_maker.specs.declared.kinds.MakerKind.TheVariants as kinds;
 
 use relay_model::{Single, Target};
 use std::fs::Files;
@@ -10,7 +10,7 @@ use std::str;
 
 /// What opens an address.
 #[derive(Clone, Copy, Debug, PartialEq)]
-pub(crate) enum Kind {
+pub(crate) enum MakerKind {
     Echo,
     File,
     Socket,
@@ -21,19 +21,19 @@ pub(crate) enum Kind {
 }
 
 /// The kind of the address. A `GOPEN` whose entry is a socket is one (socat(1), `GOPEN`).
-pub(crate) fn kind_of<R: Files>(files: &R, single: &Single) -> Kind
+pub(crate) fn kind_of<R: Files>(files: &R, single: &Single) -> MakerKind
     ensures { result ≡ kinds.Echo → single.now.target ≡ targets.Echo }
 {
     match &single.target {
-        Target::Echo => Kind::Echo,
-        Target::Create(_) | Target::FileAt(_) | Target::NamedPipe(_) => Kind::File,
-        Target::GenericOpen(name) if is_socket(files, name.as_slice()) => Kind::Socket,
-        Target::GenericOpen(_) => Kind::File,
-        Target::Tcp { .. } | Target::UnixConnect(_) => Kind::Socket,
-        Target::Udp { .. } | Target::UdpSendto { .. } | Target::UdpRecv { .. } => Kind::Socket,
-        Target::Exec(_) | Target::System(_) => Kind::Child,
-        Target::Socks { .. } | Target::Proxy { .. } => Kind::Proxied,
-        _ => Kind::Other,
+        Target::Echo => MakerKind::Echo,
+        Target::Create(_) | Target::FileAt(_) | Target::NamedPipe(_) => MakerKind::File,
+        Target::GenericOpen(name) if is_socket(files, name.as_slice()) => MakerKind::Socket,
+        Target::GenericOpen(_) => MakerKind::File,
+        Target::Tcp { .. } | Target::UnixConnect(_) => MakerKind::Socket,
+        Target::Udp { .. } | Target::UdpSendto { .. } | Target::UdpRecv { .. } => MakerKind::Socket,
+        Target::Exec(_) | Target::System(_) => MakerKind::Child,
+        Target::Socks { .. } | Target::Proxy { .. } => MakerKind::Proxied,
+        _ => MakerKind::Other,
     }
 }
 

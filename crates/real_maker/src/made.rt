@@ -23,7 +23,7 @@ use std::rc::Rc;
 
 /// What a door knows of its maker's descriptors.
 #[derive(Drop)]
-pub struct Gate {
+pub struct DoorGate {
     alloc: Global,
     registry: Rc<Registry, Global>,
     // whether descriptors are kept for each of its peers
@@ -32,7 +32,7 @@ pub struct Gate {
     lacking: usize,
 }
 
-impl Model for Gate {
+impl Model for DoorGate {
     ghost use Rattle.real_maker.specs.Gates.{GateState};
 
     ghost Value = { GateState };
@@ -40,12 +40,12 @@ impl Model for Gate {
     ghost view = { λ gate. record { shared = gate.shared; lacking = gate.lacking } };
 }
 
-impl Gate {
+impl DoorGate {
     /// Of a door that lacks nothing. Descriptors are copies of the registry's.
-    pub(crate) fn new(alloc: Global, registry: Rc<Registry, Global>, shared: bool) -> Gate
+    pub(crate) fn new(alloc: Global, registry: Rc<Registry, Global>, shared: bool) -> DoorGate
         ensures { result ≡ record { shared = shared; lacking = 0 } }
     {
-        Gate {
+        DoorGate {
             alloc,
             registry,
             shared,
@@ -76,7 +76,7 @@ pub enum Hints {
     /// It may always be ready, since no poller reports it.
     Always,
     /// The port, while its door lacks no descriptors.
-    Gate(Gate),
+    Gate(DoorGate),
 }
 
 /// A port as a maker hands it out. Each call but the hints is that call on the port. A door whose last accepting lacked
@@ -102,7 +102,7 @@ impl MadePort {
     }
 
     /// The made port of a door.
-    pub(crate) fn door(port: RealPort, gate: Gate) -> MadePort
+    pub(crate) fn door(port: RealPort, gate: DoorGate) -> MadePort
         ensures port { result.port ≡ port }
         ensures shared { is_shared result.hints ≡ gate.shared }
     {

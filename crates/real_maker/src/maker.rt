@@ -3,8 +3,6 @@ ghost use Rattle.std.specs.Prelude.{◌≡◌, ◌≢◌, ◌<◌, ◌+◌, true
 ghost use Rattle.relay_model.specs.declared.commands.Single.{Single};
 ghost use Rattle.relay_model.specs.declared.commands.Target.{Target};
 ghost use Rattle.relay_model.specs.Configs.{listens};
-ghost use Rattle.port_trait.specs.Counted.{risen};
-ghost use Rattle.port_trait.specs.Counting.{Counted};
 ghost use Rattle.port_trait.specs.Made.{making_failed, making_stalled, IsAtOnce};
 ghost use Rattle.port_trait.specs.Makers.{Opens, Listens, LetsIn};
 ghost use Rattle.port_trait.specs.Ports.{MovesNothing};
@@ -13,7 +11,6 @@ ghost use Rattle.port_trait.specs.declared.makers.MadePeer.TheVariants as peers;
 ghost use Rattle.relay_model.specs.declared.acts.Peer.TheVariants as whose;
 ghost use Rattle.socket_kinds.specs.Accepting.{OnBoth, OnPort, OnPeer, OnCame};
 ghost use Rattle.socket_kinds.specs.Kinds.{Listening};
-ghost use Rattle.socket_maker.specs.Makers.{risen_if};
 ghost use Rattle.socket_maker.specs.Makings.{opened_sort};
 ghost use Rattle.socket_maker.specs.Ports.{HasPartnerAt, is_door_port, is_unix_door_port, port_sort};
 ghost use Rattle.socket_maker.specs.declared.port.HostPort.{HostPort};
@@ -26,8 +23,8 @@ ghost use Rattle.real_maker.specs.Asking.{Asks};
 ghost use Rattle.real_maker.specs.Kinds.{IsOpenedFor, IsDoorFor, ComesAt, IsOfPeer, is_local_door, gathers_senders};
 ghost use Rattle.real_maker.specs.declared.ports.RealPort.TheVariants as ports;
 
-use crate::kinds::{Kind, kind_of};
-use crate::made::{Gate, Hints, MadePort, made_port};
+use crate::kinds::{MakerKind, kind_of};
+use crate::made::{DoorGate, Hints, MadePort, made_port};
 use crate::opening::{OfSocket, make_echo};
 use crate::ports::RealPort;
 use crate::proxied::{Through, through_proxy, through_socks};
@@ -37,7 +34,7 @@ use mio::{Poll, Registry};
 use mio_poller::{MioPoller, is_reserved};
 use port_trait::{MadePeer, Maker, Making, Port};
 use relay_model::{NoMemory, Part, Peer, Place, Single, Target};
-use socket_maker::{Reserve, SocketMaker, bind_door, door_address};
+use socket_maker::{MakerTally, Reserve, SocketMaker, bind_door, door_address};
 use socket_ports::{Gathering, PeerPoller, PeerPort};
 use std::alloc::Global;
 use std::fs::Files;
@@ -62,17 +59,15 @@ pub struct RealMaker<R> {
     reserve: Reserve,
     unreaped: UnreapedChildren<SystemProcess>,
     openings: PipeOpenings,
-    faults: u64,
-    stalls: u64,
-    came: Option<Peer>,
+    tally: MakerTally,
 }
 
 impl<R> Model for RealMaker<R> {
-    ghost use Rattle.real_maker.specs.Makers.{MakerState};
+    ghost use Rattle.real_maker.specs.Makers.{RealMakerState};
 
-    ghost Value = { MakerState };
+    ghost Value = { RealMakerState };
 
-    ghost view = { λ maker. record { faults = maker.faults; stalls = maker.stalls; came = maker.came; reserve = maker.reserve } };
+    ghost view = { λ maker. record { faults = maker.tally.faults; stalls = maker.tally.stalls; came = maker.tally.came; reserve = maker.reserve } };
 }
 
 impl<R> RealMaker<R>
@@ -174,39 +169,8 @@ where
             reserve,
             unreaped,
             openings,
-            faults: 0,
-            stalls: 0,
-            came: None,
+            tally: MakerTally::new(),
         })
-    }
-
-    fn count_fault(&mut self)
-        ensures value { self.new ≡ record self.old { faults = risen self.old.faults } }
-        ensures counted { Counted true self.old.faults self.new.faults }
-    {
-        self.faults = self.faults.saturating_add(1);
-    }
-
-    fn count_stall(&mut self)
-        ensures value { self.new ≡ record self.old { stalls = risen self.old.stalls } }
-        ensures counted { Counted true self.old.stalls self.new.stalls }
-    {
-        self.stalls = self.stalls.saturating_add(1);
-    }
-
-    /// Counts a failure, and what is under way.
-    fn count_making<T>(&mut self, making: &Making<T>)
-        ensures faults { self.new.faults ≡ risen_if (making_failed making.now) self.old.faults }
-        ensures stalls { self.new.stalls ≡ risen_if (making_stalled making.now) self.old.stalls }
-        ensures counted_fault { Counted (making_failed making.now) self.old.faults self.new.faults }
-        ensures counted_stall { Counted (making_stalled making.now) self.old.stalls self.new.stalls }
-        ensures came { self.new.came ≡ self.old.came }
-    {
-        match making {
-            Making::Failed => self.count_fault(),
-            Making::Later(_) => self.count_stall(),
-            Making::Made(_) | Making::Memory => {}
-        }
     }
 
     /// Opens the address, without counting. Where that fails for want of descriptors, those in reserve are given up, and it
@@ -242,12 +206,12 @@ where
     {
         self.unreaped.ask_all();
         match kind_of(&self.system, single) {
-            Kind::Echo => make_echo(self.alloc),
-            Kind::Socket => self.open_socket(key, place, single),
-            Kind::File => self.open_file(key, place.part, single),
-            Kind::Child => self.start_program(key, place.part, single, behind),
-            Kind::Proxied => self.connect_through(key, single),
-            Kind::Other => Making::Failed,
+            MakerKind::Echo => make_echo(self.alloc),
+            MakerKind::Socket => self.open_socket(key, place, single),
+            MakerKind::File => self.open_file(key, place.part, single),
+            MakerKind::Child => self.start_program(key, place.part, single, behind),
+            MakerKind::Proxied => self.connect_through(key, single),
+            MakerKind::Other => Making::Failed,
         }
     }
 
@@ -421,7 +385,7 @@ where
         match door {
             _ if is_reserved(key) => MadePeer::Failed,
             RealPort::Socket(socket) => peer_of(self.accept_socket(socket, key)),
-            RealPort::Peer(door) => gathered(door.accept(key)),
+            RealPort::Peer(door) => real_peer(door.accept(key)),
             _ => MadePeer::Failed,
         }
     }
@@ -499,7 +463,7 @@ where
         if shared {
             self.reserve.fit();
         }
-        Making::Made(MadePort::door(port, Gate::new(self.alloc, registry, shared)))
+        Making::Made(MadePort::door(port, DoorGate::new(self.alloc, registry, shared)))
     }
 }
 
@@ -546,7 +510,7 @@ fn peer_of(peer: MadePeer<OfSocket>) -> MadePeer<RealPort>
 }
 
 /// A peer of a shared socket as a port of any kind.
-fn gathered(peer: MadePeer<PeerPort>) -> MadePeer<RealPort>
+fn real_peer(peer: MadePeer<PeerPort>) -> MadePeer<RealPort>
     ensures addressed { OnCame (λ who. who ≢ whose.Local) peer → OnCame (λ who. who ≢ whose.Local) result }
     ensures partner { OnBoth (λ port who. port ≡ fresh_port (Some who)) peer → OnBoth IsOfPeer result }
     ensures kind { (door : PeerState) → OnPeer (ComesAt (ports.Peer door)) result }
@@ -579,12 +543,12 @@ where
         ensures opens { Opens (seen_of self.old) (seen_of self.new) (record { place = place; single = single.now; behind = behind }) result }
     {
         if is_reserved(key) {
-            self.count_fault();
+            self.tally.count_fault();
             return Making::Failed;
         }
         let opened = self.open(key, place, single, behind);
         let making = self.made_opening(opened);
-        self.count_making(&making);
+        self.tally.count_making(&making);
         making
     }
 
@@ -595,12 +559,12 @@ where
         ensures listens { Listens (seen_of self.old) (seen_of self.new) result }
     {
         if is_reserved(key) {
-            self.count_fault();
+            self.tally.count_fault();
             return Making::Failed;
         }
         let opened = self.open_door(key, single);
         let making = self.made_door(opened, single.options.sessions.fork);
-        self.count_making(&making);
+        self.tally.count_making(&making);
         making
     }
 
@@ -614,19 +578,12 @@ where
         ensures lets_in { let at = ⟦<MadePort as Port>⟧.seen in
             LetsIn (seen_of self.old) (seen_of self.new) (at door.old) (at door.new) result }
     {
-        match self.take_peer(door, key) {
-            MadePeer::Came(port, peer) => {
-                self.came = Some(peer);
-                MadePeer::Came(MadePort::of_peer(port), peer)
-            }
-            MadePeer::NoPeer => {
-                self.count_stall();
-                MadePeer::NoPeer
-            }
-            MadePeer::Failed => {
-                self.count_fault();
-                MadePeer::Failed
-            }
+        let peer = self.take_peer(door, key);
+        self.tally.count_peer(&peer);
+        match peer {
+            MadePeer::Came(port, peer) => MadePeer::Came(MadePort::of_peer(port), peer),
+            MadePeer::NoPeer => MadePeer::NoPeer,
+            MadePeer::Failed => MadePeer::Failed,
             MadePeer::Memory => MadePeer::Memory,
         }
     }

@@ -11,7 +11,7 @@ ghost use Rattle.real_maker.specs.Kinds.{IsOpenedFor, is_proxy, is_socks};
 use crate::opening::OfSocket;
 use crate::ports::RealPort;
 use crate::socks::{AskedLater, MOST, SocksOpening, SocksStage, request_to};
-use host_lookup::{Lookup, Written, written_host};
+use host_lookup::{HostLookup, WrittenHost, written_host};
 use port_trait::Making;
 use relay_model::{Options, Text};
 use socket_maker::SocketMaker;
@@ -64,7 +64,7 @@ where
 #[derive(Drop)]
 enum Wanted {
     Now(Request),
-    Once(Lookup, u16, Text),
+    Once(HostLookup, u16, Text),
 }
 
 /// The request to the server, or what it will be made of. It answers `Failed` where a text is too long, where the host
@@ -87,9 +87,9 @@ where
         return Making::Made(Wanted::Now(request4a(host.as_slice(), port, user.as_slice())));
     }
     match written_host(host) {
-        Written::Address(IpAddr::V4(ip)) => wanted_now(host, ip, port, user),
-        Written::Address(IpAddr::V6(_)) | Written::Unnamed => Making::Failed,
-        Written::Name(name) => wanted_once(sockets, host, name, port, user),
+        WrittenHost::Address(IpAddr::V4(ip)) => wanted_now(host, ip, port, user),
+        WrittenHost::Address(IpAddr::V6(_)) | WrittenHost::Unnamed => Making::Failed,
+        WrittenHost::Name(name) => wanted_once(sockets, host, name, port, user),
     }
 }
 

@@ -8,10 +8,10 @@ ghost use Rattle.real_maker.specs.Asking.{AsksFound};
 ghost use Rattle.real_maker.specs.SocksStages.{ShutsBeneath, stage_hinting, stage_hints};
 
 use crate::opening::OfSocket;
-use host_lookup::{Looked, Lookup};
+use host_lookup::{HostLookup, Looked};
 use port_trait::{
-    Begun, Counts, Got, Hint, Joining, Port, PortReap, Settled, Shutting, Took, count_beginning,
-    count_reading, count_settling, count_shutting, count_writing, is_end,
+    Begun, Got, Hint, Joining, Port, PortCounts, PortReap, Settled, Shutting, Took,
+    count_beginning, count_reading, count_settling, count_shutting, count_writing, is_end,
 };
 use relay_model::{Shut, Text};
 use std::marker::Model;
@@ -26,7 +26,7 @@ pub(crate) const MOST: usize = 255;
 #[derive(Drop)]
 pub struct AskedLater<P: Port = OfSocket> {
     pub(crate) inner: P,
-    pub(crate) lookup: Lookup,
+    pub(crate) lookup: HostLookup,
     pub(crate) port: u16,
     pub(crate) user: Text,
 }
@@ -60,7 +60,7 @@ impl<P: Port> AskedLater<P> {
     }
 
     /// The port that asks the server for this address. `None` where the user is too long.
-    fn asking(self, octets: [u8; 4]) -> Option<SocksPort<P>>
+    fn into_port(self, octets: [u8; 4]) -> Option<SocksPort<P>>
         ensures asks { IfSome result (λ port. port.talk.request ≡ socks4 octets self.port self.user) }
         ensures too_long { result ≡ None → 255 < length self.user }
     {
@@ -98,15 +98,15 @@ pub enum SocksStage<P: Port = OfSocket> {
 #[derive(Drop)]
 pub struct SocksOpening<P: Port = OfSocket> {
     stage: SocksStage<P>,
-    counts: Counts,
+    counts: PortCounts,
     begun: bool,
     ended: bool,
 }
 
 impl<P: Port> Model for SocksOpening<P> {
-    ghost use Rattle.real_maker.specs.SocksStages.{OpeningState};
+    ghost use Rattle.real_maker.specs.SocksStages.{SocksOpeningState};
 
-    ghost Value = { OpeningState P };
+    ghost Value = { SocksOpeningState P };
 
     ghost view = { λ port. record { stage = port.stage; counts = port.counts; begun = port.begun; ended = port.ended } };
 }
@@ -118,7 +118,7 @@ impl<P: Port> SocksOpening<P> {
     {
         SocksOpening {
             stage,
-            counts: Counts::new(),
+            counts: PortCounts::new(),
             begun: false,
             ended: false,
         }
@@ -158,7 +158,7 @@ impl<P: Port> SocksOpening<P> {
             return Settled::Failed;
         };
         let octets = addr.ip().octets();
-        let Some(mut port) = asked.asking(octets) else {
+        let Some(mut port) = asked.into_port(octets) else {
             return Settled::Failed;
         };
         let settled = port.settle();

@@ -4,18 +4,13 @@ use Rattle.std.specs.Fmt.{decimal}
 use Rattle.port_trait.specs.Counting.{Rose}
 use Rattle.std.specs.Io.KnownBytes.{Consumes, Appends, IsAtEnd}
 use Rattle.port_trait.specs.Streams.{Loses}
+use Rattle.journal_text.specs.Sources.{longest_text}
 use Rattle.relay_model.specs.Dumps.{newline}
 use Rattle.relay_audit.specs.declared.verdicts.Verdict.{Verdict}
 use Rattle.relay_audit.specs.declared.verdicts.Verdict.TheVariants.{Yes, BadLine, BadWords, Illegal}
 use Rattle.relay_audit.specs.declared.reports.Report.{Report}
 use Rattle.relay_audit.specs.declared.reports.Report.TheVariants.{TooLong, Found}
-use Rattle.relay_audit.specs.declared.reports.Unread.{Unread}
-use Rattle.relay_audit.specs.declared.reports.Unread.TheVariants.{Memory, Failed}
 use Rattle.relay_audit.specs.Verdicts.{IsVerdictOf}
-
--- the longest text that is audited, in bytes
-abbrev pub longest_text : ℕ
-longest_text = 16777216
 
 -- the report on a text: a text that is too long isn't looked at
 abbrev pub IsReportOf : List (List ℕ) → ℕ → List ℕ → Report → Type 0
@@ -79,18 +74,3 @@ pub record ReportedBeneath (words : List (List ℕ)) (n : ℕ) (rest_before rest
   pub ended : ReadToEndBeneath report rest
   pub said : Appends holds_before holds (line_of report)
   pub status_is : status ≡ status_of report
-
--- all of a text was read: its end was met and nothing is left, or more was given than is audited
-pub record HasRead (text : List ℕ) (left_before left : Option (List ℕ)) (ends_before ends : ℕ) : Type 0 where
-  pub gave : Loses left_before left text
-  pub ended : length text ≤ longest_text → Rose ends_before ends × IfSome left (λ rest. rest ≡ [])
-
--- the reader beneath lost the text, and is at its end unless more was given than is audited
-pub record HasReadBeneath (text : List ℕ) (rest_before rest : Option (List ℕ)) : Type 0 where
-  pub gave : Consumes rest_before rest text
-  pub ended : length text ≤ longest_text → IsAtEnd rest
-
--- why a text wasn't read: want of memory has no further cause
-abbrev pub WhyUnread : ℕ → ℕ → Unread → Type 0
-WhyUnread faults_before faults Memory = Unit {0}
-WhyUnread faults_before faults Failed = Rose faults_before faults

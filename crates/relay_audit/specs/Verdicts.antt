@@ -1,24 +1,15 @@
 -- What an audit says of a text and of the words of a command.
-use Rattle.std.specs.Prelude.{◌≡◌, ◌≢◌, ℕ, List, length, Option, Some, None, Ok}
+use Rattle.std.specs.Prelude.{◌≡◌, ℕ, List, length, Ok}
 use Rattle.relay_model.specs.declared.commands.Config.{Config}
 use Rattle.relay_model.specs.declared.acts.Act.{Act}
 use Rattle.relay_model.specs.May.{Legal}
 use Rattle.relay_model.specs.Audit.{held_count}
 use Rattle.journal_text.specs.Texts.{IsTextOf, IsFirstBadLine, kept}
 use Rattle.cmd_words.specs.declared.commands.Command.TheVariants.{Relay}
-use Rattle.cmd_words.specs.Commands.{command}
+use Rattle.cmd_words.specs.Commands.{MakesNoRelay, command}
 use Rattle.relay_audit.specs.declared.verdicts.Verdict.{Verdict}
 use Rattle.relay_audit.specs.declared.verdicts.Verdict.TheVariants.{Yes, BadLine, BadWords, Illegal}
 use Rattle.relay_audit.specs.Judging.{IsFirstIllegal}
-
--- the words make no relay
-abbrev pub MakesNoRelay : List (List ℕ) → Type 0
-MakesNoRelay words = (c : Config) → command words ≢ Ok (Relay c)
-
--- the relay that the words make, or none
-abbrev pub IsRelayOf : List (List ℕ) → Option Config → Type 0
-IsRelayOf words None = MakesNoRelay words
-IsRelayOf words (Some c) = command words ≡ Ok (Relay c)
 
 -- the text is that of these acts, as they are read from it
 abbrev pub Reads : List ℕ → List Act → Type 0

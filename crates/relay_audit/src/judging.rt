@@ -11,7 +11,7 @@ ghost use Rattle.relay_audit.specs.Judging.{Judges};
 
 use crate::may::may_come;
 use command_places::{has_fork, options_of, program_door, things};
-use history_facts::held;
+use history_facts::is_held;
 use relay_laws::{
     admitted_is_bounded, one_test_is_right, packets_are_due, tests_are_right, written_is_due,
 };
@@ -35,7 +35,7 @@ fn count_held(past: &Ledger, places: &[Place]) -> usize
 {
     places
         .iter()
-        .filter(|place| held(past.facts(), **place))
+        .filter(|place| is_held(past.facts(), **place))
         .count()
 }
 
@@ -70,7 +70,7 @@ pub fn held_count(past: &Ledger) -> u64
     let next = numbers(past.facts());
     let begun = held_in_sessions(past, next);
     let coming = held_in_session(past, next) as u64;
-    let door = if has_fork(config) && held(past.facts(), program_door()) {
+    let door = if has_fork(config) && is_held(past.facts(), program_door()) {
         1
     } else {
         0

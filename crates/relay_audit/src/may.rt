@@ -15,7 +15,6 @@ ghost use Rattle.relay_model.specs.Transfers.{due, due_pieces, backlog, is_spent
 ghost use Rattle.relay_model.specs.Rest.{owed, is_going, owes_read, owes_write, until_of};
 ghost use Rattle.relay_model.specs.Audit.{implies, accept_tried, way_rests, session_rests, door_rests, rests, same_number, same_list, same_text, begins, begins_pieces, same_shut, opens, listens_to, accepts_for, accepts_at, closes, may_ask, may_take, may_offer, may_put, may_shut, door_ends, is_cause, may_close, may_come};
 ghost use Rattle.relay_audit.specs.Pasts.{reads_some, awaits_dump, may_end, WrittenStands, OnePieceWaits};
-ghost use Rattle.session_facts.specs.Answers.{as_call};
 
 use crate::rest::{
     is_going, known_running, must_pass, owes_nothing, owes_read, owes_write, presses, until_of,
@@ -27,23 +26,23 @@ use command_places::{
 use dump_format::dump_text;
 use history_facts::{
     accept_failed, armed_to_read, armed_to_write, asked_to_accept, asked_to_read, asked_to_write,
-    closed_why, got_length, held, memory_said, put_length, stop_said, turns, was_closed,
+    closed_why, got_length, is_held, memory_said, put_length, stop_said, turns, was_closed,
     was_reaped,
 };
-use relay_model::{Act, Dump, NoMemory, Place, Shut, Way, Why};
+use relay_model::{Act, Call, Dump, NoMemory, Place, Shut, Way, Why};
 use session_facts::{
-    Call, Ledger, backlog, called_at, cause, door_call, door_cut, due_after, greatest_read,
-    has_outcome, holds, is_spent, known_call, live, numbers, over, passed, running,
+    Ledger, backlog, call_at, cause, door_call, door_cut, due_after, greatest_read, has_outcome,
+    has_passed, holds, is_running, is_spent, known_call, live, numbers, over,
 };
 use std::alloc::Global;
 
 // ---- rest
 
 fn accept_tried(past: &Ledger, call: Call) -> bool
-    ensures { result ≡ accept_tried past.now.config past.now.acts (as_call call) }
+    ensures { result ≡ accept_tried past.now.config past.now.acts call }
 {
     match call {
-        Call::Accept(door, _) => asked_to_accept(past.facts(), door),
+        Call::Accept { door, .. } => asked_to_accept(past.facts(), door),
         _ => true,
     }
 }
@@ -120,7 +119,7 @@ fn door_rests(past: &Ledger) -> bool
 {
     let config = past.facts().config();
     let call = door_call(past.facts());
-    (!(has_fork(config) && door_cut(past.facts())) || !held(past.facts(), program_door()))
+    (!(has_fork(config) && door_cut(past.facts())) || !is_held(past.facts(), program_door()))
         && !presses(call)
         && accept_tried(past, call)
 }
@@ -226,7 +225,7 @@ fn same_why(one: Why, other: Why) -> bool
 // ---- calls
 
 fn opens(call: Call, place: Place) -> bool
-    ensures { result ≡ opens (as_call call) place }
+    ensures { result ≡ opens call place }
 {
     match call {
         Call::Open(at) | Call::Settle(at) => at.is(place),
@@ -235,7 +234,7 @@ fn opens(call: Call, place: Place) -> bool
 }
 
 fn listens_to(call: Call, door: Place) -> bool
-    ensures { result ≡ listens_to (as_call call) door }
+    ensures { result ≡ listens_to call door }
 {
     match call {
         Call::Listen(at) => at.is(door),
@@ -244,25 +243,25 @@ fn listens_to(call: Call, door: Place) -> bool
 }
 
 fn accepts_for(call: Call, place: Place) -> bool
-    ensures { result ≡ accepts_for (as_call call) place }
+    ensures { result ≡ accepts_for call place }
 {
     match call {
-        Call::Accept(_, met) => met.is(place),
+        Call::Accept { place: met, .. } => met.is(place),
         _ => false,
     }
 }
 
 fn accepts_at(call: Call, door: Place) -> bool
-    ensures { result ≡ accepts_at (as_call call) door }
+    ensures { result ≡ accepts_at call door }
 {
     match call {
-        Call::Accept(at, _) => at.is(door),
+        Call::Accept { door: at, .. } => at.is(door),
         _ => false,
     }
 }
 
 fn closes(call: Call, place: Place, why: Why) -> bool
-    ensures { result ≡ closes (as_call call) place why }
+    ensures { result ≡ closes call place why }
 {
     match call {
         Call::Refuse(at) => why == Why::Refused && at.is(place),
@@ -283,8 +282,8 @@ fn may_ask(past: &Ledger, place: Place) -> bool
     if !place.is(input(config, session, way)) {
         return false;
     }
-    let runs = running(past.facts(), session);
-    if !is_going(past, session, way, runs) || passed(past.facts(), session, way) {
+    let runs = is_running(past.facts(), session);
+    if !is_going(past, session, way, runs) || has_passed(past.facts(), session, way) {
         return false;
     }
     if over(past, place) {
@@ -313,8 +312,8 @@ fn may_offer(past: &Ledger, place: Place) -> bool
     let session = place.session;
     let way = way_to(place.side);
     place.is(output(config, session, way))
-        && is_going(past, session, way, running(past.facts(), session))
-        && !passed(past.facts(), session, way)
+        && is_going(past, session, way, is_running(past.facts(), session))
+        && !has_passed(past.facts(), session, way)
         && armed_to_write(past.facts(), place)
 }
 
@@ -393,9 +392,9 @@ fn may_pass(past: &Ledger, place: Place) -> bool
     let session = place.session;
     let way = way_to(place.side);
     place.is(output(past.facts().config(), session, way))
-        && is_going(past, session, way, running(past.facts(), session))
+        && is_going(past, session, way, is_running(past.facts(), session))
         && is_spent(past, session, way)
-        && !passed(past.facts(), session, way)
+        && !has_passed(past.facts(), session, way)
 }
 
 fn may_shut(past: &Ledger, place: Place, shut: Shut) -> bool
@@ -436,7 +435,7 @@ fn may_end(past: &Ledger, place: Place, why: Why) -> bool
     let config = past.facts().config();
     let is_door = is_program_door(config, place);
     !is_door && is_cause(cause(past.facts(), place.session), why)
-        || closes(called_at(past.facts(), place), place, why)
+        || closes(call_at(past.facts(), place), place, why)
         || is_door && door_ends(past, why)
         || same_why(why, Why::Memory)
             && (is_door || closed_why(past.facts(), place.session).is_none())
@@ -462,7 +461,7 @@ fn may_close(limit: u64, past: &Ledger, place: Place, why: Why) -> bool
     requires { admitted past.now.config past.now.acts < 2 ^ 32 }
     ensures { result ≡ may_close past.now.config limit past.now.acts place why }
 {
-    if !held(past.facts(), place) {
+    if !is_held(past.facts(), place) {
         return false;
     }
     let licensed = is_licensed(limit, past, place, why);
@@ -561,14 +560,14 @@ fn may_go_on(limit: u64, past: &Ledger, act: &Act) -> bool
     match act {
         Act::Turn { until, .. } => may_turn(limit, past, *until),
         Act::Opened(place) | Act::OpenLater(place) | Act::OpenFailed(place) => {
-            opens(called_at(past.facts(), *place), *place)
+            opens(call_at(past.facts(), *place), *place)
         }
         Act::Listening(door) | Act::ListenFailed(door) => {
-            listens_to(called_at(past.facts(), *door), *door)
+            listens_to(call_at(past.facts(), *door), *door)
         }
-        Act::Accepted(place, _) => accepts_for(called_at(past.facts(), *place), *place),
+        Act::Accepted(place, _) => accepts_for(call_at(past.facts(), *place), *place),
         Act::NoPeer(door) | Act::AcceptFailed(door) => {
-            accepts_at(called_at(past.facts(), *door), *door)
+            accepts_at(call_at(past.facts(), *door), *door)
         }
         Act::Read(place, bytes) => may_take(past, *place, bytes.len()),
         Act::ReadEmpty(place)

@@ -1,13 +1,13 @@
 // The program's work: what a source gives is audited, and one line says what was found.
 ghost use Rattle.std.specs.Prelude.{◌≡◌, ◌<◌, ◌⊎◌, true, IfOk, IfErr, string_bytes};
 ghost use Rattle.port_trait.specs.Counting.{Rose};
-ghost use Rattle.relay_audit.specs.declared.reports.Unread.TheVariants as unread;
-ghost use Rattle.relay_audit.specs.Reports.{IsReportOf, yes_line, line_of_verdict, line_of, status_of_verdict, status_of, Reported, ReportedBeneath, HasRead, HasReadBeneath, WhyUnread};
+ghost use Rattle.relay_audit.specs.Reports.{IsReportOf, yes_line, line_of_verdict, line_of, status_of_verdict, status_of, Reported, ReportedBeneath};
 
 use crate::verdicts::{Verdict, audit};
-use port_trait::{Sink, Source, SourceGot, write_whole};
+use journal_text::{LONGEST_TEXT, Unread, read_text};
+use port_trait::{Sink, Source, write_whole};
 use relay_model::{NoMemory, Text};
-use std::alloc::{AllocError, Global};
+use std::alloc::Global;
 
 /// What the auditor reports of what a source gives.
 #[derive(Clone, Copy, Debug, PartialEq, Eq)]
@@ -18,51 +18,11 @@ pub enum Report {
     Found(Verdict),
 }
 
-/// The longest text that is audited, in bytes.
-const LONGEST_TEXT: usize = 16_777_216;
-
-/// How much is read at once, in bytes.
-const CHUNK: usize = 16_384;
-
 /// The status where memory is wanting.
 const NO_MEMORY: u8 = 2;
 
 /// The status where the source or the sink fails.
 const FAILED: u8 = 3;
-
-/// Why a text isn't read.
-#[derive(Clone, Copy, Debug, PartialEq, Eq)]
-enum Unread {
-    Memory,
-    Failed,
-}
-
-impl From<AllocError> for Unread {
-    ghost from_gives = { λ _ found. found ≡ unread.Memory };
-
-    fn from(_error: AllocError) -> Unread {
-        Unread::Memory
-    }
-}
-
-/// Reads the source to its end, or until it has given more than is audited.
-fn read_text<S: Source>(alloc: Global, source: &mut S) -> Result<Vec<u8>, Unread>
-    ensures text { IfOk result
-        (λ text. HasRead text.items (S.left source.old) (S.left source.new) (S.ends source.old) (S.ends source.new)) }
-    ensures beneath { IfOk result (λ text. HasReadBeneath text.items (S.rest source.old) (S.rest source.new)) }
-    ensures unread { IfErr result (WhyUnread (S.faults source.old) (S.faults source.new)) }
-{
-    let mut text = Vec::new(alloc);
-    let mut chunk = [0u8; CHUNK];
-    while text.len() <= LONGEST_TEXT {
-        match source.read(&mut chunk) {
-            SourceGot::Bytes(count) => text.extend_from_slice(&chunk[..count])?,
-            SourceGot::End => return Ok(text),
-            SourceGot::Failed => return Err(Unread::Failed),
-        }
-    }
-    Ok(text)
-}
 
 /// The report on a text.
 fn report_on(alloc: Global, text: &[u8], words: &[Text], turns: u64) -> Result<Report, NoMemory>

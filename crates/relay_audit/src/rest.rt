@@ -4,16 +4,15 @@ ghost use Rattle.relay_model.specs.Choices.{some_below, least_below};
 ghost use Rattle.relay_model.specs.Sessions.{admitted, live};
 ghost use Rattle.relay_model.specs.Cause.{cause, running};
 ghost use Rattle.relay_model.specs.Rest.{owed, goes, is_going, owes_read, owes_write, must_pass, accepts, presses, way_work, session_work, try_moment, input_moment, timer_moment, session_moment, door_moment, until_of};
-ghost use Rattle.session_facts.specs.Answers.{as_call};
 
-use command_places::{formed, input, output};
+use command_places::{input, is_formed, output};
 use history_facts::{
     armed_to_read, armed_to_write, arming_moment, earlier, later, now, read_arming,
 };
-use relay_model::{Act, Dump, NoMemory, Way, Why};
+use relay_model::{Act, Call, Dump, NoMemory, Way, Why};
 use session_facts::{
-    Call, Ledger, backlog, broken, cause, closing_moment, door_call, idle_moment, is_spent,
-    known_call, live, numbers, over, passed, ready,
+    Ledger, backlog, cause, closing_moment, door_call, has_passed, idle_moment, is_broken,
+    is_spent, known_call, live, numbers, over, ready,
 };
 use std::alloc::Global;
 
@@ -38,7 +37,7 @@ fn goes(past: &Ledger, session: u32, way: Way) -> bool
     ensures { result ≡ goes past.now.config past.now.acts session way }
 {
     let config = past.facts().config();
-    formed(config, way) && !broken(past.facts(), session, way)
+    is_formed(config, way) && !is_broken(past.facts(), session, way)
 }
 
 /// A direction that goes, where it is known whether its session runs.
@@ -89,25 +88,25 @@ pub fn must_pass(past: &Ledger, session: u32, way: Way, runs: bool) -> bool
     if !is_spent(past, session, way) {
         return false;
     }
-    !passed(past.facts(), session, way)
+    !has_passed(past.facts(), session, way)
 }
 
 /// An accepting is called for.
 pub fn accepts(call: Call) -> bool
-    ensures { result ≡ accepts (as_call call) }
+    ensures { result ≡ accepts call }
 {
     match call {
-        Call::Accept(_, _) => true,
+        Call::Accept { .. } => true,
         _ => false,
     }
 }
 
 /// An opening, a settling, a listening or a closing is called for.
 pub fn presses(call: Call) -> bool
-    ensures { result ≡ presses (as_call call) }
+    ensures { result ≡ presses call }
 {
     match call {
-        Call::Nothing | Call::TryAt(_) | Call::Accept(_, _) => false,
+        Call::Nothing | Call::TryAt(_) | Call::Accept { .. } => false,
         Call::Open(_) | Call::Settle(_) | Call::Listen(_) | Call::Refuse(_) | Call::Serve(_) => {
             true
         }
@@ -154,7 +153,7 @@ fn session_work(past: &Ledger, session: u32) -> bool
 
 /// The moment of a try that isn't due yet.
 fn try_moment(call: Call) -> Option<u64>
-    ensures { result ≡ try_moment (as_call call) }
+    ensures { result ≡ try_moment call }
 {
     match call {
         Call::TryAt(m) => Some(m),

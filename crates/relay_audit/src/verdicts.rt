@@ -2,10 +2,10 @@
 ghost use Rattle.std.specs.Prelude.{◌≡◌, IfOk, Ok};
 ghost use Rattle.cmd_words.specs.declared.commands.Command.TheVariants.{Relay};
 ghost use Rattle.cmd_words.specs.Commands.{command};
-ghost use Rattle.relay_audit.specs.Verdicts.{IsRelayOf, IsVerdictOn, IsVerdictFor, IsVerdictOf};
+ghost use Rattle.relay_audit.specs.Verdicts.{IsVerdictOn, IsVerdictFor, IsVerdictOf};
 
 use crate::judging::{Judgement, judge};
-use cmd_words::{Command, CommandFault, command_of};
+use cmd_words::relay_of;
 use journal_text::{JournalFault, read_journal};
 use relay_model::{Config, Journal, NoMemory, Text};
 use std::alloc::Global;
@@ -21,20 +21,6 @@ pub enum Verdict {
     BadWords,
     /// The first act, counted from 1, that may not come after the acts before it.
     Illegal { act: u64 },
-}
-
-/// The relay that the words make, if they make one.
-fn relay_of(alloc: Global, words: &[Text]) -> Result<Option<Config>, NoMemory>
-    ensures { IfOk result (IsRelayOf words.now) }
-{
-    match command_of(alloc, words) {
-        Ok(Command::Relay(config)) => Ok(Some(config)),
-        Ok(Command::Usage) => Ok(None),
-        Ok(Command::Version) => Ok(None),
-        Ok(Command::Load(_)) => Ok(None),
-        Err(CommandFault::Refused(_)) => Ok(None),
-        Err(CommandFault::Memory) => Err(NoMemory),
-    }
 }
 
 fn verdict_on(

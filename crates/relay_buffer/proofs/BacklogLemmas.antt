@@ -1,12 +1,13 @@
 -- A backlog to which a list is appended piece by piece, each converted by itself.
-use Rattle.std.proofs.Common.{◌≡◌, ℕ, ◌+◌, ◌≤◌, List, ◌++◌, length, take, drop, sym, ap, ◌∙◌, arith}
+use Rattle.std.proofs.Common.{◌≡◌, ℕ, ◌+◌, ◌<◌, ◌≤◌, List, [], ◌++◌, length, take, drop, sym, ap, ◌∙◌, arith}
 use Rattle.std.proofs.lemmas.List.{append_assoc, length-append, take-append-drop}
 use Rattle.line_ends.specs.declared.Convs.{Convs}
 use Rattle.line_ends.specs.Converted.{converted}
 use Rattle.line_ends.proofs.Appended.{converted-append}
 use Rattle.relay_buffer.specs.declared.lanes.Lane.{Lane}
 use Rattle.relay_buffer.specs.declared.backlogs.Backlog.{Backlog}
-use Rattle.relay_buffer.specs.Backlogs.{held_bytes, most_held, CanHold, IsSameStore}
+use Rattle.relay_buffer.specs.declared.backlogs.Backlog.TheVariants.{Stream, Packet}
+use Rattle.relay_buffer.specs.Backlogs.{held_bytes, most_held, CanHold, IsSameStore, IsTradable}
 
 converted-split : (how : Convs) (n : ℕ) (rest : List ℕ) → converted how (take n rest) ++ converted how (drop n rest) ≡ converted how rest
 converted-split how n rest = sym (converted-append how (take n rest) (drop n rest)) ∙ ap (converted how) (take-append-drop n rest)
@@ -38,3 +39,8 @@ can_hold_more lane old new more can same grows fits =
   where
     le_trans : {a b c : ℕ} → a ≤ b → b ≤ c → a ≤ c
     le_trans p q = omega arith
+
+-- what a trade needs, of either kind of store
+pub tradable : (held : Backlog) (block : List ℕ) (count : ℕ) → IsTradable held block count → (0 < count) × (held_bytes held ≡ [])
+tradable (Stream store) block count may = (may.some, may.empty)
+tradable (Packet bytes) block count may = absurd may

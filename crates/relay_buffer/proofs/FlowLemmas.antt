@@ -1,12 +1,12 @@
 -- What a flow stands for after each of its calls.
-use Rattle.std.proofs.Common.{◌≡◌, ℕ, ◌-◌, ◌<◌, ◌≤◌, false, ◌||◌, List, ◌++◌, length, Option, None, Some, refl, sym, ap, ◌∙◌, ⊎_elim, arith}
+use Rattle.std.proofs.Common.{◌≡◌, ℕ, ◌-◌, ◌<◌, ◌≤◌, false, ◌||◌, List, [], ◌++◌, length, Option, None, Some, refl, sym, ap, ◌∙◌, ⊎_elim, arith}
 use Rattle.std.proofs.lemmas.Bool.{cases_lt, eq-eqb, le-leb, leb-false, lt-leb, ne_eqb}
 use Rattle.std.proofs.lemmas.List.{append_assoc, length-append, take_all}
 use Rattle.relay_model.specs.Conversions.{before_escape, first_bytes, holds_escape, is_met, is_over, is_used_up}
 use Rattle.line_ends.specs.Converted.{converted}
 use Rattle.line_ends.proofs.Appended.{converted-append}
 use Rattle.relay_buffer.specs.declared.lanes.Lane.{Lane}
-use Rattle.relay_buffer.specs.Flows.{Flowing, IsFlow, at_most, due, lowered, most_at_once, none_left, over_in, room_in}
+use Rattle.relay_buffer.specs.Flows.{Flowing, IsFlow, IsPassedWhole, at_most, due, lowered, most_at_once, none_left, over_in, room_in}
 use Rattle.relay_buffer.proofs.EscapeLemmas.{before_escape-all, before_escape-append, holds_escape-append, or_false}
 use Rattle.relay_buffer.proofs.RoomLemmas.{not_over}
 
@@ -92,3 +92,26 @@ filled lane x y bytes old new some le fills is =
           ∙ ap (λ (l : Lane). due lane x ++ converted l.how (before_escape l.escape bytes)) is.lane_is
           ∙ sym (due-append lane x bytes going fits);
     }
+
+-- one trade, of bytes that go out as they are, where nothing waits
+pub record Trades (old : Flowing) (bytes : List ℕ) (new : Flowing) : Type 0 where
+  pub lane : new.lane ≡ old.lane
+  pub left : new.left ≡ lowered old.left (length bytes)
+  pub met : new.met ≡ old.met
+  pub empty : old.backlog ≡ []
+  pub backlog : new.backlog ≡ bytes
+
+pub traded : (lane : Lane) (x y bytes : List ℕ) (old new : Flowing) → 0 < length bytes → length bytes ≤ room_in old → IsPassedWhole old.lane bytes → Trades old bytes new → IsFlow lane x y old → IsFlow lane (x ++ bytes) y new
+traded lane x y bytes old new some le whole trades is =
+    let most = most_at_once old.lane.packets old.lane.block (length old.backlog) in
+    let going = (not_over (over_in old) (at_most old.left most) (length bytes) some le).0 in
+    let unmet = (or_false (none_left old.left) old.met going).1 in
+    filled lane x y bytes old new some le (record {
+      lane = trades.lane;
+      left = trades.left;
+      met = trades.met ∙ unmet ∙ sym whole.lacks;
+      backlog =
+          trades.backlog
+          ∙ sym (ap (converted old.lane.how) whole.whole ∙ whole.plain)
+          ∙ ap (λ b. b ++ converted old.lane.how (before_escape old.lane.escape bytes)) (sym trades.empty);
+    }) is

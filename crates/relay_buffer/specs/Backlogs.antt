@@ -4,26 +4,32 @@ use Rattle.relay_model.specs.Conversions.{longest_packet, packet_cap}
 use Rattle.relay_buffer.specs.declared.lanes.Lane.{Lane}
 use Rattle.relay_buffer.specs.declared.backlogs.Backlog.{Backlog}
 use Rattle.relay_buffer.specs.declared.backlogs.Backlog.TheVariants.{Stream, Packet}
+use Rattle.relay_buffer.specs.StreamStores.{store_bytes, CanTrade}
 
 -- the bytes that wait
 abbrev pub held_bytes : Backlog → List ℕ
-held_bytes (Stream ring) = ring.items
+held_bytes (Stream store) = store_bytes store
 held_bytes (Packet bytes) = bytes.items
 
 -- for how many bytes there is room
 abbrev pub held_capacity : Backlog → ℕ
-held_capacity (Stream ring) = ring.capacity
+held_capacity (Stream store) = store.ring.capacity
 held_capacity (Packet bytes) = vec_capacity bytes
 
 -- borders are kept
 abbrev pub is_packet : Backlog → Bool
-is_packet (Stream ring) = false
+is_packet (Stream store) = false
 is_packet (Packet bytes) = true
 
 -- the same kind of store, with no less room than before
 pub record IsSameStore (old new : Backlog) : Type 0 where
   pub kind : is_packet new ≡ is_packet old
   pub capacity : held_capacity old ≤ held_capacity new
+
+-- the first bytes of this block may wait where they are: a packet's never do
+abbrev pub IsTradable : Backlog → List ℕ → ℕ → Type 0
+IsTradable (Stream store) block count = CanTrade store block count
+IsTradable (Packet bytes) block count = ⊥
 
 -- how many bytes may wait at once
 abbrev pub most_held : Lane → ℕ

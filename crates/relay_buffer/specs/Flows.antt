@@ -1,6 +1,7 @@
 -- What a flow stands for: the bytes that were filled in, and those that were taken.
 use Rattle.std.specs.Prelude.{◌≡◌, ℕ, ◌-◌, ◌*◌, ◌/◌, Bool, false, ◌||◌, ◌==◌, List, ◌++◌, length, drop, min, Option, None, Some, if◌then◌else◌}
-use Rattle.relay_model.specs.Conversions.{due_of, is_met, is_over, packet_size, read_size}
+use Rattle.relay_model.specs.Conversions.{before_escape, due_of, holds_escape, is_met, is_over, packet_size, read_size}
+use Rattle.line_ends.specs.Converted.{converted}
 use Rattle.relay_buffer.specs.declared.lanes.Lane.{Lane}
 
 -- what contracts see of a flow: its lane, how many bytes may still be read, whether the escape byte was met,
@@ -18,6 +19,13 @@ due lane x = due_of lane.how.read lane.how.write lane.readbytes lane.escape x
 -- how many bytes wait where x was filled in and y was taken
 abbrev pub waiting : Lane → List ℕ → List ℕ → ℕ
 waiting lane x y = length (due lane x) - length y
+
+-- the bytes go out as they are, into a stream: none is converted, and none is the escape byte
+pub record IsPassedWhole (lane : Lane) (bytes : List ℕ) : Type 0 where
+  pub stream : lane.packets ≡ None
+  pub plain : converted lane.how bytes ≡ bytes
+  pub whole : before_escape lane.escape bytes ≡ bytes
+  pub lacks : holds_escape lane.escape bytes ≡ false
 
 -- how many bytes may still be read, after so many more
 abbrev pub lowered : Option ℕ → ℕ → Option ℕ

@@ -1,9 +1,9 @@
 // Where the bytes that wait are kept. No call here takes memory.
-ghost use Rattle.std.specs.Prelude.{◌≡◌, ◌+◌, ◌≤◌, ◌++◌, [], true, length, take, drop};
+ghost use Rattle.std.specs.Prelude.{◌≡◌, ◌+◌, ◌≤◌, ◌++◌, [], true, length, take, drop, vec_len};
 ghost use Rattle.line_ends.specs.Converted.{converted};
-ghost use Rattle.relay_buffer.specs.Backlogs.{held_bytes, held_capacity, is_packet, IsSameStore};
+ghost use Rattle.relay_buffer.specs.Backlogs.{held_bytes, held_capacity, is_packet, IsSameStore, IsTradable};
 
-use circular_buffer::HeapCircularBuffer;
+use crate::stream_stores::StreamStore;
 use line_ends::{Convs, convert};
 use relay_model::Conv;
 
@@ -12,10 +12,11 @@ const PIECE: usize = 256;
 
 const CONVERTED: usize = 512;
 
-/// A stream's bytes stand in a ring that is read while half free; a packet's stand together.
+/// A stream's bytes stand in a ring that is read while half free, those of a traded block before it; a packet's stand
+/// together.
 #[derive(Drop)]
 pub(crate) enum Backlog {
-    Stream(HeapCircularBuffer<u8>),
+    Stream(StreamStore),
     Packet(Vec<u8>),
 }
 
@@ -24,7 +25,7 @@ impl Backlog {
         ensures { result ≡ length (held_bytes self.now) }
     {
         match self {
-            Backlog::Stream(ring) => ring.len(),
+            Backlog::Stream(store) => store.len(),
             Backlog::Packet(bytes) => bytes.len(),
         }
     }
@@ -36,10 +37,7 @@ impl Backlog {
         ensures whole { is_packet self.now ≡ true → result.now ≡ held_bytes self.now }
     {
         match self {
-            Backlog::Stream(ring) => {
-                let (front, back) = ring.as_slices();
-                if front.is_empty() { back } else { front }
-            }
+            Backlog::Stream(store) => store.first_piece(),
             Backlog::Packet(bytes) => bytes.as_slice(),
         }
     }
@@ -52,9 +50,7 @@ impl Backlog {
         ensures store { IsSameStore self.old self.new }
     {
         match self {
-            // an emptied ring begins where it did, so whole blocks don't wrap round in it
-            Backlog::Stream(ring) if count == ring.len() => ring.clear(),
-            Backlog::Stream(ring) => ring.truncate_front(ring.len() - count),
+            Backlog::Stream(store) => store.drop_first(count),
             Backlog::Packet(bytes) => bytes.clear(),
         }
     }
@@ -92,13 +88,35 @@ impl Backlog {
         ensures store { IsSameStore self.old self.new }
     {
         match self {
-            Backlog::Stream(ring) => {
-                let _all = ring.fill_from_slice(bytes);
-            }
+            Backlog::Stream(store) => store.append(bytes),
             Backlog::Packet(packet) => match packet.extend_from_slice(bytes) {
                 Ok(()) => {}
                 Err(_no_memory) => unreachable!(),
             },
+        }
+    }
+
+    /// Whether the first `count` bytes of this block may wait where they are.
+    pub(crate) fn can_trade(&self, block: &Vec<u8>, count: usize) -> bool
+        ensures { result ≡ true → IsTradable self.now block.now.items count }
+    {
+        match self {
+            Backlog::Stream(store) => store.can_trade(block, count),
+            Backlog::Packet(_) => false,
+        }
+    }
+
+    /// Trades this block for the own one. Its first `count` bytes wait from then on.
+    pub(crate) fn trade(&mut self, block: &mut Vec<u8>, count: usize)
+        requires within { count ≤ vec_len block.old }
+        requires may { IsTradable self.old block.old.items count }
+        ensures bytes { held_bytes self.new ≡ take count block.old.items }
+        ensures store { IsSameStore self.old self.new }
+        ensures block { vec_len block.new ≡ vec_len block.old }
+    {
+        match self {
+            Backlog::Stream(store) => store.trade(block, count),
+            Backlog::Packet(_) => unreachable!(),
         }
     }
 }

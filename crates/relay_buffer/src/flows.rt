@@ -1,14 +1,14 @@
 // A direction's bytes between its reads and its writes.
-ghost use Rattle.std.specs.Prelude.{◌≡◌, ◌==◌, ◌+◌, ◌*◌, ◌≤◌, ◌++◌, ℕ, List, [], length, take, IfOk, IfSome, IsSome};
+ghost use Rattle.std.specs.Prelude.{◌≡◌, ◌==◌, ◌+◌, ◌*◌, ◌≤◌, ◌++◌, ℕ, List, [], length, take, true, vec_len, IfOk, IfSome, IsSome};
 ghost use Rattle.relay_model.specs.Conversions.{before_escape, holds_escape, is_over, packet_cap};
-ghost use Rattle.relay_buffer.specs.Flows.{IsFlow, due, lowered, over_in, room_in, room_of, taken, waiting};
+ghost use Rattle.relay_buffer.specs.Flows.{IsFlow, IsPassedWhole, due, lowered, over_in, room_in, room_of, taken, waiting};
 ghost use Rattle.relay_buffer.specs.declared.lanes.Lane.{Lane};
 
 use crate::backlogs::Backlog;
 use crate::lanes::Lane;
-use circular_buffer::HeapCircularBuffer;
+use crate::stream_stores::StreamStore;
 use memchr::memchr;
-use relay_model::{LONGEST_PACKET, NoMemory};
+use relay_model::{Conv, LONGEST_PACKET, NoMemory};
 use std::alloc::Global;
 use std::marker::Model;
 
@@ -42,7 +42,7 @@ impl Flow {
     {
         let most = 2 * lane.block as usize;
         let held = match lane.packets {
-            None => Backlog::Stream(HeapCircularBuffer::with_capacity(alloc, most)?),
+            None => Backlog::Stream(StreamStore::new(alloc, lane.block)?),
             Some(_) => Backlog::Packet(Vec::with_capacity(
                 alloc,
                 most.min(usize::from(LONGEST_PACKET)),
@@ -92,6 +92,24 @@ impl Flow {
         self.held.append_converted(self.lane.how, kept);
     }
 
+    /// Fills in the first `count` bytes of a block that was read, for which the flow has room. Where they may wait as they
+    /// are, the flow keeps the block, and its own takes the place of it.
+    pub fn fill_block(&mut self, block: &mut Vec<u8>, count: usize)
+        requires within { count ≤ vec_len block.old }
+        requires room { count ≤ room_in self.old }
+        ensures lane { self.new.lane ≡ self.old.lane }
+        ensures filled { (lane : Lane) (x y : List ℕ) → IsFlow lane x y self.old
+            → IsFlow lane (x ++ take count block.old.items) y self.new }
+        ensures block { vec_len block.new ≡ vec_len block.old }
+    {
+        if self.held.can_trade(block, count) && is_passed_whole(self.lane, &block[..count]) {
+            self.left = left_after(self.left, count);
+            self.held.trade(block, count);
+        } else {
+            self.fill(&block[..count]);
+        }
+    }
+
     /// The bytes to be written next: the first that wait, and for packets all of them.
     pub fn pending(&self) -> &[u8]
         ensures front { result.now ≡ take (length result.now) self.now.backlog }
@@ -134,6 +152,16 @@ impl Flow {
         ensures empty { (lane : Lane) (x y : List ℕ) → IsFlow lane x y self.now → result ≡ (waiting lane x y == 0) }
     {
         self.held.len() == 0
+    }
+}
+
+/// Whether these bytes go out as they are: into a stream, with no conversion and no escape byte.
+fn is_passed_whole(lane: Lane, bytes: &[u8]) -> bool
+    ensures { result ≡ true → IsPassedWhole lane bytes.now }
+{
+    match (lane.packets, lane.how.read, lane.how.write) {
+        (None, Conv::Plain, Conv::Plain) => !up_to_escape(lane.escape, bytes).1,
+        _ => false,
     }
 }
 

@@ -4,6 +4,8 @@
 mod backlogs;
 mod flows;
 mod lanes;
+mod stream_stores;
 
 pub use flows::Flow;
 pub use lanes::Lane;
+pub use stream_stores::new_block;

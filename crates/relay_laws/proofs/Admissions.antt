@@ -10,11 +10,15 @@ use Rattle.relay_model.specs.declared.acts.Act.TheVariants.{Turn, Opened, OpenLa
 use Rattle.relay_model.specs.Places.{same_place}
 use Rattle.relay_model.specs.Choices.{one_more, count}
 use Rattle.relay_model.specs.Configs.{places, things, options_of, has_fork, is_left, program_door, is_program_door}
-use Rattle.relay_model.specs.History.{now, Stage, Untried, Failed, Waiting, stage, held, failures}
+use Rattle.relay_model.specs.History.{now, stage, held, failures}
+use Rattle.relay_model.specs.declared.stages.Stage.{Stage}
+use Rattle.relay_model.specs.declared.stages.Stage.TheVariants.{Untried, Failed, Waiting}
 use Rattle.relay_model.specs.Arming.{armed_to_accept}
 use Rattle.relay_model.specs.Sessions.{numbers, permits, live, live_count, holds, admitted, is_admission, next_place, door_options}
 use Rattle.relay_model.specs.Tries.{next_due}
-use Rattle.relay_model.specs.Openings.{Call, Nothing, TryAt, Open, Settle, Listen, Accept, Refuse, Serve, out_of_tries, when_due, try_again, listening_call, first_call}
+use Rattle.relay_model.specs.Openings.{out_of_tries, when_due, try_again, listening_call, first_call}
+use Rattle.relay_model.specs.declared.calls.Call.{Call}
+use Rattle.relay_model.specs.declared.calls.Call.TheVariants.{Nothing, TryAt, Open, Settle, Listen, Accept, Refuse, Serve}
 use Rattle.relay_model.specs.Cause.{cause}
 use Rattle.relay_model.specs.Calls.{call, door_cut, enough, full, program_door_call, door_call, called_at}
 use Rattle.relay_model.specs.May.{Legal}

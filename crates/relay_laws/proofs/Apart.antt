@@ -16,11 +16,15 @@ use Rattle.relay_model.specs.Places.{same_place, same_side, same_part, same_bool
 use Rattle.relay_model.specs.Choices.{only_if, or_else, first_some, one_more, earlier, later}
 use Rattle.relay_model.specs.Configs.{places, things, own_doors, has_own_door, options_of, listens_at, has_fork, is_left, program_door, is_program_door, is_of, is_place_of, input, output, formed, accepting_door}
 use Rattle.relay_model.specs.Conversions.{is_over}
-use Rattle.relay_model.specs.History.{now, Stage, Unsettled, Failed, Met, Waiting, stage, held, holds_at, is_gone_with, served, stop_said, memory_said, same_why, accept_failed}
+use Rattle.relay_model.specs.History.{now, stage, held, holds_at, is_gone_with, served, stop_said, memory_said, same_why, accept_failed}
+use Rattle.relay_model.specs.declared.stages.Stage.{Stage}
+use Rattle.relay_model.specs.declared.stages.Stage.TheVariants.{Unsettled, Failed, Met, Waiting}
 use Rattle.relay_model.specs.Sessions.{permits, holds, live, admitted, is_admission, numbers}
 use Rattle.relay_model.specs.Tries.{next_due, is_out_of_tries}
 use Rattle.relay_model.specs.Moments.{moved_at, passed_at, broken_at, done_at, after_one, closing_moment, idle_moment, reached}
-use Rattle.relay_model.specs.Openings.{Call, Nothing, Open, Settle, Listen, Accept, Refuse, Serve, out_of_tries, when_due, try_again, stands_ready, is_ready, ready, opening_call, listening_call, peer_call, place_call, first_call}
+use Rattle.relay_model.specs.Openings.{out_of_tries, when_due, try_again, stands_ready, is_ready, ready, opening_call, listening_call, peer_call, place_call, first_call}
+use Rattle.relay_model.specs.declared.calls.Call.{Call}
+use Rattle.relay_model.specs.declared.calls.Call.TheVariants.{Nothing, Open, Settle, Listen, Accept, Refuse, Serve}
 use Rattle.relay_model.specs.Arming.{is_armed, arming_moment, asked_to_write, asked_to_accept}
 use Rattle.relay_model.specs.Transfers.{due, due_pieces, over, backlog}
 use Rattle.relay_model.specs.Cause.{is_end, closed_why, fault_at, faulted, finished, cause, running}

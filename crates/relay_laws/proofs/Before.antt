@@ -7,11 +7,17 @@ use Rattle.relay_model.specs.declared.acts.Act.{Act}
 use Rattle.relay_model.specs.Places.{door_of}
 use Rattle.relay_model.specs.Choices.{earlier, later}
 use Rattle.relay_model.specs.Configs.{options_of, listens_at, has_own_door}
-use Rattle.relay_model.specs.History.{now, Stage, Failed, Met, stage, failures}
-use Rattle.relay_model.specs.Arming.{Arming, Disarmed, Armed, AtEnd, is_armed, arming_moment, pause_after_end}
+use Rattle.relay_model.specs.History.{now, stage, failures}
+use Rattle.relay_model.specs.declared.stages.Stage.{Stage}
+use Rattle.relay_model.specs.declared.stages.Stage.TheVariants.{Failed, Met}
+use Rattle.relay_model.specs.Arming.{is_armed, arming_moment, pause_after_end}
+use Rattle.relay_model.specs.declared.armings.Arming.{Arming}
+use Rattle.relay_model.specs.declared.armings.Arming.TheVariants.{Disarmed, Armed, AtEnd}
 use Rattle.relay_model.specs.Tries.{next_due}
 use Rattle.relay_model.specs.Moments.{reached}
-use Rattle.relay_model.specs.Openings.{Call, Nothing, TryAt, Open, Listen, out_of_tries, when_due, try_again, is_ready, opening_call, listening_call, peer_call, place_call, first_call}
+use Rattle.relay_model.specs.Openings.{out_of_tries, when_due, try_again, is_ready, opening_call, listening_call, peer_call, place_call, first_call}
+use Rattle.relay_model.specs.declared.calls.Call.{Call}
+use Rattle.relay_model.specs.declared.calls.Call.TheVariants.{Nothing, TryAt, Open, Listen}
 use Rattle.relay_model.specs.Rest.{try_moment}
 use Rattle.relay_laws.specs.Sleeps.{IsBefore, tick}
 

@@ -10,12 +10,15 @@ use Rattle.relay_model.specs.Places.{same_place}
 use Rattle.relay_model.specs.Choices.{joined, noted, only_if, or_else}
 use Rattle.relay_model.specs.Holding.{Free, Settling, Open, ShutDown, standing}
 use Rattle.relay_model.specs.Configs.{input, accepting_door}
-use Rattle.relay_model.specs.History.{now, Usable, Unsettled, Failed, Met, Waiting, Gone, stage, failures, woken, accept_failed, was_closed, was_reaped, reaped_since, got, put, sent, met_end, met_empty, shut_at, read_fault_at, write_fault_at}
-use Rattle.relay_model.specs.Arming.{Disarmed, Armed, AtEnd, read_arming, armed_to_write, armed_to_accept, asked_to_read, asked_to_write, asked_to_accept}
+use Rattle.relay_model.specs.History.{now, stage, failures, woken, accept_failed, was_closed, was_reaped, reaped_since, got, put, sent, met_end, met_empty, shut_at, read_fault_at, write_fault_at}
+use Rattle.relay_model.specs.declared.stages.Stage.TheVariants.{Usable, Unsettled, Failed, Met, Waiting, Gone}
+use Rattle.relay_model.specs.Arming.{read_arming, armed_to_write, armed_to_accept, asked_to_read, asked_to_write, asked_to_accept}
+use Rattle.relay_model.specs.declared.armings.Arming.TheVariants.{Disarmed, Armed, AtEnd}
 use Rattle.relay_model.specs.Transfers.{due_part, due_pieces, is_empty}
 use Rattle.relay_model.specs.Moments.{moved_at}
 use Rattle.relay_model.specs.Cause.{closed_why}
-use Rattle.relay_model.specs.Outcome.{Faulted, first_fault}
+use Rattle.relay_model.specs.Outcome.{first_fault}
+use Rattle.relay_model.specs.declared.outcomes.RunOutcome.TheVariants.{Faulted}
 use Rattle.relay_model.specs.Changes.{Makes}
 use Rattle.relay_laws.proofs.PlaceLemmas.{same_place_self}
 

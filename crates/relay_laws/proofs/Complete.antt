@@ -19,7 +19,8 @@ use Rattle.relay_model.specs.Arming.{armed_to_read, armed_to_write, asked_to_rea
 use Rattle.relay_model.specs.Sessions.{holds, numbers}
 use Rattle.relay_model.specs.Transfers.{due, due_pieces, over, backlog, greatest_read, is_spent}
 use Rattle.relay_model.specs.Moments.{passed}
-use Rattle.relay_model.specs.Openings.{Call, Nothing, TryAt, Open, Settle, Listen, Accept, Refuse, Serve}
+use Rattle.relay_model.specs.declared.calls.Call.{Call}
+use Rattle.relay_model.specs.declared.calls.Call.TheVariants.{Nothing, TryAt, Open, Settle, Listen, Accept, Refuse, Serve}
 use Rattle.relay_model.specs.Cause.{cause, closed_why}
 use Rattle.relay_model.specs.Calls.{called_at, call, door_call, door_cut}
 use Rattle.relay_model.specs.Outcome.{outcome}

@@ -11,13 +11,17 @@ use Rattle.relay_model.specs.Places.{same_place}
 use Rattle.relay_model.specs.Choices.{joined, noted, only_if, or_else}
 use Rattle.relay_model.specs.Holding.{Free, Settling, Open, ShutDown, standing}
 use Rattle.relay_model.specs.Configs.{input, places, things}
-use Rattle.relay_model.specs.History.{now, turns, stop_said, memory_said, Usable, Unsettled, Failed, Met, Waiting, Gone, stage, failures, woken, accept_failed, was_closed, was_reaped, reaped_since, got, put, sent, met_end, met_empty, shut_at, read_fault_at, write_fault_at}
-use Rattle.relay_model.specs.Arming.{Disarmed, Armed, AtEnd, read_arming, armed_to_write, armed_to_accept, asked_to_read, asked_to_write, asked_to_accept}
+use Rattle.relay_model.specs.History.{now, turns, stop_said, memory_said, stage, failures, woken, accept_failed, was_closed, was_reaped, reaped_since, got, put, sent, met_end, met_empty, shut_at, read_fault_at, write_fault_at}
+use Rattle.relay_model.specs.declared.stages.Stage.TheVariants.{Usable, Unsettled, Failed, Met, Waiting, Gone}
+use Rattle.relay_model.specs.Arming.{read_arming, armed_to_write, armed_to_accept, asked_to_read, asked_to_write, asked_to_accept}
+use Rattle.relay_model.specs.declared.armings.Arming.TheVariants.{Disarmed, Armed, AtEnd}
 use Rattle.relay_model.specs.Sessions.{admitted}
 use Rattle.relay_model.specs.Transfers.{due_part, due_pieces, is_empty}
 use Rattle.relay_model.specs.Moments.{moved_at}
 use Rattle.relay_model.specs.Cause.{closed_why, is_end}
-use Rattle.relay_model.specs.Outcome.{Outcome, Faulted, first_fault}
+use Rattle.relay_model.specs.Outcome.{first_fault}
+use Rattle.relay_model.specs.declared.outcomes.RunOutcome.{RunOutcome}
+use Rattle.relay_model.specs.declared.outcomes.RunOutcome.TheVariants.{Faulted}
 use Rattle.relay_model.specs.Frames.{is_at, is_turn, is_among, names_or_is_at, SameAt, Leaves, opens_or_closes, opens_shuts_or_closes, fails_to_open, fails_to_accept, fails_to_transfer, is_closing, reaps, closes_or_reaps, reads_bytes, writes_bytes, meets_end, meets_empty, passes_end, fails_to_read, fails_to_write, wakes_or_unsettles, turns_or_closes, arms_to_read, arms_to_write, arms_to_accept, asks_to_read, asks_to_write, asks_to_accept, moves_session, meets_peer}
 
 impossible : {P : Type 0} → true ≡ false → P
@@ -184,7 +188,7 @@ closed_why_left : (act : Act) (past : List Act) (c : Config) (s : ℕ) → (is_c
 closed_why_left (Closed q why) past c s e = λ i. cond (e i && is_end q why) (Some why) (closed_why c past s)
 closed_why_left act past c s e = refl
 
-or_none : (answer : Option Outcome) → or_else answer None ≡ answer
+or_none : (answer : Option RunOutcome) → or_else answer None ≡ answer
 or_none None = refl
 or_none (Some x) = refl
 

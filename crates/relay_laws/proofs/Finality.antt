@@ -21,12 +21,16 @@ use Rattle.relay_model.specs.declared.acts.Act.TheVariants.{Turn, Opened, OpenLa
 use Rattle.relay_model.specs.Places.{same_place, door_of}
 use Rattle.relay_model.specs.Choices.{only_if, first_some, one_more}
 use Rattle.relay_model.specs.Configs.{places, parts, parts_of, offered, place_at, things, own_doors, options_of, has_own_door, listens_at, has_fork, is_left, program_door, is_program_door, is_of, way_from, way_to}
-use Rattle.relay_model.specs.History.{now, same_why, memory_said, stop_said, Stage, Untried, Usable, Unsettled, Failed, Met, Waiting, Gone, stage, held, served, woken, failures, accept_failed, read_fault_at, write_fault_at}
+use Rattle.relay_model.specs.History.{now, same_why, memory_said, stop_said, stage, held, served, woken, failures, accept_failed, read_fault_at, write_fault_at}
+use Rattle.relay_model.specs.declared.stages.Stage.{Stage}
+use Rattle.relay_model.specs.declared.stages.Stage.TheVariants.{Untried, Usable, Unsettled, Failed, Met, Waiting, Gone}
 use Rattle.relay_model.specs.Arming.{armed_to_accept}
 use Rattle.relay_model.specs.Sessions.{permits, is_admission, admitted, holds, live, next_place}
 use Rattle.relay_model.specs.Tries.{is_out_of_tries, next_due}
 use Rattle.relay_model.specs.Moments.{passed, done, broken, closing_moment, idle_moment, reached}
-use Rattle.relay_model.specs.Openings.{Call, Nothing, TryAt, Open, Settle, Listen, Accept, Refuse, Serve, out_of_tries, when_due, try_again, stands_ready, is_ready, ready, opening_call, listening_call, peer_call, place_call, first_call}
+use Rattle.relay_model.specs.Openings.{out_of_tries, when_due, try_again, stands_ready, is_ready, ready, opening_call, listening_call, peer_call, place_call, first_call}
+use Rattle.relay_model.specs.declared.calls.Call.{Call}
+use Rattle.relay_model.specs.declared.calls.Call.TheVariants.{Nothing, TryAt, Open, Settle, Listen, Accept, Refuse, Serve}
 use Rattle.relay_model.specs.Cause.{is_end, closed_why, accept_failed_for, listening_failed, opening_failed, fault_at, fault_stands, each_formed, some_formed, faulted, finished, cause}
 use Rattle.relay_model.specs.Calls.{call, door_cut, program_door_call, door_call, called_at}
 use Rattle.relay_model.specs.Rest.{is_going}

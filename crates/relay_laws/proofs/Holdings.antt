@@ -19,9 +19,11 @@ use Rattle.relay_model.specs.declared.acts.Act.TheVariants.{Opened, OpenLater, O
 use Rattle.relay_model.specs.Places.{same_place}
 use Rattle.relay_model.specs.Holding.{Hold, Free, Settling, Open, ShutDown, standing, is_free}
 use Rattle.relay_model.specs.Configs.{input, output, parts, part_with, has_half, place_at, places, formed, way_from, way_to}
-use Rattle.relay_model.specs.History.{Stage, Untried, Usable, Unsettled, Failed, Met, Waiting, Gone, stage, held, holds_at}
+use Rattle.relay_model.specs.History.{stage, held, holds_at}
+use Rattle.relay_model.specs.declared.stages.Stage.{Stage}
+use Rattle.relay_model.specs.declared.stages.Stage.TheVariants.{Untried, Usable, Unsettled, Failed, Met, Waiting, Gone}
 use Rattle.relay_model.specs.Openings.{is_ready, stands_ready, ready}
-use Rattle.relay_model.specs.Openings as calls
+use Rattle.relay_model.specs.declared.calls.Call.TheVariants as calls
 use Rattle.relay_model.specs.Cause.{running, cause}
 use Rattle.relay_model.specs.Sessions.{live}
 use Rattle.relay_model.specs.Moments.{broken}

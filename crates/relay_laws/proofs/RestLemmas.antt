@@ -9,7 +9,8 @@ use Rattle.relay_model.specs.Arming.{armed_to_read, armed_to_write}
 use Rattle.relay_model.specs.Sessions.{holds, live, numbers}
 use Rattle.relay_model.specs.Transfers.{over, backlog, is_spent}
 use Rattle.relay_model.specs.Moments.{passed}
-use Rattle.relay_model.specs.Openings.{Nothing, ready, first_call}
+use Rattle.relay_model.specs.Openings.{ready, first_call}
+use Rattle.relay_model.specs.declared.calls.Call.TheVariants.{Nothing}
 use Rattle.relay_model.specs.Cause.{cause, running}
 use Rattle.relay_model.specs.Calls.{call}
 use Rattle.relay_model.specs.Outcome.{outcome}

@@ -14,7 +14,9 @@ use Rattle.relay_model.specs.Arming.{read_arming, is_armed, arming_moment, armed
 use Rattle.relay_model.specs.Sessions.{holds, live, admitted, numbers}
 use Rattle.relay_model.specs.Transfers.{over, backlog, is_spent}
 use Rattle.relay_model.specs.Moments.{passed, closing_moment, idle_moment, reached}
-use Rattle.relay_model.specs.Openings.{Call, Nothing, TryAt, Open, Settle, Listen, Accept, Refuse, Serve, ready, first_call}
+use Rattle.relay_model.specs.Openings.{ready, first_call}
+use Rattle.relay_model.specs.declared.calls.Call.{Call}
+use Rattle.relay_model.specs.declared.calls.Call.TheVariants.{Nothing, TryAt, Open, Settle, Listen, Accept, Refuse, Serve}
 use Rattle.relay_model.specs.Cause.{closed_why, accept_failed_for, listening_failed, opening_failed, faulted, finished, cause, running}
 use Rattle.relay_model.specs.Calls.{call}
 use Rattle.relay_model.specs.Rest.{goes, is_going, owes_read, owes_write, must_pass, accepts, presses, AcceptTried, SessionRests, way_work, session_work, try_moment, input_moment, timer_moment, session_moment}

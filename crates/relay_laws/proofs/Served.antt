@@ -11,11 +11,15 @@ use Rattle.relay_model.specs.declared.acts.Act.{Act}
 use Rattle.relay_model.specs.declared.acts.Act.TheVariants.{Opened, OpenLater, OpenFailed, Listening, ListenFailed, Accepted, Closed}
 use Rattle.relay_model.specs.Places.{same_place, door_of}
 use Rattle.relay_model.specs.Configs.{places, parts, place_at, options_of, listens_at, has_own_door, has_fork, is_left, program_door}
-use Rattle.relay_model.specs.History.{now, Stage, Untried, Usable, Unsettled, Failed, Met, Waiting, Gone, stage, held, holds_at, is_gone_with, served, woken, failures}
+use Rattle.relay_model.specs.History.{now, stage, held, holds_at, is_gone_with, served, woken, failures}
+use Rattle.relay_model.specs.declared.stages.Stage.{Stage}
+use Rattle.relay_model.specs.declared.stages.Stage.TheVariants.{Untried, Usable, Unsettled, Failed, Met, Waiting, Gone}
 use Rattle.relay_model.specs.Arming.{armed_to_accept}
 use Rattle.relay_model.specs.Sessions.{permits, live, next_place}
 use Rattle.relay_model.specs.Tries.{next_due}
-use Rattle.relay_model.specs.Openings.{Call, Nothing, TryAt, Open, Settle, Listen, Accept, Refuse, Serve, out_of_tries, when_due, try_again, is_ready, opening_call, listening_call, peer_call, place_call, first_call}
+use Rattle.relay_model.specs.Openings.{out_of_tries, when_due, try_again, is_ready, opening_call, listening_call, peer_call, place_call, first_call}
+use Rattle.relay_model.specs.declared.calls.Call.{Call}
+use Rattle.relay_model.specs.declared.calls.Call.TheVariants.{Nothing, TryAt, Open, Settle, Listen, Accept, Refuse, Serve}
 use Rattle.relay_model.specs.Cause.{cause}
 use Rattle.relay_model.specs.Calls.{call, door_cut, enough, full, program_door_call, door_call, called_at}
 use Rattle.relay_model.specs.May.{Legal}

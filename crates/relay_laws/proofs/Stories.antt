@@ -24,7 +24,7 @@ use Rattle.relay_model.specs.Rest.{owed, is_going}
 use Rattle.relay_model.specs.May.{MayAsk, MayRead, MayOffer, MayWrite, MayTryWrite, MayShut, BeginsWith, KeepsBorders, May}
 use Rattle.relay_model.specs.declared.acts.Shut.{Shut as Shutting}
 use Rattle.relay_model.specs.Frames.{IsForeign, is_common, is_turn, SameSession}
-use Rattle.relay_laws.specs.Stories.{is_own_place, is_own, Event, Own, Turned, AcceptingFailed, Ending, is_news, reaches, and_event, story, transfers}
+use Rattle.relay_laws.specs.Stories.{is_own_place, is_own, StoryEvent, Own, Turned, AcceptingFailed, Ending, is_news, reaches, and_event, story, transfers}
 use Rattle.relay_laws.proofs.PlaceLemmas.{same_place_equal}
 use Rattle.relay_laws.proofs.Elsewhere.{elsewhere}
 use Rattle.relay_laws.proofs.Apart.{Base, base_step, closed_step, write_step, accept_step, pieces_step, passing_same, over_same, backlog_same, moves_same, session_begun}
@@ -116,13 +116,13 @@ closing_moves c s q r why past f g = record {
 abbrev pub elsewhere_of : ℕ → Place
 elsewhere_of s = place_at (suc s) Left Both
 
-abbrev pub retold : Config → ℕ → Event → Act
+abbrev pub retold : Config → ℕ → StoryEvent → Act
 retold c s (Own act) = act
 retold c s (Turned at entries stop) = Turn None at (record { entries = entries; room = 0 }) stop
 retold c s AcceptingFailed = AcceptFailed program_door
 retold c s (Ending why) = Closed (elsewhere_of s) why
 
-abbrev pub retell : Config → ℕ → List Event → List Act
+abbrev pub retell : Config → ℕ → List StoryEvent → List Act
 retell c s [] = []
 retell c s (e ∷ events) = retold c s e ∷ retell c s events
 
@@ -133,7 +133,7 @@ own_is_seen : (c : Config) (s : ℕ) (act : Act) → is_own c s act ≡ true →
 own_is_seen c s (Turn until at ready stop) k = absurd (false≢true k)
 own_is_seen c s act k = refl
 
-reaching : (c : Config) (s : ℕ) (act : Act) (past : List Act) (events : List Event) → is_own c s act ≡ false → Alike c s past (retell c s events) → Alike c s (act ∷ past) (retell c s (and_event (reaches c s past act) events))
+reaching : (c : Config) (s : ℕ) (act : Act) (past : List Act) (events : List StoryEvent) → is_own c s act ≡ false → Alike c s past (retell c s events) → Alike c s (act ∷ past) (retell c s (and_event (reaches c s past act) events))
 reaching c s (Turn until at ready stop) past events k ih = alike_kept c s (Turn until at ready stop) past (retell c s events) ih
 reaching c s (AcceptFailed q) past events k ih = go (is_program_door c q) refl
   where
@@ -161,7 +161,7 @@ retelling c s (act ∷ past) = go (is_own c s act) refl (retelling c s past)
 pub alike : (c : Config) (s : ℕ) (one other : List Act) → story c s one ≡ story c s other → Alike c s one other
 alike c s one other e =
     alike_joined c s one (retell c s (story c s other)) other
-    (subst (λ (x : List Event). Alike c s one (retell c s x)) e (retelling c s one))
+    (subst (λ (x : List StoryEvent). Alike c s one (retell c s x)) e (retelling c s one))
     (alike_turned c s other (retell c s (story c s other)) (retelling c s other))
 
 pub own_session : (c : Config) (one other : List Act) (s : ℕ) → s < numbers c one → s < numbers c other → story c s one ≡ story c s other → SameSession c s one other

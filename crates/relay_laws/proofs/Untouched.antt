@@ -17,9 +17,9 @@ use Rattle.relay_model.specs.History.{failures, woken, accept_failed, was_reaped
 use Rattle.relay_model.specs.Arming.{armed_to_accept, asked_to_read, asked_to_write, asked_to_accept}
 use Rattle.relay_model.specs.Transfers.{due_pieces}
 use Rattle.relay_model.specs.History.{held, holds_at, was_closed}
-use Rattle.relay_model.specs.Arming.{Armed}
+use Rattle.relay_model.specs.declared.armings.Arming.TheVariants.{Armed}
 use Rattle.relay_model.specs.Sessions.{admitted, is_admission, live, holds, next_place, first_part}
-use Rattle.relay_model.specs.Openings.{Nothing, Accept}
+use Rattle.relay_model.specs.declared.calls.Call.TheVariants.{Nothing, Accept}
 use Rattle.relay_model.specs.Calls.{call, called_at, door_call}
 use Rattle.relay_model.specs.Rest.{is_going}
 use Rattle.relay_model.specs.May.{Legal}
@@ -41,7 +41,8 @@ use Rattle.relay_model.specs.declared.acts.Why.TheVariants as whys
 use Rattle.relay_model.specs.Choices.{only_if, first_some}
 use Rattle.relay_model.specs.Configs.{parts, parts_of, place_at, own_doors}
 use Rattle.relay_model.specs.History.{now, stage, stop_said, memory_said}
-use Rattle.relay_model.specs.Openings.{Refuse, ready}
+use Rattle.relay_model.specs.Openings.{ready}
+use Rattle.relay_model.specs.declared.calls.Call.TheVariants.{Refuse}
 use Rattle.relay_model.specs.Moments.{closing_moment, idle_moment, reached}
 use Rattle.relay_model.specs.Cause.{cause, closed_why, listening_failed, opening_failed, faulted, finished}
 use Rattle.relay_model.specs.Calls.{door_cut, program_door_call}

@@ -29,7 +29,7 @@ use Rattle.relay_model.specs.declared.commands.Single.{Single}
 use Rattle.relay_model.specs.declared.commands.Options.{Options}
 use Rattle.relay_model.specs.PlainRelay.{default_options as plain}
 use Rattle.relay_model.specs.Outcome.{outcome}
-use Rattle.relay_model.specs.Outcome as outcomes
+use Rattle.relay_model.specs.declared.outcomes.RunOutcome.TheVariants as outcomes
 use Rattle.relay_model.specs.Rest.{until_of}
 use Rattle.relay_model.specs.May.{Legal}
 use Rattle.relay_laws.specs.Stories.{Own, Turned, Ending, story}

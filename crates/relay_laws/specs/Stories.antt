@@ -47,11 +47,11 @@ is_own c s (NoteFault text) = false
 
 -- what reaches a session: each act at its own places and doors; of a turn the moment, what it named of these and whether
 -- it said stop; that an accepting failed at the program door; that a stop or want of memory closed something elsewhere
-pub data Event : Type 0 where
-  Own : Act → Event
-  Turned : (at : ℕ) (entries : List ReadyAt) (stop : Bool) → Event
-  AcceptingFailed : Event
-  Ending : Why → Event
+pub data StoryEvent : Type 0 where
+  Own : Act → StoryEvent
+  Turned : (at : ℕ) (entries : List ReadyAt) (stop : Bool) → StoryEvent
+  AcceptingFailed : StoryEvent
+  Ending : Why → StoryEvent
 
 -- what a turn named of the session's own places and doors
 abbrev pub own_entries : Config → ℕ → List ReadyAt → List ReadyAt
@@ -62,23 +62,23 @@ abbrev pub is_news : List Act → Why → Bool
 is_news past why = same_why why whys.Stopped && not (stop_said past) || same_why why whys.Memory && not (memory_said past)
 
 -- what reaches the session of an act that is none of its own
-abbrev pub reaches : Config → ℕ → List Act → Act → Option Event
+abbrev pub reaches : Config → ℕ → List Act → Act → Option StoryEvent
 reaches c s past (Turn until at ready stop) = Some (Turned at (own_entries c s ready.entries) stop)
 reaches c s past (AcceptFailed q) = only_if (is_program_door c q) AcceptingFailed
 reaches c s past (Closed q why) = only_if (is_news past why) (Ending why)
 reaches c s past act = None
 
 -- the event that an act makes for a session, if it makes one
-abbrev pub event : Config → ℕ → List Act → Act → Option Event
+abbrev pub event : Config → ℕ → List Act → Act → Option StoryEvent
 event c s past act = if is_own c s act then Some (Own act) else reaches c s past act
 
 -- the list with the event at its head, where there is one
-abbrev pub and_event : Option Event → List Event → List Event
+abbrev pub and_event : Option StoryEvent → List StoryEvent → List StoryEvent
 and_event None events = events
 and_event (Some e) events = e ∷ events
 
 -- all that reaches the session of a history, newest first
-abbrev pub story : Config → ℕ → List Act → List Event
+abbrev pub story : Config → ℕ → List Act → List StoryEvent
 story c s [] = []
 story c s (act ∷ past) = and_event (event c s past act) (story c s past)
 

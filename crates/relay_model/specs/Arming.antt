@@ -9,12 +9,8 @@ use Rattle.relay_model.specs.Places.{same_place}
 use Rattle.relay_model.specs.Readiness.{names}
 use Rattle.relay_model.specs.Configs.{accepting_door}
 use Rattle.relay_model.specs.History.{now}
-
--- how an input stands: not armed, armed, or at an end that was met at a moment
-pub data Arming : Type 0 where
-  Disarmed : Arming
-  Armed : Arming
-  AtEnd : ℕ → Arming
+use Rattle.relay_model.specs.declared.armings.Arming.{Arming}
+use Rattle.relay_model.specs.declared.armings.Arming.TheVariants.{Disarmed, Armed, AtEnd}
 
 -- how long after an end an input is asked again, in milliseconds
 abbrev pub pause_after_end : ℕ

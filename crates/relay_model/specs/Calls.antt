@@ -4,9 +4,13 @@ use Rattle.relay_model.specs.declared.places.Place.{Place}
 use Rattle.relay_model.specs.declared.commands.Config.{Config}
 use Rattle.relay_model.specs.declared.acts.Act.{Act}
 use Rattle.relay_model.specs.Configs.{places, has_fork, is_left, program_door}
-use Rattle.relay_model.specs.History.{Stage, Waiting, stage, held, stop_said, memory_said, accept_failed}
+use Rattle.relay_model.specs.History.{stage, held, stop_said, memory_said, accept_failed}
+use Rattle.relay_model.specs.declared.stages.Stage.{Stage}
+use Rattle.relay_model.specs.declared.stages.Stage.TheVariants.{Waiting}
 use Rattle.relay_model.specs.Sessions.{admitted, live, live_count, next_place, door_options}
-use Rattle.relay_model.specs.Openings.{Call, Nothing, Refuse, Serve, first_call, listening_call}
+use Rattle.relay_model.specs.Openings.{first_call, listening_call}
+use Rattle.relay_model.specs.declared.calls.Call.{Call}
+use Rattle.relay_model.specs.declared.calls.Call.TheVariants.{Nothing, Refuse, Serve}
 use Rattle.relay_model.specs.Cause.{cause}
 
 -- what the opening of a session calls for

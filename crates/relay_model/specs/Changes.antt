@@ -13,13 +13,16 @@ use Rattle.relay_model.specs.Readiness.{Listed, names}
 use Rattle.relay_model.specs.Holding.{Free, Settling, Open, ShutDown, standing}
 use Rattle.relay_model.specs.Choices.{one_more, or_else}
 use Rattle.relay_model.specs.Configs.{input, is_of, is_place_of, accepting_door}
-use Rattle.relay_model.specs.History.{now, turns, stop_said, memory_said, same_why, Usable, Unsettled, Failed, Met, Waiting, Gone, stage, failures, woken, accept_failed, was_closed, was_reaped, reaped_since, got, put, sent, met_end, met_empty, shut_at, read_fault_at, write_fault_at}
-use Rattle.relay_model.specs.Arming.{Armed, Disarmed, AtEnd, read_arming, armed_to_write, armed_to_accept, asked_to_read, asked_to_write, asked_to_accept}
+use Rattle.relay_model.specs.History.{now, turns, stop_said, memory_said, same_why, stage, failures, woken, accept_failed, was_closed, was_reaped, reaped_since, got, put, sent, met_end, met_empty, shut_at, read_fault_at, write_fault_at}
+use Rattle.relay_model.specs.declared.stages.Stage.TheVariants.{Usable, Unsettled, Failed, Met, Waiting, Gone}
+use Rattle.relay_model.specs.Arming.{read_arming, armed_to_write, armed_to_accept, asked_to_read, asked_to_write, asked_to_accept}
+use Rattle.relay_model.specs.declared.armings.Arming.TheVariants.{Armed, Disarmed, AtEnd}
 use Rattle.relay_model.specs.Sessions.{admitted, is_admission}
 use Rattle.relay_model.specs.Transfers.{due_part, due_pieces, is_empty}
 use Rattle.relay_model.specs.Moments.{moved_at}
 use Rattle.relay_model.specs.Cause.{closed_why, is_end}
-use Rattle.relay_model.specs.Outcome.{Faulted, first_fault}
+use Rattle.relay_model.specs.Outcome.{first_fault}
+use Rattle.relay_model.specs.declared.outcomes.RunOutcome.TheVariants.{Faulted}
 
 -- a turn sets the clock, counts, may say stop, arms and wakes what it names, and forgets what was asked
 pub record TurnMakes (until : Option ℕ) (at : ℕ) (ready : Listed) (stop : Bool) (past : List Act) : Type 0 where

@@ -24,16 +24,10 @@ use Rattle.relay_model.specs.declared.commands.FileFlags.{FileFlags}
 use Rattle.relay_model.specs.declared.commands.Target.{Target}
 use Rattle.relay_model.specs.declared.commands.Target.TheVariants as targets
 use Rattle.relay_model.specs.Places.{same_side, same_place, door_of}
+use Rattle.relay_model.specs.declared.media.Medium.{Medium}
+use Rattle.relay_model.specs.declared.media.Medium.TheVariants.{Standard, Storage, Program, Connection, Datagrams}
 
 -- ---- kinds
-
--- what a kind stands on
-pub data Medium : Type 0 where
-  Standard : Medium
-  Storage : Medium
-  Program : Medium
-  Connection : Medium
-  Datagrams : Medium
 
 -- what a kind of address stands on
 abbrev pub medium : Target → Medium

@@ -3,7 +3,6 @@
 use Rattle.std.specs.Prelude.{ℕ, suc, Bool, true, false, not, ◌&&◌, ◌||◌, List, [], ◌∷◌, Option, Some, None, if◌then◌else◌}
 use Rattle.relay_model.specs.declared.places.Place.{Place}
 use Rattle.relay_model.specs.declared.places.Half.TheVariants.{ToRead, ToWrite}
-use Rattle.relay_model.specs.declared.acts.Peer.{Peer}
 use Rattle.relay_model.specs.declared.acts.Why.{Why}
 use Rattle.relay_model.specs.declared.acts.Why.TheVariants as whys
 use Rattle.relay_model.specs.declared.acts.Act.{Act}
@@ -11,6 +10,8 @@ use Rattle.relay_model.specs.declared.acts.Act.TheVariants.{Turn, Opened, OpenLa
 use Rattle.relay_model.specs.Places.{same_place}
 use Rattle.relay_model.specs.Readiness.{names}
 use Rattle.relay_model.specs.Choices.{joined, noted}
+use Rattle.relay_model.specs.declared.stages.Stage.{Stage}
+use Rattle.relay_model.specs.declared.stages.Stage.TheVariants.{Untried, Usable, Unsettled, Failed, Met, Waiting, Gone}
 
 -- ---- turns
 
@@ -55,16 +56,6 @@ memory_said (Closed q why ∷ past) = same_why why whys.Memory || memory_said pa
 memory_said (act ∷ past) = memory_said past
 
 -- ---- opening and closing
-
--- the last act of opening, accepting, listening or closing at a place or door
-pub data Stage : Type 0 where
-  Untried : Stage
-  Usable : Stage
-  Unsettled : Stage
-  Failed : Stage
-  Met : Peer → Stage
-  Waiting : Stage
-  Gone : Why → Stage
 
 -- the last act of opening, accepting, listening or closing at a thing
 abbrev pub stage : List Act → Place → Stage

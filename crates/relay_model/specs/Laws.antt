@@ -11,12 +11,14 @@ use Rattle.relay_model.specs.declared.acts.Act.TheVariants.{Opened, OpenLater, L
 use Rattle.relay_model.specs.Places.{same_place}
 use Rattle.relay_model.specs.Holding.{standing, is_free}
 use Rattle.relay_model.specs.Configs.{input, output, formed, has_fork, program_door, is_program_door}
-use Rattle.relay_model.specs.History.{now, same_why, got, put, held, stage, Unsettled, Waiting, served, woken}
+use Rattle.relay_model.specs.History.{now, same_why, got, put, held, stage, served, woken}
+use Rattle.relay_model.specs.declared.stages.Stage.TheVariants.{Unsettled, Waiting}
 use Rattle.relay_model.specs.Arming.{armed_to_accept}
 use Rattle.relay_model.specs.Sessions.{numbers, admitted, holds, live_count, next_place, door_options}
 use Rattle.relay_model.specs.Transfers.{due, backlog}
 use Rattle.relay_model.specs.Moments.{passed}
-use Rattle.relay_model.specs.Openings.{Call, Nothing, TryAt, Open, Settle, Listen, Accept, Refuse, Serve}
+use Rattle.relay_model.specs.declared.calls.Call.{Call}
+use Rattle.relay_model.specs.declared.calls.Call.TheVariants.{Nothing, TryAt, Open, Settle, Listen, Accept, Refuse, Serve}
 use Rattle.relay_model.specs.Cause.{cause}
 use Rattle.relay_model.specs.Calls.{called_at, door_call, enough, full}
 use Rattle.relay_model.specs.May.{May, Legal, BeginsWith}

@@ -13,7 +13,7 @@ use Rattle.relay_model.specs.History.{turns, held, got, put, sent, stop_said, me
 use Rattle.relay_model.specs.Arming.{armed_to_read, armed_to_write}
 use Rattle.relay_model.specs.Transfers.{due, due_pieces, over, backlog, greatest_read, is_spent}
 use Rattle.relay_model.specs.Moments.{passed}
-use Rattle.relay_model.specs.Openings.{Open, Settle, Listen, Accept, Refuse, Serve}
+use Rattle.relay_model.specs.declared.calls.Call.TheVariants.{Open, Settle, Listen, Accept, Refuse, Serve}
 use Rattle.relay_model.specs.Cause.{cause, closed_why}
 use Rattle.relay_model.specs.Calls.{called_at}
 use Rattle.relay_model.specs.Rest.{owed, is_going, Rest, until_of}

@@ -6,21 +6,14 @@ use Rattle.relay_model.specs.declared.commands.Config.{Config}
 use Rattle.relay_model.specs.declared.acts.Act.{Act}
 use Rattle.relay_model.specs.Places.{door_of}
 use Rattle.relay_model.specs.Configs.{places, options_of, listens_at, has_own_door}
-use Rattle.relay_model.specs.History.{now, Stage, Untried, Usable, Unsettled, Failed, Met, Waiting, stage, held, served, failures, woken}
+use Rattle.relay_model.specs.History.{now, stage, held, served, failures, woken}
+use Rattle.relay_model.specs.declared.stages.Stage.{Stage}
+use Rattle.relay_model.specs.declared.stages.Stage.TheVariants.{Untried, Usable, Unsettled, Failed, Met, Waiting}
 use Rattle.relay_model.specs.Arming.{armed_to_accept}
 use Rattle.relay_model.specs.Sessions.{permits}
 use Rattle.relay_model.specs.Tries.{is_out_of_tries, next_due}
-
--- what is called for; with `TryAt` nothing before that moment
-pub data Call : Type 0 where
-  Nothing : Call
-  TryAt : ℕ → Call
-  Open : Place → Call
-  Settle : Place → Call
-  Listen : Place → Call
-  Accept : (door place : Place) → Call
-  Refuse : Place → Call
-  Serve : (door : Place) → Call
+use Rattle.relay_model.specs.declared.calls.Call.{Call}
+use Rattle.relay_model.specs.declared.calls.Call.TheVariants.{Nothing, TryAt, Open, Settle, Listen, Accept, Refuse, Serve}
 
 -- ---- tries
 

@@ -1,8 +1,6 @@
 -- How a run ended, once nothing is held.
 use Rattle.std.specs.Prelude.{ℕ, suc, Bool, not, ◌&&◌, ◌||◌, List, [], ◌∷◌, length, Option, Some, None, if◌then◌else◌}
 use Rattle.std.specs.List.{list_any}
-use Rattle.relay_model.specs.declared.places.Side.{Side}
-use Rattle.relay_model.specs.declared.places.Half.{Half}
 use Rattle.relay_model.specs.declared.places.Half.TheVariants.{ToRead, ToWrite}
 use Rattle.relay_model.specs.declared.places.Place.{Place}
 use Rattle.relay_model.specs.declared.commands.Config.{Config}
@@ -16,16 +14,8 @@ use Rattle.relay_model.specs.History.{turns, stop_said, memory_said, accept_fail
 use Rattle.relay_model.specs.Sessions.{holds, live, numbers}
 use Rattle.relay_model.specs.Openings.{out_of_tries}
 use Rattle.relay_model.specs.Cause.{cause}
-
--- how a run ended
-pub data Outcome : Type 0 where
-  Memory : Outcome
-  Stopped : (turns : ℕ) → Outcome
-  AcceptFailed : Outcome
-  ListenFailed : (tries : ℕ) → Outcome
-  OpenFailed : Side → (tries : ℕ) → Outcome
-  Faulted : Place → Half → Outcome
-  Ended : Why → Outcome
+use Rattle.relay_model.specs.declared.outcomes.RunOutcome.{RunOutcome}
+use Rattle.relay_model.specs.declared.outcomes.RunOutcome.TheVariants.{Memory, Stopped, AcceptFailed, ListenFailed, OpenFailed, Faulted, Ended}
 
 -- some session that has begun, or the peer that may become the next, holds something, or the program door is held
 abbrev pub holds_something : Config → List Act → Bool
@@ -36,24 +26,24 @@ abbrev pub program_doors : Config → List Place
 program_doors c = if has_fork c then program_door ∷ [] else own_doors c 0
 
 -- the first read or write of the session that failed
-abbrev pub first_fault : Config → List Act → ℕ → Option Outcome
+abbrev pub first_fault : Config → List Act → ℕ → Option RunOutcome
 first_fault c [] s = None
 first_fault c (ReadFault q ∷ past) s = or_else (first_fault c past s) (only_if (is_place_of c s q) (Faulted q ToRead))
 first_fault c (WriteFault q ∷ past) s = or_else (first_fault c past s) (only_if (is_place_of c s q) (Faulted q ToWrite))
 first_fault c (act ∷ past) s = first_fault c past s
 
 -- the first of these doors that is out of tries
-abbrev pub failed_listening : Config → List Act → List Place → Option Outcome
+abbrev pub failed_listening : Config → List Act → List Place → Option RunOutcome
 failed_listening c past [] = None
 failed_listening c past (d ∷ ds) = or_else (only_if (out_of_tries c past d) (ListenFailed (length (failures past d)))) (failed_listening c past ds)
 
 -- the first of these places that is out of tries
-abbrev pub failed_opening : Config → List Act → List Place → Option Outcome
+abbrev pub failed_opening : Config → List Act → List Place → Option RunOutcome
 failed_opening c past [] = None
 failed_opening c past (p ∷ ps) = or_else (only_if (out_of_tries c past p) (OpenFailed p.side (length (failures past p)))) (failed_opening c past ps)
 
 -- the outcome of a program of one session, by its cause
-abbrev pub outcome_by : Config → List Act → Option Why → Option Outcome
+abbrev pub outcome_by : Config → List Act → Option Why → Option RunOutcome
 outcome_by c past None = None
 outcome_by c past (Some whys.OpenFailed) = failed_opening c past (places c 0)
 outcome_by c past (Some whys.Faulted) = or_else (first_fault c past 0) (Some (Ended whys.Faulted))
@@ -62,11 +52,11 @@ outcome_by c past (Some whys.Idle) = or_else (first_fault c past 0) (Some (Ended
 outcome_by c past (Some why) = Some (Ended why)
 
 -- the outcome of a program of many: the door has served and no session lives
-abbrev pub outcome_of_sessions : Config → List Act → Option Outcome
+abbrev pub outcome_of_sessions : Config → List Act → Option RunOutcome
 outcome_of_sessions c past = only_if (served past program_door && not (some_below (live c past) (numbers c past))) (Ended whys.Served)
 
 -- the outcome, but for that of turns that are used up
-abbrev pub outcome : Config → List Act → Option Outcome
+abbrev pub outcome : Config → List Act → Option RunOutcome
 outcome c past =
     if holds_something c past then None
     else first_some (only_if (memory_said past) Memory

@@ -1,5 +1,5 @@
 -- The command of the three words `-u STDIN STDOUT`, with every option at its default.
-use Rattle.std.specs.Prelude.{ℕ, false, List, [], ◌∷◌, None, codes}
+use Rattle.std.specs.Prelude.{ℕ, false, [], None}
 use Rattle.relay_model.specs.declared.commands.Config.{Config}
 use Rattle.relay_model.specs.declared.commands.Single.{Single}
 use Rattle.relay_model.specs.declared.commands.Options.{Options}

@@ -15,7 +15,8 @@ use Rattle.relay_model.specs.Arming.{read_arming, armed_to_read, armed_to_write,
 use Rattle.relay_model.specs.Sessions.{holds, numbers}
 use Rattle.relay_model.specs.Transfers.{over, backlog, is_spent}
 use Rattle.relay_model.specs.Moments.{passed, broken, closing_moment, idle_moment}
-use Rattle.relay_model.specs.Openings.{Call, Nothing, TryAt, Open, Settle, Listen, Accept, Refuse, Serve}
+use Rattle.relay_model.specs.declared.calls.Call.{Call}
+use Rattle.relay_model.specs.declared.calls.Call.TheVariants.{Nothing, TryAt, Open, Settle, Listen, Accept, Refuse, Serve}
 use Rattle.relay_model.specs.Cause.{cause, running}
 use Rattle.relay_model.specs.Calls.{call, door_call, door_cut}
 use Rattle.relay_model.specs.Outcome.{outcome}

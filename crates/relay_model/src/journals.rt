@@ -84,12 +84,12 @@ impl Journal {
     pub fn copy(&self) -> Result<Journal, NoMemory>
         ensures { IfOk result (λ journal. journal.acts ≡ map copied_act self.now.acts) }
     {
-        let items = copied_acts(*self.items.allocator(), self.items.as_slice())?;
+        let items = copy_acts(*self.items.allocator(), self.items.as_slice())?;
         Ok(Journal { items })
     }
 }
 
-fn copied_acts(alloc: Global, acts: &[Act]) -> Result<Vec<Act>, NoMemory>
+fn copy_acts(alloc: Global, acts: &[Act]) -> Result<Vec<Act>, NoMemory>
     ensures { IfOk result (λ copied. copied.items ≡ map copied_act acts.now) }
 {
     let mut copied = Vec::with_capacity(alloc, acts.len())?;

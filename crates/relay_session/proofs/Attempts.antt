@@ -8,16 +8,21 @@ use Rattle.relay_model.specs.declared.acts.Act.TheVariants.{Opened, OpenLater, O
 use Rattle.relay_model.specs.Places.{same_place, door_of}
 use Rattle.relay_model.specs.Choices.{only_if, or_else, noted}
 use Rattle.relay_model.specs.Configs.{places, options_of, listens_at, has_own_door, has_fork, is_left, program_door}
-use Rattle.relay_model.specs.History.{now, Stage, Untried, Usable, Unsettled, Failed, Met, Waiting, Gone, stage, held, woken, failures}
+use Rattle.relay_model.specs.History.{now, stage, held, woken, failures}
+use Rattle.relay_model.specs.declared.stages.Stage.{Stage}
+use Rattle.relay_model.specs.declared.stages.Stage.TheVariants.{Untried, Usable, Unsettled, Failed, Met, Waiting, Gone}
 use Rattle.relay_model.specs.Arming.{armed_to_accept}
 use Rattle.relay_model.specs.Sessions.{permits, live, next_place}
 use Rattle.relay_model.specs.Tries.{is_out_of_tries, next_due}
-use Rattle.relay_model.specs.Openings.{Call, Nothing, TryAt, Open, Settle, Listen, Accept, Refuse, Serve, out_of_tries, when_due, try_again, is_ready, opening_call, listening_call, peer_call, place_call, first_call}
+use Rattle.relay_model.specs.Openings.{out_of_tries, when_due, try_again, is_ready, opening_call, listening_call, peer_call, place_call, first_call}
+use Rattle.relay_model.specs.declared.calls.Call.{Call}
+use Rattle.relay_model.specs.declared.calls.Call.TheVariants.{Nothing, TryAt, Open, Settle, Listen, Accept, Refuse, Serve}
 use Rattle.relay_model.specs.Cause.{cause}
 use Rattle.relay_model.specs.Calls.{call, door_cut, enough, full, program_door_call, door_call, called_at}
 use Rattle.relay_model.specs.May.{MayOpen, Legal}
-use Rattle.relay_model.specs.Outcome.{Outcome, failed_opening, failed_listening}
-use Rattle.relay_model.specs.Outcome as outcomes
+use Rattle.relay_model.specs.Outcome.{failed_opening, failed_listening}
+use Rattle.relay_model.specs.declared.outcomes.RunOutcome.{RunOutcome}
+use Rattle.relay_model.specs.declared.outcomes.RunOutcome.TheVariants as outcomes
 use Rattle.relay_laws.proofs.PlaceLemmas.{same_place_equal}
 use Rattle.retry_plan.specs.Plans.{attempts_of}
 use Rattle.place_openings.specs.Attempts.{first_unopened, first_unlistened, CanCount, FirstCanCount}

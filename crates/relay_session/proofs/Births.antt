@@ -24,14 +24,18 @@ use Rattle.relay_model.specs.declared.acts.Why.TheVariants as whys
 use Rattle.relay_model.specs.Places.{same_place, same_side, same_part, door_of}
 use Rattle.relay_model.specs.Choices.{only_if, or_else, one_more}
 use Rattle.relay_model.specs.Configs.{Fit, offered, has_fork, is_left, is_program, listens, medium, medium_of, program_door, is_program_door, places, own_doors, accepting_door, listens_at, things, parts, parts_of, place_at, options_of, input, output, is_of, is_place_of, has_own_door}
-use Rattle.relay_model.specs.History.{now, stage, Untried, Met, holds_at, stop_said, memory_said, same_why, failures, woken, accept_failed, was_closed, was_reaped, got, put, sent, met_end, met_empty, shut_at, read_fault_at, write_fault_at}
-use Rattle.relay_model.specs.Arming.{Armed, read_arming, armed_to_write, armed_to_accept, asked_to_read, asked_to_write, asked_to_accept}
+use Rattle.relay_model.specs.History.{now, stage, holds_at, stop_said, memory_said, same_why, failures, woken, accept_failed, was_closed, was_reaped, got, put, sent, met_end, met_empty, shut_at, read_fault_at, write_fault_at}
+use Rattle.relay_model.specs.declared.stages.Stage.TheVariants.{Untried, Met}
+use Rattle.relay_model.specs.Arming.{read_arming, armed_to_write, armed_to_accept, asked_to_read, asked_to_write, asked_to_accept}
+use Rattle.relay_model.specs.declared.armings.Arming.TheVariants.{Armed}
 use Rattle.relay_model.specs.Transfers.{over, due_pieces}
 use Rattle.relay_model.specs.Conversions.{is_over}
 use Rattle.relay_model.specs.Moments.{moved_at, broken_at, done, broken}
 use Rattle.relay_model.specs.Sessions.{admitted, numbers, permits, is_admission, next_place, first_part}
 use Rattle.relay_model.specs.Tries.{is_out_of_tries}
-use Rattle.relay_model.specs.Openings.{Call, Nothing, Accept, Serve, out_of_tries, ready, is_ready, stands_ready}
+use Rattle.relay_model.specs.Openings.{out_of_tries, ready, is_ready, stands_ready}
+use Rattle.relay_model.specs.declared.calls.Call.{Call}
+use Rattle.relay_model.specs.declared.calls.Call.TheVariants.{Nothing, Accept, Serve}
 use Rattle.relay_model.specs.Cause.{each_formed, some_formed, cause, closed_why, is_end, fault_at, fault_stands, faulted, listening_failed, opening_failed}
 use Rattle.relay_model.specs.Calls.{call, door_call, door_cut}
 use Rattle.relay_model.specs.Rest.{owed}
@@ -47,16 +51,16 @@ use Rattle.retry_plan.specs.Plans.{PlanIs}
 use Rattle.relay_buffer.specs.Flows.{IsFlow}
 use Rattle.session_direction.specs.States.{DirectionState}
 use Rattle.session_direction.specs.Directions.{IsDirection, terms_of, met_last, as_pieces}
-use Rattle.place_openings.specs.OpeningState.{OpeningState}
+use Rattle.place_openings.specs.declared.one_place.Opening.{Opening}
 use Rattle.place_openings.specs.Queries.{peer_by, peer_at, peer_of_first}
 use Rattle.place_openings.specs.Stands.{IsOpening, Each, AreOpenings, tried_at}
 use Rattle.relay_session.specs.declared.states.State.{State}
-use Rattle.relay_session.specs.declared.lanes.Lane.{Lane}
-use Rattle.relay_session.specs.declared.lanes.Lane.TheVariants.{Unformed, Formed}
+use Rattle.relay_session.specs.declared.lanes.SessionLane.{SessionLane}
+use Rattle.relay_session.specs.declared.lanes.SessionLane.TheVariants.{Unformed, Formed}
 use Rattle.relay_session.specs.Lanes.{IsLane, AreLanes}
 use Rattle.relay_session.specs.Endings.{Quiet, cause_when_ready}
 use Rattle.relay_session.specs.States.{Ground, home}
-use Rattle.relay_session.specs.Births.{IsNew, Begins}
+use Rattle.relay_session.specs.Births.{IsNew, BeginsSession}
 use Rattle.relay_session.specs.declared.sessions.Session.{Session}
 use Rattle.relay_session.specs.Sessions.{Hears}
 use Rattle.relay_session.specs.Steps.{Heeds}
@@ -402,7 +406,7 @@ failures_born : (c : Config) (n : ℕ) (past : List Act) (s : ℕ) (p : Place) (
 failures_born c n past s p true h o f = (clean_there c n past s (door_of p) h (f refl)).failures_is
 failures_born c n past s p false h o f = (clean_there c n past s p h o).failures_is
 
-opening_born : (c : Config) (n : ℕ) (past : List Act) (s : ℕ) (peer : Peer) (p : Place) (o : OpeningState) → Early c n past s → is_place_of c s p ≡ true → IsOpening c (begun_by c s peer []) p o → IsOpening c (begun_by c s peer past) p o
+opening_born : (c : Config) (n : ℕ) (past : List Act) (s : ℕ) (peer : Peer) (p : Place) (o : Opening) → Early c n past s → is_place_of c s p ≡ true → IsOpening c (begun_by c s peer []) p o → IsOpening c (begun_by c s peer past) p o
 opening_born c n past s peer p o h m g =
     let k = place_is_of c s p m in
     let a = born_at c n past s peer p h k in
@@ -428,7 +432,7 @@ opening_born c n past s peer p o h m g =
       asked_child_is = λ b. g.asked_child_is (sym a.was_reaped_same ∙ b);
     }
 
-each_born : (c : Config) (n : ℕ) (past : List Act) (s : ℕ) (peer : Peer) → Early c n past s → (ps : List Place) (os : List OpeningState) → ((p : Place) → list_any (same_place p) ps ≡ true → is_place_of c s p ≡ true) → Each c (begun_by c s peer []) ps os → Each c (begun_by c s peer past) ps os
+each_born : (c : Config) (n : ℕ) (past : List Act) (s : ℕ) (peer : Peer) → Early c n past s → (ps : List Place) (os : List Opening) → ((p : Place) → list_any (same_place p) ps ≡ true → is_place_of c s p ≡ true) → Each c (begun_by c s peer []) ps os → Each c (begun_by c s peer past) ps os
 each_born c n past s peer h [] [] own g = g
 each_born c n past s peer h [] (o ∷ os) own g = g
 each_born c n past s peer h (p ∷ ps) [] own g = g
@@ -479,7 +483,7 @@ direction_born c n past s peer w x h g =
       passed_is_spent = λ b. let t = g.passed_is_spent b in record { emptied = t.emptied; is_over = v ∙ t.is_over };
     }
 
-lane_born : (c : Config) (n : ℕ) (past : List Act) (s : ℕ) (peer : Peer) (w : Way) (l : Lane) → Early c n past s → IsLane c (begun_by c s peer []) s w l → IsLane c (begun_by c s peer past) s w l
+lane_born : (c : Config) (n : ℕ) (past : List Act) (s : ℕ) (peer : Peer) (w : Way) (l : SessionLane) → Early c n past s → IsLane c (begun_by c s peer []) s w l → IsLane c (begun_by c s peer past) s w l
 lane_born c n past s peer w Unformed h g = g
 lane_born c n past s peer w (Formed x) h g = direction_born c n past s peer w x h g
 
@@ -490,7 +494,7 @@ uncut_by true true x d p e = cc
 uncut_by true false x d p e = refl
 uncut_by false b x d p e = cc
 
-early : (c : Config) (n : ℕ) (past : List Act) (s : ℕ) (peer : Peer) → Fit c → Begins c n past s peer → Early c n past s
+early : (c : Config) (n : ℕ) (past : List Act) (s : ℕ) (peer : Peer) → Fit c → BeginsSession c n past s peer → Early c n past s
 early c n past s peer fit b =
     let cut : door_cut past ≡ false = uncut_by (has_fork c) (door_cut past) _ program_door (next_place c past) b.called in
     let x = or_parts (memory_said past || stop_said past) (accept_failed past program_door) cut in
@@ -502,7 +506,7 @@ counted true true n x y = omega arith
 counted true false n x y = absurd (false≢true y)
 counted false a n x y = absurd (false≢true x)
 
-born_home : (c : Config) (n : ℕ) (past : List Act) (s : ℕ) (peer : Peer) (old mid new : State) → IsNew c s old → Begins c n past s peer → AreOpenings c (begun_by c s peer []) s mid.openings → AreLanes c (begun_by c s peer []) s mid.lanes →
+born_home : (c : Config) (n : ℕ) (past : List Act) (s : ℕ) (peer : Peer) (old mid new : State) → IsNew c s old → BeginsSession c n past s peer → AreOpenings c (begun_by c s peer []) s mid.openings → AreLanes c (begun_by c s peer []) s mid.lanes →
     mid.clock ≡ now past → mid.moved ≡ now past → mid.faulted ≡ old.faulted → mid.closing ≡ old.closing → mid.idle ≡ old.idle → mid.sloppy ≡ old.sloppy →
     EndsAs mid new → (Ground c (begun_by c s peer past) s mid → Quiet c (begun_by c s peer past) s → new.ending ≡ cause c (begun_by c s peer past) s) → Heeds c (begun_by c s peer past) s new
 born_home c n past s peer old mid new o b openings lanes clock move fault closing idle sloppy again ending =
@@ -526,7 +530,7 @@ born_home c n past s peer old mid new o b openings lanes clock move fault closin
     } in
     record { ground = ground_again c (begun_by c s peer past) s mid new g again; quiet = q; ending_is = ending g q }
 
-pub born : (c : Config) (n : ℕ) (past : List Act) (s : ℕ) (p : Place) (peer : Peer) (old mid new : State) → IsNew c s old → Begins c n past s peer → p ≡ home c s → AreOpenings c (Accepted p peer ∷ []) s mid.openings → AreLanes c (Accepted p peer ∷ []) s mid.lanes →
+pub born : (c : Config) (n : ℕ) (past : List Act) (s : ℕ) (p : Place) (peer : Peer) (old mid new : State) → IsNew c s old → BeginsSession c n past s peer → p ≡ home c s → AreOpenings c (Accepted p peer ∷ []) s mid.openings → AreLanes c (Accepted p peer ∷ []) s mid.lanes →
     mid.clock ≡ now past → mid.moved ≡ now past → mid.faulted ≡ old.faulted → mid.closing ≡ old.closing → mid.idle ≡ old.idle → mid.sloppy ≡ old.sloppy →
     EndsAs mid new → (Ground c (Accepted p peer ∷ past) s mid → Quiet c (Accepted p peer ∷ past) s → new.ending ≡ cause c (Accepted p peer ∷ past) s) → Heeds c (Accepted p peer ∷ past) s new
 born c n past s p peer old mid new o b e openings lanes clock move fault closing idle sloppy again ending =
@@ -538,7 +542,7 @@ born c n past s p peer old mid new o b e openings lanes clock move fault closing
     (subst (λ (x : Place). Ground c (Accepted x peer ∷ past) s mid → Quiet c (Accepted x peer ∷ past) s → new.ending ≡ cause c (Accepted x peer ∷ past) s) e ending))
 
 -- that the peer is accepted is what is called for
-pub birth_may : (c : Config) (n : ℕ) (past : List Act) (s : ℕ) (peer : Peer) → Begins c n past s peer → owed c past ≡ None → May c n past (Accepted (home c s) peer)
+pub birth_may : (c : Config) (n : ℕ) (past : List Act) (s : ℕ) (peer : Peer) → BeginsSession c n past s peer → owed c past ≡ None → May c n past (Accepted (home c s) peer)
 birth_may c n past s peer b o =
     let f = b.fork in
     let at = sym b.next in
@@ -549,7 +553,7 @@ pub begun_at : (c : Config) (n : ℕ) (past : List Act) (s : ℕ) (p : Place) (p
 begun_at c n past s p peer session e h = subst (λ (x : Place). Hears c n (Accepted x peer ∷ past) s session) e h
 
 -- its peer is met there
-pub birth_meets : (c : Config) (n : ℕ) (past : List Act) (s : ℕ) (peer : Peer) → Begins c n past s peer → peer_at c (Accepted (home c s) peer ∷ past) (home c s) ≡ Some peer
+pub birth_meets : (c : Config) (n : ℕ) (past : List Act) (s : ℕ) (peer : Peer) → BeginsSession c n past s peer → peer_at c (Accepted (home c s) peer ∷ past) (home c s) ≡ Some peer
 birth_meets c n past s peer b =
     ap (λ x. peer_by (options_of c (home c s)).admission (cond x (Met peer) (stage past (home c s)))) (same_place_self (home c s)) ∙ ap (λ x. only_if x peer) b.permitted
 

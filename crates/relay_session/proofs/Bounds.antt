@@ -15,15 +15,16 @@ use Rattle.relay_model.specs.declared.commands.Ways.{Ways}
 use Rattle.relay_model.specs.declared.commands.Ways.TheVariants as ways
 use Rattle.relay_model.specs.declared.acts.Act.{Act}
 use Rattle.relay_model.specs.Configs.{parts_of, parts, address, places, place_at, formed}
-use Rattle.relay_model.specs.History.{Stage, Untried, Usable, Unsettled, Failed, Met, Waiting, Gone}
-use Rattle.place_openings.specs.OpeningState.{OpeningState}
+use Rattle.relay_model.specs.declared.stages.Stage.{Stage}
+use Rattle.relay_model.specs.declared.stages.Stage.TheVariants.{Untried, Usable, Unsettled, Failed, Met, Waiting, Gone}
+use Rattle.place_openings.specs.declared.one_place.Opening.{Opening}
 use Rattle.place_openings.specs.Stands.{Each}
 use Rattle.place_openings.specs.Steps.{left_unless, stage_weight, steps_of, steps_in}
 use Rattle.session_direction.specs.Directions.{IsDirection, granted, left_to_directions}
 use Rattle.session_direction.specs.States.{DirectionState, unless}
 use Rattle.session_direction.specs.States as directions
-use Rattle.relay_session.specs.declared.lanes.Lane.{Lane}
-use Rattle.relay_session.specs.declared.lanes.Lane.TheVariants.{Unformed, Formed}
+use Rattle.relay_session.specs.declared.lanes.SessionLane.{SessionLane}
+use Rattle.relay_session.specs.declared.lanes.SessionLane.TheVariants.{Unformed, Formed}
 use Rattle.relay_session.specs.declared.states.State.{State}
 use Rattle.relay_session.specs.Lanes.{IsLane, lane_steps}
 use Rattle.relay_session.specs.States.{Ground}
@@ -46,11 +47,11 @@ left_within : (b : Bool) (n : ℕ) → left_unless b n ≤ n
 left_within true n = omega arith
 left_within false n = omega arith
 
-opening_within : (o : OpeningState) → steps_of o ≤ 7
+opening_within : (o : Opening) → steps_of o ≤ 7
 opening_within o =
     omega (arith, weight_within o.stage o.woken o.tried, weight_within o.door false o.tried, left_within o.asked 2, left_within o.asked_child 1)
 
-each_within : (c : Config) (past : List Act) (ps : List Place) (os : List OpeningState) → Each c past ps os → steps_in os ≤ 7 * length ps
+each_within : (c : Config) (past : List Act) (ps : List Place) (os : List Opening) → Each c past ps os → steps_in os ≤ 7 * length ps
 each_within c past [] [] h = omega arith
 each_within c past [] (o ∷ os) h = absurd h
 each_within c past (p ∷ ps) [] h = absurd h
@@ -95,7 +96,7 @@ share_of_two true false left a b = absurd (false≢true b)
 share_of_two false other left a b = absurd (false≢true a)
 
 -- one direction takes at most what is left, and each of two at most half of it
-lanes_within : (c : Config) (past : List Act) (s : ℕ) (right left : Lane) → IsLane c past s LeftToRight right → IsLane c past s RightToLeft left → lane_steps right + lane_steps left ≤ left_to_directions c
+lanes_within : (c : Config) (past : List Act) (s : ℕ) (right left : SessionLane) → IsLane c past s LeftToRight right → IsLane c past s RightToLeft left → lane_steps right + lane_steps left ≤ left_to_directions c
 lanes_within c past s Unformed Unformed r l = omega arith
 lanes_within c past s Unformed (Formed e) r l =
     omega (arith, direction_within c past s RightToLeft e l, share_alone (formed c LeftToRight && formed c RightToLeft) (left_to_directions c), left_at_least c)

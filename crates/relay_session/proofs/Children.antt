@@ -11,7 +11,7 @@ use Rattle.relay_model.specs.Choices.{only_if, or_else}
 use Rattle.relay_model.specs.Configs.{places, is_place_of, is_program, medium_of}
 use Rattle.relay_model.specs.History.{was_closed}
 use Rattle.relay_laws.proofs.PlaceLemmas.{same_place_equal}
-use Rattle.place_openings.specs.OpeningState.{OpeningState}
+use Rattle.place_openings.specs.declared.one_place.Opening.{Opening}
 use Rattle.place_openings.specs.Queries.{first_of, child_by}
 use Rattle.place_openings.specs.Stands.{IsOpening, Each}
 use Rattle.place_openings.specs.Steps.{asked_by, has_asked}
@@ -31,14 +31,14 @@ asked_by_now true false asked p a b e = absurd (false≢true b)
 asked_by_now false closed asked p a b e = absurd (false≢true a)
 
 -- the child of this place, which was closed, isn't left to be asked for
-this_asked : (c : Config) (past : List Act) (p q : Place) (o : OpeningState) → IsOpening c past q o → child_by o ≡ None → same_place p q ≡ true → is_program (medium_of c p) ≡ true → was_closed past p ≡ true → asked_by p o ≡ true
+this_asked : (c : Config) (past : List Act) (p q : Place) (o : Opening) → IsOpening c past q o → child_by o ≡ None → same_place p q ≡ true → is_program (medium_of c p) ≡ true → was_closed past p ≡ true → asked_by p o ≡ true
 this_asked c past p q o i none here program closed =
     let e = same_place_equal p q here in
     let child = i.is_child_is ∙ ap (λ x. is_program (medium_of c x)) (sym e) ∙ program in
     let shut = i.closed_is child ∙ ap (was_closed past) (sym e) ∙ closed in
     and_from o.asked_child (same_place p o.place) (asked_by_now o.is_child o.closed o.asked_child o.place child shut none) (ap (same_place p) i.place_is ∙ here)
 
-each_asked : (c : Config) (past : List Act) (p : Place) (ps : List Place) (os : List OpeningState) → Each c past ps os → first_of child_by os ≡ None → list_any (same_place p) ps ≡ true → is_program (medium_of c p) ≡ true → was_closed past p ≡ true → has_asked os p ≡ true
+each_asked : (c : Config) (past : List Act) (p : Place) (ps : List Place) (os : List Opening) → Each c past ps os → first_of child_by os ≡ None → list_any (same_place p) ps ≡ true → is_program (medium_of c p) ≡ true → was_closed past p ≡ true → has_asked os p ≡ true
 each_asked c past p [] os each none among program closed = absurd (false≢true among)
 each_asked c past p (q ∷ ps) [] each none among program closed = absurd each
 each_asked c past p (q ∷ ps) (o ∷ os) each none among program closed = go (or_cases (same_place p q) (list_any (same_place p) ps) among) (each_asked c past p ps os each.1 (or_none (child_by o) (first_of child_by os) none).1)

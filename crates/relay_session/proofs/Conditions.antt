@@ -11,15 +11,16 @@ use Rattle.relay_model.specs.Places.{same_place}
 use Rattle.relay_model.specs.Configs.{places, input, output, formed, way_from, way_to, is_place_of}
 use Rattle.relay_model.specs.Transfers.{backlog}
 use Rattle.relay_model.specs.Sessions.{live}
-use Rattle.relay_model.specs.Openings.{Nothing, first_call}
+use Rattle.relay_model.specs.Openings.{first_call}
+use Rattle.relay_model.specs.declared.calls.Call.TheVariants.{Nothing}
 use Rattle.relay_model.specs.Cause.{cause}
 use Rattle.relay_model.specs.Calls.{call}
 use Rattle.relay_model.specs.Rest.{is_going}
 use Rattle.relay_laws.proofs.PlaceLemmas.{same_place_equal}
 use Rattle.relay_laws.proofs.Holdings.{input_passes, output_passes, moves_formed}
 use Rattle.session_direction.proofs.Wanted.{waits_is}
-use Rattle.relay_session.specs.declared.lanes.Lane.{Lane}
-use Rattle.relay_session.specs.declared.lanes.Lane.TheVariants.{Unformed, Formed}
+use Rattle.relay_session.specs.declared.lanes.SessionLane.{SessionLane}
+use Rattle.relay_session.specs.declared.lanes.SessionLane.TheVariants.{Unformed, Formed}
 use Rattle.relay_session.specs.declared.lanes.Lanes.{Lanes}
 use Rattle.relay_session.specs.declared.states.State.{State}
 use Rattle.relay_session.specs.declared.wishes.Wish.{Wish}
@@ -93,7 +94,7 @@ at_own c n past s wish h = tt
 
 -- ---- what is offered
 
-lane_waits : (c : Config) (past : List Act) (s : ℕ) (w : Way) (lane : Lane) → IsLane c past s w lane → formed c w ≡ true → backlog c past s w ≡ length (waiting_in lane)
+lane_waits : (c : Config) (past : List Act) (s : ℕ) (w : Way) (lane : SessionLane) → IsLane c past s w lane → formed c w ≡ true → backlog c past s w ≡ length (waiting_in lane)
 lane_waits c past s w Unformed is_lane e = absurd (false≢true (sym is_lane ∙ e))
 lane_waits c past s w (Formed d) is_lane e = waits_is c past s w d is_lane
 

@@ -14,11 +14,13 @@ use Rattle.relay_model.specs.Configs.{places, own_doors, has_fork, is_of, way_fr
 use Rattle.relay_model.specs.History.{now, turns, same_why, held, memory_said, stop_said, failures}
 use Rattle.relay_model.specs.Moments.{closing_moment, idle_moment, reached}
 use Rattle.relay_model.specs.Sessions.{live, holds}
-use Rattle.relay_model.specs.Openings.{Nothing, Open, Settle, Listen, Accept, out_of_tries, ready}
+use Rattle.relay_model.specs.Openings.{out_of_tries, ready}
+use Rattle.relay_model.specs.declared.calls.Call.TheVariants.{Nothing, Open, Settle, Listen, Accept}
 use Rattle.relay_model.specs.Cause.{cause, closed_why, is_end, accept_failed_for, listening_failed, opening_failed, fault_stands, faulted, finished}
 use Rattle.relay_model.specs.Calls.{called_at}
-use Rattle.relay_model.specs.Outcome as outcomes
-use Rattle.relay_model.specs.Outcome.{Outcome, outcome, outcome_by, holds_something, first_fault, failed_listening, failed_opening}
+use Rattle.relay_model.specs.declared.outcomes.RunOutcome.TheVariants as outcomes
+use Rattle.relay_model.specs.Outcome.{outcome, outcome_by, holds_something, first_fault, failed_listening, failed_opening}
+use Rattle.relay_model.specs.declared.outcomes.RunOutcome.{RunOutcome}
 use Rattle.relay_model.specs.Rest.{is_going, Rest}
 use Rattle.relay_model.specs.May.{Legal, MayOpen, MayAccept, Licensed, by_cause, by_refusal, by_service, by_door, by_memory, by_turns}
 use Rattle.relay_laws.proofs.Holdings.{moves_running}
@@ -68,23 +70,23 @@ failed_place c past ps f = ap (failed_opening c past) f.among ∙ opening_at c p
 
 -- ---- the outcome, where the events agree with the cause
 
-at_memory : (m s a : Bool) (t : ℕ) (l o : Option Outcome) → m ≡ true → outcome_from false m s t a l o ≡ Some outcomes.Memory
+at_memory : (m s a : Bool) (t : ℕ) (l o : Option RunOutcome) → m ≡ true → outcome_from false m s t a l o ≡ Some outcomes.Memory
 at_memory true s a t l o e = refl
 at_memory false s a t l o e = absurd (false≢true e)
 
-at_stop : (m s a : Bool) (t : ℕ) (l o : Option Outcome) → m ≡ false → s ≡ true → outcome_from false m s t a l o ≡ Some (outcomes.Stopped t)
+at_stop : (m s a : Bool) (t : ℕ) (l o : Option RunOutcome) → m ≡ false → s ≡ true → outcome_from false m s t a l o ≡ Some (outcomes.Stopped t)
 at_stop true s a t l o e f = absurd (true≢false e)
 at_stop false true a t l o e f = refl
 at_stop false false a t l o e f = absurd (false≢true f)
 
-at_accept : (m s a : Bool) (t : ℕ) (l o : Option Outcome) → m ≡ false → s ≡ false → a ≡ true → outcome_from false m s t a l o ≡ Some outcomes.AcceptFailed
+at_accept : (m s a : Bool) (t : ℕ) (l o : Option RunOutcome) → m ≡ false → s ≡ false → a ≡ true → outcome_from false m s t a l o ≡ Some outcomes.AcceptFailed
 at_accept m s a t l o e f g = rw (e, f, g) refl
 
-at_listening : (m s a : Bool) (t : ℕ) (l o : Option Outcome) (x : Outcome) → m ≡ false → s ≡ false → a ≡ false → is_some l ≡ true → outcome_from false m s t a l o ≡ Some (unwrap_or l x)
+at_listening : (m s a : Bool) (t : ℕ) (l o : Option RunOutcome) (x : RunOutcome) → m ≡ false → s ≡ false → a ≡ false → is_some l ≡ true → outcome_from false m s t a l o ≡ Some (unwrap_or l x)
 at_listening m s a t (Some l) o x e f g h = rw (e, f, g) refl
 at_listening m s a t None o x e f g h = absurd (false≢true h)
 
-at_last : (m s a : Bool) (t : ℕ) (l o : Option Outcome) (x : Outcome) → m ≡ false → s ≡ false → a ≡ false → l ≡ None → o ≡ Some x → outcome_from false m s t a l o ≡ Some x
+at_last : (m s a : Bool) (t : ℕ) (l o : Option RunOutcome) (x : RunOutcome) → m ≡ false → s ≡ false → a ≡ false → l ≡ None → o ≡ Some x → outcome_from false m s t a l o ≡ Some x
 at_last m s a t l o x e f g h k = rw (e, f, g, h, k) refl
 
 unwrapped : {T : Type 0} (o : Option T) (x : T) → or_else o (Some x) ≡ Some (unwrap_or o x)

@@ -84,15 +84,15 @@ closed_event sloppy m t a l o f whys.Served e = e
 -- ---- what stands behind each event
 
 -- the events that come before one aren't there
-abbrev pub Stands : Option Why → Bool → Bool → Bool → Bool → Bool → Type 0
-Stands (Some whys.Memory) m t a l o = m ≡ true
-Stands (Some whys.Stopped) m t a l o = (m ≡ false) × (t ≡ true)
-Stands (Some whys.AcceptFailed) m t a l o = (m ≡ false) × (t ≡ false) × (a ≡ true)
-Stands (Some whys.ListenFailed) m t a l o = (m ≡ false) × (t ≡ false) × (a ≡ false) × (l ≡ true)
-Stands (Some whys.OpenFailed) m t a l o = (m ≡ false) × (t ≡ false) × (a ≡ false) × (l ≡ false) × (o ≡ true)
-Stands other m t a l o = (m ≡ false) × (t ≡ false) × (a ≡ false) × (l ≡ false) × (o ≡ false)
+abbrev pub CauseStands : Option Why → Bool → Bool → Bool → Bool → Bool → Type 0
+CauseStands (Some whys.Memory) m t a l o = m ≡ true
+CauseStands (Some whys.Stopped) m t a l o = (m ≡ false) × (t ≡ true)
+CauseStands (Some whys.AcceptFailed) m t a l o = (m ≡ false) × (t ≡ false) × (a ≡ true)
+CauseStands (Some whys.ListenFailed) m t a l o = (m ≡ false) × (t ≡ false) × (a ≡ false) × (l ≡ true)
+CauseStands (Some whys.OpenFailed) m t a l o = (m ≡ false) × (t ≡ false) × (a ≡ false) × (l ≡ false) × (o ≡ true)
+CauseStands other m t a l o = (m ≡ false) × (t ≡ false) × (a ≡ false) × (l ≡ false) × (o ≡ false)
 
-pub stands : (m t a l o f : Bool) → Stands (event_of m t a l o f) m t a l o
+pub stands : (m t a l o f : Bool) → CauseStands (event_of m t a l o f) m t a l o
 stands true t a l o f = refl
 stands false true a l o f = (refl, refl)
 stands false false true l o f = (refl, refl, refl)
@@ -103,9 +103,9 @@ stands false false false false false false = (refl, refl, refl, refl, refl)
 
 -- what the history says where it agrees with a reason
 abbrev pub EventStands : Config → List Act → Why → Type 0
-EventStands c past why = Stands (event_part c.sloppy why) (memory_said past) (stop_said past) (accept_failed_for c past 0) (listening_failed c past 0) (opening_failed c past 0)
+EventStands c past why = CauseStands (event_part c.sloppy why) (memory_said past) (stop_said past) (accept_failed_for c past 0) (listening_failed c past 0) (opening_failed c past 0)
 
 pub event_stands : (c : Config) (past : List Act) (why : Why) → event_cause c past ≡ event_part c.sloppy why → EventStands c past why
 event_stands c past why e =
-    subst (λ k. Stands k (memory_said past) (stop_said past) (accept_failed_for c past 0) (listening_failed c past 0) (opening_failed c past 0)) e
+    subst (λ k. CauseStands k (memory_said past) (stop_said past) (accept_failed_for c past 0) (listening_failed c past 0) (opening_failed c past 0)) e
     (stands (memory_said past) (stop_said past) (accept_failed_for c past 0) (listening_failed c past 0) (opening_failed c past 0) (not c.sloppy && fault_stands c past 0))

@@ -10,9 +10,13 @@ use Rattle.relay_model.specs.declared.acts.Act.TheVariants.{Opened, OpenLater, O
 use Rattle.relay_model.specs.Places.{same_place}
 use Rattle.relay_model.specs.Choices.{some_below}
 use Rattle.relay_model.specs.Configs.{has_fork, is_of, things, places, program_door}
-use Rattle.relay_model.specs.History.{Stage, Usable, Unsettled, Failed, Met, Waiting, Gone, stage, held, holds_at}
+use Rattle.relay_model.specs.History.{stage, held, holds_at}
+use Rattle.relay_model.specs.declared.stages.Stage.{Stage}
+use Rattle.relay_model.specs.declared.stages.Stage.TheVariants.{Usable, Unsettled, Failed, Met, Waiting, Gone}
 use Rattle.relay_model.specs.Sessions.{live, holds, numbers}
-use Rattle.relay_model.specs.Openings.{Call, Nothing, Listen, Accept, first_call}
+use Rattle.relay_model.specs.Openings.{first_call}
+use Rattle.relay_model.specs.declared.calls.Call.{Call}
+use Rattle.relay_model.specs.declared.calls.Call.TheVariants.{Nothing, Listen, Accept}
 use Rattle.relay_model.specs.Cause.{cause}
 use Rattle.relay_model.specs.Calls.{call, called_at}
 use Rattle.relay_model.specs.Outcome.{holds_something}

@@ -17,11 +17,15 @@ use Rattle.relay_model.specs.declared.acts.Act.TheVariants.{Accepted}
 use Rattle.relay_model.specs.Choices.{one_more}
 use Rattle.relay_model.specs.Places.{same_place, same_side, same_part, same_bool, door_of}
 use Rattle.relay_model.specs.Configs.{Fit, fork_is_placed, forks, listens, single_for, places, own_doors, parts, parts_of, place_at, listens_at, has_own_door, options_of, has_fork, is_left}
-use Rattle.relay_model.specs.History.{now, Stage, Untried, Unsettled, Failed, Met, Waiting, stage, held, holds_at, woken, failures}
+use Rattle.relay_model.specs.History.{now, stage, held, holds_at, woken, failures}
+use Rattle.relay_model.specs.declared.stages.Stage.{Stage}
+use Rattle.relay_model.specs.declared.stages.Stage.TheVariants.{Untried, Unsettled, Failed, Met, Waiting}
 use Rattle.relay_model.specs.Arming.{armed_to_accept}
 use Rattle.relay_model.specs.Sessions.{permits, admitted, is_admission, numbers, live, holds, first_part}
 use Rattle.relay_model.specs.Tries.{next_due}
-use Rattle.relay_model.specs.Openings.{Call, Nothing, TryAt, Open, Settle, Listen, Accept, Refuse, Serve, out_of_tries, when_due, try_again, is_ready, opening_call, listening_call, peer_call, place_call, first_call}
+use Rattle.relay_model.specs.Openings.{out_of_tries, when_due, try_again, is_ready, opening_call, listening_call, peer_call, place_call, first_call}
+use Rattle.relay_model.specs.declared.calls.Call.{Call}
+use Rattle.relay_model.specs.declared.calls.Call.TheVariants.{Nothing, TryAt, Open, Settle, Listen, Accept, Refuse, Serve}
 use Rattle.relay_model.specs.Cause.{cause}
 use Rattle.relay_model.specs.Calls.{call, called_at, door_call}
 use Rattle.relay_model.specs.Frames.{is_at, is_turn}

@@ -1,5 +1,5 @@
 -- A lane, from what its direction tells.
-use Rattle.std.proofs.Common.{◌≡◌, refl, sym, ap, subst, ◌∙◌, ℕ, ◌+◌, ◌<◌, ◌≤◌, Bool, true, false, not, cond, List, ◌∷◌, take, length, Option, Some, None, is_some, arith}
+use Rattle.std.proofs.Common.{◌≡◌, refl, sym, ap, subst, ◌∙◌, ℕ, ◌+◌, ◌<◌, ◌≤◌, Bool, true, false, not, cond, List, ◌∷◌, take, length, min, Option, Some, None, is_some, arith}
 use Rattle.relay_model.specs.declared.places.Way.{Way}
 use Rattle.relay_model.specs.declared.places.Way.TheVariants.{LeftToRight, RightToLeft}
 use Rattle.relay_model.specs.declared.places.Place.{Place}
@@ -29,7 +29,7 @@ use Rattle.relay_session.specs.declared.wishes.Wish.TheVariants as wishes
 use Rattle.relay_session.specs.declared.transfers.Transfer.{Transfer}
 use Rattle.relay_session.specs.declared.transfers.Transfer.TheVariants as transfers
 use Rattle.relay_session.specs.declared.lanes.Lanes.{Lanes}
-use Rattle.relay_session.specs.Lanes.{Reads, Offers, LaneWishes, LanesWish, lane_at, can_read_in, can_write_in}
+use Rattle.relay_session.specs.Lanes.{ReadsAt, Offers, LaneWishes, LanesWish, lane_at, can_read_in, can_write_in}
 use Rattle.relay_session.specs.Transfers.{transfer_act, MayTransfer, TakesFrom, is_read, place_for, way_of, opposite}
 
 -- the way of an input and of an output
@@ -41,7 +41,7 @@ pub borders_at : (c : Config) (s : ℕ) (w : Way) → way_to (output c s w).side
 borders_at c s LeftToRight = refl
 borders_at c s RightToLeft = refl
 
-own_input : (c : Config) (past : List Act) (s : ℕ) (w : Way) (n : ℕ) → WantsRead c past s w n → Reads c past s (input c s w) n
+own_input : (c : Config) (past : List Act) (s : ℕ) (w : Way) (n : ℕ) → WantsRead c past s w n → ReadsAt c past s (input c s w) n
 own_input c past s LeftToRight n want = record { own = refl; may = want.may; size = want.size }
 own_input c past s RightToLeft n want = record { own = refl; may = want.may; size = want.size }
 
@@ -49,10 +49,10 @@ own_output : (c : Config) (past : List Act) (s : ℕ) (w : Way) (keeps : Bool) �
 own_output c past s LeftToRight keeps want = record { own = refl; may = want.may; keeps = want.borders }
 own_output c past s RightToLeft keeps want = record { own = refl; may = want.may; keeps = want.borders }
 
-pub reads_of : (c : Config) (past : List Act) (s : ℕ) (w : Way) (d : DirectionState) (n : ℕ) → IsDirection c past s w d → WantsRead c past s w n → can_read d ≡ true → (p : Place) → p ≡ d.source → Reads c past s p n × (way_from p.side ≡ w) × (can_read d ≡ true)
+pub reads_of : (c : Config) (past : List Act) (s : ℕ) (w : Way) (d : DirectionState) (n : ℕ) → IsDirection c past s w d → WantsRead c past s w n → can_read d ≡ true → (p : Place) → p ≡ d.source → ReadsAt c past s p n × (way_from p.side ≡ w) × (can_read d ≡ true)
 reads_of c past s w d n g want can p e =
     let k : p ≡ input c s w = e ∙ g.source_is in
-    (subst (λ q. Reads c past s q n) (sym k) (own_input c past s w n want), ap (λ q. way_from q.side) k ∙ from_input c s w, can)
+    (subst (λ q. ReadsAt c past s q n) (sym k) (own_input c past s w n want), ap (λ q. way_from q.side) k ∙ from_input c s w, can)
 
 pub offers_of : (c : Config) (past : List Act) (s : ℕ) (w : Way) (d : DirectionState) (keeps : Bool) → IsDirection c past s w d → WantsWrite c past s w keeps → can_write d ≡ true → (p : Place) → p ≡ d.sink → Offers c past s p keeps × (way_to p.side ≡ w) × (can_write d ≡ true)
 offers_of c past s w d keeps g want can p e =
@@ -60,12 +60,12 @@ offers_of c past s w d keeps g want can p e =
     (subst (λ q. Offers c past s q keeps) (sym k) (own_output c past s w keeps want), ap (λ q. way_to q.side) k ∙ borders_at c s w, can)
 
 -- what a read at the input of a direction says
-pub record ReadsAt (c : Config) (past : List Act) (s : ℕ) (w : Way) (n : ℕ) : Type 0 where
+pub record ReadsInto (c : Config) (past : List Act) (s : ℕ) (w : Way) (n : ℕ) : Type 0 where
   pub more : over c past (input c s w) ≡ false
   pub going : passed c past s w ≡ false
   pub in_room : n ≤ greatest_read c past s w
 
-pub reads_at : (c : Config) (past : List Act) (s : ℕ) (w : Way) (n : ℕ) → MayRead c past (input c s w) n → ReadsAt c past s w n
+pub reads_at : (c : Config) (past : List Act) (s : ℕ) (w : Way) (n : ℕ) → MayRead c past (input c s w) n → ReadsInto c past s w n
 reads_at c past s LeftToRight n may = record { more = may.asks.not_over; going = may.asks.not_passed; in_room = may.in_room }
 reads_at c past s RightToLeft n may = record { more = may.asks.not_over; going = may.asks.not_passed; in_room = may.in_room }
 
@@ -118,6 +118,31 @@ pub wrote_goes : (c : Config) (past : List Act) (s : ℕ) (w : Way) (d d' : Dire
 wrote_goes c past s w d d' count took f may same step =
     let e : took ≡ count = same may.1.within (λ packets. may.1.whole (ap (keeps_borders c) (borders_at c s w) ∙ (sym (packets_are c w d.flow.lane f.flow_is.lane_is) ∙ packets))) in
     subst (λ n. IsDirection c (acts.Wrote (output c s w) (take n d.flow.backlog) ∷ past) s w d') e (step (subst (λ n. 1 ≤ n) (sym e) may.1.some_bytes) (writes_at c past s w may.0.offers).going)
+
+-- ---- a block that was read
+
+pub block_goes : (c : Config) (past : List Act) (s : ℕ) (w : Way) (d' : DirectionState) (count least room : ℕ) (xs : List ℕ) → MayRead c past (input c s w) count → least ≡ min count room → (over c past (input c s w) ≡ false → room ≡ greatest_read c past s w) →
+    (passed c past s w ≡ false → IsDirection c (acts.Read (input c s w) (take least xs) ∷ past) s w d') → IsDirection c (acts.Read (input c s w) (take count xs) ∷ past) s w d'
+block_goes c past s w d' count least room xs may is size step =
+    let reads = reads_at c past s w count may in
+    let e : least ≡ count = omega (arith, is, size reads.more, reads.in_room) in
+    subst (λ n. IsDirection c (acts.Read (input c s w) (take n xs) ∷ past) s w d') e (step reads.going)
+
+-- the place of a read is the input of its direction
+pub read_at : (c : Config) (past : List Act) (s : ℕ) (w : Way) (p : Place) (n : ℕ) → p.session ≡ s → way_from p.side ≡ w → MayRead c past p n → p ≡ input c s w
+read_at c past s w p n own way may = same_place_equal p (input c p.session (way_from p.side)) may.asks.is_input ∙ (λ i. input c (own i) (way i))
+
+-- and not that of the other
+pub read_elsewhere : (c : Config) (s : ℕ) (w : Way) (p : Place) → way_from p.side ≡ opposite w → same_place p (input c s w) ≡ false
+read_elsewhere c s w p way = which (same_place p (input c s w)) refl
+  where
+    apart : {P : Type 0} (w : Way) → w ≡ opposite w → P
+    apart LeftToRight e = cc
+    apart RightToLeft e = cc
+
+    which : (b : Bool) → same_place p (input c s w) ≡ b → b ≡ false
+    which false e = refl
+    which true e = apart w (sym (ap (λ q. way_from q.side) (same_place_equal p (input c s w) e) ∙ from_input c s w) ∙ way)
 
 -- ---- a transfer that concerns a direction, and one that doesn't
 

@@ -22,8 +22,8 @@ use Rattle.relay_laws.proofs.PlaceLemmas.{same_place_equal}
 use Rattle.relay_laws.proofs.Growth.{Grows, same, grows_take, grows_before, grown, due_of_grows, due_nil}
 use Rattle.relay_laws.proofs.Holdings.{moves_formed}
 use Rattle.session_direction.proofs.Wanted.{packets_are}
-use Rattle.relay_session.specs.declared.lanes.Lane.{Lane}
-use Rattle.relay_session.specs.declared.lanes.Lane.TheVariants.{Unformed, Formed}
+use Rattle.relay_session.specs.declared.lanes.SessionLane.{SessionLane}
+use Rattle.relay_session.specs.declared.lanes.SessionLane.TheVariants.{Unformed, Formed}
 use Rattle.relay_session.specs.declared.states.State.{State}
 use Rattle.relay_session.specs.declared.wishes.Wish.{Wish}
 use Rattle.relay_session.specs.declared.wishes.Wish.TheVariants as wishes
@@ -129,7 +129,7 @@ backlog_fits c n (act ∷ past) s w keeps legal = backlog_fits c n past s w keep
 
 -- ---- what is offered
 
-lane_keeps : (c : Config) (past : List Act) (s : ℕ) (w : Way) (lane : Lane) → IsLane c past s w lane → formed c w ≡ true → keeps_pieces lane ≡ keeps_borders c w
+lane_keeps : (c : Config) (past : List Act) (s : ℕ) (w : Way) (lane : SessionLane) → IsLane c past s w lane → formed c w ≡ true → keeps_pieces lane ≡ keeps_borders c w
 lane_keeps c past s w Unformed is_lane e = absurd (false≢true (sym is_lane ∙ e))
 lane_keeps c past s w (Formed d) is_lane e = packets_are c w d.flow.lane is_lane.flow_is.lane_is
 

@@ -12,7 +12,9 @@ use Rattle.relay_model.specs.Configs.{places}
 use Rattle.relay_model.specs.History.{now}
 use Rattle.relay_model.specs.Arming.{asked_to_accept}
 use Rattle.relay_model.specs.Moments.{closing_moment, idle_moment}
-use Rattle.relay_model.specs.Openings.{Call, Nothing, TryAt, Accept, Refuse, Serve, first_call, ready}
+use Rattle.relay_model.specs.Openings.{first_call, ready}
+use Rattle.relay_model.specs.declared.calls.Call.{Call}
+use Rattle.relay_model.specs.declared.calls.Call.TheVariants.{Nothing, TryAt, Accept, Refuse, Serve}
 use Rattle.relay_model.specs.Cause.{cause, closed_why, running}
 use Rattle.relay_model.specs.Sessions.{live}
 use Rattle.relay_model.specs.Calls.{call}

@@ -14,13 +14,17 @@ use Rattle.relay_model.specs.Places.{same_place, door_of}
 use Rattle.relay_model.specs.Choices.{only_if, first_some}
 use Rattle.relay_model.specs.Configs.{input, output, places, things, Fit, program_door, is_program_door, way_from, way_to, options_of, has_fork, has_own_door, is_left, is_of, is_program, listens, listens_at, medium, medium_of, single}
 use Rattle.relay_model.specs.Holding.{Hold, Free, Settling, Open, ShutDown, standing, is_free, is_open}
-use Rattle.relay_model.specs.History.{now, Stage, Untried, Usable, Unsettled, Failed, Met, Waiting, Gone, stage, held, holds_at, woken, failures, shut_at, memory_said, stop_said, was_closed, was_reaped, reaped_since}
+use Rattle.relay_model.specs.History.{now, stage, held, holds_at, woken, failures, shut_at, memory_said, stop_said, was_closed, was_reaped, reaped_since}
+use Rattle.relay_model.specs.declared.stages.Stage.{Stage}
+use Rattle.relay_model.specs.declared.stages.Stage.TheVariants.{Untried, Usable, Unsettled, Failed, Met, Waiting, Gone}
 use Rattle.relay_model.specs.Arming.{armed_to_accept}
 use Rattle.relay_model.specs.Sessions.{permits, holds, live}
 use Rattle.relay_model.specs.Tries.{next_due}
 use Rattle.relay_model.specs.Moments.{passed, closing_moment, idle_moment, reached}
-use Rattle.relay_model.specs.Openings.{Call, Nothing, TryAt, Accept, Listen, Refuse, Serve, out_of_tries, when_due, try_again, is_ready, stands_ready, ready, opening_call, listening_call, peer_call, place_call, first_call}
-use Rattle.relay_model.specs.Openings as calls
+use Rattle.relay_model.specs.Openings.{out_of_tries, when_due, try_again, is_ready, stands_ready, ready, opening_call, listening_call, peer_call, place_call, first_call}
+use Rattle.relay_model.specs.declared.calls.Call.{Call}
+use Rattle.relay_model.specs.declared.calls.Call.TheVariants.{Nothing, TryAt, Accept, Listen, Refuse, Serve}
+use Rattle.relay_model.specs.declared.calls.Call.TheVariants as calls
 use Rattle.relay_model.specs.Cause.{cause, closed_why, is_end, accept_failed_for, listening_failed, opening_failed, faulted, finished}
 use Rattle.relay_model.specs.Calls.{call, called_at, door_call}
 use Rattle.relay_model.specs.Rest.{is_going, Rest, SessionRests, until_of}

@@ -12,7 +12,8 @@ use Rattle.relay_model.specs.Arming.{armed_to_read, armed_to_write, asked_to_rea
 use Rattle.relay_model.specs.Sessions.{live, holds}
 use Rattle.relay_model.specs.Transfers.{over, backlog, is_spent}
 use Rattle.relay_model.specs.Moments.{passed}
-use Rattle.relay_model.specs.Openings.{Nothing, ready}
+use Rattle.relay_model.specs.Openings.{ready}
+use Rattle.relay_model.specs.declared.calls.Call.TheVariants.{Nothing}
 use Rattle.relay_model.specs.Cause.{cause, running}
 use Rattle.relay_model.specs.Calls.{call}
 use Rattle.relay_model.specs.Rest.{goes, is_going, owes_read, owes_write, must_pass, accepts, presses, AcceptTried, SessionRests, way_work, try_moment, input_moment, timer_moment}

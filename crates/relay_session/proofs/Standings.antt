@@ -8,7 +8,9 @@ use Rattle.relay_model.specs.declared.acts.Act.TheVariants.{Opened, OpenLater, O
 use Rattle.relay_model.specs.Places.{same_place}
 use Rattle.relay_model.specs.Configs.{output, way_to}
 use Rattle.relay_model.specs.Holding.{Hold, Free, Settling, Open, ShutDown, standing, is_open}
-use Rattle.relay_model.specs.History.{now, Stage, Untried, Usable, Unsettled, Failed, Met, Waiting, Gone, stage, shut_at}
+use Rattle.relay_model.specs.History.{now, stage, shut_at}
+use Rattle.relay_model.specs.declared.stages.Stage.{Stage}
+use Rattle.relay_model.specs.declared.stages.Stage.TheVariants.{Untried, Usable, Unsettled, Failed, Met, Waiting, Gone}
 use Rattle.relay_model.specs.Openings.{is_ready, stands_ready}
 use Rattle.relay_model.specs.Rest.{is_going}
 use Rattle.relay_model.specs.May.{Legal}

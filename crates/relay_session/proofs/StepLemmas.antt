@@ -14,13 +14,16 @@ use Rattle.relay_model.specs.declared.acts.Why.TheVariants as whys
 use Rattle.relay_model.specs.declared.readiness.ReadyAt.{ReadyAt}
 use Rattle.relay_model.specs.Places.{same_place, same_side, same_part, same_bool}
 use Rattle.relay_model.specs.Configs.{places, is_of, is_place_of, has_fork, input, output, formed, way_from, way_to, own_doors, keeps_borders, program_door, Fit}
-use Rattle.relay_model.specs.History.{now, accept_failed, memory_said, stop_said, same_why, held, holds_at, stage, Gone}
+use Rattle.relay_model.specs.History.{now, accept_failed, memory_said, stop_said, same_why, held, holds_at, stage}
+use Rattle.relay_model.specs.declared.stages.Stage.TheVariants.{Gone}
 use Rattle.relay_model.specs.Sessions.{numbers}
 use Rattle.relay_model.specs.Choices.{only_if, first_some}
 use Rattle.relay_model.specs.declared.places.Side.TheVariants.{Left}
 use Rattle.relay_session.proofs.Homes.{begun_after, NamesThing, called_here, held_away}
 use Rattle.relay_model.specs.Moments.{moved_at, closing_moment, idle_moment, reached}
-use Rattle.relay_model.specs.Openings.{Call, Accept, Refuse, Serve, first_call, ready}
+use Rattle.relay_model.specs.Openings.{first_call, ready}
+use Rattle.relay_model.specs.declared.calls.Call.{Call}
+use Rattle.relay_model.specs.declared.calls.Call.TheVariants.{Accept, Refuse, Serve}
 use Rattle.relay_model.specs.Cause.{cause, closed_why, fault_stands, accept_failed_for, is_end, listening_failed, opening_failed, faulted, finished}
 use Rattle.relay_model.specs.Calls.{call, called_at}
 use Rattle.relay_model.specs.Rest.{owed, Rest}
@@ -36,9 +39,9 @@ use Rattle.relay_session.specs.declared.states.State.{State}
 use Rattle.relay_session.specs.declared.transfers.Transfer.{Transfer}
 use Rattle.relay_session.specs.declared.transfers.Transfer.TheVariants as transfers
 use Rattle.relay_session.specs.Endings.{Quiet, Ends, EndingIs}
-use Rattle.relay_session.specs.declared.lanes.Lane.{Lane}
-use Rattle.relay_session.specs.declared.lanes.Lane.TheVariants.{Unformed, Formed}
-use Rattle.relay_session.specs.Lanes.{IsLane, AreLanes, Reads, Offers, lanes_steps, lane_at, waiting_in, waiting_at}
+use Rattle.relay_session.specs.declared.lanes.SessionLane.{SessionLane}
+use Rattle.relay_session.specs.declared.lanes.SessionLane.TheVariants.{Unformed, Formed}
+use Rattle.relay_session.specs.Lanes.{IsLane, AreLanes, ReadsAt, Offers, lanes_steps, lane_at, waiting_in, waiting_at}
 use Rattle.session_direction.proofs.Wanted.{packets_are, may_write_some}
 use Rattle.relay_session.specs.Transfers.{transfer_act, MayTransfer, TakesFrom, moves_bytes, is_fault}
 use Rattle.relay_session.specs.States.{Ground, Fields, Closes, ClosesFor, home, steps_of}
@@ -197,7 +200,7 @@ output_own c s w f = output_passes c (is_place_of c s) s w f (each_own c s (plac
     each_own c s [] h = refl
     each_own c s (p ∷ ps) h = rw (h.0.place.among, each_own c s ps h.1) refl
 
-read_own : (c : Config) (past : List Act) (s : ℕ) (p : Place) (n : ℕ) → p.session ≡ s → MayRead c past p n → is_place_of c s p ≡ true
+pub read_own : (c : Config) (past : List Act) (s : ℕ) (p : Place) (n : ℕ) → p.session ≡ s → MayRead c past p n → is_place_of c s p ≡ true
 read_own c past s p n own may =
     let e : p ≡ input c p.session (way_from p.side) = same_place_equal p (input c p.session (way_from p.side)) may.asks.is_input in
     subst (λ q. is_place_of c s q ≡ true) (sym (e ∙ ap (λ x. input c x (way_from p.side)) own)) (input_own c s (way_from p.side) (moves_formed c past p.session (way_from p.side) may.asks.moving))
@@ -498,7 +501,7 @@ write_at c past s lanes p l own may count takes = go (way_to p.side) refl
     at : p ≡ output c s (way_to p.side)
     at = same_place_equal p (output c p.session (way_to p.side)) may.offers.is_output ∙ ap (λ x. output c x (way_to p.side)) own
 
-    one : (w : Way) (lane : Lane) → way_to p.side ≡ w → IsLane c past s w lane → waiting_at lanes p ≡ waiting_in lane → MayWrite c past p (take count (waiting_at lanes p))
+    one : (w : Way) (lane : SessionLane) → way_to p.side ≡ w → IsLane c past s w lane → waiting_at lanes p ≡ waiting_in lane → MayWrite c past p (take count (waiting_at lanes p))
     one w Unformed e k v = absurd (omega (arith, takes.some_bytes, subst (λ xs. count ≤ length xs) v takes.within))
     one w (Formed d) e k v =
         let q : p ≡ output c s w = at ∙ ap (output c s) e in
@@ -516,10 +519,10 @@ quiet_names c past s until at names more q = record { unclosed = q.unclosed; rem
 
 -- ---- the transfers that answers are
 
-pub reads_bytes : (c : Config) (past : List Act) (s : ℕ) (p : Place) (n k : ℕ) → Reads c past s p n → (0 < k) × (k ≤ n) → MayRead c past p k
+pub reads_bytes : (c : Config) (past : List Act) (s : ℕ) (p : Place) (n k : ℕ) → ReadsAt c past s p n → (0 < k) × (k ≤ n) → MayRead c past p k
 reads_bytes c past s p n k r fits = read_may c past p n k r.may (omega (arith, fits.0)) fits.1
 
-pub reads_one : (c : Config) (past : List Act) (s : ℕ) (p : Place) (n : ℕ) → Reads c past s p n → MayRead c past p 1
+pub reads_one : (c : Config) (past : List Act) (s : ℕ) (p : Place) (n : ℕ) → ReadsAt c past s p n → MayRead c past p 1
 reads_one c past s p n r = read_may c past p n 1 r.may (omega arith) r.may.some_bytes
 
 pub takes_some : (c : Config) (past : List Act) (s : ℕ) (p : Place) (waiting : List ℕ) (count : ℕ) → Offers c past s p false → (0 < count) × (count ≤ length waiting) → TakesFrom c p waiting count

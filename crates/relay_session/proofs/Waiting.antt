@@ -13,10 +13,13 @@ use Rattle.relay_model.specs.Configs.{has_fork, own_doors}
 use Rattle.relay_model.specs.History.{now, turns, memory_said, stop_said, accept_failed}
 use Rattle.relay_model.specs.Moments.{closing_moment, idle_moment, reached}
 use Rattle.relay_model.specs.Sessions.{numbers}
-use Rattle.relay_model.specs.Openings.{Nothing, ready, out_of_tries}
+use Rattle.relay_model.specs.Openings.{ready, out_of_tries}
+use Rattle.relay_model.specs.declared.calls.Call.TheVariants.{Nothing}
 use Rattle.relay_model.specs.Cause.{cause, closed_why, accept_failed_for, listening_failed, opening_failed, faulted, finished}
 use Rattle.relay_model.specs.Calls.{door_call}
-use Rattle.relay_model.specs.Outcome.{Outcome, Memory, Stopped, AcceptFailed, outcome, outcome_by, outcome_of_sessions, program_doors, failed_listening, holds_something}
+use Rattle.relay_model.specs.Outcome.{outcome, outcome_by, outcome_of_sessions, program_doors, failed_listening, holds_something}
+use Rattle.relay_model.specs.declared.outcomes.RunOutcome.{RunOutcome}
+use Rattle.relay_model.specs.declared.outcomes.RunOutcome.TheVariants.{Memory, Stopped, AcceptFailed}
 use Rattle.relay_model.specs.Rest.{presses, accepts, session_work, session_moment, door_moment, try_moment, AcceptTried, SessionRests, DoorRests, Rest, until_of}
 use Rattle.relay_model.specs.May.{Legal}
 use Rattle.relay_laws.proofs.RestLemmas.{rest_of_parts}
@@ -71,7 +74,7 @@ pub accept_alone : (c : Config) (past : List Act) (s : ℕ) → has_fork c ≡ f
 accept_alone c past s alone = rw alone refl
 
 -- the outcome, as it is computed from its parts
-abbrev pub outcome_from : Bool → Bool → Bool → ℕ → Bool → Option Outcome → Option Outcome → Option Outcome
+abbrev pub outcome_from : Bool → Bool → Bool → ℕ → Bool → Option RunOutcome → Option RunOutcome → Option RunOutcome
 outcome_from holds memory stop turns accepting listening other = cond holds None (first_some (only_if memory Memory ∷ only_if stop (Stopped turns) ∷ only_if accepting AcceptFailed ∷ listening ∷ other ∷ []))
 
 pub outcome_alone : (c : Config) (past : List Act) → has_fork c ≡ false →
@@ -82,7 +85,7 @@ outcome_alone c past alone =
     (λ i. outcome_from (holds_something c past) (memory_said past) (stop_said past) (turns past) (list_any (accept_failed past) (d i)) (failed_listening c past (d i)) (cond (alone i) (outcome_of_sessions c past) (outcome_by c past (cause c past 0))))
     ∙ (λ i. outcome_from (holds_something c past) (memory_said past) (stop_said past) (turns past) (sym a i) (failed_listening c past (own_doors c 0)) (outcome_by c past (cause c past 0)))
 
-nothing_yet : (h : Bool) (m s a : Bool) (t : ℕ) (l o : Option Outcome) → m ≡ false → s ≡ false → a ≡ false → l ≡ None → o ≡ None → outcome_from h m s t a l o ≡ None
+nothing_yet : (h : Bool) (m s a : Bool) (t : ℕ) (l o : Option RunOutcome) → m ≡ false → s ≡ false → a ≡ false → l ≡ None → o ≡ None → outcome_from h m s t a l o ≡ None
 nothing_yet true m s a t l o em es ea el eo = refl
 nothing_yet false m s a t l o em es ea el eo = rw (em, es, ea, el, eo) refl
 

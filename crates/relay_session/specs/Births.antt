@@ -7,7 +7,7 @@ use Rattle.relay_model.specs.declared.acts.Peer.{Peer}
 use Rattle.relay_model.specs.declared.acts.Act.{Act}
 use Rattle.relay_model.specs.Configs.{Fit, has_fork, program_door, is_of}
 use Rattle.relay_model.specs.Sessions.{admitted, next_place, permits}
-use Rattle.relay_model.specs.Openings.{Accept}
+use Rattle.relay_model.specs.declared.calls.Call.TheVariants.{Accept}
 use Rattle.relay_model.specs.Calls.{door_call}
 use Rattle.relay_model.specs.May.{Legal}
 use Rattle.relay_laws.specs.Births.{is_named_by}
@@ -33,7 +33,7 @@ pub record IsNew (c : Config) (s : ℕ) (st : State) : Type 0 where
 
 -- the program door calls for the accepting of a peer for the first place of this session, this peer is permitted there,
 -- and no turn ever named a thing of the session
-pub record Begins (c : Config) (n : ℕ) (past : List Act) (s : ℕ) (peer : Peer) : Type 0 where
+pub record BeginsSession (c : Config) (n : ℕ) (past : List Act) (s : ℕ) (peer : Peer) : Type 0 where
   pub fork : has_fork c ≡ true
   pub legal : Legal c n past
   pub next : s ≡ admitted c past

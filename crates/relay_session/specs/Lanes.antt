@@ -15,12 +15,12 @@ use Rattle.relay_model.specs.May.{MayRead, MayTryWrite, MayShut}
 use Rattle.session_direction.specs.Directions.{IsDirection, WantsNothing}
 use Rattle.relay_session.specs.declared.wishes.Wish.{Wish}
 use Rattle.relay_session.specs.declared.wishes.Wish.TheVariants as wishes
-use Rattle.relay_session.specs.declared.lanes.Lane.{Lane}
-use Rattle.relay_session.specs.declared.lanes.Lane.TheVariants.{Unformed, Formed}
+use Rattle.relay_session.specs.declared.lanes.SessionLane.{SessionLane}
+use Rattle.relay_session.specs.declared.lanes.SessionLane.TheVariants.{Unformed, Formed}
 use Rattle.relay_session.specs.declared.lanes.Lanes.{Lanes}
 
 -- a lane stands for a direction, or the command forms none
-abbrev pub IsLane : Config → List Act → ℕ → Way → Lane → Type 0
+abbrev pub IsLane : Config → List Act → ℕ → Way → SessionLane → Type 0
 IsLane c past s w Unformed = formed c w ≡ false
 IsLane c past s w (Formed d) = IsDirection c past s w d
 
@@ -30,22 +30,22 @@ pub record AreLanes (c : Config) (past : List Act) (s : ℕ) (lanes : Lanes) : T
   pub to_left_is : IsLane c past s RightToLeft lanes.to_left
 
 -- the lane of a direction
-abbrev pub lane_at : Lanes → Way → Lane
+abbrev pub lane_at : Lanes → Way → SessionLane
 lane_at lanes LeftToRight = lanes.to_right
 lane_at lanes RightToLeft = lanes.to_left
 
 -- the bytes that wait in a lane, and how many more it has room for
-abbrev pub waiting_in : Lane → List ℕ
+abbrev pub waiting_in : SessionLane → List ℕ
 waiting_in Unformed = []
 waiting_in (Formed d) = d.flow.backlog
 
 -- how many bytes may be read next in a lane
-abbrev pub room_of : Lane → ℕ
+abbrev pub room_of : SessionLane → ℕ
 room_of Unformed = 0
 room_of (Formed d) = room_in d.flow
 
 -- how many steps they take at most before the next turn
-abbrev pub lane_steps : Lane → ℕ
+abbrev pub lane_steps : SessionLane → ℕ
 lane_steps Unformed = 0
 lane_steps (Formed d) = steps_in d
 
@@ -54,17 +54,17 @@ abbrev pub lanes_steps : Lanes → ℕ
 lanes_steps lanes = lane_steps lanes.to_right + lane_steps lanes.to_left
 
 -- its input may be asked before the next turn, and its output
-abbrev pub can_read_in : Lane → Bool
+abbrev pub can_read_in : SessionLane → Bool
 can_read_in Unformed = false
 can_read_in (Formed d) = can_read d
 
 -- a lane can pay for a write
-abbrev pub can_write_in : Lane → Bool
+abbrev pub can_write_in : SessionLane → Bool
 can_write_in Unformed = false
 can_write_in (Formed d) = can_write d
 
 -- each piece of the lane goes out as one packet
-abbrev pub keeps_pieces : Lane → Bool
+abbrev pub keeps_pieces : SessionLane → Bool
 keeps_pieces Unformed = false
 keeps_pieces (Formed d) = is_some d.flow.lane.packets
 
@@ -91,7 +91,7 @@ can_write_at lanes p = can_write_in (lane_at lanes (way_to p.side))
 -- ---- what a lane wishes for
 
 -- so many bytes may be read at a place of the session
-pub record Reads (c : Config) (past : List Act) (s : ℕ) (p : Place) (n : ℕ) : Type 0 where
+pub record ReadsAt (c : Config) (past : List Act) (s : ℕ) (p : Place) (n : ℕ) : Type 0 where
   pub own : p.session ≡ s
   pub may : MayRead c past p n
   pub size : n ≡ greatest_read c past s (way_from p.side)
@@ -103,24 +103,24 @@ pub record Offers (c : Config) (past : List Act) (s : ℕ) (p : Place) (borders 
   pub keeps : keeps_borders c (way_to p.side) ≡ borders
 
 -- the end may be passed on at a place of the session
-pub record Shuts (c : Config) (past : List Act) (s : ℕ) (p : Place) (how : Shutting) : Type 0 where
+pub record ShutsAt (c : Config) (past : List Act) (s : ℕ) (p : Place) (how : Shutting) : Type 0 where
   pub own : p.session ≡ s
   pub may : MayShut c past p how
 
 -- a read is at the lane's input and a write at its output, which weren't asked since the last turn or can be paid for
-abbrev pub LaneWishes : Config → List Act → ℕ → Way → Lane → Option Wish → Type 0
+abbrev pub LaneWishes : Config → List Act → ℕ → Way → SessionLane → Option Wish → Type 0
 LaneWishes c past s w lane None = WantsNothing c past s w
-LaneWishes c past s w lane (Some (wishes.Read p n)) = Reads c past s p n × (way_from p.side ≡ w) × (can_read_in lane ≡ true)
+LaneWishes c past s w lane (Some (wishes.Read p n)) = ReadsAt c past s p n × (way_from p.side ≡ w) × (can_read_in lane ≡ true)
 LaneWishes c past s w lane (Some (wishes.Write p)) = Offers c past s p false × (way_to p.side ≡ w) × (can_write_in lane ≡ true)
 LaneWishes c past s w lane (Some (wishes.Send p)) = Offers c past s p true × (way_to p.side ≡ w) × (can_write_in lane ≡ true)
-LaneWishes c past s w lane (Some (wishes.Shut p how)) = Shuts c past s p how
+LaneWishes c past s w lane (Some (wishes.Shut p how)) = ShutsAt c past s p how
 LaneWishes c past s w lane (Some other) = ⊥
 
 -- what both directions want: nothing, or the call that one of them wishes for
 abbrev pub LanesWish : Config → List Act → ℕ → Lanes → Option Wish → Type 0
 LanesWish c past s lanes None = (w : Way) → WantsNothing c past s w
-LanesWish c past s lanes (Some (wishes.Read p n)) = Reads c past s p n × (can_read_at lanes p ≡ true)
+LanesWish c past s lanes (Some (wishes.Read p n)) = ReadsAt c past s p n × (can_read_at lanes p ≡ true)
 LanesWish c past s lanes (Some (wishes.Write p)) = Offers c past s p false × (can_write_at lanes p ≡ true)
 LanesWish c past s lanes (Some (wishes.Send p)) = Offers c past s p true × (can_write_at lanes p ≡ true)
-LanesWish c past s lanes (Some (wishes.Shut p how)) = Shuts c past s p how
+LanesWish c past s lanes (Some (wishes.Shut p how)) = ShutsAt c past s p how
 LanesWish c past s lanes (Some other) = ⊥

@@ -55,6 +55,14 @@ ending_of session = session.state.ending
 abbrev pub has_ended : Session → Bool
 has_ended session = is_some session.state.ending
 
+-- once it has ended it stays so
+abbrev pub StaysEnded : Session → Session → Type 0
+StaysEnded old new = (c : Config) (n : ℕ) (past : List Act) (s : ℕ) → Stands c n past s old → has_ended old ≡ true → has_ended new ≡ true
+
+-- once it has ended, that it ended for this reason stays so
+abbrev pub KeepsEnding : Session → Session → Type 0
+KeepsEnding old new = (c : Config) (n : ℕ) (past : List Act) (s : ℕ) → Stands c n past s old → has_ended old ≡ true → ending_of new ≡ ending_of old
+
 -- what an act makes of a session that heard it
 pub record Heard (c : Config) (n : ℕ) (past : List Act) (s : ℕ) (act : Act) (old new : Session) : Type 0 where
   pub may : owed c past ≡ None → May c n past act

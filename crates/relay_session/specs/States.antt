@@ -12,8 +12,8 @@ use Rattle.relay_model.specs.History.{now, held}
 use Rattle.relay_model.specs.Arming.{asked_to_accept}
 use Rattle.relay_model.specs.Sessions.{holds, numbers, first_part}
 use Rattle.relay_model.specs.Moments.{moved_at}
-use Rattle.relay_model.specs.Openings.{Call}
-use Rattle.relay_model.specs.Openings as calls
+use Rattle.relay_model.specs.declared.calls.Call.{Call}
+use Rattle.relay_model.specs.declared.calls.Call.TheVariants as calls
 use Rattle.relay_model.specs.Cause.{closed_why, fault_stands, running}
 use Rattle.relay_model.specs.Calls.{call}
 use Rattle.relay_model.specs.Rest.{SessionRests}
@@ -27,7 +27,7 @@ use Rattle.relay_session.specs.declared.wishes.Wish.{Wish}
 use Rattle.relay_session.specs.declared.wishes.Wish.TheVariants as wishes
 use Rattle.relay_session.specs.Endings.{Ends, EndingIs}
 use Rattle.relay_session.specs.Timers.{session_until}
-use Rattle.relay_session.specs.Lanes.{AreLanes, Reads, Offers, Shuts, can_read_at, can_write_at, lanes_steps}
+use Rattle.relay_session.specs.Lanes.{AreLanes, ReadsAt, Offers, ShutsAt, can_read_at, can_write_at, lanes_steps}
 
 -- with `fork` the place of the peer that a session was begun for
 abbrev pub home : Config → ℕ → Place
@@ -71,7 +71,7 @@ pub record Sleeps (c : Config) (past : List Act) (s : ℕ) (until : Option ℕ) 
   pub read_ahead : (w : Way) → running c past s ≡ true → WantsNothing c past s w
 
 -- the child of a closed place, of which nothing is known yet
-pub record Reaps (c : Config) (past : List Act) (s : ℕ) (p : Place) : Type 0 where
+pub record ReapsAt (c : Config) (past : List Act) (s : ℕ) (p : Place) : Type 0 where
   pub own : p.session ≡ s
   pub among : is_of c s p ≡ true
   pub may : MayReap c past p
@@ -87,12 +87,12 @@ Wished c n past s (wishes.Open p) = call c past s ≡ calls.Open p
 Wished c n past s (wishes.Settle p) = call c past s ≡ calls.Settle p
 Wished c n past s (wishes.Listen d) = call c past s ≡ calls.Listen d
 Wished c n past s (wishes.Accept d p) = (call c past s ≡ calls.Accept d p) × (asked_to_accept c past d ≡ false)
-Wished c n past s (wishes.Read p at_most) = Reads c past s p at_most
+Wished c n past s (wishes.Read p at_most) = ReadsAt c past s p at_most
 Wished c n past s (wishes.Write p) = Offers c past s p false
 Wished c n past s (wishes.Send p) = Offers c past s p true
-Wished c n past s (wishes.Shut p how) = Shuts c past s p how
+Wished c n past s (wishes.Shut p how) = ShutsAt c past s p how
 Wished c n past s (wishes.Close q why) = Closes c n past s q why
-Wished c n past s (wishes.Reap p) = Reaps c past s p
+Wished c n past s (wishes.Reap p) = ReapsAt c past s p
 Wished c n past s (wishes.Sleep until) = Sleeps c past s until
 Wished c n past s (wishes.Done why) = IsDone c n past s why
 

@@ -14,7 +14,7 @@ use Rattle.relay_session.specs.declared.wishes.Wish.TheVariants as wishes
 use Rattle.relay_session.specs.Lanes.{waiting_at, keeps_at}
 use Rattle.relay_session.specs.Transfers.{MayTransfer, affords_at}
 use Rattle.relay_session.specs.Endings.{Quiet}
-use Rattle.relay_session.specs.States.{Ground, Fields, steps_of}
+use Rattle.relay_session.specs.States.{Allowed, Ground, Fields, steps_of}
 
 -- the act may come where no dump is owed, the state stands for the history with it, and fewer steps are left
 pub record Absorbed (c : Config) (n : ℕ) (past : List Act) (s : ℕ) (act : Act) (old new : State) : Type 0 where
@@ -26,6 +26,10 @@ pub record Absorbed (c : Config) (n : ℕ) (past : List Act) (s : ℕ) (act : Ac
 abbrev pub AbsorbedBy : Config → ℕ → List Act → ℕ → Option Act → State → State → Type 0
 AbsorbedBy c n past s (Some act) old new = Absorbed c n past s act old new
 AbsorbedBy c n past s None old new = Unit {0}
+
+-- wherever this wish may be made, the state has taken in that it came to this act
+abbrev pub TakesIn : Wish → Act → State → State → Type 0
+TakesIn wish act old new = (c : Config) (n : ℕ) (past : List Act) (s : ℕ) → Fields c n past s old → Allowed c n past s old wish → Absorbed c n past s act old new
 
 -- nothing from outside has ended the session, and what ends it by itself is known
 pub record Heeds (c : Config) (past : List Act) (s : ℕ) (st : State) : Type 0 where

@@ -7,11 +7,13 @@ use Rattle.relay_model.specs.declared.acts.Why.{Why}
 use Rattle.relay_model.specs.declared.acts.Why.TheVariants as whys
 use Rattle.relay_model.specs.Configs.{places, own_doors}
 use Rattle.relay_model.specs.History.{turns}
-use Rattle.relay_model.specs.Outcome.{Outcome, Memory, Stopped, AcceptFailed, ListenFailed, OpenFailed, Ended, first_fault, failed_listening, failed_opening}
-use Rattle.place_openings.specs.declared.calls.GivenUp.{GivenUp}
+use Rattle.relay_model.specs.Outcome.{first_fault, failed_listening, failed_opening}
+use Rattle.relay_model.specs.declared.outcomes.RunOutcome.{RunOutcome}
+use Rattle.relay_model.specs.declared.outcomes.RunOutcome.TheVariants.{Memory, Stopped, AcceptFailed, ListenFailed, OpenFailed, Ended}
+use Rattle.place_openings.specs.declared.given_up.GivenUp.{GivenUp}
 
 -- the outcome of a command of one session, by the cause of that
-abbrev pub told : Config → List Act → Why → Outcome
+abbrev pub told : Config → List Act → Why → RunOutcome
 told c past whys.Memory = Memory
 told c past whys.Stopped = Stopped (turns past)
 told c past whys.AcceptFailed = AcceptFailed
@@ -29,11 +31,11 @@ stop_turned (Turn until at ready stop ∷ past) = stop || stop_turned past
 stop_turned (act ∷ past) = stop_turned past
 
 -- what is told of a place at which no try is left
-abbrev pub told_opening : Option GivenUp → Option Outcome
+abbrev pub told_opening : Option GivenUp → Option RunOutcome
 told_opening None = None
 told_opening (Some given_up) = Some (OpenFailed given_up.side given_up.attempts)
 
 -- what is told of a door at which no try is left, after so many failures
-abbrev pub told_listening : Option ℕ → Option Outcome
+abbrev pub told_listening : Option ℕ → Option RunOutcome
 told_listening None = None
 told_listening (Some attempts) = Some (ListenFailed attempts)

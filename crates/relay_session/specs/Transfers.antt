@@ -7,7 +7,7 @@ use Rattle.relay_model.specs.declared.acts.Act.TheVariants as acts
 use Rattle.relay_model.specs.declared.places.Way.{Way}
 use Rattle.relay_model.specs.declared.places.Way.TheVariants.{LeftToRight, RightToLeft}
 use Rattle.relay_model.specs.Configs.{way_from, way_to, keeps_borders, input, output}
-use Rattle.relay_session.specs.declared.lanes.Lane.{Lane}
+use Rattle.relay_session.specs.declared.lanes.SessionLane.{SessionLane}
 use Rattle.relay_session.specs.declared.lanes.Lanes.{Lanes}
 use Rattle.relay_session.specs.Lanes.{can_read_in, can_write_in, lane_at}
 use Rattle.relay_model.specs.May.{MayRead, MayTryWrite, MayShut}
@@ -91,7 +91,7 @@ abbrev pub place_for : Config → ℕ → Way → Transfer → Place
 place_for c s w transfer = if is_read transfer then input c s w else output c s w
 
 -- nothing of this kind was asked there since the last turn, or it can be paid for; an end is passed once anyway
-abbrev pub affords : Lane → Transfer → Bool
+abbrev pub affords : SessionLane → Transfer → Bool
 affords lane (transfers.Read bytes) = can_read_in lane
 affords lane transfers.ReadEmpty = can_read_in lane
 affords lane transfers.ReadEnd = can_read_in lane

@@ -72,6 +72,16 @@ act_of (wishes.Close p why) waiting answers.Done = Some (acts.Closed p why)
 act_of (wishes.Reap p) waiting (answers.Reaped end) = Some (acts.Reaped p end)
 act_of wish waiting answer = None
 
+-- so many bytes answer a wished read, as `Fits` has it
+abbrev pub FitsRead : Wish → ℕ → Type 0
+FitsRead (wishes.Read p at_most) count = (0 < count) × (count ≤ at_most)
+FitsRead wish count = ⊥
+
+-- the act that a wished read is with these bytes, as `act_of` has it
+abbrev pub read_act : Wish → List ℕ → Option Act
+read_act (wishes.Read p at_most) bytes = Some (acts.Read p bytes)
+read_act wish bytes = None
+
 -- the wish asks for the child of this place
 abbrev pub reaps_at : Wish → Place → Bool
 reaps_at (wishes.Reap q) p = same_place q p

@@ -1,57 +1,59 @@
 // The two directions of a session, each where the command forms it.
-ghost use Rattle.std.specs.Prelude.{◌≡◌, if◌then◌else◌, ℕ, ◌+◌, ◌<◌, ◌≤◌, ◌&&◌, ◌||◌, ◌∷◌, ◌++◌, [], not, List, Option, length, take, true, false, is_some, IfOk};
+ghost use Rattle.std.specs.Prelude.{◌≡◌, if◌then◌else◌, ℕ, ◌+◌, ◌<◌, ◌≤◌, ◌&&◌, ◌||◌, ◌∷◌, ◌++◌, [], not, List, Option, length, take, true, false, is_some, vec_len, IfOk};
 ghost use Rattle.relay_model.specs.declared.acts.Act.{Act};
 ghost use Rattle.relay_model.specs.declared.acts.Act.TheVariants as acts;
 ghost use Rattle.relay_model.specs.declared.acts.Peer.{Peer as Visitor};
-ghost use Rattle.relay_model.specs.declared.acts.Shut.{Shut as Shutting};
 ghost use Rattle.relay_model.specs.declared.commands.Config.{Config as Command};
 ghost use Rattle.relay_model.specs.declared.places.Way.{Way as Direct};
 ghost use Rattle.relay_model.specs.declared.places.Way.TheVariants.{LeftToRight, RightToLeft};
 ghost use Rattle.relay_model.specs.declared.readiness.ReadyAt.{ReadyAt as Entry};
-ghost use Rattle.relay_model.specs.Configs.{formed as forms, Fit};
+ghost use Rattle.relay_model.specs.Configs.{formed as forms, input, way_to, Fit};
 ghost use Rattle.relay_model.specs.History.{now as last_moment};
 ghost use Rattle.relay_model.specs.Choices.{later, earlier};
-ghost use Rattle.relay_model.specs.Moments.{passed, broken, done, done_at};
+ghost use Rattle.relay_model.specs.Moments.{passed, broken, done, done_at, is_unfinished};
 ghost use Rattle.relay_model.specs.Cause.{running, each_formed, some_formed};
 ghost use Rattle.relay_model.specs.Rest.{way_work, input_moment};
-ghost use Rattle.relay_model.specs.May.{MayRead, MayTryWrite, MayShut};
+ghost use Rattle.relay_model.specs.May.{MayRead};
 ghost use Rattle.relay_model.specs.Places.{same_place};
-ghost use Rattle.relay_model.specs.Configs.{way_to};
 ghost use Rattle.session_direction.specs.Directions.{listed, IsDirection};
 ghost use Rattle.session_direction.specs.States.{steps_in};
 ghost use Rattle.session_direction.specs.Touches.{touches};
 ghost use Rattle.relay_model.specs.Readiness.{Listed};
 ghost use Rattle.relay_session.specs.Timers.{one_done_at};
-ghost use Rattle.relay_model.specs.Moments.{is_unfinished};
 ghost use Rattle.relay_session.specs.Transfers.{transfer_act, MayTransfer, affords, affords_at, is_read, place_for, way_of, opposite};
 
 use crate::moments::{earlier as lesser, one_of};
 use crate::transfers::Transfer;
 use crate::wishes::Wish;
-use command_places::formed;
+use command_places::is_formed;
 use relay_model::{Config, NoMemory, Place, ReadyAt, Side, Way};
 use session_direction::{Direction, Want};
 use std::alloc::Global;
 
 /// A direction, where the command forms it.
 #[derive(Drop)]
-pub enum Lane {
+pub enum SessionLane {
     Unformed,
     Formed(Direction),
 }
 
-impl Lane {
-    ghost use Rattle.relay_session.specs.Lanes.{IsLane, waiting_in, keeps_pieces, lane_steps, LaneWishes};
+impl SessionLane {
+    ghost use Rattle.relay_session.specs.Lanes.{IsLane, can_read_in, waiting_in, keeps_pieces, lane_steps, LaneWishes};
 
     /// A direction of the session with this number, at the beginning; only one that is formed takes memory.
-    pub fn new(alloc: Global, config: &Config, number: u32, way: Way) -> Result<Lane, NoMemory>
+    pub fn new(
+        alloc: Global,
+        config: &Config,
+        number: u32,
+        way: Way,
+    ) -> Result<SessionLane, NoMemory>
         requires { Fit config.now }
         ensures { IfOk result (λ lane. IsLane config.now [] number way lane) }
     {
-        if formed(config, way) {
-            Ok(Lane::Formed(Direction::new(alloc, config, number, way)?))
+        if is_formed(config, way) {
+            Ok(SessionLane::Formed(Direction::new(alloc, config, number, way)?))
         } else {
-            Ok(Lane::Unformed)
+            Ok(SessionLane::Unformed)
         }
     }
 
@@ -60,7 +62,7 @@ impl Lane {
         ensures { (c : Command) (past : List Act) (s : ℕ) (w : Direct) → IsLane c past s w self.now → now ≡ last_moment past
             → running c past s ≡ true → Fit c → LaneWishes c past s w self.now result }
     {
-        let Lane::Formed(direction) = self else {
+        let SessionLane::Formed(direction) = self else {
             return None;
         };
         match direction.want(now) {
@@ -79,8 +81,8 @@ impl Lane {
         ensures { (c : Command) (past : List Act) (s : ℕ) (w : Direct) → IsLane c past s w self.now → result ≡ forms c w }
     {
         match self {
-            Lane::Unformed => false,
-            Lane::Formed(_direction) => true,
+            SessionLane::Unformed => false,
+            SessionLane::Formed(_direction) => true,
         }
     }
 
@@ -90,8 +92,8 @@ impl Lane {
             → result ≡ (not (forms c w) || passed c past s w) }
     {
         match self {
-            Lane::Unformed => true,
-            Lane::Formed(direction) => direction.has_passed(),
+            SessionLane::Unformed => true,
+            SessionLane::Formed(direction) => direction.has_passed(),
         }
     }
 
@@ -101,8 +103,8 @@ impl Lane {
             → result ≡ (not (forms c w) || done c past s w) }
     {
         match self {
-            Lane::Unformed => true,
-            Lane::Formed(direction) => direction.done_at().is_some(),
+            SessionLane::Unformed => true,
+            SessionLane::Formed(direction) => direction.done_at().is_some(),
         }
     }
 
@@ -112,8 +114,8 @@ impl Lane {
             → result ≡ (forms c w && broken c past s w) }
     {
         match self {
-            Lane::Unformed => false,
-            Lane::Formed(direction) => direction.is_broken(),
+            SessionLane::Unformed => false,
+            SessionLane::Formed(direction) => direction.is_broken(),
         }
     }
 
@@ -123,8 +125,8 @@ impl Lane {
             → result ≡ done_at c past s w }
     {
         match self {
-            Lane::Unformed => None,
-            Lane::Formed(direction) => direction.done_at(),
+            SessionLane::Unformed => None,
+            SessionLane::Formed(direction) => direction.done_at(),
         }
     }
 
@@ -134,8 +136,8 @@ impl Lane {
             → running c past s ≡ true → result ≡ way_work c past s w }
     {
         match self {
-            Lane::Unformed => false,
-            Lane::Formed(direction) => direction.works(now),
+            SessionLane::Unformed => false,
+            SessionLane::Formed(direction) => direction.works(now),
         }
     }
 
@@ -145,8 +147,8 @@ impl Lane {
             → running c past s ≡ true → result ≡ later (last_moment past) (input_moment c past s w) }
     {
         match self {
-            Lane::Unformed => None,
-            Lane::Formed(direction) => direction.moment(now),
+            SessionLane::Unformed => None,
+            SessionLane::Formed(direction) => direction.moment(now),
         }
     }
 
@@ -157,21 +159,21 @@ impl Lane {
         ensures whole { keeps_pieces self.now ≡ true → result.now ≡ waiting_in self.now }
     {
         match self {
-            Lane::Unformed => &[],
-            Lane::Formed(direction) => direction.pending(),
+            SessionLane::Unformed => &[],
+            SessionLane::Formed(direction) => direction.pending(),
         }
     }
 
     /// A place was opened, or a peer was accepted there.
-    pub fn opened(&mut self, place: Place)
+    pub fn hear_opening(&mut self, place: Place)
         ensures opened { (c : Command) (past : List Act) (s : ℕ) (w : Direct) → IsLane c past s w self.old
             → IsLane c (acts.Opened place ∷ past) s w self.new }
         ensures accepted { (c : Command) (past : List Act) (s : ℕ) (w : Direct) (peer : Visitor) → IsLane c past s w self.old
             → IsLane c (acts.Accepted place peer ∷ past) s w self.new }
         ensures same { lane_steps self.new ≡ lane_steps self.old }
     {
-        if let Lane::Formed(direction) = self {
-            direction.opened(place);
+        if let SessionLane::Formed(direction) = self {
+            direction.hear_opening(place);
         }
     }
 
@@ -189,46 +191,66 @@ impl Lane {
         ensures same { (c : Command) (past : List Act) (s : ℕ) (w : Direct) → IsLane c past s w self.old
             → way_of place transfer.entry ≡ opposite w → lane_steps self.new ≡ lane_steps self.old }
     {
-        if let Lane::Formed(direction) = self {
+        if let SessionLane::Formed(direction) = self {
             if concerns(direction, place, transfer) {
                 hear(direction, now, transfer);
             } else {
-                direction.unmoved();
+                direction.stay();
+            }
+        }
+    }
+
+    /// The first `count` bytes of this block were read at the direction's input. Where they may wait in it, the direction
+    /// keeps it, and its own takes the place of it.
+    fn hear_block(&mut self, block: &mut Vec<u8>, count: usize)
+        requires { count ≤ vec_len block.old }
+        ensures goes { (c : Command) (past : List Act) (s : ℕ) (w : Direct) → IsLane c past s w self.old
+            → MayRead c past (input c s w) count
+            → IsLane c (acts.Read (input c s w) (take count block.old.items) ∷ past) s w self.new }
+        ensures fewer { can_read_in self.old ≡ true → (c : Command) (past : List Act) (s : ℕ) (w : Direct)
+            → IsLane c past s w self.old → MayRead c past (input c s w) count → lane_steps self.new < lane_steps self.old }
+        ensures block { vec_len block.new ≡ vec_len block.old }
+    {
+        match self {
+            SessionLane::Unformed => {}
+            SessionLane::Formed(direction) => {
+                let room = direction.room();
+                direction.hear_block(block, count.min(room));
             }
         }
     }
 
     /// A law: an act that doesn't touch the direction leaves it, and so does a stop that a turn tells of.
-    fn unmoved(&self)
+    fn stay(&self)
         ensures untouched { (c : Command) (past : List Act) (s : ℕ) (w : Direct) (act : Act) → IsLane c past s w self.now
             → touches c s w act ≡ false → IsLane c (act ∷ past) s w self.now }
         ensures stopped { (c : Command) (past : List Act) (s : ℕ) (w : Direct) (until : Option ℕ) (at : ℕ) (ready : Listed)
             → IsLane c (acts.Turn until at ready false ∷ past) s w self.now
             → IsLane c (acts.Turn until at ready true ∷ past) s w self.now }
     {
-        if let Lane::Formed(direction) = self {
-            direction.unmoved();
+        if let SessionLane::Formed(direction) = self {
+            direction.stay();
         }
     }
 
     /// A wait has returned that names nothing yet.
-    pub fn woken(&mut self)
+    pub fn wake(&mut self)
         ensures { (c : Command) (past : List Act) (s : ℕ) (w : Direct) (until : Option ℕ) (at : ℕ)
             → IsLane c past s w self.old → IsLane c (acts.Turn until at (listed []) false ∷ past) s w self.new }
     {
-        if let Lane::Formed(direction) = self {
-            direction.woken();
+        if let SessionLane::Formed(direction) = self {
+            direction.wake();
         }
     }
 
     /// The last turn names this half too.
-    pub fn named(&mut self, entry: ReadyAt)
+    pub fn hear_name(&mut self, entry: ReadyAt)
         ensures { (c : Command) (past : List Act) (s : ℕ) (w : Direct) (until : Option ℕ) (at : ℕ) (names : List Entry)
             → IsLane c (acts.Turn until at (listed names) false ∷ past) s w self.old
             → IsLane c (acts.Turn until at (listed (names ++ entry ∷ [])) false ∷ past) s w self.new }
     {
-        if let Lane::Formed(direction) = self {
-            direction.named(entry);
+        if let SessionLane::Formed(direction) = self {
+            direction.hear_name(entry);
         }
     }
 }
@@ -236,20 +258,20 @@ impl Lane {
 /// The direction from left to right and the one from right to left.
 #[derive(Drop)]
 pub struct Lanes {
-    pub to_right: Lane,
-    pub to_left: Lane,
+    pub to_right: SessionLane,
+    pub to_left: SessionLane,
 }
 
 impl Lanes {
-    ghost use Rattle.relay_session.specs.Lanes.{AreLanes, LanesWish, lanes_steps, waiting_at, keeps_at};
+    ghost use Rattle.relay_session.specs.Lanes.{AreLanes, LanesWish, can_read_at, lanes_steps, waiting_at, keeps_at};
 
     /// Both directions of the session with this number, at the beginning.
     pub fn new(alloc: Global, config: &Config, number: u32) -> Result<Lanes, NoMemory>
         requires { Fit config.now }
         ensures { IfOk result (λ lanes. AreLanes config.now [] number lanes) }
     {
-        let to_right = Lane::new(alloc, config, number, Way::LeftToRight)?;
-        let to_left = Lane::new(alloc, config, number, Way::RightToLeft)?;
+        let to_right = SessionLane::new(alloc, config, number, Way::LeftToRight)?;
+        let to_left = SessionLane::new(alloc, config, number, Way::RightToLeft)?;
         Ok(Lanes { to_right, to_left })
     }
 
@@ -329,15 +351,15 @@ impl Lanes {
     }
 
     /// A place was opened, or a peer was accepted there.
-    pub fn opened(&mut self, place: Place)
+    pub fn hear_opening(&mut self, place: Place)
         ensures opened { (c : Command) (past : List Act) (s : ℕ) → AreLanes c past s self.old
             → AreLanes c (acts.Opened place ∷ past) s self.new }
         ensures accepted { (c : Command) (past : List Act) (s : ℕ) (peer : Visitor) → AreLanes c past s self.old
             → AreLanes c (acts.Accepted place peer ∷ past) s self.new }
         ensures same { lanes_steps self.new ≡ lanes_steps self.old }
     {
-        self.to_right.opened(place);
-        self.to_left.opened(place);
+        self.to_right.hear_opening(place);
+        self.to_left.hear_opening(place);
     }
 
     /// A read, a write or a shut was answered at the place.
@@ -353,27 +375,50 @@ impl Lanes {
         self.to_left.hear(now, place, transfer);
     }
 
+    /// The first `count` bytes of this block were read at the place. Where they may wait in it, the direction keeps it, and
+    /// its own takes the place of it.
+    pub fn hear_block(&mut self, place: Place, block: &mut Vec<u8>, count: usize)
+        requires { count ≤ vec_len block.old }
+        ensures goes { (c : Command) (past : List Act) (s : ℕ) → AreLanes c past s self.old → place.session ≡ s
+            → MayRead c past place count → AreLanes c (acts.Read place (take count block.old.items) ∷ past) s self.new }
+        ensures fewer { (c : Command) (past : List Act) (s : ℕ) → AreLanes c past s self.old → place.session ≡ s
+            → MayRead c past place count → can_read_at self.old place ≡ true
+            → lanes_steps self.new < lanes_steps self.old }
+        ensures block { vec_len block.new ≡ vec_len block.old }
+    {
+        match place.side {
+            Side::Left => {
+                self.to_right.hear_block(block, count);
+                self.to_left.stay();
+            }
+            Side::Right => {
+                self.to_right.stay();
+                self.to_left.hear_block(block, count);
+            }
+        }
+    }
+
     /// A wait has returned that names nothing yet.
-    pub fn woken(&mut self)
+    pub fn wake(&mut self)
         ensures { (c : Command) (past : List Act) (s : ℕ) (until : Option ℕ) (at : ℕ) → AreLanes c past s self.old
             → AreLanes c (acts.Turn until at (listed []) false ∷ past) s self.new }
     {
-        self.to_right.woken();
-        self.to_left.woken();
+        self.to_right.wake();
+        self.to_left.wake();
     }
 
     /// The last turn names this half too.
-    pub fn named(&mut self, entry: ReadyAt)
+    pub fn hear_name(&mut self, entry: ReadyAt)
         ensures { (c : Command) (past : List Act) (s : ℕ) (until : Option ℕ) (at : ℕ) (names : List Entry)
             → AreLanes c (acts.Turn until at (listed names) false ∷ past) s self.old
             → AreLanes c (acts.Turn until at (listed (names ++ entry ∷ [])) false ∷ past) s self.new }
     {
-        self.to_right.named(entry);
-        self.to_left.named(entry);
+        self.to_right.hear_name(entry);
+        self.to_left.hear_name(entry);
     }
 
     /// A law: an act that touches no direction leaves them, and so does a stop that a turn tells of.
-    pub fn unmoved(&self)
+    pub fn stay(&self)
         ensures untouched { (c : Command) (past : List Act) (s : ℕ) (act : Act) → AreLanes c past s self.now
             → touches c s LeftToRight act ≡ false → touches c s RightToLeft act ≡ false
             → AreLanes c (act ∷ past) s self.now }
@@ -381,8 +426,8 @@ impl Lanes {
             → AreLanes c (acts.Turn until at ready false ∷ past) s self.now
             → AreLanes c (acts.Turn until at ready true ∷ past) s self.now }
     {
-        self.to_right.unmoved();
-        self.to_left.unmoved();
+        self.to_right.stay();
+        self.to_left.stay();
     }
 }
 
@@ -390,18 +435,12 @@ impl Lanes {
 fn concerns(direction: &Direction, place: Place, transfer: Transfer<'_>) -> bool
     ensures { result ≡ (if is_read transfer.entry then same_place place direction.now.source else same_place place direction.now.sink) }
 {
-    match transfer {
-        Transfer::Read(_)
-        | Transfer::ReadEmpty
-        | Transfer::ReadEnd
-        | Transfer::ReadNotYet
-        | Transfer::ReadFailed => place.is(direction.source()),
-        Transfer::Wrote(_)
-        | Transfer::WriteNotYet
-        | Transfer::WriteFailed
-        | Transfer::Shut(_)
-        | Transfer::ShutFailed(_) => place.is(direction.sink()),
-    }
+    let end = if transfer.is_read() {
+        direction.source()
+    } else {
+        direction.sink()
+    };
+    place.is(end)
 }
 
 /// Takes in a transfer of this direction.
@@ -413,24 +452,24 @@ fn hear(direction: &mut Direction, now: u64, transfer: Transfer<'_>)
         past) s w direction.new }
     ensures fewer { (c : Command) (past : List Act) (s : ℕ) (w : Direct) → IsDirection c past s w direction.old
         → MayTransfer c past (place_for c s w transfer.entry) direction.old.flow.backlog transfer.entry
-        → affords (Lane.Formed direction.old) transfer.entry ≡ true → steps_in direction.new < steps_in direction.old }
+        → affords (SessionLane.Formed direction.old) transfer.entry ≡ true → steps_in direction.new < steps_in direction.old }
 {
     match transfer {
-        Transfer::Read(bytes) => direction.read(fitting(bytes, direction.room())),
-        Transfer::ReadEmpty => direction.read_empty(),
-        Transfer::ReadEnd => direction.ended(now),
-        Transfer::ReadNotYet => direction.read_not_yet(),
-        Transfer::ReadFailed => direction.read_failed(now),
-        Transfer::Wrote(count) => direction.wrote(taken(direction, count)),
-        Transfer::WriteNotYet => direction.write_not_yet(),
-        Transfer::WriteFailed => direction.write_failed(now),
-        Transfer::Shut(_how) => direction.passed(now),
-        Transfer::ShutFailed(_how) => direction.passed(now),
+        Transfer::Read(bytes) => direction.hear_read(fit(bytes, direction.room())),
+        Transfer::ReadEmpty => direction.hear_empty(),
+        Transfer::ReadEnd => direction.hear_end(now),
+        Transfer::ReadNotYet => direction.hear_read_not_yet(),
+        Transfer::ReadFailed => direction.hear_read_failure(now),
+        Transfer::Wrote(count) => direction.hear_write(count_taken(direction, count)),
+        Transfer::WriteNotYet => direction.hear_write_not_yet(),
+        Transfer::WriteFailed => direction.hear_write_failure(now),
+        Transfer::Shut(_how) => direction.pass_end(now),
+        Transfer::ShutFailed(_how) => direction.pass_end(now),
     }
 }
 
 /// The bytes, of which there is room for all.
-fn fitting(bytes: &[u8], room: usize) -> &[u8]
+fn fit(bytes: &[u8], room: usize) -> &[u8]
     ensures within { length result.now ≤ room }
     ensures same { length bytes.now ≤ room → result.now ≡ bytes.now }
 {
@@ -438,7 +477,7 @@ fn fitting(bytes: &[u8], room: usize) -> &[u8]
 }
 
 /// The number of bytes that were taken of those that wait: all, where they go out as one packet.
-fn taken(direction: &Direction, count: usize) -> usize
+fn count_taken(direction: &Direction, count: usize) -> usize
     ensures within { result ≤ length direction.now.flow.backlog }
     ensures whole { is_some direction.now.flow.lane.packets ≡ true → result ≡ length direction.now.flow.backlog }
     ensures same { count ≤ length direction.now.flow.backlog

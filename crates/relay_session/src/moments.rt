@@ -1,5 +1,5 @@
 // Small choices: of moments, of which there may be none, and of tests.
-ghost use Rattle.std.specs.Prelude.{◌≡◌, ◌&&◌, ◌||◌, ℕ, Option};
+ghost use Rattle.std.specs.Prelude.{◌≡◌, ℕ, Option};
 ghost use Rattle.relay_model.specs.Choices.{earlier as least, later};
 ghost use Rattle.relay_model.specs.Moments.{reached};
 ghost use Rattle.relay_session.specs.Timers.{one_of as single, reachable, after};

@@ -1,12 +1,12 @@
 // The session as the layers above see it: a state, and the one call that it wishes for next.
-ghost use Rattle.std.specs.Prelude.{◌≡◌, ℕ, ◌+◌, ◌<◌, ◌≤◌, ◌||◌, ◌∷◌, ◌++◌, [], List, Option, Some, None, true, false, length, take, IfOk};
+ghost use Rattle.std.specs.Prelude.{◌≡◌, ℕ, ◌+◌, ◌<◌, ◌≤◌, ◌||◌, ◌∷◌, ◌++◌, [], List, Option, Some, None, true, false, length, take, vec_len, IfOk};
 ghost use Rattle.relay_model.specs.declared.acts.Act.{Act};
 ghost use Rattle.relay_model.specs.declared.acts.Act.TheVariants as acts;
 ghost use Rattle.relay_model.specs.declared.acts.Why.{Why as Cause};
 ghost use Rattle.relay_model.specs.declared.acts.Why.TheVariants as whys;
 ghost use Rattle.relay_model.specs.declared.commands.Config.{Config as Command};
 ghost use Rattle.relay_model.specs.declared.commands.Dump.TheVariants as dumps;
-ghost use Rattle.relay_model.specs.declared.places.Place.{Place as Location};
+ghost use Rattle.relay_model.specs.declared.places.Place.{Place};
 ghost use Rattle.relay_model.specs.declared.readiness.ReadyAt.{ReadyAt as Entry};
 ghost use Rattle.relay_model.specs.Conversions.{longest_packet};
 ghost use Rattle.relay_model.specs.Configs.{Fit, has_fork, places, own_doors};
@@ -19,9 +19,9 @@ ghost use Rattle.place_openings.specs.Queries.{peer_at, peer_of_first};
 ghost use Rattle.session_direction.specs.Directions.{listed};
 ghost use Rattle.relay_session.specs.declared.wishes.Wish.TheVariants as wishes;
 ghost use Rattle.relay_session.specs.declared.wishes.Answer.TheVariants as answers;
-ghost use Rattle.relay_session.specs.Wishes.{Fits, act_of, reaps_at};
+ghost use Rattle.relay_session.specs.Wishes.{Fits, FitsRead, act_of, read_act, reaps_at};
 ghost use Rattle.relay_session.specs.States.{Wished, home};
-ghost use Rattle.relay_session.specs.Births.{Begins};
+ghost use Rattle.relay_session.specs.Births.{BeginsSession};
 ghost use Rattle.relay_session.specs.Endings.{Ends};
 ghost use Rattle.relay_session.specs.Conditions.{CanBeMade, is_course, is_writing, IsAtOwn};
 ghost use Rattle.relay_session.specs.Told.{told_listening, told_opening};
@@ -62,16 +62,16 @@ impl PendingSession {
 
     /// The session begins: this peer was accepted for it. `now` is the moment of the last turn.
     pub fn accepted(self, now: u64, peer: Peer) -> Session
-        ensures may { (c : Command) (n : ℕ) (past : List Act) (s : ℕ) → Begins c n past s peer → owed c past ≡ None
+        ensures may { (c : Command) (n : ℕ) (past : List Act) (s : ℕ) → BeginsSession c n past s peer → owed c past ≡ None
             → May c n past (acts.Accepted (home c s) peer) }
-        ensures met { (c : Command) (n : ℕ) (past : List Act) (s : ℕ) → Begins c n past s peer
+        ensures met { (c : Command) (n : ℕ) (past : List Act) (s : ℕ) → BeginsSession c n past s peer
             → peer_at c (acts.Accepted (home c s) peer ∷ past) (home c s) ≡ Some peer }
-        ensures hears { (c : Command) (n : ℕ) (past : List Act) (s : ℕ) → IsPendingSession c s self → Begins c n past s peer
+        ensures hears { (c : Command) (n : ℕ) (past : List Act) (s : ℕ) → IsPendingSession c s self → BeginsSession c n past s peer
             → now ≡ last_moment past → Hears c n (acts.Accepted (home c s) peer ∷ past) s result }
-        ensures unasked { (c : Command) (s : ℕ) (p : Location) → IsPendingSession c s self → has_asked_at result p ≡ false }
+        ensures unasked { (c : Command) (s : ℕ) (p : Place) → IsPendingSession c s self → has_asked_at result p ≡ false }
     {
         let PendingSession { mut state, home } = self;
-        state.born(now, home, peer);
+        state.begin(now, home, peer);
         let wish = state.plan();
         Session { state, wish }
     }
@@ -85,7 +85,7 @@ pub struct Session {
 }
 
 impl Session {
-    ghost use Rattle.relay_session.specs.Sessions.{Stands, Hears, HeardBy, IsGrounded, AsksEach, wish_of, waiting_of, left_of, ending_of, has_ended, has_asked_at};
+    ghost use Rattle.relay_session.specs.Sessions.{Stands, Hears, HeardBy, IsGrounded, AsksEach, KeepsEnding, StaysEnded, wish_of, waiting_of, left_of, ending_of, has_ended, has_asked_at};
 
     /// The session of a command without `fork`, at the beginning of its history. It takes all the memory that it
     /// will use.
@@ -93,7 +93,7 @@ impl Session {
         requires fit { Fit config.now }
         requires alone { has_fork config.now ≡ false }
         ensures stands { IfOk result (λ session. (n : ℕ) → Stands config.now n [] 0 session) }
-        ensures unasked { IfOk result (λ session. (p : Location) → has_asked_at session p ≡ false) }
+        ensures unasked { IfOk result (λ session. (p : Place) → has_asked_at session p ≡ false) }
     {
         let state = State::new(alloc, config)?;
         let wish = state.plan();
@@ -113,7 +113,7 @@ impl Session {
             → has_fork c ≡ false → s ≡ 0 → Legal c n past → c.dump ≡ dumps.Off → result ≡ wishes.Sleep until
             → Rest c past × (until ≡ until_of c past) }
         ensures free { (c : Command) (n : ℕ) (past : List Act) (s : ℕ) (why : Cause) → Stands c n past s self.now
-            → has_fork c ≡ false → s ≡ 0 → Legal c n past → result ≡ wishes.Done why → (p : Location)
+            → has_fork c ≡ false → s ≡ 0 → Legal c n past → result ≡ wishes.Done why → (p : Place)
             → standing past p ≡ Free }
         ensures left { (c : Command) (n : ℕ) (past : List Act) (s : ℕ) → Stands c n past s self.now → left_of self.now ≤ 64 }
         ensures children { (c : Command) (n : ℕ) (past : List Act) (s : ℕ) (why : Cause) → Stands c n past s self.now
@@ -128,11 +128,11 @@ impl Session {
         ensures some { result.now ≡ [] → waiting_of self.now ≡ [] }
         ensures offers { (c : Command) (n : ℕ) (past : List Act) (s : ℕ) → Stands c n past s self.now
             → is_writing (wish_of self.now) ≡ true → 0 < length result.now }
-        ensures packet { (c : Command) (n : ℕ) (past : List Act) (s : ℕ) (p : Location) → Stands c n past s self.now
+        ensures packet { (c : Command) (n : ℕ) (past : List Act) (s : ℕ) (p : Place) → Stands c n past s self.now
             → Legal c n past → wish_of self.now ≡ wishes.Send p
             → (result.now ≡ waiting_of self.now) × (length result.now ≤ longest_packet) }
     {
-        self.state.offered(self.wish)
+        self.state.offer(self.wish)
     }
 
     /// The answer to the wish. `now` is the moment of a turn that was slept to, in milliseconds.
@@ -145,14 +145,56 @@ impl Session {
         ensures woken { (c : Command) (n : ℕ) (past : List Act) (s : ℕ) (until : Option ℕ) → Stands c n past s self.old
             → wish_of self.old ≡ wishes.Sleep until → answer.entry ≡ answers.Woken
             → Hears c n (acts.Turn until now (listed []) false ∷ past) s self.new }
-        ensures over { (c : Command) (n : ℕ) (past : List Act) (s : ℕ) → Stands c n past s self.old → has_ended self.old ≡ true
-            → has_ended self.new ≡ true }
-        ensures ending { (c : Command) (n : ℕ) (past : List Act) (s : ℕ) → Stands c n past s self.old → has_ended self.old ≡ true
-            → ending_of self.new ≡ ending_of self.old }
-        ensures asked { (p : Location) → has_asked_at self.new p ≡ true
+        ensures over { StaysEnded self.old self.new }
+        ensures ending { KeepsEnding self.old self.new }
+        ensures asked { (p : Place) → has_asked_at self.new p ≡ true
             → (has_asked_at self.old p || reaps_at (wish_of self.old) p) ≡ true }
     {
-        self.state.hear(now, self.wish, answer);
+        match answer {
+            Answer::Woken => self.wake(now),
+            answer => self.hear(answer),
+        }
+    }
+
+    /// The answer to a wished call.
+    pub fn hear(&mut self, answer: Answer<'_>)
+        requires { Fits (wish_of self.old) (waiting_of self.old) answer }
+        ensures act { (c : Command) (n : ℕ) (past : List Act) (s : ℕ) → Stands c n past s self.old
+            → HeardBy c n past s (act_of (wish_of self.old) (waiting_of self.old) answer.entry) self.old self.new }
+        ensures childless { (c : Command) (n : ℕ) (past : List Act) (s : ℕ) → Stands c n past s self.old
+            → answer.entry ≡ answers.NoChild → Stands c n past s self.new × (left_of self.new < left_of self.old) }
+        ensures over { StaysEnded self.old self.new }
+        ensures ending { KeepsEnding self.old self.new }
+        ensures asked { (p : Place) → has_asked_at self.new p ≡ true
+            → (has_asked_at self.old p || reaps_at (wish_of self.old) p) ≡ true }
+    {
+        self.state.hear(self.wish, answer);
+        self.wish = self.state.plan();
+    }
+
+    /// The answer to a wished read: the first `count` bytes of this block. It is heard as these bytes are. Where they may
+    /// wait in it, the session keeps the block, and one of its own, as long, takes the place of it.
+    pub fn hear_block(&mut self, block: &mut Vec<u8>, count: usize)
+        requires within { count ≤ vec_len block.old }
+        requires fits { FitsRead (wish_of self.old) count }
+        ensures act { (c : Command) (n : ℕ) (past : List Act) (s : ℕ) → Stands c n past s self.old
+            → HeardBy c n past s (read_act (wish_of self.old) (take count block.old.items)) self.old self.new }
+        ensures over { StaysEnded self.old self.new }
+        ensures ending { KeepsEnding self.old self.new }
+        ensures asked { (p : Place) → has_asked_at self.new p ≡ true → has_asked_at self.old p ≡ true }
+        ensures block { vec_len block.new ≡ vec_len block.old }
+    {
+        self.state.hear_block(self.wish, block, count);
+        self.wish = self.state.plan();
+    }
+
+    /// The turn that was slept to has come, at this moment in milliseconds.
+    pub fn wake(&mut self, now: u64)
+        ensures woken { (c : Command) (n : ℕ) (past : List Act) (s : ℕ) (until : Option ℕ) → Stands c n past s self.old
+            → wish_of self.old ≡ wishes.Sleep until → Hears c n (acts.Turn until now (listed []) false ∷ past) s self.new }
+        ensures asked { (p : Place) → has_asked_at self.new p ≡ true → has_asked_at self.old p ≡ true }
+    {
+        self.state.wake(now);
         self.wish = self.state.plan();
     }
 
@@ -161,9 +203,9 @@ impl Session {
         ensures goes { (c : Command) (n : ℕ) (past : List Act) (s : ℕ) (until : Option ℕ) (at : ℕ) (names : List Entry)
             → Hears c n (acts.Turn until at (listed names) false ∷ past) s self.old
             → Hears c n (acts.Turn until at (listed (names ++ entry ∷ [])) false ∷ past) s self.new }
-        ensures asked { (p : Location) → has_asked_at self.new p ≡ true → has_asked_at self.old p ≡ true }
+        ensures asked { (p : Place) → has_asked_at self.new p ≡ true → has_asked_at self.old p ≡ true }
     {
-        self.state.named(entry);
+        self.state.hear_name(entry);
         self.wish = self.state.plan();
     }
 
@@ -183,7 +225,7 @@ impl Session {
         ensures ending { ending_of self.new ≡ Some why }
         ensures over { has_ended self.new ≡ true }
         ensures left { left_of self.new ≡ left_of self.old }
-        ensures asked { (p : Location) → has_asked_at self.new p ≡ true → has_asked_at self.old p ≡ true }
+        ensures asked { (p : Place) → has_asked_at self.new p ≡ true → has_asked_at self.old p ≡ true }
     {
         self.state.cut(why);
         self.wish = self.state.plan();

@@ -1,27 +1,24 @@
 // The whole state of a session: how far its places have come, its two directions, its timers, and what ends it.
-ghost use Rattle.std.specs.Prelude.{◌≡◌, ℕ, ◌+◌, ◌<◌, ◌≤◌, ◌&&◌, ◌||◌, ◌∷◌, ◌++◌, [], not, List, Option, Some, None, is_some, length, take, true, false, IfOk};
+ghost use Rattle.std.specs.Prelude.{◌≡◌, ℕ, ◌<◌, ◌∷◌, [], List, Option, Some, None, length, take, true, false, IfOk};
 ghost use Rattle.relay_model.specs.declared.acts.Act.{Act};
 ghost use Rattle.relay_model.specs.declared.acts.Act.TheVariants as acts;
 ghost use Rattle.relay_model.specs.declared.commands.Config.{Config as Command};
-ghost use Rattle.relay_model.specs.declared.places.Place.{Place as Spot};
+ghost use Rattle.relay_model.specs.declared.places.Place.{Place};
 ghost use Rattle.place_openings.specs.Steps.{has_asked};
 ghost use Rattle.relay_model.specs.Configs.{Fit, has_fork};
-ghost use Rattle.relay_model.specs.Choices.{first_some, only_if, earlier};
 ghost use Rattle.relay_model.specs.History.{now as last_moment};
-ghost use Rattle.relay_model.specs.Moments.{closing_moment, idle_moment, reached, passed};
-ghost use Rattle.relay_model.specs.Cause.{cause, faulted, finished, each_formed, running};
-ghost use Rattle.relay_model.specs.Openings.{ready, first_call};
-ghost use Rattle.relay_model.specs.Openings as calls;
+ghost use Rattle.relay_model.specs.Moments.{closing_moment, idle_moment};
+ghost use Rattle.relay_model.specs.Cause.{cause, faulted, running};
+ghost use Rattle.relay_model.specs.declared.calls.Call.TheVariants as calls;
 ghost use Rattle.relay_model.specs.Calls.{call};
 ghost use Rattle.relay_model.specs.Sessions.{holds};
-ghost use Rattle.relay_model.specs.Configs.{places};
-ghost use Rattle.relay_model.specs.Rest.{session_work, timer_moment, accepts};
+ghost use Rattle.relay_model.specs.Rest.{timer_moment};
 
 use crate::lanes::Lanes;
 use crate::moments::{ahead, earlier, is_reached, later_by};
 use crate::wishes::Wish;
-use place_openings::{Call, Openings};
-use relay_model::{Config, NoMemory, Peer, Place, Why};
+use place_openings::Openings;
+use relay_model::{Call, Config, NoMemory, Peer, Place, Why};
 use std::alloc::Global;
 
 #[derive(Drop)]
@@ -43,9 +40,8 @@ pub struct State {
 impl State {
     ghost use Rattle.relay_session.specs.Endings.{Quiet, cause_when_ready, cause_when_tried};
     ghost use Rattle.relay_session.specs.States.{Ground, Fields, Allowed, home};
-    ghost use Rattle.relay_session.specs.Births.{IsNew, Begins};
+    ghost use Rattle.relay_session.specs.Births.{IsNew, BeginsSession};
     ghost use Rattle.relay_session.specs.Timers.{reachable, session_until};
-    ghost use Rattle.place_openings.specs.Answers.{as_call};
     ghost use Rattle.relay_session.specs.Steps.{Heeds, waiting_for, keeps_for};
 
     /// A session at the beginning. It takes all the memory that it will use.
@@ -53,7 +49,7 @@ impl State {
         requires fit { Fit config.now }
         requires alone { has_fork config.now ≡ false }
         ensures stands { IfOk result (λ st. (n : ℕ) → Fields config.now n [] 0 st) }
-        ensures unasked { IfOk result (λ st. (p : Spot) → has_asked st.openings p ≡ false) }
+        ensures unasked { IfOk result (λ st. (p : Place) → has_asked st.openings p ≡ false) }
     {
         let mut state = State::pending_session(alloc, config, 0)?;
         state.ending = state.cause();
@@ -79,13 +75,13 @@ impl State {
     }
 
     /// With `fork`: the peer that the session was made for was accepted for its first place.
-    pub fn born(&mut self, now: u64, place: Place, peer: Peer)
-        ensures begun { (c : Command) (n : ℕ) (past : List Act) (s : ℕ) → IsNew c s self.old → Begins c n past s peer
+    pub fn begin(&mut self, now: u64, place: Place, peer: Peer)
+        ensures begun { (c : Command) (n : ℕ) (past : List Act) (s : ℕ) → IsNew c s self.old → BeginsSession c n past s peer
             → place ≡ home c s → now ≡ last_moment past → Heeds c (acts.Accepted place peer ∷ past) s self.new }
-        ensures asked { (p : Spot) → has_asked self.new.openings p ≡ true → has_asked self.old.openings p ≡ true }
+        ensures asked { (p : Place) → has_asked self.new.openings p ≡ true → has_asked self.old.openings p ≡ true }
     {
-        self.openings.accepted(place, peer);
-        self.lanes.opened(place);
+        self.openings.hear_peer(place, peer);
+        self.lanes.hear_opening(place);
         self.clock = now;
         self.moved = now;
         self.ending = self.cause();
@@ -97,7 +93,7 @@ impl State {
     pub fn cause(&self) -> Option<Why>
         ensures { (c : Command) (past : List Act) (s : ℕ) → Ground c past s self.now → Quiet c past s → result ≡ cause c past s }
     {
-        match self.openings.given_up() {
+        match self.openings.why_given_up() {
             Some(why) => Some(why),
             None => self.cause_while_tried(),
         }
@@ -178,7 +174,7 @@ impl State {
         ensures { (c : Command) (n : ℕ) (past : List Act) (s : ℕ) → Fields c n past s self.now → self.now.ending ≡ Some why
             → Allowed c n past s self.now result }
     {
-        match self.openings.held() {
+        match self.openings.held_thing() {
             Some(thing) => Wish::Close(thing, why),
             None => self.plan_last(why),
         }
@@ -267,7 +263,7 @@ impl State {
     }
 
     /// The front of what a wished write offers; nothing for another wish.
-    pub fn offered(&self, wish: Wish) -> &[u8]
+    pub fn offer(&self, wish: Wish) -> &[u8]
         ensures front { result.now ≡ take (length result.now) (waiting_for self.now wish) }
         ensures some { result.now ≡ [] → waiting_for self.now wish ≡ [] }
         ensures whole { keeps_for self.now wish ≡ true → result.now ≡ waiting_for self.now wish }

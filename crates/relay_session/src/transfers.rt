@@ -20,7 +20,18 @@ pub enum Transfer<'a> {
 }
 
 impl Transfer<'_> {
-    ghost use Rattle.relay_session.specs.Transfers.{moves_bytes, is_fault};
+    ghost use Rattle.relay_session.specs.Transfers.{moves_bytes, is_fault, is_read};
+
+    /// Whether it answers a read.
+    pub fn is_read(self) -> bool
+        ensures { result ≡ is_read self.entry }
+    {
+        match self {
+            Transfer::Read(_) | Transfer::ReadEmpty | Transfer::ReadEnd => true,
+            Transfer::ReadNotYet | Transfer::ReadFailed => true,
+            _ => false,
+        }
+    }
 
     /// Whether bytes passed.
     pub fn moves_bytes(self) -> bool

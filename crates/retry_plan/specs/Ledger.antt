@@ -2,7 +2,7 @@
 use Rattle.std.specs.Prelude.{ℕ, Bool, Option}
 
 -- its terms, how often it failed, and when it failed last
-pub record Ledger : Type 0 where
+pub record PlanLedger : Type 0 where
   pub retry : ℕ
   pub forever : Bool
   pub interval : ℕ

@@ -3,7 +3,7 @@ use Rattle.std.specs.Prelude.{◌≡◌, ℕ, ◌-◌, ◌^◌, Bool, min, List,
 use Rattle.relay_model.specs.Tries.{is_out_of_tries, next_due}
 use Rattle.retry_plan.specs.declared.NextTry.{NextTry}
 use Rattle.retry_plan.specs.declared.NextTry.TheVariants.{Now, At, Never, GiveUp}
-use Rattle.retry_plan.specs.Ledger.{Ledger}
+use Rattle.retry_plan.specs.Ledger.{PlanLedger}
 
 -- the number of failures; it stays at the greatest count
 abbrev pub attempts_of : List ℕ → ℕ
@@ -15,7 +15,7 @@ last_of [] = None
 last_of (failed_at ∷ failures) = Some failed_at
 
 -- a plan with these terms stands for these failures
-pub record PlanIs (retry : ℕ) (forever : Bool) (interval : ℕ) (failures : List ℕ) (plan : Ledger) : Type 0 where
+pub record PlanIs (retry : ℕ) (forever : Bool) (interval : ℕ) (failures : List ℕ) (plan : PlanLedger) : Type 0 where
   pub retry_is : plan.retry ≡ retry
   pub forever_is : plan.forever ≡ forever
   pub interval_is : plan.interval ≡ interval

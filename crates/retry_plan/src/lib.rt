@@ -30,9 +30,9 @@ pub struct Plan {
 }
 
 impl Model for Plan {
-    ghost use Rattle.retry_plan.specs.Ledger.{Ledger};
+    ghost use Rattle.retry_plan.specs.Ledger.{PlanLedger};
 
-    ghost Value = { Ledger };
+    ghost Value = { PlanLedger };
 
     ghost view = { λ plan. record { retry = plan.retry; forever = plan.forever; interval = plan.interval; attempts = plan.attempts; last = plan.last } };
 

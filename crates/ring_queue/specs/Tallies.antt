@@ -1,19 +1,19 @@
 -- What a ring counts beside the marks that it took.
 use Rattle.std.specs.Prelude.{ℕ, ◌+◌, ◌-◌, ◌^◌, ◌≤◌, min}
 use Rattle.port_trait.specs.Direct.{no_counts, with_fault}
-use Rattle.port_trait.specs.declared.counts.Counts.{Counts}
-use Rattle.ring_queue.specs.declared.tallies.Tally.{Tally}
+use Rattle.port_trait.specs.declared.counts.PortCounts.{PortCounts}
+use Rattle.ring_queue.specs.declared.tallies.RingTally.{RingTally}
 
 -- counts that stand at their beginning
-abbrev pub no_tally : Tally
+abbrev pub no_tally : RingTally
 no_tally = record { counts = no_counts; misuses = 0 }
 
 -- a call that a ring doesn't serve is one fault and one misuse
-abbrev pub with_misuse : Tally → Tally
+abbrev pub with_misuse : RingTally → RingTally
 with_misuse tally = record { counts = with_fault tally.counts; misuses = min (tally.misuses + 1) (2 ^ 64 - 1) }
 
 -- it fails only at fault marks and at calls that it doesn't serve, at each of those, and ends only at end marks
-pub record IsTallied (misuses fault_marks end_marks : ℕ) (counts : Counts) : Type 0 where
+pub record IsTallied (misuses fault_marks end_marks : ℕ) (counts : PortCounts) : Type 0 where
   pub faults : counts.faults ≤ misuses + fault_marks
   pub misused : misuses ≤ counts.faults
   pub ends : counts.ends ≤ end_marks

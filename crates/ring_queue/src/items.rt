@@ -14,11 +14,11 @@ pub const FEW: usize = 22;
 
 /// A block of memory with room for the bytes of one chunk.
 #[derive(Drop)]
-pub struct Page {
+pub struct ChunkPage {
     bytes: Vec<u8>,
 }
 
-impl Model for Page {
+impl Model for ChunkPage {
     ghost use Rattle.std.specs.Prelude.{List, ℕ, ◌≤◌, vec_capacity};
 
     ghost Value = { List ℕ };
@@ -28,9 +28,9 @@ impl Model for Page {
     ghost invariant = { λ page. 512 ≤ vec_capacity page.bytes };
 }
 
-impl Page {
-    pub fn new(alloc: Global) -> Result<Page, AllocError> {
-        Ok(Page {
+impl ChunkPage {
+    pub fn new(alloc: Global) -> Result<ChunkPage, AllocError> {
+        Ok(ChunkPage {
             bytes: Vec::with_capacity(alloc, CHUNK)?,
         })
     }
@@ -96,7 +96,7 @@ impl Few {
 #[derive(Drop)]
 enum Store {
     Here(Few),
-    There(Page),
+    There(ChunkPage),
 }
 
 /// 1 to 512 bytes. A few lie in the chunk itself, more of them in a page.
@@ -130,7 +130,7 @@ impl Chunk {
     }
 
     /// A copy of the bytes, in this page.
-    pub fn paged(page: Page, bytes: &[u8]) -> Chunk
+    pub fn in_page(page: ChunkPage, bytes: &[u8]) -> Chunk
         requires some { 0 < length bytes.now }
         requires fits { length bytes.now ≤ 512 }
         ensures { result ≡ bytes.now }
@@ -154,7 +154,7 @@ impl Chunk {
     }
 
     /// Its page, where it has one.
-    pub fn into_page(self) -> Option<Page> {
+    pub fn into_page(self) -> Option<ChunkPage> {
         match self.store {
             Store::Here(_) => None,
             Store::There(page) => Some(page),

@@ -11,14 +11,14 @@ mod roles;
 mod tallies;
 mod words;
 
-pub use ending::Ending;
-pub use items::{CHUNK, Chunk, Page, RingItem};
+pub use ending::ThreadEnding;
+pub use items::{CHUNK, Chunk, ChunkPage, RingItem};
 pub use lines::{
-    Ends, Hold, Lines, LoopWaits, PortState, SendingSide, TakingSide, WakeSignal, make_lines,
-    receive, send, send_to_port, take_in,
+    KnownPort, LineEnds, Lines, LoopWaits, SendingSide, TakingSide, ThreadHold, WakeSignal,
+    make_lines, receive, send, send_to_port, take_in,
 };
 pub use pages::{Pages, Ready, Spent};
-pub use queues::{OrderedPass, OrderedQueue, is_empty, is_full, ordered, put, settle, take};
-pub use roles::{InOrder, Item, View};
-pub use tallies::Tally;
+pub use queues::{OrderedPass, OrderedQueue, is_empty, is_full, ordered_queue, put, settle, take};
+pub use roles::{Item, OrderRule, PassView};
+pub use tallies::RingTally;
 pub use words::{SinkFault, Word};

@@ -5,8 +5,8 @@ ghost use Rattle.ring_queue.specs.Order.{view_of, IsSound};
 
 use crate::items::RingItem;
 use crate::pages::{Pages, Ready, Spent};
-use crate::queues::{OrderedPass, OrderedQueue, ordered, put, take};
-use crate::roles::{Item, View};
+use crate::queues::{OrderedPass, OrderedQueue, ordered_queue, put, take};
+use crate::roles::{Item, PassView};
 use crossbeam_queue::protocol::{Join, Lesson};
 use relay_model::NoMemory;
 use std::alloc::Global;
@@ -131,13 +131,13 @@ impl LoopWaits {
 
 /// What a thread knows of its port: whether it has begun, and whether it was let go.
 #[derive(Drop)]
-pub struct PortState {
+pub struct KnownPort {
     state: AtomicU64,
 }
 
-impl PortState {
-    pub fn new() -> PortState {
-        PortState {
+impl KnownPort {
+    pub fn new() -> KnownPort {
+        KnownPort {
             state: AtomicU64::new(WAITING),
         }
     }
@@ -175,7 +175,7 @@ pub struct Lines<B: Item> {
     pub thread: WakeSignal,
     pub port: WakeSignal,
     pub waits: LoopWaits,
-    pub state: PortState,
+    pub state: KnownPort,
 }
 
 impl<B: Item + Drop> Lines<B> {
@@ -194,19 +194,19 @@ impl<B: Item + Drop> Lines<B> {
             thread: WakeSignal::new(),
             port: WakeSignal::new(),
             waits: LoopWaits::new(),
-            state: PortState::new(),
+            state: KnownPort::new(),
         })
     }
 }
 
 /// A port's hold on its thread. The thread begins when it is told to, and comes to its end soon after the hold was let
 /// go. Clauses see whether it was told to begin.
-pub struct Hold<B: Item + Drop> {
+pub struct ThreadHold<B: Item + Drop> {
     lines: Arc<Lines<B>, Global>,
     begun: bool,
 }
 
-impl<B: Item + Drop> Model for Hold<B> {
+impl<B: Item + Drop> Model for ThreadHold<B> {
     ghost use Rattle.std.specs.Prelude.{Bool};
 
     ghost Value = { Bool };
@@ -214,7 +214,7 @@ impl<B: Item + Drop> Model for Hold<B> {
     ghost view = { λ hold. hold.begun };
 }
 
-impl<B: Item + Drop> Hold<B> {
+impl<B: Item + Drop> ThreadHold<B> {
     /// Lets the thread begin.
     pub fn begin(&mut self)
         ensures { self.new ≡ true }
@@ -225,9 +225,9 @@ impl<B: Item + Drop> Hold<B> {
     }
 }
 
-impl<B: Item + Drop> Drop for Hold<B> {
+impl<B: Item + Drop> Drop for ThreadHold<B> {
     fn drop(self) {
-        let Hold { lines, begun: _ } = self;
+        let ThreadHold { lines, begun: _ } = self;
         lines.state.set(GONE);
         lines.thread.ring();
     }
@@ -251,16 +251,16 @@ pub struct TakingSide<B: Item> {
 
 /// The lines, once for the port and once for the thread, the port's hold on the thread, and the two sides.
 #[derive(Drop)]
-pub struct Ends<B: Item + Drop> {
+pub struct LineEnds<B: Item + Drop> {
     pub port: Arc<Lines<B>, Global>,
-    pub hold: Hold<B>,
+    pub hold: ThreadHold<B>,
     pub thread: Arc<Lines<B>, Global>,
     pub sending: SendingSide<B>,
     pub taking: TakingSide<B>,
 }
 
 /// Empty queues: one for items, and one for so many words that go back.
-pub fn make_lines<B: Item + Drop>(alloc: Global, back_room: usize) -> Result<Ends<B>, NoMemory>
+pub fn make_lines<B: Item + Drop>(alloc: Global, back_room: usize) -> Result<LineEnds<B>, NoMemory>
     requires { 0 < back_room }
     ensures same { IfOk result (λ ends. ends.thread.value ≡ ends.port.value) }
     ensures unbegun { IfOk result (λ ends. ends.hold ≡ false) }
@@ -275,11 +275,11 @@ pub fn make_lines<B: Item + Drop>(alloc: Global, back_room: usize) -> Result<End
         (λ ends. (view ends.taking.back ≡ view_of true false [] [])
         × (view ends.sending.back ≡ view_of false true [] [])) }
 {
-    let (items, sender, taker) = ordered::<RingItem>(alloc, ROOM)?;
-    let (back, back_sender, back_taker) = ordered::<B>(alloc, back_room)?;
+    let (items, sender, taker) = ordered_queue::<RingItem>(alloc, ROOM)?;
+    let (back, back_sender, back_taker) = ordered_queue::<B>(alloc, back_room)?;
     let port = Arc::new(alloc, Lines::new(alloc, items, back)?)?;
     let thread = Arc::try_clone(&port)?;
-    let hold = Hold {
+    let hold = ThreadHold {
         lines: Arc::try_clone(&port)?,
         begun: false,
     };
@@ -293,7 +293,7 @@ pub fn make_lines<B: Item + Drop>(alloc: Global, back_room: usize) -> Result<End
         back: back_sender,
         spent: Spent::new(alloc)?,
     };
-    Ok(Ends {
+    Ok(LineEnds {
         port,
         hold,
         thread,
@@ -341,7 +341,7 @@ pub fn send_to_port<T: Item + Drop, R: Wait>(
     rt: &R,
     queue: &OrderedQueue<T>,
     wake_signal: &WakeSignal,
-    port: &PortState,
+    port: &KnownPort,
     pass: &mut OrderedPass<T>,
     item: T,
 ) -> bool
@@ -380,7 +380,7 @@ pub fn receive<T: Item + Drop, R: Wait>(
     rt: &R,
     queue: &OrderedQueue<T>,
     wake_signal: &WakeSignal,
-    port: &PortState,
+    port: &KnownPort,
     pass: &mut OrderedPass<T>,
 ) -> Option<T>
     requires queue { IsPassOf queue.now pass.old }
@@ -414,7 +414,7 @@ pub fn receive<T: Item + Drop, R: Wait>(
 // the sender's side takes in the taker's
 struct Both;
 
-impl<T> Join<View<T>> for Both {
+impl<T> Join<PassView<T>> for Both {
     ghost both = { λ v w. view_of true true v.sent w.taken };
 
     ghost spent = { view_of false false [] [] };
@@ -422,7 +422,7 @@ impl<T> Join<View<T>> for Both {
 
 struct Total;
 
-impl<T: Item> Lesson<T, View<T>> for Total {
+impl<T: Item> Lesson<T, PassView<T>> for Total {
     ghost fact = { λ v items. (v.sent ≡ v.taken ++ items) × IsSound T.follows [] v.sent };
 }
 

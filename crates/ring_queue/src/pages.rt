@@ -2,7 +2,7 @@
 ghost use Rattle.std.specs.Prelude.{◌≡◌, ◌<◌, ◌≤◌, ◌++◌, ◌∷◌, [], length, take, nat_le, if◌then◌else◌};
 ghost use Rattle.ring_queue.specs.Items.{is_end_mark};
 
-use crate::items::{CHUNK, Chunk, FEW, Page, RingItem};
+use crate::items::{CHUNK, Chunk, ChunkPage, FEW, RingItem};
 use crossbeam_queue::ArrayQueue;
 use relay_model::NoMemory;
 use std::alloc::Global;
@@ -48,7 +48,7 @@ fn bundles(alloc: Global, count: usize, pages: usize) -> Result<ArrayQueue<Bundl
 /// Up to 16 pages, for which the room is taken at the start.
 #[derive(Drop)]
 struct Bundle {
-    pages: Vec<Page>,
+    pages: Vec<ChunkPage>,
 }
 
 impl Model for Bundle {
@@ -68,7 +68,7 @@ impl Bundle {
             pages: Vec::with_capacity(alloc, BUNDLE)?,
         };
         for _ in 0..count {
-            bundle.keep(Page::new(alloc)?);
+            bundle.keep(ChunkPage::new(alloc)?);
         }
         Ok(bundle)
     }
@@ -80,7 +80,7 @@ impl Bundle {
     }
 
     /// Keeps the page where there is room, which takes no memory.
-    fn keep(&mut self, page: Page)
+    fn keep(&mut self, page: ChunkPage)
         ensures { self.new ≡ (if nat_le 16 (length self.old) then self.old else self.old ++ page ∷ []) }
     {
         if self.pages.len() < BUNDLE {
@@ -88,7 +88,7 @@ impl Bundle {
         }
     }
 
-    fn pop(&mut self) -> Option<Page> {
+    fn pop(&mut self) -> Option<ChunkPage> {
         self.pages.pop()
     }
 }
@@ -117,14 +117,14 @@ impl Ready {
         if bytes.len() > FEW {
             if let Some(page) = self.take(rt, pages) {
                 let (front, _) = bytes.split_at(bytes.len().min(CHUNK));
-                return Chunk::paged(page, front);
+                return Chunk::in_page(page, front);
             }
         }
         let (front, _) = bytes.split_at(bytes.len().min(FEW));
         Chunk::few(front)
     }
 
-    fn take<R: Wait>(&mut self, rt: &R, pages: &Pages) -> Option<Page> {
+    fn take<R: Wait>(&mut self, rt: &R, pages: &Pages) -> Option<ChunkPage> {
         if let Some(page) = self.pages.pop() {
             return Some(page);
         }

@@ -4,20 +4,20 @@ ghost use Rattle.crossbeam_queue.specs.Passes.{view, IsPassOf, IsSamePass, ruled
 ghost use Rattle.crossbeam_queue.specs.Fifo.{Held};
 ghost use Rattle.ring_queue.specs.Order.{IsSound, HasSent, HasTaken, view_of};
 
-use crate::roles::{InOrder, Item, Sending, Sides, Taking, Total, View};
+use crate::roles::{Item, OrderRule, PassView, Sending, Sides, Taking, Total};
 use crossbeam_queue::{Pass, RuledArrayQueue};
 use relay_model::NoMemory;
 use std::alloc::Global;
 use std::sync::Wait;
 
 /// A queue under the rule.
-pub type OrderedQueue<T> = RuledArrayQueue<T, View<T>, InOrder>;
+pub type OrderedQueue<T> = RuledArrayQueue<T, PassView<T>, OrderRule>;
 
 /// One side of a queue, or both in one hand.
-pub type OrderedPass<T> = Pass<T, View<T>>;
+pub type OrderedPass<T> = Pass<T, PassView<T>>;
 
 /// An empty queue for so many items, with the sender's side and the taker's.
-pub fn ordered<T: Item>(
+pub fn ordered_queue<T: Item>(
     alloc: Global,
     capacity: usize,
 ) -> Result<(OrderedQueue<T>, OrderedPass<T>, OrderedPass<T>), NoMemory>

@@ -11,7 +11,7 @@ pub trait Item {
 }
 
 /// Whether a pass sends and takes, and what it has sent and taken, oldest first. No value of it is made.
-pub struct View<T> {
+pub struct PassView<T> {
     pub sends: bool,
     pub takes: bool,
     pub sent: LinkedList<T>,
@@ -19,9 +19,9 @@ pub struct View<T> {
 }
 
 /// The rule of an ordered queue.
-pub struct InOrder;
+pub struct OrderRule;
 
-impl<T: Item> Protocol<T, View<T>> for InOrder {
+impl<T: Item> Protocol<T, PassView<T>> for OrderRule {
     ghost holds = { Ordered T.follows };
 
     ghost first = { view_of true true [] [] };
@@ -30,13 +30,13 @@ impl<T: Item> Protocol<T, View<T>> for InOrder {
 /// One side sends and the other takes.
 pub(crate) struct Sides;
 
-impl<T> Split<View<T>> for Sides {
+impl<T> Split<PassView<T>> for Sides {
     ghost left = { λ v. view_of true false v.sent [] };
 
     ghost right = { λ v. view_of false true [] v.taken };
 }
 
-impl<T> Join<View<T>> for Sides {
+impl<T> Join<PassView<T>> for Sides {
     ghost both = { λ v w. view_of true true v.sent w.taken };
 
     ghost spent = { view_of false false [] [] };
@@ -45,28 +45,28 @@ impl<T> Join<View<T>> for Sides {
 /// A push, and a queue that was found full.
 pub(crate) struct Sending;
 
-impl<T> Outcome<T, View<T>> for Sending {
+impl<T> Outcome<T, PassView<T>> for Sending {
     ghost then = { λ v x w. w ≡ view_of v.sends v.takes (v.sent ++ x ∷ []) v.taken };
 }
 
-impl<T> Lesson<T, View<T>> for Sending {
+impl<T> Lesson<T, PassView<T>> for Sending {
     ghost fact = { λ v items. (taken : List T) × (v.sent ≡ taken ++ items) };
 }
 
 /// A pop, and a queue that was found empty.
 pub(crate) struct Taking;
 
-impl<T: Item> Outcome<T, View<T>> for Taking {
+impl<T: Item> Outcome<T, PassView<T>> for Taking {
     ghost then = { λ v x w. (w ≡ view_of v.sends v.takes v.sent (v.taken ++ x ∷ [])) × T.follows v.taken x };
 }
 
-impl<T: Item> Lesson<T, View<T>> for Taking {
+impl<T: Item> Lesson<T, PassView<T>> for Taking {
     ghost fact = { λ v items. (sent : List T) × (sent ≡ v.taken ++ items) × IsSound T.follows [] sent };
 }
 
 /// Both sides in one hand.
 pub(crate) struct Total;
 
-impl<T: Item> Lesson<T, View<T>> for Total {
+impl<T: Item> Lesson<T, PassView<T>> for Total {
     ghost fact = { λ v items. (v.sent ≡ v.taken ++ items) × IsSound T.follows [] v.sent };
 }

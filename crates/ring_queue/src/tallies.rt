@@ -3,23 +3,23 @@ ghost use Rattle.std.specs.Prelude.{◌≡◌, Some};
 ghost use Rattle.port_trait.specs.Counting.{Tallied, Fault};
 ghost use Rattle.ring_queue.specs.Tallies.{no_tally, with_misuse};
 
-use port_trait::Counts;
+use port_trait::PortCounts;
 
 /// The answers of a ring that need a cause, and how many of its faults are calls that it doesn't serve. The number
 /// stays at its last value.
 #[derive(Clone, Copy, Debug, PartialEq)]
-pub struct Tally {
-    pub counts: Counts,
+pub struct RingTally {
+    pub counts: PortCounts,
     pub misuses: u64,
 }
 
-impl Tally {
+impl RingTally {
     /// Nothing was counted yet.
-    pub fn new() -> Tally
+    pub fn new() -> RingTally
         ensures { result ≡ no_tally }
     {
-        Tally {
-            counts: Counts::new(),
+        RingTally {
+            counts: PortCounts::new(),
             misuses: 0,
         }
     }

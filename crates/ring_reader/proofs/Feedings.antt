@@ -6,7 +6,7 @@ use Rattle.std.proofs.lemmas.List.{append-nil, length-append}
 use Rattle.std.proofs.lemmas.Bool.{false≢true}
 use Rattle.std.specs.Io.KnownBytes.{Keeps, Consumes}
 use Rattle.port_trait.specs.Streams.{Loses}
-use Rattle.ring_queue.specs.declared.roles.View.{View}
+use Rattle.ring_queue.specs.declared.roles.PassView.{PassView}
 use Rattle.ring_queue.specs.Order.{view_of}
 use Rattle.ring_queue.specs.declared.items.RingItem.{RingItem}
 use Rattle.ring_queue.specs.declared.items.RingItem.TheVariants as items
@@ -25,11 +25,11 @@ rose_more : (a m b n c : ℕ) → RoseTimes a m b → RoseTimes b n c → RoseTi
 rose_more a m b n c first then = omega (arith, first, then)
 
 -- a sender is one still after a push
-sender_kept : (v w : View RingItem) (sent : List RingItem) → v ≡ view_of true false v.sent [] → w ≡ view_of v.sends v.takes sent v.taken → w ≡ view_of true false w.sent []
-sender_kept v w sent mine is = is ∙ λ i. view_of ((mine i).sends) ((mine i).takes) (sym (ap (λ (u : View RingItem). u.sent) is) i) ((mine i).taken)
+sender_kept : (v w : PassView RingItem) (sent : List RingItem) → v ≡ view_of true false v.sent [] → w ≡ view_of v.sends v.takes sent v.taken → w ≡ view_of true false w.sent []
+sender_kept v w sent mine is = is ∙ λ i. view_of ((mine i).sends) ((mine i).takes) (sym (ap (λ (u : PassView RingItem). u.sent) is) i) ((mine i).taken)
 
 -- a turn that read bytes
-pub works_chunks : (l0 l1 l2 : Option (List ℕ)) (f0 f1 f2 e0 e1 e2 count n count' : ℕ) (v w : View RingItem) (heard : View Word) (added : List ℕ) →
+pub works_chunks : (l0 l1 l2 : Option (List ℕ)) (f0 f1 f2 e0 e1 e2 count n count' : ℕ) (v w : PassView RingItem) (heard : PassView Word) (added : List ℕ) →
     Works l0 l1 f0 f1 e0 e1 count 0 v heard → Loses l1 l2 added → f1 ≤ f2 → e1 ≤ e2 → w ≡ view_of v.sends v.takes w.sent v.taken → AddsChunks v.sent w.sent added → length added ≡ n → count' ≡ min (count + n) (2 ^ 64 - 1) → Works l0 l2 f0 f2 e0 e2 count' 0 w heard
 works_chunks l0 l1 l2 f0 f1 f2 e0 e1 e2 count n count' v w heard added so gone faults ends is adds many counted = record {
   sends = sender_kept v w w.sent so.sends is;
@@ -44,10 +44,10 @@ works_chunks l0 l1 l2 f0 f1 f2 e0 e1 e2 count n count' v w heard added so gone f
 }
 
 -- a turn that ended with this mark
-works_mark : (l0 l1 l2 : Option (List ℕ)) (f0 f1 f2 e0 e1 e2 count : ℕ) (v w : View RingItem) (heard : View Word) (mark : RingItem) →
+works_mark : (l0 l1 l2 : Option (List ℕ)) (f0 f1 f2 e0 e1 e2 count : ℕ) (v w : PassView RingItem) (heard : PassView Word) (mark : RingItem) →
     item_bytes mark ≡ [] → is_mark mark ≡ true → Works l0 l1 f0 f1 e0 e1 count 0 v heard → l2 ≡ l1 → RoseTimes f1 (fault_marks (mark ∷ [])) f2 → RoseTimes e1 (end_marks (mark ∷ [])) e2 → w ≡ view_of v.sends v.takes (v.sent ++ mark ∷ []) v.taken → Works l0 l2 f0 f2 e0 e2 count 1 w heard
 works_mark l0 l1 l2 f0 f1 f2 e0 e1 e2 count v w heard mark none marks so same faults ends is =
-    let sent : w.sent ≡ v.sent ++ mark ∷ [] = ap (λ (u : View RingItem). u.sent) is in
+    let sent : w.sent ≡ v.sent ++ mark ∷ [] = ap (λ (u : PassView RingItem). u.sent) is in
     let bytes : bytes_of w.sent ≡ bytes_of v.sent = ap bytes_of sent ∙ bytes_snoc v.sent mark ∙ ap (λ more. bytes_of v.sent ++ more) none ∙ append-nil (bytes_of v.sent) in
     record {
       sends = sender_kept v w (v.sent ++ mark ∷ []) so.sends is;
@@ -61,21 +61,21 @@ works_mark l0 l1 l2 f0 f1 f2 e0 e1 e2 count v w heard mark none marks so same fa
       asked = omega (arith, so.asked, ap (count_by is_mark) sent, count_snoc is_mark v.sent mark, one_counted mark marks);
     }
 
-pub works_end : (l0 l1 l2 : Option (List ℕ)) (f0 f1 f2 e0 e1 e2 count : ℕ) (v w : View RingItem) (heard : View Word) (told : ℕ) →
+pub works_end : (l0 l1 l2 : Option (List ℕ)) (f0 f1 f2 e0 e1 e2 count : ℕ) (v w : PassView RingItem) (heard : PassView Word) (told : ℕ) →
     Works l0 l1 f0 f1 e0 e1 count 0 v heard → l2 ≡ l1 → f1 ≤ f2 → min (e1 + 1) (2 ^ 64 - 1) ≤ e2 → w ≡ view_of v.sends v.takes (v.sent ++ items.End told ∷ []) v.taken → Works l0 l2 f0 f2 e0 e2 count 1 w heard
 works_end l0 l1 l2 f0 f1 f2 e0 e1 e2 count v w heard told so same faults ends is = works_mark l0 l1 l2 f0 f1 f2 e0 e1 e2 count v w heard (items.End told) refl refl so same (omega (arith, faults)) ends is
 
-pub works_fault : (l0 l1 l2 : Option (List ℕ)) (f0 f1 f2 e0 e1 e2 count : ℕ) (v w : View RingItem) (heard : View Word) (told : ℕ) →
+pub works_fault : (l0 l1 l2 : Option (List ℕ)) (f0 f1 f2 e0 e1 e2 count : ℕ) (v w : PassView RingItem) (heard : PassView Word) (told : ℕ) →
     Works l0 l1 f0 f1 e0 e1 count 0 v heard → l2 ≡ l1 → min (f1 + 1) (2 ^ 64 - 1) ≤ f2 → e1 ≤ e2 → w ≡ view_of v.sends v.takes (v.sent ++ items.Fault told ∷ []) v.taken → Works l0 l2 f0 f2 e0 e2 count 1 w heard
 works_fault l0 l1 l2 f0 f1 f2 e0 e1 e2 count v w heard told so same faults ends is = works_mark l0 l1 l2 f0 f1 f2 e0 e1 e2 count v w heard (items.Fault told) refl refl so same faults (omega (arith, ends)) is
 
-pub marked_end : (left : Option (List ℕ)) (v w : View RingItem) (told : ℕ) → IfSome left (λ rest. rest ≡ []) → w ≡ view_of v.sends v.takes (v.sent ++ items.End told ∷ []) v.taken → EndsMarked left w.sent
-marked_end left v w told spent is = record { marked = ap (λ (u : View RingItem). last_is is_mark u.sent) is ∙ last_snoc is_mark v.sent (items.End told); spent = λ _. spent }
+pub marked_end : (left : Option (List ℕ)) (v w : PassView RingItem) (told : ℕ) → IfSome left (λ rest. rest ≡ []) → w ≡ view_of v.sends v.takes (v.sent ++ items.End told ∷ []) v.taken → EndsMarked left w.sent
+marked_end left v w told spent is = record { marked = ap (λ (u : PassView RingItem). last_is is_mark u.sent) is ∙ last_snoc is_mark v.sent (items.End told); spent = λ _. spent }
 
-pub marked_fault : (left : Option (List ℕ)) (v w : View RingItem) (told : ℕ) → w ≡ view_of v.sends v.takes (v.sent ++ items.Fault told ∷ []) v.taken → EndsMarked left w.sent
+pub marked_fault : (left : Option (List ℕ)) (v w : PassView RingItem) (told : ℕ) → w ≡ view_of v.sends v.takes (v.sent ++ items.Fault told ∷ []) v.taken → EndsMarked left w.sent
 marked_fault left v w told is = record {
-  marked = ap (λ (u : View RingItem). last_is is_mark u.sent) is ∙ last_snoc is_mark v.sent (items.Fault told);
-  spent = λ ended. absurd (false≢true (sym (ap (λ (u : View RingItem). last_is is_end_mark u.sent) is ∙ last_snoc is_end_mark v.sent (items.Fault told)) ∙ ended));
+  marked = ap (λ (u : PassView RingItem). last_is is_mark u.sent) is ∙ last_snoc is_mark v.sent (items.Fault told);
+  spent = λ ended. absurd (false≢true (sym (ap (λ (u : PassView RingItem). last_is is_end_mark u.sent) is ∙ last_snoc is_end_mark v.sent (items.Fault told)) ∙ ended));
 }
 
 -- chunks were sent, and the reader beneath lost their bytes
@@ -89,9 +89,9 @@ kept_none (Some x) None kept = absurd kept
 kept_none (Some x) (Some y) kept = sym kept
 
 -- a mark was sent, and nothing was lost
-pub mark_lost : (before now : Option (List ℕ)) (v w : View RingItem) (mark : RingItem) → item_bytes mark ≡ [] → Keeps before now → w ≡ view_of v.sends v.takes (v.sent ++ mark ∷ []) v.taken → SendsLost before now v.sent w.sent
+pub mark_lost : (before now : Option (List ℕ)) (v w : PassView RingItem) (mark : RingItem) → item_bytes mark ≡ [] → Keeps before now → w ≡ view_of v.sends v.takes (v.sent ++ mark ∷ []) v.taken → SendsLost before now v.sent w.sent
 mark_lost before now v w mark none kept is = record {
   bytes = [];
   lost = kept_none before now kept;
-  passed = ap bytes_of (ap (λ (u : View RingItem). u.sent) is) ∙ bytes_snoc v.sent mark ∙ ap (λ more. bytes_of v.sent ++ more) none;
+  passed = ap bytes_of (ap (λ (u : PassView RingItem). u.sent) is) ∙ bytes_snoc v.sent mark ∙ ap (λ more. bytes_of v.sent ++ more) none;
 }

@@ -5,19 +5,19 @@ use Rattle.std.proofs.lemmas.List.{append-nil, length-append, take-append-drop}
 use Rattle.std.proofs.Math.Seq.{take-append_seam}
 use Rattle.std.proofs.lemmas.Bool.{false≢true, ltb-true}
 use Rattle.port_trait.specs.declared.answers.Got.TheVariants as reads
-use Rattle.port_trait.specs.declared.counts.Counts.{Counts}
+use Rattle.port_trait.specs.declared.counts.PortCounts.{PortCounts}
 use Rattle.port_trait.specs.Meanings.{Gives, Behind}
 use Rattle.port_trait.specs.Streams.{Loses}
 use Rattle.port_trait.specs.Serving.{rise}
-use Rattle.ring_queue.specs.declared.roles.View.{View}
+use Rattle.ring_queue.specs.declared.roles.PassView.{PassView}
 use Rattle.ring_queue.specs.Order.{view_of}
 use Rattle.ring_queue.specs.declared.items.RingItem.{RingItem}
 use Rattle.ring_queue.specs.declared.items.RingItem.TheVariants as kinds
 use Rattle.ring_queue.specs.declared.lines.Lines.{Lines}
 use Rattle.ring_queue.specs.declared.words.Word.{Word}
 use Rattle.ring_queue.specs.declared.words.Word.TheVariants as words
-use Rattle.ring_reader.specs.declared.reader_stage.Stage.{Stage}
-use Rattle.ring_reader.specs.declared.reader_stage.Stage.TheVariants as stages
+use Rattle.ring_reader.specs.declared.reader_stage.ReaderStage.{ReaderStage}
+use Rattle.ring_reader.specs.declared.reader_stage.ReaderStage.TheVariants as stages
 use Rattle.ring_queue.specs.Items.{item_bytes, bytes_of, is_mark, is_end_mark, is_fault_mark, last_is, marks, end_marks, fault_marks}
 use Rattle.ring_queue.specs.Words.{asks, is_ask}
 use Rattle.ring_reader.specs.Feeding.{Feeds, marks_sent}
@@ -39,7 +39,7 @@ given_front all front held is =
     (λ i. take (e i) (is i)) ∙ take-append_seam front held
 
 -- what counts neither a fault nor an end
-tallied_as_before : {misuses fault_marks end_marks : ℕ} (counts counts' : Counts) → counts'.faults ≡ counts.faults → counts'.ends ≡ counts.ends → IsTallied misuses fault_marks end_marks counts → IsTallied misuses fault_marks end_marks counts'
+tallied_as_before : {misuses fault_marks end_marks : ℕ} (counts counts' : PortCounts) → counts'.faults ≡ counts.faults → counts'.ends ≡ counts.ends → IsTallied misuses fault_marks end_marks counts → IsTallied misuses fault_marks end_marks counts'
 tallied_as_before counts counts' same_faults same_ends so = record { faults = omega (arith, so.faults, same_faults); misused = omega (arith, so.misused, same_faults); ends = omega (arith, so.ends, same_ends) }
 
 unmarked : (marked : Bool) (held : List ℕ) → (marked ≡ true → held ≡ []) → held ≢ [] → marked ≡ false
@@ -47,11 +47,11 @@ unmarked true held so some = absurd (some (so refl))
 unmarked false held so some = refl
 
 module _ {S : Type 0} (left : S → Option (List ℕ)) (faults ends : S → ℕ) (lines : Lines Word) (start : S) (misuses : ℕ) where
-  abbrev Reading : View RingItem → View Word → List ℕ → Bool → Bool → Counts → Stage S → Type 0
+  abbrev Reading : PassView RingItem → PassView Word → List ℕ → Bool → Bool → PortCounts → ReaderStage S → Type 0
   Reading items words held marked ended counts stage = IsReading left faults ends lines start items words held marked ended misuses counts stage
 
   -- a read gave of what was held
-  pub gives_held : (items : View RingItem) (words : View Word) (held : List ℕ) (marked ended : Bool) (counts : Counts) (stage : Stage S) (n : ℕ) →
+  pub gives_held : (items : PassView RingItem) (words : PassView Word) (held : List ℕ) (marked ended : Bool) (counts : PortCounts) (stage : ReaderStage S) (n : ℕ) →
       Reading items words held marked ended counts stage → held ≢ [] → Reading items words (drop n held) false false counts stage
   gives_held items words held marked ended counts stage n so some = record {
     taking = record {
@@ -65,14 +65,14 @@ module _ {S : Type 0} (left : S → Option (List ℕ)) (faults ends : S → ℕ)
     at_stage = subst (λ m. AtStage left faults ends lines start items words m stage) (unmarked marked held (λ is. (so.taking.at_mark is).0) some) so.at_stage;
   }
 
-  idle_stage : (items : View RingItem) (words : View Word) (marked : Bool) (stage : Stage S) → is_running stage ≡ false → AtStage left faults ends lines start items words marked stage → AtStage left faults ends lines start items words false stage
+  idle_stage : (items : PassView RingItem) (words : PassView Word) (marked : Bool) (stage : ReaderStage S) → is_running stage ≡ false → AtStage left faults ends lines start items words marked stage → AtStage left faults ends lines start items words false stage
   idle_stage items words marked (stages.Waiting task) idle at = (at.0, at.1, at.2, refl)
   idle_stage items words marked stages.Refused idle at = (at.0, refl)
   idle_stage items words marked (stages.Running task) idle at = absurd (false≢true (sym idle))
   idle_stage items words marked (stages.Over source) idle at = at
 
   -- a read found the queue empty, and nobody sends
-  pub finds_idle : (items items' : View RingItem) (words : View Word) (held : List ℕ) (marked ended : Bool) (counts counts' : Counts) (stage : Stage S) →
+  pub finds_idle : (items items' : PassView RingItem) (words : PassView Word) (held : List ℕ) (marked ended : Bool) (counts counts' : PortCounts) (stage : ReaderStage S) →
       Reading items words held marked ended counts stage → is_running stage ≡ false → items' ≡ items → counts'.faults ≡ counts.faults → counts'.ends ≡ counts.ends → Reading items' words held false false counts' stage
   finds_idle items items' words held marked ended counts counts' stage so idle same same_faults same_ends = rw same (record {
     taking = record {
@@ -86,14 +86,14 @@ module _ {S : Type 0} (left : S → Option (List ℕ)) (faults ends : S → ℕ)
     at_stage = idle_stage items words marked stage idle so.at_stage;
   })
 
-  running_stage : (items items' : View RingItem) (words words' : View Word) (marked marked' : Bool) (stage : Stage S) → is_running stage ≡ true → asks words'.sent ≡ asks words.sent + marks_sent marked → marks items'.taken ≡ marks items.taken + marks_sent marked' → AtStage left faults ends lines start items words marked stage → AtStage left faults ends lines start items' words' marked' stage
+  running_stage : (items items' : PassView RingItem) (words words' : PassView Word) (marked marked' : Bool) (stage : ReaderStage S) → is_running stage ≡ true → asks words'.sent ≡ asks words.sent + marks_sent marked → marks items'.taken ≡ marks items.taken + marks_sent marked' → AtStage left faults ends lines start items words marked stage → AtStage left faults ends lines start items' words' marked' stage
   running_stage items items' words words' marked marked' (stages.Waiting task) runs asked more at = absurd (false≢true runs)
   running_stage items items' words words' marked marked' stages.Refused runs asked more at = absurd (false≢true runs)
   running_stage items items' words words' marked marked' (stages.Running task) runs asked more at = (at.0, omega (arith, at.1, asked, more))
   running_stage items items' words words' marked marked' (stages.Over source) runs asked more at = absurd (false≢true runs)
 
   -- a read found the queue empty, and had asked for more where the last item was a mark
-  pub finds_empty : (items items' : View RingItem) (words words' : View Word) (held : List ℕ) (marked ended : Bool) (counts counts' : Counts) (stage : Stage S) →
+  pub finds_empty : (items items' : PassView RingItem) (words words' : PassView Word) (held : List ℕ) (marked ended : Bool) (counts counts' : PortCounts) (stage : ReaderStage S) →
       Reading items words held marked ended counts stage → is_running stage ≡ true → words'.sends ≡ true → asks words'.sent ≡ asks words.sent + marks_sent marked → items' ≡ items → counts'.faults ≡ counts.faults → counts'.ends ≡ counts.ends → Reading items' words' held false false counts' stage
   finds_empty items items' words words' held marked ended counts counts' stage so runs sends asked same same_faults same_ends = rw same (record {
     taking = record {
@@ -108,14 +108,14 @@ module _ {S : Type 0} (left : S → Option (List ℕ)) (faults ends : S → ℕ)
   })
 
   -- a read took a chunk and gave of it
-  pub takes_chunk : (items items' : View RingItem) (words words' : View Word) (held : List ℕ) (marked ended : Bool) (counts : Counts) (stage : Stage S) (chunk : List ℕ) (n : ℕ) →
+  pub takes_chunk : (items items' : PassView RingItem) (words words' : PassView Word) (held : List ℕ) (marked ended : Bool) (counts : PortCounts) (stage : ReaderStage S) (chunk : List ℕ) (n : ℕ) →
       Reading items words held marked ended counts stage → is_running stage ≡ true → words'.sends ≡ true → asks words'.sent ≡ asks words.sent + marks_sent marked → items' ≡ view_of items.sends items.takes items.sent (items.taken ++ kinds.Chunk chunk ∷ []) → Reading items' words' (drop n chunk) false false counts stage
   takes_chunk items items' words words' held marked ended counts stage chunk n so runs sends asked is =
-      let taken : items'.taken ≡ items.taken ++ kinds.Chunk chunk ∷ [] = ap (λ (v : View RingItem). v.taken) is in
+      let taken : items'.taken ≡ items.taken ++ kinds.Chunk chunk ∷ [] = ap (λ (v : PassView RingItem). v.taken) is in
       let all : bytes_of items'.taken ≡ bytes_of items.taken ++ chunk = ap bytes_of taken ∙ bytes_snoc items.taken (kinds.Chunk chunk) in
       record {
         taking = record {
-          takes = ap (λ (v : View RingItem). v.takes) is ∙ so.taking.takes;
+          takes = ap (λ (v : PassView RingItem). v.takes) is ∙ so.taking.takes;
           sends = sends;
           rest = (bytes_of items.taken ++ take n chunk, all ∙ ap (λ r. bytes_of items.taken ++ r) (sym (take-append-drop n chunk)) ∙ sym (append_assoc (bytes_of items.taken) (take n chunk) (drop n chunk)));
           at_mark = λ is. absurd (false≢true is);
@@ -130,14 +130,14 @@ module _ {S : Type 0} (left : S → Option (List ℕ)) (faults ends : S → ℕ)
       }
 
   -- a read took a mark
-  takes_mark : (items items' : View RingItem) (words words' : View Word) (held : List ℕ) (marked ended ended' : Bool) (counts counts' : Counts) (stage : Stage S) (mark : RingItem) →
+  takes_mark : (items items' : PassView RingItem) (words words' : PassView Word) (held : List ℕ) (marked ended ended' : Bool) (counts counts' : PortCounts) (stage : ReaderStage S) (mark : RingItem) →
       item_bytes mark ≡ [] → is_mark mark ≡ true → (ended' ≡ true → is_end_mark mark ≡ true) → counts.faults ≤ counts'.faults → counts'.faults ≤ counts.faults + fault_marks (mark ∷ []) → counts'.ends ≤ counts.ends + end_marks (mark ∷ [])
       → Reading items words held marked ended counts stage → held ≡ [] → is_running stage ≡ true → words'.sends ≡ true → asks words'.sent ≡ asks words.sent + marks_sent marked → items' ≡ view_of items.sends items.takes items.sent (items.taken ++ mark ∷ []) → Reading items' words' held true ended' counts' stage
   takes_mark items items' words words' held marked ended ended' counts counts' stage mark none a_mark an_end no_fewer more_faults more_ends so nothing runs sends asked is =
-      let taken : items'.taken ≡ items.taken ++ mark ∷ [] = ap (λ (v : View RingItem). v.taken) is in
+      let taken : items'.taken ≡ items.taken ++ mark ∷ [] = ap (λ (v : PassView RingItem). v.taken) is in
       record {
         taking = record {
-          takes = ap (λ (v : View RingItem). v.takes) is ∙ so.taking.takes;
+          takes = ap (λ (v : PassView RingItem). v.takes) is ∙ so.taking.takes;
           sends = sends;
           rest = (bytes_of items'.taken, sym (ap (λ r. bytes_of items'.taken ++ r) nothing ∙ append-nil (bytes_of items'.taken)));
           at_mark = λ _. (nothing, ap (last_is is_mark) taken ∙ last_snoc is_mark items.taken mark ∙ a_mark);
@@ -151,12 +151,12 @@ module _ {S : Type 0} (left : S → Option (List ℕ)) (faults ends : S → ℕ)
         at_stage = running_stage items items' words words' marked true stage runs asked (omega (arith, ap marks taken, count_snoc is_mark items.taken mark, one_counted mark a_mark)) so.at_stage;
       }
 
-  pub takes_end : (items items' : View RingItem) (words words' : View Word) (held : List ℕ) (marked ended : Bool) (counts counts' : Counts) (stage : Stage S) (told : ℕ) →
+  pub takes_end : (items items' : PassView RingItem) (words words' : PassView Word) (held : List ℕ) (marked ended : Bool) (counts counts' : PortCounts) (stage : ReaderStage S) (told : ℕ) →
       counts'.faults ≡ counts.faults → counts'.ends ≡ min (counts.ends + 1) (2 ^ 64 - 1)
       → Reading items words held marked ended counts stage → held ≡ [] → is_running stage ≡ true → words'.sends ≡ true → asks words'.sent ≡ asks words.sent + marks_sent marked → items' ≡ view_of items.sends items.takes items.sent (items.taken ++ kinds.End told ∷ []) → Reading items' words' held true true counts' stage
   takes_end items items' words words' held marked ended counts counts' stage told more_faults more_ends = takes_mark items items' words words' held marked ended true counts counts' stage (kinds.End told) refl refl (λ _. refl) (omega (arith, more_faults)) (omega (arith, more_faults)) (omega (arith, more_ends))
 
-  pub takes_fault : (items items' : View RingItem) (words words' : View Word) (held : List ℕ) (marked ended : Bool) (counts counts' : Counts) (stage : Stage S) (told : ℕ) →
+  pub takes_fault : (items items' : PassView RingItem) (words words' : PassView Word) (held : List ℕ) (marked ended : Bool) (counts counts' : PortCounts) (stage : ReaderStage S) (told : ℕ) →
       counts.faults ≤ counts'.faults → counts'.faults ≡ min (counts.faults + 1) (2 ^ 64 - 1) → counts'.ends ≡ counts.ends
       → Reading items words held marked ended counts stage → held ≡ [] → is_running stage ≡ true → words'.sends ≡ true → asks words'.sent ≡ asks words.sent + marks_sent marked → items' ≡ view_of items.sends items.takes items.sent (items.taken ++ kinds.Fault told ∷ []) → Reading items' words' held true false counts' stage
   takes_fault items items' words words' held marked ended counts counts' stage told no_fewer more_faults more_ends = takes_mark items items' words words' held marked ended false counts counts' stage (kinds.Fault told) refl refl (λ is. absurd (false≢true is)) no_fewer (omega (arith, more_faults)) (omega (arith, more_ends))
@@ -215,7 +215,7 @@ loses_given taken held l0 l nothing loses =
     let all : given taken held ≡ bytes_of taken = given_front (bytes_of taken) (bytes_of taken) held (sym (ap (λ r. bytes_of taken ++ r) nothing ∙ append-nil (bytes_of taken))) in
     subst (λ bytes. Loses l0 l bytes) (sym all) loses
 
-pub tells_over : {S : Type 0} (left : S → Option (List ℕ)) (faults ends : S → ℕ) (lines : Lines Word) (start : S) (items : View RingItem) (words : View Word) (held : List ℕ) (marked : Bool) (stage : Stage S) → is_running stage ≡ false → held ≡ [] → AtStage left faults ends lines start items words marked stage → is_begun stage ≡ true
+pub tells_over : {S : Type 0} (left : S → Option (List ℕ)) (faults ends : S → ℕ) (lines : Lines Word) (start : S) (items : PassView RingItem) (words : PassView Word) (held : List ℕ) (marked : Bool) (stage : ReaderStage S) → is_running stage ≡ false → held ≡ [] → AtStage left faults ends lines start items words marked stage → is_begun stage ≡ true
     → (source : SourceBehind) × (behind_of left faults ends start items.taken stage ≡ Some source) × Loses (left start) source.left (given items.taken held)
 tells_over left faults ends lines start items words held marked (stages.Waiting task) idle nothing at begun = absurd (false≢true begun)
 tells_over left faults ends lines start items words held marked stages.Refused idle nothing at begun = absurd (false≢true begun)

@@ -3,13 +3,13 @@ use Rattle.std.specs.Prelude.{◌≡◌, ℕ, ◌+◌, ◌-◌, ◌^◌, ◌≤�
 use Rattle.std.specs.Io.KnownBytes.{Consumes}
 use Rattle.port_trait.specs.Streams.{Loses}
 use Rattle.ring_queue.specs.Tallies.{RoseTimes}
-use Rattle.ring_queue.specs.declared.roles.View.{View}
+use Rattle.ring_queue.specs.declared.roles.PassView.{PassView}
 use Rattle.ring_queue.specs.Order.{view_of}
 use Rattle.ring_queue.specs.declared.items.RingItem.{RingItem}
 use Rattle.ring_queue.specs.declared.words.Word.{Word}
 use Rattle.ring_queue.specs.declared.words.Word.TheVariants as words
-use Rattle.ring_reader.specs.declared.reader_thread.Turned.{Turned}
-use Rattle.ring_reader.specs.declared.reader_thread.Turned.TheVariants as turns
+use Rattle.ring_reader.specs.declared.reader_thread.ThreadTurn.{ThreadTurn}
+use Rattle.ring_reader.specs.declared.reader_thread.ThreadTurn.TheVariants as turns
 use Rattle.ring_queue.specs.Items.{bytes_of, is_mark, is_end_mark, last_is, marks, end_marks, fault_marks, told}
 use Rattle.ring_queue.specs.Words.{asks}
 
@@ -32,7 +32,7 @@ pub record EndsMarked (left : Option (List ℕ)) (sent : List RingItem) : Type 0
   pub spent : last_is is_end_mark sent ≡ true → IfSome left (λ rest. rest ≡ [])
 
 -- the thread at work: it sends items and hears words, and is so many marks ahead of what it was asked for
-pub record Works (left_before left : Option (List ℕ)) (faults_before faults ends_before ends count ahead : ℕ) (items : View RingItem) (heard : View Word) : Type 0 where
+pub record Works (left_before left : Option (List ℕ)) (faults_before faults ends_before ends count ahead : ℕ) (items : PassView RingItem) (heard : PassView Word) : Type 0 where
   pub sends : items ≡ view_of true false items.sent []
   pub hears : heard ≡ view_of false true [] heard.taken
   pub counted : count ≡ told (bytes_of items.sent)
@@ -40,7 +40,7 @@ pub record Works (left_before left : Option (List ℕ)) (faults_before faults en
   pub asked : marks items.sent ≡ asks heard.taken + ahead
 
 -- the thread at its end: it sent one mark more than it was asked for, and that last
-pub record HasFed (left_before left : Option (List ℕ)) (faults_before faults ends_before ends : ℕ) (items : View RingItem) (heard : View Word) : Type 0 where
+pub record HasFed (left_before left : Option (List ℕ)) (faults_before faults ends_before ends : ℕ) (items : PassView RingItem) (heard : PassView Word) : Type 0 where
   pub sends : items ≡ view_of true false items.sent []
   pub hears : heard ≡ view_of false true [] heard.taken
   pub feeds : Feeds left_before left faults_before faults ends_before ends items.sent
@@ -48,7 +48,7 @@ pub record HasFed (left_before left : Option (List ℕ)) (faults_before faults e
   pub ends_marked : EndsMarked left items.sent
 
 -- a fact of a thread that has sent so many marks in its turn, unless its port is gone
-abbrev pub OnTurned : Turned → (ℕ → Type 0) → Type 0
+abbrev pub OnTurned : ThreadTurn → (ℕ → Type 0) → Type 0
 OnTurned turns.Sent fact = fact 0
 OnTurned turns.Marked fact = fact 1
 OnTurned turns.Gone fact = Unit {0}

@@ -5,24 +5,24 @@ use Rattle.port_trait.specs.declared.answers.Got.{Got}
 use Rattle.port_trait.specs.declared.answers.Got.TheVariants as reads
 use Rattle.port_trait.specs.declared.answers.Begun.{Begun as BeginAnswer}
 use Rattle.port_trait.specs.declared.answers.Begun.TheVariants as begins
-use Rattle.port_trait.specs.declared.counts.Counts.{Counts}
+use Rattle.port_trait.specs.declared.counts.PortCounts.{PortCounts}
 use Rattle.port_trait.specs.Streams.{Loses}
 use Rattle.port_trait.specs.Serving.{Serving, rise}
 use Rattle.port_trait.specs.Ports.{BehindSeen, PortSeen, nothing_behind, untold}
 use Rattle.crossbeam_queue.specs.Fifo.{Held}
-use Rattle.ring_queue.specs.declared.roles.View.{View}
+use Rattle.ring_queue.specs.declared.roles.PassView.{PassView}
 use Rattle.ring_queue.specs.Order.{IsSound}
 use Rattle.ring_queue.specs.declared.items.RingItem.{RingItem}
 use Rattle.ring_queue.specs.declared.items.RingItem.TheVariants as kinds
 use Rattle.ring_queue.specs.declared.lines.Lines.{Lines}
 use Rattle.ring_queue.specs.declared.words.Word.{Word}
-use Rattle.ring_queue.specs.declared.tallies.Tally.{Tally}
+use Rattle.ring_queue.specs.declared.tallies.RingTally.{RingTally}
 use Rattle.port_trait.specs.declared.spawning.Task.{Task}
 use Rattle.ring_reader.specs.declared.reader_thread.Fed.{Fed}
-use Rattle.ring_queue.specs.declared.ending.Ending.{Ending}
+use Rattle.ring_queue.specs.declared.ending.ThreadEnding.{ThreadEnding}
 use Rattle.ring_reader.specs.declared.reader_start.FeedPromise.{FeedPromise}
-use Rattle.ring_reader.specs.declared.reader_stage.Stage.{Stage}
-use Rattle.ring_reader.specs.declared.reader_stage.Stage.TheVariants as stages
+use Rattle.ring_reader.specs.declared.reader_stage.ReaderStage.{ReaderStage}
+use Rattle.ring_reader.specs.declared.reader_stage.ReaderStage.TheVariants as stages
 use Rattle.ring_queue.specs.Items.{bytes_of, is_mark, is_end_mark, last_is, marks, end_marks, fault_marks, told, Follows}
 use Rattle.ring_queue.specs.Words.{asks}
 use Rattle.ring_reader.specs.Feeding.{Feeds, marks_sent}
@@ -47,7 +47,7 @@ pub record ReaderState : Type 0 where
   pub ended : Bool
   pub begun : Bool
   pub refused : Bool
-  pub tally : Tally
+  pub tally : RingTally
   pub behind : Option SourceBehind
   pub shuts : List Shut
 
@@ -101,40 +101,40 @@ source_behind left faults ends start source taken = record {
 }
 
 -- the source is in the port's hand once the thread has ended
-abbrev pub behind_of : {S : Type 0} → (S → Option (List ℕ)) → (S → ℕ) → (S → ℕ) → S → List RingItem → Stage S → Option SourceBehind
+abbrev pub behind_of : {S : Type 0} → (S → Option (List ℕ)) → (S → ℕ) → (S → ℕ) → S → List RingItem → ReaderStage S → Option SourceBehind
 behind_of left faults ends start taken (stages.Waiting task) = None
 behind_of left faults ends start taken stages.Refused = None
 behind_of left faults ends start taken (stages.Running task) = None
 behind_of left faults ends start taken (stages.Over source) = Some (source_behind left faults ends start source taken)
 
 -- the stage of a thread that was to be started
-abbrev pub stage_of : {S : Type 0} → Option (Task (Ending (Fed S)) (FeedPromise S)) → Stage S
+abbrev pub stage_of : {S : Type 0} → Option (Task (ThreadEnding (Fed S)) (FeedPromise S)) → ReaderStage S
 stage_of None = stages.Refused
 stage_of (Some task) = stages.Waiting task
 
 -- the thread was asked to begin
-abbrev pub is_begun : {S : Type 0} → Stage S → Bool
+abbrev pub is_begun : {S : Type 0} → ReaderStage S → Bool
 is_begun (stages.Waiting task) = false
 is_begun stages.Refused = false
 is_begun (stages.Running task) = true
 is_begun (stages.Over source) = true
 
 -- the thread runs
-abbrev pub is_running : {S : Type 0} → Stage S → Bool
+abbrev pub is_running : {S : Type 0} → ReaderStage S → Bool
 is_running (stages.Waiting task) = false
 is_running stages.Refused = false
 is_running (stages.Running task) = true
 is_running (stages.Over source) = false
 
 -- there is no thread
-abbrev pub is_refused : {S : Type 0} → Stage S → Bool
+abbrev pub is_refused : {S : Type 0} → ReaderStage S → Bool
 is_refused (stages.Waiting task) = false
 is_refused stages.Refused = true
 is_refused (stages.Running task) = false
 is_refused (stages.Over source) = false
 
 -- what the port took, gave and holds
-pub record Taking (items : View RingItem) (words : View Word) (held : List ℕ) (marked ended : Bool) : Type 0 where
+pub record ReaderTaking (items : PassView RingItem) (words : PassView Word) (held : List ℕ) (marked ended : Bool) : Type 0 where
   pub takes : items.takes ≡ true
   pub sends : words.sends ≡ true
   pub rest : (front : List ℕ) × (bytes_of items.taken ≡ front ++ held)
@@ -157,7 +157,7 @@ fresh_reader had refused = record {
 }
 
 -- how far the port has come with its thread
-abbrev pub AtStage : {S : Type 0} → (S → Option (List ℕ)) → (S → ℕ) → (S → ℕ) → Lines Word → S → View RingItem → View Word → Bool → Stage S → Type 0
+abbrev pub AtStage : {S : Type 0} → (S → Option (List ℕ)) → (S → ℕ) → (S → ℕ) → Lines Word → S → PassView RingItem → PassView Word → Bool → ReaderStage S → Type 0
 AtStage left faults ends lines start items words marked (stages.Waiting task) = WillFeed left faults ends lines start task × (items.taken ≡ []) × (words.sent ≡ []) × (marked ≡ false)
 AtStage left faults ends lines start items words marked stages.Refused = (items.taken ≡ []) × (marked ≡ false)
 AtStage left faults ends lines start items words marked (stages.Running task) = WillFeed left faults ends lines start task × (marks items.taken ≡ asks words.sent + marks_sent marked)
@@ -165,8 +165,8 @@ AtStage left faults ends lines start items words marked (stages.Over source) = F
     × (last_is is_end_mark items.taken ≡ true → IfSome (left source) (λ rest. rest ≡ []))
 
 -- all that stays so of a reader, beside that its passes are those of its lines
-pub record IsReading {S : Type 0} (left : S → Option (List ℕ)) (faults ends : S → ℕ) (lines : Lines Word) (start : S) (items : View RingItem) (words : View Word) (held : List ℕ) (marked ended : Bool) (misuses : ℕ) (counts : Counts) (stage : Stage S) : Type 0 where
-  pub taking : Taking items words held marked ended
+pub record IsReading {S : Type 0} (left : S → Option (List ℕ)) (faults ends : S → ℕ) (lines : Lines Word) (start : S) (items : PassView RingItem) (words : PassView Word) (held : List ℕ) (marked ended : Bool) (misuses : ℕ) (counts : PortCounts) (stage : ReaderStage S) : Type 0 where
+  pub taking : ReaderTaking items words held marked ended
   pub counted : IsTallied misuses (fault_marks items.taken) (end_marks items.taken) counts
   pub at_stage : AtStage left faults ends lines start items words marked stage
 

@@ -6,7 +6,7 @@ use Rattle.crossbeam_queue.specs.Passes.{view, IsPassOf}
 use Rattle.ring_queue.specs.declared.lines.Lines.{Lines}
 use Rattle.ring_queue.specs.declared.words.Word.{Word}
 use Rattle.ring_reader.specs.declared.reader_thread.Fed.{Fed}
-use Rattle.ring_queue.specs.declared.ending.Ending.{Ending}
+use Rattle.ring_queue.specs.declared.ending.ThreadEnding.{ThreadEnding}
 use Rattle.ring_reader.specs.declared.reader_start.FeedPromise.{FeedPromise}
 use Rattle.ring_queue.specs.Endings.{OnDone}
 use Rattle.ring_reader.specs.Feeding.{HasFed}
@@ -17,6 +17,6 @@ FedBy left faults ends lines start fed = IsPassOf lines.items fed.items × IsPas
     × HasFed (left start) (left fed.source) (faults start) (faults fed.source) (ends start) (ends fed.source) (view fed.items) (view fed.words)
 
 -- the task hands back just that, unless its thread gives up
-abbrev pub WillFeed : {S : Type 0} → (S → Option (List ℕ)) → (S → ℕ) → (S → ℕ) → Lines Word → S → Task (Ending (Fed S)) (FeedPromise S) → Type 0
+abbrev pub WillFeed : {S : Type 0} → (S → Option (List ℕ)) → (S → ℕ) → (S → ℕ) → Lines Word → S → Task (ThreadEnding (Fed S)) (FeedPromise S) → Type 0
 WillFeed left faults ends lines start (tasks.Running handle) = (handle.promise.lines.value ≡ lines) × (handle.promise.source.value ≡ start)
 WillFeed left faults ends lines start (tasks.Ended ending) = OnDone (FedBy left faults ends lines start) ending

@@ -9,13 +9,13 @@ use std::sync::Wait;
 
 /// A chunk, where the bytes of it begin that are still to be given, and the pages of those before it.
 #[derive(Drop)]
-pub(crate) struct Held {
+pub(crate) struct HeldChunk {
     chunk: Option<Chunk>,
     from: usize,
     spent: Spent,
 }
 
-impl Model for Held {
+impl Model for HeldChunk {
     ghost use Rattle.std.specs.Prelude.{List, ℕ};
     ghost use Rattle.ring_queue.specs.Stores.{rest_of, Within};
 
@@ -26,12 +26,12 @@ impl Model for Held {
     ghost invariant = { λ held. Within held.chunk held.from };
 }
 
-impl Held {
+impl HeldChunk {
     /// Nothing.
-    pub(crate) fn new(spent: Spent) -> Held
+    pub(crate) fn new(spent: Spent) -> HeldChunk
         ensures { result ≡ [] }
     {
-        Held {
+        HeldChunk {
             chunk: None,
             from: 0,
             spent,

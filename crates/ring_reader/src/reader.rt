@@ -3,14 +3,14 @@ ghost use Rattle.std.specs.Prelude.{◌≡◌, ◌≤◌, true, IfOk};
 ghost use Rattle.port_trait.specs.Counting.{Rose};
 ghost use Rattle.ring_reader.specs.Readers.{fresh_reader};
 
-use crate::held::Held;
-use crate::reader_stage::Stage;
+use crate::held::HeldChunk;
+use crate::reader_stage::ReaderStage;
 use crate::reader_start::launch;
 use crate::reader_steps::Pace;
 use crate::reader_thread::{Block, Feeder};
 use port_trait::{Account, Source, Spawner, Wake};
 use relay_model::NoMemory;
-use ring_queue::{Hold, Lines, OrderedPass, RingItem, Tally, Word, make_lines};
+use ring_queue::{Lines, OrderedPass, RingItem, RingTally, ThreadHold, Word, make_lines};
 use std::alloc::Global;
 use std::marker::Model;
 use std::snapshot::Snapshot;
@@ -28,15 +28,15 @@ where
 {
     pub(crate) rt: R,
     pub(crate) lines: Arc<Lines<Word>, Global>,
-    pub(crate) hold: Hold<Word>,
+    pub(crate) hold: ThreadHold<Word>,
     pub(crate) start: Snapshot<S>,
     pub(crate) items: OrderedPass<RingItem>,
     pub(crate) words: OrderedPass<Word>,
-    pub(crate) held: Held,
+    pub(crate) held: HeldChunk,
     pub(crate) marked: bool,
     pub(crate) ended: bool,
-    pub(crate) stage: Stage<S>,
-    pub(crate) tally: Tally,
+    pub(crate) stage: ReaderStage<S>,
+    pub(crate) tally: RingTally,
     pub(crate) pace: Pace,
     pub(crate) account: Account,
 }
@@ -71,23 +71,19 @@ where
         r.words) r.held r.marked r.ended r.tally.misuses r.tally.counts r.stage × (r.hold ≡ is_begun r.stage) };
 }
 
-impl<S, R> RingReader<S, R>
-where
-    S: Source + Send + Drop + 'static,
-    R: Threads + Wait + Copy + Send + 'static,
-{
+impl<S: Source + Send + Drop + 'static, R: Threads + Wait + Copy + Send + 'static> RingReader<
+    S,
+    R,
+> {
     /// A ring that is to read this source. Its queues have room for 64 items of at most 512 bytes. The thread is
     /// made here and waits for `begin`; where it can't be made, the source is dropped, and `begin` fails. Once the ring
     /// is dropped, the thread ends as soon as it has no more to wait for than the ring.
-    pub fn new<P, W>(
+    pub fn new<P: Spawner<Runtime = R>, W: Wake + Send + Drop + 'static>(
         alloc: Global,
         source: S,
         spawner: &mut P,
         wake: W,
     ) -> Result<RingReader<S, R>, NoMemory>
-    where
-        P: Spawner<Runtime = R>,
-        W: Wake + Send + Drop + 'static,
         ensures grows { P.faults spawner.old ≤ P.faults spawner.new }
         ensures fresh { IfOk result (λ ring. ring ≡ fresh_reader (S.left source) ring.refused) }
         ensures refused { IfOk result (λ ring. ring.refused ≡ true → Rose (P.faults spawner.old) (P.faults spawner.new)) }
@@ -97,7 +93,7 @@ where
         let rt = *spawner.threads();
         let start = Snapshot::of(&source);
         let feeder = Feeder::new(rt, ends.thread, source, wake, block, ends.sending);
-        let stage = Stage::of(launch(spawner, feeder));
+        let stage = ReaderStage::of(launch(spawner, feeder));
         Ok(RingReader {
             rt,
             lines: ends.port,
@@ -105,11 +101,11 @@ where
             start,
             items: ends.taking.items,
             words: ends.taking.back,
-            held: Held::new(ends.taking.spent),
+            held: HeldChunk::new(ends.taking.spent),
             marked: false,
             ended: false,
             stage,
-            tally: Tally::new(),
+            tally: RingTally::new(),
             pace: Pace::new(),
             account: Account::new(),
         })

@@ -12,11 +12,11 @@ ghost use Rattle.port_trait.specs.declared.answers.PortReap.TheVariants as reaps
 ghost use Rattle.ring_reader.specs.Readers.{reader_seen, BeginStep, misused_reader, ReadStep, KeptByRead, TellsSource, is_of_mark};
 
 use crate::reader::RingReader;
-use crate::reader_stage::Stage;
+use crate::reader_stage::ReaderStage;
 use crate::reader_steps::{ask_again, find_empty, finish, has_some, next};
 use port_trait::{
-    Account, Begun, Call, Counts, Got, Hint, Joining, Port, PortReap, Settled, Shutting, Source,
-    Took,
+    Account, Begun, Got, Hint, Joining, Port, PortCall, PortCounts, PortReap, Settled, Shutting,
+    Source, Took,
 };
 use relay_model::Shut;
 use ring_queue::RingItem;
@@ -25,7 +25,7 @@ use std::sync::Wait;
 use std::thread::Threads;
 
 /// Counts that a read came too early.
-fn nothing_yet(counts: &mut Counts) -> Got
+fn nothing_yet(counts: &mut PortCounts) -> Got
     ensures answer { result ≡ reads.NotYet }
     ensures value { counts.new ≡ record counts.old { stalls = min (counts.old.stalls + 1) (2 ^ 64 - 1) } }
 {
@@ -52,12 +52,12 @@ where
         if self.stage.is_begun() {
             return Begun::Begun;
         }
-        let Stage::Waiting(task) = mem::replace(&mut self.stage, Stage::Refused) else {
+        let ReaderStage::Waiting(task) = mem::replace(&mut self.stage, ReaderStage::Refused) else {
             self.tally.count_misuse();
             return Begun::Failed;
         };
         self.hold.begin();
-        self.stage = Stage::Running(task);
+        self.stage = ReaderStage::Running(task);
         Begun::Begun
     }
 
@@ -145,7 +145,7 @@ where
         ensures same { self.new ≡ record self.old { shuts = self.old.shuts ++ how ∷ [] } }
         ensures shuts { Shuts (reader_seen self.old) (reader_seen self.new) how result }
     {
-        self.account = self.account.with(&Call::Shut(how));
+        self.account = self.account.with(&PortCall::Shut(how));
         Shutting::Done
     }
 
@@ -194,7 +194,7 @@ where
         if !self.stage.is_running() {
             return Joining::Joined;
         }
-        let Stage::Running(task) = mem::replace(&mut self.stage, Stage::Refused) else {
+        let ReaderStage::Running(task) = mem::replace(&mut self.stage, ReaderStage::Refused) else {
             unreachable!()
         };
         let rt = self.rt;
@@ -206,7 +206,7 @@ where
             &mut self.words,
             task,
         );
-        self.stage = Stage::Over(source);
+        self.stage = ReaderStage::Over(source);
         Joining::Joined
     }
 }

@@ -1,30 +1,30 @@
 // How far a reader's port has come with its thread.
-ghost use Rattle.std.specs.Prelude.{◌≡◌, ◌↔◌, true, IsTrue};
+ghost use Rattle.std.specs.Prelude.{◌≡◌, true};
 ghost use Rattle.ring_reader.specs.Readers.{is_begun, is_running, stage_of};
 
 use crate::reader_start::FeedPromise;
 use crate::reader_thread::Fed;
 use port_trait::{Source, Task};
-use ring_queue::Ending;
+use ring_queue::ThreadEnding;
 
 /// The thread that waits for the begin, a thread that couldn't be started, the thread at work, and the source
 /// that it handed back.
 #[derive(Drop)]
-pub(crate) enum Stage<S: Source + Drop> {
-    Waiting(Task<Ending<Fed<S>>, FeedPromise<S>>),
+pub(crate) enum ReaderStage<S: Source + Drop> {
+    Waiting(Task<ThreadEnding<Fed<S>>, FeedPromise<S>>),
     Refused,
-    Running(Task<Ending<Fed<S>>, FeedPromise<S>>),
+    Running(Task<ThreadEnding<Fed<S>>, FeedPromise<S>>),
     Over(S),
 }
 
-impl<S: Source + Drop> Stage<S> {
+impl<S: Source + Drop> ReaderStage<S> {
     /// The stage of a thread that was to be started.
-    pub(crate) fn of(task: Option<Task<Ending<Fed<S>>, FeedPromise<S>>>) -> Stage<S>
+    pub(crate) fn of(task: Option<Task<ThreadEnding<Fed<S>>, FeedPromise<S>>>) -> ReaderStage<S>
         ensures { result ≡ stage_of task }
     {
         match task {
-            Some(task) => Stage::Waiting(task),
-            None => Stage::Refused,
+            Some(task) => ReaderStage::Waiting(task),
+            None => ReaderStage::Refused,
         }
     }
 
@@ -32,8 +32,8 @@ impl<S: Source + Drop> Stage<S> {
         ensures { result ≡ is_begun self.now }
     {
         match self {
-            Stage::Waiting(_) | Stage::Refused => false,
-            Stage::Running(_) | Stage::Over(_) => true,
+            ReaderStage::Waiting(_) | ReaderStage::Refused => false,
+            ReaderStage::Running(_) | ReaderStage::Over(_) => true,
         }
     }
 
@@ -41,8 +41,8 @@ impl<S: Source + Drop> Stage<S> {
         ensures { result ≡ is_running self.now }
     {
         match self {
-            Stage::Running(_) => true,
-            Stage::Waiting(_) | Stage::Refused | Stage::Over(_) => false,
+            ReaderStage::Running(_) => true,
+            ReaderStage::Waiting(_) | ReaderStage::Refused | ReaderStage::Over(_) => false,
         }
     }
 }

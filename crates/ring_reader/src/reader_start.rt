@@ -3,12 +3,12 @@ ghost use Rattle.std.specs.Prelude.{◌≡◌, ◌≤◌, None, IfSome};
 ghost use Rattle.crossbeam_queue.specs.Passes.{view, IsPassOf};
 ghost use Rattle.port_trait.specs.Counting.{Rose};
 ghost use Rattle.ring_queue.specs.Endings.{OnDone};
-ghost use Rattle.ring_reader.specs.Feeding.{Works, HasFed};
+ghost use Rattle.ring_reader.specs.Feeding.{Works};
 ghost use Rattle.ring_reader.specs.Starting.{FedBy, WillFeed};
 
 use crate::reader_thread::{Fed, Feeder};
 use port_trait::{Source, Spawner, Task, Wake};
-use ring_queue::{Ending, Lines, Word};
+use ring_queue::{Lines, ThreadEnding, Word};
 use std::snapshot::Snapshot;
 use std::sync::Wait;
 use std::thread::{Promise, Threads};
@@ -20,7 +20,7 @@ pub(crate) struct FeedPromise<S> {
     source: Snapshot<S>,
 }
 
-impl<S: Source> Promise<Ending<Fed<S>>> for FeedPromise<S> {
+impl<S: Source> Promise<ThreadEnding<Fed<S>>> for FeedPromise<S> {
     ghost kept_by = { λ promise ending. OnDone (FedBy S.left S.faults S.ends promise.lines.value promise.source.value) ending };
 }
 
@@ -28,7 +28,7 @@ impl<S: Source> Promise<Ending<Fed<S>>> for FeedPromise<S> {
 pub(crate) fn launch<S, P, W, R>(
     spawner: &mut P,
     feeder: Feeder<S, W, R>,
-) -> Option<Task<Ending<Fed<S>>, FeedPromise<S>>>
+) -> Option<Task<ThreadEnding<Fed<S>>, FeedPromise<S>>>
 where
     S: Source + Send + Drop + 'static,
     P: Spawner,
@@ -45,7 +45,7 @@ where
         lines: Snapshot::of(&*feeder.lines),
         source: feeder.source.snapshot(),
     };
-    let work = move || -> Ending<Fed<S>>
+    let work = move || -> ThreadEnding<Fed<S>>
         requires queues { IsPassOf feeder.lines.value.items feeder.items × IsPassOf feeder.lines.value.back feeder.words }
         requires works { Works (S.left feeder.source.source) (S.left feeder.source.source) (S.faults feeder.source.source) (S.faults feeder.source.source)
             (S.ends feeder.source.source) (S.ends feeder.source.source) feeder.count 0 (view feeder.items) (view feeder.words) }
@@ -60,7 +60,7 @@ where
 /// Waits until the thread has ended, and takes what it hands back.
 pub(crate) fn land<S, R>(
     rt: &R,
-    task: Task<Ending<Fed<S>>, FeedPromise<S>>,
+    task: Task<ThreadEnding<Fed<S>>, FeedPromise<S>>,
     lines: &Lines<Word>,
     start: &Snapshot<S>,
 ) -> Fed<S>
@@ -70,5 +70,5 @@ where
     requires task { WillFeed S.left S.faults S.ends lines.now start.now.value task }
     ensures fed { FedBy S.left S.faults S.ends lines.now start.now.value result }
 {
-    task.join(rt).done(rt)
+    task.join(rt).take_result(rt)
 }

@@ -11,7 +11,7 @@ ghost use Rattle.ring_reader.specs.Starting.{WillFeed};
 use crate::reader_start::{FeedPromise, land};
 use crate::reader_thread::Fed;
 use port_trait::{Source, Task};
-use ring_queue::{Ending, Lines, OrderedPass, RingItem, Word, is_empty, send, take, take_in};
+use ring_queue::{Lines, OrderedPass, RingItem, ThreadEnding, Word, is_empty, send, take, take_in};
 use std::mem;
 use std::snapshot::Snapshot;
 use std::sync::Wait;
@@ -122,7 +122,7 @@ pub(crate) fn finish<S, R>(
     start: &Snapshot<S>,
     items: &mut OrderedPass<RingItem>,
     words: &mut OrderedPass<Word>,
-    task: Task<Ending<Fed<S>>, FeedPromise<S>>,
+    task: Task<ThreadEnding<Fed<S>>, FeedPromise<S>>,
 ) -> S
 where
     S: Source + Drop,

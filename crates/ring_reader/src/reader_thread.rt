@@ -1,9 +1,9 @@
 // The thread of a reader: it reads its source and sends what came.
-ghost use Rattle.std.specs.Prelude.{◌≡◌, ◌<◌, ◌≤◌, ◌++◌, ◌∷◌, [], true, false, length, take, vec_len, IfSome};
+ghost use Rattle.std.specs.Prelude.{◌≡◌, ◌<◌, ◌++◌, ◌∷◌, [], true, false, vec_len, IfSome};
 ghost use Rattle.crossbeam_queue.specs.Passes.{view, IsPassOf, IsSamePass};
 ghost use Rattle.ring_queue.specs.Order.{view_of};
-ghost use Rattle.ring_queue.specs.Items.{Follows, bytes_of, told, AddsChunks};
-ghost use Rattle.ring_reader.specs.declared.reader_thread.Turned.TheVariants as turns;
+ghost use Rattle.ring_queue.specs.Items.{Follows, AddsChunks};
+ghost use Rattle.ring_reader.specs.declared.reader_thread.ThreadTurn.TheVariants as turns;
 ghost use Rattle.ring_queue.specs.Endings.{OnDone};
 ghost use Rattle.ring_reader.specs.Feeding.{Works, EndsMarked, SendsLost, OnTurned, ahead_after};
 ghost use Rattle.ring_reader.specs.Starting.{FedBy};
@@ -12,7 +12,7 @@ use crate::gate::Gate;
 use port_trait::{Source, SourceGot, Wake};
 use relay_model::NoMemory;
 use ring_queue::{
-    Ending, Lines, OrderedPass, Ready, RingItem, SendingSide, Word, receive, send_to_port,
+    Lines, OrderedPass, Ready, RingItem, SendingSide, ThreadEnding, Word, receive, send_to_port,
 };
 use std::alloc::Global;
 use std::snapshot::Snapshot;
@@ -59,7 +59,7 @@ pub(crate) struct Fed<S> {
 
 /// What a turn of a reader's thread came to: bytes were sent, or a mark was, or the port is gone.
 #[derive(Clone, Copy)]
-pub(crate) enum Turned {
+pub(crate) enum ThreadTurn {
     Sent,
     Marked,
     Gone,
@@ -162,7 +162,7 @@ where
     }
 
     /// Reads once, and sends what came. `start` is the source as it was when the thread began.
-    fn turn(&mut self, start: &Snapshot<S>) -> Turned
+    fn turn(&mut self, start: &Snapshot<S>) -> ThreadTurn
         requires queues { IsPassOf self.old.lines.value.items self.old.items × IsPassOf self.old.lines.value.back self.old.words }
         requires works { Works (S.left start.now.value) (S.left self.old.source.source) (S.faults start.now.value)
             (S.faults self.old.source.source) (S.ends start.now.value) (S.ends self.old.source.source) self.old.count 0
@@ -181,7 +181,7 @@ where
         ensures marked { result ≡ turns.Marked → EndsMarked (S.left self.new.source.source) (view self.new.items).sent }
     {
         if self.lines.state.is_gone() {
-            return Turned::Gone;
+            return ThreadTurn::Gone;
         }
         let block = &mut self.block;
         match self.source.read(block.bytes.as_mut_slice()) {
@@ -196,22 +196,26 @@ where
                     bytes,
                 );
                 self.count = self.count.saturating_add(count as u64);
-                if sent { Turned::Sent } else { Turned::Gone }
+                if sent {
+                    ThreadTurn::Sent
+                } else {
+                    ThreadTurn::Gone
+                }
             }
             SourceGot::End => {
                 let mark = RingItem::End(self.count);
                 if send_item(&self.rt, &self.lines, &self.wake, &mut self.items, mark) {
-                    Turned::Marked
+                    ThreadTurn::Marked
                 } else {
-                    Turned::Gone
+                    ThreadTurn::Gone
                 }
             }
             SourceGot::Failed => {
                 let mark = RingItem::Fault(self.count);
                 if send_item(&self.rt, &self.lines, &self.wake, &mut self.items, mark) {
-                    Turned::Marked
+                    ThreadTurn::Marked
                 } else {
-                    Turned::Gone
+                    ThreadTurn::Gone
                 }
             }
         }
@@ -241,7 +245,7 @@ where
     }
 
     /// Waits until the port begins, and feeds it.
-    pub(crate) fn run(self) -> Ending<Fed<S>>
+    pub(crate) fn run(self) -> ThreadEnding<Fed<S>>
         requires queues { IsPassOf self.lines.value.items self.items × IsPassOf self.lines.value.back self.words }
         requires works { Works (S.left self.source.source) (S.left self.source.source) (S.faults self.source.source) (S.faults self.source.source)
             (S.ends self.source.source) (S.ends self.source.source) self.count 0 (view self.items) (view self.words) }
@@ -249,7 +253,7 @@ where
     {
         let mut feeder = self;
         if !feeder.wait() {
-            return Ending::GaveUp;
+            return ThreadEnding::GaveUp;
         }
         feeder.feed()
     }
@@ -263,7 +267,7 @@ where
     }
 
     /// Reads to the next mark and beyond, as often as the port asks, until it says stop or is gone.
-    fn feed(self) -> Ending<Fed<S>>
+    fn feed(self) -> ThreadEnding<Fed<S>>
         requires queues { IsPassOf self.lines.value.items self.items × IsPassOf self.lines.value.back self.words }
         requires works { Works (S.left self.source.source) (S.left self.source.source) (S.faults self.source.source) (S.faults self.source.source)
             (S.ends self.source.source) (S.ends self.source.source) self.count 0 (view self.items) (view self.words) }
@@ -275,12 +279,12 @@ where
         let rt = feeder.rt;
         for _ in rt.forever() {
             match feeder.turn(&start) {
-                Turned::Sent => continue,
-                Turned::Gone => return Ending::GaveUp,
-                Turned::Marked => match feeder.hear(&start) {
+                ThreadTurn::Sent => continue,
+                ThreadTurn::Gone => return ThreadEnding::GaveUp,
+                ThreadTurn::Marked => match feeder.hear(&start) {
                     Some(Word::Ask) => continue,
-                    Some(Word::Stop) => return Ending::Done(feeder.end()),
-                    None => return Ending::GaveUp,
+                    Some(Word::Stop) => return ThreadEnding::Done(feeder.end()),
+                    None => return ThreadEnding::GaveUp,
                 },
             }
         }

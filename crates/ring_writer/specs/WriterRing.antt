@@ -12,13 +12,13 @@ use Rattle.port_trait.specs.declared.spawning.Task.TheVariants.{Running, Ended}
 use Rattle.ring_queue.specs.declared.items.RingItem.{RingItem}
 use Rattle.ring_queue.specs.declared.words.SinkFault.{SinkFault}
 use Rattle.ring_queue.specs.declared.lines.Lines.{Lines}
-use Rattle.ring_queue.specs.declared.ending.Ending.{Ending}
+use Rattle.ring_queue.specs.declared.ending.ThreadEnding.{ThreadEnding}
 use Rattle.ring_writer.specs.declared.writer_outlet.Outlet.{Outlet}
 use Rattle.ring_writer.specs.declared.writer_thread.WriterDone.{WriterDone}
 use Rattle.ring_writer.specs.declared.writer_thread.WriterPromise.{WriterPromise}
 use Rattle.ring_writer.specs.declared.writer_stages.WriterBack.{WriterBack}
-use Rattle.ring_writer.specs.declared.writer_stages.Stage.{Stage}
-use Rattle.ring_writer.specs.declared.writer_stages.Stage.TheVariants as stages
+use Rattle.ring_writer.specs.declared.writer_stages.WriterStage.{WriterStage}
+use Rattle.ring_writer.specs.declared.writer_stages.WriterStage.TheVariants as stages
 use Rattle.ring_queue.specs.Endings.{OnDone}
 use Rattle.ring_queue.specs.Items.{bytes_of, is_end_mark, last_is}
 use Rattle.ring_writer.specs.Writer.{KeptUp}
@@ -74,7 +74,7 @@ abbrev pub fresh_line : Option (List ℕ) → Bool → WriterLine
 fresh_line had refused = record { had = if refused then None else had; sent = []; marks = 0; begun = false; refused = refused; behind = None }
 
 -- what contracts see of a writer at this stage
-abbrev pub line_of : {K : Type 0} → (K → Option (List ℕ)) → (K → ℕ) → (K → Bool) → Stage K → WriterLine
+abbrev pub line_of : {K : Type 0} → (K → Option (List ℕ)) → (K → ℕ) → (K → Bool) → WriterStage K → WriterLine
 line_of took faults finished (stages.Ready putter begun task) = fresh_line (took begun.value) false
 line_of took faults finished stages.Refused = fresh_line None true
 line_of took faults finished (stages.Working putter begun task) = record { had = took begun.value; sent = (view putter.sender).sent; marks = length (view putter.taker).taken; begun = true; refused = false; behind = None }
@@ -93,7 +93,7 @@ abbrev pub may_join : WriterLine → Bool
 may_join line = if line.begun then is_shut line else true
 
 -- the thread was started on these queues with this sink, and comes to its end unless it gives up
-abbrev pub TaskStands : {K : Type 0} → (K → Option (List ℕ)) → (K → ℕ) → (K → Bool) → Lines SinkFault → K → Task (Ending (WriterDone K)) (WriterPromise K) → Type 0
+abbrev pub TaskStands : {K : Type 0} → (K → Option (List ℕ)) → (K → ℕ) → (K → Bool) → Lines SinkFault → K → Task (ThreadEnding (WriterDone K)) (WriterPromise K) → Type 0
 TaskStands took faults finished lines begun (Running handle) = (handle.promise.lines.value ≡ lines) × (handle.promise.begun.value ≡ begun)
 TaskStands took faults finished lines begun (Ended ending) = OnDone (ThreadEnded took faults finished lines begun) ending
 
@@ -105,11 +105,11 @@ pub record IsBack {K : Type 0} (took : K → Option (List ℕ)) (faults : K → 
   pub over : IsFinished finished back.outlet
 
 -- a writer at this stage is as it should be
-abbrev pub Stands : {K : Type 0} → (K → Option (List ℕ)) → (K → ℕ) → (K → Bool) → Stage K → Type 0
-Stands took faults finished (stages.Ready putter begun task) = IsPutting putter × (view putter.sender).sent ≡ [] × (view putter.taker).taken ≡ [] × TaskStands took faults finished putter.lines.value begun.value task
-Stands took faults finished stages.Refused = Unit {0}
-Stands took faults finished (stages.Working putter begun task) = IsPutting putter × TaskStands took faults finished putter.lines.value begun.value task
-Stands took faults finished (stages.Back back) = IsBack took faults finished back
+abbrev pub WriterStands : {K : Type 0} → (K → Option (List ℕ)) → (K → ℕ) → (K → Bool) → WriterStage K → Type 0
+WriterStands took faults finished (stages.Ready putter begun task) = IsPutting putter × (view putter.sender).sent ≡ [] × (view putter.taker).taken ≡ [] × TaskStands took faults finished putter.lines.value begun.value task
+WriterStands took faults finished stages.Refused = Unit {0}
+WriterStands took faults finished (stages.Working putter begun task) = IsPutting putter × TaskStands took faults finished putter.lines.value begun.value task
+WriterStands took faults finished (stages.Back back) = IsBack took faults finished back
 
 -- a begin by its answer: it fails exactly where no thread could be started
 abbrev pub LineBegins : WriterLine → WriterLine → BeginAnswer → Type 0

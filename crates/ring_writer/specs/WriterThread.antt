@@ -1,7 +1,7 @@
 -- What the thread of a writer keeps, and what it promises at its return.
 use Rattle.std.specs.Prelude.{◌≡◌, ℕ, ◌-◌, ◌^◌, ◌≤◌, min, Bool, true, List, length, Option, vec_capacity}
 use Rattle.crossbeam_queue.specs.Passes.{Pass, view, IsPassOf}
-use Rattle.ring_queue.specs.declared.roles.View.{View}
+use Rattle.ring_queue.specs.declared.roles.PassView.{PassView}
 use Rattle.ring_queue.specs.declared.items.RingItem.{RingItem}
 use Rattle.ring_queue.specs.declared.words.SinkFault.{SinkFault}
 use Rattle.ring_queue.specs.declared.lines.Lines.{Lines}
@@ -25,7 +25,7 @@ abbrev pub IsFinished : {K : Type 0} → (K → Bool) → Outlet K → Type 0
 IsFinished finished outlet = outlet.faults ≡ 0 → finished outlet.sink ≡ true
 
 -- the thread takes the items of these queues, and sends the marks that go back
-pub record HoldsSides (lines : Lines SinkFault) (taker : Pass RingItem (View RingItem)) (sender : Pass SinkFault (View SinkFault)) : Type 0 where
+pub record HoldsSides (lines : Lines SinkFault) (taker : Pass RingItem (PassView RingItem)) (sender : Pass SinkFault (PassView SinkFault)) : Type 0 where
   pub taker_of : IsPassOf lines.items taker
   pub takes : (view taker).takes ≡ true
   pub sender_of : IsPassOf lines.back sender

@@ -8,7 +8,7 @@ use Rattle.port_trait.specs.declared.answers.Begun.TheVariants as begins
 use Rattle.port_trait.specs.declared.answers.Took.{Took as WriteAnswer}
 use Rattle.port_trait.specs.declared.answers.Took.TheVariants as writes
 use Rattle.ring_queue.specs.declared.items.RingItem.TheVariants as items
-use Rattle.ring_queue.specs.declared.tallies.Tally.{Tally}
+use Rattle.ring_queue.specs.declared.tallies.RingTally.{RingTally}
 use Rattle.ring_queue.specs.Items.{bytes_of, told, AddsChunks}
 use Rattle.ring_queue.specs.Tallies.{no_tally, with_misuse}
 use Rattle.ring_writer.specs.WriterRing.{WriterLine, WriterBehind, WritesChunk, fresh_line, is_open, is_shut, may_join}
@@ -16,7 +16,7 @@ use Rattle.ring_writer.specs.WriterRing.{WriterLine, WriterBehind, WritesChunk, 
 -- how its line stands, what was counted, and each shut
 pub record WriterState : Type 0 where
   pub line : WriterLine
-  pub tally : Tally
+  pub tally : RingTally
   pub shuts : List Shut
 
 -- a writer that was just made over a sink that had taken so much, whose thread waits or couldn't be started

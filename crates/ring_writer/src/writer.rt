@@ -1,5 +1,5 @@
 // The port of a sink that a thread writes to.
-ghost use Rattle.std.specs.Prelude.{◌≡◌, ◌≢◌, ◌<◌, ◌≤◌, ◌+◌, ◌-◌, ◌^◌, ◌++◌, ◌∷◌, [], min, Bool, true, false, length, None, Some, IfOk, IfSome, IsSome};
+ghost use Rattle.std.specs.Prelude.{◌≡◌, ◌<◌, ◌≤◌, ◌+◌, ◌-◌, ◌++◌, ◌∷◌, [], true, false, length, IfOk, IfSome, IsSome};
 ghost use Rattle.port_trait.specs.Counting.{Rose};
 ghost use Rattle.port_trait.specs.Streams.{finishes};
 ghost use Rattle.port_trait.specs.Hinting.{all_hints};
@@ -11,20 +11,19 @@ ghost use Rattle.port_trait.specs.declared.answers.Took.TheVariants as writes;
 ghost use Rattle.port_trait.specs.declared.answers.Settled.TheVariants as settles;
 ghost use Rattle.port_trait.specs.declared.answers.Shutting.TheVariants as shuts;
 ghost use Rattle.port_trait.specs.declared.answers.PortReap.TheVariants as reaps;
-ghost use Rattle.ring_queue.specs.Items.{bytes_of};
-ghost use Rattle.ring_writer.specs.WriterRing.{IsBehind, is_open, is_shut, may_join};
+ghost use Rattle.ring_writer.specs.WriterRing.{IsBehind, is_open, may_join};
 ghost use Rattle.ring_writer.specs.Writers.{misused_writer, writer_seen, WriterBeginStep, WriterWrites, WriterPutsAll, fresh_writer, line_after_shut};
 
 use crate::writer_outlet::Outlet;
 use crate::writer_puts::Putter;
-use crate::writer_stages::{Stage, start_thread};
+use crate::writer_stages::{WriterStage, start_thread};
 use crate::writer_thread::{GATHERED, WriterWork};
 use port_trait::{
-    Account, Begun, Call, Got, Hint, Joining, Port, PortReap, Settled, Shutting, Sink, Spawner,
+    Account, Begun, Got, Hint, Joining, Port, PortCall, PortReap, Settled, Shutting, Sink, Spawner,
     Took, Wake,
 };
 use relay_model::{NoMemory, Shut};
-use ring_queue::{Hold, SinkFault, Tally, make_lines};
+use ring_queue::{RingTally, SinkFault, ThreadHold, make_lines};
 use std::alloc::Global;
 use std::marker::Model;
 use std::mem;
@@ -42,9 +41,9 @@ where
     K: Sink + Drop,
 {
     rt: R,
-    _hold: Hold<SinkFault>,
-    stage: Stage<K>,
-    tally: Tally,
+    _hold: ThreadHold<SinkFault>,
+    stage: WriterStage<K>,
+    tally: RingTally,
     account: Account,
 }
 
@@ -56,32 +55,25 @@ where
 
     ghost Value = { WriterState };
 
-    ghost use Rattle.ring_writer.specs.WriterRing.{Stands, line_of};
+    ghost use Rattle.ring_writer.specs.WriterRing.{WriterStands, line_of};
     ghost use Rattle.ring_queue.specs.Tallies.{IsTallied};
 
     ghost view = { λ w. record { line = line_of K.took K.faults K.finished w.stage; tally = w.tally; shuts = w.account.passed.shuts } };
 
-    ghost invariant = { λ w. Stands K.took K.faults K.finished w.stage
+    ghost invariant = { λ w. WriterStands K.took K.faults K.finished w.stage
         × IsTallied w.tally.misuses (line_of K.took K.faults K.finished w.stage).marks 0 w.tally.counts };
 }
 
-impl<K, R> RingWriter<K, R>
-where
-    K: Sink + Send + Drop + 'static,
-    R: Threads + Wait + Copy + Send + 'static,
-{
+impl<K: Sink + Send + Drop + 'static, R: Threads + Wait + Copy + Send + 'static> RingWriter<K, R> {
     /// A ring that is to write to this sink. Its queue has room for 64 items of at most 512 bytes. The thread is
     /// made here, as is all else that takes memory, and sleeps until something is put; where it can't be made, the
     /// sink is dropped, and `begin` fails. Once the ring is dropped, the thread writes what was put, and ends.
-    pub fn new<P, W>(
+    pub fn new<P: Spawner<Runtime = R>, W: Wake + Send + Drop + 'static>(
         alloc: Global,
         sink: K,
         spawner: &mut P,
         wake: W,
     ) -> Result<RingWriter<K, R>, NoMemory>
-    where
-        P: Spawner<Runtime = R>,
-        W: Wake + Send + Drop + 'static,
         ensures grows { P.faults spawner.old ≤ P.faults spawner.new }
         ensures fresh { IfOk result (λ ring. ring ≡ fresh_writer (K.took sink) ring.line.refused) }
         ensures refused { IfOk result (λ ring. ring.line.refused ≡ true → Rose (P.faults spawner.old) (P.faults spawner.new)) }
@@ -105,8 +97,8 @@ where
         Ok(RingWriter {
             rt,
             _hold: ends.hold,
-            stage: Stage::of(putter, begun, task),
-            tally: Tally::new(),
+            stage: WriterStage::of(putter, begun, task),
+            tally: RingTally::new(),
             account: Account::new(),
         })
     }
@@ -222,7 +214,7 @@ where
         ensures same { self.new ≡ record self.old { line = self.new.line; shuts = self.old.shuts ++ how ∷ [] } }
         ensures shuts { Shuts (writer_seen self.old) (writer_seen self.new) how result }
     {
-        self.account = self.account.with(&Call::Shut(how));
+        self.account = self.account.with(&PortCall::Shut(how));
         match how {
             Shut::Nothing | Shut::Null => Shutting::Done,
             Shut::Down | Shut::Close => {
@@ -277,7 +269,7 @@ where
         if !self.stage.may_join() {
             return Joining::Running;
         }
-        let stage = mem::replace(&mut self.stage, Stage::Refused);
+        let stage = mem::replace(&mut self.stage, WriterStage::Refused);
         self.stage = stage.join(&self.rt);
         Joining::Joined
     }

@@ -7,14 +7,14 @@ ghost use Rattle.ring_queue.specs.declared.items.RingItem.TheVariants as ring_it
 ghost use Rattle.ring_queue.specs.Items.{bytes_of, told, AddsChunks};
 ghost use Rattle.ring_queue.specs.Endings.{OnDone};
 ghost use Rattle.ring_writer.specs.WriterThread.{IsToBegin, ThreadEnded};
-ghost use Rattle.ring_writer.specs.WriterPuts.{IsPutting, CanPut, KeepsPutting};
-ghost use Rattle.ring_writer.specs.WriterRing.{Stands, TaskStands, IsBack, IsBehind, LineBegins, WritesChunk, fresh_line, line_of, is_open, may_join};
+ghost use Rattle.ring_writer.specs.WriterPuts.{IsPutting};
+ghost use Rattle.ring_writer.specs.WriterRing.{WriterStands, TaskStands, IsBack, IsBehind, LineBegins, WritesChunk, fresh_line, line_of, is_open, may_join};
 
 use crate::writer_outlet::Outlet;
 use crate::writer_puts::Putter;
 use crate::writer_thread::{WriterDone, WriterPromise, WriterWork};
 use port_trait::{Begun, Sink, Spawner, Task, Took, Wake};
-use ring_queue::{Ending, OrderedPass, RingItem, SinkFault, settle};
+use ring_queue::{OrderedPass, RingItem, SinkFault, ThreadEnding, settle};
 use std::mem;
 use std::snapshot::Snapshot;
 use std::sync::Wait;
@@ -33,60 +33,60 @@ pub(crate) struct WriterBack<K> {
 /// A writer that hasn't begun, one whose thread couldn't be started, one at work, and one whose thread has come
 /// back.
 #[derive(Drop)]
-pub(crate) enum Stage<K: Sink + Drop> {
-    Ready(Putter, Snapshot<K>, Task<Ending<WriterDone<K>>, WriterPromise<K>>),
+pub(crate) enum WriterStage<K: Sink + Drop> {
+    Ready(Putter, Snapshot<K>, Task<ThreadEnding<WriterDone<K>>, WriterPromise<K>>),
     Refused,
-    Working(Putter, Snapshot<K>, Task<Ending<WriterDone<K>>, WriterPromise<K>>),
+    Working(Putter, Snapshot<K>, Task<ThreadEnding<WriterDone<K>>, WriterPromise<K>>),
     Back(WriterBack<K>),
 }
 
-impl<K: Sink + Drop> Stage<K> {
+impl<K: Sink + Drop> WriterStage<K> {
     /// The stage of a writer whose thread was to be started.
     pub(crate) fn of(
         putter: Putter,
         begun: Snapshot<K>,
-        task: Option<Task<Ending<WriterDone<K>>, WriterPromise<K>>>,
-    ) -> Stage<K>
+        task: Option<Task<ThreadEnding<WriterDone<K>>, WriterPromise<K>>>,
+    ) -> WriterStage<K>
         requires putting { IsPutting putter }
         requires none { ((view putter.sender).sent ≡ []) × ((view putter.taker).taken ≡ []) }
         requires task { IfSome task (TaskStands K.took K.faults K.finished putter.lines.value begun.value) }
-        ensures stands { Stands K.took K.faults K.finished result }
+        ensures stands { WriterStands K.took K.faults K.finished result }
         ensures line { line_of K.took K.faults K.finished result
             ≡ fresh_line (K.took begun.value) (line_of K.took K.faults K.finished result).refused }
         ensures refused { (line_of K.took K.faults K.finished result).refused ≡ true → task ≡ None }
     {
         match task {
-            Some(task) => Stage::Ready(putter, begun, task),
-            None => Stage::Refused,
+            Some(task) => WriterStage::Ready(putter, begun, task),
+            None => WriterStage::Refused,
         }
     }
 
     /// Whether bytes may be put.
     pub(crate) fn is_open(&self) -> bool
-        requires { Stands K.took K.faults K.finished self.now }
+        requires { WriterStands K.took K.faults K.finished self.now }
         ensures { result ≡ is_open (line_of K.took K.faults K.finished self.now) }
     {
         match self {
-            Stage::Working(putter, _, _) => !putter.ended,
-            Stage::Ready(_, _, _) | Stage::Refused | Stage::Back(_) => false,
+            WriterStage::Working(putter, _, _) => !putter.ended,
+            WriterStage::Ready(_, _, _) | WriterStage::Refused | WriterStage::Back(_) => false,
         }
     }
 
     /// Whether a join needn't wait for more than the end mark.
     pub(crate) fn may_join(&self) -> bool
-        requires { Stands K.took K.faults K.finished self.now }
+        requires { WriterStands K.took K.faults K.finished self.now }
         ensures { result ≡ may_join (line_of K.took K.faults K.finished self.now) }
     {
         match self {
-            Stage::Working(putter, _, _) => putter.ended,
-            Stage::Ready(_, _, _) | Stage::Refused | Stage::Back(_) => true,
+            WriterStage::Working(putter, _, _) => putter.ended,
+            WriterStage::Ready(_, _, _) | WriterStage::Refused | WriterStage::Back(_) => true,
         }
     }
 
     /// Begins, unless no thread could be started.
     pub(crate) fn begin(&mut self) -> Begun
-        requires { Stands K.took K.faults K.finished self.old }
-        ensures stands { Stands K.took K.faults K.finished self.new }
+        requires { WriterStands K.took K.faults K.finished self.old }
+        ensures stands { WriterStands K.took K.faults K.finished self.new }
         ensures again { (line_of K.took K.faults K.finished self.old).begun ≡ true
             → (result ≡ begins.Begun) × (line_of K.took K.faults K.finished self.new
             ≡ line_of K.took K.faults K.finished self.old) }
@@ -94,18 +94,18 @@ impl<K: Sink + Drop> Stage<K> {
         ensures untold { (line_of K.took K.faults K.finished self.old).begun ≡ false
             → (line_of K.took K.faults K.finished self.old).marks ≡ 0 }
     {
-        match mem::replace(self, Stage::Refused) {
-            Stage::Ready(putter, begun, task) => {
-                *self = Stage::Working(putter, begun, task);
+        match mem::replace(self, WriterStage::Refused) {
+            WriterStage::Ready(putter, begun, task) => {
+                *self = WriterStage::Working(putter, begun, task);
                 Begun::Begun
             }
-            Stage::Refused => Begun::Failed,
-            Stage::Working(putter, begun, task) => {
-                *self = Stage::Working(putter, begun, task);
+            WriterStage::Refused => Begun::Failed,
+            WriterStage::Working(putter, begun, task) => {
+                *self = WriterStage::Working(putter, begun, task);
                 Begun::Begun
             }
-            Stage::Back(back) => {
-                *self = Stage::Back(back);
+            WriterStage::Back(back) => {
+                *self = WriterStage::Back(back);
                 Begun::Begun
             }
         }
@@ -113,14 +113,14 @@ impl<K: Sink + Drop> Stage<K> {
 
     /// Puts a chunk of the front of the bytes, and waits for nobody.
     pub(crate) fn put<R: Wait>(&mut self, rt: &R, bytes: &[u8]) -> Took
-        requires stands { Stands K.took K.faults K.finished self.old }
+        requires stands { WriterStands K.took K.faults K.finished self.old }
         requires open { is_open (line_of K.took K.faults K.finished self.old) ≡ true }
         requires some { 0 < length bytes.now }
-        ensures stands { Stands K.took K.faults K.finished self.new }
+        ensures stands { WriterStands K.took K.faults K.finished self.new }
         ensures writes { WritesChunk (line_of K.took K.faults K.finished self.old) (line_of K.took K.faults K.finished self.new)
             bytes.now result }
     {
-        let Stage::Working(putter, _, _) = self else {
+        let WriterStage::Working(putter, _, _) = self else {
             unreachable!()
         };
         putter.put(rt, bytes)
@@ -129,9 +129,9 @@ impl<K: Sink + Drop> Stage<K> {
     /// Puts all bytes, and waits for room, or a front of them before the sink failed. The second is whether it
     /// did.
     pub(crate) fn put_all<R: Wait>(&mut self, rt: &R, bytes: &[u8]) -> (usize, bool)
-        requires stands { Stands K.took K.faults K.finished self.old }
+        requires stands { WriterStands K.took K.faults K.finished self.old }
         requires open { is_open (line_of K.took K.faults K.finished self.old) ≡ true }
-        ensures stands { Stands K.took K.faults K.finished self.new }
+        ensures stands { WriterStands K.took K.faults K.finished self.new }
         ensures bound { result.0 ≤ length bytes.now }
         ensures all { result.1 ≡ false → result.0 ≡ length bytes.now }
         ensures open { is_open (line_of K.took K.faults K.finished self.new) ≡ true }
@@ -145,7 +145,7 @@ impl<K: Sink + Drop> Stage<K> {
                   (line_of K.took K.faults K.finished self.old).marks + (if result.1 then 1 else 0);
             } }
     {
-        let Stage::Working(putter, _, _) = self else {
+        let WriterStage::Working(putter, _, _) = self else {
             unreachable!()
         };
         putter.put_all(rt, bytes)
@@ -153,9 +153,9 @@ impl<K: Sink + Drop> Stage<K> {
 
     /// Puts the end mark, and waits for room.
     pub(crate) fn end<R: Wait>(&mut self, rt: &R)
-        requires stands { Stands K.took K.faults K.finished self.old }
+        requires stands { WriterStands K.took K.faults K.finished self.old }
         requires open { is_open (line_of K.took K.faults K.finished self.old) ≡ true }
-        ensures stands { Stands K.took K.faults K.finished self.new }
+        ensures stands { WriterStands K.took K.faults K.finished self.new }
         ensures line { line_of K.took K.faults K.finished self.new
             ≡ record (line_of K.took K.faults K.finished self.old) {
               sent =
@@ -163,7 +163,7 @@ impl<K: Sink + Drop> Stage<K> {
                   (told (bytes_of (line_of K.took K.faults K.finished self.old).sent)) ∷ [];
             } }
     {
-        let Stage::Working(putter, _, _) = self else {
+        let WriterStage::Working(putter, _, _) = self else {
             unreachable!()
         };
         putter.end(rt);
@@ -171,21 +171,21 @@ impl<K: Sink + Drop> Stage<K> {
 
     /// Whether a `put` has something to say.
     pub(crate) fn is_ready(&mut self) -> bool
-        requires stands { Stands K.took K.faults K.finished self.old }
-        ensures stands { Stands K.took K.faults K.finished self.new }
+        requires stands { WriterStands K.took K.faults K.finished self.old }
+        ensures stands { WriterStands K.took K.faults K.finished self.new }
         ensures kept { line_of K.took K.faults K.finished self.new ≡ line_of K.took K.faults K.finished self.old }
     {
         match self {
-            Stage::Working(putter, _, _) => putter.is_ready(),
-            Stage::Ready(_, _, _) | Stage::Refused | Stage::Back(_) => true,
+            WriterStage::Working(putter, _, _) => putter.is_ready(),
+            WriterStage::Ready(_, _, _) | WriterStage::Refused | WriterStage::Back(_) => true,
         }
     }
 
     /// Waits for the thread, if it was started.
-    pub(crate) fn join<R: Threads + Wait>(self, rt: &R) -> Stage<K>
-        requires stands { Stands K.took K.faults K.finished self }
+    pub(crate) fn join<R: Threads + Wait>(self, rt: &R) -> WriterStage<K>
+        requires stands { WriterStands K.took K.faults K.finished self }
         requires may { may_join (line_of K.took K.faults K.finished self) ≡ true }
-        ensures stands { Stands K.took K.faults K.finished result }
+        ensures stands { WriterStands K.took K.faults K.finished result }
         ensures kept { line_of K.took K.faults K.finished result
             ≡ record (line_of K.took K.faults K.finished self) {
               behind =
@@ -196,13 +196,13 @@ impl<K: Sink + Drop> Stage<K> {
         ensures behind { IfSome (line_of K.took K.faults K.finished result).behind (IsBehind (line_of K.took K.faults K.finished result)) }
     {
         match self {
-            Stage::Working(putter, begun, task) => {
-                let done = task.join(rt).done(rt);
-                Stage::Back(joined(putter, begun, done))
+            WriterStage::Working(putter, begun, task) => {
+                let done = task.join(rt).take_result(rt);
+                WriterStage::Back(hand_back(putter, begun, done))
             }
-            Stage::Ready(putter, begun, task) => Stage::Ready(putter, begun, task),
-            Stage::Refused => Stage::Refused,
-            Stage::Back(back) => Stage::Back(back),
+            WriterStage::Ready(putter, begun, task) => WriterStage::Ready(putter, begun, task),
+            WriterStage::Refused => WriterStage::Refused,
+            WriterStage::Back(back) => WriterStage::Back(back),
         }
     }
 }
@@ -212,7 +212,7 @@ impl<K: Sink + Drop> Stage<K> {
 pub(crate) fn start_thread<K, P, W, R>(
     spawner: &mut P,
     work: WriterWork<K, W, R>,
-) -> Option<Task<Ending<WriterDone<K>>, WriterPromise<K>>>
+) -> Option<Task<ThreadEnding<WriterDone<K>>, WriterPromise<K>>>
 where
     K: Sink + Send + Drop + 'static,
     P: Spawner,
@@ -227,7 +227,7 @@ where
         lines: Snapshot::of(&*work.lines),
         begun: Snapshot::of(&work.outlet.sink),
     };
-    let run = move || -> Ending<WriterDone<K>>
+    let run = move || -> ThreadEnding<WriterDone<K>>
         requires { IsToBegin K.took K.faults work }
         ensures { OnDone (ThreadEnded K.took K.faults K.finished work.lines.value work.outlet.sink) result }
     { work.run() };
@@ -238,7 +238,11 @@ where
 }
 
 /// Puts the sides of each queue into one hand. The thread took all that was put.
-fn joined<K: Sink + Drop>(putter: Putter, begun: Snapshot<K>, done: WriterDone<K>) -> WriterBack<K>
+fn hand_back<K: Sink + Drop>(
+    putter: Putter,
+    begun: Snapshot<K>,
+    done: WriterDone<K>,
+) -> WriterBack<K>
     requires putting { IsPutting putter }
     requires over { putter.ended ≡ true }
     requires done { ThreadEnded K.took K.faults K.finished putter.lines.value begun.value done }

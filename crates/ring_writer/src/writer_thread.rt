@@ -1,8 +1,8 @@
 // The thread of a writer: it takes what the port put, and gives it to the sink.
-ghost use Rattle.std.specs.Prelude.{◌≡◌, ℕ, List, [], true, false, ◌++◌, ◌∷◌, ◌+◌, ◌≤◌, length, vec_len, vec_capacity, MatchOption};
+ghost use Rattle.std.specs.Prelude.{◌≡◌, ℕ, List, [], true, ◌++◌, ◌∷◌, ◌+◌, ◌≤◌, length, vec_len, vec_capacity, MatchOption};
 ghost use Rattle.crossbeam_queue.specs.Passes.{view, IsPassOf, IsSamePass};
 ghost use Rattle.ring_queue.specs.Order.{view_of};
-ghost use Rattle.ring_writer.specs.declared.writer_thread.Progress.TheVariants as steps;
+ghost use Rattle.ring_writer.specs.declared.writer_thread.ThreadProgress.TheVariants as steps;
 ghost use Rattle.ring_queue.specs.Endings.{OnDone};
 ghost use Rattle.ring_queue.specs.Items.{Follows, item_bytes, bytes_of, is_end_mark, last_is};
 ghost use Rattle.ring_writer.specs.WriterThread.{IsFinished, CanWork, KeepsTrue, IsToBegin, ThreadEnded};
@@ -10,7 +10,7 @@ ghost use Rattle.ring_writer.specs.WriterThread.{IsFinished, CanWork, KeepsTrue,
 use crate::writer_outlet::Outlet;
 use port_trait::{Sink, Wake};
 use ring_queue::{
-    CHUNK, Ending, Lines, OrderedPass, OrderedQueue, Pages, RingItem, SinkFault, Spent, put,
+    CHUNK, Lines, OrderedPass, OrderedQueue, Pages, RingItem, SinkFault, Spent, ThreadEnding, put,
     receive, take,
 };
 use std::alloc::Global;
@@ -50,13 +50,13 @@ pub(crate) struct WriterPromise<K> {
     pub(crate) begun: Snapshot<K>,
 }
 
-impl<K: Sink + Drop> Promise<Ending<WriterDone<K>>> for WriterPromise<K> {
+impl<K: Sink + Drop> Promise<ThreadEnding<WriterDone<K>>> for WriterPromise<K> {
     ghost kept_by = { λ promise ending. OnDone (ThreadEnded K.took K.faults K.finished promise.lines.value promise.begun.value) ending };
 }
 
 /// What came of a turn of the thread: it goes on, or the end mark was taken, or the port is gone.
 #[derive(Clone, Copy)]
-pub(crate) enum Progress {
+pub(crate) enum ThreadProgress {
     On,
     Ended,
     Gone,
@@ -64,26 +64,26 @@ pub(crate) enum Progress {
 
 impl<K: Sink + Drop, W: Wake + Drop, R: Wait + Copy> WriterWork<K, W, R> {
     /// Works until the end mark was taken, or until the port is gone and nothing of it is left to be taken.
-    pub(crate) fn run(mut self) -> Ending<WriterDone<K>>
+    pub(crate) fn run(mut self) -> ThreadEnding<WriterDone<K>>
         requires { IsToBegin K.took K.faults self }
         ensures { OnDone (ThreadEnded K.took K.faults K.finished self.lines.value self.outlet.sink) result }
     {
         let rt = self.rt;
         for _ in rt.forever() {
             match self.turn() {
-                Progress::On => continue,
-                Progress::Ended => {
+                ThreadProgress::On => continue,
+                ThreadProgress::Ended => {
                     self.finish();
-                    return Ending::Done(self.done());
+                    return ThreadEnding::Done(self.into_done());
                 }
-                Progress::Gone => return Ending::GaveUp,
+                ThreadProgress::Gone => return ThreadEnding::GaveUp,
             }
         }
         unreachable!()
     }
 
     /// Takes what lies ready, and gives it to the sink. Where the sink fails, what lies ready then is dropped.
-    fn turn(&mut self) -> Progress
+    fn turn(&mut self) -> ThreadProgress
         requires { CanWork self.old }
         ensures can { CanWork self.new }
         ensures keeps { KeepsTrue K.took K.faults self.old self.new }
@@ -103,13 +103,13 @@ impl<K: Sink + Drop, W: Wake + Drop, R: Wait + Copy> WriterWork<K, W, R> {
             return gathered;
         }
         match gathered {
-            Progress::On => {
+            ThreadProgress::On => {
                 let dropped = drop_ready(&rt, &self.lines, &mut self.taker, &mut self.spent);
                 complain(&rt, &self.lines.back, &mut self.sender);
                 self.tell();
                 dropped
             }
-            Progress::Ended | Progress::Gone => {
+            ThreadProgress::Ended | ThreadProgress::Gone => {
                 complain(&rt, &self.lines.back, &mut self.sender);
                 self.tell();
                 gathered
@@ -133,7 +133,7 @@ impl<K: Sink + Drop, W: Wake + Drop, R: Wait + Copy> WriterWork<K, W, R> {
         self.tell();
     }
 
-    fn done(self) -> WriterDone<K>
+    fn into_done(self) -> WriterDone<K>
         ensures { result ≡ record { outlet = self.outlet; taker = self.taker; sender = self.sender } }
     {
         let WriterWork {
@@ -170,7 +170,7 @@ fn gather<R: Wait>(
     taker: &mut OrderedPass<RingItem>,
     spent: &mut Spent,
     buffer: &mut Vec<u8>,
-) -> Progress
+) -> ThreadProgress
     requires pass { IsPassOf lines.now.items taker.old }
     requires takes { (view taker.old).takes ≡ true }
     requires room { GATHERED ≤ vec_capacity buffer.old }
@@ -183,10 +183,10 @@ fn gather<R: Wait>(
 {
     buffer.clear();
     let Some(first) = receive(rt, &lines.items, &lines.thread, &lines.state, taker) else {
-        return Progress::Gone;
+        return ThreadProgress::Gone;
     };
     if add(rt, &lines.pages, spent, buffer, first) {
-        return Progress::Ended;
+        return ThreadProgress::Ended;
     }
     gather_ready(rt, lines, taker, spent, buffer)
 }
@@ -198,7 +198,7 @@ fn gather_ready<R: Wait>(
     taker: &mut OrderedPass<RingItem>,
     spent: &mut Spent,
     buffer: &mut Vec<u8>,
-) -> Progress
+) -> ThreadProgress
     requires pass { IsPassOf lines.now.items taker.old }
     requires takes { (view taker.old).takes ≡ true }
     requires room { GATHERED ≤ vec_capacity buffer.old }
@@ -213,13 +213,13 @@ fn gather_ready<R: Wait>(
 {
     for i in 1..64usize {
         let Some(item) = take_soon(rt, &lines.items, taker, buffer.len()) else {
-            return Progress::On;
+            return ThreadProgress::On;
         };
         if add(rt, &lines.pages, spent, buffer, item) {
-            return Progress::Ended;
+            return ThreadProgress::Ended;
         }
     }
-    Progress::On
+    ThreadProgress::On
 }
 
 /// Takes an item that lies ready. After whole chunks more is to come, so it waits a short time for that. Then items
@@ -283,7 +283,7 @@ fn drop_ready<R: Wait>(
     lines: &Lines<SinkFault>,
     taker: &mut OrderedPass<RingItem>,
     spent: &mut Spent,
-) -> Progress
+) -> ThreadProgress
     requires pass { IsPassOf lines.now.items taker.old }
     requires takes { (view taker.old).takes ≡ true }
     ensures pass { IsPassOf lines.now.items taker.new }
@@ -293,13 +293,13 @@ fn drop_ready<R: Wait>(
 {
     for i in 0..64usize {
         let Some(item) = take(rt, &lines.items, taker) else {
-            return Progress::On;
+            return ThreadProgress::On;
         };
         if spent.take_item(rt, &lines.pages, item) {
-            return Progress::Ended;
+            return ThreadProgress::Ended;
         }
     }
-    Progress::On
+    ThreadProgress::On
 }
 
 /// Tells the port that the sink failed. Where as many such marks lie untaken as the queue holds, they tell it

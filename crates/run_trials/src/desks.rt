@@ -18,8 +18,8 @@ use std::sync::Wait;
 use std::thread::Threads;
 use std::time::Clock;
 use worked_rows::{
-    Input, Line, Look, Output, ROOM, Ran, Row, RowFault, Run, Setting, Streams, System,
-    carried_out, port_of, source_of,
+    DeskRun, Input, Line, Look, Output, ROOM, RowFault, RowSystem, RunResult, Setting, Streams,
+    WorkedRow, carry_out, port_of, source_of,
 };
 use world_trait::Recorder;
 
@@ -28,7 +28,7 @@ use world_trait::Recorder;
 pub(crate) struct Trial<'a, R> {
     pub(crate) rt: R,
     pub(crate) host: HostRuntime,
-    pub(crate) run: Run<'a>,
+    pub(crate) run: DeskRun<'a>,
     pub(crate) script: &'a [Line<'a>],
     pub(crate) setting: Setting<'a>,
 }
@@ -38,9 +38,9 @@ pub(crate) fn run_row<R>(
     rt: R,
     host: HostRuntime,
     alloc: Global,
-    row: &Row<'_>,
+    row: &WorkedRow<'_>,
     words: &[Text],
-) -> Result<Vec<Ran>, RowFault>
+) -> Result<Vec<RunResult>, RowFault>
 where
     R: Files + Net + Clock + Threads + Wait + Copy + Send + Drop + 'static,
 {
@@ -50,7 +50,7 @@ where
         let trial = Trial {
             rt,
             host,
-            run: Run::of(alloc, row, words, recorder),
+            run: DeskRun::of(alloc, row, words, recorder),
             script: row.script.as_slice(),
             setting,
         };
@@ -60,14 +60,14 @@ where
 }
 
 /// Runs the words once, and looks at the file that they are to leave.
-fn run_once<R>(trial: &Trial<'_, R>) -> Result<Ran, RowFault>
+fn run_once<R>(trial: &Trial<'_, R>) -> Result<RunResult, RowFault>
 where
     R: Files + Net + Clock + Threads + Wait + Copy + Send + Drop + 'static,
 {
     let file = trial.setting.file;
     remove(&trial.host, file);
     let mut ran = match trial.setting.system {
-        System::Served => beside_server(trial)?,
+        RowSystem::Served => beside_server(trial)?,
         _ => over_output(trial)?,
     };
     add_left(&trial.host, file, &mut ran)?;
@@ -75,7 +75,7 @@ where
 }
 
 /// Runs them beside a server, whose address stands in place of the last word.
-fn beside_server<R>(trial: &Trial<'_, R>) -> Result<Ran, RowFault>
+fn beside_server<R>(trial: &Trial<'_, R>) -> Result<RunResult, RowFault>
 where
     R: Files + Net + Clock + Threads + Wait + Copy + Send + Drop + 'static,
 {
@@ -87,12 +87,12 @@ where
     ran
 }
 
-fn over_words_to<R>(trial: &Trial<'_, R>, port: u16) -> Result<Ran, RowFault>
+fn over_words_to<R>(trial: &Trial<'_, R>, port: u16) -> Result<RunResult, RowFault>
 where
     R: Files + Net + Clock + Threads + Wait + Copy + Send + Drop + 'static,
 {
     let words = words_to(trial.run.alloc, trial.run.words, port)?;
-    let run = Run {
+    let run = DeskRun {
         words: words.as_slice(),
         ..trial.run
     };
@@ -115,7 +115,7 @@ fn words_to(alloc: Global, words: &[Text], port: u16) -> Result<Texts, NoMemory>
 }
 
 /// Over the streams of the row.
-fn over_output<R>(trial: &Trial<'_, R>) -> Result<Ran, RowFault>
+fn over_output<R>(trial: &Trial<'_, R>) -> Result<RunResult, RowFault>
 where
     R: Files + Net + Clock + Threads + Wait + Copy + Send + Drop + 'static,
 {
@@ -126,7 +126,7 @@ where
 }
 
 /// Over streams in memory.
-fn in_memory<R>(trial: &Trial<'_, R>) -> Result<Ran, RowFault>
+fn in_memory<R>(trial: &Trial<'_, R>) -> Result<RunResult, RowFault>
 where
     R: Files + Net + Clock + Threads + Copy + Drop,
 {
@@ -137,7 +137,7 @@ where
 }
 
 /// Over streams behind rings.
-fn behind_rings<R>(trial: &Trial<'_, R>, room: usize) -> Result<Ran, RowFault>
+fn behind_rings<R>(trial: &Trial<'_, R>, room: usize) -> Result<RunResult, RowFault>
 where
     R: Files + Net + Clock + Threads + Wait + Copy + Send + Drop + 'static,
 {
@@ -151,7 +151,7 @@ fn behind_gates<R>(
     trial: &Trial<'_, R>,
     source: MemSource,
     output: MemSink,
-) -> Result<Ran, RowFault>
+) -> Result<RunResult, RowFault>
 where
     R: Files + Net + Clock + Threads + Wait + Copy + Send + Drop + 'static,
 {
@@ -164,7 +164,12 @@ where
 }
 
 /// Over rings of a source and a sink.
-fn over_rings<R, S, K>(trial: &Trial<'_, R>, source: S, sink: K, tap: Tap) -> Result<Ran, RowFault>
+fn over_rings<R, S, K>(
+    trial: &Trial<'_, R>,
+    source: S,
+    sink: K,
+    tap: Tap,
+) -> Result<RunResult, RowFault>
 where
     R: Files + Net + Clock + Threads + Wait + Copy + Send + Drop + 'static,
     S: Source + Send + Drop + 'static,
@@ -190,14 +195,14 @@ fn over_streams<R, I: Port, O: Port>(
     trial: &Trial<'_, R>,
     streams: Streams<I, O>,
     tap: Tap,
-) -> Result<Ran, RowFault>
+) -> Result<RunResult, RowFault>
 where
     R: Files + Net + Clock + Threads + Copy + Drop,
     requires given { IfSome (I.seen streams.stdin).gave (λ all. all ≡ []) }
     requires taken { IfSome (O.seen streams.stdout).took (λ all. all ≡ []) }
 {
     match trial.setting.system {
-        System::Memory => over_memory(trial, streams, tap),
+        RowSystem::Memory => over_memory(trial, streams, tap),
         _ => over_program_maker(trial, streams, tap),
     }
 }
@@ -207,7 +212,7 @@ fn over_memory<R, I: Port, O: Port>(
     trial: &Trial<'_, R>,
     streams: Streams<I, O>,
     tap: Tap,
-) -> Result<Ran, RowFault>
+) -> Result<RunResult, RowFault>
     requires given { IfSome (I.seen streams.stdin).gave (λ all. all ≡ []) }
     requires taken { IfSome (O.seen streams.stdout).took (λ all. all ≡ []) }
 {
@@ -217,11 +222,11 @@ fn over_memory<R, I: Port, O: Port>(
 
 /// Over a maker of this port.
 fn over_made<I: Port, O: Port>(
-    run: Run<'_>,
+    run: DeskRun<'_>,
     streams: Streams<I, O>,
     tap: Tap,
     made: MemPort,
-) -> Result<Ran, RowFault>
+) -> Result<RunResult, RowFault>
     requires given { IfSome (I.seen streams.stdin).gave (λ all. all ≡ []) }
     requires taken { IfSome (O.seen streams.stdout).took (λ all. all ≡ []) }
 {
@@ -236,7 +241,7 @@ fn over_made<I: Port, O: Port>(
         },
     ];
     match maker_of(run.alloc, made) {
-        Ok(maker) => carried_out(run, streams, maker, MemPoller::new(), &looks),
+        Ok(maker) => carry_out(run, streams, maker, MemPoller::new(), &looks),
         Err(NoMemory) => Err(RowFault::Memory),
     }
 }

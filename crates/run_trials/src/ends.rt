@@ -1,12 +1,12 @@
 // A case of two ends on this machine: an address that listens, and one that connects.
 use crate::meetings::meet;
 use crate::servers::any_port;
-use crate::systems::{SystemPoller, system_poller, wake_of, watched_maker};
+use crate::systems::{ProgramPoller, system_poller, wake_of, watched_maker};
 use crate::talks::{Passing, talk};
 use crate::waits::Waits;
 use addr_grammar::{RawAddress, parse_address};
 use addr_kinds::{Asked, resolve};
-use case_rows::{Answered, Answers, Inputs, RowFault};
+use case_rows::{Answered, Answers, CaseFault, Inputs};
 use mio::net::{TcpListener, UdpSocket};
 use port_trait::{Maker, Poller, Wake};
 use relay_model::{NoMemory, Single};
@@ -48,7 +48,7 @@ where
     let _ = fs::remove_file(&host, ENTRY);
     match system_poller(rt, alloc) {
         Ok(poller) => talk_beside(rt, host, alloc, poller, &pair, answers),
-        Err(NoMemory) => Err(RowFault::NoMemory),
+        Err(NoMemory) => Err(CaseFault::NoMemory),
     }
 }
 
@@ -57,7 +57,7 @@ fn talk_beside<R>(
     rt: R,
     host: HostRuntime,
     alloc: Global,
-    poller: SystemPoller<R>,
+    poller: ProgramPoller<R>,
     pair: &Pair,
     answers: &mut Answers,
 ) -> Answered
@@ -95,9 +95,9 @@ fn pair_of<R: Net>(
     alloc: Global,
     part: &str,
     inputs: &mut Inputs<'_>,
-) -> Result<Pair, RowFault> {
-    let passing = passing_of(part).ok_or(RowFault::NoRow)?;
-    let port = free_port(rt, passing).ok().ok_or(RowFault::NoMemory)?;
+) -> Result<Pair, CaseFault> {
+    let passing = passing_of(part).ok_or(CaseFault::NoRow)?;
+    let port = free_port(rt, passing).ok().ok_or(CaseFault::NoMemory)?;
     Ok(Pair {
         passing,
         listening: address(alloc, inputs.word()?, port)?,
@@ -123,7 +123,7 @@ fn free_port<R: Net>(rt: &R, passing: Passing) -> io::Result<u16> {
 }
 
 /// The address that the word spells. `PORT` stands for the port.
-fn address(alloc: Global, word: &str, port: u16) -> Result<Single, RowFault> {
+fn address(alloc: Global, word: &str, port: u16) -> Result<Single, CaseFault> {
     let (front, rest) = word.split_once("PORT").unwrap_or((word, ""));
     let text = if front.len() < word.len() {
         format!(in alloc; "{front}{port}{rest}")?
@@ -133,11 +133,11 @@ fn address(alloc: Global, word: &str, port: u16) -> Result<Single, RowFault> {
     single_of(alloc, text.as_bytes())
 }
 
-fn single_of(alloc: Global, text: &[u8]) -> Result<Single, RowFault> {
+fn single_of(alloc: Global, text: &[u8]) -> Result<Single, CaseFault> {
     match parse_address(alloc, text) {
         Ok(RawAddress::One(raw)) => {
-            resolve(alloc, &raw, Asked::TwoWay, false).map_err(|_| RowFault::NoRow)
+            resolve(alloc, &raw, Asked::TwoWay, false).map_err(|_| CaseFault::NoRow)
         }
-        Ok(RawAddress::Two(..)) | Err(_) => Err(RowFault::NoRow),
+        Ok(RawAddress::Two(..)) | Err(_) => Err(CaseFault::NoRow),
     }
 }

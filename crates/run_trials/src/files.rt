@@ -1,7 +1,7 @@
 // The file that a run is to leave.
 use std::fs;
 use std::fs::Files;
-use worked_rows::{Ran, RowFault, taken_line};
+use worked_rows::{RowFault, RunResult, taken_line};
 
 /// Removes it, so that no earlier run's is found.
 pub(crate) fn remove<R: Files>(rt: &R, name: Option<&str>) {
@@ -14,7 +14,7 @@ pub(crate) fn remove<R: Files>(rt: &R, name: Option<&str>) {
 pub(crate) fn add_left<R: Files + AllocGlobal>(
     rt: &R,
     name: Option<&str>,
-    ran: &mut Ran,
+    ran: &mut RunResult,
 ) -> Result<(), RowFault> {
     let Some(name) = name else {
         return Ok(());

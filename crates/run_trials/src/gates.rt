@@ -18,26 +18,26 @@ const LOOKS: u32 = 5_000_000;
 
 /// Opened once, by one thread for another.
 #[derive(Drop)]
-pub(crate) struct Gate {
+pub(crate) struct FileGate {
     opened: Arc<AtomicU64, Global>,
 }
 
-impl Gate {
+impl FileGate {
     /// A gate that is shut.
-    fn shut(alloc: Global) -> Result<Gate, NoMemory> {
+    fn shut(alloc: Global) -> Result<FileGate, NoMemory> {
         match Arc::new(alloc, AtomicU64::new(0)) {
-            Ok(opened) => Ok(Gate { opened }),
+            Ok(opened) => Ok(FileGate { opened }),
             Err(_) => Err(NoMemory),
         }
     }
 
     /// Another hand on it, where one is wanted.
-    fn another_if(&self, is_wanted: bool) -> Result<Option<Gate>, NoMemory> {
+    fn another_if(&self, is_wanted: bool) -> Result<Option<FileGate>, NoMemory> {
         if !is_wanted {
             return Ok(None);
         }
         match Arc::try_clone(&self.opened) {
-            Ok(opened) => Ok(Some(Gate { opened })),
+            Ok(opened) => Ok(Some(FileGate { opened })),
             Err(_) => Err(NoMemory),
         }
     }
@@ -61,15 +61,15 @@ impl Gate {
 /// The hands on a row's gate: of its source, of its sink, and of the end of its run, which opens it for good.
 #[derive(Drop)]
 pub(crate) struct Gates {
-    pub(crate) source: Option<Gate>,
-    pub(crate) sink: Option<Gate>,
-    pub(crate) end: Gate,
+    pub(crate) source: Option<FileGate>,
+    pub(crate) sink: Option<FileGate>,
+    pub(crate) end: FileGate,
 }
 
 impl Gates {
     /// The gate of this input.
     pub(crate) fn of(alloc: Global, input: Input) -> Result<Gates, NoMemory> {
-        let end = Gate::shut(alloc)?;
+        let end = FileGate::shut(alloc)?;
         let source = end.another_if(matches!(input, Input::Gated | Input::Held))?;
         let sink = end.another_if(matches!(input, Input::Gated))?;
         Ok(Gates { source, sink, end })
@@ -79,14 +79,14 @@ impl Gates {
 /// A source in memory that waits at its gate, where it has one, and fails where that stays shut.
 #[derive(Drop)]
 pub(crate) struct GatedSource {
-    gate: Option<Gate>,
+    gate: Option<FileGate>,
     source: MemSource,
     faults: u64,
     ends: u64,
 }
 
 impl GatedSource {
-    pub(crate) fn new(gate: Option<Gate>, source: MemSource) -> GatedSource {
+    pub(crate) fn new(gate: Option<FileGate>, source: MemSource) -> GatedSource {
         GatedSource {
             gate,
             source,
@@ -130,12 +130,12 @@ impl Source for GatedSource {
 /// A sink in memory that opens its gate, where it has one, once it took the key.
 #[derive(Drop)]
 pub(crate) struct OpeningSink {
-    gate: Option<Gate>,
+    gate: Option<FileGate>,
     sink: MemSink,
 }
 
 impl OpeningSink {
-    pub(crate) fn new(gate: Option<Gate>, sink: MemSink) -> OpeningSink {
+    pub(crate) fn new(gate: Option<FileGate>, sink: MemSink) -> OpeningSink {
         OpeningSink { gate, sink }
     }
 

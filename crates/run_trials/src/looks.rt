@@ -1,9 +1,9 @@
 // Looks at sessions in some of the turns of a run.
 ghost use Rattle.std.specs.Prelude.{◌≡◌};
-ghost use Rattle.relay_model.specs.declared.places.Place.{Place as Spot};
+ghost use Rattle.relay_model.specs.declared.places.Place.{Place};
 ghost use Rattle.relay_model.specs.Configs.{Fit};
 ghost use Rattle.relay_model.specs.Holding.{Free};
-ghost use Rattle.event_loop.specs.Loops.{Somewhere};
+ghost use Rattle.event_loop.specs.Loops.{LoopSomewhere};
 
 use event_loop::{Loop, Step};
 use fork_table::Steps;
@@ -65,9 +65,9 @@ pub(crate) fn looks_seldom<W: Journaled>(
     bound: Bound,
 ) -> Result<bool, NoMemory>
     requires fit { Fit config.now }
-    requires free { (p : Spot) → (W.seen world.old).held p ≡ Free }
+    requires free { (p : Place) → (W.seen world.old).held p ≡ Free }
 {
-    let mut whole = Loop::limited(alloc, config, turns)?;
+    let mut whole = Loop::with_turns(alloc, config, turns)?;
     let looks = count_looks::<W, Brand>(Blank::new(1), &mut whole, world, turns, bound);
     Ok(looks < bound.too_many)
 }
@@ -82,7 +82,7 @@ fn count_looks<W: Journaled, L: Ledger>(
 ) -> u64
     requires name { blank.name ≡ L.name }
     requires parts { blank.parts ≡ L.parts }
-    requires some { Somewhere (W.seen world.old) whole.old }
+    requires some { LoopSomewhere (W.seen world.old) whole.old }
 {
     let (book, _share) = blank.open::<L>();
     let mut steps = Steps::new(book);

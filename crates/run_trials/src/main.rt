@@ -10,7 +10,6 @@ mod gates;
 mod looks;
 mod meetings;
 mod pollers;
-mod relays;
 mod replays;
 mod replies;
 mod scripted;
@@ -26,7 +25,7 @@ use std::alloc::Global;
 use std::env::Env;
 use std::process::ExitCode;
 use std::{env, io};
-use worked_rows::{Row, check_files};
+use worked_rows::{WorkedRow, check_files};
 
 /// The files of rows, by the folder that they stand in.
 #[derive(Drop)]
@@ -69,7 +68,7 @@ fn row_files<R: Env + AllocGlobal>(rt: &R) -> io::Result<RowFiles> {
 
 fn main(rt: HostRuntime) -> io::Result<ExitCode> {
     let files = row_files(&rt)?;
-    let over_desk = |alloc: Global, row: &Row<'_>, words: &[Text]| desks::run_row(
+    let over_desk = |alloc: Global, row: &WorkedRow<'_>, words: &[Text]| desks::run_row(
         rt, rt, alloc, row, words,
     );
     let ask = |alloc: Global, part: &str, inputs: &mut Inputs<

@@ -2,7 +2,7 @@
 use crate::ends::Pair;
 use crate::talks::say;
 use crate::waits::{MOST, Waits};
-use case_rows::RowFault;
+use case_rows::CaseFault;
 use port_trait::{Begun, MadePeer, Maker, Making, Poller, Port, Settled};
 use relay_model::{Part, Place, Side, Single};
 
@@ -16,7 +16,7 @@ const CALLER: Place = Place {
 
 /// The ends.
 #[derive(Drop)]
-pub(crate) struct Ends<Q: Drop> {
+pub(crate) struct MeetingEnds<Q: Drop> {
     pub(crate) peer: Q,
     pub(crate) caller: Q,
 }
@@ -26,7 +26,7 @@ pub(crate) fn meet<M: Maker, P: Poller>(
     maker: &mut M,
     waits: &mut Waits<P>,
     pair: &Pair,
-) -> Result<Option<Ends<M::Made>>, RowFault> {
+) -> Result<Option<MeetingEnds<M::Made>>, CaseFault> {
     let Some(mut door) = listen(maker, &pair.listening) else {
         return Ok(None);
     };
@@ -37,7 +37,7 @@ pub(crate) fn meet<M: Maker, P: Poller>(
         return Ok(None);
     }
     let peer = accept(maker, waits, &mut door)?;
-    Ok(peer.map(|peer| Ends { peer, caller }))
+    Ok(peer.map(|peer| MeetingEnds { peer, caller }))
 }
 
 /// The door of this address.
@@ -57,7 +57,7 @@ fn connect<M: Maker>(maker: &mut M, single: &Single) -> Option<M::Made> {
 }
 
 /// Whether the port is ready after a while.
-fn is_ready<Q: Port, P: Poller>(port: &mut Q, waits: &mut Waits<P>) -> Result<bool, RowFault> {
+fn is_ready<Q: Port, P: Poller>(port: &mut Q, waits: &mut Waits<P>) -> Result<bool, CaseFault> {
     for _ in 0..MOST {
         match port.settle() {
             Settled::Ready => return Ok(true),
@@ -73,7 +73,7 @@ fn accept<M: Maker, P: Poller>(
     maker: &mut M,
     waits: &mut Waits<P>,
     door: &mut M::Made,
-) -> Result<Option<M::Made>, RowFault> {
+) -> Result<Option<M::Made>, CaseFault> {
     for _ in 0..MOST {
         match maker.accept(door, 2) {
             MadePeer::Came(port, _) => return Ok(begin(port)),

@@ -12,21 +12,21 @@ const SOON: u64 = 10;
 
 /// One of three pollers.
 #[derive(Drop)]
-pub(crate) enum Waiter<A, B, C> {
+pub(crate) enum AnyPoller<A, B, C> {
     Watching(A),
     InMemory(B),
     Ticking(C),
 }
 
-impl<A: Poller, B: Poller, C: Poller> Waiter<A, B, C> {
+impl<A: Poller, B: Poller, C: Poller> AnyPoller<A, B, C> {
     fn poll(&mut self, until: Option<u64>, ready: &mut KeyList) -> Polled
         requires { 256 ≤ ready.old.room }
         ensures { ready.new.room ≡ ready.old.room }
     {
         match self {
-            Waiter::Watching(poller) => poller.poll(until, ready),
-            Waiter::InMemory(poller) => poller.poll(until, ready),
-            Waiter::Ticking(poller) => poller.poll(until, ready),
+            AnyPoller::Watching(poller) => poller.poll(until, ready),
+            AnyPoller::InMemory(poller) => poller.poll(until, ready),
+            AnyPoller::Ticking(poller) => poller.poll(until, ready),
         }
     }
 }
@@ -34,7 +34,7 @@ impl<A: Poller, B: Poller, C: Poller> Waiter<A, B, C> {
 /// Waits as the poller of its row does. Beside a server it never waits for long, and says stop after many polls.
 #[derive(Drop)]
 pub(crate) struct RowPoller<A, B, C> {
-    waiter: Waiter<A, B, C>,
+    waiter: AnyPoller<A, B, C>,
     beside_server: bool,
     polls: u64,
     asked: Option<u64>,
@@ -43,7 +43,7 @@ pub(crate) struct RowPoller<A, B, C> {
 }
 
 impl<A, B, C> RowPoller<A, B, C> {
-    pub(crate) fn new(waiter: Waiter<A, B, C>, beside_server: bool) -> RowPoller<A, B, C> {
+    pub(crate) fn new(waiter: AnyPoller<A, B, C>, beside_server: bool) -> RowPoller<A, B, C> {
         RowPoller {
             waiter,
             beside_server,

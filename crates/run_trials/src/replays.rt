@@ -1,11 +1,9 @@
 // A command and the answers to its session: how many fitted, the wish after them with what it offers, and the history.
-ghost use Rattle.std.specs.Prelude.{◌≡◌, false};
-ghost use Rattle.relay_model.specs.declared.commands.Dump.TheVariants as dumps;
-ghost use Rattle.relay_model.specs.Configs.{Fit, has_fork};
+ghost use Rattle.relay_model.specs.Configs.{Fit};
 
-use crate::relays::relay_of;
 use crate::replies::{reply_of, say_wish};
-use case_rows::{Answered, Answers, Inputs, RowFault, bytes_of};
+use case_rows::{Answered, Answers, CaseFault, Inputs, bytes_of};
+use cmd_words::relay_of;
 use command_places::has_fork;
 use journal_text::write_journal;
 use relay_model::{Config, Dump, NoMemory, Text, Texts};
@@ -14,9 +12,13 @@ use std::alloc::Global;
 
 pub(crate) fn ask(alloc: Global, inputs: &mut Inputs<'_>, answers: &mut Answers) -> Answered {
     let words = words_of(alloc, inputs)?;
-    match relay_of(alloc, words.as_slice()) {
-        Some(config) => ask_config(alloc, &config, inputs, answers),
-        None => Err(RowFault::NoRow),
+    match relay_of(alloc, words.as_slice())? {
+        Some(config) => {
+            let told = ask_config(alloc, &config, inputs, answers);
+            drop(config);
+            told
+        }
+        None => Err(CaseFault::NoRow),
     }
 }
 
@@ -33,7 +35,7 @@ fn ask_config(
 }
 
 /// The words of the command, up to `answers`.
-fn words_of(alloc: Global, inputs: &mut Inputs<'_>) -> Result<Texts, RowFault> {
+fn words_of(alloc: Global, inputs: &mut Inputs<'_>) -> Result<Texts, CaseFault> {
     let mut words = Texts::new(alloc);
     for _ in 0..u64::MAX {
         let word = inputs.word()?;
@@ -42,15 +44,15 @@ fn words_of(alloc: Global, inputs: &mut Inputs<'_>) -> Result<Texts, RowFault> {
         }
         words.push(text_of(alloc, word)?)?;
     }
-    Err(RowFault::NoRow)
+    Err(CaseFault::NoRow)
 }
 
-fn text_of(alloc: Global, word: &str) -> Result<Text, RowFault> {
+fn text_of(alloc: Global, word: &str) -> Result<Text, CaseFault> {
     let bytes = bytes_of(alloc, word)?;
     Ok(Text::of(alloc, bytes.as_slice())?)
 }
 
-fn replies_of(alloc: Global, inputs: &mut Inputs<'_>) -> Result<Vec<Reply>, RowFault> {
+fn replies_of(alloc: Global, inputs: &mut Inputs<'_>) -> Result<Vec<Reply>, CaseFault> {
     let mut replies = Vec::new(alloc);
     for _ in 0..u64::MAX {
         let Some(word) = inputs.step() else {
@@ -65,11 +67,11 @@ fn tell(alloc: Global, config: &Config, replies: &[Reply], answers: &mut Answers
     requires { Fit config.now }
 {
     if has_fork(config) || config.dump != Dump::Off {
-        return Err(RowFault::NoRow);
+        return Err(CaseFault::NoRow);
     }
     match replay(alloc, config, replies) {
         Ok(replayed) => tell_replayed(alloc, &replayed, answers),
-        Err(NoMemory) => Err(RowFault::NoMemory),
+        Err(NoMemory) => Err(CaseFault::NoMemory),
     }
 }
 

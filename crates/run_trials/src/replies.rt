@@ -1,5 +1,5 @@
 // Words of the rows that stand for answers and wishes.
-use case_rows::{Answers, RowFault, bytes_of, step_parts};
+use case_rows::{Answers, CaseFault, bytes_of, step_parts};
 use relay_model::{Bytes, Peer, ReadyList};
 use relay_session::Wish;
 use session_replay::Reply;
@@ -7,7 +7,7 @@ use std::alloc::Global;
 
 /// An answer: `good:BYTES`, `plain`, `empty`, `end`, `not-yet`, `failed`, `local` (a peer), `turn:MOMENT` or
 /// `stop:MOMENT`.
-pub(crate) fn reply_of(alloc: Global, word: &str) -> Result<Reply, RowFault> {
+pub(crate) fn reply_of(alloc: Global, word: &str) -> Result<Reply, CaseFault> {
     let (name, value) = step_parts(word);
     match name {
         "good" => {
@@ -22,11 +22,11 @@ pub(crate) fn reply_of(alloc: Global, word: &str) -> Result<Reply, RowFault> {
         "local" => Ok(Reply::Peer(Peer::Local)),
         "turn" => turn_of(alloc, value, false),
         "stop" => turn_of(alloc, value, true),
-        _ => Err(RowFault::NoRow),
+        _ => Err(CaseFault::NoRow),
     }
 }
 
-fn turn_of(alloc: Global, value: &str, stop: bool) -> Result<Reply, RowFault> {
+fn turn_of(alloc: Global, value: &str, stop: bool) -> Result<Reply, CaseFault> {
     let at = value.parse::<u64>()?;
     let ready = ReadyList::new(alloc)?;
     Ok(Reply::Turn { at, ready, stop })
@@ -36,8 +36,8 @@ fn turn_of(alloc: Global, value: &str, stop: bool) -> Result<Reply, RowFault> {
 pub(crate) fn say_wish(wish: &Wish, answers: &mut Answers) {
     let name = wish_name(wish);
     match wish {
-        Wish::Read { at_most, .. } => answers.counted(name, *at_most as u64),
-        Wish::Sleep { until: Some(until) } => answers.counted(name, *until),
+        Wish::Read { at_most, .. } => answers.word_and_number(name, *at_most as u64),
+        Wish::Sleep { until: Some(until) } => answers.word_and_number(name, *until),
         _ => answers.word(name),
     }
 }

@@ -1,23 +1,23 @@
 // Runs over a scripted world.
 ghost use Rattle.std.specs.Prelude.{◌≡◌};
-ghost use Rattle.relay_model.specs.declared.places.Place.{Place as Spot};
+ghost use Rattle.relay_model.specs.declared.places.Place.{Place};
 ghost use Rattle.relay_model.specs.Configs.{Fit};
 ghost use Rattle.relay_model.specs.Holding.{Free};
 
 use crate::looks::{Bound, Journaled, looks_seldom};
-use crate::relays::relay_of;
+use cmd_words::relay_of;
 use exit_status::status;
 use relay_model::{Bytes, Config, Text};
 use socat_top::{Saving, socat};
 use std::alloc::Global;
-use worked_rows::{Line, Ran, Row, RowFault, part, world_of};
+use worked_rows::{Line, RowFault, RunResult, WorkedRow, part, world_of};
 
 /// Runs the words of the row, and again for each line that bounds its looks at sessions.
 pub(crate) fn run_scripted(
     alloc: Global,
-    row: &Row<'_>,
+    row: &WorkedRow<'_>,
     words: &[Text],
-) -> Result<Vec<Ran>, RowFault> {
+) -> Result<Vec<RunResult>, RowFault> {
     let mut ran = run_script(alloc, row, words)?;
     for line in row.over.as_slice() {
         ran.ports.push(look_line(alloc, row, words, *line)?)?;
@@ -25,7 +25,7 @@ pub(crate) fn run_scripted(
     Ok(Vec::from_array(alloc, [ran])?)
 }
 
-fn run_script(alloc: Global, row: &Row<'_>, words: &[Text]) -> Result<Ran, RowFault> {
+fn run_script(alloc: Global, row: &WorkedRow<'_>, words: &[Text]) -> Result<RunResult, RowFault> {
     let mut world = world_of(alloc, row.script.as_slice())?;
     run_over(alloc, &mut world, words, row.turns)
 }
@@ -36,12 +36,12 @@ fn run_over<W: Journaled>(
     world: &mut W,
     words: &[Text],
     turns: u64,
-) -> Result<Ran, RowFault>
-    requires { (p : Spot) → (W.seen world.old).held p ≡ Free }
+) -> Result<RunResult, RowFault>
+    requires { (p : Place) → (W.seen world.old).held p ≡ Free }
 {
     let outcome = socat(alloc, world, words, turns);
     let parted = part(alloc, world.acts())?;
-    Ok(Ran {
+    Ok(RunResult {
         outcome,
         status: status(&outcome),
         said: parted.note,
@@ -55,13 +55,17 @@ fn run_over<W: Journaled>(
 /// What is said of the looks that the line bounds.
 fn look_line(
     alloc: Global,
-    row: &Row<'_>,
+    row: &WorkedRow<'_>,
     words: &[Text],
     line: Line<'_>,
 ) -> Result<String, RowFault> {
     let bound = Bound::of(line)?;
-    match relay_of(alloc, words) {
-        Some(config) => looks_text(alloc, row, &config, bound),
+    match relay_of(alloc, words)? {
+        Some(config) => {
+            let text = looks_text(alloc, row, &config, bound);
+            drop(config);
+            text
+        }
         None => Err(line.fault()),
     }
 }
@@ -69,7 +73,7 @@ fn look_line(
 /// Whether a run of the command looks seldom enough, as rows ask for it.
 fn looks_text(
     alloc: Global,
-    row: &Row<'_>,
+    row: &WorkedRow<'_>,
     config: &Config,
     bound: Bound,
 ) -> Result<String, RowFault>

@@ -2,7 +2,7 @@
 ghost use Rattle.std.specs.Prelude.{◌≡◌, [], IfSome};
 
 use crate::desks::Trial;
-use crate::pollers::{RowPoller, Waiter};
+use crate::pollers::{AnyPoller, RowPoller};
 use mio_poller::{MioPoller, MioWake, TickPoller};
 use port_objects::{MemPoller, Tap};
 use port_trait::{Maker, Making, Poller, Port};
@@ -15,16 +15,16 @@ use std::net::Net;
 use std::rt::HostRuntime;
 use std::thread::Threads;
 use std::time::Clock;
-use worked_rows::{Look, Ran, RowFault, Run, Streams, System, carried_out};
+use worked_rows::{DeskRun, Look, RowFault, RowSystem, RunResult, Streams, carry_out};
 
 /// The program's poller.
-pub(crate) type SystemPoller<R> = PeerPoller<MioPoller<R>>;
+pub(crate) type ProgramPoller<R> = PeerPoller<MioPoller<R>>;
 
 /// The poller beneath that of a row.
-type AnyWaiter<R> = Waiter<SystemPoller<R>, MemPoller, TickPoller<R>>;
+type AnyWaiter<R> = AnyPoller<ProgramPoller<R>, MemPoller, TickPoller<R>>;
 
 /// What was made. Rows have no word for a system that refuses it.
-fn made<T: Drop>(making: Making<T>) -> Result<T, NoMemory> {
+fn take_made<T: Drop>(making: Making<T>) -> Result<T, NoMemory> {
     match making {
         Making::Made(made) => Ok(made),
         Making::Later(_) | Making::Failed | Making::Memory => Err(NoMemory),
@@ -35,8 +35,8 @@ fn made<T: Drop>(making: Making<T>) -> Result<T, NoMemory> {
 pub(crate) fn system_poller<R: Net + Clock + Drop>(
     rt: R,
     alloc: Global,
-) -> Result<SystemPoller<R>, NoMemory> {
-    match made(MioPoller::new(rt, alloc)) {
+) -> Result<ProgramPoller<R>, NoMemory> {
+    match take_made(MioPoller::new(rt, alloc)) {
         Ok(poller) => PeerPoller::new(alloc, poller),
         Err(NoMemory) => Err(NoMemory),
     }
@@ -44,9 +44,9 @@ pub(crate) fn system_poller<R: Net + Clock + Drop>(
 
 /// What wakes that poller.
 pub(crate) fn wake_of<R: Net + Clock + Drop>(
-    poller: &SystemPoller<R>,
+    poller: &ProgramPoller<R>,
 ) -> Result<MioWake, NoMemory> {
-    made(poller.beneath().wake())
+    take_made(poller.beneath().wake())
 }
 
 /// The program's maker, beside its poller.
@@ -54,27 +54,29 @@ pub(crate) fn watched_maker<R>(
     rt: R,
     host: HostRuntime,
     alloc: Global,
-    poller: &SystemPoller<R>,
+    poller: &ProgramPoller<R>,
 ) -> Result<RealMaker<R>, NoMemory>
 where
     R: Files + Net + Clock + Threads + Copy + Drop,
 {
-    made(RealMaker::on(rt, host, alloc, poller))
+    take_made(RealMaker::on(rt, host, alloc, poller))
 }
 
 /// What waits in the runs of the row.
 fn waiter_of<R: Net + Clock + Copy + Drop>(
     rt: R,
     alloc: Global,
-    system: System,
+    system: RowSystem,
 ) -> Result<AnyWaiter<R>, NoMemory> {
     match system {
-        System::Watched | System::Served => Ok(Waiter::Watching(system_poller(rt, alloc)?)),
-        System::Ticking => match TickPoller::new(rt) {
-            Ok(poller) => Ok(Waiter::Ticking(poller)),
+        RowSystem::Watched | RowSystem::Served => Ok(AnyPoller::Watching(system_poller(
+            rt, alloc,
+        )?)),
+        RowSystem::Ticking => match TickPoller::new(rt) {
+            Ok(poller) => Ok(AnyPoller::Ticking(poller)),
             Err(_) => Err(NoMemory),
         },
-        System::Unwatched | System::Memory => Ok(Waiter::InMemory(MemPoller::new())),
+        RowSystem::Unwatched | RowSystem::Memory => Ok(AnyPoller::InMemory(MemPoller::new())),
     }
 }
 
@@ -84,9 +86,9 @@ where
     R: Files + Net + Clock + Threads + Copy + Drop,
 {
     match waiter {
-        Waiter::Watching(poller) => watched_maker(trial.rt, trial.host, trial.run.alloc, poller),
-        Waiter::InMemory(_) | Waiter::Ticking(_) => {
-            made(RealMaker::new(trial.rt, trial.host, trial.run.alloc))
+        AnyPoller::Watching(poller) => watched_maker(trial.rt, trial.host, trial.run.alloc, poller),
+        AnyPoller::InMemory(_) | AnyPoller::Ticking(_) => {
+            take_made(RealMaker::new(trial.rt, trial.host, trial.run.alloc))
         }
     }
 }
@@ -96,7 +98,7 @@ pub(crate) fn over_program_maker<R, I: Port, O: Port>(
     trial: &Trial<'_, R>,
     streams: Streams<I, O>,
     tap: Tap,
-) -> Result<Ran, RowFault>
+) -> Result<RunResult, RowFault>
 where
     R: Files + Net + Clock + Threads + Copy + Drop,
     requires given { IfSome (I.seen streams.stdin).gave (λ all. all ≡ []) }
@@ -114,13 +116,13 @@ fn beside_waiter<R, I: Port, O: Port>(
     streams: Streams<I, O>,
     tap: Tap,
     waiter: AnyWaiter<R>,
-) -> Result<Ran, RowFault>
+) -> Result<RunResult, RowFault>
 where
     R: Files + Net + Clock + Threads + Copy + Drop,
     requires given { IfSome (I.seen streams.stdin).gave (λ all. all ≡ []) }
     requires taken { IfSome (O.seen streams.stdout).took (λ all. all ≡ []) }
 {
-    let is_served = matches!(trial.setting.system, System::Served);
+    let is_served = matches!(trial.setting.system, RowSystem::Served);
     match maker_beside(trial, &waiter) {
         Ok(maker) => over(
             trial.run,
@@ -135,12 +137,12 @@ where
 
 /// The same over any maker and any poller.
 fn over<M, P, I: Port, O: Port>(
-    run: Run<'_>,
+    run: DeskRun<'_>,
     streams: Streams<I, O>,
     tap: Tap,
     maker: M,
     poller: P,
-) -> Result<Ran, RowFault>
+) -> Result<RunResult, RowFault>
 where
     M: Maker + Drop,
     P: Poller + Drop,
@@ -151,5 +153,5 @@ where
         name: "stdout",
         tap,
     }];
-    carried_out(run, streams, maker, poller, &looks)
+    carry_out(run, streams, maker, poller, &looks)
 }

@@ -1,9 +1,9 @@
 // What two ends say to each other.
 ghost use Rattle.std.specs.Prelude.{◌<◌, length};
 
-use crate::meetings::Ends;
+use crate::meetings::MeetingEnds;
 use crate::waits::{MOST, Waits};
-use case_rows::{Answered, Answers, RowFault};
+use case_rows::{Answered, Answers, CaseFault};
 use port_trait::{Got, Poller, Port, Took};
 use relay_model::Shut;
 
@@ -17,7 +17,7 @@ pub(crate) enum Passing {
 
 /// The peer hears what was said to it, and answers. What each heard is told, and whether each heard the other's end.
 pub(crate) fn talk<Q: Port, P: Poller>(
-    ends: &mut Ends<Q>,
+    ends: &mut MeetingEnds<Q>,
     waits: &mut Waits<P>,
     passing: Passing,
     answers: &mut Answers,
@@ -47,7 +47,7 @@ fn tell<Q: Port, P: Poller>(
     waits: &mut Waits<P>,
     passing: Passing,
     answers: &mut Answers,
-) -> Result<bool, RowFault> {
+) -> Result<bool, CaseFault> {
     let mut heard = Vec::new(waits.alloc());
     let ended = hear(port, waits, passing, &mut heard)?;
     answers.bytes(heard.as_slice());
@@ -60,7 +60,7 @@ fn hear<Q: Port, P: Poller>(
     waits: &mut Waits<P>,
     passing: Passing,
     into: &mut Vec<u8>,
-) -> Result<bool, RowFault> {
+) -> Result<bool, CaseFault> {
     let mut block = [0u8; 64];
     for _ in 0..MOST {
         match port.read(&mut block) {
@@ -83,7 +83,7 @@ pub(crate) fn say<Q: Port, P: Poller>(
     port: &mut Q,
     waits: &mut Waits<P>,
     bytes: &[u8],
-) -> Result<bool, RowFault>
+) -> Result<bool, CaseFault>
     requires { 0 < length bytes.now }
 {
     for _ in 0..MOST {

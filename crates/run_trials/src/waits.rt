@@ -1,5 +1,5 @@
 // Short waits, one after another.
-use case_rows::RowFault;
+use case_rows::CaseFault;
 use port_trait::{KeyList, Poller};
 use std::alloc::Global;
 
@@ -30,13 +30,13 @@ impl<P: Poller> Waits<P> {
     }
 
     /// Waits for a millisecond at most.
-    pub(crate) fn rest(&mut self) -> Result<(), RowFault> {
+    pub(crate) fn rest(&mut self) -> Result<(), CaseFault> {
         self.wait(1)?;
         Ok(())
     }
 
     /// Waits for so many milliseconds at most. Whether it was ended before.
-    pub(crate) fn wait(&mut self, longest: u64) -> Result<bool, RowFault> {
+    pub(crate) fn wait(&mut self, longest: u64) -> Result<bool, CaseFault> {
         let mut keys = KeyList::new(self.alloc)?;
         let until = self.at.saturating_add(longest);
         self.at = self.poller.poll(Some(until), &mut keys).at;

@@ -9,9 +9,9 @@ use Rattle.relay_model.specs.declared.places.Half.TheVariants.{ToRead, ToWrite}
 use Rattle.relay_model.specs.declared.readiness.ReadyAt.{ReadyAt}
 use Rattle.relay_model.specs.Places.{same_place}
 use Rattle.relay_model.specs.Holding.{Hold, Free, Settling, Open, ShutDown, is_free, is_open}
-use Rattle.scripted_world.specs.declared.looking.Looked.{Looked}
-use Rattle.scripted_world.specs.declared.looking.Watch.{Watch}
-use Rattle.scripted_world.specs.declared.looking.Watch.TheVariants as watches
+use Rattle.scripted_world.specs.declared.looking.LookedAt.{LookedAt}
+use Rattle.scripted_world.specs.declared.looking.WatchKind.{WatchKind}
+use Rattle.scripted_world.specs.declared.looking.WatchKind.TheVariants as watches
 use Rattle.scripted_world.specs.declared.script.Script.{Script}
 use Rattle.world_trait.specs.Answers.{NamesHeld}
 use Rattle.world_trait.specs.HoldTables.{SetsHold}
@@ -19,7 +19,7 @@ use Rattle.scripted_world.specs.Looks.{LooksAtHeld, elsewhere, name_of, openings
 use Rattle.scripted_world.specs.Scripts.{is_ready, ready_ones}
 use Rattle.world_trait.proofs.TableLemmas.{same_place-eq, same_place-same, sets_here}
 
-abbrev AtHeld : (Place → Hold) → Looked → Type 0
+abbrev AtHeld : (Place → Hold) → LookedAt → Type 0
 AtHeld held entry = is_free (held entry.place) ≡ false
 
 stays_held : (b : Bool) (hold before after : Hold) → is_free hold ≡ false → after ≡ (if b then hold else before) → is_free before ≡ false → is_free after ≡ false
@@ -27,7 +27,7 @@ stays_held true hold before after held e stays = ap is_free e ∙ held
 stays_held false hold before after held e stays = ap is_free e ∙ stays
 
 -- a place that is held from now on takes nothing away
-pub looks-set : (place : Place) (hold : Hold) (before after : Place → Hold) (looked : List Looked) → is_free hold ≡ false → SetsHold place hold before after → LooksAtHeld before looked → LooksAtHeld after looked
+pub looks-set : (place : Place) (hold : Hold) (before after : Place → Hold) (looked : List LookedAt) → is_free hold ≡ false → SetsHold place hold before after → LooksAtHeld before looked → LooksAtHeld after looked
 looks-set place hold before after looked held sets looks =
     All-weaker (AtHeld before) (AtHeld after) (λ e. stays_held (same_place place e.place) hold (before e.place) (after e.place) held (sets e.place)) looked looks
 
@@ -41,7 +41,7 @@ stays_elsewhere place other hold before after true same apart e stays = absurd (
 stays_elsewhere place other hold before after false same apart e stays = ap is_free e ∙ stays
 
 -- whatever becomes of a place, what is looked at elsewhere stays at what is held
-pub looks-elsewhere : (place : Place) (hold : Hold) (before after : Place → Hold) (looked : List Looked) → SetsHold place hold before after → LooksAtHeld before looked → LooksAtHeld after (elsewhere looked place)
+pub looks-elsewhere : (place : Place) (hold : Hold) (before after : Place → Hold) (looked : List LookedAt) → SetsHold place hold before after → LooksAtHeld before looked → LooksAtHeld after (elsewhere looked place)
 looks-elsewhere place hold before after looked sets looks = λ k d within.
     let x = get_or (elsewhere looked place) k d in
     stays_elsewhere place x.place hold (before x.place) (after x.place) (same_place place x.place) refl (filter_passes (λ entry. not (same_place entry.place place)) looked k d within) (sets x.place) (All-filter (λ entry. not (same_place entry.place place)) (AtHeld before) looked looks k d within)
@@ -52,17 +52,17 @@ looks-openings_by held place Reading here = All-cons (AtHeld held) (record { pla
 looks-openings_by held place Writing here = All-cons (AtHeld held) (record { place = place; watch = watches.Opening ToWrite }) [] here (All-nil (AtHeld held))
 
 -- an opening that is under way is looked at where it is held
-pub looks-opening : (place : Place) (hold : Hold) (before after : Place → Hold) (looked : List Looked) → is_free hold ≡ false → SetsHold place hold before after → LooksAtHeld before looked → LooksAtHeld after (elsewhere looked place ++ openings_at place)
+pub looks-opening : (place : Place) (hold : Hold) (before after : Place → Hold) (looked : List LookedAt) → is_free hold ≡ false → SetsHold place hold before after → LooksAtHeld before looked → LooksAtHeld after (elsewhere looked place ++ openings_at place)
 looks-opening place hold before after looked held sets looks =
     let here : is_free (after place) ≡ false = ap is_free (sets_here place hold before after sets) ∙ held in
     All-append (AtHeld after) (elsewhere looked place) (openings_at place) (looks-elsewhere place hold before after looked sets looks) (looks-openings_by after place place.part here)
 
 -- without some of it the rest stays
-pub looks-some : (held : Place → Hold) (test : Looked → Bool) (looked : List Looked) → LooksAtHeld held looked → LooksAtHeld held (filter test looked)
+pub looks-some : (held : Place → Hold) (test : LookedAt → Bool) (looked : List LookedAt) → LooksAtHeld held looked → LooksAtHeld held (filter test looked)
 looks-some held test looked looks = All-filter test (AtHeld held) looked looks
 
 -- one more thing of what is held
-pub looks-more : (held : Place → Hold) (test : Looked → Bool) (looked : List Looked) (place : Place) (watch : Watch) → is_free (held place) ≡ false → LooksAtHeld held looked → LooksAtHeld held (filter test looked ++ record { place = place; watch = watch } ∷ [])
+pub looks-more : (held : Place → Hold) (test : LookedAt → Bool) (looked : List LookedAt) (place : Place) (watch : WatchKind) → is_free (held place) ≡ false → LooksAtHeld held looked → LooksAtHeld held (filter test looked ++ record { place = place; watch = watch } ∷ [])
 looks-more held test looked place watch here looks =
     All-append (AtHeld held) (filter test looked) (record { place = place; watch = watch } ∷ []) (All-filter test (AtHeld held) looked looks) (All-cons (AtHeld held) (record { place = place; watch = watch }) [] here (All-nil (AtHeld held)))
 
@@ -79,7 +79,7 @@ named_step : (held : Place → Hold) (b : Bool) (e : ReadyAt) (rest : List Ready
 named_step held true e rest here names = (here, names)
 named_step held false e rest here names = names
 
-names-ready : (held : Place → Hold) (s : Script) (at : ℕ) (looked : List Looked) → LooksAtHeld held looked → NamesHeld held (ready_ones s at looked)
+names-ready : (held : Place → Hold) (s : Script) (at : ℕ) (looked : List LookedAt) → LooksAtHeld held looked → NamesHeld held (ready_ones s at looked)
 names-ready held s at [] looks = tt
 names-ready held s at (entry ∷ looked) looks = named_step held (is_ready s at entry) (name_of entry) (ready_ones s at looked) (All-head (AtHeld held) entry looked looks) (names-ready held s at looked (All-tail (AtHeld held) entry looked looks))
 

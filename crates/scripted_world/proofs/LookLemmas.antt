@@ -7,7 +7,7 @@ use Rattle.relay_model.specs.declared.places.Half.{Half}
 use Rattle.relay_model.specs.Choices.{earlier}
 use Rattle.relay_model.specs.Readiness.{names}
 use Rattle.relay_model.specs.Places.{same_place, same_half}
-use Rattle.scripted_world.specs.declared.looking.Looked.{Looked}
+use Rattle.scripted_world.specs.declared.looking.LookedAt.{LookedAt}
 use Rattle.scripted_world.specs.declared.script.Script.{Script}
 use Rattle.scripted_world.specs.Looks.{name_of}
 use Rattle.scripted_world.specs.Marks.{least_by}
@@ -47,7 +47,7 @@ ready_step true e rest named n all h = take_again n (named ++ e ∷ []) rest ∙
 ready_step false e rest named n all h = h
 
 -- one more is looked at, and named where it is ready
-pub ready_more : (s : Script) (at : ℕ) (xs : List Looked) (i : ℕ) (d : Looked) (named : List ReadyAt) (n : ℕ) (all : List ReadyAt) → i < length xs → take n (named ++ ready_ones s at (drop i xs)) ≡ all → take n ((if is_ready s at (get_or xs i d) then take n (named ++ name_of (get_or xs i d) ∷ []) else named) ++ ready_ones s at (drop (i + 1) xs)) ≡ all
+pub ready_more : (s : Script) (at : ℕ) (xs : List LookedAt) (i : ℕ) (d : LookedAt) (named : List ReadyAt) (n : ℕ) (all : List ReadyAt) → i < length xs → take n (named ++ ready_ones s at (drop i xs)) ≡ all → take n ((if is_ready s at (get_or xs i d) then take n (named ++ name_of (get_or xs i d) ∷ []) else named) ++ ready_ones s at (drop (i + 1) xs)) ≡ all
 ready_more s at xs i d named n all within h =
     let step : drop i xs ≡ get_or xs i d ∷ drop (suc i) xs = drop-cons xs i d within in
     rw (add-one i) (ready_step (is_ready s at (get_or xs i d)) (name_of (get_or xs i d)) (ready_ones s at (drop (suc i) xs)) named n all (ap (λ ys. take n (named ++ ready_ones s at ys)) (sym step) ∙ h))
@@ -75,7 +75,7 @@ append_none [] = refl
 append_none (x ∷ xs) = ap (λ zs. x ∷ zs) (append_none xs)
 
 -- all were looked at
-pub ready_all : (s : Script) (at : ℕ) (xs : List Looked) (i : ℕ) (named : List ReadyAt) (n : ℕ) (all : List ReadyAt) → length xs ≤ i → length named ≤ n → take n (named ++ ready_ones s at (drop i xs)) ≡ all → named ≡ all
+pub ready_all : (s : Script) (at : ℕ) (xs : List LookedAt) (i : ℕ) (named : List ReadyAt) (n : ℕ) (all : List ReadyAt) → length xs ≤ i → length named ≤ n → take n (named ++ ready_ones s at (drop i xs)) ≡ all → named ≡ all
 ready_all s at xs i named n all past few h =
     let none = drop_past i xs past in
     sym (take_fits n named few) ∙ (ap (take n) (sym (append_none named)) ∙ (ap (λ ys. take n (named ++ ready_ones s at ys)) (sym none) ∙ h))

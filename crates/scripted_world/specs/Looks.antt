@@ -9,12 +9,12 @@ use Rattle.relay_model.specs.declared.readiness.ReadyAt.{ReadyAt}
 use Rattle.relay_model.specs.Places.{same_place, same_half}
 use Rattle.relay_model.specs.Holding.{Hold, is_free}
 use Rattle.relay_model.specs.Readiness.{names}
-use Rattle.scripted_world.specs.declared.looking.Watch.{Watch}
-use Rattle.scripted_world.specs.declared.looking.Watch.TheVariants as watches
-use Rattle.scripted_world.specs.declared.looking.Looked.{Looked}
+use Rattle.scripted_world.specs.declared.looking.WatchKind.{WatchKind}
+use Rattle.scripted_world.specs.declared.looking.WatchKind.TheVariants as watches
+use Rattle.scripted_world.specs.declared.looking.LookedAt.{LookedAt}
 
 -- whether two are looked at for the same
-abbrev pub same_watch : Watch → Watch → Bool
+abbrev pub same_watch : WatchKind → WatchKind → Bool
 same_watch watches.Read watches.Read = true
 same_watch watches.Read watches.Write = false
 same_watch watches.Read watches.Peer = false
@@ -33,43 +33,43 @@ same_watch watches.Peer watches.Write = false
 same_watch watches.Peer watches.Peer = true
 
 -- the half by which a turn names it; that of a door is the one to read
-abbrev pub half_of : Watch → Half
+abbrev pub half_of : WatchKind → Half
 half_of watches.Read = ToRead
 half_of watches.Write = ToWrite
 half_of watches.Peer = ToRead
 half_of (watches.Opening half) = half
 
 -- the entry by which a turn names what is looked at
-abbrev pub name_of : Looked → ReadyAt
+abbrev pub name_of : LookedAt → ReadyAt
 name_of entry = record { place = entry.place; half = half_of entry.watch }
 
 -- all but this
-abbrev pub without : List Looked → Place → Watch → List Looked
+abbrev pub without : List LookedAt → Place → WatchKind → List LookedAt
 without looked p watch = filter (λ entry. not (same_place entry.place p && same_watch entry.watch watch)) looked
 
 -- all but what is looked at of the place
-abbrev pub elsewhere : List Looked → Place → List Looked
+abbrev pub elsewhere : List LookedAt → Place → List LookedAt
 elsewhere looked p = filter (λ entry. not (same_place entry.place p)) looked
 
 -- all but what these entries name
-abbrev pub unnamed : List ReadyAt → List Looked → List Looked
+abbrev pub unnamed : List ReadyAt → List LookedAt → List LookedAt
 unnamed ready looked = filter (λ entry. not (names ready entry.place (half_of entry.watch))) looked
 
 -- this is looked at, as the last of all, exactly where its answer was that there is nothing yet
-abbrev pub looked_after : Bool → List Looked → Place → Watch → List Looked
+abbrev pub looked_after : Bool → List LookedAt → Place → WatchKind → List LookedAt
 looked_after true looked p watch = without looked p watch ++ record { place = p; watch = watch } ∷ []
 looked_after false looked p watch = without looked p watch
 
 -- an opening that is under way, by each half that its part has
-abbrev pub openings_by : Part → Place → List Looked
+abbrev pub openings_by : Part → Place → List LookedAt
 openings_by Both p = record { place = p; watch = watches.Opening ToRead } ∷ record { place = p; watch = watches.Opening ToWrite } ∷ []
 openings_by Reading p = record { place = p; watch = watches.Opening ToRead } ∷ []
 openings_by Writing p = record { place = p; watch = watches.Opening ToWrite } ∷ []
 
 -- what is looked at while the opening of a place is under way
-abbrev pub openings_at : Place → List Looked
+abbrev pub openings_at : Place → List LookedAt
 openings_at p = openings_by p.part p
 
 -- each thing that is looked at stands at a place or door that is held
-abbrev pub LooksAtHeld : (Place → Hold) → List Looked → Type 0
+abbrev pub LooksAtHeld : (Place → Hold) → List LookedAt → Type 0
 LooksAtHeld held looked = All (λ entry. is_free (held entry.place) ≡ false) looked

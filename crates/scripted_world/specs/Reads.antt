@@ -2,7 +2,7 @@
 use Rattle.std.specs.Prelude.{◌≡◌, ◌<◌, ◌≤◌, ℕ, Bool, false, List, [], ◌∷◌, Option, None, Some, length, take, drop, min, nat_lt, ⊤, if◌then◌else◌}
 use Rattle.relay_model.specs.declared.places.Place.{Place}
 use Rattle.relay_model.specs.Places.{same_place}
-use Rattle.scripted_world.specs.declared.lines.Line.{Line}
+use Rattle.scripted_world.specs.declared.lines.PlacedItem.{PlacedItem}
 use Rattle.scripted_world.specs.declared.items.ReadItem.{ReadItem}
 use Rattle.scripted_world.specs.declared.items.ReadItem.TheVariants as items
 use Rattle.scripted_world.specs.declared.reading.Reading.{Reading}
@@ -25,6 +25,10 @@ reading_of (items.Bytes bytes) = readings.Bytes bytes
 reading_of items.Empty = readings.Empty
 reading_of items.End = readings.End
 reading_of items.Fault = readings.Fault
+
+-- an item of reads from a moment on
+abbrev pub due_read : ℕ → ReadItem → DueRead
+due_read at item = record { at = at; reading = reading_of item }
 
 -- what a read with this much room is given from what is due: no more bytes than it has room for
 abbrev pub gives_due : Reading → ℕ → Given
@@ -85,16 +89,16 @@ rest_of readings.End n = readings.End
 rest_of readings.Fault n = readings.Fault
 
 -- an item without its first bytes
-abbrev pub line_left : Line DueRead → ℕ → Line DueRead
+abbrev pub line_left : PlacedItem DueRead → ℕ → PlacedItem DueRead
 line_left line n = record { place = line.place; item = record { at = line.item.at; reading = rest_of line.item.reading n } }
 
 -- the items after so many bytes of the next one of a place were given: its rest stays in its stead
-abbrev pub bytes_left : List (Line DueRead) → Place → ℕ → List (Line DueRead)
+abbrev pub bytes_left : List (PlacedItem DueRead) → Place → ℕ → List (PlacedItem DueRead)
 bytes_left [] p n = []
 bytes_left (line ∷ lines) p n = if same_place line.place p then (if has_more line.item.reading n then line_left line n ∷ lines else lines) else line ∷ bytes_left lines p n
 
 -- the items after a read of a place was given this
-abbrev pub reads_left : Given → List (Line DueRead) → Place → List (Line DueRead)
+abbrev pub reads_left : Given → List (PlacedItem DueRead) → Place → List (PlacedItem DueRead)
 reads_left (given.Bytes n) lines p = bytes_left lines p n
 reads_left given.Empty lines p = used_up lines p
 reads_left given.End lines p = used_up lines p

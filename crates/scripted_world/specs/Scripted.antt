@@ -26,11 +26,11 @@ use Rattle.scripted_world.specs.declared.accepting.Coming.{Coming}
 use Rattle.scripted_world.specs.declared.accepting.Coming.TheVariants as coming
 use Rattle.scripted_world.specs.declared.items.OpenItem.{OpenItem}
 use Rattle.scripted_world.specs.declared.items.OpenItem.TheVariants as items
-use Rattle.scripted_world.specs.declared.looking.Watch.TheVariants as watches
+use Rattle.scripted_world.specs.declared.looking.WatchKind.TheVariants as watches
 use Rattle.scripted_world.specs.declared.reading.Given.{Given}
 use Rattle.scripted_world.specs.declared.reading.Given.TheVariants as given
-use Rattle.scripted_world.specs.declared.writing.Taken.{Taken}
-use Rattle.scripted_world.specs.declared.writing.Taken.TheVariants as taken
+use Rattle.scripted_world.specs.declared.writing.TakenNow.{TakenNow}
+use Rattle.scripted_world.specs.declared.writing.TakenNow.TheVariants as taken
 use Rattle.scripted_world.specs.declared.script.Script.{Script}
 use Rattle.scripted_world.specs.Lines.{next_of, used_up}
 use Rattle.scripted_world.specs.Looks.{elsewhere, looked_after, unnamed}
@@ -68,13 +68,13 @@ ReadScripted old new place now room into reads.Memory = new ≡ old
 -- ---- writes
 
 -- the script takes nothing yet
-abbrev pub takes_nothing_yet : Taken → Bool
+abbrev pub takes_nothing_yet : TakenNow → Bool
 takes_nothing_yet (taken.Upto n) = false
 takes_nothing_yet taken.NotYet = true
 takes_nothing_yet taken.Fault = false
 
 -- this became of a write by the next item of its place
-pub record WriteBy (old new : Script) (place : Place) (now count : ℕ) (what : Taken) : Type 0 where
+pub record WriteBy (old new : Script) (place : Place) (now count : ℕ) (what : TakenNow) : Type 0 where
   pub answer : what ≡ write_taken (next_of old.writes place) now count
   pub left : new ≡ record old { writes = writes_left old.writes place now; looked = looked_after (takes_nothing_yet what) old.looked place watches.Write }
 
@@ -86,7 +86,7 @@ WriteScripted old new place now count writes.Failed = WriteBy old new place now 
 WriteScripted old new place now count writes.Memory = new ≡ old
 
 -- where some bytes would be taken, a packet is taken whole
-abbrev pub send_answer : Taken → SendAnswer
+abbrev pub send_answer : TakenNow → SendAnswer
 send_answer (taken.Upto n) = sends.Sent
 send_answer taken.NotYet = sends.NotYet
 send_answer taken.Fault = sends.Failed

@@ -5,9 +5,9 @@ use Rattle.relay_model.specs.declared.readiness.ReadyAt.{ReadyAt}
 use Rattle.relay_model.specs.Choices.{earlier}
 use Rattle.scripted_world.specs.declared.items.OpenItem.{OpenItem}
 use Rattle.scripted_world.specs.declared.items.OpenItem.TheVariants as items
-use Rattle.scripted_world.specs.declared.looking.Watch.{Watch}
-use Rattle.scripted_world.specs.declared.looking.Watch.TheVariants as watches
-use Rattle.scripted_world.specs.declared.looking.Looked.{Looked}
+use Rattle.scripted_world.specs.declared.looking.WatchKind.{WatchKind}
+use Rattle.scripted_world.specs.declared.looking.WatchKind.TheVariants as watches
+use Rattle.scripted_world.specs.declared.looking.LookedAt.{LookedAt}
 use Rattle.scripted_world.specs.declared.writing.DueWrite.{DueWrite}
 use Rattle.scripted_world.specs.declared.script.Script.{Script}
 use Rattle.scripted_world.specs.Lines.{next_of}
@@ -36,7 +36,7 @@ OpensSo place items.Later = place.door ≡ false
 OpensSo place items.Fails = ⊤
 
 -- what is looked at after an opening or a settling of the place
-abbrev pub looked_opening : OpenItem → List Looked → Place → List Looked
+abbrev pub looked_opening : OpenItem → List LookedAt → Place → List LookedAt
 looked_opening items.Opens looked p = elsewhere looked p
 looked_opening items.Later looked p = elsewhere looked p ++ openings_at p
 looked_opening items.Fails looked p = elsewhere looked p
@@ -47,18 +47,18 @@ write_moment None = 0
 write_moment (Some line) = line.at
 
 -- an opening that is under way is ready at once
-abbrev pub moment_of : Script → Place → Watch → Option ℕ
+abbrev pub moment_of : Script → Place → WatchKind → Option ℕ
 moment_of s p watches.Read = option_map (λ line. line.at) (next_of s.reads p)
 moment_of s p watches.Write = Some (write_moment (next_of s.writes p))
 moment_of s p (watches.Opening half) = Some 0
 moment_of s p watches.Peer = option_map (λ line. line.at) (next_of s.peers p)
 
 -- the moment from which something that is looked at is ready, if it ever is
-abbrev pub ready_from : Script → Looked → Option ℕ
+abbrev pub ready_from : Script → LookedAt → Option ℕ
 ready_from s entry = moment_of s entry.place entry.watch
 
 -- the least moment from which one of these is ready
-abbrev pub least_moment : Script → List Looked → Option ℕ
+abbrev pub least_moment : Script → List LookedAt → Option ℕ
 least_moment s entries = least_by (ready_from s) entries
 
 -- the earliest moment at which something happens: the end of the wait, a stop, or that something is ready
@@ -84,10 +84,10 @@ due_by at None = false
 due_by at (Some moment) = nat_le moment at
 
 -- what is looked at is ready at this moment
-abbrev pub is_ready : Script → ℕ → Looked → Bool
+abbrev pub is_ready : Script → ℕ → LookedAt → Bool
 is_ready s at entry = due_by at (ready_from s entry)
 
 -- those of these that are ready at this moment, in order
-abbrev pub ready_ones : Script → ℕ → List Looked → List ReadyAt
+abbrev pub ready_ones : Script → ℕ → List LookedAt → List ReadyAt
 ready_ones s at [] = []
 ready_ones s at (entry ∷ entries) = if is_ready s at entry then name_of entry ∷ ready_ones s at entries else ready_ones s at entries

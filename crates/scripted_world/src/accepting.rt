@@ -1,10 +1,10 @@
 // What a script gives to acceptings.
-ghost use Rattle.std.specs.Prelude.{◌≡◌, ℕ, Some};
+ghost use Rattle.std.specs.Prelude.{◌≡◌, Some};
 ghost use Rattle.scripted_world.specs.Lines.{next_of};
 ghost use Rattle.scripted_world.specs.Peers.{peer_given};
 
 use crate::items::PeerItem;
-use crate::lines::Lines;
+use crate::lines::PlacedItems;
 use relay_model::{Peer, Place};
 
 /// A peer that comes, or a failure, and from which moment on.
@@ -38,7 +38,7 @@ impl DuePeer {
 }
 
 /// What an accepting at the door gives at this moment.
-pub fn who_comes(lines: &Lines<DuePeer>, door: Place, now: u64) -> Coming
+pub fn who_comes(lines: &PlacedItems<DuePeer>, door: Place, now: u64) -> Coming
     ensures { result ≡ peer_given (next_of lines.now door) now }
 {
     match lines.next(door) {

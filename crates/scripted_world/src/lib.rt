@@ -13,10 +13,10 @@ mod writing;
 
 pub use accepting::{Coming, DuePeer, who_comes};
 pub use items::{OpenItem, PeerItem, ReadItem, WriteItem};
-pub use lines::{Line, Lines};
-pub use looking::{Looked, Lookout, Watch};
-pub use marks::{Moments, Places};
+pub use lines::{PlacedItem, PlacedItems};
+pub use looking::{LookedAt, Lookout, WatchKind};
+pub use marks::Marks;
 pub use mem_world::MemWorld;
 pub use reading::{DueRead, Given, Reading, look, use_bytes};
 pub use script::Script;
-pub use writing::{DueWrite, Taken, Writing, room, use_write};
+pub use writing::{DueWrite, TakenNow, Writing, room, use_write};

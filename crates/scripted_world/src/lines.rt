@@ -9,32 +9,32 @@ use std::marker::Model;
 
 /// One item of a place or door.
 #[derive(Debug, Drop)]
-pub struct Line<T: Drop> {
+pub struct PlacedItem<T: Drop> {
     pub place: Place,
     pub item: T,
 }
 
 /// The items of all places that aren't used up.
 #[derive(Debug, Drop)]
-pub struct Lines<T: Drop> {
-    pub entries: Vec<Line<T>>,
+pub struct PlacedItems<T: Drop> {
+    pub entries: Vec<PlacedItem<T>>,
 }
 
-impl<T: Drop> Model for Lines<T> {
+impl<T: Drop> Model for PlacedItems<T> {
     ghost use Rattle.std.specs.Prelude.{List};
-    ghost use Rattle.scripted_world.specs.declared.lines.Line.{Line};
+    ghost use Rattle.scripted_world.specs.declared.lines.PlacedItem.{PlacedItem};
 
-    ghost Value = { List (Line T) };
+    ghost Value = { List (PlacedItem T) };
 
     ghost view = { λ lines. lines.entries.items };
 }
 
-impl<T: Drop> Lines<T> {
+impl<T: Drop> PlacedItems<T> {
     /// No items; takes no memory.
-    pub fn new(alloc: Global) -> Lines<T>
+    pub fn new(alloc: Global) -> PlacedItems<T>
         ensures { result ≡ [] }
     {
-        Lines {
+        PlacedItems {
             entries: Vec::new(alloc),
         }
     }
@@ -44,7 +44,7 @@ impl<T: Drop> Lines<T> {
         ensures added { OnOk result (self.new ≡ self.old ++ record { place = place; item = item } ∷ []) }
         ensures kept { OnErr result (self.new ≡ self.old) }
     {
-        self.entries.push(Line { place, item })?;
+        self.entries.push(PlacedItem { place, item })?;
         Ok(())
     }
 
@@ -72,14 +72,14 @@ impl<T: Drop> Lines<T> {
 }
 
 /// The first of these of the place.
-fn first_of<T: Drop>(lines: &[Line<T>], place: Place) -> Option<&Line<T>>
+fn first_of<T: Drop>(lines: &[PlacedItem<T>], place: Place) -> Option<&PlacedItem<T>>
     ensures { option_copied result ≡ find (λ line. same_place line.place place) lines.now }
 {
     lines.iter().find(|line| line.place.is(place))
 }
 
 /// The index of the first of these of the place.
-pub fn index_of<T: Drop>(lines: &[Line<T>], place: Place) -> Option<usize>
+pub fn index_of<T: Drop>(lines: &[PlacedItem<T>], place: Place) -> Option<usize>
     ensures is { result ≡ position (λ line. same_place line.place place) lines.now }
     ensures within { IfSome result (λ index. index < length lines.now) }
 {

@@ -11,28 +11,28 @@ use std::marker::Model;
 /// What is looked at: whether there is something to read, room to write, a peer at a door, or whether an opening that is
 /// under way has come to its end, by a half of its place.
 #[derive(Clone, Copy, Debug, PartialEq, Eq)]
-pub enum Watch {
+pub enum WatchKind {
     Read,
     Write,
     Peer,
     Opening(Half),
 }
 
-impl Watch {
+impl WatchKind {
     /// The half by which a turn names it.
     fn half(self) -> Half
         ensures { result ≡ half_of self }
     {
         match self {
-            Watch::Read => Half::ToRead,
-            Watch::Write => Half::ToWrite,
-            Watch::Peer => Half::ToRead,
-            Watch::Opening(half) => half,
+            WatchKind::Read => Half::ToRead,
+            WatchKind::Write => Half::ToWrite,
+            WatchKind::Peer => Half::ToRead,
+            WatchKind::Opening(half) => half,
         }
     }
 
     /// Whether both are the same.
-    fn is(self, other: Watch) -> bool
+    fn is(self, other: WatchKind) -> bool
         ensures { result ≡ same_watch self other }
     {
         self == other
@@ -41,14 +41,14 @@ impl Watch {
 
 /// A place or door that is looked at.
 #[derive(Clone, Copy, Debug, PartialEq, Eq)]
-pub struct Looked {
+pub struct LookedAt {
     pub place: Place,
-    pub watch: Watch,
+    pub watch: WatchKind,
 }
 
-impl Looked {
+impl LookedAt {
     /// The entry by which a turn names it.
-    pub fn named(self) -> ReadyAt
+    pub fn ready_entry(self) -> ReadyAt
         ensures { result ≡ name_of self }
     {
         ReadyAt {
@@ -61,14 +61,14 @@ impl Looked {
 /// All that is looked at, in the order in which it was asked.
 #[derive(Debug, Drop)]
 pub struct Lookout {
-    entries: Vec<Looked>,
+    entries: Vec<LookedAt>,
 }
 
 impl Model for Lookout {
     ghost use Rattle.std.specs.Prelude.{List};
-    ghost use Rattle.scripted_world.specs.declared.looking.Looked.{Looked};
+    ghost use Rattle.scripted_world.specs.declared.looking.LookedAt.{LookedAt};
 
-    ghost Value = { List Looked };
+    ghost Value = { List LookedAt };
 
     ghost view = { λ lookout. lookout.entries.items };
 }
@@ -84,21 +84,21 @@ impl Lookout {
     }
 
     /// All that is looked at.
-    pub fn as_slice(&self) -> &[Looked]
+    pub fn as_slice(&self) -> &[LookedAt]
         ensures { result.now ≡ self.now }
     {
         self.entries.as_slice()
     }
 
     /// From now on looks at this, as the last of all.
-    pub fn look_at(&mut self, place: Place, watch: Watch) -> Result<(), NoMemory>
+    pub fn look_at(&mut self, place: Place, watch: WatchKind) -> Result<(), NoMemory>
         ensures looks { OnOk result (self.new ≡ without self.old place watch ++ record { place = place; watch = watch } ∷ []) }
         ensures kept { OnErr result (self.new ≡ self.old) }
     {
         self.entries.reserve(1)?;
         self.entries
             .retain(|entry| !(entry.place.is(place) && entry.watch.is(watch)));
-        self.entries.push_reserved(Looked { place, watch });
+        self.entries.push_reserved(LookedAt { place, watch });
         Ok(())
     }
 
@@ -114,7 +114,7 @@ impl Lookout {
     }
 
     /// From now on doesn't look at this.
-    pub fn forget(&mut self, place: Place, watch: Watch)
+    pub fn forget(&mut self, place: Place, watch: WatchKind)
         ensures { self.new ≡ without self.old place watch }
     {
         self.entries
@@ -132,7 +132,8 @@ impl Lookout {
     pub fn forget_named(&mut self, ready: &ReadyList)
         ensures { self.new ≡ unnamed ready.now.entries self.old }
     {
-        self.entries.retain(|entry| !is_named(ready, entry.named()));
+        self.entries
+            .retain(|entry| !is_named(ready, entry.ready_entry()));
     }
 }
 
@@ -156,17 +157,17 @@ fn is_same(one: ReadyAt, other: ReadyAt) -> bool
 }
 
 /// Appends the opening of the place, by each half that its part has, into the room that was made.
-fn push_openings(entries: &mut Vec<Looked>, place: Place)
+fn push_openings(entries: &mut Vec<LookedAt>, place: Place)
     requires { vec_len entries.old + 2 ≤ vec_capacity entries.old }
     ensures { entries.new.items ≡ entries.old.items ++ openings_at place }
 {
-    let to_read = Looked {
+    let to_read = LookedAt {
         place,
-        watch: Watch::Opening(Half::ToRead),
+        watch: WatchKind::Opening(Half::ToRead),
     };
-    let to_write = Looked {
+    let to_write = LookedAt {
         place,
-        watch: Watch::Opening(Half::ToWrite),
+        watch: WatchKind::Opening(Half::ToWrite),
     };
     match place.part {
         Part::Both => {

@@ -7,51 +7,53 @@ use relay_model::{NoMemory, Place};
 use std::alloc::Global;
 use std::marker::Model;
 
-/// The moments of stops, in the order in which they were added.
+/// Moments or places, in the order in which they were added.
 #[derive(Debug, Drop)]
-pub struct Moments {
-    moments: Vec<u64>,
+pub struct Marks<T: Copy> {
+    entries: Vec<T>,
 }
 
-impl Model for Moments {
-    ghost use Rattle.std.specs.Prelude.{List, ℕ};
+impl<T: Copy> Model for Marks<T> {
+    ghost use Rattle.std.specs.Prelude.{List};
 
-    ghost Value = { List ℕ };
+    ghost Value = { List T };
 
-    ghost view = { λ held. held.moments.items };
+    ghost view = { λ marks. marks.entries.items };
 }
 
-impl Moments {
-    /// No moments; takes no memory.
-    pub fn new(alloc: Global) -> Moments
+impl<T: Copy> Marks<T> {
+    /// No marks; takes no memory.
+    pub fn new(alloc: Global) -> Marks<T>
         ensures { result ≡ [] }
     {
-        Moments {
-            moments: Vec::new(alloc),
+        Marks {
+            entries: Vec::new(alloc),
         }
     }
 
-    /// Adds a moment at the end.
-    pub fn add(&mut self, at: u64) -> Result<(), NoMemory>
-        ensures added { OnOk result (self.new ≡ self.old ++ at ∷ []) }
+    /// Adds a mark at the end.
+    pub fn add(&mut self, mark: T) -> Result<(), NoMemory>
+        ensures added { OnOk result (self.new ≡ self.old ++ mark ∷ []) }
         ensures kept { OnErr result (self.new ≡ self.old) }
     {
-        self.moments.push(at)?;
+        self.entries.push(mark)?;
         Ok(())
     }
+}
 
-    /// Whether one of them has come by this moment.
+impl Marks<u64> {
+    /// Whether one of the moments has come by this one.
     pub fn has_come(&self, now: u64) -> bool
         ensures { result ≡ has_come self.now now }
     {
-        self.moments.iter().any(|moment| *moment <= now)
+        self.entries.iter().any(|moment| *moment <= now)
     }
 
-    /// The least of them.
+    /// The least of the moments.
     pub fn least(&self) -> Option<u64>
         ensures { result ≡ least_of self.now }
     {
-        least_in(self.moments.as_slice())
+        least_in(self.entries.as_slice())
     }
 }
 
@@ -66,44 +68,11 @@ fn least_in(moments: &[u64]) -> Option<u64>
     least
 }
 
-/// Places, in the order in which they were added.
-#[derive(Debug, Drop)]
-pub struct Places {
-    places: Vec<Place>,
-}
-
-impl Model for Places {
-    ghost use Rattle.std.specs.Prelude.{List};
-    ghost use Rattle.relay_model.specs.declared.places.Place.{Place};
-
-    ghost Value = { List Place };
-
-    ghost view = { λ held. held.places.items };
-}
-
-impl Places {
-    /// No places; takes no memory.
-    pub fn new(alloc: Global) -> Places
-        ensures { result ≡ [] }
-    {
-        Places {
-            places: Vec::new(alloc),
-        }
-    }
-
-    /// Adds a place at the end.
-    pub fn add(&mut self, place: Place) -> Result<(), NoMemory>
-        ensures added { OnOk result (self.new ≡ self.old ++ place ∷ []) }
-        ensures kept { OnErr result (self.new ≡ self.old) }
-    {
-        self.places.push(place)?;
-        Ok(())
-    }
-
+impl Marks<Place> {
     /// Whether the place is one of them.
     pub fn has(&self, place: Place) -> bool
         ensures { result ≡ shut_fails self.now place }
     {
-        self.places.iter().any(|held| held.is(place))
+        self.entries.iter().any(|mark| mark.is(place))
     }
 }

@@ -4,20 +4,22 @@ ghost use Rattle.relay_model.specs.Conversions.{longest_packet};
 ghost use Rattle.relay_model.specs.Holding.{Free, Open, Settling, is_free, is_open};
 ghost use Rattle.world_trait.specs.Answers.{Answered, AnsweredAsking, Rose, RaisesCounts, says_stop, OnlyHeldNamed, OnlyWhereTold, NotReaped, WaitCounts, ReadFits, WriteFits, wait_act, open_act, listen_act, accept_act, read_act, write_act, send_act, shut_act, close_act, note_act, reap_act, is_open_fault, is_listen_fault, is_accept_fault, is_read_fault, is_write_fault, is_send_fault, is_shut_fault, is_note_fault, wants_turn_memory, wants_read_memory, wants_write_memory, wants_send_memory, wants_shut_memory};
 ghost use Rattle.world_trait.specs.HoldTables.{hold_found, lookup};
+ghost use Rattle.scripted_world.specs.Lines.{placed};
 ghost use Rattle.scripted_world.specs.Looks.{LooksAtHeld};
-ghost use Rattle.scripted_world.specs.Reads.{HasBytes, reading_of};
+ghost use Rattle.scripted_world.specs.Peers.{due_peer};
+ghost use Rattle.scripted_world.specs.Reads.{HasBytes, due_read};
 ghost use Rattle.world_trait.specs.Recordings.{told_kept};
 ghost use Rattle.world_trait.specs.Seen.{Waitless, IsFresh, SameRun};
 ghost use Rattle.scripted_world.specs.Scripted.{TurnScripted, OpenScripted, ListenScripted, AcceptScripted, ReadScripted, WriteScripted, SendScripted, ShutScripted, CloseScripted, ReapScripted};
 ghost use Rattle.scripted_world.specs.Scripts.{OpensSo, empty_script};
-ghost use Rattle.scripted_world.specs.Writes.{HasCount, writing_of};
+ghost use Rattle.scripted_world.specs.Writes.{HasCount, due_write};
 
 use crate::accepting::{Coming, DuePeer, who_comes};
 use crate::items::{OpenItem, PeerItem, ReadItem, WriteItem};
-use crate::looking::Watch;
+use crate::looking::WatchKind;
 use crate::reading::{DueRead, Given, Reading, look, use_bytes};
 use crate::script::Script;
-use crate::writing::{DueWrite, Taken, Writing, room, use_write};
+use crate::writing::{DueWrite, TakenNow, Writing, room, use_write};
 use relay_model::{
     Act, Bytes, ChildEnd, Journal, Kept, NoMemory, Peer, Place, ReadyList, Shut, Single, Why,
 };
@@ -64,15 +66,7 @@ impl MemWorld {
     pub fn add_read(&mut self, place: Place, at: u64, item: ReadItem) -> Result<(), NoMemory>
         requires { HasBytes item }
         ensures run { SameRun (⟦<MemWorld as World>⟧.seen self.old) (⟦<MemWorld as World>⟧.seen self.new) }
-        ensures added { OnOk result
-            (self.new.script
-            ≡ record self.old.script {
-              reads = self.old.script.reads ++ record {
-                place = place;
-                item = record
-                    { at = at; reading = reading_of item };
-              } ∷ [];
-            }) }
+        ensures added { OnOk result (self.new.script ≡ record self.old.script { reads = self.old.script.reads ++ placed place (due_read at item) ∷ [] }) }
         ensures kept { OnErr result (self.new.script ≡ self.old.script) }
     {
         let reading = Reading::of(item);
@@ -84,15 +78,7 @@ impl MemWorld {
     pub fn add_write(&mut self, place: Place, at: u64, item: WriteItem) -> Result<(), NoMemory>
         requires { HasCount item }
         ensures run { SameRun (⟦<MemWorld as World>⟧.seen self.old) (⟦<MemWorld as World>⟧.seen self.new) }
-        ensures added { OnOk result
-            (self.new.script
-            ≡ record self.old.script {
-              writes = self.old.script.writes ++ record {
-                place = place;
-                item = record
-                    { at = at; writing = writing_of item };
-              } ∷ [];
-            }) }
+        ensures added { OnOk result (self.new.script ≡ record self.old.script { writes = self.old.script.writes ++ placed place (due_write at item) ∷ [] }) }
         ensures kept { OnErr result (self.new.script ≡ self.old.script) }
     {
         let writing = Writing::of(item);
@@ -104,14 +90,7 @@ impl MemWorld {
     pub fn add_open(&mut self, place: Place, at: u64, item: OpenItem) -> Result<(), NoMemory>
         requires { OpensSo place item }
         ensures run { SameRun (⟦<MemWorld as World>⟧.seen self.old) (⟦<MemWorld as World>⟧.seen self.new) }
-        ensures added { OnOk result
-            (self.new.script
-            ≡ record self.old.script {
-              opens = self.old.script.opens ++ record {
-                place = place;
-                item = item;
-              } ∷ [];
-            }) }
+        ensures added { OnOk result (self.new.script ≡ record self.old.script { opens = self.old.script.opens ++ placed place item ∷ [] }) }
         ensures kept { OnErr result (self.new.script ≡ self.old.script) }
     {
         let _moment = at;
@@ -121,15 +100,7 @@ impl MemWorld {
     /// The next peer of the door. An accepting before its moment, or with none left, answers `NoPeer`.
     pub fn add_peer(&mut self, door: Place, at: u64, item: PeerItem) -> Result<(), NoMemory>
         ensures run { SameRun (⟦<MemWorld as World>⟧.seen self.old) (⟦<MemWorld as World>⟧.seen self.new) }
-        ensures added { OnOk result
-            (self.new.script
-            ≡ record self.old.script {
-              peers = self.old.script.peers ++ record {
-                place = door;
-                item = record
-                    { at = at; item = item };
-              } ∷ [];
-            }) }
+        ensures added { OnOk result (self.new.script ≡ record self.old.script { peers = self.old.script.peers ++ placed door (due_peer at item) ∷ [] }) }
         ensures kept { OnErr result (self.new.script ≡ self.old.script) }
     {
         self.script.peers.add(door, DuePeer { at, item })
@@ -147,14 +118,7 @@ impl MemWorld {
     /// What the next reaping of the place answers. With none left there is no child.
     pub fn add_reap(&mut self, place: Place, end: ChildEnd) -> Result<(), NoMemory>
         ensures run { SameRun (⟦<MemWorld as World>⟧.seen self.old) (⟦<MemWorld as World>⟧.seen self.new) }
-        ensures added { OnOk result
-            (self.new.script
-            ≡ record self.old.script {
-              reaps = self.old.script.reaps ++ record {
-                place = place;
-                item = end;
-              } ∷ [];
-            }) }
+        ensures added { OnOk result (self.new.script ≡ record self.old.script { reaps = self.old.script.reaps ++ placed place end ∷ [] }) }
         ensures kept { OnErr result (self.new.script ≡ self.old.script) }
     {
         self.script.reaps.add(place, end)
@@ -381,13 +345,13 @@ impl World for MemWorld {
         match who_comes(&self.script.peers, door, self.clock) {
             Coming::Comes(peer) => {
                 self.script.peers.use_up(door);
-                self.script.looked.forget(door, Watch::Peer);
+                self.script.looked.forget(door, WatchKind::Peer);
                 self.held.add(place, Standing::Open);
                 self.kept.put(Act::Accepted(place, peer));
                 AcceptAnswer::Accepted(peer)
             }
             Coming::NoPeer => {
-                let Ok(()) = self.script.looked.look_at(door, Watch::Peer) else {
+                let Ok(()) = self.script.looked.look_at(door, WatchKind::Peer) else {
                     return AcceptAnswer::Memory;
                 };
                 self.kept.put(Act::NoPeer(door));
@@ -395,7 +359,7 @@ impl World for MemWorld {
             }
             Coming::Fault => {
                 self.script.peers.use_up(door);
-                self.script.looked.forget(door, Watch::Peer);
+                self.script.looked.forget(door, WatchKind::Peer);
                 self.faults = self.faults.saturating_add(1);
                 self.kept.put(Act::AcceptFailed(door));
                 AcceptAnswer::Failed
@@ -424,24 +388,24 @@ impl World for MemWorld {
                     return ReadAnswer::Memory;
                 };
                 use_bytes(&mut self.script.reads, place, count);
-                self.script.looked.forget(place, Watch::Read);
+                self.script.looked.forget(place, WatchKind::Read);
                 self.kept.put(Act::Read(place, bytes));
                 ReadAnswer::Bytes(count)
             }
             Given::Empty => {
                 self.script.reads.use_up(place);
-                self.script.looked.forget(place, Watch::Read);
+                self.script.looked.forget(place, WatchKind::Read);
                 self.kept.put(Act::ReadEmpty(place));
                 ReadAnswer::Empty
             }
             Given::End => {
                 self.script.reads.use_up(place);
-                self.script.looked.forget(place, Watch::Read);
+                self.script.looked.forget(place, WatchKind::Read);
                 self.kept.put(Act::ReadEnd(place));
                 ReadAnswer::End
             }
             Given::NotYet => {
-                let Ok(()) = self.script.looked.look_at(place, Watch::Read) else {
+                let Ok(()) = self.script.looked.look_at(place, WatchKind::Read) else {
                     return ReadAnswer::Memory;
                 };
                 self.kept.put(Act::ReadNotYet(place));
@@ -449,7 +413,7 @@ impl World for MemWorld {
             }
             Given::Fault => {
                 self.script.reads.use_up(place);
-                self.script.looked.forget(place, Watch::Read);
+                self.script.looked.forget(place, WatchKind::Read);
                 self.faults = self.faults.saturating_add(1);
                 self.kept.put(Act::ReadFault(place));
                 ReadAnswer::Failed
@@ -473,26 +437,26 @@ impl World for MemWorld {
             return WriteAnswer::Memory;
         };
         match room(&self.script.writes, place, self.clock, bytes.len()) {
-            Taken::Upto(count) => {
+            TakenNow::Upto(count) => {
                 let Ok(taken) = Bytes::of(self.script.allocator(), &bytes[..count]) else {
                     return WriteAnswer::Memory;
                 };
                 use_write(&mut self.script.writes, place, self.clock);
-                self.script.looked.forget(place, Watch::Write);
+                self.script.looked.forget(place, WatchKind::Write);
                 self.kept.put(Act::Wrote(place, taken));
                 WriteAnswer::Took(count)
             }
-            Taken::NotYet => {
-                let Ok(()) = self.script.looked.look_at(place, Watch::Write) else {
+            TakenNow::NotYet => {
+                let Ok(()) = self.script.looked.look_at(place, WatchKind::Write) else {
                     return WriteAnswer::Memory;
                 };
                 use_write(&mut self.script.writes, place, self.clock);
                 self.kept.put(Act::WriteNotYet(place));
                 WriteAnswer::NotYet
             }
-            Taken::Fault => {
+            TakenNow::Fault => {
                 use_write(&mut self.script.writes, place, self.clock);
-                self.script.looked.forget(place, Watch::Write);
+                self.script.looked.forget(place, WatchKind::Write);
                 self.faults = self.faults.saturating_add(1);
                 self.kept.put(Act::WriteFault(place));
                 WriteAnswer::Failed
@@ -517,26 +481,26 @@ impl World for MemWorld {
             return SendAnswer::Memory;
         };
         match room(&self.script.writes, place, self.clock, bytes.len()) {
-            Taken::Upto(_) => {
+            TakenNow::Upto(_) => {
                 let Ok(taken) = Bytes::of(self.script.allocator(), bytes) else {
                     return SendAnswer::Memory;
                 };
                 use_write(&mut self.script.writes, place, self.clock);
-                self.script.looked.forget(place, Watch::Write);
+                self.script.looked.forget(place, WatchKind::Write);
                 self.kept.put(Act::Wrote(place, taken));
                 SendAnswer::Sent
             }
-            Taken::NotYet => {
-                let Ok(()) = self.script.looked.look_at(place, Watch::Write) else {
+            TakenNow::NotYet => {
+                let Ok(()) = self.script.looked.look_at(place, WatchKind::Write) else {
                     return SendAnswer::Memory;
                 };
                 use_write(&mut self.script.writes, place, self.clock);
                 self.kept.put(Act::WriteNotYet(place));
                 SendAnswer::NotYet
             }
-            Taken::Fault => {
+            TakenNow::Fault => {
                 use_write(&mut self.script.writes, place, self.clock);
-                self.script.looked.forget(place, Watch::Write);
+                self.script.looked.forget(place, WatchKind::Write);
                 self.faults = self.faults.saturating_add(1);
                 self.kept.put(Act::WriteFault(place));
                 SendAnswer::Failed

@@ -1,10 +1,10 @@
 // What a script gives to reads.
-ghost use Rattle.std.specs.Prelude.{◌≡◌, ◌≤◌, ◌<◌, true, false, min, length, take, drop, remove, slice_index_or, slice_set, vec_len};
+ghost use Rattle.std.specs.Prelude.{◌≡◌, ◌<◌, true, false, min, length, take, drop, remove, slice_index_or, slice_set, vec_len};
 ghost use Rattle.scripted_world.specs.Lines.{next_of};
 ghost use Rattle.scripted_world.specs.Reads.{GivenFits, GivesBytes, HasBytes, bytes_left, bytes_of, gives, has_more, line_left, next_bytes, read_given, reading_of, rest_of};
 
 use crate::items::ReadItem;
-use crate::lines::{Line, Lines, index_of};
+use crate::lines::{PlacedItem, PlacedItems, index_of};
 use relay_model::{Bytes, Place};
 use std::marker::Model;
 
@@ -151,7 +151,7 @@ impl DueRead {
 }
 
 /// What a read of the place gives at this moment, with its bytes put into `into`.
-pub fn look(lines: &Lines<DueRead>, place: Place, now: u64, into: &mut [u8]) -> Given
+pub fn look(lines: &PlacedItems<DueRead>, place: Place, now: u64, into: &mut [u8]) -> Given
     requires { 0 < length into.old }
     ensures is { result ≡ read_given (next_of lines.now place) now (length into.old) }
     ensures fits { GivenFits (length into.old) result }
@@ -164,7 +164,7 @@ pub fn look(lines: &Lines<DueRead>, place: Place, now: u64, into: &mut [u8]) -> 
 }
 
 /// Leaves out so many bytes more of the next item of the place, and the item itself where none are left then.
-pub fn use_bytes(lines: &mut Lines<DueRead>, place: Place, count: usize)
+pub fn use_bytes(lines: &mut PlacedItems<DueRead>, place: Place, count: usize)
     ensures { lines.new ≡ bytes_left lines.old place count }
 {
     match index_of(lines.entries.as_slice(), place) {
@@ -174,12 +174,12 @@ pub fn use_bytes(lines: &mut Lines<DueRead>, place: Place, count: usize)
 }
 
 /// Leaves out so many bytes more of the item at this index, and the item itself where none are left then.
-fn cut(entries: &mut Vec<Line<DueRead>>, index: usize, count: usize)
+fn cut(entries: &mut Vec<PlacedItem<DueRead>>, index: usize, count: usize)
     requires { index < vec_len entries.old }
-    ensures kept { (d : Line DueRead) → has_more (slice_index_or entries.old.items index d).item.reading count ≡ true
+    ensures kept { (d : PlacedItem DueRead) → has_more (slice_index_or entries.old.items index d).item.reading count ≡ true
         → entries.new.items ≡ slice_set entries.old.items index (line_left (slice_index_or entries.old.items index d)
         count) }
-    ensures gone { (d : Line DueRead) → has_more (slice_index_or entries.old.items index d).item.reading count ≡ false
+    ensures gone { (d : PlacedItem DueRead) → has_more (slice_index_or entries.old.items index d).item.reading count ≡ false
         → entries.new.items ≡ remove entries.old.items index }
 {
     if entries[index].item.reading.has_more(count) {

@@ -7,25 +7,25 @@ ghost use Rattle.scripted_world.specs.Scripts.{at_of, earliest, empty_script, is
 
 use crate::accepting::DuePeer;
 use crate::items::OpenItem;
-use crate::lines::Lines;
-use crate::looking::{Looked, Lookout, Watch};
-use crate::marks::{Moments, Places};
+use crate::lines::PlacedItems;
+use crate::looking::{LookedAt, Lookout, WatchKind};
+use crate::marks::Marks;
 use crate::reading::DueRead;
 use crate::writing::DueWrite;
-use relay_model::{ChildEnd, Place, ReadyAt, ReadyList};
+use relay_model::{ChildEnd, MOST_READY, Place, ReadyAt, ReadyList};
 use std::alloc::Global;
 
 /// The items that aren't used up, each list in order, and what a wait looks at: that whose last answer was that there
 /// is nothing yet, and that no turn has named since.
 #[derive(Debug, Drop)]
 pub struct Script {
-    pub reads: Lines<DueRead>,
-    pub writes: Lines<DueWrite>,
-    pub opens: Lines<OpenItem>,
-    pub peers: Lines<DuePeer>,
-    pub reaps: Lines<ChildEnd>,
-    pub shut_faults: Places,
-    pub stops: Moments,
+    pub reads: PlacedItems<DueRead>,
+    pub writes: PlacedItems<DueWrite>,
+    pub opens: PlacedItems<OpenItem>,
+    pub peers: PlacedItems<DuePeer>,
+    pub reaps: PlacedItems<ChildEnd>,
+    pub shut_faults: Marks<Place>,
+    pub stops: Marks<u64>,
     pub looked: Lookout,
 }
 
@@ -35,13 +35,13 @@ impl Script {
         ensures { result ≡ empty_script }
     {
         Script {
-            reads: Lines::new(alloc),
-            writes: Lines::new(alloc),
-            opens: Lines::new(alloc),
-            peers: Lines::new(alloc),
-            reaps: Lines::new(alloc),
-            shut_faults: Places::new(alloc),
-            stops: Moments::new(alloc),
+            reads: PlacedItems::new(alloc),
+            writes: PlacedItems::new(alloc),
+            opens: PlacedItems::new(alloc),
+            peers: PlacedItems::new(alloc),
+            reaps: PlacedItems::new(alloc),
+            shut_faults: Marks::new(alloc),
+            stops: Marks::new(alloc),
             looked: Lookout::new(alloc),
         }
     }
@@ -95,7 +95,7 @@ impl Script {
     }
 
     /// The earliest moment from which one of these is ready.
-    fn least_moment(&self, entries: &[Looked]) -> Option<u64>
+    fn least_moment(&self, entries: &[LookedAt]) -> Option<u64>
         ensures { result ≡ least_moment self.now entries.now }
     {
         let mut least = None;
@@ -107,22 +107,22 @@ impl Script {
 
     /// The moment from which something is ready; none where no items are left for it. With no items left for writes
     /// it is ready at once.
-    fn ready_from(&self, entry: Looked) -> Option<u64>
+    fn ready_from(&self, entry: LookedAt) -> Option<u64>
         ensures { result ≡ ready_from self.now entry }
     {
         match entry.watch {
-            Watch::Read => self.reads.next(entry.place).map(|line| line.at),
-            Watch::Write => {
+            WatchKind::Read => self.reads.next(entry.place).map(|line| line.at),
+            WatchKind::Write => {
                 let next = self.writes.next(entry.place);
                 Some(next.map_or(0, |line| line.at))
             }
-            Watch::Peer => self.peers.next(entry.place).map(|line| line.at),
-            Watch::Opening(_) => Some(0),
+            WatchKind::Peer => self.peers.next(entry.place).map(|line| line.at),
+            WatchKind::Opening(_) => Some(0),
         }
     }
 
     /// Whether something is ready at this moment.
-    fn is_ready(&self, entry: Looked, at: u64) -> bool
+    fn is_ready(&self, entry: LookedAt, at: u64) -> bool
         ensures { result ≡ is_ready self.now at entry }
     {
         match self.ready_from(entry) {
@@ -142,7 +142,7 @@ impl Script {
     }
 
     /// Names those of these that are ready at this moment, in order, as many as there is room for.
-    fn name_those(&self, entries: &[Looked], at: u64, ready: &mut ReadyList)
+    fn name_those(&self, entries: &[LookedAt], at: u64, ready: &mut ReadyList)
         requires room { 256 ≤ ready.old.room }
         requires empty { ready.old.entries ≡ [] }
         ensures room { 256 ≤ ready.new.room }
@@ -154,7 +154,7 @@ impl Script {
     }
 
     /// Names this, if it is ready at this moment and there is room for it.
-    fn name_if_ready(&self, entry: Looked, at: u64, ready: &mut ReadyList)
+    fn name_if_ready(&self, entry: LookedAt, at: u64, ready: &mut ReadyList)
         requires room { 256 ≤ ready.old.room }
         requires few { length ready.old.entries ≤ 256 }
         ensures room { 256 ≤ ready.new.room }
@@ -164,7 +164,7 @@ impl Script {
             ready.old.entries) }
     {
         if self.is_ready(entry, at) {
-            name(ready, entry.named());
+            name(ready, entry.ready_entry());
         }
     }
 }
@@ -176,7 +176,7 @@ fn name(ready: &mut ReadyList, entry: ReadyAt)
     ensures few { length ready.new.entries ≤ 256 }
     ensures named { ready.new.entries ≡ take 256 (ready.old.entries ++ entry ∷ []) }
 {
-    if ready.len() < ReadyList::MOST {
+    if ready.len() < MOST_READY {
         let _ = ready.push(entry);
     }
 }

@@ -4,7 +4,7 @@ ghost use Rattle.scripted_world.specs.Lines.{next_of};
 ghost use Rattle.scripted_world.specs.Writes.{HasCount, TakenFits, is_due, write_taken, writes_left, writing_of};
 
 use crate::items::WriteItem;
-use crate::lines::Lines;
+use crate::lines::PlacedItems;
 use relay_model::Place;
 use std::marker::Model;
 
@@ -68,44 +68,44 @@ pub struct DueWrite {
 
 /// What a write takes now.
 #[derive(Clone, Copy, Debug, PartialEq, Eq)]
-pub enum Taken {
+pub enum TakenNow {
     Upto(usize),
     NotYet,
     Fault,
 }
 
 /// What becomes of a write to the place at this moment.
-pub fn room(lines: &Lines<DueWrite>, place: Place, now: u64, count: usize) -> Taken
+pub fn room(lines: &PlacedItems<DueWrite>, place: Place, now: u64, count: usize) -> TakenNow
     requires { 0 < count }
     ensures is { result ≡ write_taken (next_of lines.now place) now count }
     ensures fits { TakenFits count result }
 {
     match lines.next(place) {
-        None => Taken::Upto(count),
+        None => TakenNow::Upto(count),
         Some(line) => line.take(now, count),
     }
 }
 
 impl DueWrite {
     /// What becomes of a write at this moment.
-    fn take(&self, now: u64, count: usize) -> Taken
+    fn take(&self, now: u64, count: usize) -> TakenNow
         requires { 0 < count }
         ensures is { result ≡ write_taken (Some self.now) now count }
         ensures fits { TakenFits count result }
     {
         if now < self.at {
-            return Taken::NotYet;
+            return TakenNow::NotYet;
         }
         match self.writing {
-            Writing::Upto(limit) => Taken::Upto(limit.of(count)),
-            Writing::NotYet => Taken::NotYet,
-            Writing::Fault => Taken::Fault,
+            Writing::Upto(limit) => TakenNow::Upto(limit.of(count)),
+            Writing::NotYet => TakenNow::NotYet,
+            Writing::Fault => TakenNow::Fault,
         }
     }
 }
 
 /// Uses up the next item of the place, if its moment has come.
-pub fn use_write(lines: &mut Lines<DueWrite>, place: Place, now: u64)
+pub fn use_write(lines: &mut PlacedItems<DueWrite>, place: Place, now: u64)
     ensures { lines.new ≡ writes_left lines.old place now }
 {
     if is_due(lines.next(place), now) {

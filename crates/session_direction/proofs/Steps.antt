@@ -18,7 +18,9 @@ use Rattle.relay_model.specs.Choices.{joined, only_if, or_else}
 use Rattle.relay_model.specs.Configs.{input, output, options_of, keeps_borders}
 use Rattle.relay_model.specs.Conversions.{packet_cap, is_over}
 use Rattle.relay_model.specs.History.{now, got, put, sent, met_end, met_empty, shut_at, read_fault_at, write_fault_at}
-use Rattle.relay_model.specs.Arming.{Arming, Disarmed, Armed, AtEnd, read_arming, armed_to_write, asked_to_read, asked_to_write}
+use Rattle.relay_model.specs.Arming.{read_arming, armed_to_write, asked_to_read, asked_to_write}
+use Rattle.relay_model.specs.declared.armings.Arming.{Arming}
+use Rattle.relay_model.specs.declared.armings.Arming.TheVariants.{Disarmed, Armed, AtEnd}
 use Rattle.relay_model.specs.Transfers.{due, due_pieces, is_empty, over}
 use Rattle.relay_model.specs.Moments.{passed, broken}
 use Rattle.relay_laws.proofs.PlaceLemmas.{same_place_self}

@@ -9,7 +9,8 @@ use Rattle.relay_model.specs.Choices.{joined, or_else}
 use Rattle.relay_model.specs.Configs.{input, output, options_of}
 use Rattle.relay_model.specs.Conversions.{is_over}
 use Rattle.relay_model.specs.History.{now, got, put, sent, met_end, met_empty, shut_at, read_fault_at, write_fault_at}
-use Rattle.relay_model.specs.Arming.{Disarmed, Armed, AtEnd, read_arming, armed_to_write, asked_to_read, asked_to_write}
+use Rattle.relay_model.specs.Arming.{read_arming, armed_to_write, asked_to_read, asked_to_write}
+use Rattle.relay_model.specs.declared.armings.Arming.TheVariants.{Disarmed, Armed, AtEnd}
 use Rattle.relay_model.specs.Transfers.{due, due_pieces, is_empty, over}
 use Rattle.relay_buffer.specs.Flows.{IsFlow}
 use Rattle.session_direction.specs.States.{DirectionState}

@@ -8,7 +8,9 @@ use Rattle.relay_model.specs.declared.acts.Act.{Act}
 use Rattle.relay_model.specs.declared.readiness.ReadyAt.{ReadyAt}
 use Rattle.relay_model.specs.Readiness.{Listed}
 use Rattle.relay_model.specs.Choices.{only_if}
-use Rattle.relay_model.specs.Configs.{Medium, Standard, Storage, Program, Connection, Datagrams, parts, input, output, formed, options_of, medium_of, keeps_borders, how}
+use Rattle.relay_model.specs.Configs.{parts, input, output, formed, options_of, medium_of, keeps_borders, how}
+use Rattle.relay_model.specs.declared.media.Medium.{Medium}
+use Rattle.relay_model.specs.declared.media.Medium.TheVariants.{Standard, Storage, Program, Connection, Datagrams}
 use Rattle.relay_model.specs.Conversions.{packet_cap}
 use Rattle.relay_model.specs.History.{got, put, sent, met_end, met_empty}
 use Rattle.relay_model.specs.Arming.{read_arming, armed_to_read, armed_to_write, asked_to_read, asked_to_write}

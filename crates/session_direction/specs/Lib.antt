@@ -1,4 +1,3 @@
-pub mod Armings
 pub mod Directions
 pub mod States
 pub mod Touches

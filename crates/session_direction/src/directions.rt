@@ -1,5 +1,5 @@
 // The fields of a direction, what it wants, and what each act makes of it.
-ghost use Rattle.std.specs.Prelude.{◌≡◌, ◌∷◌, ◌++◌, ◌≤◌, ◌<◌, ◌*◌, ◌&&◌, ◌||◌, not, ℕ, List, [], true, false, Option, Some, None, IfOk, if◌then◌else◌, is_some, length, take};
+ghost use Rattle.std.specs.Prelude.{◌≡◌, ◌∷◌, ◌++◌, ◌≤◌, ◌<◌, ◌*◌, ◌&&◌, ◌||◌, not, ℕ, List, [], true, false, Option, Some, None, IfOk, if◌then◌else◌, is_some, length, take, vec_len};
 ghost use Rattle.relay_model.specs.declared.acts.Act.{Act};
 ghost use Rattle.relay_model.specs.declared.acts.Act.TheVariants as acts;
 ghost use Rattle.relay_model.specs.declared.acts.Peer.{Peer};
@@ -18,19 +18,15 @@ ghost use Rattle.relay_model.specs.Rest.{input_moment, owes_write, way_work};
 ghost use Rattle.relay_model.specs.Transfers.{is_spent, over, greatest_read, backlog};
 ghost use Rattle.relay_model.specs.Arming.{armed_to_read, asked_to_write};
 ghost use Rattle.relay_buffer.specs.Flows.{room_in};
-ghost use Rattle.command_places.specs.Media.{as_medium};
 ghost use Rattle.session_direction.specs.Directions.{IsDirection, Wants, WantsRead, Affords, FitsRoom, granted, is_gathered, listed, terms_of};
 ghost use Rattle.session_direction.specs.declared.directions.Want.TheVariants as wants;
 ghost use Rattle.session_direction.specs.States.{can_read, can_write, left_after, read_price, steps_in};
 ghost use Rattle.session_direction.specs.Touches.{touches};
 
-use crate::armings::Arming;
-use command_places::{
-    Medium, formed, how, input, keeps_borders, medium_of, options_of, output, parts,
-};
+use command_places::{how, input, is_formed, keeps_borders, medium_of, options_of, output, parts};
 use line_ends::Convs;
 use relay_buffer::{Flow, Lane};
-use relay_model::{Config, Half, NoMemory, Place, ReadyAt, Shut, Side, Way};
+use relay_model::{Arming, Config, Half, Medium, NoMemory, Place, ReadyAt, Shut, Side, Way};
 use std::alloc::Global;
 use std::marker::Model;
 
@@ -90,7 +86,6 @@ pub struct Direction {
 
 impl Model for Direction {
     ghost use Rattle.std.specs.Prelude.{◌≡◌};
-    ghost use Rattle.session_direction.specs.Armings.{as_arming};
     ghost use Rattle.session_direction.specs.States.{DirectionState};
 
     ghost Value = { DirectionState };
@@ -104,7 +99,7 @@ impl Model for Direction {
       how = d.how;
       gathers = d.gathers;
       flow = d.flow;
-      arming = as_arming d.arming;
+      arming = d.arming;
       armed_out = d.armed_out;
       asked_in = d.asked_in;
       asked_out = d.asked_out;
@@ -352,7 +347,7 @@ impl Direction {
         self.arming.is_armed(at) && !self.is_over()
     }
 
-    /// A read, where the input is worth asking. While more than a block waits in one piece, nothing more is read.
+    /// A read, where the input is worth asking. While more than a block waits, nothing more is read.
     fn want_to_read(&self, at: u64) -> Want
         ensures wants { (c : Command) (past : List Act) (s : ℕ) (w : WayOf) → IsDirection c past s w self.now → at ≡ now past
             → running c past s ≡ true → 1 ≤ c.block → broken c past s w ≡ false → passed c past s w ≡ false
@@ -375,7 +370,7 @@ impl Direction {
         if room == 0 {
             return Want::Nothing;
         }
-        if self.flow.pending().len() > self.terms.block as usize {
+        if self.flow.waiting() > self.terms.block as usize {
             return Want::Nothing;
         }
         Want::Read(room)
@@ -411,7 +406,7 @@ impl Direction {
     // ---- what was done
 
     /// A place was opened, or a peer was accepted there.
-    pub fn opened(&mut self, place: Place)
+    pub fn hear_opening(&mut self, place: Place)
         ensures opened { (c : Command) (past : List Act) (s : ℕ) (w : WayOf) → IsDirection c past s w self.old
             → IsDirection c (acts.Opened place ∷ past) s w self.new }
         ensures accepted { (c : Command) (past : List Act) (s : ℕ) (w : WayOf) (peer : Peer) → IsDirection c past s w self.old
@@ -423,7 +418,7 @@ impl Direction {
     }
 
     /// Bytes were read.
-    pub fn read(&mut self, bytes: &[u8])
+    pub fn hear_read(&mut self, bytes: &[u8])
         requires { length bytes.now ≤ room_in self.old.flow }
         ensures goes { (c : Command) (past : List Act) (s : ℕ) (w : WayOf) → IsDirection c past s w self.old
             → passed c past s w ≡ false → IsDirection c (acts.Read (input c s w) bytes.now ∷ past) s w self.new }
@@ -435,8 +430,25 @@ impl Direction {
         self.flow.fill(bytes);
     }
 
+    /// The first `count` bytes of this block were read. Where they may wait in it, the direction keeps it, and its own takes
+    /// the place of it.
+    pub fn hear_block(&mut self, block: &mut Vec<u8>, count: usize)
+        requires within { count ≤ vec_len block.old }
+        requires room { count ≤ room_in self.old.flow }
+        ensures goes { (c : Command) (past : List Act) (s : ℕ) (w : WayOf) → IsDirection c past s w self.old
+            → passed c past s w ≡ false
+            → IsDirection c (acts.Read (input c s w) (take count block.old.items) ∷ past) s w self.new }
+        ensures fewer { can_read self.old ≡ true → steps_in self.new < steps_in self.old }
+        ensures block { vec_len block.new ≡ vec_len block.old }
+    {
+        self.extra = left_after(self.asked_in, self.read_price(), self.extra);
+        self.asked_in = true;
+        self.asked_out = false;
+        self.flow.fill_block(block, count);
+    }
+
     /// An empty packet was read.
-    pub fn read_empty(&mut self)
+    pub fn hear_empty(&mut self)
         ensures goes { (c : Command) (past : List Act) (s : ℕ) (w : WayOf) → IsDirection c past s w self.old
             → IsDirection c (acts.ReadEmpty (input c s w) ∷ past) s w self.new }
         ensures fewer { can_read self.old ≡ true → steps_in self.new < steps_in self.old }
@@ -447,7 +459,7 @@ impl Direction {
     }
 
     /// The end of the input was read.
-    pub fn ended(&mut self, at: u64)
+    pub fn hear_end(&mut self, at: u64)
         ensures goes { (c : Command) (past : List Act) (s : ℕ) (w : WayOf) → IsDirection c past s w self.old → at ≡ now past
             → IsDirection c (acts.ReadEnd (input c s w) ∷ past) s w self.new }
         ensures fewer { can_read self.old ≡ true → steps_in self.new < steps_in self.old }
@@ -459,7 +471,7 @@ impl Direction {
     }
 
     /// A read found nothing yet.
-    pub fn read_not_yet(&mut self)
+    pub fn hear_read_not_yet(&mut self)
         ensures goes { (c : Command) (past : List Act) (s : ℕ) (w : WayOf) → IsDirection c past s w self.old
             → IsDirection c (acts.ReadNotYet (input c s w) ∷ past) s w self.new }
         ensures fewer { can_read self.old ≡ true → steps_in self.new < steps_in self.old }
@@ -470,7 +482,7 @@ impl Direction {
     }
 
     /// A read failed, which breaks a sloppy direction.
-    pub fn read_failed(&mut self, at: u64)
+    pub fn hear_read_failure(&mut self, at: u64)
         ensures goes { (c : Command) (past : List Act) (s : ℕ) (w : WayOf) → IsDirection c past s w self.old → at ≡ now past
             → IsDirection c (acts.ReadFault (input c s w) ∷ past) s w self.new }
         ensures fewer { can_read self.old ≡ true → steps_in self.new < steps_in self.old }
@@ -481,7 +493,7 @@ impl Direction {
     }
 
     /// So many of the bytes that wait were written.
-    pub fn wrote(&mut self, count: usize)
+    pub fn hear_write(&mut self, count: usize)
         requires within { count ≤ length self.old.flow.backlog }
         requires whole { is_some self.old.flow.lane.packets ≡ true → count ≡ length self.old.flow.backlog }
         ensures goes { (c : Command) (past : List Act) (s : ℕ) (w : WayOf) → IsDirection c past s w self.old → 1 ≤ count
@@ -497,7 +509,7 @@ impl Direction {
     }
 
     /// The output takes nothing yet.
-    pub fn write_not_yet(&mut self)
+    pub fn hear_write_not_yet(&mut self)
         ensures goes { (c : Command) (past : List Act) (s : ℕ) (w : WayOf) → IsDirection c past s w self.old
             → IsDirection c (acts.WriteNotYet (output c s w) ∷ past) s w self.new }
         ensures fewer { can_write self.old ≡ true → steps_in self.new < steps_in self.old }
@@ -508,7 +520,7 @@ impl Direction {
     }
 
     /// A write failed, which breaks a sloppy direction.
-    pub fn write_failed(&mut self, at: u64)
+    pub fn hear_write_failure(&mut self, at: u64)
         ensures goes { (c : Command) (past : List Act) (s : ℕ) (w : WayOf) → IsDirection c past s w self.old → at ≡ now past
             → broken c past s w ≡ false → IsDirection c (acts.WriteFault (output c s w) ∷ past) s w self.new }
         ensures fewer { can_write self.old ≡ true → steps_in self.new < steps_in self.old }
@@ -519,7 +531,7 @@ impl Direction {
     }
 
     /// The end was passed on, or failed to be.
-    pub fn passed(&mut self, at: u64)
+    pub fn pass_end(&mut self, at: u64)
         ensures shut { (c : Command) (past : List Act) (s : ℕ) (w : WayOf) (way : Shutting) → IsDirection c past s w self.old
             → at ≡ now past → MayShut c past (output c s w) way
             → IsDirection c (acts.Shut (output c s w) way ∷ past) s w self.new }
@@ -532,7 +544,7 @@ impl Direction {
     }
 
     /// A wait has returned, and names nothing yet.
-    pub fn woken(&mut self)
+    pub fn wake(&mut self)
         ensures { (c : Command) (past : List Act) (s : ℕ) (w : WayOf) (until : Option ℕ) (at : ℕ)
             → IsDirection c past s w self.old
             → IsDirection c (acts.Turn until at (listed []) false ∷ past) s w self.new }
@@ -543,7 +555,7 @@ impl Direction {
     }
 
     /// The last turn names this half too, which may be one of the direction's.
-    pub fn named(&mut self, entry: ReadyAt)
+    pub fn hear_name(&mut self, entry: ReadyAt)
         ensures goes { (c : Command) (past : List Act) (s : ℕ) (w : WayOf) (until : Option ℕ) (at : ℕ) (names : List Entry)
             → IsDirection c (acts.Turn until at (listed names) false ∷ past) s w self.old
             → IsDirection c (acts.Turn until at (listed (names ++ entry ∷ [])) false ∷ past) s w self.new }
@@ -556,7 +568,7 @@ impl Direction {
     }
 
     /// A law: an act that doesn't touch the direction leaves it, and so does a stop that a turn tells of.
-    pub fn unmoved(&self)
+    pub fn stay(&self)
         ensures untouched { (c : Command) (past : List Act) (s : ℕ) (w : WayOf) (act : Act) → touches c s w act ≡ false
             → IsDirection c past s w self.now → IsDirection c (act ∷ past) s w self.now }
         ensures stopped { (c : Command) (past : List Act) (s : ℕ) (w : WayOf) (until : Option ℕ) (at : ℕ) (ready : Listed)
@@ -590,7 +602,7 @@ fn terms_of(config: &Config, way: Way) -> Lane
 
 /// Whether bytes from there come in small pieces, which are gathered.
 fn is_gathered(medium: Medium) -> bool
-    ensures { result ≡ is_gathered (as_medium medium) }
+    ensures { result ≡ is_gathered medium }
 {
     match medium {
         Medium::Standard | Medium::Storage | Medium::Program => true,
@@ -604,7 +616,7 @@ fn granted(config: &Config) -> u8
 {
     let places = parts(config, Side::Left).len() + parts(config, Side::Right).len();
     let left = MOST_CALLS - OPENING_CALLS * places;
-    let share = if formed(config, Way::LeftToRight) && formed(config, Way::RightToLeft) {
+    let share = if is_formed(config, Way::LeftToRight) && is_formed(config, Way::RightToLeft) {
         left / 2
     } else {
         left

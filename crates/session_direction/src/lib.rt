@@ -2,7 +2,6 @@
 //! was done. No call after `new` takes memory.
 #![tactic(auto)]
 
-mod armings;
 mod directions;
 
 pub use directions::{Direction, Want};

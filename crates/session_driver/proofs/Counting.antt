@@ -22,7 +22,7 @@ use Rattle.relay_session.specs.Sessions.{Stands}
 use Rattle.world_trait.specs.Seen.{Seen}
 use Rattle.session_driver.specs.Steps.{Acts}
 use Rattle.session_driver.specs.Noted.{note_of}
-use Rattle.session_driver.specs.Dumpers.{Counted, Counts, Settled, counted_at, counted_after}
+use Rattle.session_driver.specs.Dumpers.{Counted, Counts, IsDumpSettled, counted_at, counted_after}
 use Rattle.session_driver.specs.declared.dumpers.Dumper.{Dumper}
 
 -- ---- what is owed
@@ -51,10 +51,10 @@ read_owes c past p bytes dumped = go c.dump refl
 
 -- ---- what is counted
 
-pub settled_undumped : (c : Config) (past : List Act) (s : ℕ) (dumper : Dumper) → c.dump ≡ dumps.Off → Settled c past s dumper
+pub settled_undumped : (c : Config) (past : List Act) (s : ℕ) (dumper : Dumper) → c.dump ≡ dumps.Off → IsDumpSettled c past s dumper
 settled_undumped c past s dumper e = record { unowed = undumped_owes c past e; counted = λ dumped. absurd (dumped e) }
 
-pub settled_on : (c : Config) (act : Act) (past : List Act) (s : ℕ) (dumper dumper' : Dumper) → reads_bytes act ≡ false → dumper' ≡ dumper → Counted c past s dumper → Settled c (act ∷ past) s dumper'
+pub settled_on : (c : Config) (act : Act) (past : List Act) (s : ℕ) (dumper dumper' : Dumper) → reads_bytes act ≡ false → dumper' ≡ dumper → Counted c past s dumper → IsDumpSettled c (act ∷ past) s dumper'
 settled_on c act past s dumper dumper' e d counted =
     record {
       unowed = unread_owes c act past e;

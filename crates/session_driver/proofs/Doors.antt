@@ -21,7 +21,7 @@ use Rattle.program_door.specs.declared.wishes.DoorWish.TheVariants as wishes
 use Rattle.program_door.specs.declared.wishes.DoorAnswer.{DoorAnswer}
 use Rattle.program_door.specs.declared.wishes.DoorAnswer.TheVariants as answers
 use Rattle.program_door.specs.Steps.{DoorHeard, DoorHeardBy}
-use Rattle.program_door.specs.Wishes.{Wished, Ends, act_of}
+use Rattle.program_door.specs.Wishes.{Wished, EndsCalls, act_of}
 use Rattle.world_trait.specs.Seen.{Seen}
 use Rattle.session_driver.specs.DoorSteps.{DoorActs, AdmitsNone, EndsNone, WishFor, DoorFor, DoorStepIs}
 use Rattle.session_driver.specs.declared.door_stepped.DoorStepped.{DoorStepped}

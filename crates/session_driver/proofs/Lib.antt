@@ -3,4 +3,5 @@ pub mod Doors
 pub mod Hearing
 pub mod Noting
 pub mod Owning
+pub mod Reading
 pub mod Sizes

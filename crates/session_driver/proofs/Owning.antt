@@ -7,8 +7,10 @@ use Rattle.relay_model.specs.Places.{same_place}
 use Rattle.relay_model.specs.Configs.{is_of, is_program_door, input, output, places, things, way_from, way_to}
 use Rattle.relay_model.specs.Frames.{is_at, is_turn}
 use Rattle.relay_model.specs.Sessions.{live}
-use Rattle.relay_model.specs.Openings.{Nothing, first_call}
-use Rattle.relay_model.specs.Openings as calls
+use Rattle.relay_model.specs.Openings.{first_call}
+use Rattle.relay_model.specs.declared.calls.Call.TheVariants.{Nothing}
+use Rattle.relay_model.specs.declared.calls.Call.{Call}
+use Rattle.relay_model.specs.declared.calls.Call.TheVariants as calls
 use Rattle.relay_model.specs.Cause.{cause}
 use Rattle.relay_model.specs.Calls.{call}
 use Rattle.relay_laws.proofs.PlaceLemmas.{same_place_equal}
@@ -50,7 +52,7 @@ call_own c past s = go (live c past s && is_none (cause c past s))
     go true = names_own c past s
     go false = tt
 
-called_own : (c : Config) (past : List Act) (s : ℕ) (k : calls.Call) → call c past s ≡ k → NamesOwn c s k
+called_own : (c : Config) (past : List Act) (s : ℕ) (k : Call) → call c past s ≡ k → NamesOwn c s k
 called_own c past s k e = subst (NamesOwn c s) e (call_own c past s)
 
 at_thing : (c : Config) (s : ℕ) (p q : Place) → p.session ≡ s → same_place p q ≡ true → is_program_door c q ≡ false → OwnThing c s p

@@ -9,7 +9,7 @@ use Rattle.relay_model.specs.declared.acts.Act.{Act}
 use Rattle.relay_model.specs.declared.commands.Config.{Config}
 use Rattle.relay_model.specs.declared.places.Place.{Place}
 use Rattle.relay_model.specs.declared.places.Way.{Way}
-use Rattle.relay_session.specs.Lanes.{Reads}
+use Rattle.relay_session.specs.Lanes.{ReadsAt}
 
 left_within : (readbytes : Option ℕ) (count n m : ℕ) → n ≤ m → at_most_left readbytes count n ≤ m
 left_within None count n m h = h
@@ -34,5 +34,5 @@ read_within : (c : Config) (past : List Act) (s : ℕ) (w : Way) → greatest_re
 read_within c past s w = size_within (keeps_borders c w) c past s w
 
 -- a wished read fits into what holds a block
-pub wish_fits : (c : Config) (past : List Act) (s : ℕ) (p : Place) (n room : ℕ) → Reads c past s p n → c.block ≤ room → n ≤ room
+pub wish_fits : (c : Config) (past : List Act) (s : ℕ) (p : Place) (n room : ℕ) → ReadsAt c past s p n → c.block ≤ room → n ≤ room
 wish_fits c past s p n room wished fits = let size = wished.size in omega (arith, size, read_within c past s (way_from p.side), fits)

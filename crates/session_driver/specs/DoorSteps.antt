@@ -11,7 +11,7 @@ use Rattle.relay_model.specs.Holding.{standing}
 use Rattle.relay_model.specs.History.{now as moment}
 use Rattle.relay_model.specs.Journals.{Asking}
 use Rattle.relay_model.specs.Sessions.{admitted, live_count, next_place, permits}
-use Rattle.relay_model.specs.Openings.{Accept}
+use Rattle.relay_model.specs.declared.calls.Call.TheVariants.{Accept}
 use Rattle.relay_model.specs.Calls.{door_call}
 use Rattle.relay_model.specs.May.{Legal}
 use Rattle.relay_model.specs.Frames.{is_turn, is_common, reads_bytes, IsForeign}

@@ -40,6 +40,6 @@ Counted c past s dumper =
     c.dump ≢ dumps.Off → (side : Side) → counted_at dumper side ≡ min (length (got past (input c s (way_from side)))) (2 ^ 64 - 1)
 
 -- no dump is owed after these acts, and what the session read is counted
-pub record Settled (c : Config) (past : List Act) (s : ℕ) (dumper : Dumper) : Type 0 where
+pub record IsDumpSettled (c : Config) (past : List Act) (s : ℕ) (dumper : Dumper) : Type 0 where
   pub unowed : owed c past ≡ None
   pub counted : Counted c past s dumper

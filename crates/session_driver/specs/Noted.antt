@@ -50,6 +50,18 @@ abbrev pub UnreadIs : Config → Seen → Seen → Session → Session → Stepp
 UnreadIs c old new before after steps.Acted = (act : Act) × (reads_bytes act ≡ false) × IsFaultless c act × Acts c old new before after act
 UnreadIs c old new before after stepped = StepIs c old new before after stepped
 
+-- the world read these bytes
+pub record Came (old new : Seen) (p : Place) (bytes : List ℕ) : Type 0 where
+  pub did : Answered old new (Some (Read p bytes))
+  pub rose : Rose old.faults new.faults false
+  pub waitless : Waitless old new
+
+-- what an asking for bytes was: bytes at the front of what they were read into, of which the session hasn't heard yet, or
+-- another step
+abbrev pub AskIs : Config → Seen → Seen → Session → Session → Place → List ℕ → Fetched → Type 0
+AskIs c old new before after p into (fetches.Bytes n) = (0 < n) × (n ≤ length into) × (after ≡ before) × Came old new p (take n into)
+AskIs c old new before after p into (fetches.Other stepped) = UnreadIs c old new before after stepped
+
 -- what a wished read was: bytes at the front of what they were read into, or another step
 abbrev pub FetchIs : Config → Seen → Seen → Session → Session → Place → List ℕ → Fetched → Type 0
 FetchIs c old new before after p into (fetches.Bytes n) = (0 < n) × (n ≤ length into) × Acts c old new before after (Read p (take n into))

@@ -6,7 +6,7 @@ use Rattle.relay_model.specs.declared.acts.Why.TheVariants as whys
 use Rattle.relay_model.specs.declared.places.Place.{Place}
 use Rattle.relay_model.specs.declared.commands.Config.{Config}
 use Rattle.relay_model.specs.Configs.{is_of, is_place_of, is_program_door, single}
-use Rattle.relay_model.specs.Holding.{standing}
+use Rattle.relay_model.specs.Holding.{is_open, standing}
 use Rattle.relay_model.specs.History.{turns}
 use Rattle.relay_model.specs.Journals.{History, Asking}
 use Rattle.relay_model.specs.May.{Legal}
@@ -97,6 +97,13 @@ IsFaultless c act = (past : List Act) (s : ℕ) → first_fault c (act ∷ past)
 -- the place is one of the session's
 abbrev pub IsOwn : Config → Session → Place → Type 0
 IsOwn c session p = (n : ℕ) (past : List Act) (s : ℕ) → Stands c n past s session → is_place_of c s p ≡ true
+
+-- the session, which nothing has ended, wishes to read so many bytes at a place of its own that is open
+pub record WishesRead (c : Config) (now : Seen) (session : Session) (place : Place) (at_most : ℕ) : Type 0 where
+  pub wish : wish_of session ≡ wishes.Read place at_most
+  pub opened : is_open (now.held place) ≡ true
+  pub own : IsOwn c session place
+  pub going : has_ended session ≡ false
 
 -- nothing was done, and the session stands for what it stood for
 pub record Idles (c : Config) (old new : Seen) (before after : Session) : Type 0 where

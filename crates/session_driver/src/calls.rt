@@ -1,13 +1,13 @@
 // The calls that a session wishes for, each made on a world.
-ghost use Rattle.std.specs.Prelude.{◌≡◌, ℕ, ◌<◌, ◌≤◌, List, length, true, false};
+ghost use Rattle.std.specs.Prelude.{◌≡◌, ℕ, ◌<◌, ◌≤◌, List, length, take, true, false, vec_len};
 ghost use Rattle.relay_model.specs.declared.acts.Act.{Act};
 ghost use Rattle.relay_model.specs.Configs.{is_of};
-ghost use Rattle.relay_model.specs.Holding.{Free, Settling, Open, is_free, is_open};
+ghost use Rattle.relay_model.specs.Holding.{Free, Settling, Open, is_free};
 ghost use Rattle.world_trait.specs.Answers.{NotReaped};
 ghost use Rattle.relay_session.specs.declared.wishes.Wish.TheVariants as wishes;
 ghost use Rattle.relay_session.specs.Sessions.{Stands, wish_of, has_ended};
-ghost use Rattle.session_driver.specs.Noted.{FetchIs};
-ghost use Rattle.session_driver.specs.Steps.{IsCut, IsOwn, Meets, StepIs};
+ghost use Rattle.session_driver.specs.Noted.{AskIs, FetchIs};
+ghost use Rattle.session_driver.specs.Steps.{IsCut, IsOwn, Meets, StepIs, WishesRead};
 ghost use Rattle.session_driver.specs.declared.stepped.Stepped.TheVariants as steps;
 
 use crate::stepped::{Fetched, Stepped};
@@ -44,15 +44,15 @@ pub fn open<W: World>(
     let behind = session.peer();
     match world.open_place(place, single(config, place), behind) {
         OpenAnswer::Opened => {
-            session.heard(0, Answer::Opened);
+            session.hear(Answer::Opened);
             Stepped::Acted
         }
         OpenAnswer::Later => {
-            session.heard(0, Answer::Later);
+            session.hear(Answer::Later);
             Stepped::Acted
         }
         OpenAnswer::Failed => {
-            session.heard(0, Answer::Failed);
+            session.hear(Answer::Failed);
             Stepped::Acted
         }
         OpenAnswer::Memory => want(session),
@@ -73,15 +73,15 @@ pub fn settle<W: World>(
 {
     match world.settle(place) {
         OpenAnswer::Opened => {
-            session.heard(0, Answer::Opened);
+            session.hear(Answer::Opened);
             Stepped::Acted
         }
         OpenAnswer::Later => {
-            session.heard(0, Answer::Later);
+            session.hear(Answer::Later);
             Stepped::Acted
         }
         OpenAnswer::Failed => {
-            session.heard(0, Answer::Failed);
+            session.hear(Answer::Failed);
             Stepped::Acted
         }
         OpenAnswer::Memory => want(session),
@@ -103,11 +103,11 @@ pub fn listen<W: World>(
 {
     match world.listen(door, single(config, door)) {
         ListenAnswer::Listening => {
-            session.heard(0, Answer::Listening);
+            session.hear(Answer::Listening);
             Stepped::Acted
         }
         ListenAnswer::Failed => {
-            session.heard(0, Answer::Failed);
+            session.hear(Answer::Failed);
             Stepped::Acted
         }
         ListenAnswer::Memory => want(session),
@@ -130,47 +130,55 @@ pub fn accept<W: World>(
 {
     match world.accept(door, place) {
         AcceptAnswer::Accepted(peer) => {
-            session.heard(0, Answer::Accepted(peer));
+            session.hear(Answer::Accepted(peer));
             Stepped::Acted
         }
         AcceptAnswer::NoPeer => {
-            session.heard(0, Answer::NoPeer);
+            session.hear(Answer::NoPeer);
             Stepped::Acted
         }
         AcceptAnswer::Failed => {
-            session.heard(0, Answer::Failed);
+            session.hear(Answer::Failed);
             Stepped::Acted
         }
         AcceptAnswer::Memory => want(session),
     }
 }
 
-/// Asks for so many bytes, which are read into the front of the scratch.
+/// Asks for so many bytes, which are read into the front of the scratch. Where the session keeps that block, its own takes
+/// the place of it.
 pub fn read<W: World>(
     session: &mut Session,
     world: &mut W,
     config: &Config,
-    scratch: &mut [u8],
+    scratch: &mut Vec<u8>,
     place: Place,
     at_most: usize,
 ) -> Stepped
-    requires wish { wish_of session.old ≡ wishes.Read place at_most }
-    requires open { is_open ((W.seen world.old).held place) ≡ true }
+    requires reads { WishesRead config.now (W.seen world.old) session.old place at_most }
     requires some { 0 < at_most }
-    requires own { IsOwn config.now session.old place }
-    requires within { at_most ≤ length scratch.old }
-    requires going { has_ended session.old ≡ false }
+    requires within { at_most ≤ vec_len scratch.old }
     ensures step { StepIs config.now (W.seen world.old) (W.seen world.new) session.old session.new result }
-    ensures scratch { length scratch.new ≡ length scratch.old }
+    ensures scratch { vec_len scratch.new ≡ vec_len scratch.old }
 {
-    let into = &mut scratch[..at_most];
-    match fetch(session, world, config, into, place, at_most) {
-        Fetched::Bytes(_) => Stepped::Acted,
+    match ask_front(
+        session,
+        world,
+        config,
+        scratch.as_mut_slice(),
+        place,
+        at_most,
+    ) {
+        Fetched::Bytes(count) => {
+            session.hear_block(scratch, count);
+            Stepped::Acted
+        }
         Fetched::Other(stepped) => stepped,
     }
 }
 
-/// Asks for as many bytes as `into` has room for, which are those of the wish, and tells how many came.
+/// Asks for as many bytes as `into` has room for, which are those of the wish, has the session hear of them, and tells how
+/// many came.
 pub fn fetch<W: World>(
     session: &mut Session,
     world: &mut W,
@@ -179,34 +187,79 @@ pub fn fetch<W: World>(
     place: Place,
     at_most: usize,
 ) -> Fetched
-    requires wish { wish_of session.old ≡ wishes.Read place at_most }
-    requires open { is_open ((W.seen world.old).held place) ≡ true }
-    requires own { IsOwn config.now session.old place }
+    requires reads { WishesRead config.now (W.seen world.old) session.old place at_most }
     requires some { 0 < length into.old }
     requires wished { length into.old ≡ at_most }
-    requires going { has_ended session.old ≡ false }
     ensures step { FetchIs config.now (W.seen world.old) (W.seen world.new) session.old session.new place into.new result }
     ensures into { length into.new ≡ length into.old }
 {
-    match world.read(place, into) {
-        ReadAnswer::Bytes(count) => {
-            session.heard(0, Answer::Bytes(&into[..count]));
+    match ask(session, world, config, into, place, at_most) {
+        Fetched::Bytes(count) => {
+            session.hear(Answer::Bytes(&into[..count]));
             Fetched::Bytes(count)
         }
+        Fetched::Other(stepped) => Fetched::Other(stepped),
+    }
+}
+
+/// Asks for so many bytes, which are read into the front of the block. Of bytes that come the session hasn't heard yet.
+fn ask_front<W: World>(
+    session: &mut Session,
+    world: &mut W,
+    config: &Config,
+    block: &mut [u8],
+    place: Place,
+    at_most: usize,
+) -> Fetched
+    requires reads { WishesRead config.now (W.seen world.old) session.old place at_most }
+    requires some { 0 < at_most }
+    requires within { at_most ≤ length block.old }
+    ensures step { AskIs config.now (W.seen world.old) (W.seen world.new) session.old session.new place
+        (take at_most block.new) result }
+    ensures block { length block.new ≡ length block.old }
+{
+    ask(
+        session,
+        world,
+        config,
+        &mut block[..at_most],
+        place,
+        at_most,
+    )
+}
+
+/// Asks for as many bytes as `into` has room for, which are those of the wish. Of bytes that come the session hasn't heard
+/// yet.
+fn ask<W: World>(
+    session: &mut Session,
+    world: &mut W,
+    config: &Config,
+    into: &mut [u8],
+    place: Place,
+    at_most: usize,
+) -> Fetched
+    requires reads { WishesRead config.now (W.seen world.old) session.old place at_most }
+    requires some { 0 < length into.old }
+    requires wished { length into.old ≡ at_most }
+    ensures step { AskIs config.now (W.seen world.old) (W.seen world.new) session.old session.new place into.new result }
+    ensures into { length into.new ≡ length into.old }
+{
+    match world.read(place, into) {
+        ReadAnswer::Bytes(count) => Fetched::Bytes(count),
         ReadAnswer::Empty => {
-            session.heard(0, Answer::Empty);
+            session.hear(Answer::Empty);
             Fetched::Other(Stepped::Acted)
         }
         ReadAnswer::End => {
-            session.heard(0, Answer::End);
+            session.hear(Answer::End);
             Fetched::Other(Stepped::Acted)
         }
         ReadAnswer::NotYet => {
-            session.heard(0, Answer::NotYet);
+            session.hear(Answer::NotYet);
             Fetched::Other(Stepped::Acted)
         }
         ReadAnswer::Failed => {
-            session.heard(0, Answer::Failed);
+            session.hear(Answer::Failed);
             Fetched::Other(Stepped::ReadFailed(place))
         }
         ReadAnswer::Memory => Fetched::Other(want(session)),
@@ -229,15 +282,15 @@ pub fn write<W: World>(
 {
     match world.write(place, session.pending()) {
         WriteAnswer::Took(count) => {
-            session.heard(0, Answer::Took(count));
+            session.hear(Answer::Took(count));
             Stepped::Acted
         }
         WriteAnswer::NotYet => {
-            session.heard(0, Answer::NotYet);
+            session.hear(Answer::NotYet);
             Stepped::Acted
         }
         WriteAnswer::Failed => {
-            session.heard(0, Answer::Failed);
+            session.hear(Answer::Failed);
             Stepped::WriteFailed(place)
         }
         WriteAnswer::Memory => want(session),
@@ -262,15 +315,15 @@ pub fn send<W: World>(
     let count = packet.len();
     match world.send(place, packet) {
         SendAnswer::Sent => {
-            session.heard(0, Answer::Took(count));
+            session.hear(Answer::Took(count));
             Stepped::Acted
         }
         SendAnswer::NotYet => {
-            session.heard(0, Answer::NotYet);
+            session.hear(Answer::NotYet);
             Stepped::Acted
         }
         SendAnswer::Failed => {
-            session.heard(0, Answer::Failed);
+            session.hear(Answer::Failed);
             Stepped::WriteFailed(place)
         }
         SendAnswer::Memory => want(session),
@@ -292,11 +345,11 @@ pub fn shut<W: World>(
 {
     match world.shut(place, how) {
         ShutAnswer::Done => {
-            session.heard(0, Answer::Done);
+            session.hear(Answer::Done);
             Stepped::Acted
         }
         ShutAnswer::Failed => {
-            session.heard(0, Answer::Failed);
+            session.hear(Answer::Failed);
             Stepped::Acted
         }
         ShutAnswer::Memory => want(session),
@@ -317,7 +370,7 @@ pub fn close<W: World>(
     ensures step { StepIs config.now (W.seen world.old) (W.seen world.new) session.old session.new result }
 {
     world.close(place, why);
-    session.heard(0, Answer::Done);
+    session.hear(Answer::Done);
     Stepped::Acted
 }
 
@@ -335,11 +388,11 @@ pub fn reap<W: World>(
 {
     match world.reap(place) {
         ReapAnswer::Reaped(end) => {
-            session.heard(0, Answer::Reaped(end));
+            session.hear(Answer::Reaped(end));
             Stepped::Acted
         }
         ReapAnswer::NoChild | ReapAnswer::Memory => {
-            session.heard(0, Answer::NoChild);
+            session.hear(Answer::NoChild);
             Stepped::Childless
         }
     }

@@ -23,11 +23,11 @@ pub fn listen<W: World>(door: &mut Door, world: &mut W, config: &Config, now: u6
     let place = program_door();
     match world.listen(place, single(config, place)) {
         ListenAnswer::Listening => {
-            door.heard(now, DoorWish::Listen, DoorAnswer::Listening);
+            door.hear(now, DoorWish::Listen, DoorAnswer::Listening);
             DoorStepped::Acted
         }
         ListenAnswer::Failed => {
-            door.heard(now, DoorWish::Listen, DoorAnswer::Failed);
+            door.hear(now, DoorWish::Listen, DoorAnswer::Failed);
             DoorStepped::Acted
         }
         ListenAnswer::Memory => DoorStepped::Memory,
@@ -50,20 +50,20 @@ pub fn accept<W: World>(
     let wish = DoorWish::Accept { place };
     match world.accept(program_door(), place) {
         AcceptAnswer::Accepted(peer) => {
-            let before = door.admitted();
-            door.heard(now, wish, DoorAnswer::Accepted(peer));
-            if door.admitted() == before {
+            let before = door.admitted_count();
+            door.hear(now, wish, DoorAnswer::Accepted(peer));
+            if door.admitted_count() == before {
                 DoorStepped::Acted
             } else {
                 DoorStepped::Admitted(peer)
             }
         }
         AcceptAnswer::NoPeer => {
-            door.heard(now, wish, DoorAnswer::NoPeer);
+            door.hear(now, wish, DoorAnswer::NoPeer);
             DoorStepped::Acted
         }
         AcceptAnswer::Failed => {
-            door.heard(now, wish, DoorAnswer::Failed);
+            door.hear(now, wish, DoorAnswer::Failed);
             DoorStepped::AcceptFailed
         }
         AcceptAnswer::Memory => DoorStepped::Memory,
@@ -86,6 +86,6 @@ pub fn close<W: World>(
         (W.seen world.new) door.old door.new result }
 {
     world.close(place, why);
-    door.heard(now, wish, DoorAnswer::Closed);
+    door.hear(now, wish, DoorAnswer::Closed);
     DoorStepped::Acted
 }

@@ -1,10 +1,7 @@
 // The next step of a session whose reads are dumped: the text of what was read is noted before anything else. Where there
 // is no memory for that, a closing for want of memory is the one act that may come instead.
-ghost use Rattle.std.specs.Prelude.{◌≡◌, ◌≢◌, ◌<◌, ◌≤◌, length, true, false};
-ghost use Rattle.relay_model.specs.Holding.{is_open};
-ghost use Rattle.relay_session.specs.Sessions.{wish_of, has_ended};
-ghost use Rattle.relay_session.specs.declared.wishes.Wish.TheVariants as wishes;
-ghost use Rattle.session_driver.specs.Steps.{IsOwn};
+ghost use Rattle.std.specs.Prelude.{◌≡◌, ◌≢◌, ◌<◌, ◌≤◌, length, vec_len};
+ghost use Rattle.session_driver.specs.Steps.{WishesRead};
 ghost use Rattle.session_driver.specs.Dumpers.{Counts};
 ghost use Rattle.session_driver.specs.Noted.{MeetsUnowed, NotedStep, NoteIs};
 ghost use Rattle.session_driver.specs.Owing.{ClosesShort, IsShort, OwingStep};
@@ -23,13 +20,13 @@ pub fn step_noted<W: World>(
     session: &mut Session,
     world: &mut W,
     config: &Config,
-    scratch: &mut [u8],
+    scratch: &mut Vec<u8>,
     dumper: &mut Dumper,
 ) -> Stepped
-    requires block { config.now.block ≤ length scratch.old }
+    requires block { config.now.block ≤ vec_len scratch.old }
     requires meets { MeetsUnowed config.now (W.seen world.old) session.old }
     ensures step { NotedStep config.now (W.seen world.old) (W.seen world.new) session.old session.new dumper.old dumper.new result }
-    ensures scratch { length scratch.new ≡ length scratch.old }
+    ensures scratch { vec_len scratch.new ≡ vec_len scratch.old }
 {
     match step_owing(session, world, config, scratch, dumper) {
         Some(stepped) => stepped,
@@ -47,13 +44,13 @@ pub fn step_owing<W: World>(
     session: &mut Session,
     world: &mut W,
     config: &Config,
-    scratch: &mut [u8],
+    scratch: &mut Vec<u8>,
     dumper: &mut Dumper,
 ) -> Option<Stepped>
-    requires block { config.now.block ≤ length scratch.old }
+    requires block { config.now.block ≤ vec_len scratch.old }
     requires meets { MeetsUnowed config.now (W.seen world.old) session.old }
     ensures step { OwingStep config.now (W.seen world.old) (W.seen world.new) session.old session.new dumper.old dumper.new result }
-    ensures scratch { length scratch.new ≡ length scratch.old }
+    ensures scratch { vec_len scratch.new ≡ vec_len scratch.old }
 {
     match config.dump {
         Dump::Off => Some(step(session, world, config, scratch)),
@@ -66,18 +63,18 @@ fn step_dumped<W: World>(
     session: &mut Session,
     world: &mut W,
     config: &Config,
-    scratch: &mut [u8],
+    scratch: &mut Vec<u8>,
     dumper: &mut Dumper,
 ) -> Option<Stepped>
     requires dumped { config.now.dump ≢ Dump.Off }
-    requires block { config.now.block ≤ length scratch.old }
+    requires block { config.now.block ≤ vec_len scratch.old }
     requires meets { MeetsUnowed config.now (W.seen world.old) session.old }
     ensures step { OwingStep config.now (W.seen world.old) (W.seen world.new) session.old session.new dumper.old dumper.new result }
-    ensures scratch { length scratch.new ≡ length scratch.old }
+    ensures scratch { vec_len scratch.new ≡ vec_len scratch.old }
 {
     match session.wish() {
         Wish::Read { place, at_most } => {
-            let into = &mut scratch[..at_most];
+            let into = &mut scratch.as_mut_slice()[..at_most];
             read_noted(session, world, config, into, dumper, place, at_most)
         }
         _ => Some(step(session, world, config, scratch)),
@@ -95,12 +92,9 @@ fn read_noted<W: World>(
     at_most: usize,
 ) -> Option<Stepped>
     requires dumped { config.now.dump ≢ Dump.Off }
-    requires wish { wish_of session.old ≡ wishes.Read place at_most }
-    requires open { is_open ((W.seen world.old).held place) ≡ true }
-    requires own { IsOwn config.now session.old place }
+    requires reads { WishesRead config.now (W.seen world.old) session.old place at_most }
     requires some { 0 < length into.old }
     requires wished { length into.old ≡ at_most }
-    requires going { has_ended session.old ≡ false }
     requires meets { MeetsUnowed config.now (W.seen world.old) session.old }
     ensures step { OwingStep config.now (W.seen world.old) (W.seen world.new) session.old session.new dumper.old dumper.new result }
     ensures scratch { length into.new ≡ length into.old }

@@ -21,7 +21,7 @@ pub enum Stepped {
 /// What became of a wished read.
 #[derive(Clone, Copy, Debug, PartialEq, Eq)]
 pub enum Fetched {
-    /// So many bytes were read, and heard.
+    /// So many bytes were read.
     Bytes(usize),
     Other(Stepped),
 }

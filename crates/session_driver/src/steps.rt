@@ -1,5 +1,5 @@
 // The next step of a session.
-ghost use Rattle.std.specs.Prelude.{◌≡◌, ◌≤◌, length};
+ghost use Rattle.std.specs.Prelude.{◌≡◌, ◌≤◌, vec_len};
 ghost use Rattle.session_driver.specs.Steps.{Meets, StepIs};
 
 use crate::calls::{accept, close, listen, open, read, reap, send, settle, shut, write};
@@ -13,12 +13,12 @@ pub fn step<W: World>(
     session: &mut Session,
     world: &mut W,
     config: &Config,
-    scratch: &mut [u8],
+    scratch: &mut Vec<u8>,
 ) -> Stepped
-    requires block { config.now.block ≤ length scratch.old }
+    requires block { config.now.block ≤ vec_len scratch.old }
     requires meets { Meets config.now (W.seen world.old) session.old }
     ensures step { StepIs config.now (W.seen world.old) (W.seen world.new) session.old session.new result }
-    ensures scratch { length scratch.new ≡ length scratch.old }
+    ensures scratch { vec_len scratch.new ≡ vec_len scratch.old }
 {
     match session.wish() {
         Wish::Open(place) => open(session, world, config, place),

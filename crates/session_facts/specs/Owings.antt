@@ -14,11 +14,11 @@ use Rattle.relay_model.specs.History.{got}
 use Rattle.relay_model.specs.Transfers.{due}
 use Rattle.history_facts.specs.declared.placed.Placed.{Placed}
 use Rattle.history_facts.specs.Tables.{placed}
-use Rattle.session_facts.specs.declared.listed.Listed.{Listed}
+use Rattle.session_facts.specs.declared.listed.ListedBytes.{ListedBytes}
 use Rattle.session_facts.specs.declared.owings.Owings.{Owings}
 
 -- the bytes that stand at a number
-abbrev pub listed : Listed → ℕ → List ℕ
+abbrev pub listed : ListedBytes → ℕ → List ℕ
 listed table k = option_map_or (λ bytes. bytes.items) (get nat_cmp table.known k) []
 
 -- the number of a session's direction
@@ -40,7 +40,7 @@ abbrev pub MetTold : Config → Placed Bool → List Act → Type 0
 MetTold c table past = (p : Place) → placed table p ≡ met_at c past p
 
 -- the table has what each direction owes
-abbrev pub DuesTold : Config → Listed → List Act → Type 0
+abbrev pub DuesTold : Config → ListedBytes → List Act → Type 0
 DuesTold c table past = (s : ℕ) (w : Way) → listed table (due_number s w) ≡ due c w (got past (input c s w))
 
 -- what is kept of owings is what the acts say

@@ -3,21 +3,21 @@ ghost use Rattle.std.specs.Prelude.{◌≡◌, ◌<◌, ◌^◌};
 ghost use Rattle.relay_model.specs.Sessions.{admitted, live};
 ghost use Rattle.relay_model.specs.Cause.{cause};
 ghost use Rattle.relay_model.specs.Calls.{call, door_cut, enough, full, program_door_call, door_call, called_at};
-ghost use Rattle.history_facts.specs.Answers.{as_stage};
-ghost use Rattle.session_facts.specs.Answers.{as_call};
 
 use crate::causes::cause;
-use crate::openings::{Call, first_call, listening_call};
+use crate::openings::{first_call, listening_call};
 use crate::sessions::{live, live_count, next_place};
 use command_places::{has_fork, is_left, options_of, places, program_door};
-use history_facts::{Past, Stage, accept_failed, admitted, held, memory_said, stage_of, stop_said};
-use relay_model::{Place, Why};
+use history_facts::{
+    Past, accept_failed, admitted_count, is_held, memory_said, stage_of, stop_said,
+};
+use relay_model::{Call, Place, Stage, Why};
 
 /// What the opening of a session calls for, where it is known whether the session lives and why it has to end.
 pub fn known_call(past: &Past, session: u32, lives: bool, why: Option<Why>) -> Call
     requires lives { lives ≡ live past.now.config past.now.acts session }
     requires why { why ≡ cause past.now.config past.now.acts session }
-    ensures { as_call result ≡ call past.now.config past.now.acts session }
+    ensures { result ≡ call past.now.config past.now.acts session }
 {
     let config = past.config();
     if lives && why.is_none() {
@@ -30,7 +30,7 @@ pub fn known_call(past: &Past, session: u32, lives: bool, why: Option<Why>) -> C
 /// What the opening of a session calls for.
 pub fn opening_of(past: &Past, session: u32) -> Call
     requires { admitted past.now.config past.now.acts < 2 ^ 32 }
-    ensures { as_call result ≡ call past.now.config past.now.acts session }
+    ensures { result ≡ call past.now.config past.now.acts session }
 {
     let lives = live(past, session);
     let why = cause(past, session);
@@ -50,7 +50,7 @@ fn enough(past: &Past) -> bool
     ensures { result ≡ enough past.now.config past.now.acts }
 {
     let config = past.config();
-    options_of(config, program_door()).sessions.stop_after <= admitted(past)
+    options_of(config, program_door()).sessions.stop_after <= admitted_count(past)
 }
 
 /// As many sessions live as may.
@@ -65,7 +65,7 @@ fn full(past: &Past) -> bool
 /// A door that is held has served, or accepts the next peer while there is room for its session.
 fn program_door_call(past: &Past, stage: Stage) -> Call
     requires { admitted past.now.config past.now.acts < 2 ^ 32 }
-    ensures { as_call result ≡ program_door_call past.now.config past.now.acts (as_stage stage) }
+    ensures { result ≡ program_door_call past.now.config past.now.acts stage }
 {
     let door = program_door();
     let place = next_place(past);
@@ -86,14 +86,14 @@ fn program_door_call(past: &Past, stage: Stage) -> Call
 /// What the program door of `fork` calls for; a peer that isn't permitted stands at the place of the next session.
 pub fn door_call(past: &Past) -> Call
     requires { admitted past.now.config past.now.acts < 2 ^ 32 }
-    ensures { as_call result ≡ door_call past.now.config past.now.acts }
+    ensures { result ≡ door_call past.now.config past.now.acts }
 {
     let config = past.config();
     if !has_fork(config) || door_cut(past) {
         return Call::Nothing;
     }
     let place = next_place(past);
-    if held(past, place) {
+    if is_held(past, place) {
         Call::Refuse(place)
     } else {
         program_door_call(past, stage_of(past, program_door()))
@@ -101,9 +101,9 @@ pub fn door_call(past: &Past) -> Call
 }
 
 /// What is called for at a place or door: with `fork` the left side is the program door's.
-pub fn called_at(past: &Past, place: Place) -> Call
+pub fn call_at(past: &Past, place: Place) -> Call
     requires { admitted past.now.config past.now.acts < 2 ^ 32 }
-    ensures { as_call result ≡ called_at past.now.config past.now.acts place }
+    ensures { result ≡ called_at past.now.config past.now.acts place }
 {
     let config = past.config();
     if is_left(place) && has_fork(config) {

@@ -7,10 +7,10 @@ ghost use Rattle.relay_model.specs.Openings.{out_of_tries};
 ghost use Rattle.relay_model.specs.Moments.{passed, broken, done};
 ghost use Rattle.relay_model.specs.Cause.{accept_failed_for, listening_failed, opening_failed, fault_at, fault_stands, each_formed, some_formed, faulted, finished, cause, running};
 
-use crate::moments::{broken, closing_moment, done, idle_moment, passed, reached};
+use crate::moments::{closing_moment, has_passed, idle_moment, is_broken, is_done, is_reached};
 use crate::openings::{out_of_tries, ready};
 use crate::sessions::live;
-use command_places::{formed, has_fork, own_doors, places, program_door};
+use command_places::{has_fork, is_formed, own_doors, places, program_door};
 use history_facts::{
     Past, accept_failed, closed_why, memory_said, now, read_fault_at, stop_said, write_fault_at,
 };
@@ -77,28 +77,28 @@ fn all_done(past: &Past, session: u32) -> bool
     ensures { result ≡ each_formed past.now.config (done past.now.config past.now.acts session) }
 {
     let config = past.config();
-    (!formed(config, Way::LeftToRight) || done(past, session, Way::LeftToRight))
-        && (!formed(config, Way::RightToLeft) || done(past, session, Way::RightToLeft))
+    (!is_formed(config, Way::LeftToRight) || is_done(past, session, Way::LeftToRight))
+        && (!is_formed(config, Way::RightToLeft) || is_done(past, session, Way::RightToLeft))
 }
 
 fn all_passed(past: &Past, session: u32) -> bool
     ensures { result ≡ each_formed past.now.config (passed past.now.config past.now.acts session) }
 {
     let config = past.config();
-    (!formed(config, Way::LeftToRight) || passed(past, session, Way::LeftToRight))
-        && (!formed(config, Way::RightToLeft) || passed(past, session, Way::RightToLeft))
+    (!is_formed(config, Way::LeftToRight) || has_passed(past, session, Way::LeftToRight))
+        && (!is_formed(config, Way::RightToLeft) || has_passed(past, session, Way::RightToLeft))
 }
 
 fn some_broken(past: &Past, session: u32) -> bool
     ensures { result ≡ some_formed past.now.config (broken past.now.config past.now.acts session) }
 {
     let config = past.config();
-    formed(config, Way::LeftToRight) && broken(past, session, Way::LeftToRight)
-        || formed(config, Way::RightToLeft) && broken(past, session, Way::RightToLeft)
+    is_formed(config, Way::LeftToRight) && is_broken(past, session, Way::LeftToRight)
+        || is_formed(config, Way::RightToLeft) && is_broken(past, session, Way::RightToLeft)
 }
 
 /// A fault ends the session at once, or with `-s` where every direction is done.
-fn faulted(past: &Past, session: u32) -> bool
+fn is_faulted(past: &Past, session: u32) -> bool
     ensures { result ≡ faulted past.now.config past.now.acts session }
 {
     let config = past.config();
@@ -109,7 +109,7 @@ fn faulted(past: &Past, session: u32) -> bool
     }
 }
 
-fn finished(past: &Past, session: u32) -> bool
+fn is_finished(past: &Past, session: u32) -> bool
     ensures { result ≡ finished past.now.config past.now.acts session }
 {
     ready(past, session) && all_passed(past, session)
@@ -137,26 +137,26 @@ pub fn cause(past: &Past, session: u32) -> Option<Why>
     if opening_failed(past, session) {
         return Some(Why::OpenFailed);
     }
-    if faulted(past, session) {
+    if is_faulted(past, session) {
         return Some(Why::Faulted);
     }
-    if finished(past, session) {
+    if is_finished(past, session) {
         return Some(Why::Finished);
     }
     if !ready(past, session) {
         return None;
     }
-    if reached(closing_moment(past, session), now(past)) {
+    if is_reached(closing_moment(past, session), now(past)) {
         return Some(Why::ClosingTime);
     }
-    if reached(idle_moment(past, session), now(past)) {
+    if is_reached(idle_moment(past, session), now(past)) {
         return Some(Why::Idle);
     }
     None
 }
 
 /// Whether a session lives, is ready and has no cause.
-pub fn running(past: &Past, session: u32) -> bool
+pub fn is_running(past: &Past, session: u32) -> bool
     requires { admitted past.now.config past.now.acts < 2 ^ 32 }
     ensures { result ≡ running past.now.config past.now.acts session }
 {

@@ -98,7 +98,7 @@ fn before_escape(escape: Option<u8>, bytes: &[u8]) -> &[u8]
 }
 
 /// What is to be written of these bytes.
-pub fn converted(
+pub fn convert_bytes(
     alloc: Global,
     reading: Conv,
     writing: Conv,

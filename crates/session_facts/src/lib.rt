@@ -13,11 +13,11 @@ mod owings;
 mod sessions;
 mod transfers;
 
-pub use calls::{called_at, door_call, door_cut, known_call};
-pub use causes::{cause, running};
+pub use calls::{call_at, door_call, door_cut, known_call};
+pub use causes::{cause, is_running};
 pub use ledger::Ledger;
-pub use moments::{broken, closing_moment, idle_moment, passed};
-pub use openings::{Call, ready};
-pub use outcome::{Outcome, has_outcome, outcome_of};
+pub use moments::{closing_moment, has_passed, idle_moment, is_broken};
+pub use openings::ready;
+pub use outcome::{has_outcome, outcome_of};
 pub use sessions::{holds, live, numbers};
 pub use transfers::{backlog, due_after, greatest_read, is_spent, over};

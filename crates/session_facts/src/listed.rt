@@ -8,17 +8,17 @@ use std::collections::BTreeMap;
 
 /// Bytes for each number, none at first.
 #[derive(Drop)]
-pub struct Listed {
+pub struct ListedBytes {
     known: BTreeMap<u64, Vec<u8>>,
     alloc: Global,
 }
 
-impl Listed {
+impl ListedBytes {
     /// None for any number.
     pub fn new(alloc: Global) -> Self
         ensures { (k : ℕ) → listed result k ≡ [] }
     {
-        Listed {
+        ListedBytes {
             known: BTreeMap::new(alloc),
             alloc,
         }

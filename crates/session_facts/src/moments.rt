@@ -2,7 +2,7 @@
 ghost use Rattle.std.specs.Prelude.{◌≡◌};
 ghost use Rattle.relay_model.specs.Moments.{passed_at, passed, broken_at, broken, done_at, done, after_one, closing_moment, is_unfinished, idle_moment, reached};
 
-use command_places::{formed, input, output};
+use command_places::{input, is_formed, output};
 use history_facts::{Past, moved_at, or_else, read_fault_at, shut_at, write_fault_at};
 use relay_model::Way;
 
@@ -15,7 +15,7 @@ pub fn passed_at(past: &Past, session: u32, way: Way) -> Option<u64>
 }
 
 /// Whether the direction passed its end on.
-pub fn passed(past: &Past, session: u32, way: Way) -> bool
+pub fn has_passed(past: &Past, session: u32, way: Way) -> bool
     ensures { result ≡ passed past.now.config past.now.acts session way }
 {
     passed_at(past, session, way).is_some()
@@ -37,7 +37,7 @@ pub fn broken_at(past: &Past, session: u32, way: Way) -> Option<u64>
 }
 
 /// Whether a fault broke the direction; only with `-s` does one.
-pub fn broken(past: &Past, session: u32, way: Way) -> bool
+pub fn is_broken(past: &Past, session: u32, way: Way) -> bool
     ensures { result ≡ broken past.now.config past.now.acts session way }
 {
     broken_at(past, session, way).is_some()
@@ -51,7 +51,7 @@ pub fn done_at(past: &Past, session: u32, way: Way) -> Option<u64>
 }
 
 /// Whether the direction passed its end on or was broken.
-pub fn done(past: &Past, session: u32, way: Way) -> bool
+pub fn is_done(past: &Past, session: u32, way: Way) -> bool
     ensures { result ≡ done past.now.config past.now.acts session way }
 {
     done_at(past, session, way).is_some()
@@ -79,7 +79,7 @@ pub fn closing_moment(past: &Past, session: u32) -> Option<u128>
     ensures { result ≡ closing_moment past.now.config past.now.acts session }
 {
     let config = past.config();
-    if formed(config, Way::LeftToRight) && formed(config, Way::RightToLeft) {
+    if is_formed(config, Way::LeftToRight) && is_formed(config, Way::RightToLeft) {
         after_one(
             config.closing,
             done_at(past, session, Way::LeftToRight),
@@ -95,8 +95,8 @@ pub fn is_unfinished(past: &Past, session: u32) -> bool
     ensures { result ≡ is_unfinished past.now.config past.now.acts session }
 {
     let config = past.config();
-    formed(config, Way::LeftToRight) && !done(past, session, Way::LeftToRight)
-        || formed(config, Way::RightToLeft) && !done(past, session, Way::RightToLeft)
+    is_formed(config, Way::LeftToRight) && !is_done(past, session, Way::LeftToRight)
+        || is_formed(config, Way::RightToLeft) && !is_done(past, session, Way::RightToLeft)
 }
 
 /// The moment, in milliseconds, at which the session has been idle for as long as `-T` says, where it is given and a
@@ -113,7 +113,7 @@ pub fn idle_moment(past: &Past, session: u32) -> Option<u128>
 }
 
 /// Whether there is such a moment and it isn't later than `at`.
-pub fn reached(moment: Option<u128>, at: u64) -> bool
+pub fn is_reached(moment: Option<u128>, at: u64) -> bool
     ensures { result ≡ reached moment at }
 {
     match moment {

@@ -2,36 +2,13 @@
 ghost use Rattle.std.specs.Prelude.{◌≡◌};
 ghost use Rattle.std.specs.List.{list_any, list_all};
 ghost use Rattle.relay_model.specs.Openings.{out_of_tries, when_due, try_again, is_ready, ready, opening_call, listening_call, peer_call, place_call, first_call};
-ghost use Rattle.history_facts.specs.Answers.{as_stage};
-ghost use Rattle.session_facts.specs.Answers.{as_call};
 
 use command_places::{has_own_door, listens_at, options_of, places};
 use history_facts::{
-    Past, Stage, armed_to_accept, failure_count, held, next_due, now, permits, served, stage_of,
-    woken,
+    Past, armed_to_accept, failure_count, has_served, is_held, next_due, now, permits, stage_of,
+    was_woken,
 };
-use relay_model::Place;
-
-/// What is called for.
-#[derive(Clone, Copy, Debug, PartialEq, Eq)]
-pub enum Call {
-    /// Nothing is called for.
-    Nothing,
-    /// A further try, and nothing before this moment, in milliseconds.
-    TryAt(u64),
-    /// The opening of a place.
-    Open(Place),
-    /// The further opening of a place whose opening is under way.
-    Settle(Place),
-    /// The listening of a door.
-    Listen(Place),
-    /// An accepting at the door, for the place.
-    Accept(Place, Place),
-    /// The closing of a place whose peer isn't permitted.
-    Refuse(Place),
-    /// The closing of a door that has served.
-    Serve(Place),
-}
+use relay_model::{Call, Place, Stage};
 
 // ---- tries
 
@@ -48,7 +25,7 @@ pub fn out_of_tries(past: &Past, place: Place) -> bool
 
 /// The call, from the moment on at which it is due.
 fn when_due(at: u64, moment: Option<u64>, wanted: Call) -> Call
-    ensures { as_call result ≡ when_due at moment (as_call wanted) }
+    ensures { result ≡ when_due at moment wanted }
 {
     match moment {
         None => Call::Nothing,
@@ -58,7 +35,7 @@ fn when_due(at: u64, moment: Option<u64>, wanted: Call) -> Call
 
 /// A further try, while tries are left.
 fn try_again(past: &Past, place: Place, wanted: Call) -> Call
-    ensures { as_call result ≡ try_again past.now.config past.now.acts place (as_call wanted) }
+    ensures { result ≡ try_again past.now.config past.now.acts place wanted }
 {
     let config = past.config();
     if out_of_tries(past, place) {
@@ -82,7 +59,7 @@ pub fn is_ready(past: &Past, place: Place) -> bool
         Stage::Met(peer) => {
             listens_at(config, place)
                 && permits(config, place, peer)
-                && (!has_own_door(config, place) || served(past, place.own_door()))
+                && (!has_own_door(config, place) || has_served(past, place.own_door()))
         }
         _ => false,
     }
@@ -106,12 +83,12 @@ pub fn ready(past: &Past, session: u32) -> bool
 
 /// An opening, a settling once a turn named the place, or a further try.
 fn opening_call(past: &Past, place: Place, stage: Stage) -> Call
-    ensures { as_call result ≡ opening_call past.now.config past.now.acts place (as_stage stage) }
+    ensures { result ≡ opening_call past.now.config past.now.acts place stage }
 {
     match stage {
         Stage::Untried => Call::Open(place),
         Stage::Unsettled => {
-            if woken(past, place) {
+            if was_woken(past, place) {
                 Call::Settle(place)
             } else {
                 Call::Nothing
@@ -124,14 +101,14 @@ fn opening_call(past: &Past, place: Place, stage: Stage) -> Call
 
 /// A listening, a further try of one, or an accepting where the door is armed.
 pub fn listening_call(past: &Past, door: Place, place: Place, stage: Stage) -> Call
-    ensures { as_call result ≡ listening_call past.now.config past.now.acts door place (as_stage stage) }
+    ensures { result ≡ listening_call past.now.config past.now.acts door place stage }
 {
     match stage {
         Stage::Untried => Call::Listen(door),
         Stage::Failed => try_again(past, door, Call::Listen(door)),
         Stage::Waiting => {
             if armed_to_accept(past, door) {
-                Call::Accept(door, place)
+                Call::Accept { door, place }
             } else {
                 Call::Nothing
             }
@@ -142,7 +119,7 @@ pub fn listening_call(past: &Past, door: Place, place: Place, stage: Stage) -> C
 
 /// A peer that isn't permitted is refused; after a permitted one the own door has served.
 fn peer_call(past: &Past, place: Place, stage: Stage) -> Call
-    ensures { as_call result ≡ peer_call past.now.config past.now.acts place (as_stage stage) }
+    ensures { result ≡ peer_call past.now.config past.now.acts place stage }
 {
     let config = past.config();
     let door = place.own_door();
@@ -150,7 +127,7 @@ fn peer_call(past: &Past, place: Place, stage: Stage) -> Call
         Stage::Met(peer) => {
             if !permits(config, place, peer) {
                 Call::Refuse(place)
-            } else if held(past, door) {
+            } else if is_held(past, door) {
                 Call::Serve(door)
             } else {
                 Call::Nothing
@@ -163,7 +140,7 @@ fn peer_call(past: &Past, place: Place, stage: Stage) -> Call
 /// What a place calls for by itself; with `fork` a left place calls for nothing, since its peer comes by the program
 /// door.
 fn place_call(past: &Past, place: Place) -> Call
-    ensures { as_call result ≡ place_call past.now.config past.now.acts place }
+    ensures { result ≡ place_call past.now.config past.now.acts place }
 {
     let config = past.config();
     if has_own_door(config, place) {
@@ -177,7 +154,7 @@ fn place_call(past: &Past, place: Place) -> Call
 
 /// What the first of these places that isn't ready calls for.
 pub fn first_call(past: &Past, mut places: &[Place]) -> Call
-    ensures { as_call result ≡ first_call past.now.config past.now.acts places.entry.now }
+    ensures { result ≡ first_call past.now.config past.now.acts places.entry.now }
 {
     while let [place, rest @ ..] = places {
         if !is_ready(past, *place) {

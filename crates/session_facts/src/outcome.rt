@@ -3,35 +3,15 @@ ghost use Rattle.std.specs.Prelude.{◌≡◌, ◌<◌, ◌^◌, option_map, is_
 ghost use Rattle.relay_model.specs.Choices.{or_else, some_below};
 ghost use Rattle.relay_model.specs.Sessions.{admitted, holds, live};
 ghost use Rattle.relay_model.specs.Outcome.{holds_something, program_doors, first_fault, failed_listening, failed_opening, outcome_by, outcome_of_sessions, outcome};
-ghost use Rattle.relay_model.specs.Outcome as outcomes;
+ghost use Rattle.relay_model.specs.declared.outcomes.RunOutcome.TheVariants as outcomes;
 ghost use Rattle.history_facts.specs.Pasts.{acts};
-ghost use Rattle.session_facts.specs.Answers.{as_outcome};
 
 use crate::causes::{any_accept_failed, cause};
 use crate::openings::out_of_tries;
 use crate::sessions::{holds, live, numbers};
 use command_places::{PlaceList, has_fork, is_place_of, own_doors, places, program_door};
-use history_facts::{Past, failure_count, held, memory_said, served, stop_said, turns};
-use relay_model::{Act, Config, Half, Place, Side, Why};
-
-/// How a run ended.
-#[derive(Clone, Copy, Debug, PartialEq, Eq)]
-pub enum Outcome {
-    /// Memory was wanting.
-    Memory,
-    /// It was stopped after so many turns.
-    Stopped(usize),
-    /// An accepting failed.
-    AcceptFailed,
-    /// No listening succeeded in so many tries.
-    ListenFailed(usize),
-    /// No opening of this side succeeded in so many tries.
-    OpenFailed(Side, usize),
-    /// The first read or write that failed was at this half of the place.
-    Faulted(Place, Half),
-    /// It ended for this reason.
-    Ended(Why),
-}
+use history_facts::{Past, failure_count, has_served, is_held, memory_said, stop_said, turns};
+use relay_model::{Act, Config, Half, Place, RunOutcome, Side, Why};
 
 #[tactic(auto, using(crate::proofs::Below::some_below_more))]
 fn some_holds(past: &Past, count: u32) -> bool
@@ -65,7 +45,7 @@ pub fn holds_something(past: &Past) -> bool
 {
     let config = past.config();
     let next = numbers(past);
-    holds(past, next) || some_holds(past, next) || has_fork(config) && held(past, program_door())
+    holds(past, next) || some_holds(past, next) || has_fork(config) && is_held(past, program_door())
 }
 
 /// The doors whose failures are the program's.
@@ -83,17 +63,17 @@ fn program_doors(config: &Config) -> PlaceList
 
 /// The first read or write of the session that failed.
 #[tactic(auto, using(crate::proofs::Below::or_else_none, crate::proofs::Below::or_else_some))]
-fn first_fault(config: &Config, mut past: &[&Act], session: u32) -> Option<Outcome>
-    ensures { option_map as_outcome result ≡ first_fault config.now (acts past.entry.now) session }
+fn first_fault(config: &Config, mut past: &[&Act], session: u32) -> Option<RunOutcome>
+    ensures { result ≡ first_fault config.now (acts past.entry.now) session }
 {
     let mut found = None;
     while let [act, older @ ..] = past {
         match act {
             Act::ReadFault(at) if is_place_of(config, session, *at) => {
-                found = Some(Outcome::Faulted(*at, Half::ToRead));
+                found = Some(RunOutcome::Faulted(*at, Half::ToRead));
             }
             Act::WriteFault(at) if is_place_of(config, session, *at) => {
-                found = Some(Outcome::Faulted(*at, Half::ToWrite));
+                found = Some(RunOutcome::Faulted(*at, Half::ToWrite));
             }
             _ => {}
         }
@@ -103,12 +83,12 @@ fn first_fault(config: &Config, mut past: &[&Act], session: u32) -> Option<Outco
 }
 
 /// The first of these doors that is out of tries.
-fn failed_listening(past: &Past, mut doors: &[Place]) -> Option<Outcome>
-    ensures { option_map as_outcome result ≡ failed_listening past.now.config past.now.acts doors.entry.now }
+fn failed_listening(past: &Past, mut doors: &[Place]) -> Option<RunOutcome>
+    ensures { result ≡ failed_listening past.now.config past.now.acts doors.entry.now }
 {
     while let [door, rest @ ..] = doors {
         if out_of_tries(past, *door) {
-            return Some(Outcome::ListenFailed(failure_count(past, *door)));
+            return Some(RunOutcome::ListenFailed(failure_count(past, *door)));
         }
         doors = rest;
     }
@@ -116,12 +96,12 @@ fn failed_listening(past: &Past, mut doors: &[Place]) -> Option<Outcome>
 }
 
 /// The first of these places that is out of tries.
-fn failed_opening(past: &Past, mut places: &[Place]) -> Option<Outcome>
-    ensures { option_map as_outcome result ≡ failed_opening past.now.config past.now.acts places.entry.now }
+fn failed_opening(past: &Past, mut places: &[Place]) -> Option<RunOutcome>
+    ensures { result ≡ failed_opening past.now.config past.now.acts places.entry.now }
 {
     while let [place, rest @ ..] = places {
         if out_of_tries(past, *place) {
-            return Some(Outcome::OpenFailed(place.side, failure_count(past, *place)));
+            return Some(RunOutcome::OpenFailed(place.side, failure_count(past, *place)));
         }
         places = rest;
     }
@@ -129,19 +109,19 @@ fn failed_opening(past: &Past, mut places: &[Place]) -> Option<Outcome>
 }
 
 /// The first fault, or the reason where there was none.
-fn fault_or(past: &Past, why: Why) -> Option<Outcome>
-    ensures { option_map as_outcome result ≡ or_else (first_fault past.now.config past.now.acts 0) (Some (outcomes.Ended why)) }
+fn fault_or(past: &Past, why: Why) -> Option<RunOutcome>
+    ensures { result ≡ or_else (first_fault past.now.config past.now.acts 0) (Some (outcomes.Ended why)) }
 {
     let config = past.config();
     match first_fault(config, past.acts(), 0) {
-        None => Some(Outcome::Ended(why)),
+        None => Some(RunOutcome::Ended(why)),
         Some(fault) => Some(fault),
     }
 }
 
 /// The outcome of a program of one session, by its cause.
-fn outcome_by(past: &Past, cause: Option<Why>) -> Option<Outcome>
-    ensures { option_map as_outcome result ≡ outcome_by past.now.config past.now.acts cause }
+fn outcome_by(past: &Past, cause: Option<Why>) -> Option<RunOutcome>
+    ensures { result ≡ outcome_by past.now.config past.now.acts cause }
 {
     let config = past.config();
     match cause {
@@ -149,40 +129,40 @@ fn outcome_by(past: &Past, cause: Option<Why>) -> Option<Outcome>
         Some(why) => match why {
             Why::OpenFailed => failed_opening(past, places(config, 0).as_slice()),
             Why::Faulted | Why::ClosingTime | Why::Idle => fault_or(past, why),
-            _ => Some(Outcome::Ended(why)),
+            _ => Some(RunOutcome::Ended(why)),
         },
     }
 }
 
 /// The outcome of a program of many: the door has served and no session lives.
-fn outcome_of_sessions(past: &Past) -> Option<Outcome>
+fn outcome_of_sessions(past: &Past) -> Option<RunOutcome>
     requires { admitted past.now.config past.now.acts < 2 ^ 32 }
-    ensures { option_map as_outcome result ≡ outcome_of_sessions past.now.config past.now.acts }
+    ensures { result ≡ outcome_of_sessions past.now.config past.now.acts }
 {
-    if served(past, program_door()) && !some_lives(past, numbers(past)) {
-        Some(Outcome::Ended(Why::Served))
+    if has_served(past, program_door()) && !some_lives(past, numbers(past)) {
+        Some(RunOutcome::Ended(Why::Served))
     } else {
         None
     }
 }
 
 /// The outcome, but for that of turns that are used up.
-pub fn outcome_of(past: &Past) -> Option<Outcome>
+pub fn outcome_of(past: &Past) -> Option<RunOutcome>
     requires { admitted past.now.config past.now.acts < 2 ^ 32 }
-    ensures { option_map as_outcome result ≡ outcome past.now.config past.now.acts }
+    ensures { result ≡ outcome past.now.config past.now.acts }
 {
     let config = past.config();
     if holds_something(past) {
         return None;
     }
     if memory_said(past) {
-        return Some(Outcome::Memory);
+        return Some(RunOutcome::Memory);
     }
     if stop_said(past) {
-        return Some(Outcome::Stopped(turns(past)));
+        return Some(RunOutcome::Stopped(turns(past)));
     }
     if any_accept_failed(past, program_doors(config).as_slice()) {
-        return Some(Outcome::AcceptFailed);
+        return Some(RunOutcome::AcceptFailed);
     }
     if let Some(failed) = failed_listening(past, program_doors(config).as_slice()) {
         return Some(failed);

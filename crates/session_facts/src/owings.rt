@@ -7,8 +7,8 @@ ghost use Rattle.relay_model.specs.Configs.{input, output, options_of};
 ghost use Rattle.relay_model.specs.Conversions.{due_of, is_met};
 ghost use Rattle.session_facts.specs.Owings.{due_number, left_of, met_at, MetTold, DuesTold, OwingsTold};
 
-use crate::conversions::{converted, is_met};
-use crate::listed::Listed;
+use crate::conversions::{convert_bytes, is_met};
+use crate::listed::ListedBytes;
 use command_places::{input, options_of, output, way_from};
 use history_facts::{Past, Placed, got_length};
 use relay_model::{Act, Config, NoMemory, Place, Way};
@@ -18,7 +18,7 @@ use std::alloc::Global;
 #[derive(Drop)]
 pub struct Owings {
     /// What is due of all that was read, by session and direction.
-    pub due: Listed,
+    pub due: ListedBytes,
     /// Whether the escape byte stands among the bytes of an input that count.
     pub met: Placed<bool>,
 }
@@ -48,7 +48,7 @@ impl Owings {
         ensures { (c : Config) → OwingsTold c result [] }
     {
         Owings {
-            due: Listed::new(alloc),
+            due: ListedBytes::new(alloc),
             met: Placed::new(alloc, false),
         }
     }
@@ -84,7 +84,7 @@ fn due_more(
     let reading = options_of(config, input(config, 0, way));
     let writing = options_of(config, output(config, 0, way));
     let left = left_of(reading.input.readbytes, count);
-    converted(
+    convert_bytes(
         alloc,
         reading.conv,
         writing.conv,
@@ -97,7 +97,7 @@ fn due_more(
 /// What a read adds to what its direction owes: nothing after the escape byte.
 fn read_due(
     alloc: Global,
-    due: &mut Listed,
+    due: &mut ListedBytes,
     met: bool,
     facts: &Past,
     place: Place,

@@ -7,14 +7,14 @@ ghost use Rattle.relay_model.specs.History.{held};
 ghost use Rattle.relay_model.specs.Sessions.{admitted, holds, live, live_count, numbers, first_part, next_place};
 
 use command_places::{has_fork, parts, place_at, things};
-use history_facts::{Past, admitted, held};
+use history_facts::{Past, admitted_count, is_held};
 use relay_model::{Part, Place, Side};
 
 /// Whether one of these places or doors is held.
 pub fn any_held(past: &Past, places: &[Place]) -> bool
     ensures { result ≡ list_any (held past.now.acts) places.now }
 {
-    places.iter().any(|place| held(past, *place))
+    places.iter().any(|place| is_held(past, *place))
 }
 
 /// Whether the session holds a place or a door of its own.
@@ -32,7 +32,7 @@ pub fn live(past: &Past, session: u32) -> bool
 {
     let config = past.config();
     if has_fork(config) {
-        session < admitted(past) && holds(past, session)
+        session < admitted_count(past) && holds(past, session)
     } else {
         session == 0
     }
@@ -44,7 +44,7 @@ pub fn live_count(past: &Past) -> u32
     ensures { result ≡ live_count past.now.config past.now.acts }
 {
     let mut living: u32 = 0;
-    for session in 0..admitted(past) {
+    for session in 0..admitted_count(past) {
         if live(past, session) {
             living += 1;
         }
@@ -58,7 +58,11 @@ pub fn numbers(past: &Past) -> u32
     ensures { result ≡ numbers past.now.config past.now.acts }
 {
     let config = past.config();
-    if has_fork(config) { admitted(past) } else { 1 }
+    if has_fork(config) {
+        admitted_count(past)
+    } else {
+        1
+    }
 }
 
 fn first_part(parts: &[Part]) -> Part
@@ -77,7 +81,7 @@ pub fn next_place(past: &Past) -> Place
 {
     let config = past.config();
     place_at(
-        admitted(past),
+        admitted_count(past),
         Side::Left,
         first_part(parts(config, Side::Left)),
     )

@@ -9,7 +9,7 @@ use Rattle.relay_model.specs.declared.acts.Act.{Act}
 use Rattle.relay_model.specs.Places.{same_place}
 use Rattle.relay_model.specs.Configs.{has_fork, is_of, is_program_door, program_door, things}
 use Rattle.relay_model.specs.Sessions.{admitted, next_place, permits}
-use Rattle.relay_model.specs.Openings.{Accept}
+use Rattle.relay_model.specs.declared.calls.Call.TheVariants.{Accept}
 use Rattle.relay_model.specs.Calls.{door_call}
 use Rattle.relay_model.specs.May.{Legal}
 use Rattle.relay_laws.proofs.PlaceLemmas.{same_place_equal}
@@ -19,10 +19,10 @@ use Rattle.relay_laws.proofs.Sound.{legal_is}
 use Rattle.relay_laws.specs.Births.{is_named_by, OnlyHeldWereNamed}
 use Rattle.relay_laws.proofs.Untouched.{unbegun_unnamed}
 use Rattle.relay_session.specs.States.{home}
-use Rattle.relay_session.specs.Births.{Begins}
+use Rattle.relay_session.specs.Births.{BeginsSession}
 use Rattle.session_laws.specs.Beginnings.{BeginsAfterRefusal, refused_before}
 
-pub next : (c : Config) (n : ℕ) (past : List Act) (peer : Peer) → has_fork c ≡ true → Legal c n past → OnlyHeldWereNamed past → door_call c past ≡ Accept program_door (next_place c past) → permits c (home c (admitted c past)) peer ≡ true → Begins c n past (admitted c past) peer
+pub next : (c : Config) (n : ℕ) (past : List Act) (peer : Peer) → has_fork c ≡ true → Legal c n past → OnlyHeldWereNamed past → door_call c past ≡ Accept program_door (next_place c past) → permits c (home c (admitted c past)) peer ≡ true → BeginsSession c n past (admitted c past) peer
 next c n past peer fork legal only called permitted = record {
   fork = fork;
   legal = legal;

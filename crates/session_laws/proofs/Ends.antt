@@ -11,18 +11,23 @@ use Rattle.relay_model.specs.Places.{same_place}
 use Rattle.std.specs.List.{list_any}
 use Rattle.relay_model.specs.Choices.{only_if, or_else, first_some, some_below}
 use Rattle.relay_model.specs.Configs.{has_fork, program_door, own_doors}
-use Rattle.relay_model.specs.History.{turns, memory_said, stop_said, same_why, is_gone_with, accept_failed, stage, held, served, failures, Stage, Usable, Unsettled, Failed, Met, Waiting, Gone}
+use Rattle.relay_model.specs.History.{turns, memory_said, stop_said, same_why, is_gone_with, accept_failed, stage, held, served, failures}
+use Rattle.relay_model.specs.declared.stages.Stage.{Stage}
+use Rattle.relay_model.specs.declared.stages.Stage.TheVariants.{Usable, Unsettled, Failed, Met, Waiting, Gone}
 use Rattle.relay_model.specs.Sessions.{admitted, holds, live, numbers, next_place}
-use Rattle.relay_model.specs.Openings.{Refuse, out_of_tries}
+use Rattle.relay_model.specs.Openings.{out_of_tries}
+use Rattle.relay_model.specs.declared.calls.Call.TheVariants.{Refuse}
 use Rattle.relay_model.specs.Cause.{cause}
 use Rattle.relay_model.specs.Calls.{called_at, door_cut}
-use Rattle.relay_model.specs.Outcome.{Outcome, Memory, Stopped, AcceptFailed, ListenFailed, Ended, outcome, outcome_by, outcome_of_sessions, program_doors, failed_listening, holds_something}
+use Rattle.relay_model.specs.Outcome.{outcome, outcome_by, outcome_of_sessions, program_doors, failed_listening, holds_something}
+use Rattle.relay_model.specs.declared.outcomes.RunOutcome.{RunOutcome}
+use Rattle.relay_model.specs.declared.outcomes.RunOutcome.TheVariants.{Memory, Stopped, AcceptFailed, ListenFailed, Ended}
 use Rattle.relay_model.specs.May.{Legal, Licensed, by_cause, by_refusal, by_service, by_door, by_memory, by_turns, DoorEnds, for_memory, for_stop, for_accept}
 use Rattle.relay_model.specs.Laws.{DoorTells}
 use Rattle.relay_laws.proofs.PlaceLemmas.{same_place_equal}
 use Rattle.relay_laws.proofs.Admissions.{door_says, door_called}
 use Rattle.program_door.specs.Causes.{door_cause}
-use Rattle.program_door.specs.Wishes.{IsDone}
+use Rattle.program_door.specs.Wishes.{IsDoorDone}
 use Rattle.program_door.proofs.Held.{next_free}
 use Rattle.program_door.proofs.Moves.{numbers_are}
 use Rattle.session_laws.specs.Wholes.{told_by_door}
@@ -104,7 +109,7 @@ none_below : (test : ℕ → Bool) (k : ℕ) → ((s : ℕ) → s < k → test s
 none_below test zero h = refl
 none_below test (suc k) h = or_from (test k) (some_below test k) (h k (omega arith)) (none_below test k (λ s b. h s (omega (arith, b))))
 
-nothing_held : (c : Config) (n : ℕ) (past : List Act) → Legal c n past → has_fork c ≡ true → IsDone c past → ((s : ℕ) → s < admitted c past → holds c past s ≡ false) → holds_something c past ≡ false
+nothing_held : (c : Config) (n : ℕ) (past : List Act) → Legal c n past → has_fork c ≡ true → IsDoorDone c past → ((s : ℕ) → s < admitted c past → holds c past s ≡ false) → holds_something c past ≡ false
 nothing_held c n past legal fork done none =
     or_from (some_below (holds c past) (suc (numbers c past))) (has_fork c && held past program_door)
     (none_below (holds c past) (suc (numbers c past)) (λ s b. one s (cases_lt s (admitted c past)) b))
@@ -127,7 +132,7 @@ after_free : {T : Type 0} (b : Bool) (o : Option T) (x : T) → b ≡ false → 
 after_free true o x e f = let y : ⊥ = cc in absurd y
 after_free false o x e f = f
 
-is_served : (c : Config) (n : ℕ) (past : List Act) → Legal c n past → has_fork c ≡ true → IsDone c past → door_cut past ≡ false → out_of_tries c past program_door ≡ false → served past program_door ≡ true
+is_served : (c : Config) (n : ℕ) (past : List Act) → Legal c n past → has_fork c ≡ true → IsDoorDone c past → door_cut past ≡ false → out_of_tries c past program_door ≡ false → served past program_door ≡ true
 is_served c n past legal fork done u left = go done.over
   where
     go : (door_cut past ≡ true) ⊎ (((why : Why) × (stage past program_door ≡ Gone why)) ⊎ (out_of_tries c past program_door ≡ true)) → served past program_door ≡ true
@@ -135,7 +140,7 @@ is_served c n past legal fork done u left = go done.over
     go (inr (inl g)) = ap (is_gone_with whys.Served) (g.1 ∙ ap Gone (gone_served c n past g.0 legal fork u g.1))
     go (inr (inr e)) = absurd (true≢false (sym e ∙ left))
 
-pub told_outcome : (c : Config) (n : ℕ) (past : List Act) (answer : Outcome) → Legal c n past → has_fork c ≡ true → IsDone c past → ((s : ℕ) → s < admitted c past → holds c past s ≡ false) → told_by_door c past (door_cause past) answer → outcome c past ≡ Some answer
+pub told_outcome : (c : Config) (n : ℕ) (past : List Act) (answer : RunOutcome) → Legal c n past → has_fork c ≡ true → IsDoorDone c past → ((s : ℕ) → s < admitted c past → holds c past s ≡ false) → told_by_door c past (door_cause past) answer → outcome c past ≡ Some answer
 told_outcome c n past answer legal fork done none told =
     after_free (holds_something c past) _ answer (nothing_held c n past legal fork done none)
     (go (memory_said past) (stop_said past) (accept_failed past program_door) refl refl refl told)

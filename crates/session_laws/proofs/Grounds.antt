@@ -18,11 +18,11 @@ use Rattle.retry_plan.specs.Plans.{PlanIs, last_of}
 use Rattle.relay_buffer.specs.Flows.{IsFlow}
 use Rattle.session_direction.specs.States.{DirectionState}
 use Rattle.session_direction.specs.Directions.{IsDirection, terms_of, met_last, as_pieces}
-use Rattle.place_openings.specs.OpeningState.{OpeningState}
+use Rattle.place_openings.specs.declared.one_place.Opening.{Opening}
 use Rattle.place_openings.specs.Stands.{IsOpening, Each, tried_at}
 use Rattle.relay_session.specs.declared.states.State.{State}
-use Rattle.relay_session.specs.declared.lanes.Lane.{Lane}
-use Rattle.relay_session.specs.declared.lanes.Lane.TheVariants.{Unformed, Formed}
+use Rattle.relay_session.specs.declared.lanes.SessionLane.{SessionLane}
+use Rattle.relay_session.specs.declared.lanes.SessionLane.TheVariants.{Unformed, Formed}
 use Rattle.relay_session.specs.Lanes.{IsLane}
 use Rattle.relay_session.specs.States.{Ground, home}
 use Rattle.relay_model.specs.Arming.{asked_to_accept, asked_to_write}
@@ -49,7 +49,7 @@ failures_same : (c : Config) (s : ℕ) (one other : List Act) (p : Place) → Ne
 failures_same c s one other p h e d true f = (h.own (door_of p) e (f refl)).failures_same
 failures_same c s one other p h e d false f = (h.own p e d).failures_same
 
-opening_alike : (c : Config) (s : ℕ) (one other : List Act) (p : Place) (o : OpeningState) → Near c s one other → p.session ≡ s → is_program_door c p ≡ false → IsOpening c other p o → IsOpening c one p o
+opening_alike : (c : Config) (s : ℕ) (one other : List Act) (p : Place) (o : Opening) → Near c s one other → p.session ≡ s → is_program_door c p ≡ false → IsOpening c other p o → IsOpening c one p o
 opening_alike c s one other p o h e d g =
     let a = h.own p e d in
     let own : o.has_door ≡ true → is_program_door c (door_of p) ≡ false = λ b. door_own c p (sym g.has_door_is ∙ b) in
@@ -73,7 +73,7 @@ opening_alike c s one other p o h e d g =
       asked_child_is = λ b. g.asked_child_is (sym a.was_reaped_same ∙ b);
     }
 
-each_alike : (c : Config) (s : ℕ) (one other : List Act) → Near c s one other → (ps : List Place) (os : List OpeningState) → EachOwn c s ps → Each c other ps os → Each c one ps os
+each_alike : (c : Config) (s : ℕ) (one other : List Act) → Near c s one other → (ps : List Place) (os : List Opening) → EachOwn c s ps → Each c other ps os → Each c one ps os
 each_alike c s one other h [] [] own g = g
 each_alike c s one other h [] (o ∷ os) own g = g
 each_alike c s one other h (p ∷ ps) [] own g = g
@@ -111,7 +111,7 @@ direction_alike c s w one other d h g =
       passed_is_spent = λ b. let t = g.passed_is_spent b in record { emptied = t.emptied; is_over = v ∙ t.is_over };
     }
 
-lane_alike : (c : Config) (s : ℕ) (w : Way) (one other : List Act) (l : Lane) → Near c s one other → IsLane c other s w l → IsLane c one s w l
+lane_alike : (c : Config) (s : ℕ) (w : Way) (one other : List Act) (l : SessionLane) → Near c s one other → IsLane c other s w l → IsLane c one s w l
 lane_alike c s w one other Unformed h g = g
 lane_alike c s w one other (Formed d) h g = direction_alike c s w one other d h g
 

@@ -19,7 +19,9 @@ use Rattle.relay_model.specs.Configs.{places, own_doors, things, input, output, 
 use Rattle.relay_model.specs.History.{turns, holds_at, accept_failed}
 use Rattle.relay_model.specs.Arming.{is_armed, armed_to_read, asked_to_accept}
 use Rattle.relay_model.specs.Sessions.{numbers, admitted, live}
-use Rattle.relay_model.specs.Openings.{Call, Nothing, TryAt, Open, Settle, Listen, Accept, Refuse, Serve, first_call}
+use Rattle.relay_model.specs.Openings.{first_call}
+use Rattle.relay_model.specs.declared.calls.Call.{Call}
+use Rattle.relay_model.specs.declared.calls.Call.TheVariants.{Nothing, TryAt, Open, Settle, Listen, Accept, Refuse, Serve}
 use Rattle.relay_model.specs.Cause.{cause}
 use Rattle.relay_model.specs.Calls.{call, door_call}
 use Rattle.relay_model.specs.Rest.{is_going, owes_read, owes_write, must_pass, presses, AcceptTried, SessionRests}
@@ -37,8 +39,8 @@ use Rattle.relay_session.specs.declared.sessions.Session.{Session}
 use Rattle.relay_session.specs.declared.wishes.Wish.{Wish}
 use Rattle.relay_session.specs.declared.wishes.Wish.TheVariants as wishes
 use Rattle.relay_session.specs.Endings.{Quiet, Ends, EndingIs}
-use Rattle.relay_session.specs.Lanes.{Reads, Offers, Shuts}
-use Rattle.relay_session.specs.States.{Closes, Sleeps, Reaps, Wished, ClosesFor, Stage}
+use Rattle.relay_session.specs.Lanes.{ReadsAt, Offers, ShutsAt}
+use Rattle.relay_session.specs.States.{Closes, Sleeps, ReapsAt, Wished, ClosesFor, Stage}
 use Rattle.relay_session.specs.Sessions.{Stands, Hears}
 use Rattle.relay_session.proofs.Own.{NamesOwn, names_own}
 use Rattle.relay_laws.proofs.Slept.{idle_way}
@@ -144,7 +146,7 @@ shut_alike c n one other p way h m =
 like_at : (c : Config) (n s k : ℕ) (one other : List Act) → k ≡ s → Like c n s one other → Like c n k one other
 like_at c n s k one other e h = subst (λ (x : ℕ). Like c n x one other) (sym e) h
 
-reads_alike : (c : Config) (n s : ℕ) (one other : List Act) (p : Place) (k : ℕ) → Like c n s one other → Reads c other s p k → Reads c one s p k
+reads_alike : (c : Config) (n s : ℕ) (one other : List Act) (p : Place) (k : ℕ) → Like c n s one other → ReadsAt c other s p k → ReadsAt c one s p k
 reads_alike c n s one other p k h r =
     record {
       own = r.own;
@@ -160,7 +162,7 @@ offers_alike c n s one other p b h r =
       keeps = r.keeps;
     }
 
-shuts_alike : (c : Config) (n s : ℕ) (one other : List Act) (p : Place) (way : Shutting) → Like c n s one other → Shuts c other s p way → Shuts c one s p way
+shuts_alike : (c : Config) (n s : ℕ) (one other : List Act) (p : Place) (way : Shutting) → Like c n s one other → ShutsAt c other s p way → ShutsAt c one s p way
 shuts_alike c n s one other p way h r = record { own = r.own; may = shut_alike c n one other p way (like_at c n s p.session one other r.own h) r.may }
 
 -- ---- closings
@@ -288,7 +290,7 @@ sleeps_alike c n s one other until h r =
       read_ahead = λ v x. wants_alike c n s one other v h (r.read_ahead v (sym h.same.running_same ∙ x));
     }
 
-reaps_alike : (c : Config) (n s : ℕ) (one other : List Act) (p : Place) → Like c n s one other → is_program_door c p ≡ false → Reaps c other s p → Reaps c one s p
+reaps_alike : (c : Config) (n s : ℕ) (one other : List Act) (p : Place) → Like c n s one other → is_program_door c p ≡ false → ReapsAt c other s p → ReapsAt c one s p
 reaps_alike c n s one other p h d r =
     let a = h.alike.base.own p r.own d in
     record { own = r.own; among = r.among; may = record { is_child = r.may.is_child; closed = a.was_closed_same ∙ r.may.closed; first = a.was_reaped_same ∙ r.may.first } }

@@ -6,7 +6,8 @@ use Rattle.relay_model.specs.declared.acts.Act.{Act}
 use Rattle.relay_model.specs.Configs.{input, output}
 use Rattle.relay_model.specs.Arming.{is_armed}
 use Rattle.relay_model.specs.Sessions.{numbers}
-use Rattle.relay_model.specs.Openings.{Call, Accept}
+use Rattle.relay_model.specs.declared.calls.Call.{Call}
+use Rattle.relay_model.specs.declared.calls.Call.TheVariants.{Accept}
 use Rattle.relay_model.specs.Cause.{running}
 use Rattle.relay_model.specs.Calls.{call}
 use Rattle.relay_model.specs.Rest.{owes_read, owes_write, must_pass, presses, AcceptTried, SessionRests}

@@ -13,12 +13,18 @@ use Rattle.relay_model.specs.Places.{door_of}
 use Rattle.relay_model.specs.Readiness.{Listed, names}
 use Rattle.relay_model.specs.Choices.{earlier, later}
 use Rattle.relay_model.specs.Configs.{places, listens_at, has_own_door, input, output}
-use Rattle.relay_model.specs.History.{now, Stage, Unsettled, Met, Waiting, stage, woken}
-use Rattle.relay_model.specs.Arming.{Arming, Armed, read_arming, is_armed, armed_to_write, armed_to_accept}
+use Rattle.relay_model.specs.History.{now, stage, woken}
+use Rattle.relay_model.specs.declared.stages.Stage.{Stage}
+use Rattle.relay_model.specs.declared.stages.Stage.TheVariants.{Unsettled, Met, Waiting}
+use Rattle.relay_model.specs.Arming.{read_arming, is_armed, armed_to_write, armed_to_accept}
+use Rattle.relay_model.specs.declared.armings.Arming.{Arming}
+use Rattle.relay_model.specs.declared.armings.Arming.TheVariants.{Armed}
 use Rattle.relay_model.specs.Sessions.{live}
 use Rattle.relay_model.specs.Transfers.{over, backlog}
 use Rattle.relay_model.specs.Moments.{closing_moment, idle_moment}
-use Rattle.relay_model.specs.Openings.{Call, Nothing, Settle, Accept, is_ready, opening_call, listening_call, peer_call, place_call, first_call}
+use Rattle.relay_model.specs.Openings.{is_ready, opening_call, listening_call, peer_call, place_call, first_call}
+use Rattle.relay_model.specs.declared.calls.Call.{Call}
+use Rattle.relay_model.specs.declared.calls.Call.TheVariants.{Nothing, Settle, Accept}
 use Rattle.relay_model.specs.Cause.{cause, running}
 use Rattle.relay_model.specs.Calls.{call}
 use Rattle.relay_model.specs.Rest.{is_going, owes_read, owes_write, accepts, AcceptTried, way_work, session_work, try_moment, input_moment, timer_moment, session_moment}

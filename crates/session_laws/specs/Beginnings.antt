@@ -12,19 +12,19 @@ use Rattle.relay_model.specs.declared.acts.Act.TheVariants.{Turn, Listening, Acc
 use Rattle.relay_model.specs.Configs.{has_fork, program_door}
 use Rattle.relay_model.specs.History.{was_closed}
 use Rattle.relay_model.specs.Sessions.{admitted, next_place, permits}
-use Rattle.relay_model.specs.Openings.{Accept}
+use Rattle.relay_model.specs.declared.calls.Call.TheVariants.{Accept}
 use Rattle.relay_model.specs.Calls.{door_call}
 use Rattle.relay_model.specs.May.{Legal}
 use Rattle.relay_laws.specs.Examples.{at, named, listed, forked_command}
 use Rattle.relay_laws.specs.Births.{OnlyHeldWereNamed}
 use Rattle.relay_session.specs.States.{home}
-use Rattle.relay_session.specs.Births.{Begins}
+use Rattle.relay_session.specs.Births.{BeginsSession}
 
 -- where the door calls for a peer, and turns named only what was held, the next session begins with a permitted one
 abbrev pub NextBegins : Type 0
 NextBegins =
     (c : Config) (n : ℕ) (past : List Act) (peer : Peer) → has_fork c ≡ true → Legal c n past → OnlyHeldWereNamed past → door_call c past ≡ Accept program_door (next_place c past) →
-    permits c (home c (admitted c past)) peer ≡ true → Begins c n past (admitted c past) peer
+    permits c (home c (admitted c past)) peer ≡ true → BeginsSession c n past (admitted c past) peer
 
 -- with `lowport`, a peer came with a high port and was refused
 abbrev pub refused_before : List Act
@@ -39,4 +39,4 @@ refused_before =
 -- then the session of that number begins with the next peer, though its first place was closed before
 pub record BeginsAfterRefusal : Type 0 where
   pub closed : was_closed refused_before (home forked_command 0) ≡ true
-  pub begins : Begins forked_command (2 ^ 64 - 1) refused_before 0 (peers.V4 (10 ∷ 1 ∷ 2 ∷ 3 ∷ []) 80)
+  pub begins : BeginsSession forked_command (2 ^ 64 - 1) refused_before 0 (peers.V4 (10 ∷ 1 ∷ 2 ∷ 3 ∷ []) 80)

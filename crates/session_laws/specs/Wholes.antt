@@ -8,12 +8,14 @@ use Rattle.relay_model.specs.Configs.{has_fork, program_door}
 use Rattle.relay_model.specs.History.{turns, failures}
 use Rattle.relay_model.specs.Sessions.{admitted, holds, numbers}
 use Rattle.relay_model.specs.Openings.{out_of_tries}
-use Rattle.relay_model.specs.Outcome.{Outcome, Memory, Stopped, AcceptFailed, ListenFailed, Ended, outcome}
+use Rattle.relay_model.specs.Outcome.{outcome}
+use Rattle.relay_model.specs.declared.outcomes.RunOutcome.{RunOutcome}
+use Rattle.relay_model.specs.declared.outcomes.RunOutcome.TheVariants.{Memory, Stopped, AcceptFailed, ListenFailed, Ended}
 use Rattle.relay_model.specs.Rest.{SessionRests, Rest, owed, until_of}
 use Rattle.relay_model.specs.May.{Legal}
 use Rattle.relay_session.specs.Timers.{session_until}
 use Rattle.program_door.specs.Causes.{door_cause}
-use Rattle.program_door.specs.Wishes.{Sleeps, GoesOn, IsDone, door_until}
+use Rattle.program_door.specs.Wishes.{DoorSleeps, GoesOn, IsDoorDone, door_until}
 
 -- the door goes on, or some session that has begun holds something
 abbrev pub Remains : Config → List Act → Type 0
@@ -21,7 +23,7 @@ Remains c past = GoesOn c past ⊎ ((s : ℕ) × (s < numbers c past) × (holds 
 
 -- something goes on, the door rests, and each session that has begun rests
 pub record AllRest (c : Config) (past : List Act) (until : Option ℕ) : Type 0 where
-  pub door : Sleeps c past until
+  pub door : DoorSleeps c past until
   pub remains : Remains c past
   pub sessions : (s : ℕ) → s < numbers c past → SessionRests c past s
 
@@ -43,7 +45,7 @@ abbrev pub LeastWaitIsUntil : Type 0
 LeastWaitIsUntil = (c : Config) (past : List Act) (until : Option ℕ) → IsLeastWait c past until → until ≡ until_of c past
 
 -- the outcome, by what ended the calls of the door
-abbrev pub told_by_door : Config → List Act → Option Why → Outcome → Type 0
+abbrev pub told_by_door : Config → List Act → Option Why → RunOutcome → Type 0
 told_by_door c past (Some whys.Memory) answer = answer ≡ Memory
 told_by_door c past (Some whys.Stopped) answer = answer ≡ Stopped (turns past)
 told_by_door c past (Some whys.AcceptFailed) answer = answer ≡ AcceptFailed
@@ -55,5 +57,5 @@ told_by_door c past None answer =
 -- where the door is done and no session holds anything, that is the outcome
 abbrev pub DoorTellsOutcome : Type 0
 DoorTellsOutcome =
-    (c : Config) (n : ℕ) (past : List Act) (answer : Outcome) → Legal c n past → has_fork c ≡ true → IsDone c past → ((s : ℕ) → s < admitted c past → holds c past s ≡ false) →
+    (c : Config) (n : ℕ) (past : List Act) (answer : RunOutcome) → Legal c n past → has_fork c ≡ true → IsDoorDone c past → ((s : ℕ) → s < admitted c past → holds c past s ≡ false) →
     told_by_door c past (door_cause past) answer → outcome c past ≡ Some answer

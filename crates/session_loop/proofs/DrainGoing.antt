@@ -29,7 +29,7 @@ use Rattle.relay_session.specs.Sessions.{Stands, wish_of, has_ended}
 use Rattle.relay_session.specs.Blames.{is_blamed}
 use Rattle.world_trait.specs.Seen.{Seen}
 use Rattle.session_driver.specs.Steps.{extend, Acts, DidFor, Idles, OwnAsking, IsActOf, ClosesAsWished, NoTurn, StepIs}
-use Rattle.session_driver.specs.Dumpers.{Counted, Settled, counted_at}
+use Rattle.session_driver.specs.Dumpers.{Counted, IsDumpSettled, counted_at}
 use Rattle.session_driver.specs.Noted.{MeetsUnowed, ReadNoted, UnreadIs, note_of}
 use Rattle.session_driver.specs.Owing.{ReadOwed, SettledStep, undumped, unread, noted}
 use Rattle.session_driver.specs.declared.dumpers.Dumper.{Dumper}
@@ -158,7 +158,7 @@ heard_run : (c : Config) (n : ℕ) (start old new : Seen) (past : List Act) (s :
 heard_run c n start old new past s x y act on st unowed a =
     acted_run c n start old new past act a.asked a.failed on a.did (commands_of c s a.asked (a.own n past s st)) ((a.heard n past s st).may unowed) (a.here n past s st).untimed a.no_turn a.rose (λ e. a.blameless e past) a.waitless
 
-acts_on : (c : Config) (n : ℕ) (start old new : Seen) (past : List Act) (s : ℕ) (m m' : Member) (act : Act) → RunOf c n start old past s m → owed c past ≡ None → Acts c old new m.session m'.session act → SpreadsNot (wish_of m.session) → Settled c (act ∷ past) s m'.dumper → WentOn c n start new past s m'
+acts_on : (c : Config) (n : ℕ) (start old new : Seen) (past : List Act) (s : ℕ) (m m' : Member) (act : Act) → RunOf c n start old past s m → owed c past ≡ None → Acts c old new m.session m'.session act → SpreadsNot (wish_of m.session) → IsDumpSettled c (act ∷ past) s m'.dumper → WentOn c n start new past s m'
 acts_on c n start old new past s m m' act on unowed a none settled =
     let here = a.here n past s on.stands in
     record {
@@ -277,7 +277,7 @@ read_owed c n start old new past s m m' on unowed none h =
 
 -- ---- steps
 
-settled_by : (c : Config) (act : Act) (past : List Act) (s : ℕ) (dumper dumper' : Dumper) → reads_bytes act ≡ false → (c.dump ≡ dumps.Off) ⊎ (dumper' ≡ dumper) → Counted c past s dumper → Settled c (act ∷ past) s dumper'
+settled_by : (c : Config) (act : Act) (past : List Act) (s : ℕ) (dumper dumper' : Dumper) → reads_bytes act ≡ false → (c.dump ≡ dumps.Off) ⊎ (dumper' ≡ dumper) → Counted c past s dumper → IsDumpSettled c (act ∷ past) s dumper'
 settled_by c act past s dumper dumper' e (inl off) k = settled_undumped c (act ∷ past) s dumper' off
 settled_by c act past s dumper dumper' e (inr same) k = settled_on c act past s dumper dumper' e same k
 

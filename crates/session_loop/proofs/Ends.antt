@@ -15,7 +15,8 @@ use Rattle.relay_model.specs.History.{turns, held}
 use Rattle.relay_model.specs.Sessions.{holds}
 use Rattle.relay_model.specs.Cause.{cause}
 use Rattle.relay_model.specs.Rest.{Rest}
-use Rattle.relay_model.specs.Outcome as whole
+use Rattle.relay_model.specs.declared.outcomes.RunOutcome.{RunOutcome}
+use Rattle.relay_model.specs.declared.outcomes.RunOutcome.TheVariants as whole
 use Rattle.relay_model.specs.Outcome.{holds_something, first_fault, failed_listening, failed_opening}
 use Rattle.relay_model.specs.May.{Legal}
 use Rattle.exit_status.specs.declared.outcomes.Outcome.{Outcome}
@@ -29,7 +30,7 @@ use Rattle.relay_session.specs.States.{IsDone}
 use Rattle.relay_session.specs.Told.{told}
 use Rattle.relay_session.specs.Laws.{CauseIsTold, FailureIsBlamed, HeldIsOwn}
 use Rattle.relay_session.proofs.Held.{nothing_left}
-use Rattle.place_openings.specs.declared.calls.GivenUp.{GivenUp}
+use Rattle.place_openings.specs.declared.given_up.GivenUp.{GivenUp}
 use Rattle.session_loop.specs.declared.faults.Fault.{Fault}
 use Rattle.relay_session.specs.Told.{told_listening, told_opening}
 use Rattle.relay_session.specs.Laws.{StopIsTold}
@@ -84,7 +85,7 @@ blamed_at_all why (act ∷ past) e = go (or_cases (blames why act) (is_blamed_fo
     go (inr there) ih = or_right (is_failing act) (is_blamed past) (ih there)
 
 -- a fault that is told is to blame
-fault_blamed : (c : Config) (past : List Act) (s : ℕ) (o : whole.Outcome) → Some o ≡ first_fault c past s → is_blamed past ≡ true
+fault_blamed : (c : Config) (past : List Act) (s : ℕ) (o : RunOutcome) → Some o ≡ first_fault c past s → is_blamed past ≡ true
 fault_blamed c [] s o e = cc
 fault_blamed c (ReadFault q ∷ past) s o e = refl
 fault_blamed c (WriteFault q ∷ past) s o e = refl
@@ -97,22 +98,22 @@ pub as_told : (x answer : Outcome) (P : Outcome → Type 0) → Some x ≡ Some 
 as_told x answer P is h = let k : x ≡ answer = cc in subst P k h
 
 -- the answer tells this outcome, or want of memory
-abbrev Tells : Outcome → whole.Outcome → Type 0
+abbrev Tells : Outcome → RunOutcome → Type 0
 Tells answer ending = (outcome_of answer ≡ Some ending) ⊎ (answer ≡ outcomes.Memory)
 
-listening_tells : (listening : Option ℕ) (found : Option whole.Outcome) (other : whole.Outcome) (answer : Outcome) → told_listening listening ≡ found → unlistened listening ≡ Some answer → Tells answer (unwrap_or found other)
+listening_tells : (listening : Option ℕ) (found : Option RunOutcome) (other : RunOutcome) (answer : Outcome) → told_listening listening ≡ found → unlistened listening ≡ Some answer → Tells answer (unwrap_or found other)
 listening_tells None found other answer e is = cc
 listening_tells (Some attempts) found other answer e is = as_told (outcomes.ListenFailed attempts) answer (λ x. Tells x (unwrap_or found other)) is (inl (ap (λ x. Some (unwrap_or x other)) e))
 
-opening_tells : (opening : Option GivenUp) (found : Option whole.Outcome) (other : whole.Outcome) (answer : Outcome) → told_opening opening ≡ found → unopened opening ≡ Some answer → Tells answer (unwrap_or found other)
+opening_tells : (opening : Option GivenUp) (found : Option RunOutcome) (other : RunOutcome) (answer : Outcome) → told_opening opening ≡ found → unopened opening ≡ Some answer → Tells answer (unwrap_or found other)
 opening_tells None found other answer e is = cc
 opening_tells (Some given_up) found other answer e is = as_told (outcomes.OpenFailed given_up.side given_up.attempts) answer (λ x. Tells x (unwrap_or found other)) is (inl (ap (λ x. Some (unwrap_or x other)) e))
 
-fault_tells : (fault : Option Fault) (found : Option whole.Outcome) (other : whole.Outcome) (answer : Outcome) → told_fault fault ≡ found → faulted fault ≡ Some answer → Tells answer (unwrap_or found other)
+fault_tells : (fault : Option Fault) (found : Option RunOutcome) (other : RunOutcome) (answer : Outcome) → told_fault fault ≡ found → faulted fault ≡ Some answer → Tells answer (unwrap_or found other)
 fault_tells None found other answer e is = cc
 fault_tells (Some fault) found other answer e is = as_told (outcomes.Faulted fault.place fault.op) answer (λ x. Tells x (unwrap_or found other)) is (inl (ap (λ x. Some (unwrap_or x other)) e))
 
-fault_or_tells : (fault : Option Fault) (found : Option whole.Outcome) (kept : Outcome) (other : whole.Outcome) → Tells kept other → told_fault fault ≡ found → Tells (fault_or kept fault) (unwrap_or found other)
+fault_or_tells : (fault : Option Fault) (found : Option RunOutcome) (kept : Outcome) (other : RunOutcome) → Tells kept other → told_fault fault ≡ found → Tells (fault_or kept fault) (unwrap_or found other)
 fault_or_tells None found kept other h e = subst (λ x. Tells kept (unwrap_or x other)) e h
 fault_or_tells (Some fault) found kept other h e = inl (ap (λ x. Some (unwrap_or x other)) e)
 

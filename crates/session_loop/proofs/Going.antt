@@ -16,7 +16,8 @@ use Rattle.relay_model.specs.Journals.{History, Asking}
 use Rattle.relay_model.specs.Holding.{Hold, hold_after, standing}
 use Rattle.relay_model.specs.History.{turns}
 use Rattle.relay_model.specs.Choices.{or_else, only_if}
-use Rattle.relay_model.specs.Outcome as whole
+use Rattle.relay_model.specs.declared.outcomes.RunOutcome.{RunOutcome}
+use Rattle.relay_model.specs.declared.outcomes.RunOutcome.TheVariants as whole
 use Rattle.relay_model.specs.Outcome.{first_fault}
 use Rattle.relay_model.specs.Rest.{Rest, owed, until_of}
 use Rattle.world_trait.specs.Recordings.{with_act, with_asking}
@@ -32,9 +33,9 @@ use Rattle.session_loop.specs.Commands.{Runnable}
 use Rattle.session_loop.specs.Answers.{told_fault}
 use Rattle.session_loop.specs.declared.faults.Fault.{Fault}
 use Rattle.session_loop.specs.declared.drivers.Driver.{Driver}
-use Rattle.session_loop.specs.Courses.{Course, Run, Somewhere, SomewhereFor, Onward, Waited, WaitsOnce, KeepsFor, TurnsFor, IsOwn, OnlyOwn, Risen, unit_of}
+use Rattle.session_loop.specs.Courses.{DriverCourse, DriverRun, Somewhere, SomewhereFor, Onward, WaitedLast, WaitsOnce, KeepsFor, TurnsFor, IsOwn, OnlyOwn, Risen, unit_of}
 use Rattle.session_driver.specs.Steps.{extend, Acts, DidFor, OwnAsking}
-use Rattle.session_driver.specs.Dumpers.{Settled, counted_at}
+use Rattle.session_driver.specs.Dumpers.{IsDumpSettled, counted_at}
 use Rattle.session_driver.specs.Noted.{MeetsUnowed, Notes, note_of}
 use Rattle.session_driver.specs.declared.dumpers.Dumper.{Dumper}
 use Rattle.session_driver.proofs.Counting.{settled_on}
@@ -75,13 +76,13 @@ next_turn : (a b k : ℕ) → a ≡ b → k ≡ b + 1 → suc a ≡ k
 next_turn a b k e f = omega (arith, e, f)
 
 -- the same run, of other names for its turns and its first fault
-pub run_as : (c : Config) (n : ℕ) (start now : Seen) (x : Session) (made made' : ℕ) (failed failed' : Option Fault) (past : List Act) → made' ≡ made → failed' ≡ failed → Run c n start now x made failed past → Run c n start now x made' failed' past
+pub run_as : (c : Config) (n : ℕ) (start now : Seen) (x : Session) (made made' : ℕ) (failed failed' : Option Fault) (past : List Act) → made' ≡ made → failed' ≡ failed → DriverRun c n start now x made failed past → DriverRun c n start now x made' failed' past
 run_as c n start now x made made' failed failed' past em er on =
-    let one : Run c n start now x made' failed past = subst (λ (k : ℕ). Run c n start now x k failed past) (sym em) on in
-    subst (λ (f : Option Fault). Run c n start now x made' f past) (sym er) one
+    let one : DriverRun c n start now x made' failed past = subst (λ (k : ℕ). DriverRun c n start now x k failed past) (sym em) on in
+    subst (λ (f : Option Fault). DriverRun c n start now x made' f past) (sym er) one
 
 -- an act that is no turn, with what it makes of the blame and of the first fault
-went_on : (c : Config) (n : ℕ) (start old new : Seen) (x x' : Session) (made : ℕ) (failed failed' : Option Fault) (past : List Act) (act : Act) (pairs : List Asking) → Run c n start old x made failed past → new.told ≡ option_map (extend (act ∷ past) pairs) start.told → OnlyOwn c pairs → ((p : Place) → new.held p ≡ hold_after act p (old.held p)) → May c n past act → Stands c n (act ∷ past) 0 x' → turns (act ∷ past) ≡ turns past → stop_turned (act ∷ past) ≡ stop_turned past → told_fault failed' ≡ first_fault c (act ∷ past) 0 → (is_blamed (act ∷ past) ≡ true → Risen start.faults new.faults) → old.faults ≤ new.faults → new.waits ≡ old.waits → old.stops ≤ new.stops → Run c n start new x' made failed' (act ∷ past)
+went_on : (c : Config) (n : ℕ) (start old new : Seen) (x x' : Session) (made : ℕ) (failed failed' : Option Fault) (past : List Act) (act : Act) (pairs : List Asking) → DriverRun c n start old x made failed past → new.told ≡ option_map (extend (act ∷ past) pairs) start.told → OnlyOwn c pairs → ((p : Place) → new.held p ≡ hold_after act p (old.held p)) → May c n past act → Stands c n (act ∷ past) 0 x' → turns (act ∷ past) ≡ turns past → stop_turned (act ∷ past) ≡ stop_turned past → told_fault failed' ≡ first_fault c (act ∷ past) 0 → (is_blamed (act ∷ past) ≡ true → Risen start.faults new.faults) → old.faults ≤ new.faults → new.waits ≡ old.waits → old.stops ≤ new.stops → DriverRun c n start new x' made failed' (act ∷ past)
 went_on c n start old new x x' made failed failed' past act pairs on told own held may stands et es fault blamed faults waits stops =
     record {
       runnable = on.runnable;
@@ -101,20 +102,20 @@ went_on c n start old new x x' made failed failed' past act pairs on told own he
       stopped = rw es (λ h. risen_kept start.stops old.stops new.stops stops (on.stopped h));
     }
 
-blame_risen : (c : Config) (n : ℕ) (start old new : Seen) (x : Session) (made : ℕ) (fault : Option Fault) (past : List Act) (act : Act) (failed : Bool) → Run c n start old x made fault past → Rose old.faults new.faults failed → (failed ≡ false → is_blamed (act ∷ past) ≡ is_blamed past) → is_blamed (act ∷ past) ≡ true → Risen start.faults new.faults
+blame_risen : (c : Config) (n : ℕ) (start old new : Seen) (x : Session) (made : ℕ) (fault : Option Fault) (past : List Act) (act : Act) (failed : Bool) → DriverRun c n start old x made fault past → Rose old.faults new.faults failed → (failed ≡ false → is_blamed (act ∷ past) ≡ is_blamed past) → is_blamed (act ∷ past) ≡ true → Risen start.faults new.faults
 blame_risen c n start old new x made fault past act true on rose blameless h = risen_later start.faults old.faults new.faults on.later (rose.rose refl)
 blame_risen c n start old new x made fault past act false on rose blameless h = risen_kept start.faults old.faults new.faults rose.later (on.blamed (sym (blameless refl) ∙ h))
 
 -- an act that the session heard
-pub acted_run : (c : Config) (n : ℕ) (start old new : Seen) (x x' : Session) (made : ℕ) (failed failed' : Option Fault) (past : List Act) (act : Act) → Run c n start old x made failed past → Acts c old new x x' act → May c n past act → told_fault failed' ≡ first_fault c (act ∷ past) 0 → Run c n start new x' made failed' (act ∷ past)
+pub acted_run : (c : Config) (n : ℕ) (start old new : Seen) (x x' : Session) (made : ℕ) (failed failed' : Option Fault) (past : List Act) (act : Act) → DriverRun c n start old x made failed past → Acts c old new x x' act → May c n past act → told_fault failed' ≡ first_fault c (act ∷ past) 0 → DriverRun c n start new x' made failed' (act ∷ past)
 acted_run c n start old new x x' made failed failed' past act on a may ef = go a.asked a.did (a.own n past 0 on.stands)
   where
-    on_with : (pairs : List Asking) → new.told ≡ option_map (extend (act ∷ past) pairs) start.told → OnlyOwn c pairs → ((p : Place) → new.held p ≡ hold_after act p (old.held p)) → Run c n start new x' made failed' (act ∷ past)
+    on_with : (pairs : List Asking) → new.told ≡ option_map (extend (act ∷ past) pairs) start.told → OnlyOwn c pairs → ((p : Place) → new.held p ≡ hold_after act p (old.held p)) → DriverRun c n start new x' made failed' (act ∷ past)
     on_with pairs told own held =
         went_on c n start old new x x' made failed failed' past act pairs on told own held may (a.heard n past 0 on.stands).stands (a.no_turn.turns_same past) (a.no_turn.stops_same past) ef
         (blame_risen c n start old new x made failed past act a.failed on a.rose (λ e. a.blameless e past)) a.rose.later a.waitless.waits a.waitless.stops
 
-    go : (asked : Option Asking) → DidFor asked old new act → OwnAsking c 0 asked → Run c n start new x' made failed' (act ∷ past)
+    go : (asked : Option Asking) → DidFor asked old new act → OwnAsking c 0 asked → DriverRun c n start new x' made failed' (act ∷ past)
     go None did own = on_with on.pairs (did.told ∙ (ap (option_map (with_act act)) on.told ∙ told_act act past on.pairs start.told)) on.own did.held
     go (Some asking) did own = on_with (on.pairs ++ asking ∷ []) (did.told ∙ (ap (option_map (with_asking act asking)) on.told ∙ told_asking act asking past on.pairs start.told)) (own_more c on.pairs asking on.own (inl (0, own.0, λ _. refl)) own.1) did.held
 
@@ -139,7 +140,7 @@ may_note c n past false text o = o
 may_note c n past true text o = o
 
 -- the note of a dump that is owed
-pub noted_run : (c : Config) (n : ℕ) (start old new : Seen) (x : Session) (made : ℕ) (failed : Option Fault) (past : List Act) (dumper : Dumper) (p : Place) (bytes text : List ℕ) (note : Notes c old new dumper p bytes) → text ≡ dump_of c.dump (way_from p.side) (counted_at dumper p.side) bytes → owed c past ≡ Some text → Run c n start old x made failed past → Run c n start new x made failed (note_of note.failed text ∷ past)
+pub noted_run : (c : Config) (n : ℕ) (start old new : Seen) (x : Session) (made : ℕ) (failed : Option Fault) (past : List Act) (dumper : Dumper) (p : Place) (bytes text : List ℕ) (note : Notes c old new dumper p bytes) → text ≡ dump_of c.dump (way_from p.side) (counted_at dumper p.side) bytes → owed c past ≡ Some text → DriverRun c n start old x made failed past → DriverRun c n start new x made failed (note_of note.failed text ∷ past)
 noted_run c n start old new x made failed past dumper p bytes text note e o on =
     let b = note.failed in
     let act = note_of b text in
@@ -148,7 +149,7 @@ noted_run c n start old new x made failed past dumper p bytes text note e o on =
     (λ h. risen_kept start.faults old.faults new.faults note.rose.later (on.blamed (sym (note_blames b text past) ∙ h))) note.rose.later note.waitless.waits note.waitless.stops
 
 -- nothing was done, and the session stands for the same acts
-pub idled_run : (c : Config) (n : ℕ) (start old new : Seen) (x x' : Session) (made : ℕ) (failed : Option Fault) (past : List Act) → Run c n start old x made failed past → DidNothing old new → Stands c n past 0 x' → old.faults ≤ new.faults → new.waits ≡ old.waits → old.stops ≤ new.stops → Run c n start new x' made failed past
+pub idled_run : (c : Config) (n : ℕ) (start old new : Seen) (x x' : Session) (made : ℕ) (failed : Option Fault) (past : List Act) → DriverRun c n start old x made failed past → DidNothing old new → Stands c n past 0 x' → old.faults ≤ new.faults → new.waits ≡ old.waits → old.stops ≤ new.stops → DriverRun c n start new x' made failed past
 idled_run c n start old new x x' made failed past on did stands faults waits stops =
     record {
       runnable = on.runnable;
@@ -168,7 +169,7 @@ idled_run c n start old new x x' made failed past on did stands faults waits sto
       stopped = λ h. risen_kept start.stops old.stops new.stops stops (on.stopped h);
     }
 
-pub idled : (c : Config) (n : ℕ) (start old new : Seen) (r r' : Driver) (past : List Act) → Course c n start old r past → DidNothing old new → Stands c n past 0 r'.session → r'.made ≡ r.made → r'.fault ≡ r.fault → Settled c past 0 r'.dumper → old.faults ≤ new.faults → new.waits ≡ old.waits → old.stops ≤ new.stops → Onward c n start new r'
+pub idled : (c : Config) (n : ℕ) (start old new : Seen) (r r' : Driver) (past : List Act) → DriverCourse c n start old r past → DidNothing old new → Stands c n past 0 r'.session → r'.made ≡ r.made → r'.fault ≡ r.fault → IsDumpSettled c past 0 r'.dumper → old.faults ≤ new.faults → new.waits ≡ old.waits → old.stops ≤ new.stops → Onward c n start new r'
 idled c n start old new r r' past on did stands em er settled faults waits stops =
     record {
       past = past;
@@ -180,7 +181,7 @@ or_stop true b f g e = f refl
 or_stop false b f g e = g e
 
 -- a turn
-pub turned_on : (c : Config) (n : ℕ) (start old new : Seen) (r r' : Driver) (past : List Act) (until : Option ℕ) (at : ℕ) (list : Listed) (stop : Bool) → Course c n start old r past → Did old new (acts.Turn until at list stop) → turns past < n → Rest c past → until ≡ until_of c past → Stands c n (acts.Turn until at list stop ∷ past) 0 r'.session → r'.made ≡ r.made + 1 → r'.fault ≡ r.fault → r'.dumper ≡ r.dumper → old.faults ≤ new.faults → TurnCounts old new at stop → Waited c n start new r'
+pub turned_on : (c : Config) (n : ℕ) (start old new : Seen) (r r' : Driver) (past : List Act) (until : Option ℕ) (at : ℕ) (list : Listed) (stop : Bool) → DriverCourse c n start old r past → Did old new (acts.Turn until at list stop) → turns past < n → Rest c past → until ≡ until_of c past → Stands c n (acts.Turn until at list stop ∷ past) 0 r'.session → r'.made ≡ r.made + 1 → r'.fault ≡ r.fault → r'.dumper ≡ r.dumper → old.faults ≤ new.faults → TurnCounts old new at stop → WaitedLast c n start new r'
 turned_on c n start old new r r' past until at list stop course did left rests is_until stands em er ed faults counts =
     let on = course.run in
     record {
@@ -217,7 +218,7 @@ told_nothing None = refl
 told_nothing (Some h) = ap (λ xs. Some (record { acts = h.acts; asked = xs })) (sym (nil_right h.asked))
 
 -- a run that has just begun
-pub begun : (c : Config) (n : ℕ) (start : Seen) (r : Driver) → Runnable c → Stands c n [] 0 r.session → r.made ≡ 0 → r.fault ≡ None → ((side : Side) → counted_at r.dumper side ≡ 0) → ((p : Place) → start.held p ≡ holds.Free) → Course c n start start r []
+pub begun : (c : Config) (n : ℕ) (start : Seen) (r : Driver) → Runnable c → Stands c n [] 0 r.session → r.made ≡ 0 → r.fault ≡ None → ((side : Side) → counted_at r.dumper side ≡ 0) → ((p : Place) → start.held p ≡ holds.Free) → DriverCourse c n start start r []
 begun c n start r runnable stands em er counts free =
     record {
       settled = record { unowed = refl; counted = λ dumped side. counts side };
@@ -241,7 +242,7 @@ begun c n start r runnable stands em er counts free =
     }
 
 -- the session was cut, and nothing else happened
-pub recut : (c : Config) (n : ℕ) (start now : Seen) (r r' : Driver) (past : List Act) → Course c n start now r past → Stands c n past 0 r'.session → r'.made ≡ r.made → r'.fault ≡ r.fault → Settled c past 0 r'.dumper → Course c n start now r' past
+pub recut : (c : Config) (n : ℕ) (start now : Seen) (r r' : Driver) (past : List Act) → DriverCourse c n start now r past → Stands c n past 0 r'.session → r'.made ≡ r.made → r'.fault ≡ r.fault → IsDumpSettled c past 0 r'.dumper → DriverCourse c n start now r' past
 recut c n start now r r' past course stands em er settled =
     let on = course.run in
     record {
@@ -292,13 +293,13 @@ tells_on f None n e = rw e refl
 tells_on f (Some h) n e = rw e refl
 
 -- the first fault, after a fault at a place of the session
-pub faulted_on : (c : Config) (past : List Act) (o o' : Option whole.Outcome) (q : Place) (half : Half) (t : Bool) → o ≡ first_fault c past 0 → o' ≡ or_else o (Some (whole.Faulted q half)) → t ≡ true → o' ≡ or_else (first_fault c past 0) (only_if t (whole.Faulted q half))
+pub faulted_on : (c : Config) (past : List Act) (o o' : Option RunOutcome) (q : Place) (half : Half) (t : Bool) → o ≡ first_fault c past 0 → o' ≡ or_else o (Some (whole.Faulted q half)) → t ≡ true → o' ≡ or_else (first_fault c past 0) (only_if t (whole.Faulted q half))
 faulted_on c past o o' q half t e f g = rw g (rw (sym e) f)
 
 -- a world and a session that are as they were
-pub unmoved : (c : Config) (n : ℕ) (start old new : Seen) (r r' : Driver) (past : List Act) → Course c n start old r past → new ≡ old → r'.session ≡ r.session → r'.made ≡ r.made → r'.fault ≡ r.fault → Settled c past 0 r'.dumper → Onward c n start new r'
+pub unmoved : (c : Config) (n : ℕ) (start old new : Seen) (r r' : Driver) (past : List Act) → DriverCourse c n start old r past → new ≡ old → r'.session ≡ r.session → r'.made ≡ r.made → r'.fault ≡ r.fault → IsDumpSettled c past 0 r'.dumper → Onward c n start new r'
 unmoved c n start old new r r' past on e f em er settled =
-    record { past = past; course = subst (λ (x : Seen). Course c n start x r' past) (sym e) (recut c n start old r r' past on (subst (Stands c n past 0) (sym f) on.run.stands) em er settled) }
+    record { past = past; course = subst (λ (x : Seen). DriverCourse c n start x r' past) (sym e) (recut c n start old r r' past on (subst (Stands c n past 0) (sym f) on.run.stands) em er settled) }
 
 -- the session of the loop stands for a history that the world stands for, after which no dump is owed
 pub meets : (c : Config) (n : ℕ) (now : Seen) (r : Driver) → SomewhereFor c n now r → MeetsUnowed c now r.session

@@ -16,7 +16,7 @@ use Rattle.relay_session.specs.States.{Allowed}
 use Rattle.relay_session.specs.Sessions.{Stands, left_of, has_ended}
 use Rattle.world_trait.specs.Seen.{Seen}
 use Rattle.session_driver.specs.Steps.{Acts, Idles, StepIs}
-use Rattle.session_driver.specs.Dumpers.{Counted, Settled, counted_at}
+use Rattle.session_driver.specs.Dumpers.{Counted, IsDumpSettled, counted_at}
 use Rattle.session_driver.specs.Noted.{NotedStep, ReadNoted, ReadUnnoted, note_of, undumped, unread, noted, unnoted}
 use Rattle.session_driver.specs.declared.dumpers.Dumper.{Dumper}
 use Rattle.session_driver.specs.declared.stepped.Stepped.{Stepped}
@@ -24,14 +24,14 @@ use Rattle.session_driver.specs.declared.stepped.Stepped.TheVariants as steps
 use Rattle.session_driver.proofs.Noting.{unread_step, unclosed_by}
 use Rattle.session_loop.specs.Answers.{told_fault}
 use Rattle.session_loop.specs.declared.drivers.Driver.{Driver}
-use Rattle.session_loop.specs.Courses.{Course, Onward, unit_of}
+use Rattle.session_loop.specs.Courses.{DriverCourse, Onward, unit_of}
 use Rattle.session_loop.proofs.Going.{acted_run, idled, idled_run, noted_run, rank_cut, rank_heard, run_as}
 use Rattle.session_driver.proofs.Counting.{counted_more, note_unread, owes_by, read_at, settled_on, settled_undumped}
 
 -- ---- steps that read nothing that is dumped
 
 -- an act after which no dump is owed
-pub acted_on : (c : Config) (n : ℕ) (start old new : Seen) (r r' : Driver) (past : List Act) (act : Act) → Course c n start old r past → Acts c old new r.session r'.session act → r'.made ≡ r.made → told_fault r'.fault ≡ first_fault c (act ∷ past) 0 → Settled c (act ∷ past) 0 r'.dumper → Onward c n start new r'
+pub acted_on : (c : Config) (n : ℕ) (start old new : Seen) (r r' : Driver) (past : List Act) (act : Act) → DriverCourse c n start old r past → Acts c old new r.session r'.session act → r'.made ≡ r.made → told_fault r'.fault ≡ first_fault c (act ∷ past) 0 → IsDumpSettled c (act ∷ past) 0 r'.dumper → Onward c n start new r'
 acted_on c n start old new r r' past act on a em ef settled =
     let run = acted_run c n start old new r.session r'.session r.made r.fault r'.fault past act on.run a ((a.heard n past 0 on.run.stands).may on.settled.unowed) ef in
     record { past = act ∷ past; course = record { run = run_as c n start new r'.session r.made r'.made r'.fault r'.fault (act ∷ past) em refl run; settled = settled } }
@@ -54,18 +54,18 @@ plain_step c old new x x' dumper dumper' stepped t (noted e h) = absurd (false�
 plain_step c old new x x' dumper dumper' stepped t (unnoted e h) = absurd (false≢true (sym (ap is_plain e) ∙ t))
 
 -- what was settled stays so after an act that reads nothing, or where nothing is dumped
-pub settled_act : (c : Config) (act : Act) (past : List Act) (dumper dumper' : Dumper) → reads_bytes act ≡ false → (c.dump ≡ dumps.Off) ⊎ (dumper' ≡ dumper) → Counted c past 0 dumper → Settled c (act ∷ past) 0 dumper'
+pub settled_act : (c : Config) (act : Act) (past : List Act) (dumper dumper' : Dumper) → reads_bytes act ≡ false → (c.dump ≡ dumps.Off) ⊎ (dumper' ≡ dumper) → Counted c past 0 dumper → IsDumpSettled c (act ∷ past) 0 dumper'
 settled_act c act past dumper dumper' e (inl off) counted = settled_undumped c (act ∷ past) 0 dumper' off
 settled_act c act past dumper dumper' e (inr same) counted = settled_on c act past 0 dumper dumper' e same counted
 
 -- and after none
-pub settled_still : (c : Config) (past : List Act) (dumper dumper' : Dumper) → (c.dump ≡ dumps.Off) ⊎ (dumper' ≡ dumper) → Settled c past 0 dumper → Settled c past 0 dumper'
+pub settled_still : (c : Config) (past : List Act) (dumper dumper' : Dumper) → (c.dump ≡ dumps.Off) ⊎ (dumper' ≡ dumper) → IsDumpSettled c past 0 dumper → IsDumpSettled c past 0 dumper'
 settled_still c past dumper dumper' (inl off) s = settled_undumped c past 0 dumper' off
-settled_still c past dumper dumper' (inr same) s = subst (Settled c past 0) (sym same) s
+settled_still c past dumper dumper' (inr same) s = subst (IsDumpSettled c past 0) (sym same) s
 
 -- ---- a read that is noted
 
-read_noted : (c : Config) (n : ℕ) (start old new : Seen) (r r' : Driver) (past : List Act) → Course c n start old r past → ReadNoted c old new r.session r'.session r.dumper r'.dumper → r'.made ≡ r.made → r'.fault ≡ r.fault → Onward c n start new r'
+read_noted : (c : Config) (n : ℕ) (start old new : Seen) (r r' : Driver) (past : List Act) → DriverCourse c n start old r past → ReadNoted c old new r.session r'.session r.dumper r'.dumper → r'.made ≡ r.made → r'.fault ≡ r.fault → Onward c n start new r'
 read_noted c n start old new r r' past on h em er =
     let p = h.place in
     let bytes = h.bytes in
@@ -84,7 +84,7 @@ read_noted c n start old new r r' past on h em er =
       };
     }
 
-read_unnoted : (c : Config) (n : ℕ) (start old new : Seen) (r r' : Driver) (past : List Act) → Course c n start old r past → ReadUnnoted c old new r.session r'.session r.dumper r'.dumper → r'.made ≡ r.made → r'.fault ≡ r.fault → Onward c n start new r'
+read_unnoted : (c : Config) (n : ℕ) (start old new : Seen) (r r' : Driver) (past : List Act) → DriverCourse c n start old r past → ReadUnnoted c old new r.session r'.session r.dumper r'.dumper → r'.made ≡ r.made → r'.fault ≡ r.fault → Onward c n start new r'
 read_unnoted c n start old new r r' past on h em er =
     let p = h.place in
     let bytes = h.bytes in
@@ -109,16 +109,16 @@ read_unnoted c n start old new r r' past on h em er =
 
 -- ---- the steps that may have been such a read
 
-pub on_acted : (c : Config) (n : ℕ) (start old new : Seen) (r r' : Driver) (past : List Act) → Course c n start old r past → NotedStep c old new r.session r'.session r.dumper r'.dumper steps.Acted → r'.made ≡ r.made → r'.fault ≡ r.fault → Onward c n start new r'
+pub on_acted : (c : Config) (n : ℕ) (start old new : Seen) (r r' : Driver) (past : List Act) → DriverCourse c n start old r past → NotedStep c old new r.session r'.session r.dumper r'.dumper steps.Acted → r'.made ≡ r.made → r'.fault ≡ r.fault → Onward c n start new r'
 on_acted c n start old new r r' past on (undumped e h) em er = acted_on c n start old new r r' past h.0 on h.2 em (ap told_fault er ∙ on.run.fault ∙ sym (h.1 past 0)) (settled_undumped c (h.0 ∷ past) 0 r'.dumper e)
 on_acted c n start old new r r' past on (unread e h) em er = acted_on c n start old new r r' past h.0 on h.3 em (ap told_fault er ∙ on.run.fault ∙ sym (h.2 past 0)) (settled_on c h.0 past 0 r.dumper r'.dumper h.1 e on.settled.counted)
 on_acted c n start old new r r' past on (noted e h) em er = read_noted c n start old new r r' past on h em er
 on_acted c n start old new r r' past on (unnoted e h) em er = let x : ⊥ = cc in absurd x
 
-pub on_idle : (c : Config) (n : ℕ) (start old new : Seen) (r r' : Driver) (past : List Act) → Course c n start old r past → Idles c old new r.session r'.session → r'.made ≡ r.made → r'.fault ≡ r.fault → Settled c past 0 r'.dumper → Onward c n start new r'
+pub on_idle : (c : Config) (n : ℕ) (start old new : Seen) (r r' : Driver) (past : List Act) → DriverCourse c n start old r past → Idles c old new r.session r'.session → r'.made ≡ r.made → r'.fault ≡ r.fault → IsDumpSettled c past 0 r'.dumper → Onward c n start new r'
 on_idle c n start old new r r' past on h em er settled = idled c n start old new r r' past on h.did (h.stands n past 0 on.run.stands) em er settled h.rose.later h.waitless.waits h.waitless.stops
 
-pub on_memory : (c : Config) (n : ℕ) (start old new : Seen) (r r' : Driver) (past : List Act) → Course c n start old r past → NotedStep c old new r.session r'.session r.dumper r'.dumper steps.Memory → r'.made ≡ r.made → r'.fault ≡ r.fault → Onward c n start new r'
+pub on_memory : (c : Config) (n : ℕ) (start old new : Seen) (r r' : Driver) (past : List Act) → DriverCourse c n start old r past → NotedStep c old new r.session r'.session r.dumper r'.dumper steps.Memory → r'.made ≡ r.made → r'.fault ≡ r.fault → Onward c n start new r'
 on_memory c n start old new r r' past on (undumped e h) em er = on_idle c n start old new r r' past on h.0 em er (settled_undumped c past 0 r'.dumper e)
 on_memory c n start old new r r' past on (unread e h) em er = on_idle c n start old new r r' past on h.0 em er (settled_still c past r.dumper r'.dumper (inr e) on.settled)
 on_memory c n start old new r r' past on (noted e h) em er = let x : ⊥ = cc in absurd x

@@ -16,12 +16,12 @@ use Rattle.relay_model.specs.Sessions.{live}
 use Rattle.relay_model.specs.Openings.{ready}
 use Rattle.relay_model.specs.Cause.{cause, closed_why, is_end, accept_failed_for, listening_failed, opening_failed, faulted, finished}
 use Rattle.relay_model.specs.Rest.{is_going}
-use Rattle.relay_model.specs.Outcome as whole
+use Rattle.relay_model.specs.declared.outcomes.RunOutcome.{RunOutcome}
 use Rattle.relay_model.specs.Outcome.{first_fault, failed_listening, failed_opening}
 use Rattle.relay_model.specs.May.{Legal, MayAsk, MayOffer}
 use Rattle.relay_laws.proofs.PlaceLemmas.{same_place_equal}
 use Rattle.relay_laws.proofs.Holdings.{moves_formed, moves_running}
-use Rattle.place_openings.specs.declared.calls.GivenUp.{GivenUp}
+use Rattle.place_openings.specs.declared.given_up.GivenUp.{GivenUp}
 use Rattle.relay_session.specs.Blames.{is_blamed_for}
 use Rattle.relay_session.specs.Endings.{Ends}
 use Rattle.relay_session.specs.Laws.{FailureIsBlamed}
@@ -98,15 +98,15 @@ blamed_first c n (act ∷ past) alone legal e = blamed_first c n past alone lega
 
 -- ---- what is told
 
-some_listening : (listening : Option ℕ) (found : Option whole.Outcome) → told_listening listening ≡ found → is_some found ≡ true → is_some (unlistened listening) ≡ true
+some_listening : (listening : Option ℕ) (found : Option RunOutcome) → told_listening listening ≡ found → is_some found ≡ true → is_some (unlistened listening) ≡ true
 some_listening None found e h = absurd (false≢true (ap is_some e ∙ h))
 some_listening (Some attempts) found e h = refl
 
-some_opening : (opening : Option GivenUp) (found : Option whole.Outcome) → told_opening opening ≡ found → is_some found ≡ true → is_some (unopened opening) ≡ true
+some_opening : (opening : Option GivenUp) (found : Option RunOutcome) → told_opening opening ≡ found → is_some found ≡ true → is_some (unopened opening) ≡ true
 some_opening None found e h = absurd (false≢true (ap is_some e ∙ h))
 some_opening (Some given_up) found e h = refl
 
-some_fault : (fault : Option Fault) (found : Option whole.Outcome) → told_fault fault ≡ found → is_some found ≡ true → is_some (faulted_by fault) ≡ true
+some_fault : (fault : Option Fault) (found : Option RunOutcome) → told_fault fault ≡ found → is_some found ≡ true → is_some (faulted_by fault) ≡ true
 some_fault None found e h = absurd (false≢true (ap is_some e ∙ h))
 some_fault (Some fault) found e h = refl
 

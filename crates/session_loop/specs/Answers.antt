@@ -5,8 +5,10 @@ use Rattle.relay_model.specs.declared.acts.Why.{Why}
 use Rattle.relay_model.specs.declared.acts.Why.TheVariants as whys
 use Rattle.relay_model.specs.declared.commands.Config.{Config}
 use Rattle.relay_model.specs.Configs.{places, own_doors}
-use Rattle.relay_model.specs.Outcome as whole
-use Rattle.place_openings.specs.declared.calls.GivenUp.{GivenUp}
+use Rattle.relay_model.specs.declared.outcomes.RunOutcome.{RunOutcome}
+use Rattle.relay_model.specs.Outcome.{failed_listening, failed_opening}
+use Rattle.relay_model.specs.declared.outcomes.RunOutcome.TheVariants as whole
+use Rattle.place_openings.specs.declared.given_up.GivenUp.{GivenUp}
 use Rattle.exit_status.specs.declared.outcomes.Outcome.{Outcome}
 use Rattle.exit_status.specs.declared.outcomes.Outcome.TheVariants as outcomes
 use Rattle.exit_status.specs.declared.outcomes.EndWhy.TheVariants as ends
@@ -15,7 +17,7 @@ use Rattle.relay_session.specs.Told.{told_listening, told_opening}
 use Rattle.session_loop.specs.declared.faults.Fault.{Fault}
 
 -- the first failed read or write, as an outcome of the model
-abbrev pub told_fault : Option Fault → Option whole.Outcome
+abbrev pub told_fault : Option Fault → Option RunOutcome
 told_fault None = None
 told_fault (Some fault) = Some (whole.Faulted fault.place (half_of fault.op))
 
@@ -54,6 +56,6 @@ outcome_for whys.Refused listening opening fault made = None
 pub record AnswerTells (c : Config) (past : List Act) (why : Why) (fault : Option Fault) (made : ℕ) (answer : Outcome) : Type 0 where
   pub listening : Option ℕ
   pub opening : Option GivenUp
-  pub listening_is : told_listening listening ≡ whole.failed_listening c past (own_doors c 0)
-  pub opening_is : told_opening opening ≡ whole.failed_opening c past (places c 0)
+  pub listening_is : told_listening listening ≡ failed_listening c past (own_doors c 0)
+  pub opening_is : told_opening opening ≡ failed_opening c past (places c 0)
   pub answer_is : outcome_for why listening opening fault made ≡ Some answer

@@ -19,14 +19,14 @@ use Rattle.relay_session.specs.Told.{stop_turned}
 use Rattle.relay_session.specs.declared.wishes.Wish.TheVariants as wishes
 use Rattle.world_trait.specs.Seen.{Seen}
 use Rattle.session_driver.specs.Steps.{extend}
-use Rattle.session_driver.specs.Dumpers.{Settled}
+use Rattle.session_driver.specs.Dumpers.{IsDumpSettled}
 use Rattle.relay_model.specs.Configs.{has_fork, is_of, single, program_door}
 use Rattle.session_loop.specs.Commands.{Runnable}
 use Rattle.session_loop.specs.Answers.{told_fault}
 use Rattle.session_loop.specs.declared.faults.Fault.{Fault}
 use Rattle.session_loop.specs.declared.drivers.Driver.{Driver}
-use Rattle.session_loop.specs.declared.drivers.Pause.{Pause}
-use Rattle.session_loop.specs.declared.drivers.Pause.TheVariants.{Sleep, Done}
+use Rattle.session_loop.specs.declared.drivers.DriverPause.{DriverPause}
+use Rattle.session_loop.specs.declared.drivers.DriverPause.TheVariants.{Sleep, Done}
 
 -- the place or door is one of the command's: of its one session, or with `fork` of some session, or the program door
 abbrev pub IsOwn : Config → Place → Type 0
@@ -43,7 +43,7 @@ Risen before now = min (before + 1) (2 ^ 64 - 1) ≤ now
 
 -- the run began where the world looked like `start`; it looks like `now`, the session has come this far with so many turns
 -- and this first fault, and the acts since then are `past`
-pub record Run (c : Config) (n : ℕ) (start now : Seen) (session : Session) (made : ℕ) (failed : Option Fault) (past : List Act) : Type 0 where
+pub record DriverRun (c : Config) (n : ℕ) (start now : Seen) (session : Session) (made : ℕ) (failed : Option Fault) (past : List Act) : Type 0 where
   -- the acts and the session
   pub runnable : Runnable c
   pub legal : Legal c n past
@@ -65,9 +65,9 @@ pub record Run (c : Config) (n : ℕ) (start now : Seen) (session : Session) (ma
   pub stopped : stop_turned past ≡ true → Risen start.stops now.stops
 
 -- such a run of the loop, between two steps
-pub record Course (c : Config) (n : ℕ) (start now : Seen) (r : Driver) (past : List Act) : Type 0 where
-  pub run : Run c n start now r.session r.made r.fault past
-  pub settled : Settled c past 0 r.dumper
+pub record DriverCourse (c : Config) (n : ℕ) (start now : Seen) (r : Driver) (past : List Act) : Type 0 where
+  pub run : DriverRun c n start now r.session r.made r.fault past
+  pub settled : IsDumpSettled c past 0 r.dumper
 
 -- some run led here
 pub record Somewhere (now : Seen) (r : Driver) : Type 0 where
@@ -75,13 +75,13 @@ pub record Somewhere (now : Seen) (r : Driver) : Type 0 where
   pub n : ℕ
   pub start : Seen
   pub past : List Act
-  pub course : Course c n start now r past
+  pub course : DriverCourse c n start now r past
 
 -- some run of this command, with n turns in all
 pub record SomewhereFor (c : Config) (n : ℕ) (now : Seen) (r : Driver) : Type 0 where
   pub start : Seen
   pub past : List Act
-  pub course : Course c n start now r past
+  pub course : DriverCourse c n start now r past
 
 -- some run led here, after which the session is done for this reason
 pub record SomeDone (why : Why) (r : Driver) : Type 0 where
@@ -90,17 +90,17 @@ pub record SomeDone (why : Why) (r : Driver) : Type 0 where
   pub start : Seen
   pub now : Seen
   pub past : List Act
-  pub course : Course c n start now r past
+  pub course : DriverCourse c n start now r past
   pub done : IsDone c n past 0 why
 
 -- some run led here
 pub record Onward (c : Config) (n : ℕ) (start now : Seen) (r : Driver) : Type 0 where
   pub past : List Act
-  pub course : Course c n start now r past
+  pub course : DriverCourse c n start now r past
 
 -- what every call of the loop keeps, for this command or for every one
 abbrev pub KeepsFor : Config → Seen → Seen → Driver → Driver → Type 0
-KeepsFor c now now' r r' = (n : ℕ) (start : Seen) (past : List Act) → Course c n start now r past → Onward c n start now' r'
+KeepsFor c now now' r r' = (n : ℕ) (start : Seen) (past : List Act) → DriverCourse c n start now r past → Onward c n start now' r'
 
 -- a call goes from one such moment to the next, for every command
 abbrev pub Keeps : Seen → Seen → Driver → Driver → Type 0
@@ -108,7 +108,7 @@ Keeps now now' r r' = (c : Config) → KeepsFor c now now' r r'
 
 -- a wait needs a turn that is left
 abbrev pub TurnsFor : Config → ℕ → Seen → Seen → Driver → Driver → Type 0
-TurnsFor c n now now' r r' = (start : Seen) (past : List Act) → Course c n start now r past → Onward c n start now' r'
+TurnsFor c n now now' r r' = (start : Seen) (past : List Act) → DriverCourse c n start now r past → Onward c n start now' r'
 
 -- the last act is a turn
 abbrev pub ends_in_turn : List Act → Bool
@@ -117,14 +117,14 @@ ends_in_turn (Turn until at ready stop ∷ past) = true
 ends_in_turn (act ∷ past) = false
 
 -- some run led here by a turn as its last act
-pub record Waited (c : Config) (n : ℕ) (start now : Seen) (r : Driver) : Type 0 where
+pub record WaitedLast (c : Config) (n : ℕ) (start now : Seen) (r : Driver) : Type 0 where
   pub past : List Act
-  pub course : Course c n start now r past
+  pub course : DriverCourse c n start now r past
   pub last : ends_in_turn past ≡ true
 
 -- so of every run that led to the beginning
 abbrev pub WaitsOnce : Config → ℕ → Seen → Seen → Driver → Driver → Type 0
-WaitsOnce c n now now' r r' = (start : Seen) (past : List Act) → Course c n start now r past → Waited c n start now' r'
+WaitsOnce c n now now' r r' = (start : Seen) (past : List Act) → DriverCourse c n start now r past → WaitedLast c n start now' r'
 
 -- 1 where a test holds, else 0
 abbrev pub unit_of : Bool → ℕ
@@ -136,15 +136,15 @@ abbrev pub rank : Driver → ℕ
 rank r = 2 * left_of r.session + unit_of (not (has_ended r.session))
 
 -- the session wishes to sleep, or is done for this reason
-abbrev pub PauseIs : Driver → Pause → Type 0
+abbrev pub PauseIs : Driver → DriverPause → Type 0
 PauseIs r (Sleep until) = (wish_of r.session ≡ wishes.Sleep until) × (has_ended r.session ≡ false)
 PauseIs r (Done why) = wish_of r.session ≡ wishes.Done why
 
 -- a sleep is in order, or the session is done and everything free
-abbrev pub Pauses : Config → ℕ → List Act → Pause → Type 0
+abbrev pub Pauses : Config → ℕ → List Act → DriverPause → Type 0
 Pauses c n past (Sleep until) = Rest c past × (until ≡ until_of c past)
 Pauses c n past (Done why) = IsDone c n past 0 why × ((p : Place) → standing past p ≡ Free)
 
 -- so of every history that the session may stand for, after which no dump is owed
-abbrev pub IsPause : Driver → Pause → Type 0
+abbrev pub IsPause : Driver → DriverPause → Type 0
 IsPause r pause = (c : Config) (n : ℕ) (past : List Act) → Runnable c → Stands c n past 0 r.session → Legal c n past → owed c past ≡ None → Pauses c n past pause

@@ -48,6 +48,6 @@ pub record EndsWith (c : Config) (n : ℕ) (past : List Act) (answer : Outcome) 
   pub stopped : (t : ℕ) → answer ≡ outcomes.Stopped t → (t ≡ turns past) × StopAt n past
 
 -- the run has ended with this answer
-pub record Ended (c : Config) (n : ℕ) (start now : Seen) (past : List Act) (answer : Outcome) : Type 0 where
+pub record HasRunEnded (c : Config) (n : ℕ) (start now : Seen) (past : List Act) (answer : Outcome) : Type 0 where
   pub happened : Happened c n start now past
   pub ends : EndsWith c n past answer

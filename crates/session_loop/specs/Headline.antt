@@ -14,7 +14,7 @@ use Rattle.session_driver.specs.Steps.{extend}
 
 -- the world told `before`, and tells `told` now: the acts between are legal, nothing is held after them, the
 -- answer is their outcome or want of memory, and each place that was asked for is the command's own
-pub record Headline (c : Config) (n : ℕ) (before : History) (told : Option History) (answer : Outcome) : Type 0 where
+pub record RelayHeadline (c : Config) (n : ℕ) (before : History) (told : Option History) (answer : Outcome) : Type 0 where
   pub acts : List Act
   pub asked : List Asking
   pub told_is : told ≡ Some (extend acts asked before)

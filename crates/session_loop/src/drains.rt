@@ -1,5 +1,5 @@
 // The calls of a session up to its next pause.
-ghost use Rattle.std.specs.Prelude.{◌≡◌, ◌<◌, ◌≤◌, length, IfSome, IfNone};
+ghost use Rattle.std.specs.Prelude.{◌≡◌, ◌<◌, ◌≤◌, vec_len, IfSome, IfNone};
 ghost use Rattle.session_loop.specs.Pauses.{PauseIs, pause_of};
 ghost use Rattle.session_loop.specs.Runs.{Runs, RunsOn, rank};
 
@@ -15,13 +15,13 @@ pub fn drain<W: World>(
     member: &mut Member,
     world: &mut W,
     config: &Config,
-    scratch: &mut [u8],
+    scratch: &mut Vec<u8>,
 ) -> Pause
-    requires block { config.now.block ≤ length scratch.old }
+    requires block { config.now.block ≤ vec_len scratch.old }
     requires runs { Runs config.now (W.seen world.old) member.old }
     ensures runs { RunsOn config.now (W.seen world.old) (W.seen world.new) member.old member.new }
     ensures pause { PauseIs member.new.session result }
-    ensures scratch { length scratch.new ≡ length scratch.old }
+    ensures scratch { vec_len scratch.new ≡ vec_len scratch.old }
 {
     loop {
         if let Some(pause) = go_on(member, world, config, scratch) {
@@ -35,14 +35,14 @@ fn go_on<W: World>(
     member: &mut Member,
     world: &mut W,
     config: &Config,
-    scratch: &mut [u8],
+    scratch: &mut Vec<u8>,
 ) -> Option<Pause>
-    requires block { config.now.block ≤ length scratch.old }
+    requires block { config.now.block ≤ vec_len scratch.old }
     requires runs { Runs config.now (W.seen world.old) member.old }
     ensures runs { RunsOn config.now (W.seen world.old) (W.seen world.new) member.old member.new }
     ensures pause { IfSome result (PauseIs member.new.session) }
     ensures fewer { IfNone result (rank member.new.session < rank member.old.session) }
-    ensures scratch { length scratch.new ≡ length scratch.old }
+    ensures scratch { vec_len scratch.new ≡ vec_len scratch.old }
 {
     if let Some(why) = spreading(member.session.wish()) {
         return Some(Pause::Spreads(why));
@@ -54,13 +54,13 @@ fn go_on<W: World>(
         scratch,
         &mut member.dumper,
     ) {
-        Some(stepped) => paused(stepped),
+        Some(stepped) => pause_after(stepped),
         None => None,
     }
 }
 
 /// The pause that a step came to.
-fn paused(stepped: Stepped) -> Option<Pause>
+fn pause_after(stepped: Stepped) -> Option<Pause>
     ensures { result ≡ pause_of stepped }
 {
     match stepped {

@@ -1,7 +1,7 @@
 // A session that is driven over a world. What the calls keep true is said of every history that the session
 // stands for, whether the world tells its history or not.
-ghost use Rattle.std.specs.Prelude.{◌≡◌, ℕ, ◌<◌, ◌≤◌, [], Option, Some, None, length, true, IfOk, IfSome, IfNone};
-ghost use Rattle.relay_model.specs.declared.places.Place.{Place as Spot};
+ghost use Rattle.std.specs.Prelude.{◌≡◌, ℕ, ◌<◌, ◌≤◌, [], Option, Some, None, true, vec_len, IfOk, IfSome, IfNone};
+ghost use Rattle.relay_model.specs.declared.places.Place.{Place};
 ghost use Rattle.relay_model.specs.Holding.{Free};
 ghost use Rattle.relay_session.specs.Sessions.{has_ended};
 ghost use Rattle.world_trait.specs.Seen.{Seen};
@@ -31,20 +31,20 @@ pub struct Driver {
 
 /// Where the session has to wait, or that it is done.
 #[derive(Clone, Copy, Debug, PartialEq, Eq)]
-pub enum Pause {
+pub enum DriverPause {
     Sleep(Option<u64>),
     Done(Why),
 }
 
 impl Driver {
-    ghost use Rattle.session_loop.specs.Courses.{Course, SomewhereFor, KeepsFor, PauseIs, IsPause, rank};
+    ghost use Rattle.session_loop.specs.Courses.{DriverCourse, SomewhereFor, KeepsFor, PauseIs, IsPause, rank};
 
     pub fn new(alloc: Global, config: &Config) -> Result<Driver, NoMemory>
         requires { Runnable config.now }
         ensures { IfOk result
             (λ r. (r.made ≡ 0)
-            × ((n : ℕ) (start : Seen) → ((p : Spot)
-            → start.held p ≡ Free) → Course config.now n start start r [])) }
+            × ((n : ℕ) (start : Seen) → ((p : Place)
+            → start.held p ≡ Free) → DriverCourse config.now n start start r [])) }
     {
         let ready = ReadyList::new(alloc)?;
         let session = Session::new(alloc, config)?;
@@ -63,9 +63,9 @@ impl Driver {
         &mut self,
         world: &mut W,
         config: &Config,
-        scratch: &mut [u8],
-    ) -> Option<Pause>
-        requires block { config.now.block ≤ length scratch.old }
+        scratch: &mut Vec<u8>,
+    ) -> Option<DriverPause>
+        requires block { config.now.block ≤ vec_len scratch.old }
         requires course { (n : ℕ) × SomewhereFor config.now n (W.seen world.old) self.old }
         ensures course { KeepsFor config.now (W.seen world.old) (W.seen world.new) self.old self.new }
         ensures fewer { IfNone result (rank self.new < rank self.old) }
@@ -73,7 +73,7 @@ impl Driver {
         ensures paused { IfSome result (IsPause self.new) }
         ensures over { has_ended self.old.session ≡ true → has_ended self.new.session ≡ true }
         ensures made { self.new.made ≡ self.old.made }
-        ensures scratch { length scratch.new ≡ length scratch.old }
+        ensures scratch { vec_len scratch.new ≡ vec_len scratch.old }
     {
         match step_noted(&mut self.session, world, config, scratch, &mut self.dumper) {
             Stepped::Acted => None,
@@ -87,8 +87,8 @@ impl Driver {
             }
             Stepped::Childless => None,
             Stepped::Memory => None,
-            Stepped::Sleep(until) => Some(Pause::Sleep(until)),
-            Stepped::Done(why) => Some(Pause::Done(why)),
+            Stepped::Sleep(until) => Some(DriverPause::Sleep(until)),
+            Stepped::Done(why) => Some(DriverPause::Done(why)),
         }
     }
 }

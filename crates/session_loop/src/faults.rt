@@ -1,7 +1,7 @@
 // What failed first.
 ghost use Rattle.std.specs.Prelude.{◌≡◌, Some, Option};
 ghost use Rattle.relay_model.specs.Choices.{or_else};
-ghost use Rattle.relay_model.specs.Outcome as whole;
+ghost use Rattle.relay_model.specs.declared.outcomes.RunOutcome.TheVariants as whole;
 ghost use Rattle.exit_status.specs.Outcomes.{half_of};
 
 use exit_status::Op;

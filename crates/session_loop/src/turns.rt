@@ -1,5 +1,5 @@
 // The turns of a session that is driven: up to a sleep, the sleep, and so on until it is done.
-ghost use Rattle.std.specs.Prelude.{◌≡◌, ℕ, ◌+◌, ◌<◌, ◌≤◌, ◌∷◌, [], List, Option, length, true, false, IfSome, IfNone};
+ghost use Rattle.std.specs.Prelude.{◌≡◌, ℕ, ◌+◌, ◌<◌, ◌≤◌, ◌∷◌, [], List, Option, true, false, vec_len, IfSome, IfNone};
 ghost use Rattle.relay_model.specs.declared.acts.Act.{Act};
 ghost use Rattle.relay_model.specs.declared.acts.Act.TheVariants as acts;
 ghost use Rattle.relay_model.specs.declared.acts.Why.TheVariants as whys;
@@ -14,28 +14,33 @@ ghost use Rattle.world_trait.specs.Seen.{Seen};
 ghost use Rattle.relay_session.specs.States.{IsDone};
 ghost use Rattle.session_loop.specs.Answers.{AnswerTells};
 ghost use Rattle.session_loop.specs.Ended.{EndsWith};
-ghost use Rattle.session_loop.specs.declared.drivers.Pause.TheVariants as pauses;
+ghost use Rattle.session_loop.specs.declared.drivers.DriverPause.TheVariants as pauses;
 
-use crate::drivers::{Driver, Pause};
+use crate::drivers::{Driver, DriverPause};
 use crate::outcomes::outcome_for;
 use exit_status::Outcome;
 use relay_model::{Config, ReadyList, Why};
-use relay_session::{Answer, Session, cause_is_told, failure_is_blamed, held_is_own, stop_is_told};
+use relay_session::{Session, cause_is_told, failure_is_blamed, held_is_own, stop_is_told};
 use world_trait::{Turned, World};
 
 impl Driver {
-    ghost use Rattle.session_loop.specs.Courses.{Course, SomewhereFor, KeepsFor, TurnsFor, WaitsOnce, SomeDone, PauseIs, IsPause, rank};
+    ghost use Rattle.session_loop.specs.Courses.{DriverCourse, SomewhereFor, KeepsFor, TurnsFor, WaitsOnce, SomeDone, PauseIs, IsPause};
 
     /// Makes the calls that are wished for, up to a sleep or the end.
-    fn drain<W: World>(&mut self, world: &mut W, config: &Config, scratch: &mut [u8]) -> Pause
-        requires block { config.now.block ≤ length scratch.old }
+    fn drain<W: World>(
+        &mut self,
+        world: &mut W,
+        config: &Config,
+        scratch: &mut Vec<u8>,
+    ) -> DriverPause
+        requires block { config.now.block ≤ vec_len scratch.old }
         requires course { (n : ℕ) × SomewhereFor config.now n (W.seen world.old) self.old }
         ensures course { KeepsFor config.now (W.seen world.old) (W.seen world.new) self.old self.new }
         ensures pause { PauseIs self.new result }
         ensures paused { IsPause self.new result }
         ensures over { has_ended self.old.session ≡ true → has_ended self.new.session ≡ true }
         ensures made { self.new.made ≡ self.old.made }
-        ensures scratch { length scratch.new ≡ length scratch.old }
+        ensures scratch { vec_len scratch.new ≡ vec_len scratch.old }
     {
         loop {
             if let Some(pause) = self.step(world, config, scratch) {
@@ -75,10 +80,10 @@ impl Driver {
         &mut self,
         world: &mut W,
         config: &Config,
-        scratch: &mut [u8],
+        scratch: &mut Vec<u8>,
         turns: u64,
     ) -> Option<Why>
-        requires block { config.now.block ≤ length scratch.old }
+        requires block { config.now.block ≤ vec_len scratch.old }
         requires course { SomewhereFor config.now turns (W.seen world.old) self.old }
         requires within { self.old.made ≤ turns }
         ensures course { TurnsFor config.now turns (W.seen world.old) (W.seen world.new) self.old self.new }
@@ -86,11 +91,11 @@ impl Driver {
         ensures waitless { IfSome result (λ why. self.new.made ≡ self.old.made) }
         ensures waited { IfNone result (WaitsOnce config.now turns (W.seen world.old) (W.seen world.new) self.old self.new) }
         ensures goes { IfNone result ((self.old.made < turns) × (self.new.made ≡ self.old.made + 1)) }
-        ensures scratch { length scratch.new ≡ length scratch.old }
+        ensures scratch { vec_len scratch.new ≡ vec_len scratch.old }
     {
         match self.drain(world, config, scratch) {
-            Pause::Done(why) => Some(why),
-            Pause::Sleep(until) => self.sleep(world, config, scratch, until, turns),
+            DriverPause::Done(why) => Some(why),
+            DriverPause::Sleep(until) => self.sleep(world, config, scratch, until, turns),
         }
     }
 
@@ -99,11 +104,11 @@ impl Driver {
         &mut self,
         world: &mut W,
         config: &Config,
-        scratch: &mut [u8],
+        scratch: &mut Vec<u8>,
         until: Option<u64>,
         turns: u64,
     ) -> Option<Why>
-        requires block { config.now.block ≤ length scratch.old }
+        requires block { config.now.block ≤ vec_len scratch.old }
         requires course { SomewhereFor config.now turns (W.seen world.old) self.old }
         requires pause { PauseIs self.old (pauses.Sleep until) }
         requires paused { IsPause self.old (pauses.Sleep until) }
@@ -113,7 +118,7 @@ impl Driver {
         ensures waitless { IfSome result (λ why. self.new.made ≡ self.old.made) }
         ensures waited { IfNone result (WaitsOnce config.now turns (W.seen world.old) (W.seen world.new) self.old self.new) }
         ensures goes { IfNone result ((self.old.made < turns) × (self.new.made ≡ self.old.made + 1)) }
-        ensures scratch { length scratch.new ≡ length scratch.old }
+        ensures scratch { vec_len scratch.new ≡ vec_len scratch.old }
     {
         if self.made < turns {
             if self.wait(world, until, turns) {
@@ -126,25 +131,25 @@ impl Driver {
     }
 
     /// Closes what is held after the session has ended.
-    fn close_all<W: World>(&mut self, world: &mut W, config: &Config, scratch: &mut [u8]) -> Why
-        requires block { config.now.block ≤ length scratch.old }
+    fn close_all<W: World>(&mut self, world: &mut W, config: &Config, scratch: &mut Vec<u8>) -> Why
+        requires block { config.now.block ≤ vec_len scratch.old }
         requires course { (n : ℕ) × SomewhereFor config.now n (W.seen world.old) self.old }
         requires over { has_ended self.old.session ≡ true }
         ensures course { KeepsFor config.now (W.seen world.old) (W.seen world.new) self.old self.new }
         ensures done { IsPause self.new (pauses.Done result) }
         ensures made { self.new.made ≡ self.old.made }
-        ensures scratch { length scratch.new ≡ length scratch.old }
+        ensures scratch { vec_len scratch.new ≡ vec_len scratch.old }
     {
         match self.drain(world, config, scratch) {
-            Pause::Done(why) => why,
-            Pause::Sleep(_) => unreachable!(),
+            DriverPause::Done(why) => why,
+            DriverPause::Sleep(_) => unreachable!(),
         }
     }
 
     /// How the run ended, once the session is done for this reason.
     pub fn outcome(&self, why: Why) -> Outcome
         requires { SomeDone why self.now }
-        ensures answer { (c : Command) (n : ℕ) (start now : Seen) (past : List Act) → Course c n start now self.now past
+        ensures answer { (c : Command) (n : ℕ) (start now : Seen) (past : List Act) → DriverCourse c n start now self.now past
             → IsDone c n past 0 why → EndsWith c n past result }
         ensures memory { result ≡ outcomes.Memory → why ≡ whys.Memory }
     {
@@ -176,7 +181,7 @@ fn hear_turn(session: &mut Session, at: u64, ready: &ReadyList, stop: bool)
         → Stands c n past 0 session.old
         → Stands c n (acts.Turn until at (copied_list ready.now) stop ∷ past) 0 session.new }
 {
-    session.heard(at, Answer::Woken);
+    session.wake(at);
     name_all(session, ready);
     if stop {
         session.cut(Why::Stopped);

@@ -6,12 +6,14 @@ mod parts;
 mod runs;
 
 use blocking_streams::{Blocking, InputSource, program_words};
-use parts::{Lack, bare_streams, closed_streams, lacking, polling, told};
+use parts::{
+    StartLack, bare_streams, closed_streams, make_poller, report_lack, sink_with_failures,
+};
 use port_desk::Standard;
 use port_trait::{StdSink, StdSpawner};
 use ring_reader::RingReader;
 use ring_writer::RingWriter;
-use runs::{answered, relayed};
+use runs::{answer_words, relay_words};
 use socat_top::{Disk, DiskJournal, asks_for_relay, journal_flag};
 use standard_ports::{FreshErrors, FreshInput, FreshOutput, direct_input, direct_output};
 use std::io::IsTerminal;
@@ -22,10 +24,10 @@ fn main(rt: HostRuntime) -> ExitCode {
     let alloc = rt.alloc();
     let mut errors = Blocking::new(rt.stderr());
     let Ok(words) = program_words(alloc, &rt) else {
-        return lacking(&mut errors, Lack::Memory);
+        return report_lack(&mut errors, StartLack::Memory);
     };
     let Ok(relays) = asks_for_relay(alloc, words.as_slice()) else {
-        return lacking(&mut errors, Lack::Memory);
+        return report_lack(&mut errors, StartLack::Memory);
     };
     let _closed = if relays || journal_flag(words.as_slice()).is_some() {
         closed_streams(&rt)
@@ -35,17 +37,18 @@ fn main(rt: HostRuntime) -> ExitCode {
     let mut journal = DiskJournal::new(Disk::new(rt));
     if !relays {
         let standard = bare_streams(&rt);
-        return match answered(alloc, standard, words.as_slice(), &mut journal, &mut errors) {
+        return match answer_words(alloc, standard, words.as_slice(), &mut journal, &mut errors) {
             Ok(status) => ExitCode::from(status),
-            Err(lack) => lacking(&mut errors, lack),
+            Err(lack) => report_lack(&mut errors, lack),
         };
     }
-    let Ok((sink, failures)) = told(alloc, StdSink::new(Blocking::new(rt.stdout()))) else {
-        return lacking(&mut errors, Lack::Memory);
+    let Ok((sink, failures)) = sink_with_failures(alloc, StdSink::new(Blocking::new(rt.stdout())))
+    else {
+        return report_lack(&mut errors, StartLack::Memory);
     };
-    let (poller, (reading, writing, noting)) = match polling(rt, alloc) {
+    let (poller, (reading, writing, noting)) = match make_poller(rt, alloc) {
         Ok(polling) => polling,
-        Err(lack) => return lacking(&mut errors, lack),
+        Err(lack) => return report_lack(&mut errors, lack),
     };
     let mut spawner = StdSpawner::new(rt);
     let stdin = match direct_input(rt, alloc, &poller) {
@@ -72,14 +75,14 @@ fn main(rt: HostRuntime) -> ExitCode {
         Err(error) => Err(error),
     };
     let (Ok(stdin), Ok(stdout), Ok(stderr)) = (stdin, stdout, stderr) else {
-        return lacking(&mut errors, Lack::Memory);
+        return report_lack(&mut errors, StartLack::Memory);
     };
     let standard = Standard {
         stdin: stdin.into_port(),
         stdout: stdout.into_port(),
         stderr: stderr.into_port(),
     };
-    let ended = relayed(
+    let ended = relay_words(
         rt,
         rt,
         alloc,
@@ -92,6 +95,6 @@ fn main(rt: HostRuntime) -> ExitCode {
     );
     match ended {
         Ok(status) => ExitCode::from(status),
-        Err(lack) => lacking(&mut errors, lack),
+        Err(lack) => report_lack(&mut errors, lack),
     }
 }

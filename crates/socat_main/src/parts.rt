@@ -22,26 +22,26 @@ const FAILED: u8 = 1;
 
 /// What was wanting before a run began.
 #[derive(Clone, Copy, Debug)]
-pub enum Lack {
+pub enum StartLack {
     Memory,
     /// The system refused the poller, or what is registered with it.
     Poller,
 }
 
-impl From<NoMemory> for Lack {
-    fn from(_absent: NoMemory) -> Lack {
-        Lack::Memory
+impl From<NoMemory> for StartLack {
+    fn from(_absent: NoMemory) -> StartLack {
+        StartLack::Memory
     }
 }
 
 /// Says what was wanting, and gives the status of it. The line takes no memory.
-pub fn lacking<W: Write>(errors: &mut W, lack: Lack) -> ExitCode {
+pub fn report_lack<W: Write>(errors: &mut W, lack: StartLack) -> ExitCode {
     match lack {
-        Lack::Memory => {
+        StartLack::Memory => {
             let _ = errors.write_all(b"socat: out of memory\n");
             ExitCode::from(NO_MEMORY)
         }
-        Lack::Poller => {
+        StartLack::Poller => {
             let _ = errors.write_all(b"socat: no poller\n");
             ExitCode::from(FAILED)
         }
@@ -65,22 +65,22 @@ pub fn bare_streams(rt: &HostRuntime) -> BareStreams {
 }
 
 /// A poller, and a wake of it for the thread of each standard stream.
-pub fn polling<R: Net + Clock + Drop>(
+pub fn make_poller<R: Net + Clock + Drop>(
     rt: R,
     alloc: Global,
-) -> Result<(MioPoller<R>, (MioWake, MioWake, MioWake)), Lack> {
-    let poller = made(MioPoller::new(rt, alloc))?;
+) -> Result<(MioPoller<R>, (MioWake, MioWake, MioWake)), StartLack> {
+    let poller = take_made(MioPoller::new(rt, alloc))?;
     let wakes = (
-        made(poller.wake())?,
-        made(poller.wake())?,
-        made(poller.wake())?,
+        take_made(poller.wake())?,
+        take_made(poller.wake())?,
+        take_made(poller.wake())?,
     );
     Ok((poller, wakes))
 }
 
 /// What stands on the descriptor of a standard stream that was closed when the program began, so that nothing else
 /// gets it. A directory is neither read nor written: a call on the stream fails, as on a closed one.
-fn occupied<R: Files>(files: &R) -> Option<R::File>
+fn occupy_descriptor<R: Files>(files: &R) -> Option<R::File>
 where
     R::File: AsRawFd,
 {
@@ -97,20 +97,27 @@ pub fn closed_streams<R: Files>(files: &R) -> [Option<R::File>; 3]
 where
     R::File: AsRawFd,
 {
-    [occupied(files), occupied(files), occupied(files)]
+    [
+        occupy_descriptor(files),
+        occupy_descriptor(files),
+        occupy_descriptor(files),
+    ]
 }
 
 /// What was made, or what was wanting for it.
-pub fn made<T: Drop>(making: Making<T>) -> Result<T, Lack> {
+pub fn take_made<T: Drop>(making: Making<T>) -> Result<T, StartLack> {
     match making {
         Making::Made(made) => Ok(made),
-        Making::Later(_) | Making::Failed => Err(Lack::Poller),
-        Making::Memory => Err(Lack::Memory),
+        Making::Later(_) | Making::Failed => Err(StartLack::Poller),
+        Making::Memory => Err(StartLack::Memory),
     }
 }
 
 /// The sink with what tells its failures.
-pub fn told<K: Sink + Drop>(alloc: Global, sink: K) -> Result<(ToldSink<K>, Failures), NoMemory> {
+pub fn sink_with_failures<K: Sink + Drop>(
+    alloc: Global,
+    sink: K,
+) -> Result<(ToldSink<K>, Failures), NoMemory> {
     let failures = Failures::none(alloc)?;
     let told = ToldSink::new(sink, failures.share()?);
     Ok((told, failures))

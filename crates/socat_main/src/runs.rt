@@ -1,6 +1,6 @@
 // The runs of the program: of words that ask for a relay, and of others.
 
-use crate::parts::{Lack, made};
+use crate::parts::{StartLack, take_made};
 use mio_poller::MioPoller;
 use port_desk::Standard;
 use port_objects::{MemMaker, MemPoller};
@@ -19,13 +19,13 @@ use std::thread::Threads;
 use std::time::Clock;
 
 /// Carries out words that ask for no relay, and gives the status. Nothing is made and nothing waited for.
-pub fn answered<I: Port, O: Port, E: Port, F: JournalFile, W: Write>(
+pub fn answer_words<I: Port, O: Port, E: Port, F: JournalFile, W: Write>(
     alloc: Global,
     standard: Standard<I, O, E>,
     words: &[Text],
     journal: &mut F,
     errors: &mut W,
-) -> Result<u8, Lack> {
+) -> Result<u8, StartLack> {
     let maker = MemMaker::new(alloc);
     let written = carry_out(alloc, standard, maker, MemPoller::new(), words, journal)?;
     Ok(end_status(errors, &written, false))
@@ -33,7 +33,7 @@ pub fn answered<I: Port, O: Port, E: Port, F: JournalFile, W: Write>(
 
 /// Carries out words that ask for a relay over the ports that a maker opens, and gives the status. Files and programs are
 /// the system's. In `main` the types would be known, and the prover compares more of them than its steps allow.
-pub fn relayed<R, I: Port, O: Port, E: Port, F: JournalFile, W: Write>(
+pub fn relay_words<R, I: Port, O: Port, E: Port, F: JournalFile, W: Write>(
     rt: R,
     system: HostRuntime,
     alloc: Global,
@@ -43,12 +43,12 @@ pub fn relayed<R, I: Port, O: Port, E: Port, F: JournalFile, W: Write>(
     journal: &mut F,
     errors: &mut W,
     failures: &Failures,
-) -> Result<u8, Lack>
+) -> Result<u8, StartLack>
 where
     R: Files + Net + Clock + Threads + Copy + Drop,
 {
     let poller = PeerPoller::new(alloc, poller)?;
-    let maker = made(RealMaker::on(rt, system, alloc, &poller))?;
+    let maker = take_made(RealMaker::on(rt, system, alloc, &poller))?;
     let written = carry_out(alloc, standard, maker, poller, words, journal)?;
     Ok(end_status(errors, &written, failures.any()))
 }

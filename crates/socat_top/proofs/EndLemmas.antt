@@ -23,7 +23,7 @@ use Rattle.relay_laws.proofs.Apart.{base_step, ending_same}
 use Rattle.relay_laws.proofs.Written.{written_due}
 use Rattle.relay_laws.proofs.Finishes.{finished_whole}
 use Rattle.port_desk.specs.Following.{PassedBy, input_ended, input_read, output_written}
-use Rattle.socat_top.specs.Ends.{Ends, HasEnded, IsDue, PassedEnds, came_in, is_alone, is_on_input, is_on_output, last_met_end, went_out}
+use Rattle.socat_top.specs.Ends.{StandardEnds, HasEnded, IsDue, PassedEnds, came_in, is_alone, is_on_input, is_on_output, last_met_end, went_out}
 
 -- ---- the ends of a direction that moves
 
@@ -178,7 +178,7 @@ each : (P Q : List ℕ → Type 0) (slot : Option (List ℕ)) → ((all : List �
 each P Q None go h = tt
 each P Q (Some all) go h = go all h
 
-pub note_ends : (c : Config) (text : List ℕ) (acts : List Act) (gave took : Option (List ℕ)) (ended : Bool) → Ends c acts gave took ended → Ends c (Note text ∷ acts) gave took ended
+pub note_ends : (c : Config) (text : List ℕ) (acts : List Act) (gave took : Option (List ℕ)) (ended : Bool) → StandardEnds c acts gave took ended → StandardEnds c (Note text ∷ acts) gave took ended
 note_ends c text acts gave took ended before =
     let same : cause c (Note text ∷ acts) 0 ≡ cause c acts 0 = ending_same c 0 (Note text ∷ acts) acts (base_step c (Note text) acts 0 (note_foreign c text) refl) in
     record {
@@ -186,7 +186,7 @@ note_ends c text acts gave took ended before =
       is_ended = λ w is has. before.is_ended w is has;
     }
 
-pub fault_ends : (c : Config) (text : List ℕ) (acts : List Act) (gave took : Option (List ℕ)) (ended : Bool) → Ends c acts gave took ended → Ends c (NoteFault text ∷ acts) gave took ended
+pub fault_ends : (c : Config) (text : List ℕ) (acts : List Act) (gave took : Option (List ℕ)) (ended : Bool) → StandardEnds c acts gave took ended → StandardEnds c (NoteFault text ∷ acts) gave took ended
 fault_ends c text acts gave took ended before =
     let same : cause c (NoteFault text ∷ acts) 0 ≡ cause c acts 0 = ending_same c 0 (NoteFault text ∷ acts) acts (base_step c (NoteFault text) acts 0 (fault_foreign c text) refl) in
     record {

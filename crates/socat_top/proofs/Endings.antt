@@ -11,7 +11,7 @@ use Rattle.session_loop.specs.Headline.{is_relayed}
 use Rattle.exit_status.specs.Outcomes.{IsOutcome}
 use Rattle.relay_model.specs.declared.acts.Act.{Act}
 use Rattle.socat_top.specs.Notes.{Said, Tail}
-use Rattle.socat_top.specs.Tasks.{Task, Relaying, Telling, Loading, Refusing, Unread}
+use Rattle.socat_top.specs.Tasks.{WordsTask, Relaying, Telling, Loading, Refusing, Unread}
 use Rattle.socat_top.specs.Headline.{Headline, Leaves, Answers, CompletesTask}
 
 pub either : {A : Type 0} → A ⊎ A → A
@@ -34,7 +34,7 @@ extended : (before : History) → before ≡ extend [] [] before
 extended before = ap (λ pairs. record { acts = before.acts; asked = pairs }) (sym (nil_right before.asked))
 
 -- whatever was asked for, want of memory may come before anything was done
-pub lacking : (task : Task) (n : ℕ) (before : History) (told told' : Option History) (answer : Outcome) → answer ≡ outcomes.Memory → told ≡ Some before → Tail answer told told' → Leaves task n before told' answer
+pub lacking : (task : WordsTask) (n : ℕ) (before : History) (told told' : Option History) (answer : Outcome) → answer ≡ outcomes.Memory → told ≡ Some before → Tail answer told told' → Leaves task n before told' answer
 lacking (Relaying c) n before told told' answer e from tail =
     let P : Option History → Type 0 = λ t. Tail answer t told' in
     record {
@@ -51,7 +51,7 @@ lacking (Loading number) n before told told' answer e from tail = let P : Option
 lacking (Refusing refused) n before told told' answer e from tail = let P : Option History → Type 0 = λ t. Tail answer t told' in subst P from tail
 lacking Unread n before told told' answer e from tail = let P : Option History → Type 0 = λ t. Tail answer t told' in subst P from tail
 
-pub lacking_answers : (task : Task) (answer : Outcome) → answer ≡ outcomes.Memory → Answers task answer
+pub lacking_answers : (task : WordsTask) (answer : Outcome) → answer ≡ outcomes.Memory → Answers task answer
 lacking_answers (Relaying c) answer e = ap is_relayed e
 lacking_answers (Telling text) answer e = inr e
 lacking_answers (Loading number) answer e = inr e
@@ -64,7 +64,7 @@ given c n acts answer given_answer a (inl e) = let P : Outcome → Type 0 = λ x
 given c n acts answer given_answer a (inr e) = inr e
 
 -- after the relay its line was said
-pub concluded : (c : Config) (n : ℕ) (before : History) (told told' : Option History) (answer given_answer : Outcome) → relayed.Headline c n before told answer → Tail given_answer told told' → (given_answer ≡ answer) ⊎ (given_answer ≡ outcomes.Memory) → Headline c n before told' given_answer
+pub concluded : (c : Config) (n : ℕ) (before : History) (told told' : Option History) (answer given_answer : Outcome) → relayed.RelayHeadline c n before told answer → Tail given_answer told told' → (given_answer ≡ answer) ⊎ (given_answer ≡ outcomes.Memory) → Headline c n before told' given_answer
 concluded c n before told told' answer given_answer h tail same =
     let P : Option History → Type 0 = λ t. Tail given_answer t told' in
     record {
@@ -77,7 +77,7 @@ concluded c n before told told' answer given_answer h tail same =
       own = h.own;
     }
 
-pub lacking_completes : (task : Task) (n f f' w w' s s' : ℕ) (answer : Outcome) → answer ≡ outcomes.Memory → CompletesTask task n f f' w w' s s' answer
+pub lacking_completes : (task : WordsTask) (n f f' w w' s s' : ℕ) (answer : Outcome) → answer ≡ outcomes.Memory → CompletesTask task n f f' w w' s s' answer
 lacking_completes (Relaying c) n f f' w w' s s' answer e = λ calm left quiet. ap relayed.is_undisturbed e
 lacking_completes (Telling text) n f f' w w' s s' answer e = tt
 lacking_completes (Loading number) n f f' w w' s s' answer e = tt

@@ -4,12 +4,12 @@ use Rattle.relay_model.specs.declared.acts.Act.{Act}
 use Rattle.port_trait.specs.Ports.{BehindSeen, PortSeen}
 use Rattle.socat_top.specs.Behind.{StandsBehind}
 use Rattle.socat_top.proofs.BehindLemmas.{behind}
-use Rattle.socat_top.specs.Tasks.{Task, Relaying, Telling, Loading, Refusing, Unread}
+use Rattle.socat_top.specs.Tasks.{WordsTask, Relaying, Telling, Loading, Refusing, Unread}
 use Rattle.socat_top.specs.Headline.{TaskEnds, TaskEndsBehind}
 
 -- each end is so at the far ends of ports that tell of what is behind them as joined ones do
 pub task_ends_behind :
-    (task : Task) (acts : List Act) (stdin stdout : PortSeen) (source sink : BehindSeen) →
+    (task : WordsTask) (acts : List Act) (stdin stdout : PortSeen) (source sink : BehindSeen) →
     TaskEnds task acts stdin.gave stdout.took stdin.ended →
     StandsBehind stdin source →
     StandsBehind stdout sink →

@@ -7,7 +7,7 @@ use Rattle.relay_model.specs.Places.{same_place}
 use Rattle.relay_model.specs.Choices.{joined}
 use Rattle.relay_model.specs.Transfers.{is_empty}
 use Rattle.relay_laws.proofs.PlaceLemmas.{same_place_equal}
-use Rattle.scripted_world.specs.declared.lines.Line.{Line}
+use Rattle.scripted_world.specs.declared.lines.PlacedItem.{PlacedItem}
 use Rattle.scripted_world.specs.declared.reading.DueRead.{DueRead}
 use Rattle.scripted_world.specs.declared.reading.Reading.{Reading}
 use Rattle.scripted_world.specs.declared.reading.Reading.TheVariants as readings
@@ -64,7 +64,7 @@ some_left readings.End k e = absurd (false≢true e)
 some_left readings.Fault k e = absurd (false≢true e)
 
 -- the first item, cut
-cut_line : (line : Line DueRead) (lines : List (Line DueRead)) (k : ℕ) (p : Place) (b : Bool) → has_more line.item.reading k ≡ b → (if same_place line.place p then drop k (bytes_of line.item.reading) ++ left_of lines p else left_of lines p) ≡ left_of (if b then line_left line k ∷ lines else lines) p
+cut_line : (line : PlacedItem DueRead) (lines : List (PlacedItem DueRead)) (k : ℕ) (p : Place) (b : Bool) → has_more line.item.reading k ≡ b → (if same_place line.place p then drop k (bytes_of line.item.reading) ++ left_of lines p else left_of lines p) ≡ left_of (if b then line_left line k ∷ lines else lines) p
 cut_line line lines k p true e = ap (λ bs. if same_place line.place p then bs ++ left_of lines p else left_of lines p) (sym (some_left line.item.reading k e).0)
 cut_line line lines k p false e = go (same_place line.place p)
   where
@@ -88,7 +88,7 @@ first_none true (suc k) = refl
 first_none false k = refl
 
 -- the bytes that were left of a place are those given there, and those that are left then
-pub left-given : (lines : List (Line DueRead)) (place p : Place) (k : ℕ) → left_of lines p ≡ joined (same_place place p) [] (take k (next_bytes (next_of lines place))) ++ left_of (bytes_left lines place k) p
+pub left-given : (lines : List (PlacedItem DueRead)) (place p : Place) (k : ℕ) → left_of lines p ≡ joined (same_place place p) [] (take k (next_bytes (next_of lines place))) ++ left_of (bytes_left lines place k) p
 left-given [] place p k = first_none (same_place place p) k
 left-given (line ∷ lines) place p k = go (same_place line.place place) refl (left-given lines place p k)
   where
@@ -102,7 +102,7 @@ left-given (line ∷ lines) place p k = go (same_place line.place place) refl (l
 -- ---- an item that is used up
 
 -- what is used up without bytes leaves the bytes
-pub left-used : (lines : List (Line DueRead)) (place p : Place) → next_bytes (next_of lines place) ≡ [] → left_of (used_up lines place) p ≡ left_of lines p
+pub left-used : (lines : List (PlacedItem DueRead)) (place p : Place) → next_bytes (next_of lines place) ≡ [] → left_of (used_up lines place) p ≡ left_of lines p
 left-used [] place p none = refl
 left-used (line ∷ lines) place p none = go (same_place line.place place) none (left-used lines place p)
   where
@@ -121,7 +121,7 @@ left-used (line ∷ lines) place p none = go (same_place line.place place) none 
 -- ---- ends come last
 
 -- where nothing is left, no end comes too early
-pub empty-in_order : (lines : List (Line DueRead)) (p : Place) → left_of lines p ≡ [] → ends_last lines p ≡ true
+pub empty-in_order : (lines : List (PlacedItem DueRead)) (p : Place) → left_of lines p ≡ [] → ends_last lines p ≡ true
 empty-in_order [] p e = refl
 empty-in_order (line ∷ lines) p e = go (same_place line.place p) (is_end line.item.reading) e (empty-in_order lines p)
   where
@@ -131,16 +131,16 @@ empty-in_order (line ∷ lines) p e = go (same_place line.place p) (is_end line.
     go false d f ih = ih f
 
 -- behind the first item ends come last too
-in_order-behind : (b : Bool) (lines : List (Line DueRead)) (p : Place) → (if b then is_empty (left_of lines p) else ends_last lines p) ≡ true → ends_last lines p ≡ true
+in_order-behind : (b : Bool) (lines : List (PlacedItem DueRead)) (p : Place) → (if b then is_empty (left_of lines p) else ends_last lines p) ≡ true → ends_last lines p ≡ true
 in_order-behind true lines p e = empty-in_order lines p (empty_is_nil (left_of lines p) e)
 in_order-behind false lines p e = e
 
 -- the same items behind one, of which less is left
-in_order-less : (b : Bool) (lines less : List (Line DueRead)) (p : Place) → (left_of lines p ≡ [] → left_of less p ≡ []) → (ends_last lines p ≡ true → ends_last less p ≡ true) → (if b then is_empty (left_of lines p) else ends_last lines p) ≡ true → (if b then is_empty (left_of less p) else ends_last less p) ≡ true
+in_order-less : (b : Bool) (lines less : List (PlacedItem DueRead)) (p : Place) → (left_of lines p ≡ [] → left_of less p ≡ []) → (ends_last lines p ≡ true → ends_last less p ≡ true) → (if b then is_empty (left_of lines p) else ends_last lines p) ≡ true → (if b then is_empty (left_of less p) else ends_last less p) ≡ true
 in_order-less true lines less p empty orders e = nil_is_empty (left_of less p) (empty (empty_is_nil (left_of lines p) e))
 in_order-less false lines less p empty orders e = orders e
 
-pub in_order-given : (lines : List (Line DueRead)) (place p : Place) (k : ℕ) → ends_last lines p ≡ true → ends_last (bytes_left lines place k) p ≡ true
+pub in_order-given : (lines : List (PlacedItem DueRead)) (place p : Place) (k : ℕ) → ends_last lines p ≡ true → ends_last (bytes_left lines place k) p ≡ true
 in_order-given [] place p k e = refl
 in_order-given (line ∷ lines) place p k e = go (same_place line.place place) (in_order-given lines place p k)
   where
@@ -155,7 +155,7 @@ in_order-given (line ∷ lines) place p k e = go (same_place line.place place) (
         (λ none. nil_behind (joined (same_place place p) [] (take k (next_bytes (next_of lines place)))) (left_of (bytes_left lines place k) p) (sym (left-given lines place p k) ∙ none))
         ih e
 
-pub in_order-used : (lines : List (Line DueRead)) (place p : Place) → next_bytes (next_of lines place) ≡ [] → ends_last lines p ≡ true → ends_last (used_up lines place) p ≡ true
+pub in_order-used : (lines : List (PlacedItem DueRead)) (place p : Place) → next_bytes (next_of lines place) ≡ [] → ends_last lines p ≡ true → ends_last (used_up lines place) p ≡ true
 in_order-used [] place p none e = refl
 in_order-used (line ∷ lines) place p none e = go (same_place line.place place) none (in_order-used lines place p)
   where
@@ -187,7 +187,7 @@ ends_so readings.End false room e = refl
 ends_so readings.Fault false room e = absurd (let f : ⊥ = cc in f)
 
 -- an end that is given leaves nothing of its place
-pub left-end : (lines : List (Line DueRead)) (place : Place) (now room : ℕ) → given.End ≡ read_given (next_of lines place) now room → ends_last lines place ≡ true → left_of (used_up lines place) place ≡ []
+pub left-end : (lines : List (PlacedItem DueRead)) (place : Place) (now room : ℕ) → given.End ≡ read_given (next_of lines place) now room → ends_last lines place ≡ true → left_of (used_up lines place) place ≡ []
 left-end [] place now room e orders = refl
 left-end (line ∷ lines) place now room e orders = go (same_place line.place place) e orders refl (left-end lines place now room)
   where

@@ -15,5 +15,4 @@ pub mod SessionStreams
 pub mod StartLemmas
 pub mod StreamLemmas
 pub mod Totals
-pub mod Unheld
 pub mod Whole

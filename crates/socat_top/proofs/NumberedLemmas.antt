@@ -15,7 +15,7 @@ use Rattle.world_trait.specs.Seen.{Seen}
 use Rattle.world_trait.specs.Recordings.{told_kept, with_act}
 use Rattle.world_trait.specs.declared.answers.ReadAnswer.{ReadAnswer}
 use Rattle.world_trait.specs.declared.answers.ReadAnswer.TheVariants as reads
-use Rattle.scripted_world.specs.declared.lines.Line.{Line}
+use Rattle.scripted_world.specs.declared.lines.PlacedItem.{PlacedItem}
 use Rattle.scripted_world.specs.declared.reading.DueRead.{DueRead}
 use Rattle.scripted_world.specs.declared.reading.Given.TheVariants as given
 use Rattle.scripted_world.specs.declared.script.Script.{Script}
@@ -35,7 +35,7 @@ reaped-named (Reaped q end ∷ past) n p = ap (λ b. same_place q p || b) (reape
 reaped-named (act ∷ past) n p = reaped-named past n p
 
 -- another list of acts that says the same, and the same items
-same_gives : (n : ℕ) (acts acts' : List Act) (lines lines' : List (Line DueRead)) → acts' ≡ acts → lines' ≡ lines → GivesScripted n acts lines → GivesScripted n acts' lines'
+same_gives : (n : ℕ) (acts acts' : List Act) (lines lines' : List (PlacedItem DueRead)) → acts' ≡ acts → lines' ≡ lines → GivesScripted n acts lines → GivesScripted n acts' lines'
 same_gives n acts acts' lines lines' e f gives = record {
   given = λ p. ap (λ xs. got xs p ++ left_of lines' p) e ∙ ap (λ ls. got acts p ++ left_of ls p) f ∙ gives.given p;
   whole = λ p met. ap (λ ls. left_of ls p) f ∙ gives.whole p (ap (λ xs. met_end xs p) (sym e) ∙ met);
@@ -47,7 +47,7 @@ joins true before bytes left left' all e f = append_assoc before bytes left' ∙
 joins false before bytes left left' all e f = ap (λ ys. before ++ ys) (sym e) ∙ f
 
 -- bytes were given
-bytes_gives : (n : ℕ) (acts : List Act) (lines : List (Line DueRead)) (place : Place) (k : ℕ) (bytes : List ℕ) → bytes ≡ take k (next_bytes (next_of lines place)) → GivesScripted n acts lines → GivesScripted n (Read place bytes ∷ acts) (bytes_left lines place k)
+bytes_gives : (n : ℕ) (acts : List Act) (lines : List (PlacedItem DueRead)) (place : Place) (k : ℕ) (bytes : List ℕ) → bytes ≡ take k (next_bytes (next_of lines place)) → GivesScripted n acts lines → GivesScripted n (Read place bytes ∷ acts) (bytes_left lines place k)
 bytes_gives n acts lines place k bytes e gives = record {
   given = λ p. joins (same_place place p) (got acts p) bytes (left_of lines p) (left_of (bytes_left lines place k) p) (scripted n p) (left-given lines place p k ∙ ap (λ bs. joined (same_place place p) [] bs ++ left_of (bytes_left lines place k) p) (sym e)) (gives.given p);
   whole = λ p met. nil_behind (joined (same_place place p) [] (take k (next_bytes (next_of lines place)))) (left_of (bytes_left lines place k) p) (sym (left-given lines place p k) ∙ gives.whole p met);
@@ -55,7 +55,7 @@ bytes_gives n acts lines place k bytes e gives = record {
 }
 
 -- an item without bytes was used up, by an act that changes nothing of what was read
-used_gives : (n : ℕ) (acts acts' : List Act) (lines : List (Line DueRead)) (place : Place) → ((p : Place) → got acts' p ≡ got acts p) → ((p : Place) → met_end acts' p ≡ true → left_of (used_up lines place) p ≡ []) → next_bytes (next_of lines place) ≡ [] → GivesScripted n acts lines → GivesScripted n acts' (used_up lines place)
+used_gives : (n : ℕ) (acts acts' : List Act) (lines : List (PlacedItem DueRead)) (place : Place) → ((p : Place) → got acts' p ≡ got acts p) → ((p : Place) → met_end acts' p ≡ true → left_of (used_up lines place) p ≡ []) → next_bytes (next_of lines place) ≡ [] → GivesScripted n acts lines → GivesScripted n acts' (used_up lines place)
 used_gives n acts acts' lines place same whole none gives = record {
   given = λ p. ap (λ xs. xs ++ left_of (used_up lines place) p) (same p) ∙ ap (λ ys. got acts p ++ ys) (left-used lines place p none) ∙ gives.given p;
   whole = whole;
@@ -63,7 +63,7 @@ used_gives n acts acts' lines place same whole none gives = record {
 }
 
 -- the end was given
-whole_end : (n : ℕ) (acts : List Act) (lines : List (Line DueRead)) (place : Place) (now room : ℕ) → given.End ≡ read_given (next_of lines place) now room → next_bytes (next_of lines place) ≡ [] → GivesScripted n acts lines → (p : Place) → met_end (ReadEnd place ∷ acts) p ≡ true → left_of (used_up lines place) p ≡ []
+whole_end : (n : ℕ) (acts : List Act) (lines : List (PlacedItem DueRead)) (place : Place) (now room : ℕ) → given.End ≡ read_given (next_of lines place) now room → next_bytes (next_of lines place) ≡ [] → GivesScripted n acts lines → (p : Place) → met_end (ReadEnd place ∷ acts) p ≡ true → left_of (used_up lines place) p ≡ []
 whole_end n acts lines place now room e none gives p met = go (same_place place p) refl met
   where
     go : (b : Bool) → same_place place p ≡ b → (b || met_end acts p) ≡ true → left_of (used_up lines place) p ≡ []

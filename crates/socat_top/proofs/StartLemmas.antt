@@ -8,7 +8,7 @@ use Rattle.relay_model.specs.declared.places.Side.TheVariants.{Left, Right}
 use Rattle.relay_model.specs.declared.places.Part.TheVariants.{Both}
 use Rattle.relay_model.specs.Places.{same_place, same_side, same_part, same_bool}
 use Rattle.relay_model.specs.Transfers.{is_empty}
-use Rattle.scripted_world.specs.declared.lines.Line.{Line}
+use Rattle.scripted_world.specs.declared.lines.PlacedItem.{PlacedItem}
 use Rattle.scripted_world.specs.declared.reading.DueRead.{DueRead}
 use Rattle.scripted_world.specs.Reads.{bytes_of}
 use Rattle.socat_top.specs.Left.{ends_last, is_end, left_of}
@@ -20,7 +20,7 @@ use Rattle.socat_top.proofs.StreamLemmas.{bytes_after-add, bytes_after-none}
 
 -- ---- the bytes
 
-left_of-append : (xs ys : List (Line DueRead)) (p : Place) → left_of (xs ++ ys) p ≡ left_of xs p ++ left_of ys p
+left_of-append : (xs ys : List (PlacedItem DueRead)) (p : Place) → left_of (xs ++ ys) p ≡ left_of xs p ++ left_of ys p
 left_of-append [] ys p = refl
 left_of-append (line ∷ xs) ys p = go (same_place line.place p) (left_of-append xs ys p)
   where
@@ -98,11 +98,11 @@ left_of-reads n (suc k) p =
 -- ---- the ends
 
 -- some of these items ends the input of a place
-abbrev ends_at : List (Line DueRead) → Place → Bool
+abbrev ends_at : List (PlacedItem DueRead) → Place → Bool
 ends_at [] p = false
 ends_at (line ∷ lines) p = same_place line.place p && is_end line.item.reading || ends_at lines p
 
-ends_at-append : (xs ys : List (Line DueRead)) (p : Place) → ends_at xs p ≡ false → ends_at ys p ≡ false → ends_at (xs ++ ys) p ≡ false
+ends_at-append : (xs ys : List (PlacedItem DueRead)) (p : Place) → ends_at xs p ≡ false → ends_at ys p ≡ false → ends_at (xs ++ ys) p ≡ false
 ends_at-append [] ys p e f = f
 ends_at-append (line ∷ xs) ys p e f = go (same_place line.place p && is_end line.item.reading) e (λ g. ends_at-append xs ys p g f)
   where
@@ -111,7 +111,7 @@ ends_at-append (line ∷ xs) ys p e f = go (same_place line.place p && is_end li
     go false g ih = ih g
 
 -- items without an end stand before others in whatever order
-in_order-before : (xs ys : List (Line DueRead)) (p : Place) → ends_at xs p ≡ false → ends_last ys p ≡ true → ends_last (xs ++ ys) p ≡ true
+in_order-before : (xs ys : List (PlacedItem DueRead)) (p : Place) → ends_at xs p ≡ false → ends_last ys p ≡ true → ends_last (xs ++ ys) p ≡ true
 in_order-before [] ys p e f = f
 in_order-before (line ∷ xs) ys p e f = go (same_place line.place p && is_end line.item.reading) e (λ g. in_order-before xs ys p g f)
   where
@@ -120,7 +120,7 @@ in_order-before (line ∷ xs) ys p e f = go (same_place line.place p && is_end l
     go false g ih = ih g
 
 -- items without bytes stand behind others in whatever order
-in_order-behind : (xs ys : List (Line DueRead)) (p : Place) → left_of ys p ≡ [] → ends_last xs p ≡ true → ends_last (xs ++ ys) p ≡ true
+in_order-behind : (xs ys : List (PlacedItem DueRead)) (p : Place) → left_of ys p ≡ [] → ends_last xs p ≡ true → ends_last (xs ++ ys) p ≡ true
 in_order-behind [] ys p none e = empty-in_order ys p none
 in_order-behind (line ∷ xs) ys p none e = go (same_place line.place p && is_end line.item.reading) e (in_order-behind xs ys p none)
   where
@@ -188,5 +188,5 @@ starts_whole n = record {
 }
 
 -- so is any world that begins so
-pub starts_so : (n : ℕ) (acts : List Act) (lines : List (Line DueRead)) → acts ≡ [] → lines ≡ reads_of n 50 → GivesScripted n acts lines
+pub starts_so : (n : ℕ) (acts : List Act) (lines : List (PlacedItem DueRead)) → acts ≡ [] → lines ≡ reads_of n 50 → GivesScripted n acts lines
 starts_so n acts lines e f = rw (e, f) (starts_whole n)

@@ -15,14 +15,14 @@ use Rattle.relay_model.specs.Sessions.{admitted}
 use Rattle.relay_laws.proofs.Written.{passed_whole, written_due}
 use Rattle.relay_laws.proofs.Admissions.{admitted_bound}
 use Rattle.relay_laws.proofs.PlaceLemmas.{same_place_self}
-use Rattle.scripted_world.specs.declared.lines.Line.{Line}
+use Rattle.scripted_world.specs.declared.lines.PlacedItem.{PlacedItem}
 use Rattle.scripted_world.specs.declared.reading.DueRead.{DueRead}
 use Rattle.world_trait.specs.Recordings.{told_kept}
 use Rattle.exit_status.specs.declared.outcomes.Outcome.{Outcome}
 use Rattle.exit_status.specs.declared.outcomes.Outcome.TheVariants as outcomes
 use Rattle.exit_status.specs.Outcomes.{IsOutcome}
 use Rattle.session_driver.specs.Steps.{extend}
-use Rattle.session_loop.specs.Headline.{Headline}
+use Rattle.session_loop.specs.Headline.{RelayHeadline}
 use Rattle.socat_top.specs.Command.{load_command, load_turns}
 use Rattle.socat_top.specs.Left.{left_of}
 use Rattle.socat_top.specs.Numbered.{GivesScripted, named, told_named}
@@ -52,7 +52,7 @@ front_le : (f : List ℕ → ℕ) → Adds f → (front all : List ℕ) → Begi
 front_le f adds front all (rest, e) = omega (arith, ap f e ∙ adds.both front rest)
 
 -- a right place gets no more than its session is to carry
-session-le : (f : List ℕ → ℕ) → Adds f → (n : ℕ) (acts : List Act) (reads : List (Line DueRead)) → Legal load_command load_turns acts → GivesScripted n acts reads → (s : ℕ) → s < 50 → f (put acts (right_place s)) ≤ f (session_bytes n s)
+session-le : (f : List ℕ → ℕ) → Adds f → (n : ℕ) (acts : List Act) (reads : List (PlacedItem DueRead)) → Legal load_command load_turns acts → GivesScripted n acts reads → (s : ℕ) → s < 50 → f (put acts (right_place s)) ≤ f (session_bytes n s)
 session-le f adds n acts reads legal gives s below =
     let written : f (put acts (right_place s)) ≤ f (got acts (left_place s)) = front_le f adds (put acts (right_place s)) (got acts (left_place s)) (written_due load_command load_turns acts s LeftToRight legal) in
     let read : f (got acts (left_place s)) ≤ f (scripted n (left_place s)) = front_le f adds (got acts (left_place s)) (scripted n (left_place s)) (left_of reads (left_place s), sym (gives.given (left_place s))) in
@@ -60,7 +60,7 @@ session-le f adds n acts reads legal gives s below =
     omega arith
 
 -- that of a finished session gets all of it
-session-whole : (n : ℕ) (acts : List Act) (reads : List (Line DueRead)) → Legal load_command load_turns acts → GivesScripted n acts reads → (s : ℕ) → s < 50 → was_finished acts s ≡ true → put acts (right_place s) ≡ session_bytes n s
+session-whole : (n : ℕ) (acts : List Act) (reads : List (PlacedItem DueRead)) → Legal load_command load_turns acts → GivesScripted n acts reads → (s : ℕ) → s < 50 → was_finished acts s ≡ true → put acts (right_place s) ≡ session_bytes n s
 session-whole n acts reads legal gives s below finished =
     let passed = finished-passed load_turns acts s legal finished in
     let none = gives.whole (left_place s) (passed-met load_turns acts s legal passed) in
@@ -75,7 +75,7 @@ session-whole n acts reads legal gives s below finished =
 all_bytes : (f : List ℕ → ℕ) → Adds f → (n : ℕ) → total (λ s. f (session_bytes n s)) 50 ≡ f (stream n 3276800)
 all_bytes f adds n = total-stream f adds 65536 (first_state n) 50
 
-pub delivered-le : (f : List ℕ → ℕ) → Adds f → (n : ℕ) (acts : List Act) (reads : List (Line DueRead)) → Legal load_command load_turns acts → GivesScripted n acts reads → f (delivered acts) ≤ f (stream n 3276800)
+pub delivered-le : (f : List ℕ → ℕ) → Adds f → (n : ℕ) (acts : List Act) (reads : List (PlacedItem DueRead)) → Legal load_command load_turns acts → GivesScripted n acts reads → f (delivered acts) ≤ f (stream n 3276800)
 delivered-le f adds n acts reads legal gives =
     let all = delivered-total f adds load_turns acts legal in
     let most = total-le (λ s. f (put acts (right_place s))) (λ s. f (session_bytes n s)) 50 (session-le f adds n acts reads legal gives) in
@@ -84,7 +84,7 @@ delivered-le f adds n acts reads legal gives =
 begun_few : (acts : List Act) → Legal load_command load_turns acts → admitted load_command acts ≤ 50
 begun_few acts legal = admitted_bound load_command load_turns acts legal
 
-pub delivered-whole : (f : List ℕ → ℕ) → Adds f → (n : ℕ) (acts : List Act) (reads : List (Line DueRead)) → Legal load_command load_turns acts → GivesScripted n acts reads → sessions_of acts ≡ 50 → f (delivered acts) ≡ f (stream n 3276800)
+pub delivered-whole : (f : List ℕ → ℕ) → Adds f → (n : ℕ) (acts : List Act) (reads : List (PlacedItem DueRead)) → Legal load_command load_turns acts → GivesScripted n acts reads → sessions_of acts ≡ 50 → f (delivered acts) ≡ f (stream n 3276800)
 delivered-whole f adds n acts reads legal gives e =
     sym (delivered-total f adds load_turns acts legal)
     ∙ total-same (λ s. f (put acts (right_place s))) (λ s. f (session_bytes n s)) 50 (λ s below. ap f (session-whole n acts reads legal gives s below (count-most-all (was_finished acts) (admitted load_command acts) 50 (begun_few acts legal) e s below)))
@@ -113,11 +113,11 @@ same_world n n' kept acts asked e =
 -- ---- the whole run
 
 -- the acts of the run are those that the world kept
-legal_acts : (n n' : ℕ) (kept : Kept) (answer : Outcome) (headline : Headline load_command load_turns (named n (record { acts = []; asked = [] })) (told_named n' (told_kept kept)) answer) → (kept.journal.acts ≡ headline.acts) × (n' ≡ n)
+legal_acts : (n n' : ℕ) (kept : Kept) (answer : Outcome) (headline : RelayHeadline load_command load_turns (named n (record { acts = []; asked = [] })) (told_named n' (told_kept kept)) answer) → (kept.journal.acts ≡ headline.acts) × (n' ≡ n)
 legal_acts n n' kept answer headline = same_world n n' kept headline.acts headline.asked headline.told_is
 
 -- few enough that they can be counted
-pub few_bytes : (n n' : ℕ) (kept : Kept) (reads : List (Line DueRead)) (answer : Outcome) → Headline load_command load_turns (named n (record { acts = []; asked = [] })) (told_named n' (told_kept kept)) answer → GivesScripted n' kept.journal.acts reads → (length (delivered kept.journal.acts) ≤ 3276800) × (sum (delivered kept.journal.acts) ≤ 835584000)
+pub few_bytes : (n n' : ℕ) (kept : Kept) (reads : List (PlacedItem DueRead)) (answer : Outcome) → RelayHeadline load_command load_turns (named n (record { acts = []; asked = [] })) (told_named n' (told_kept kept)) answer → GivesScripted n' kept.journal.acts reads → (length (delivered kept.journal.acts) ≤ 3276800) × (sum (delivered kept.journal.acts) ≤ 835584000)
 few_bytes n n' kept reads answer headline gives =
     let same = legal_acts n n' kept answer headline in
     let legal = subst (Legal load_command load_turns) (sym same.0) headline.legal in
@@ -125,7 +125,7 @@ few_bytes n n' kept reads answer headline gives =
     let sums = delivered-le (λ xs. sum xs) adds-sum n' kept.journal.acts reads legal gives in
     (omega (arith, bytes, length-stream n'), omega (arith, sums, sum-bytes_after 3276800 (first_state n')))
 
-pub generated : (n n' : ℕ) (kept : Kept) (reads : List (Line DueRead)) (answer : Outcome) (summary : Summary) → Headline load_command load_turns (named n (record { acts = []; asked = [] })) (told_named n' (told_kept kept)) answer → (answer ≡ outcomes.Memory → ⊥) → GivesScripted n' kept.journal.acts reads → summary ≡ summary_of n kept.journal.acts → GeneratedRun n summary
+pub generated : (n n' : ℕ) (kept : Kept) (reads : List (PlacedItem DueRead)) (answer : Outcome) (summary : Summary) → RelayHeadline load_command load_turns (named n (record { acts = []; asked = [] })) (told_named n' (told_kept kept)) answer → (answer ≡ outcomes.Memory → ⊥) → GivesScripted n' kept.journal.acts reads → summary ≡ summary_of n kept.journal.acts → GeneratedRun n summary
 generated n n' kept reads answer summary headline remembered gives e =
     let same = legal_acts n n' kept answer headline in
     let acts = headline.acts in

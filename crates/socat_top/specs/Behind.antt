@@ -12,7 +12,7 @@ use Rattle.port_trait.specs.Meanings.{Behind}
 use Rattle.port_trait.specs.Ports.{BehindSeen, PortSeen, nothing_behind}
 use Rattle.port_table.specs.declared.endings.Back.{Back}
 use Rattle.port_table.specs.declared.endings.Back.TheVariants as backs
-use Rattle.socat_top.specs.Ends.{Ends, HasEnded, came_in, is_alone, is_on_output, went_out}
+use Rattle.socat_top.specs.Ends.{StandardEnds, HasEnded, came_in, is_alone, is_on_output, went_out}
 
 -- what a port tells of what is behind it, where it came back joined
 abbrev pub told_behind : {T : Type 0} → (T → PortSeen) → Back T → BehindSeen
@@ -59,7 +59,7 @@ EndsFar c acts stdin stdout source sink = EndsBehind c acts (far_bytes stdin.gav
 abbrev pub BehindIsDue : Type 0
 BehindIsDue =
     (c : Config) (acts : List Act) (stdin stdout : PortSeen) (source sink : BehindSeen) →
-    Ends c acts stdin.gave stdout.took stdin.ended →
+    StandardEnds c acts stdin.gave stdout.took stdin.ended →
     StandsBehind stdin source →
     StandsBehind stdout sink →
     EndsFar c acts stdin stdout source sink

@@ -58,10 +58,10 @@ HasEnded c acts w = (is_alone c (is_on_input c) (input c 0 w) ≡ true) × (last
 
 -- the same of each direction, by the acts of a command and by what standard input gave and standard output took, where
 -- they tell it; and where the source of one has ended, the last read of the port of standard input met the end
-pub record Ends (c : Config) (acts : List Act) (gave took : Option (List ℕ)) (ended : Bool) : Type 0 where
+pub record StandardEnds (c : Config) (acts : List Act) (gave took : Option (List ℕ)) (ended : Bool) : Type 0 where
   pub is_due : (w : Way) → formed c w ≡ true → IfSome (came_in c acts w gave) (λ came. IfSome (went_out c acts w took) (λ went. IsDue c acts w came went))
   pub is_ended : (w : Way) → formed c w ≡ true → HasEnded c acts w → ended ≡ true
 
 -- so it is after legal acts, where the streams passed what these tell by the command's own addresses
 abbrev pub PassedEnds : Type 0
-PassedEnds = (c : Config) (n : ℕ) (acts : List Act) (gave took said : Option (List ℕ)) (ended : Bool) → Legal c n acts → (has_fork c ≡ false → PassedBy (single c) acts gave took said ended) → Ends c acts gave took ended
+PassedEnds = (c : Config) (n : ℕ) (acts : List Act) (gave took said : Option (List ℕ)) (ended : Bool) → Legal c n acts → (has_fork c ≡ false → PassedBy (single c) acts gave took said ended) → StandardEnds c acts gave took ended

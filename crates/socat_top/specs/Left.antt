@@ -3,14 +3,14 @@ use Rattle.std.specs.Prelude.{ℕ, Bool, true, false, ◌&&◌, List, [], ◌∷
 use Rattle.relay_model.specs.declared.places.Place.{Place}
 use Rattle.relay_model.specs.Places.{same_place}
 use Rattle.relay_model.specs.Transfers.{is_empty}
-use Rattle.scripted_world.specs.declared.lines.Line.{Line}
+use Rattle.scripted_world.specs.declared.lines.PlacedItem.{PlacedItem}
 use Rattle.scripted_world.specs.declared.reading.DueRead.{DueRead}
 use Rattle.scripted_world.specs.declared.reading.Reading.{Reading}
 use Rattle.scripted_world.specs.declared.reading.Reading.TheVariants as readings
 use Rattle.scripted_world.specs.Reads.{bytes_of}
 
 -- the bytes that these items have for a place
-abbrev pub left_of : List (Line DueRead) → Place → List ℕ
+abbrev pub left_of : List (PlacedItem DueRead) → Place → List ℕ
 left_of [] p = []
 left_of (line ∷ lines) p = if same_place line.place p then bytes_of line.item.reading ++ left_of lines p else left_of lines p
 
@@ -22,6 +22,6 @@ is_end readings.End = true
 is_end readings.Fault = false
 
 -- behind the first end of a place no bytes for it are left
-abbrev pub ends_last : List (Line DueRead) → Place → Bool
+abbrev pub ends_last : List (PlacedItem DueRead) → Place → Bool
 ends_last [] p = true
 ends_last (line ∷ lines) p = if same_place line.place p && is_end line.item.reading then is_empty (left_of lines p) else ends_last lines p

@@ -1,8 +1,10 @@
 -- What a run says on standard error at its end.
-use Rattle.std.specs.Prelude.{◌≡◌, ℕ, ◌⊎◌, List, [], ◌∷◌, Option, option_map}
+use Rattle.std.specs.Prelude.{◌≡◌, ◌≤◌, ℕ, ◌⊎◌, List, [], ◌∷◌, Option, option_map, is_some}
+use Rattle.relay_model.specs.declared.places.Place.{Place}
 use Rattle.relay_model.specs.declared.acts.Act.TheVariants.{Note, NoteFault}
 use Rattle.relay_model.specs.Journals.{History}
 use Rattle.world_trait.specs.Recordings.{with_act}
+use Rattle.world_trait.specs.Seen.{Seen}
 use Rattle.exit_status.specs.declared.outcomes.Outcome.{Outcome}
 use Rattle.exit_status.specs.declared.outcomes.Outcome.TheVariants as outcomes
 use Rattle.exit_status.specs.Lines.{line}
@@ -19,3 +21,11 @@ Said (b ∷ text) told told' = Noted (b ∷ text) told told'
 -- the line of the answer, where it has one; want of memory may leave it out
 abbrev pub Tail : Outcome → Option History → Option History → Type 0
 Tail answer told told' = Said (line answer) told told' ⊎ ((answer ≡ outcomes.Memory) × (told' ≡ told))
+
+-- no more was done than to note: what is held stays so, and nothing was waited for
+pub record OnlyNotes (old new : Seen) : Type 0 where
+  pub held : (p : Place) → new.held p ≡ old.held p
+  pub faults : old.faults ≤ new.faults
+  pub waits : new.waits ≡ old.waits
+  pub stops : old.stops ≤ new.stops
+  pub tells : is_some new.told ≡ is_some old.told

@@ -6,13 +6,13 @@ use Rattle.relay_model.specs.declared.acts.Act.TheVariants.{Note}
 use Rattle.relay_model.specs.declared.places.Place.{Place}
 use Rattle.relay_model.specs.History.{got, met_end}
 use Rattle.relay_model.specs.Journals.{History}
-use Rattle.scripted_world.specs.declared.lines.Line.{Line}
+use Rattle.scripted_world.specs.declared.lines.PlacedItem.{PlacedItem}
 use Rattle.scripted_world.specs.declared.reading.DueRead.{DueRead}
 use Rattle.socat_top.specs.Left.{ends_last, left_of}
 use Rattle.socat_top.specs.Scripts.{scripted}
 
 -- after these acts these items are left of the script of a number
-pub record GivesScripted (n : ℕ) (acts : List Act) (reads : List (Line DueRead)) : Type 0 where
+pub record GivesScripted (n : ℕ) (acts : List Act) (reads : List (PlacedItem DueRead)) : Type 0 where
   pub given : (p : Place) → got acts p ++ left_of reads p ≡ scripted n p
   pub whole : (p : Place) → met_end acts p ≡ true → left_of reads p ≡ []
   pub in_order : (p : Place) → ends_last reads p ≡ true

@@ -1,9 +1,9 @@
 -- What the program needs for its words, and how it ends.
 use Rattle.std.specs.Prelude.{ℕ, zero, suc, Bool, true, false}
-use Rattle.socat_top.specs.Tasks.{Task, Relaying, Telling, Loading, Refusing, Unread}
+use Rattle.socat_top.specs.Tasks.{WordsTask, Relaying, Telling, Loading, Refusing, Unread}
 
 -- what is to be done is a relay
-abbrev pub is_relaying : Task → Bool
+abbrev pub is_relaying : WordsTask → Bool
 is_relaying (Relaying c) = true
 is_relaying (Telling text) = false
 is_relaying (Loading number) = false

@@ -8,7 +8,7 @@ use Rattle.relay_model.specs.Places.{same_place}
 use Rattle.relay_model.specs.Configs.{place_at, program_door}
 use Rattle.scripted_world.specs.declared.accepting.DuePeer.{DuePeer}
 use Rattle.scripted_world.specs.declared.items.PeerItem.TheVariants.{Comes}
-use Rattle.scripted_world.specs.declared.lines.Line.{Line}
+use Rattle.scripted_world.specs.declared.lines.PlacedItem.{PlacedItem}
 use Rattle.scripted_world.specs.declared.reading.DueRead.{DueRead}
 use Rattle.scripted_world.specs.declared.reading.Reading.TheVariants as readings
 use Rattle.scripted_world.specs.declared.writing.DueWrite.{DueWrite}
@@ -38,55 +38,55 @@ abbrev pub session_bytes : ℕ → ℕ → List ℕ
 session_bytes n s = bytes_after 65536 (session_state n s)
 
 -- a piece of 512 bytes behind a state, at its moment
-abbrev pub piece_line : ℕ → ℕ → ℕ → Line DueRead
+abbrev pub piece_line : ℕ → ℕ → ℕ → PlacedItem DueRead
 piece_line s at x = record { place = left_place s; item = record { at = at; reading = readings.Bytes (bytes_after 512 x) } }
 
 -- so many pieces of a session, one at each moment
-unfoldable pub pieces : ℕ → ℕ → ℕ → List (Line DueRead)
+unfoldable pub pieces : ℕ → ℕ → ℕ → List (PlacedItem DueRead)
 pieces s zero x = []
 pieces s (suc k) x = pieces s k x ++ piece_line s k (state_after (k * 512) x) ∷ []
 
 -- the end of the input at a place, at moment 127
-abbrev pub end_line : Place → Line DueRead
+abbrev pub end_line : Place → PlacedItem DueRead
 end_line p = record { place = p; item = record { at = 127; reading = readings.End } }
 
 -- what a session reads: 128 pieces on its left, and the end on both sides
-abbrev pub session_reads : ℕ → ℕ → List (Line DueRead)
+abbrev pub session_reads : ℕ → ℕ → List (PlacedItem DueRead)
 session_reads s x = pieces s 128 x ++ end_line (left_place s) ∷ end_line (right_place s) ∷ []
 
 -- what so many sessions read
-unfoldable pub reads_of : ℕ → ℕ → List (Line DueRead)
+unfoldable pub reads_of : ℕ → ℕ → List (PlacedItem DueRead)
 reads_of n zero = []
 reads_of n (suc s) = reads_of n s ++ session_reads s (session_state n s)
 
 -- ---- writes
 
 -- a write to the right place of a session takes up to 300 bytes
-abbrev pub taking_line : ℕ → Line DueWrite
+abbrev pub taking_line : ℕ → PlacedItem DueWrite
 taking_line s = record { place = right_place s; item = record { at = 0; writing = writings.Upto 300 } }
 
 -- a write to it takes nothing yet
-abbrev pub waiting_line : ℕ → Line DueWrite
+abbrev pub waiting_line : ℕ → PlacedItem DueWrite
 waiting_line s = record { place = right_place s; item = record { at = 0; writing = writings.NotYet } }
 
 -- so many of each, in turn
-unfoldable pub session_writes : ℕ → ℕ → List (Line DueWrite)
+unfoldable pub session_writes : ℕ → ℕ → List (PlacedItem DueWrite)
 session_writes s zero = []
 session_writes s (suc k) = session_writes s k ++ taking_line s ∷ waiting_line s ∷ []
 
 -- what becomes of the writes of so many sessions: 300 of each
-unfoldable pub writes_of : ℕ → List (Line DueWrite)
+unfoldable pub writes_of : ℕ → List (PlacedItem DueWrite)
 writes_of zero = []
 writes_of (suc s) = writes_of s ++ session_writes s 300
 
 -- ---- peers
 
 -- a peer on this machine, with a port of its own
-abbrev pub peer_line : ℕ → Line DuePeer
+abbrev pub peer_line : ℕ → PlacedItem DuePeer
 peer_line s = record { place = program_door; item = record { at = 0; item = Comes (V4 (127 ∷ 0 ∷ 0 ∷ 1 ∷ []) (1001 + s)) } }
 
 -- the first peers that come
-unfoldable pub peers_of : ℕ → List (Line DuePeer)
+unfoldable pub peers_of : ℕ → List (PlacedItem DuePeer)
 peers_of zero = []
 peers_of (suc s) = peers_of s ++ peer_line s ∷ []
 

@@ -1,7 +1,7 @@
 // What a list of words asks for, done over any world.
-ghost use Rattle.std.specs.Prelude.{◌≡◌, ◌≤◌, ◌⊎◌, true, false, is_some, Some, Ok};
+ghost use Rattle.std.specs.Prelude.{◌≡◌, ◌⊎◌, true, is_some, Some};
 ghost use Rattle.exit_status.specs.declared.outcomes.Outcome.TheVariants as outcomes;
-ghost use Rattle.relay_model.specs.declared.places.Place.{Place as Spot};
+ghost use Rattle.relay_model.specs.declared.places.Place.{Place};
 ghost use Rattle.relay_model.specs.Holding.{Free};
 ghost use Rattle.relay_model.specs.Journals.{History};
 ghost use Rattle.cmd_words.specs.Commands.{IsFit};
@@ -9,7 +9,8 @@ ghost use Rattle.session_loop.specs.Courses.{Risen};
 ghost use Rattle.relay_model.specs.Configs.{Fit};
 ghost use Rattle.session_loop.specs.Headline.{Completes, StopCause, is_failure, is_relayed};
 ghost use Rattle.socat_top.specs.Headline.{Answers, CompletesTask, Headline, Leaves, Loads};
-ghost use Rattle.socat_top.specs.Tasks.{task, command_task, task_of};
+ghost use Rattle.socat_top.specs.Notes.{OnlyNotes};
+ghost use Rattle.socat_top.specs.Tasks.{task, command_task};
 
 use crate::generated::generated_run;
 use crate::notes::{conclude, print};
@@ -23,8 +24,8 @@ use world_trait::World;
 /// Does what the words ask, over any world, with at most `turns` waits. The words don't include the program's name.
 /// Words that are refused open nothing. The line of the outcome is noted at the end, where it has one.
 pub fn socat<W: World>(alloc: Global, world: &mut W, words: &[Text], turns: u64) -> Outcome
-    requires free { (p : Spot) → (W.seen world.old).held p ≡ Free }
-    ensures free { (p : Spot) → (W.seen world.new).held p ≡ Free }
+    requires free { (p : Place) → (W.seen world.old).held p ≡ Free }
+    ensures free { (p : Place) → (W.seen world.new).held p ≡ Free }
     ensures headline { (before : History) → (W.seen world.old).told ≡ Some before → Leaves (task words.now) turns before (W.seen world.new).told result }
     ensures answers { Answers (task words.now) result }
     ensures tells { is_some (W.seen world.new).told ≡ is_some (W.seen world.old).told }
@@ -48,8 +49,8 @@ pub fn socat<W: World>(alloc: Global, world: &mut W, words: &[Text], turns: u64)
 /// Runs a command, and notes the line of its outcome.
 fn obey<W: World>(alloc: Global, world: &mut W, command: &Command, turns: u64) -> Outcome
     requires fit { IsFit command.now }
-    requires free { (p : Spot) → (W.seen world.old).held p ≡ Free }
-    ensures free { (p : Spot) → (W.seen world.new).held p ≡ Free }
+    requires free { (p : Place) → (W.seen world.old).held p ≡ Free }
+    ensures free { (p : Place) → (W.seen world.new).held p ≡ Free }
     ensures headline { (before : History) → (W.seen world.old).told ≡ Some before
         → Leaves (command_task command.now) turns before (W.seen world.new).told result }
     ensures answers { Answers (command_task command.now) result }
@@ -71,11 +72,7 @@ fn obey<W: World>(alloc: Global, world: &mut W, command: &Command, turns: u64) -
 fn load<W: World>(alloc: Global, world: &mut W, number: u64) -> Outcome
     ensures headline { (before : History) → (W.seen world.old).told ≡ Some before → Loads number (Some before) (W.seen world.new).told result }
     ensures answers { (result ≡ outcomes.Loaded) ⊎ (result ≡ outcomes.Memory) }
-    ensures held { (p : Spot) → (W.seen world.new).held p ≡ (W.seen world.old).held p }
-    ensures faults { (W.seen world.old).faults ≤ (W.seen world.new).faults }
-    ensures waits { (W.seen world.new).waits ≡ (W.seen world.old).waits }
-    ensures stops { (W.seen world.old).stops ≤ (W.seen world.new).stops }
-    ensures tells { is_some (W.seen world.new).told ≡ is_some (W.seen world.old).told }
+    ensures calm { OnlyNotes (W.seen world.old) (W.seen world.new) }
 {
     match generated_run(alloc, number) {
         Ok(summary) => print(alloc, world, summary.line(alloc), Outcome::Loaded),
@@ -86,8 +83,8 @@ fn load<W: World>(alloc: Global, world: &mut W, number: u64) -> Outcome
 /// Relays, and notes the line of the outcome.
 fn run_relay<W: World>(alloc: Global, world: &mut W, config: &Config, turns: u64) -> Outcome
     requires fit { Fit config.now }
-    requires free { (p : Spot) → (W.seen world.old).held p ≡ Free }
-    ensures free { (p : Spot) → (W.seen world.new).held p ≡ Free }
+    requires free { (p : Place) → (W.seen world.old).held p ≡ Free }
+    ensures free { (p : Place) → (W.seen world.new).held p ≡ Free }
     ensures headline { (before : History) → (W.seen world.old).told ≡ Some before → Headline config.now turns before (W.seen world.new).told result }
     ensures answers { is_relayed result ≡ true }
     ensures tells { is_some (W.seen world.new).told ≡ is_some (W.seen world.old).told }

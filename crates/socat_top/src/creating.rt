@@ -1,5 +1,5 @@
 // How the file of a journal is made.
-ghost use Rattle.std.specs.Prelude.{◌≡◌, ℕ, List, IfOk, OnErr};
+ghost use Rattle.std.specs.Prelude.{ℕ, List, IfOk, OnErr};
 
 use std::fs::OpenOptions;
 use std::io;

@@ -1,10 +1,10 @@
 // The making of a journal's file, which comes before the run.
-ghost use Rattle.std.specs.Prelude.{◌≡◌, [], true, false, Some};
+ghost use Rattle.std.specs.Prelude.{◌≡◌, true, false};
+ghost use Rattle.port_desk.specs.Models.{BeginsHistory, IsFree};
 
 use crate::files::JournalFile;
-use port_desk::Desk;
+use port_desk::{Desk, Modelled};
 use port_trait::{Maker, Poller, Port};
-use world_trait::World;
 
 /// Whether the journal's file was made. Only a desk that has just begun to keep its history gives one.
 #[derive(Drop)]
@@ -14,7 +14,7 @@ pub struct Creation {
 
 impl Creation {
     /// Whether the file takes something.
-    pub fn made(&self) -> bool
+    pub fn is_made(&self) -> bool
         ensures { result ≡ self.now.made }
     {
         self.made
@@ -34,17 +34,10 @@ where
     P: Poller + Drop,
     requires created { made ≡ true → (before : F) × F.creates before _name.now _file.now }
     requires refused { made ≡ false → (before : F) × F.refuses before _name.now _file.now }
-    requires untouched { desk.old.log.acted ≡ false }
-    requires free { desk.old.log.stations.entries ≡ [] }
+    requires untouched { (⟦<Desk<M, P, I, O, E> as Modelled>⟧.model desk.old).acted ≡ false }
+    requires free { IsFree (⟦<Desk<M, P, I, O, E> as Modelled>⟧.model desk.old) }
     ensures made { result.made ≡ made }
-    ensures told { (⟦<Desk<M, P, I, O, E> as World>⟧.seen desk.new).told ≡ Some (record { acts = []; asked = [] }) }
-    ensures untouched { desk.new.log.acted ≡ false }
-    ensures ports { desk.new.ports ≡ desk.old.ports }
-    ensures stations { desk.new.log.stations ≡ desk.old.log.stations }
-    ensures faults { desk.new.log.faults ≡ desk.old.log.faults }
-    ensures waits { desk.new.waits ≡ desk.old.waits }
-    ensures stops { desk.new.stops ≡ desk.old.stops }
-    ensures clock { desk.new.clock ≡ desk.old.clock }
+    ensures begins { let model = ⟦<Desk<M, P, I, O, E> as Modelled>⟧.model in BeginsHistory (model desk.old) (model desk.new) }
 {
     desk.keep();
     Creation { made }

@@ -1,6 +1,6 @@
 // The generated run.
 ghost use Rattle.std.specs.Prelude.{◌≡◌, [], Some, IfOk};
-ghost use Rattle.relay_model.specs.declared.places.Place.{Place as Spot};
+ghost use Rattle.relay_model.specs.declared.places.Place.{Place};
 ghost use Rattle.relay_model.specs.Holding.{Free};
 ghost use Rattle.socat_top.specs.Command.{load_command};
 ghost use Rattle.socat_top.specs.Numbered.{told_named};
@@ -31,17 +31,17 @@ pub fn generated_run(alloc: Global, number: u64) -> Result<Summary, NoMemory>
 /// Relays over the world of this number, in which nothing was done yet, and sums up what was done.
 fn run_over(alloc: Global, world: &mut NumberedWorld, number: u64) -> Result<Summary, NoMemory>
     requires told { (⟦<NumberedWorld as World>⟧.seen world.old).told ≡ told_named number (Some (record { acts = []; asked = [] })) }
-    requires free { (p : Spot) → (⟦<NumberedWorld as World>⟧.seen world.old).held p ≡ Free }
+    requires free { (p : Place) → (⟦<NumberedWorld as World>⟧.seen world.old).held p ≡ Free }
     ensures { IfOk result (λ summary. GeneratedRun number summary) }
 {
     let command = load_command(alloc)?;
-    let summary = summed_up(alloc, world, &command, number);
+    let summary = sum_up(alloc, world, &command, number);
     drop(command);
     summary
 }
 
 /// Relays as the command of a generated run asks, and sums up what was done.
-fn summed_up(
+fn sum_up(
     alloc: Global,
     world: &mut NumberedWorld,
     command: &Config,
@@ -49,7 +49,7 @@ fn summed_up(
 ) -> Result<Summary, NoMemory>
     requires command { command.now ≡ load_command }
     requires told { (⟦<NumberedWorld as World>⟧.seen world.old).told ≡ told_named number (Some (record { acts = []; asked = [] })) }
-    requires free { (p : Spot) → (⟦<NumberedWorld as World>⟧.seen world.old).held p ≡ Free }
+    requires free { (p : Place) → (⟦<NumberedWorld as World>⟧.seen world.old).held p ≡ Free }
     ensures { IfOk result (λ summary. GeneratedRun number summary) }
 {
     match relay(alloc, world, command, TURNS) {

@@ -1,6 +1,6 @@
 // The world of a generated run.
 ghost use Rattle.std.specs.Prelude.{◌≡◌, ◌<◌, ◌++◌, ◌∷◌, [], false, Some, IfOk, OnOk};
-ghost use Rattle.relay_model.specs.declared.places.Place.{Place as Spot};
+ghost use Rattle.relay_model.specs.declared.places.Place.{Place};
 ghost use Rattle.relay_model.specs.Holding.{Free};
 ghost use Rattle.socat_top.specs.Scripts.{end_line, left_place, peer_line, pieces, right_place, script_of, session_writes};
 ghost use Rattle.socat_top.specs.Stream.{state_after};
@@ -38,7 +38,7 @@ const DOOR: Place = Place {
 pub fn load_world(alloc: Global, number: u64) -> Result<MemWorld, NoMemory>
     ensures script { IfOk result (λ world. world.script ≡ script_of number 50) }
     ensures told { IfOk result (λ world. (⟦<MemWorld as World>⟧.seen world).told ≡ Some (record { acts = []; asked = [] })) }
-    ensures free { IfOk result (λ world. (p : Spot) → (⟦<MemWorld as World>⟧.seen world).held p ≡ Free) }
+    ensures free { IfOk result (λ world. (p : Place) → (⟦<MemWorld as World>⟧.seen world).held p ≡ Free) }
 {
     let mut world = MemWorld::new(alloc);
     let mut generator = Generator::new(number);
@@ -68,7 +68,7 @@ fn add_peer(world: &mut MemWorld, session: u32) -> Result<(), NoMemory>
     requires { session < 50 }
     ensures script { OnOk result (world.new.script ≡ record world.old.script { peers = world.old.script.peers ++ peer_line session ∷ [] }) }
     ensures told { (⟦<MemWorld as World>⟧.seen world.new).told ≡ (⟦<MemWorld as World>⟧.seen world.old).told }
-    ensures held { (p : Spot) → (⟦<MemWorld as World>⟧.seen world.new).held p ≡ (⟦<MemWorld as World>⟧.seen world.old).held p }
+    ensures held { (p : Place) → (⟦<MemWorld as World>⟧.seen world.new).held p ≡ (⟦<MemWorld as World>⟧.seen world.old).held p }
 {
     let peer = Peer::V4 {
         addr: [127, 0, 0, 1],
@@ -87,7 +87,7 @@ fn add_pieces(
     ensures script { OnOk result (world.new.script ≡ record world.old.script { reads = world.old.script.reads ++ pieces session 128 generator.old.state }) }
     ensures state { OnOk result (generator.new.state ≡ state_after 65536 generator.old.state) }
     ensures told { (⟦<MemWorld as World>⟧.seen world.new).told ≡ (⟦<MemWorld as World>⟧.seen world.old).told }
-    ensures held { (p : Spot) → (⟦<MemWorld as World>⟧.seen world.new).held p ≡ (⟦<MemWorld as World>⟧.seen world.old).held p }
+    ensures held { (p : Place) → (⟦<MemWorld as World>⟧.seen world.new).held p ≡ (⟦<MemWorld as World>⟧.seen world.old).held p }
 {
     for moment in 0..PIECES {
         let piece = generator.piece(alloc)?;
@@ -105,7 +105,7 @@ fn add_ends(world: &mut MemWorld, session: u32) -> Result<(), NoMemory>
     ensures script { OnOk result (world.new.script ≡ record world.old.script
         { reads = world.old.script.reads ++ end_line (left_place session) ∷ end_line (right_place session) ∷ [] }) }
     ensures told { (⟦<MemWorld as World>⟧.seen world.new).told ≡ (⟦<MemWorld as World>⟧.seen world.old).told }
-    ensures held { (p : Spot) → (⟦<MemWorld as World>⟧.seen world.new).held p ≡ (⟦<MemWorld as World>⟧.seen world.old).held p }
+    ensures held { (p : Place) → (⟦<MemWorld as World>⟧.seen world.new).held p ≡ (⟦<MemWorld as World>⟧.seen world.old).held p }
 {
     world.add_read(place_of(session, Side::Left), END, ReadItem::End)?;
     world.add_read(place_of(session, Side::Right), END, ReadItem::End)
@@ -115,7 +115,7 @@ fn add_ends(world: &mut MemWorld, session: u32) -> Result<(), NoMemory>
 fn add_writes(world: &mut MemWorld, session: u32) -> Result<(), NoMemory>
     ensures script { OnOk result (world.new.script ≡ record world.old.script { writes = world.old.script.writes ++ session_writes session 300 }) }
     ensures told { (⟦<MemWorld as World>⟧.seen world.new).told ≡ (⟦<MemWorld as World>⟧.seen world.old).told }
-    ensures held { (p : Spot) → (⟦<MemWorld as World>⟧.seen world.new).held p ≡ (⟦<MemWorld as World>⟧.seen world.old).held p }
+    ensures held { (p : Place) → (⟦<MemWorld as World>⟧.seen world.new).held p ≡ (⟦<MemWorld as World>⟧.seen world.old).held p }
 {
     let place = place_of(session, Side::Right);
     for _ in 0..WRITES {

@@ -1,8 +1,7 @@
 // What a run says on standard error at its end.
-ghost use Rattle.std.specs.Prelude.{◌≡◌, ◌≤◌, ℕ, List, ◌⊎◌, true, is_some, IfOk};
-ghost use Rattle.relay_model.specs.declared.places.Place.{Place as Spot};
+ghost use Rattle.std.specs.Prelude.{◌≡◌, ℕ, List, ◌⊎◌, IfOk};
 ghost use Rattle.exit_status.specs.declared.outcomes.Outcome.TheVariants as outcomes;
-ghost use Rattle.socat_top.specs.Notes.{Said, Tail};
+ghost use Rattle.socat_top.specs.Notes.{OnlyNotes, Said, Tail};
 ghost use Rattle.socat_top.specs.Headline.{Printed};
 
 use exit_status::{Outcome, line_of};
@@ -17,11 +16,7 @@ const OUT_OF_MEMORY: &[u8] = b"socat: out of memory\n";
 fn say<W: World>(world: &mut W, text: &[u8], answer: Outcome) -> Outcome
     ensures said { ((result ≡ answer) × Said text.now (W.seen world.old).told (W.seen world.new).told)
         ⊎ ((result ≡ outcomes.Memory) × ((W.seen world.new).told ≡ (W.seen world.old).told)) }
-    ensures held { (p : Spot) → (W.seen world.new).held p ≡ (W.seen world.old).held p }
-    ensures faults { (W.seen world.old).faults ≤ (W.seen world.new).faults }
-    ensures waits { (W.seen world.new).waits ≡ (W.seen world.old).waits }
-    ensures stops { (W.seen world.old).stops ≤ (W.seen world.new).stops }
-    ensures tells { is_some (W.seen world.new).told ≡ is_some (W.seen world.old).told }
+    ensures calm { OnlyNotes (W.seen world.old) (W.seen world.new) }
 {
     if text.is_empty() {
         return answer;
@@ -36,11 +31,7 @@ fn say<W: World>(world: &mut W, text: &[u8], answer: Outcome) -> Outcome
 pub fn conclude<W: World>(alloc: Global, world: &mut W, outcome: Outcome) -> Outcome
     ensures answer { (result ≡ outcome) ⊎ (result ≡ outcomes.Memory) }
     ensures tail { Tail result (W.seen world.old).told (W.seen world.new).told }
-    ensures held { (p : Spot) → (W.seen world.new).held p ≡ (W.seen world.old).held p }
-    ensures faults { (W.seen world.old).faults ≤ (W.seen world.new).faults }
-    ensures waits { (W.seen world.new).waits ≡ (W.seen world.old).waits }
-    ensures stops { (W.seen world.old).stops ≤ (W.seen world.new).stops }
-    ensures tells { is_some (W.seen world.new).told ≡ is_some (W.seen world.old).told }
+    ensures calm { OnlyNotes (W.seen world.old) (W.seen world.new) }
 {
     match line_of(alloc, &outcome) {
         Ok(line) => say(world, line.as_slice(), outcome),
@@ -57,11 +48,7 @@ pub fn print<W: World>(
 ) -> Outcome
     ensures printed { (wanted : List ℕ) → IfOk text (λ bytes. bytes ≡ wanted) → Printed done wanted (W.seen world.old).told (W.seen world.new).told result }
     ensures answer { (result ≡ done) ⊎ (result ≡ outcomes.Memory) }
-    ensures held { (p : Spot) → (W.seen world.new).held p ≡ (W.seen world.old).held p }
-    ensures faults { (W.seen world.old).faults ≤ (W.seen world.new).faults }
-    ensures waits { (W.seen world.new).waits ≡ (W.seen world.old).waits }
-    ensures stops { (W.seen world.old).stops ≤ (W.seen world.new).stops }
-    ensures tells { is_some (W.seen world.new).told ≡ is_some (W.seen world.old).told }
+    ensures calm { OnlyNotes (W.seen world.old) (W.seen world.new) }
 {
     match text {
         Ok(text) => say(world, text.as_slice(), done),

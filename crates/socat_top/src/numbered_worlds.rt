@@ -1,7 +1,7 @@
 // A scripted world that stays the one of its number, whoever runs something over it.
 ghost use Rattle.std.specs.Prelude.{◌≡◌, Some, [], IfOk};
 ghost use Rattle.relay_model.specs.Holding.{Free};
-ghost use Rattle.relay_model.specs.declared.places.Place.{Place as Spot};
+ghost use Rattle.relay_model.specs.declared.places.Place.{Place};
 ghost use Rattle.socat_top.specs.Numbered.{GivesScripted, told_named};
 
 use crate::load_worlds::load_world;
@@ -27,7 +27,7 @@ impl NumberedWorld {
     /// The world of this number, in which nothing was done.
     pub fn new(alloc: Global, number: u64) -> Result<NumberedWorld, NoMemory>
         ensures told { IfOk result (λ world. (⟦<NumberedWorld as World>⟧.seen world).told ≡ told_named number (Some (record { acts = []; asked = [] }))) }
-        ensures free { IfOk result (λ world. (p : Spot) → (⟦<NumberedWorld as World>⟧.seen world).held p ≡ Free) }
+        ensures free { IfOk result (λ world. (p : Place) → (⟦<NumberedWorld as World>⟧.seen world).held p ≡ Free) }
     {
         let world = load_world(alloc, number)?;
         Ok(NumberedWorld { number, world })

@@ -1,5 +1,5 @@
 // The summary of a generated run.
-ghost use Rattle.std.specs.Prelude.{◌≡◌, ◌<◌, ◌≤◌, ◌+◌, ◌^◌, length, sum, string_bytes, IfOk};
+ghost use Rattle.std.specs.Prelude.{◌≡◌, ◌<◌, ◌+◌, ◌^◌, length, sum, string_bytes, IfOk};
 ghost use Rattle.relay_model.specs.Sessions.{admitted};
 ghost use Rattle.socat_top.specs.Command.{load_command};
 ghost use Rattle.socat_top.specs.Sums.{begins, brought, delivered, finishes, sessions_of, was_finished};
@@ -123,7 +123,7 @@ fn add_up(journal: &Journal) -> Totals
     let mut bytes = 0;
     let mut sum = 0;
     for i in 0..journal.len() {
-        let piece = brought(journal.get(i));
+        let piece = bytes_to_right(journal.get(i));
         bytes += piece.len() as u64;
         sum = sum_with(sum, piece);
     }
@@ -131,7 +131,7 @@ fn add_up(journal: &Journal) -> Totals
 }
 
 /// The bytes that an act writes at a right place.
-fn brought(act: &Act) -> &[u8]
+fn bytes_to_right(act: &Act) -> &[u8]
     ensures { result.now ≡ brought act.now }
 {
     match act {

@@ -1,8 +1,6 @@
 // A run whose history may be written to a file.
 ghost use Rattle.std.specs.Prelude.{◌≡◌, ◌≤◌, ◌-◌, [], true, false, length, drop, Some, IfSome, MatchOption};
 ghost use Rattle.std.specs.Bool.{OnTrue, OnFalse};
-ghost use Rattle.relay_model.specs.declared.places.Place.{Place as Spot};
-ghost use Rattle.relay_model.specs.Holding.{Free};
 ghost use Rattle.relay_model.specs.Journals.{History};
 ghost use Rattle.session_loop.specs.Courses.{Risen};
 ghost use Rattle.session_loop.specs.Headline.{StopCause, is_failure};
@@ -10,7 +8,8 @@ ghost use Rattle.exit_status.specs.Statuses.{exit_code};
 ghost use Rattle.socat_top.specs.declared.written.Saving.TheVariants as savings;
 ghost use Rattle.port_trait.specs.Ports.{Agrees};
 ghost use Rattle.port_table.specs.Endings.{OnJoinedBack, handed};
-ghost use Rattle.port_desk.specs.Following.{IsUnused, Passed};
+ghost use Rattle.port_desk.specs.Following.{Passed};
+ghost use Rattle.port_desk.specs.Models.{AreUnused, IsFree};
 ghost use Rattle.socat_top.specs.Behind.{told_behind};
 ghost use Rattle.socat_top.specs.Kept.{history_of};
 ghost use Rattle.socat_top.specs.Headline.{Answers, CompletesTask, Leaves, TaskEnds, TaskEndsBehind};
@@ -22,11 +21,10 @@ use crate::creations::{Creation, keep_history};
 use crate::files::JournalFile;
 use crate::runs::{Shipped, run};
 use journal_text::write_front;
-use port_desk::Desk;
+use port_desk::{Desk, Modelled};
 use port_trait::{Maker, Poller, Port, write_whole};
 use relay_model::{Act, Journal, Text};
 use std::alloc::Global;
-use world_trait::World;
 
 /// The flag that asks for a written journal; the name of its file follows in the same word.
 const FLAG: &[u8] = b"--journal=";
@@ -62,8 +60,8 @@ pub fn run_written<M, P, I: Port, O: Port, E: Port, F: JournalFile>(
 where
     M: Maker + Drop,
     P: Poller + Drop,
-    requires free { (p : Spot) → (⟦<Desk<M, P, I, O, E> as World>⟧.seen desk).held p ≡ Free }
-    requires untouched { desk.log.acted ≡ false }
+    requires free { IsFree (⟦<Desk<M, P, I, O, E> as Modelled>⟧.model desk) }
+    requires untouched { (⟦<Desk<M, P, I, O, E> as Modelled>⟧.model desk).acted ≡ false }
     ensures asked { is_asked result.saving ≡ asks_for_journal words.now }
     ensures named { result.saving ≡ savings.Saved → (made : F) × F.creates file.old (journal_name words.now) made }
     ensures tried { asks_for_journal words.now ≡ true
@@ -75,30 +73,30 @@ where
     ensures status { result.status ≡ status_with result.shipped.status result.saving }
     ensures run_status { result.shipped.status ≡ exit_code result.shipped.outcome }
     ensures headline { (before : History)
-        → told_before (asks_for_journal words.now) (⟦<Desk<M, P, I, O, E> as World>⟧.seen desk).told ≡ Some before
+        → told_before (asks_for_journal words.now) (⟦<Desk<M, P, I, O, E> as Modelled>⟧.model desk).history ≡ Some before
         → Leaves (task (words_of_run words.now)) turns before (Some (history_of result.shipped.kept)) result.shipped.outcome }
     ensures passed { let stdin = I.seen (handed result.shipped.standard.stdin) in
         let stdout = O.seen (handed result.shipped.standard.stdout) in let stderr = E.seen (handed result.shipped.standard.stderr) in
-        (before : History) → told_before (asks_for_journal words.now) (⟦<Desk<M, P, I, O, E> as World>⟧.seen desk).told ≡ Some before
-        → IsUnused desk.ports.table.input.port.gave desk.ports.table.output.port.took desk.ports.table.errors.port.took
+        (before : History) → told_before (asks_for_journal words.now) (⟦<Desk<M, P, I, O, E> as Modelled>⟧.model desk).history ≡ Some before
+        → AreUnused (⟦<Desk<M, P, I, O, E> as Modelled>⟧.model desk)
         → Passed (history_of result.shipped.kept) stdin.gave stdout.took stderr.took stdin.ended }
     ensures ends { let stdin = I.seen (handed result.shipped.standard.stdin) in let stdout = O.seen (handed result.shipped.standard.stdout) in
-        told_before (asks_for_journal words.now) (⟦<Desk<M, P, I, O, E> as World>⟧.seen desk).told ≡ Some (record { acts = []; asked = [] })
-        → IsUnused desk.ports.table.input.port.gave desk.ports.table.output.port.took desk.ports.table.errors.port.took
+        told_before (asks_for_journal words.now) (⟦<Desk<M, P, I, O, E> as Modelled>⟧.model desk).history ≡ Some (record { acts = []; asked = [] })
+        → AreUnused (⟦<Desk<M, P, I, O, E> as Modelled>⟧.model desk)
         → TaskEnds (task (words_of_run words.now)) result.shipped.kept.journal.acts stdin.gave stdout.took stdin.ended }
     ensures stdin_behind { OnJoinedBack (λ port. Agrees (I.seen port)) result.shipped.standard.stdin }
     ensures stdout_behind { OnJoinedBack (λ port. Agrees (O.seen port)) result.shipped.standard.stdout }
     ensures behind { let stdin = I.seen (handed result.shipped.standard.stdin) in let stdout = O.seen (handed result.shipped.standard.stdout) in
-        told_before (asks_for_journal words.now) (⟦<Desk<M, P, I, O, E> as World>⟧.seen desk).told ≡ Some (record { acts = []; asked = [] })
-        → IsUnused desk.ports.table.input.port.gave desk.ports.table.output.port.took desk.ports.table.errors.port.took
+        told_before (asks_for_journal words.now) (⟦<Desk<M, P, I, O, E> as Modelled>⟧.model desk).history ≡ Some (record { acts = []; asked = [] })
+        → AreUnused (⟦<Desk<M, P, I, O, E> as Modelled>⟧.model desk)
         → TaskEndsBehind (task (words_of_run words.now)) result.shipped.kept.journal.acts stdin stdout
         (told_behind I.seen result.shipped.standard.stdin) (told_behind O.seen result.shipped.standard.stdout) }
     ensures answers { Answers (task (words_of_run words.now)) result.shipped.outcome }
-    ensures complete { let before = ⟦<Desk<M, P, I, O, E> as World>⟧.seen desk in let after = result.shipped.counts in
+    ensures complete { let before = (⟦<Desk<M, P, I, O, E> as Modelled>⟧.model desk).counts in let after = result.shipped.counts in
         CompletesTask (task (words_of_run words.now)) turns before.faults after.faults before.waits after.waits
         before.stops after.stops result.shipped.outcome }
-    ensures failed { is_failure result.shipped.outcome ≡ true → Risen (⟦<Desk<M, P, I, O, E> as World>⟧.seen desk).faults result.shipped.counts.faults }
-    ensures stopped { let before = ⟦<Desk<M, P, I, O, E> as World>⟧.seen desk in
+    ensures failed { is_failure result.shipped.outcome ≡ true → Risen (⟦<Desk<M, P, I, O, E> as Modelled>⟧.model desk).counts.faults result.shipped.counts.faults }
+    ensures stopped { let before = (⟦<Desk<M, P, I, O, E> as Modelled>⟧.model desk).counts in
         StopCause turns before.waits result.shipped.counts.waits before.stops result.shipped.counts.stops result.shipped.outcome }
 {
     let Some((name, words)) = journal_flag(words) else {
@@ -141,7 +139,7 @@ fn save<F: JournalFile>(
     ensures finished { result ≡ savings.Saved → F.finished file.new ≡ true }
     ensures unsaved { OnTrue creation.made (result ≡ savings.Failed → Risen (F.faults file.old) (F.faults file.new)) }
 {
-    if !creation.made() {
+    if !creation.is_made() {
         return Saving::Failed;
     }
     let Ok(text) = write_front(alloc, journal, count_without_last_note(journal)) else {

@@ -4,8 +4,8 @@ use Rattle.std.proofs.lemmas.List.{drop-take, drop-drop}
 use Rattle.std.specs.Prelude.{Result, zero, suc}
 use Rattle.std.specs.declared.io.Error.{Error}
 use Rattle.std.specs.declared.net.socket_addr.SocketAddr.{SocketAddr}
-use Rattle.socket_kinds.specs.declared.packet.Fetched.{Fetched}
-use Rattle.socket_kinds.specs.declared.packet.Fetched.TheVariants as fetches
+use Rattle.socket_kinds.specs.declared.packet.FetchedPacket.{FetchedPacket}
+use Rattle.socket_kinds.specs.declared.packet.FetchedPacket.TheVariants as fetches
 use Rattle.socket_kinds.specs.declared.packet.Partner.{Partner}
 use Rattle.socket_kinds.specs.Datagrams.{Asks, AsksPast, Drops}
 
@@ -29,12 +29,12 @@ module _ {U : Type 0} (receives : U → U → List ℕ → Result ℕ Error → 
   drops_next partner n before mid now packet drops asks = (mid, packet, drops, asks)
 
   -- one more datagram of another is dropped
-  pub drops_one : (partner asked : Partner) (n m : ℕ) (before mid now : U) (packet : List ℕ) (fetched : Fetched) → asked ≡ partner → fetched ≡ fetches.Others → m ≡ n + 1 → Drops receives receives_from partner n before mid → Asks receives receives_from asked mid now packet fetched → Drops receives receives_from partner m before now
+  pub drops_one : (partner asked : Partner) (n m : ℕ) (before mid now : U) (packet : List ℕ) (fetched : FetchedPacket) → asked ≡ partner → fetched ≡ fetches.Others → m ≡ n + 1 → Drops receives receives_from partner n before mid → Asks receives receives_from asked mid now packet fetched → Drops receives receives_from partner m before now
   drops_one partner asked n m before mid now packet fetched same other more drops asks =
       let next : suc n ≡ m = omega (arith, more) in
       let others : Asks receives receives_from asked mid now packet fetches.Others = subst (λ f. Asks receives receives_from asked mid now packet f) other asks in
       subst (λ k. Drops receives receives_from partner k before now) next (drops_next partner n before mid now packet drops (subst (λ p. Asks receives receives_from p mid now packet fetches.Others) same others))
 
   -- an asking behind those that were dropped
-  pub asks_past : (partner asked : Partner) (n : ℕ) (before mid now : U) (packet : List ℕ) (fetched : Fetched) → asked ≡ partner → n < 64 → Drops receives receives_from partner n before mid → Asks receives receives_from asked mid now packet fetched → AsksPast receives receives_from partner before now packet fetched
+  pub asks_past : (partner asked : Partner) (n : ℕ) (before mid now : U) (packet : List ℕ) (fetched : FetchedPacket) → asked ≡ partner → n < 64 → Drops receives receives_from partner n before mid → Asks receives receives_from asked mid now packet fetched → AsksPast receives receives_from partner before now packet fetched
   asks_past partner asked n before mid now packet fetched same few drops asks = (n, mid, few, drops, subst (λ p. Asks receives receives_from p mid now packet fetched) same asks)

@@ -12,8 +12,8 @@ use Rattle.port_trait.specs.declared.answers.Took.TheVariants as writes
 use Rattle.port_trait.specs.declared.answers.Shutting.{Shutting}
 use Rattle.port_trait.specs.declared.answers.Shutting.TheVariants as shuts
 use Rattle.socket_kinds.specs.Answering.{IsAccepted}
-use Rattle.socket_kinds.specs.declared.packet.Fetched.{Fetched}
-use Rattle.socket_kinds.specs.declared.packet.Fetched.TheVariants as fetches
+use Rattle.socket_kinds.specs.declared.packet.FetchedPacket.{FetchedPacket}
+use Rattle.socket_kinds.specs.declared.packet.FetchedPacket.TheVariants as fetches
 use Rattle.socket_kinds.specs.declared.packet.Partner.{Partner}
 use Rattle.socket_kinds.specs.declared.packet.Partner.TheVariants as partners
 
@@ -59,14 +59,14 @@ gives_none reads.NotYet = true
 gives_none reads.Failed = true
 
 -- what is held after an asking
-abbrev pub held_after : Fetched → List ℕ → Option (List ℕ)
+abbrev pub held_after : FetchedPacket → List ℕ → Option (List ℕ)
 held_after fetches.Datagram packet = Some packet
 held_after fetches.Others packet = None
 held_after fetches.NotYet packet = None
 held_after fetches.Failed packet = None
 
 -- where a call would block, there is nothing yet; any other error is a fault
-abbrev pub IsRefused : Error → Fetched → Type 0
+abbrev pub IsRefused : Error → FetchedPacket → Type 0
 IsRefused error fetches.Datagram = ⊥
 IsRefused error fetches.Others = ⊥
 IsRefused error fetches.NotYet = error_kind error ≡ WouldBlock
@@ -95,7 +95,7 @@ abbrev pub ReceivesFrom : (List ℕ → Result (ℕ × SocketAddr) Error → Typ
 ReceivesFrom call packet result = Fills call (IsReceivedFrom packet result)
 
 -- a datagram of this sender is the partner's, or is one of another
-abbrev pub IsSentBy : Partner → SocketAddr → Fetched → Type 0
+abbrev pub IsSentBy : Partner → SocketAddr → FetchedPacket → Type 0
 IsSentBy partners.Connected sender fetched = fetched ≡ fetches.Datagram
 IsSentBy partners.Anyone sender fetched = fetched ≡ fetches.Datagram
 IsSentBy (partners.At addr) sender fetches.Datagram = sender ≡ addr
@@ -104,17 +104,17 @@ IsSentBy (partners.At addr) sender fetches.NotYet = ⊥
 IsSentBy (partners.At addr) sender fetches.Failed = ⊥
 
 -- what a receiving came to, and the packet that it left where it came to a datagram of the partner
-abbrev pub IsTaken : List ℕ → Fetched → List ℕ → Result ℕ Error → Type 0
+abbrev pub IsTaken : List ℕ → FetchedPacket → List ℕ → Result ℕ Error → Type 0
 IsTaken packet fetched buffer (Ok count) = (packet ≡ take count buffer) × (fetched ≡ fetches.Datagram)
 IsTaken packet fetched buffer (Err error) = IsRefused error fetched
 
 -- the same of a socket of anyone, by who sent it
-abbrev pub IsTakenFrom : Partner → List ℕ → Fetched → List ℕ → Result (ℕ × SocketAddr) Error → Type 0
+abbrev pub IsTakenFrom : Partner → List ℕ → FetchedPacket → List ℕ → Result (ℕ × SocketAddr) Error → Type 0
 IsTakenFrom partner packet fetched buffer (Ok came) = (packet ≡ take came.0 buffer) × IsSentBy partner came.1 fetched
 IsTakenFrom partner packet fetched buffer (Err error) = IsRefused error fetched
 
 -- a datagram of the partner is handed out, and without one there is nothing yet or a fault
-abbrev pub IsRead : Fetched → List ℕ → List ℕ → Option (List ℕ) → Got → Type 0
+abbrev pub IsRead : FetchedPacket → List ℕ → List ℕ → Option (List ℕ) → Got → Type 0
 IsRead fetches.Datagram packet into rest got = IsGiven packet into rest got
 IsRead fetches.Others packet into rest got = got ≡ reads.NotYet
 IsRead fetches.NotYet packet into rest got = got ≡ reads.NotYet
@@ -122,7 +122,7 @@ IsRead fetches.Failed packet into rest got = got ≡ reads.Failed
 
 module _ {U : Type 0} (receives : U → U → List ℕ → Result ℕ Error → Type 0) (receives_from : U → U → List ℕ → Result (ℕ × SocketAddr) Error → Type 0) where
   -- the wire was asked once
-  abbrev pub Asks : Partner → U → U → List ℕ → Fetched → Type 0
+  abbrev pub Asks : Partner → U → U → List ℕ → FetchedPacket → Type 0
   Asks partners.Connected before now packet fetched = Fills (receives before now) (IsTaken packet fetched)
   Asks (partners.At addr) before now packet fetched = Fills (receives_from before now) (IsTakenFrom (partners.At addr) packet fetched)
   Asks partners.Anyone before now packet fetched = Fills (receives_from before now) (IsTakenFrom partners.Anyone packet fetched)
@@ -133,12 +133,12 @@ module _ {U : Type 0} (receives : U → U → List ℕ → Result ℕ Error → 
   Drops partner (suc n) before now = (mid : U) × (packet : List ℕ) × Drops partner n before mid × Asks partner mid now packet fetches.Others
 
   -- it was asked once more, after at most 63 of others were dropped
-  abbrev pub AsksPast : Partner → U → U → List ℕ → Fetched → Type 0
+  abbrev pub AsksPast : Partner → U → U → List ℕ → FetchedPacket → Type 0
   AsksPast partner before now packet fetched = (n : ℕ) × (mid : U) × (n < 64) × Drops partner n before mid × Asks partner mid now packet fetched
 
   -- the answer of a read that asks, by what came, and what stays of that
   abbrev pub ReadsNext : Partner → U → U → List ℕ → Option (List ℕ) → Got → Type 0
-  ReadsNext partner before now into rest got = (fetched : Fetched) × (packet : List ℕ) × AsksPast partner before now packet fetched × IsRead fetched packet into rest got
+  ReadsNext partner before now into rest got = (fetched : FetchedPacket) × (packet : List ℕ) × AsksPast partner before now packet fetched × IsRead fetched packet into rest got
 
 -- one sending to the partner was answered so
 abbrev pub Sends : {U : Type 0} → (U → U → List ℕ → Result ℕ Error → Type 0) → (U → U → SocketAddr → List ℕ → Result ℕ Error → Type 0) → Partner → U → U → List ℕ → Result ℕ Error → Type 0

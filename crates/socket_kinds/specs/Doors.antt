@@ -6,8 +6,8 @@ use Rattle.std.specs.IoError.{error_kind}
 use Rattle.port_trait.specs.declared.answers.Hint.{Hint}
 use Rattle.std.specs.declared.net.socket_addr.SocketAddr.{SocketAddr}
 use Rattle.mio.specs.declared.net.stream.TcpStream.{TcpStream}
-use Rattle.socket_kinds.specs.declared.stream.Stream.{Stream}
-use Rattle.socket_kinds.specs.declared.stream.Stream.TheVariants as streams
+use Rattle.socket_kinds.specs.declared.stream.SocketStream.{SocketStream}
+use Rattle.socket_kinds.specs.declared.stream.SocketStream.TheVariants as streams
 use Rattle.socket_kinds.specs.declared.door.Listener.{Listener}
 use Rattle.socket_kinds.specs.declared.door.Listener.TheVariants as listeners
 use Rattle.socket_kinds.specs.declared.door.Arrival.{Arrival}
@@ -96,7 +96,7 @@ OnlyBlocked arrivals.Failed = Unit {0}
 
 -- a connection comes at a TCP listener as one that it accepts, with the address that this accepting tells; one of a Unix
 -- socket has no address
-abbrev pub CameAt : {T : Type 0} → (T → Result (TcpStream × SocketAddr) Error → Type 0) → Listener T → Stream → Option SocketAddr → Type 0
+abbrev pub CameAt : {T : Type 0} → (T → Result (TcpStream × SocketAddr) Error → Type 0) → Listener T → SocketStream → Option SocketAddr → Type 0
 CameAt comes (listeners.Tcp listener) stream from = (accepted : TcpStream) × (addr : SocketAddr) × comes listener (Ok (accepted, addr)) × (stream ≡ streams.Tcp accepted) × (from ≡ Some addr)
 CameAt comes (listeners.Unix listener) stream from = from ≡ None
 CameAt comes (listeners.Udp enrolled) stream from = ⊥

@@ -12,7 +12,7 @@ use Rattle.socket_kinds.specs.declared.door.Listener.{Listener}
 use Rattle.socket_kinds.specs.declared.door.Listener.TheVariants as listeners
 use Rattle.socket_kinds.specs.Streams.{StreamState}
 use Rattle.socket_kinds.specs.declared.enrolled.EnrolledUdp.{EnrolledUdp}
-use Rattle.socket_kinds.specs.declared.stream.Stream.{Stream}
+use Rattle.socket_kinds.specs.declared.stream.SocketStream.{SocketStream}
 use Rattle.relay_model.specs.declared.acts.Peer.{Peer}
 use Rattle.relay_model.specs.declared.acts.Peer.TheVariants as peers
 use Rattle.socket_kinds.specs.Peers.{IsPeer}
@@ -23,7 +23,7 @@ use Rattle.socket_kinds.specs.declared.any_socket.AnySocket.TheVariants as socke
 
 -- the sockets that go over the system's own, whose TCP doors listen at this
 abbrev pub SocketAt : Type 0 → Type 0
-SocketAt T = AnySocket (StreamState Stream) (DatagramState EnrolledUdp) (DoorState T)
+SocketAt T = AnySocket (StreamState SocketStream) (DatagramState EnrolledUdp) (DoorState T)
 
 -- all of them the system's own
 abbrev pub SystemSocket : Type 0

@@ -8,9 +8,9 @@ ghost use Rattle.socket_kinds.specs.Kinds.{is_door, is_unix_door, has_left_off, 
 
 use crate::any_socket::AnySocket;
 use crate::datagram::DatagramSocket;
-use crate::door::{Accepts, Arrival, Door, Listener};
+use crate::door::{Accepts, Arrival, Listener, SocketDoor};
 use crate::peers::peer_of;
-use crate::stream::{Stream, StreamSocket};
+use crate::stream::{SocketStream, StreamSocket};
 use mio::Registry;
 use port_trait::{MadePeer, Making};
 use relay_model::Peer;
@@ -20,9 +20,9 @@ use std::net::{SocketAddr, UdpSocket};
 use std::sync::Arc;
 
 /// The sockets whose TCP doors listen at this.
-pub type SocketAt<T> = AnySocket<StreamSocket, DatagramSocket, Door<T>>;
+pub type SocketAt<T> = AnySocket<StreamSocket, DatagramSocket, SocketDoor<T>>;
 
-impl<T: Accepts> AnySocket<StreamSocket, DatagramSocket, Door<T>> {
+impl<T: Accepts> AnySocket<StreamSocket, DatagramSocket, SocketDoor<T>> {
     /// Accepts a peer, whose socket the registry reports under `key`. It answers `NoPeer` where none waits, and where 64
     /// connections in a row were aborted before they were accepted or no descriptor is free; `Failed` where this is no
     /// door, and where the system refuses. At a door of datagrams the first one is the peer's, and stays to be read.
@@ -49,7 +49,7 @@ impl<T: Accepts> AnySocket<StreamSocket, DatagramSocket, Door<T>> {
 fn accept_at<T: Accepts>(
     alloc: Global,
     registry: &Arc<Registry, Global>,
-    door: &mut Door<T>,
+    door: &mut SocketDoor<T>,
     key: usize,
 ) -> MadePeer<SocketAt<T>>
     ensures sort { OnPeer (λ socket. is_door socket ≡ false) result }
@@ -75,7 +75,7 @@ fn accept_at<T: Accepts>(
 #[tactic(auto, using(crate::proofs::Arrivals::comes_to))]
 fn accept_connected<T: Accepts>(
     registry: &Registry,
-    door: &mut Door<T>,
+    door: &mut SocketDoor<T>,
     key: usize,
 ) -> MadePeer<SocketAt<T>>
     ensures sort { OnPeer (λ socket. is_door socket ≡ false) result }
@@ -97,7 +97,7 @@ fn accept_connected<T: Accepts>(
 /// The socket of a connection that was accepted, whose peer has this address.
 fn stand<T: Drop>(
     registry: &Registry,
-    mut stream: Stream,
+    mut stream: SocketStream,
     from: Option<SocketAddr>,
     nodelay: bool,
     key: usize,
@@ -115,7 +115,7 @@ fn stand<T: Drop>(
     }
     let peer = told_peer(from);
     MadePeer::Came(
-        AnySocket::Stream(StreamSocket::connected(stream, from)),
+        AnySocket::Stream(StreamSocket::new_connected(stream, from)),
         peer,
     )
 }

@@ -20,18 +20,13 @@ impl Connection {
         ensures { result ≡ connection_of kept.now has_peer }
     {
         match kept {
-            Ok(None) => {
-                if has_peer {
-                    Connection::Standing
-                } else {
-                    Connection::UnderWay
-                }
-            }
+            Ok(None) if has_peer => Connection::Standing,
+            Ok(None) => Connection::UnderWay,
             Ok(Some(_)) | Err(_) => Connection::Broken,
         }
     }
 
-    pub(crate) fn settled(self) -> Settled
+    pub(crate) fn settle_answer(self) -> Settled
         ensures { result ≡ settling_of self }
     {
         match self {
@@ -43,36 +38,26 @@ impl Connection {
 }
 
 /// What a read of a stream came to (recv(2)).
-pub fn received(read: &io::Result<usize>) -> Got
+pub fn receive_answer(read: &io::Result<usize>) -> Got
     ensures { IsReceived read.now result }
 {
     match read {
         Ok(0) => Got::End,
         Ok(count) => Got::Bytes(*count),
-        Err(error) => {
-            if error.kind() == ErrorKind::WouldBlock {
-                Got::NotYet
-            } else {
-                Got::Failed
-            }
-        }
+        Err(error) if error.kind() == ErrorKind::WouldBlock => Got::NotYet,
+        Err(_) => Got::Failed,
     }
 }
 
 /// What a write came to (send(2)).
-pub fn accepted(written: &io::Result<usize>) -> Took
+pub fn send_answer(written: &io::Result<usize>) -> Took
     ensures { IsAccepted written.now result }
 {
     match written {
         Ok(0) => Took::Failed,
         Ok(count) => Took::Took(*count),
-        Err(error) => {
-            if error.kind() == ErrorKind::WouldBlock {
-                Took::NotYet
-            } else {
-                Took::Failed
-            }
-        }
+        Err(error) if error.kind() == ErrorKind::WouldBlock => Took::NotYet,
+        Err(_) => Took::Failed,
     }
 }
 
@@ -82,12 +67,7 @@ pub(crate) fn shut_down(done: &io::Result<()>) -> Shutting
 {
     match done {
         Ok(()) => Shutting::Done,
-        Err(error) => {
-            if error.kind() == ErrorKind::NotConnected {
-                Shutting::Done
-            } else {
-                Shutting::Failed
-            }
-        }
+        Err(error) if error.kind() == ErrorKind::NotConnected => Shutting::Done,
+        Err(_) => Shutting::Failed,
     }
 }

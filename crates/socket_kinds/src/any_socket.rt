@@ -2,7 +2,7 @@
 ghost use Rattle.socket_kinds.specs.Kinds.{SameSort, told_by};
 
 use crate::datagram::DatagramSocket;
-use crate::door::Door;
+use crate::door::SocketDoor;
 use crate::socket::Socket;
 use crate::stream::StreamSocket;
 use port_trait::{Got, Hint, Settled, Shutting, Took};
@@ -10,7 +10,7 @@ use relay_model::Shut;
 
 /// A connection, a partner of datagrams or a door. Over any sockets of these sorts it tells what they tell.
 #[derive(Drop)]
-pub enum AnySocket<S = StreamSocket, D = DatagramSocket, L = Door> {
+pub enum AnySocket<S = StreamSocket, D = DatagramSocket, L = SocketDoor> {
     Stream(S),
     Datagrams(D),
     Door(L),

@@ -10,12 +10,12 @@ ghost use Rattle.port_trait.specs.declared.answers.Got.TheVariants as reads;
 ghost use Rattle.port_trait.specs.declared.answers.Shutting.TheVariants as shuts;
 ghost use Rattle.relay_model.specs.declared.acts.Shut.TheVariants as ways;
 ghost use Rattle.socket_kinds.specs.Datagrams.{IsGiven, IsUnread, Asks, AsksPast, ReadsNext, ReceivesFrom, Sends, IsSentWhole, IsSentEmpty, held_after, datagram_hint, gives_none};
-ghost use Rattle.socket_kinds.specs.declared.packet.Fetched.TheVariants as fetches;
+ghost use Rattle.socket_kinds.specs.declared.packet.FetchedPacket.TheVariants as fetches;
 ghost use Rattle.socket_kinds.specs.declared.packet.Partner.TheVariants as partners;
 
-use crate::answering::accepted;
+use crate::answering::send_answer;
 use crate::enrolled::{EnrolledUdp, PacketWire};
-use crate::packet::{Fetched, Packet, Partner};
+use crate::packet::{FetchedPacket, Packet, Partner};
 use crate::socket::Socket;
 use mio::{Interest, Registry};
 use port_trait::{Got, Hint, Making, Settled, Shutting, Took};
@@ -153,27 +153,27 @@ impl<U: PacketWire> DatagramSocket<U> {
     }
 
     /// Asks the system once. What comes of the partner is held.
-    fn fetch_one(&mut self) -> Fetched
+    fn fetch_one(&mut self) -> FetchedPacket
         ensures asked { Asks U.receives U.receives_from self.old.partner self.old.wire self.new.wire self.new.packet result }
         ensures held { self.new.rest ≡ held_after result self.new.packet }
         ensures same { (self.new.partner ≡ self.old.partner) × (self.new.cut_short ≡ self.old.cut_short)
             × (self.new.single ≡ self.old.single) }
     {
         let fetched = self.packet.fetch(&mut self.wire, self.partner);
-        self.waiting = fetched == Fetched::Datagram;
+        self.waiting = fetched == FetchedPacket::Datagram;
         fetched
     }
 
     /// Asks until a datagram of the partner comes or none does, and drops those of others, at most 64 of them.
     #[tactic(auto, using(crate::proofs::Packets::drops_none, crate::proofs::Packets::drops_one, crate::proofs::Packets::asks_past))]
-    fn fetch_past_others(&mut self) -> Fetched
+    fn fetch_past_others(&mut self) -> FetchedPacket
         ensures asked { AsksPast U.receives U.receives_from self.old.partner self.old.wire self.new.wire self.new.packet result }
         ensures held { self.new.rest ≡ held_after result self.new.packet }
         ensures same { (self.new.partner ≡ self.old.partner) × (self.new.single ≡ self.old.single) }
     {
         for _ in 0..MOST_DROPPED - 1 {
             let fetched = self.fetch_one();
-            if fetched != Fetched::Others {
+            if fetched != FetchedPacket::Others {
                 return fetched;
             }
         }
@@ -181,7 +181,7 @@ impl<U: PacketWire> DatagramSocket<U> {
     }
 
     /// Asks for a datagram of the partner. Where it leaves off among those of others, it is to look again.
-    fn fetch(&mut self) -> Fetched
+    fn fetch(&mut self) -> FetchedPacket
         ensures asked { AsksPast U.receives U.receives_from self.old.partner self.old.wire self.new.wire self.new.packet result }
         ensures held { self.new.rest ≡ held_after result self.new.packet }
         ensures same { (self.new.partner ≡ self.old.partner) × (self.new.single ≡ self.old.single) }
@@ -189,7 +189,7 @@ impl<U: PacketWire> DatagramSocket<U> {
         ensures looks_again { result ≡ fetches.Others → IsTrue self.new.cut_short }
     {
         let fetched = self.fetch_past_others();
-        self.cut_short = fetched == Fetched::Others;
+        self.cut_short = fetched == FetchedPacket::Others;
         fetched
     }
 
@@ -259,9 +259,9 @@ impl<U: PacketWire> Socket for DatagramSocket<U> {
             return Got::End;
         }
         match self.fetch() {
-            Fetched::Datagram => self.give(into),
-            Fetched::Others | Fetched::NotYet => Got::NotYet,
-            Fetched::Failed => Got::Failed,
+            FetchedPacket::Datagram => self.give(into),
+            FetchedPacket::Others | FetchedPacket::NotYet => Got::NotYet,
+            FetchedPacket::Failed => Got::Failed,
         }
     }
 
@@ -274,7 +274,7 @@ impl<U: PacketWire> Socket for DatagramSocket<U> {
         ensures accepts { Accepts None None bytes.now result }
         ensures kept { self.new ≡ record self.old { wire = self.new.wire } }
     {
-        accepted(&self.send(&bytes[..bytes.len().min(usize::from(LONGEST_PACKET))]))
+        send_answer(&self.send(&bytes[..bytes.len().min(usize::from(LONGEST_PACKET))]))
     }
 
     /// Sends the bytes as one datagram to the partner.
@@ -285,16 +285,9 @@ impl<U: PacketWire> Socket for DatagramSocket<U> {
         ensures accepts { AcceptsWhole None None bytes.now result }
         ensures kept { self.new ≡ record self.old { wire = self.new.wire } }
     {
-        match accepted(&self.send(bytes)) {
-            Took::Took(count) => {
-                if count == bytes.len() {
-                    Took::Took(count)
-                } else {
-                    Took::Failed
-                }
-            }
-            Took::NotYet => Took::NotYet,
-            Took::Failed => Took::Failed,
+        match send_answer(&self.send(bytes)) {
+            Took::Took(count) if count != bytes.len() => Took::Failed,
+            took => took,
         }
     }
 

@@ -13,7 +13,7 @@ ghost use Rattle.socket_kinds.specs.Doors.{door_hint, has_left, is_unix, Arrives
 
 use crate::enrolled::EnrolledUdp;
 use crate::socket::Socket;
-use crate::stream::Stream;
+use crate::stream::SocketStream;
 use mio::net::{TcpListener, TcpStream, UnixListener};
 use port_trait::{Got, Hint, Settled, Shutting, Took};
 use relay_model::Shut;
@@ -39,7 +39,7 @@ pub enum Listener<T = TcpListener> {
 #[derive(Drop)]
 pub(crate) enum Arrival {
     /// A connection, with the address of its peer where that has one.
-    Came(Stream, Option<SocketAddr>),
+    Came(SocketStream, Option<SocketAddr>),
     /// The connection was aborted before it was accepted.
     Aborted,
     /// It has to wait until a descriptor is free.
@@ -61,8 +61,8 @@ impl<T: Accepts> Listener<T> {
         match self {
             Listener::Tcp(listener) => accept_connection(listener),
             Listener::Unix(listener) => match listener.accept() {
-                Ok((stream, _)) => Arrival::Came(Stream::Unix(stream), None),
-                Err(error) => declined(error),
+                Ok((stream, _)) => Arrival::Came(SocketStream::Unix(stream), None),
+                Err(error) => failed_arrival(error),
             },
             Listener::Udp(_) | Listener::Packets(_) => Arrival::Failed,
         }
@@ -91,18 +91,18 @@ fn accept_connection<L: Accepts>(listener: &L) -> Arrival
     ensures blocked { OnlyBlocked result }
     ensures addressed { ComesAddressed result }
 {
-    arrived(listener.accept_next())
+    arrival_of(listener.accept_next())
 }
 
 /// What an accepting at a TCP door came to.
-fn arrived(accepted: io::Result<(TcpStream, SocketAddr)>) -> Arrival
+fn arrival_of(accepted: io::Result<(TcpStream, SocketAddr)>) -> Arrival
     ensures came { Comes accepted result }
     ensures blocked { OnlyBlocked result }
     ensures addressed { ComesAddressed result }
 {
     match accepted {
-        Ok((stream, addr)) => Arrival::Came(Stream::Tcp(stream), Some(addr)),
-        Err(error) => declined(error),
+        Ok((stream, addr)) => Arrival::Came(SocketStream::Tcp(stream), Some(addr)),
+        Err(error) => failed_arrival(error),
     }
 }
 
@@ -112,7 +112,7 @@ pub(crate) fn is_starved(error: &Error) -> bool {
 }
 
 /// Why the system gave no connection (accept(2), `EAGAIN` and `ECONNABORTED`).
-fn declined(error: Error) -> Arrival
+fn failed_arrival(error: Error) -> Arrival
     ensures kind { IsDeclined error result }
     ensures blocked { OnlyBlocked result }
     ensures nobody { ComesAddressed result }
@@ -131,7 +131,7 @@ fn declined(error: Error) -> Arrival
 
 /// A socket that listens. It neither gives nor takes bytes.
 #[derive(Drop)]
-pub struct Door<T = TcpListener> {
+pub struct SocketDoor<T = TcpListener> {
     pub(crate) listener: Listener<T>,
     pub(crate) nodelay: bool,
     // whether the last accepting left off with connections that may wait, and whether it did so for want of descriptors
@@ -139,7 +139,7 @@ pub struct Door<T = TcpListener> {
     pub(crate) starved: bool,
 }
 
-impl<T> Model for Door<T> {
+impl<T> Model for SocketDoor<T> {
     ghost use Rattle.socket_kinds.specs.Doors.{DoorState};
 
     ghost Value = { DoorState T };
@@ -147,12 +147,12 @@ impl<T> Model for Door<T> {
     ghost view = { λ door. record { cut_short = door.cut_short; listener = door.listener } };
 }
 
-impl<T> Door<T> {
+impl<T> SocketDoor<T> {
     /// The door of this listener. With `nodelay` the TCP connections that it accepts don't wait to fill a segment.
-    pub fn new(listener: Listener<T>, nodelay: bool) -> Door<T>
+    pub fn new(listener: Listener<T>, nodelay: bool) -> SocketDoor<T>
         ensures { result ≡ record { cut_short = false; listener = listener } }
     {
-        Door {
+        SocketDoor {
             listener,
             nodelay,
             cut_short: false,
@@ -170,7 +170,7 @@ impl<T> Door<T> {
     }
 }
 
-impl<T: Accepts> Door<T> {
+impl<T: Accepts> SocketDoor<T> {
     /// Accepts a connection, and passes over those that were aborted. After 64 of these it leaves off, and hints
     /// that there may be more; so it does where no descriptor is free.
     pub(crate) fn accept_stream(&mut self) -> Arrival
@@ -198,7 +198,7 @@ impl<T: Accepts> Door<T> {
     }
 }
 
-impl Door {
+impl SocketDoor {
     /// The port at which it listens, as the system chose it. `None` where it has none.
     pub fn local_port(&self) -> Option<u16> {
         let addr = match &self.listener {
@@ -213,7 +213,7 @@ impl Door {
     }
 }
 
-impl<T: Drop> Socket for Door<T> {
+impl<T: Drop> Socket for SocketDoor<T> {
     ghost hints = { door_hint };
 
     fn settle(&mut self) -> Settled

@@ -13,11 +13,11 @@ mod socket;
 mod stream;
 
 pub use accepting::SocketAt;
-pub use answering::{accepted, received};
+pub use answering::{receive_answer, send_answer};
 pub use any_socket::AnySocket;
 pub use datagram::DatagramSocket;
-pub use door::{Accepts, Door, Listener};
+pub use door::{Accepts, Listener, SocketDoor};
 pub use enrolled::{EnrolledUdp, PacketWire};
 pub use peers::{address_of, peer_of};
 pub use socket::Socket;
-pub use stream::{Stream, StreamSocket, Wire};
+pub use stream::{SocketStream, StreamSocket, Wire};

@@ -27,7 +27,7 @@ pub(crate) enum Partner {
 
 /// What asking the system for a datagram came to.
 #[derive(Clone, Copy, PartialEq)]
-pub(crate) enum Fetched {
+pub(crate) enum FetchedPacket {
     Datagram,
     /// One of another sender.
     Others,
@@ -91,19 +91,19 @@ impl Packet {
     }
 
     /// Takes the next datagram, and asks whether it is the partner's.
-    pub(crate) fn fetch<U: PacketWire>(&mut self, wire: &mut U, partner: Partner) -> Fetched
+    pub(crate) fn fetch<U: PacketWire>(&mut self, wire: &mut U, partner: Partner) -> FetchedPacket
         ensures { Asks U.receives U.receives_from partner wire.old wire.new self.new result }
     {
         let sender = match partner {
             Partner::Connected => match self.receive(wire) {
-                Ok(()) => return Fetched::Datagram,
-                Err(error) => return refused(&error),
+                Ok(()) => return FetchedPacket::Datagram,
+                Err(error) => return failed_fetch(&error),
             },
             Partner::At(_) | Partner::Anyone => self.receive_from(wire),
         };
         match sender {
             Ok(sender) => sent_by(sender, partner),
-            Err(error) => refused(&error),
+            Err(error) => failed_fetch(&error),
         }
     }
 
@@ -121,22 +121,22 @@ impl Packet {
 }
 
 /// Whose the datagram is that came.
-fn sent_by(sender: SocketAddr, partner: Partner) -> Fetched
+fn sent_by(sender: SocketAddr, partner: Partner) -> FetchedPacket
     ensures { IsSentBy partner sender result }
 {
     match partner {
-        Partner::At(partner) if sender != partner => Fetched::Others,
-        Partner::At(_) | Partner::Anyone | Partner::Connected => Fetched::Datagram,
+        Partner::At(partner) if sender != partner => FetchedPacket::Others,
+        Partner::At(_) | Partner::Anyone | Partner::Connected => FetchedPacket::Datagram,
     }
 }
 
 /// Why the system gave no datagram.
-fn refused(error: &Error) -> Fetched
+fn failed_fetch(error: &Error) -> FetchedPacket
     ensures { IsRefused error.now result }
 {
     if error.kind() == ErrorKind::WouldBlock {
-        Fetched::NotYet
+        FetchedPacket::NotYet
     } else {
-        Fetched::Failed
+        FetchedPacket::Failed
     }
 }

@@ -14,7 +14,7 @@ ghost use Rattle.port_trait.specs.Streams.{finishes};
 ghost use Rattle.socket_kinds.specs.Answering.{Answers, ReaderGave, WriterTook, IsReceived, IsAccepted, IsShutDown, connection_of, settling_of};
 ghost use Rattle.socket_kinds.specs.declared.answering.Connection.TheVariants as connections;
 
-use crate::answering::{Connection, accepted, received, shut_down};
+use crate::answering::{Connection, receive_answer, send_answer, shut_down};
 use crate::socket::Socket;
 use mio::net::{TcpStream, UnixStream};
 use mio::{Interest, Registry, Token};
@@ -28,7 +28,7 @@ use std::snapshot::Snapshot;
 
 /// A stream of one of the two families.
 #[derive(Drop)]
-pub enum Stream {
+pub enum SocketStream {
     Tcp(TcpStream),
     Unix(UnixStream),
 }
@@ -73,32 +73,32 @@ pub trait Wire: Read + Write + Drop {
         ensures { knows_peer self.now result };
 }
 
-impl Read for Stream {
+impl Read for SocketStream {
     fn read(&mut self, into: &mut [u8]) -> io::Result<usize> {
         match self {
-            Stream::Tcp(stream) => stream.read(into),
-            Stream::Unix(stream) => stream.read(into),
+            SocketStream::Tcp(stream) => stream.read(into),
+            SocketStream::Unix(stream) => stream.read(into),
         }
     }
 }
 
-impl Write for Stream {
+impl Write for SocketStream {
     fn write(&mut self, bytes: &[u8]) -> io::Result<usize> {
         match self {
-            Stream::Tcp(stream) => stream.write(bytes),
-            Stream::Unix(stream) => stream.write(bytes),
+            SocketStream::Tcp(stream) => stream.write(bytes),
+            SocketStream::Unix(stream) => stream.write(bytes),
         }
     }
 
     fn flush(&mut self) -> io::Result<()> {
         match self {
-            Stream::Tcp(stream) => stream.flush(),
-            Stream::Unix(stream) => stream.flush(),
+            SocketStream::Tcp(stream) => stream.flush(),
+            SocketStream::Unix(stream) => stream.flush(),
         }
     }
 }
 
-impl Wire for Stream {
+impl Wire for SocketStream {
     fn receive(&mut self, into: &mut [u8]) -> io::Result<usize> {
         self.read(into)
     }
@@ -109,30 +109,30 @@ impl Wire for Stream {
 
     fn shut(&mut self, half: Shutdown) -> io::Result<()> {
         match self {
-            Stream::Tcp(stream) => stream.shutdown(half),
-            Stream::Unix(stream) => stream.shutdown(half),
+            SocketStream::Tcp(stream) => stream.shutdown(half),
+            SocketStream::Unix(stream) => stream.shutdown(half),
         }
     }
 
     fn kept_error(&self) -> io::Result<Option<Error>> {
         match self {
-            Stream::Tcp(stream) => stream.take_error(),
-            Stream::Unix(stream) => stream.take_error(),
+            SocketStream::Tcp(stream) => stream.take_error(),
+            SocketStream::Unix(stream) => stream.take_error(),
         }
     }
 
     fn has_peer(&self) -> bool {
         match self {
-            Stream::Tcp(stream) => stream.peer_addr().is_ok(),
-            Stream::Unix(stream) => stream.peer_addr().is_ok(),
+            SocketStream::Tcp(stream) => stream.peer_addr().is_ok(),
+            SocketStream::Unix(stream) => stream.peer_addr().is_ok(),
         }
     }
 }
 
-impl Stream {
+impl SocketStream {
     /// Small segments aren't held back (socat(1), `nodelay`). Where the system refuses it, the bytes go all the same.
     pub fn dont_delay(&self) {
-        if let Stream::Tcp(stream) = self {
+        if let SocketStream::Tcp(stream) = self {
             let _ = stream.set_nodelay(true);
         }
     }
@@ -141,15 +141,15 @@ impl Stream {
     pub fn enroll(&mut self, registry: &Registry, key: usize) -> bool {
         let both = Interest::READABLE | Interest::WRITABLE;
         match self {
-            Stream::Tcp(stream) => registry.register(stream, Token(key), both).is_ok(),
-            Stream::Unix(stream) => registry.register(stream, Token(key), both).is_ok(),
+            SocketStream::Tcp(stream) => registry.register(stream, Token(key), both).is_ok(),
+            SocketStream::Unix(stream) => registry.register(stream, Token(key), both).is_ok(),
         }
     }
 }
 
 /// A connection, which may be under way.
 #[derive(Drop)]
-pub struct StreamSocket<S = Stream> {
+pub struct StreamSocket<S = SocketStream> {
     stream: S,
     connection: Connection,
     from: Snapshot<Option<SocketAddr>>,
@@ -165,7 +165,7 @@ impl<S> Model for StreamSocket<S> {
 
 impl<S> StreamSocket<S> {
     /// One that was begun to connect.
-    pub fn connecting(stream: S) -> StreamSocket<S>
+    pub fn new_connecting(stream: S) -> StreamSocket<S>
         ensures { result ≡ record { stream = stream; connection = connections.UnderWay; from = None } }
     {
         StreamSocket {
@@ -176,7 +176,7 @@ impl<S> StreamSocket<S> {
     }
 
     /// One that stands, with its peer's address where an accepting told that.
-    pub fn connected(stream: S, from: Option<SocketAddr>) -> StreamSocket<S>
+    pub fn new_connected(stream: S, from: Option<SocketAddr>) -> StreamSocket<S>
         ensures { result ≡ record { stream = stream; connection = connections.Standing; from = from } }
     {
         StreamSocket {
@@ -200,7 +200,7 @@ impl<S: Wire> Socket for StreamSocket<S> {
         if self.connection == Connection::UnderWay {
             self.connection = Connection::of(&self.stream.kept_error(), self.stream.has_peer());
         }
-        self.connection.settled()
+        self.connection.settle_answer()
     }
 
     /// One read, and its answer.
@@ -212,7 +212,7 @@ impl<S: Wire> Socket for StreamSocket<S> {
         ensures stream { result ≢ reads.Empty }
         ensures kept { (self.new.connection ≡ self.old.connection) × (self.new.from ≡ self.old.from) }
     {
-        received(&self.stream.receive(into))
+        receive_answer(&self.stream.receive(into))
     }
 
     /// One write, and its answer.
@@ -223,7 +223,7 @@ impl<S: Wire> Socket for StreamSocket<S> {
         ensures accepts { Accepts None None bytes.now result }
         ensures kept { (self.new.connection ≡ self.old.connection) × (self.new.from ≡ self.old.from) }
     {
-        accepted(&self.stream.transmit(bytes))
+        send_answer(&self.stream.transmit(bytes))
     }
 
     /// A stream has no packets.

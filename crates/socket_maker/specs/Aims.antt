@@ -10,8 +10,8 @@ use Rattle.socket_kinds.specs.Kinds.{Sort, Connected, Packets}
 use Rattle.host_lookup.specs.Found.{IsOfFamily}
 use Rattle.host_lookup.specs.Hosts.{WritesIp}
 use Rattle.socket_maker.specs.declared.aims.Aim.{Aim}
-use Rattle.socket_maker.specs.declared.aims.Way.{Way}
-use Rattle.socket_maker.specs.declared.aims.Way.TheVariants as ways
+use Rattle.socket_maker.specs.declared.aims.SocketWay.{SocketWay}
+use Rattle.socket_maker.specs.declared.aims.SocketWay.TheVariants as ways
 
 -- what is opened for an address with a host
 abbrev pub aim_of : Target → SocketOptions → Option Aim
@@ -32,7 +32,7 @@ abbrev pub server_aim : ℕ → SocketOptions → Aim
 server_aim port options = record { way = ways.Connection; family = families.Any; port = port; options = options }
 
 -- the sort of the socket
-abbrev pub way_sort : Way → Sort
+abbrev pub way_sort : SocketWay → Sort
 way_sort ways.Connection = Connected
 way_sort ways.Partner = Packets
 way_sort ways.Sending = Packets

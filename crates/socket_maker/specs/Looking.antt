@@ -1,6 +1,6 @@
 -- What contracts see of a socket that waits for the lookup of its host.
 use Rattle.std.specs.Prelude.{ℕ, Bool, List, Option}
-use Rattle.port_trait.specs.declared.counts.Counts.{Counts}
+use Rattle.port_trait.specs.declared.counts.PortCounts.{PortCounts}
 use Rattle.socket_maker.specs.declared.aims.Aim.{Aim}
 
 -- what is to be opened, the name that is looked up until that has come to its end, what was counted, and whether a begin
@@ -8,5 +8,5 @@ use Rattle.socket_maker.specs.declared.aims.Aim.{Aim}
 pub record LookingState : Type 0 where
   pub aim : Aim
   pub name : Option (List ℕ)
-  pub counts : Counts
+  pub counts : PortCounts
   pub begun : Bool

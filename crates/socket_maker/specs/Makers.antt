@@ -5,13 +5,13 @@ use Rattle.port_trait.specs.Counted.{risen}
 use Rattle.port_trait.specs.Makers.{MakerSeen}
 
 -- its counts, and the peer that it accepted last
-pub record MakerState : Type 0 where
+pub record SocketMakerState : Type 0 where
   pub faults : ℕ
   pub stalls : ℕ
   pub came : Option Peer
 
 -- what is seen of it as of any maker; what it was asked for it doesn't tell
-abbrev pub seen_of : MakerState → MakerSeen
+abbrev pub seen_of : SocketMakerState → MakerSeen
 seen_of maker = record { faults = maker.faults; stalls = maker.stalls; came = maker.came; asked = None }
 
 -- one more where this has happened

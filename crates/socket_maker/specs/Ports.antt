@@ -2,13 +2,13 @@
 use Rattle.std.specs.Prelude.{◌≡◌, ◌≢◌, ℕ, Bool, true, false, List, Option, None, Some, IsSomeAnd}
 use Rattle.port_trait.specs.Hinting.{all_hints}
 use Rattle.port_trait.specs.declared.answers.Hint.{Hint}
-use Rattle.port_trait.specs.declared.counts.Counts.{Counts}
+use Rattle.port_trait.specs.declared.counts.PortCounts.{PortCounts}
 use Rattle.port_trait.specs.declared.makers.Making.{Making}
 use Rattle.port_trait.specs.declared.makers.Making.TheVariants as makings
 use Rattle.relay_model.specs.declared.acts.Peer.{Peer}
 use Rattle.socket_kinds.specs.Kinds.{Sort, HasPartner, hint_of, is_door, is_unix_door, has_left_off, sort_of, SystemSocket}
-use Rattle.socket_ports.specs.Accepting.{IsFresh}
-use Rattle.socket_ports.specs.Sockets.{PortState, no_counts}
+use Rattle.socket_ports.specs.Accepting.{IsFreshPort as IsFreshSocket}
+use Rattle.socket_ports.specs.Sockets.{SocketPortState, no_counts}
 use Rattle.host_lookup.specs.Hosts.{IsNameOf}
 use Rattle.socket_maker.specs.Aims.{way_sort}
 use Rattle.socket_maker.specs.Looking.{LookingState}
@@ -17,12 +17,12 @@ use Rattle.socket_maker.specs.declared.port.HostPort.{HostPort}
 use Rattle.socket_maker.specs.declared.port.HostPort.TheVariants as ports
 
 -- what the port that it is tells
-abbrev pub of_port : {T : Type 0} → (LookingState → T) → (PortState SystemSocket → T) → HostPort → T
+abbrev pub of_port : {T : Type 0} → (LookingState → T) → (SocketPortState SystemSocket → T) → HostPort → T
 of_port looking socket (ports.Looking port) = looking port
 of_port looking socket (ports.Socket port) = socket port
 
 -- what was counted, whether a begin came, and whether the last read answered the end
-abbrev pub counts_at : HostPort → Counts
+abbrev pub counts_at : HostPort → PortCounts
 counts_at port = of_port (λ looking. looking.counts) (λ socket. socket.counts) port
 
 -- whether a begin came
@@ -69,7 +69,7 @@ may_hint_at port = of_port (λ looking. all_hints) (λ socket. hint_of socket.so
 -- nothing was asked of it yet
 abbrev pub IsFreshPort : HostPort → Type 0
 IsFreshPort (ports.Looking port) = (port.counts ≡ no_counts) × (port.begun ≡ false)
-IsFreshPort (ports.Socket port) = IsFresh port
+IsFreshPort (ports.Socket port) = IsFreshSocket port
 
 -- what a socket is opened for: one whose host is still looked up, which is a name, opens nothing else later, and it is this
 -- name that is looked up

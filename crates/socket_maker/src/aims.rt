@@ -8,7 +8,7 @@ use relay_model::{Family, Single, SocketOptions, Target, Text};
 /// The socket that is opened: a connection by TCP, a partner of UDP that is connected to, or one of UDP that is sent to
 /// (socat(1), `TCP`, `UDP` and `UDP-SENDTO`).
 #[derive(Clone, Copy, Debug, PartialEq)]
-pub enum Way {
+pub enum SocketWay {
     Connection,
     Partner,
     Sending,
@@ -17,7 +17,7 @@ pub enum Way {
 /// Which socket is opened, to which port, by which of the host's addresses, and how it is set up.
 #[derive(Clone, Copy, Debug, PartialEq)]
 pub struct Aim {
-    pub way: Way,
+    pub way: SocketWay,
     pub family: Family,
     pub port: u16,
     pub options: SocketOptions,
@@ -31,9 +31,9 @@ pub(crate) fn aim_at(single: &Single) -> Option<(Aim, &Text)>
     ensures none { IfNone result (aim_of single.now.target single.now.options.socket ≡ None) }
 {
     let (way, family, host, port) = match &single.target {
-        Target::Tcp { family, host, port } => (Way::Connection, *family, host, *port),
-        Target::Udp { family, host, port } => (Way::Partner, *family, host, *port),
-        Target::UdpSendto { family, host, port } => (Way::Sending, *family, host, *port),
+        Target::Tcp { family, host, port } => (SocketWay::Connection, *family, host, *port),
+        Target::Udp { family, host, port } => (SocketWay::Partner, *family, host, *port),
+        Target::UdpSendto { family, host, port } => (SocketWay::Sending, *family, host, *port),
         _ => return None,
     };
     let options = single.options.socket;

@@ -16,7 +16,7 @@ use mio::net::{UnixListener, UnixStream};
 use mio::{Interest, Registry, Token};
 use port_trait::Making;
 use relay_model::{EntryOptions, Text};
-use socket_kinds::{AnySocket, Door, Listener, Stream, StreamSocket};
+use socket_kinds::{AnySocket, Listener, SocketDoor, SocketStream, StreamSocket};
 use socket_ports::{Removal, SocketPort};
 use std::alloc::Global;
 use std::fs::Files;
@@ -54,11 +54,11 @@ where
         return Making::Failed;
     };
     let removal = removal_of(entry, copy);
-    let mut stream = Stream::Unix(stream);
+    let mut stream = SocketStream::Unix(stream);
     if !stream.enroll(registry, key) {
         return Making::Failed;
     }
-    let socket = AnySocket::Stream(StreamSocket::connected(stream, None));
+    let socket = AnySocket::Stream(StreamSocket::new_connected(stream, None));
     Making::Made(with_entry(socket, name, entry, removal))
 }
 
@@ -97,7 +97,7 @@ where
     {
         return Making::Failed;
     }
-    let socket = AnySocket::Door(Door::new(Listener::Unix(listener), false));
+    let socket = AnySocket::Door(SocketDoor::new(Listener::Unix(listener), false));
     Making::Made(with_entry(socket, name, entry, removal))
 }
 

@@ -11,10 +11,10 @@ ghost use Rattle.socket_maker.specs.Aims.{way_sort};
 
 use crate::aims::Aim;
 use crate::reaching::reach;
-use host_lookup::{HostAddresses, Looked, Lookup};
+use host_lookup::{HostAddresses, HostLookup, Looked};
 use mio::Registry;
 use port_trait::{
-    Counts, Got, Hint, Making, Settled, Shutting, Took, count_reading, count_settling,
+    Got, Hint, Making, PortCounts, Settled, Shutting, Took, count_reading, count_settling,
     count_writing,
 };
 use relay_model::Shut;
@@ -33,8 +33,8 @@ pub struct LookingPort {
     key: usize,
     aim: Aim,
     // none once it has come to its end
-    lookup: Option<Lookup>,
-    pub(crate) counts: Counts,
+    lookup: Option<HostLookup>,
+    pub(crate) counts: PortCounts,
     pub(crate) begun: bool,
 }
 
@@ -54,7 +54,7 @@ impl LookingPort {
         registry: Arc<Registry, Global>,
         key: usize,
         aim: Aim,
-        lookup: Lookup,
+        lookup: HostLookup,
     ) -> LookingPort
         ensures { result ≡ record { aim = aim; name = Some lookup; counts = no_counts; begun = false } }
     {
@@ -65,7 +65,7 @@ impl LookingPort {
             key,
             aim,
             lookup: Some(lookup),
-            counts: Counts::new(),
+            counts: PortCounts::new(),
             begun: false,
         }
     }
@@ -79,12 +79,12 @@ impl LookingPort {
         ensures counted { self.new.counts ≡ counted (settle_event result.0) self.old.counts }
         ensures tallied { Tallied (settle_event result.0) self.old.counts self.new.counts }
     {
-        let (settled, socket) = self.reached();
+        let (settled, socket) = self.reach_socket();
         count_settling(&mut self.counts, settled);
         (settled, socket)
     }
 
-    fn reached(&mut self) -> (Settled, Option<AnySocket>)
+    fn reach_socket(&mut self) -> (Settled, Option<AnySocket>)
         ensures kept { self.new ≡ record self.old { name = self.new.name } }
         ensures sort { IfSome result.1 (λ socket. sort_of socket ≡ way_sort self.old.aim.way) }
         ensures stands { result.0 ≡ settles.Ready → result.1 ≡ None → ⊥ }

@@ -1,11 +1,9 @@
 // The maker of sockets, which counts what it answers.
 ghost use Rattle.std.specs.Prelude.{◌≡◌, ◌≢◌, true, false, None, Some, IfSome, is_some};
-ghost use Rattle.port_trait.specs.Counting.{Counted};
-ghost use Rattle.port_trait.specs.Made.{making_failed, making_stalled, IsAtOnce};
+ghost use Rattle.port_trait.specs.Made.{IsAtOnce};
 ghost use Rattle.port_trait.specs.Makers.{Opens, Listens, LetsIn};
 ghost use Rattle.port_trait.specs.declared.makers.Making.TheVariants as makings;
-ghost use Rattle.socket_maker.specs.Makers.{risen_if, seen_of};
-ghost use Rattle.port_trait.specs.Counted.{risen};
+ghost use Rattle.socket_maker.specs.Makers.{seen_of};
 ghost use Rattle.port_trait.specs.declared.makers.MadePeer.TheVariants as peers;
 ghost use Rattle.relay_model.specs.declared.acts.Peer.TheVariants as whose;
 ghost use Rattle.socket_kinds.specs.Kinds.{Listening};
@@ -16,13 +14,14 @@ ghost use Rattle.socket_maker.specs.Makings.{opened_sort};
 ghost use Rattle.socket_maker.specs.Ports.{Aims, HasPartnerAt, IsFreshPort, has_left_off_at, is_door_port, is_unix_door_port, port_sort, sort_at};
 ghost use Rattle.relay_model.specs.Configs.{listens};
 
-use crate::aims::{Aim, Way, aim_at};
+use crate::aims::{Aim, SocketWay, aim_at};
 use crate::looking::LookingPort;
 use crate::making::{listen_socket, nameless, open_socket};
 use crate::port::HostPort;
-use crate::reaching::{reach_written, written_out};
+use crate::reaching::{reach_written, written_address};
+use crate::tally::MakerTally;
 use crate::unlinking::SystemEntries;
-use host_lookup::{Lookup, Lookups, Written, written_host};
+use host_lookup::{HostLookup, Lookups, WrittenHost, written_host};
 use mio::Registry;
 use mio_poller::MioPoller;
 use port_trait::{MadePeer, Maker, Making, Port};
@@ -44,17 +43,15 @@ pub struct SocketMaker<R> {
     alloc: Global,
     registry: Arc<Registry, Global>,
     lookups: Lookups,
-    faults: u64,
-    stalls: u64,
-    came: Option<Peer>,
+    tally: MakerTally,
 }
 
 impl<R> Model for SocketMaker<R> {
-    ghost use Rattle.socket_maker.specs.Makers.{MakerState};
+    ghost use Rattle.socket_maker.specs.Makers.{SocketMakerState};
 
-    ghost Value = { MakerState };
+    ghost Value = { SocketMakerState };
 
-    ghost view = { λ maker. record { faults = maker.faults; stalls = maker.stalls; came = maker.came } };
+    ghost view = { λ maker. record { faults = maker.tally.faults; stalls = maker.tally.stalls; came = maker.tally.came } };
 }
 
 impl<R> SocketMaker<R>
@@ -87,40 +84,9 @@ where
                 alloc,
                 registry,
                 lookups: Lookups::new(system, alloc, wake),
-                faults: 0,
-                stalls: 0,
-                came: None,
+                tally: MakerTally::new(),
             }),
             Err(_) => Making::Memory,
-        }
-    }
-
-    fn count_fault(&mut self)
-        ensures value { self.new ≡ record self.old { faults = risen self.old.faults } }
-        ensures counted { Counted true self.old.faults self.new.faults }
-    {
-        self.faults = self.faults.saturating_add(1);
-    }
-
-    fn count_stall(&mut self)
-        ensures value { self.new ≡ record self.old { stalls = risen self.old.stalls } }
-        ensures counted { Counted true self.old.stalls self.new.stalls }
-    {
-        self.stalls = self.stalls.saturating_add(1);
-    }
-
-    /// Counts a failure, and what is under way.
-    fn count_making<T>(&mut self, making: &Making<T>)
-        ensures faults { self.new.faults ≡ risen_if (making_failed making.now) self.old.faults }
-        ensures stalls { self.new.stalls ≡ risen_if (making_stalled making.now) self.old.stalls }
-        ensures counted_fault { Counted (making_failed making.now) self.old.faults self.new.faults }
-        ensures counted_stall { Counted (making_stalled making.now) self.old.stalls self.new.stalls }
-        ensures came { self.new.came ≡ self.old.came }
-    {
-        match making {
-            Making::Failed => self.count_fault(),
-            Making::Later(_) => self.count_stall(),
-            Making::Made(_) | Making::Memory => {}
         }
     }
 
@@ -137,7 +103,7 @@ where
         ensures aims { OnPort (Aims (server_aim port options) host.now) result }
     {
         let aim = Aim {
-            way: Way::Connection,
+            way: SocketWay::Connection,
             family: Family::Any,
             port,
             options,
@@ -147,7 +113,7 @@ where
 
     /// Begins to look the name up, or takes part in its lookup that is under way, without counting. It answers `Failed` where
     /// no lookup can be begun; never `Later`.
-    pub fn begin_lookup(&mut self, name: &str) -> Making<Lookup>
+    pub fn begin_lookup(&mut self, name: &str) -> Making<HostLookup>
         ensures same { self.new ≡ self.old }
         ensures at_once { IsAtOnce result }
         ensures named { OnPort (λ lookup. lookup ≡ name.now) result }
@@ -165,9 +131,9 @@ where
         ensures sort { IfSome (port_sort result) (λ sort. sort ≡ way_sort aim.way) }
     {
         match written_host(host) {
-            Written::Address(ip) => self.open_written(key, host, ip, &aim),
-            Written::Name(name) => self.look_up(key, host, name, aim),
-            Written::Unnamed => Making::Failed,
+            WrittenHost::Address(ip) => self.open_written(key, host, ip, &aim),
+            WrittenHost::Name(name) => self.look_up(key, host, name, aim),
+            WrittenHost::Unnamed => Making::Failed,
         }
     }
 
@@ -178,7 +144,7 @@ where
         ensures sort { IfSome (port_sort result) (λ sort. sort ≡ way_sort aim.now.way) }
     {
         let (alloc, registry) = (self.alloc, &self.registry);
-        let Some(addr) = written_out(host, ip, aim) else {
+        let Some(addr) = written_address(host, ip, aim) else {
             return Making::Failed;
         };
         nameless(reach_written(&self.rt, alloc, registry, key, host, aim, addr))
@@ -276,7 +242,7 @@ where
         ensures opens { Opens (seen_of self.old) (seen_of self.new) (record { place = _place; single = single.now; behind = _behind }) result }
     {
         let making = self.open(key, single);
-        self.count_making(&making);
+        self.tally.count_making(&making);
         making
     }
 
@@ -288,7 +254,7 @@ where
     {
         let calls = &mut SystemEntries { files: self.rt };
         let making = listen_socket(self.rt, calls, self.alloc, &self.registry, key, single);
-        self.count_making(&making);
+        self.tally.count_making(&making);
         making
     }
 
@@ -302,20 +268,8 @@ where
         ensures lets_in { let at = ⟦<HostPort as Port>⟧.seen in
             LetsIn (seen_of self.old) (seen_of self.new) (at door.old) (at door.new) result }
     {
-        match self.take_peer(door, key) {
-            MadePeer::Came(port, peer) => {
-                self.came = Some(peer);
-                MadePeer::Came(port, peer)
-            }
-            MadePeer::NoPeer => {
-                self.count_stall();
-                MadePeer::NoPeer
-            }
-            MadePeer::Failed => {
-                self.count_fault();
-                MadePeer::Failed
-            }
-            MadePeer::Memory => MadePeer::Memory,
-        }
+        let peer = self.take_peer(door, key);
+        self.tally.count_peer(&peer);
+        peer
     }
 }

@@ -20,7 +20,7 @@ use mio::net::TcpListener;
 use mio::{Interest, Registry, Token};
 use port_trait::Making;
 use relay_model::{Single, Target};
-use socket_kinds::{AnySocket, DatagramSocket, Door, EnrolledUdp, Listener};
+use socket_kinds::{AnySocket, DatagramSocket, EnrolledUdp, Listener, SocketDoor};
 use socket_ports::SocketPort;
 use std::alloc::Global;
 use std::fs::Files;
@@ -194,7 +194,7 @@ fn listen_tcp<R: Net>(
         return Making::Failed;
     }
     let nodelay = single.options.socket.nodelay;
-    Making::Made(AnySocket::Door(Door::new(Listener::Tcp(listener), nodelay)))
+    Making::Made(AnySocket::Door(SocketDoor::new(Listener::Tcp(listener), nodelay)))
 }
 
 fn listen_udp<R: Net>(
@@ -219,7 +219,7 @@ fn listen_udp<R: Net>(
             } else {
                 Listener::Udp(enrolled)
             };
-            Making::Made(AnySocket::Door(Door::new(listener, false)))
+            Making::Made(AnySocket::Door(SocketDoor::new(listener, false)))
         }
         Making::Later(_) | Making::Failed => Making::Failed,
         Making::Memory => Making::Memory,

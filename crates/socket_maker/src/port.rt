@@ -36,7 +36,7 @@ impl HostPort {
         };
         let (settled, socket) = port.advance();
         if let Some(socket) = socket {
-            let standing = SocketPort::going_on(socket, None, port.counts, port.begun);
+            let standing = SocketPort::with_counts(socket, None, port.counts, port.begun);
             *self = HostPort::Socket(standing);
         }
         settled

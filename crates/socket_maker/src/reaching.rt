@@ -9,14 +9,14 @@ ghost use Rattle.socket_maker.specs.Addresses.{IsLocalAddress};
 ghost use Rattle.socket_maker.specs.Aims.{IsReached, IsWrittenOut, way_sort};
 ghost use Rattle.socket_maker.specs.Makings.{socket_sort};
 
-use crate::aims::{Aim, Way};
+use crate::aims::{Aim, SocketWay};
 use crate::local::local_address;
 use crate::making::{bind_udp, datagrams};
 use mio::Registry;
 use mio::net::TcpStream;
 use port_trait::{Making, Settled};
 use relay_model::{Family, Text};
-use socket_kinds::{AnySocket, DatagramSocket, Socket, Stream, StreamSocket};
+use socket_kinds::{AnySocket, DatagramSocket, Socket, SocketStream, StreamSocket};
 use std::alloc::Global;
 use std::net::{IpAddr, Net, SocketAddr, UdpSocket};
 use std::sync::Arc;
@@ -35,9 +35,9 @@ pub(crate) fn reach<R: Net>(
     ensures { IfSome (socket_sort result) (λ sort. sort ≡ way_sort aim.now.way) }
 {
     match aim.way {
-        Way::Connection => connect_tcp(rt, registry, key, aim, addr),
-        Way::Partner => connect_udp(rt, alloc, registry, key, aim, addr),
-        Way::Sending => send_udp(rt, alloc, registry, key, aim, addr),
+        SocketWay::Connection => connect_tcp(rt, registry, key, aim, addr),
+        SocketWay::Partner => connect_udp(rt, alloc, registry, key, aim, addr),
+        SocketWay::Sending => send_udp(rt, alloc, registry, key, aim, addr),
     }
 }
 
@@ -59,7 +59,7 @@ pub(crate) fn reach_written<R: Net>(
 }
 
 /// The address of the host that the text writes, where it is of the aim's family.
-pub(crate) fn written_out(host: &Text, ip: IpAddr, aim: &Aim) -> Option<SocketAddr>
+pub(crate) fn written_address(host: &Text, ip: IpAddr, aim: &Aim) -> Option<SocketAddr>
     requires { WritesIp host.now ip }
     ensures { IfSome result (IsWrittenOut host.now aim.now) }
 {
@@ -95,14 +95,14 @@ fn connect_tcp<R: Net>(
     let Ok(stream) = TcpStream::connect(rt, addr) else {
         return Making::Failed;
     };
-    let mut stream = Stream::Tcp(stream);
+    let mut stream = SocketStream::Tcp(stream);
     if aim.options.nodelay {
         stream.dont_delay();
     }
     if !stream.enroll(registry, key) {
         return Making::Failed;
     }
-    let mut socket = StreamSocket::connecting(stream);
+    let mut socket = StreamSocket::new_connecting(stream);
     match socket.settle() {
         Settled::Ready => Making::Made(AnySocket::Stream(socket)),
         Settled::NotYet => Making::Later(AnySocket::Stream(socket)),

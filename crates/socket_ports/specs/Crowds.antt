@@ -3,7 +3,7 @@ use Rattle.std.specs.Prelude.{◌≡◌, ◌≢◌, ◌⊎◌, Bool, true, false
 use Rattle.relay_model.specs.declared.acts.Peer.TheVariants as peers
 use Rattle.peer_demux.specs.declared.hubs.RowPeer.{RowPeer}
 use Rattle.peer_demux.specs.declared.hubs.RowPeer.TheVariants as rows
-use Rattle.peer_demux.specs.Hubs.{AcceptsRow, HubState, Takes}
+use Rattle.peer_demux.specs.Hubs.{AcceptsRow, HubState, TakesPackets}
 use Rattle.peer_demux.specs.Links.{Packet}
 use Rattle.peer_demux.specs.Tables.{IsTrimmed, TableState}
 
@@ -14,7 +14,7 @@ pub record CrowdState (L : Type 0) : Type 0 where
 
 -- what the socket has was put into the rows, and those that weren't handed out may be gone then
 abbrev pub Gathers : {L : Type 0} → (L → Option (List Packet)) → HubState L → HubState L → Type 0
-Gathers gave before now = (mid : TableState) × (more : List Packet) × Takes before.table mid (gave before.link) (gave now.link) more × ((now.table ≡ mid) ⊎ IsTrimmed mid now.table)
+Gathers gave before now = (mid : TableState) × (more : List Packet) × TakesPackets before.table mid (gave before.link) (gave now.link) more × ((now.table ≡ mid) ⊎ IsTrimmed mid now.table)
 
 -- a socket that has nothing isn't asked
 pub record Fills {L : Type 0} (gave : L → Option (List Packet)) (stirred : Bool) (before now : HubState L) : Type 0 where

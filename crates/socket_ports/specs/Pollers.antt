@@ -2,10 +2,11 @@
 use Rattle.std.specs.Prelude.{◌≡◌, ◌⊎◌, ◌++◌, ℕ, ◌^◌, ◌-◌, ◌==◌, Bool, true, false, List, Option, Some, IfSome}
 use Rattle.std.specs.List.{list_any}
 use Rattle.relay_model.specs.declared.places.Half.{Half}
+use Rattle.port_trait.specs.Keys.{KeysListed}
 use Rattle.port_trait.specs.declared.pollers.Polled.{Polled}
 
 -- the poller beneath, whether ports are left that didn't fit, until when the last poll was asked to wait at most, what it named, and whether it said stop
-pub record PollerState (P : Type 0) : Type 0 where
+pub record PeerPollerState (P : Type 0) : Type 0 where
   pub beneath : P
   pub owed : Bool
   pub asked : Option ℕ
@@ -15,6 +16,11 @@ pub record PollerState (P : Type 0) : Type 0 where
 -- entries were appended, and those before them stay
 abbrev pub Appends : List (ℕ × Half) → List (ℕ × Half) → Type 0
 Appends before now = (more : List (ℕ × Half)) × (now ≡ before ++ more)
+
+-- the list keeps its room, and entries were appended
+pub record Extends (before now : KeysListed) : Type 0 where
+  pub room : now.room ≡ before.room
+  pub appended : Appends before.entries now.entries
 
 -- the poller beneath was asked once; where ports were owed it wasn't asked
 abbrev pub AsksBeneath : {P : Type 0} → (P → Option ℕ → P → Polled → Type 0) → Bool → P → P → Polled → Type 0

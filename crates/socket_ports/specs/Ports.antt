@@ -2,12 +2,12 @@
 use Rattle.std.specs.Prelude.{Bool, false, Option}
 use Rattle.relay_model.specs.declared.acts.Peer.{Peer}
 use Rattle.port_trait.specs.declared.answers.Hint.{Hint}
-use Rattle.port_trait.specs.declared.counts.Counts.{Counts}
+use Rattle.port_trait.specs.declared.counts.PortCounts.{PortCounts}
 
 -- what was counted, whether a begin came, whether the last read answered the end, whether the last write found no room,
 -- and the peer that was told with the port; a door has none
 pub record PeerState : Type 0 where
-  pub counts : Counts
+  pub counts : PortCounts
   pub begun : Bool
   pub ended : Bool
   pub blocked : Bool

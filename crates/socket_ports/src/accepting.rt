@@ -4,7 +4,7 @@ ghost use Rattle.port_trait.specs.declared.makers.MadePeer.TheVariants as peers;
 ghost use Rattle.relay_model.specs.declared.acts.Peer.TheVariants as whose;
 ghost use Rattle.socket_kinds.specs.Accepting.{OnBoth, OnCame, OnPeer};
 ghost use Rattle.socket_kinds.specs.Kinds.{is_door, is_unix_door, has_left_off, ComesToDoor, HasPartner};
-ghost use Rattle.socket_ports.specs.Accepting.{IsFresh};
+ghost use Rattle.socket_ports.specs.Accepting.{IsFreshPort};
 
 use crate::port::SocketPort;
 use mio::Registry;
@@ -25,7 +25,7 @@ impl<T: Accepts, G: Drop> SocketPort<SocketAt<T>, G> {
         key: usize,
         kept: K,
     ) -> MadePeer<SocketPort<SocketAt<T>, K>>
-        ensures fresh { OnPeer IsFresh result }
+        ensures fresh { OnPeer IsFreshPort result }
         ensures sort { OnPeer (λ port. is_door port.socket ≡ false) result }
         ensures no_door { is_door self.old.socket ≡ false → result ≡ peers.Failed }
         ensures left_off { has_left_off self.new.socket ≡ true → result ≡ peers.NoPeer }

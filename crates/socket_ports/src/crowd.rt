@@ -5,20 +5,20 @@ ghost use Rattle.port_trait.specs.declared.answers.Got.TheVariants as reads;
 ghost use Rattle.port_trait.specs.Meanings.{Gives, AcceptsWhole};
 ghost use Rattle.peer_demux.specs.Hubs.{HubState, ReadsRow};
 ghost use Rattle.peer_demux.specs.Links.{Sends};
-ghost use Rattle.peer_demux.specs.Tables.{IsLive, IsTrimmed, Stands, row_at};
+ghost use Rattle.peer_demux.specs.Tables.{IsLive, IsTrimmed, RowStands, row_at};
 ghost use Rattle.socket_ports.specs.Crowds.{Accepts, Fills, Gathers, IsKnown};
-ghost use Rattle.socket_ports.specs.Pollers.{Appends};
+ghost use Rattle.socket_ports.specs.Pollers.{Extends};
 
 use key_map::KeyMap;
 use peer_demux::{Hub, Link, RowPeer};
 use port_trait::{Got, KeyList, Took};
-use relay_model::{Half, NoMemory, Peer};
+use relay_model::{Half, MOST_READY, NoMemory, Peer};
 use std::alloc::Global;
 use std::marker::Model;
 
 /// A fault of the socket that came while nobody called.
 #[derive(Clone, Copy, PartialEq)]
-enum Fault {
+enum CrowdFault {
     None,
     /// Nobody was named for it yet.
     Untold,
@@ -37,7 +37,7 @@ pub(crate) struct Crowd<L> {
     bare: bool,
     // whether the socket may have packets
     stirred: bool,
-    fault: Fault,
+    fault: CrowdFault,
 }
 
 impl<L> Model for Crowd<L> {
@@ -58,7 +58,7 @@ impl<L: Link> Crowd<L> {
             open: true,
             bare: true,
             stirred: true,
-            fault: Fault::None,
+            fault: CrowdFault::None,
         }
     }
 
@@ -69,7 +69,7 @@ impl<L: Link> Crowd<L> {
 
     /// Whether there is something to be named, or may be.
     pub(crate) fn is_waited_for(&self) -> bool {
-        self.stirred || self.fault == Fault::Untold || self.hub.has_call() || self.has_caller()
+        self.stirred || self.fault == CrowdFault::Untold || self.hub.has_call() || self.has_caller()
     }
 
     /// Whether a peer came since the door found none.
@@ -80,11 +80,10 @@ impl<L: Link> Crowd<L> {
     /// Takes what the socket has, and names the ports that got something, as far as they fit.
     pub(crate) fn gather(&mut self, ready: &mut KeyList)
         requires { 256 ≤ ready.old.room }
-        ensures room { ready.new.room ≡ ready.old.room }
-        ensures appended { Appends ready.old.entries ready.new.entries }
+        ensures { Extends ready.old ready.new }
     {
         if !self.fill() {
-            self.fault = Fault::Untold;
+            self.fault = CrowdFault::Untold;
         }
         self.name_fault(ready);
         self.name_door(ready);
@@ -109,23 +108,22 @@ impl<L: Link> Crowd<L> {
         ensures sent { L.sent self.new.hub.link ≡ L.sent self.old.hub.link }
     {
         let filled = self.hub.fill();
-        self.stirred = self.hub.left_off();
+        self.stirred = self.hub.has_left_off();
         self.turn_away();
         filled
     }
 
     /// Names whoever is to be told of a fault.
-    #[tactic(auto, using(crate::proofs::Appending::appends_none))]
+    #[tactic(auto, using(crate::proofs::Appending::extends_none))]
     fn name_fault(&mut self, ready: &mut KeyList)
         requires { 256 ≤ ready.old.room }
-        ensures room { ready.new.room ≡ ready.old.room }
-        ensures appended { Appends ready.old.entries ready.new.entries }
+        ensures { Extends ready.old ready.new }
     {
-        if self.fault == Fault::Untold
+        if self.fault == CrowdFault::Untold
             && let Some(key) = self.first_key()
             && name(ready, key)
         {
-            self.fault = Fault::Told;
+            self.fault = CrowdFault::Told;
         }
     }
 
@@ -137,11 +135,10 @@ impl<L: Link> Crowd<L> {
         self.keys.get(self.keys.first_from(0)?)
     }
 
-    #[tactic(auto, using(crate::proofs::Appending::appends_none))]
+    #[tactic(auto, using(crate::proofs::Appending::extends_none))]
     fn name_door(&mut self, ready: &mut KeyList)
         requires { 256 ≤ ready.old.room }
-        ensures room { ready.new.room ≡ ready.old.room }
-        ensures appended { Appends ready.old.entries ready.new.entries }
+        ensures { Extends ready.old ready.new }
     {
         if self.has_caller() && name(ready, self.door) {
             self.bare = false;
@@ -150,10 +147,9 @@ impl<L: Link> Crowd<L> {
 
     fn name_peers(&mut self, ready: &mut KeyList)
         requires { 256 ≤ ready.old.room }
-        ensures room { ready.new.room ≡ ready.old.room }
-        ensures appended { Appends ready.old.entries ready.new.entries }
+        ensures { Extends ready.old ready.new }
     {
-        for _ in ready.len()..KeyList::MOST {
+        for _ in ready.len()..MOST_READY {
             let Some(row) = self.hub.next_call() else {
                 return;
             };
@@ -218,7 +214,7 @@ impl<L: Link> Crowd<L> {
         requires { length bytes.now ≤ longest_packet }
         ensures whole { AcceptsWhole None None bytes.now result }
         ensures sent { IsLive self.old.hub.table.rows row
-            → (place : ℕ) × Stands self.old.hub.table.rows row place × Sends (L.sent self.old.hub.link) (L.sent
+            → (place : ℕ) × RowStands self.old.hub.table.rows row place × Sends (L.sent self.old.hub.link) (L.sent
             self.new.hub.link) (row_at self.old.hub.table.rows place).peer bytes.now result }
     {
         if !self.hub.is_live(row) {
@@ -232,10 +228,10 @@ impl<L: Link> Crowd<L> {
     fn has_failed(&mut self) -> bool
         ensures filled { result ≡ false → Fills L.gave self.old.stirred self.old.hub self.new.hub }
     {
-        if self.fault == Fault::None && self.fill() {
+        if self.fault == CrowdFault::None && self.fill() {
             return false;
         }
-        self.fault = Fault::None;
+        self.fault = CrowdFault::None;
         self.stirred = true;
         true
     }
@@ -274,8 +270,7 @@ impl<L: Link> Crowd<L> {
 /// Names the port of the key as readable, where that fits.
 fn name(ready: &mut KeyList, key: usize) -> bool
     requires { 256 ≤ ready.old.room }
-    ensures room { ready.new.room ≡ ready.old.room }
-    ensures appended { Appends ready.old.entries ready.new.entries }
+    ensures { Extends ready.old ready.new }
 {
     ready.push((key, Half::ToRead))
 }

@@ -1,6 +1,6 @@
 // All sockets that peers share, as their ports and the poller call them.
-ghost use Rattle.std.specs.Prelude.{◌≡◌, ◌≤◌};
-ghost use Rattle.socket_ports.specs.Pollers.{Appends};
+ghost use Rattle.std.specs.Prelude.{◌≤◌};
+ghost use Rattle.socket_ports.specs.Pollers.{Extends};
 
 use crate::crowd::Crowd;
 use crate::socket::UdpLink;
@@ -64,8 +64,7 @@ impl Crowds {
 
     fn gather(&mut self, ready: &mut KeyList)
         requires { 256 ≤ ready.old.room }
-        ensures room { ready.new.room ≡ ready.old.room }
-        ensures appended { Appends ready.old.entries ready.new.entries }
+        ensures { Extends ready.old ready.new }
     {
         for place in self.places.iter_mut() {
             if let Some(crowd) = place {
@@ -137,11 +136,10 @@ impl Gathering {
     }
 
     /// Takes what the sockets have, and names the ports that got something, as far as they fit.
-    #[tactic(auto, using(crate::proofs::Appending::appends_none))]
+    #[tactic(auto, using(crate::proofs::Appending::extends_none))]
     pub(crate) fn gather(&self, ready: &mut KeyList)
         requires { 256 ≤ ready.old.room }
-        ensures room { ready.new.room ≡ ready.old.room }
-        ensures appended { Appends ready.old.entries ready.new.entries }
+        ensures { Extends ready.old ready.new }
     {
         if let Some(mut crowds) = self.crowds.try_lock() {
             crowds.gather(ready);

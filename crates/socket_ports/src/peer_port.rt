@@ -1,5 +1,5 @@
 // The port of a door of datagrams, and of each peer that was accepted at it.
-ghost use Rattle.std.specs.Prelude.{◌≡◌, ◌≢◌, ◌<◌, ◌≤◌, ◌++◌, true, false, length, take, None, Some};
+ghost use Rattle.std.specs.Prelude.{◌≡◌, ◌≢◌, ◌<◌, true, false, length, None, Some};
 ghost use Rattle.port_trait.specs.Counting.{Tallied};
 ghost use Rattle.port_trait.specs.Made.{IsAtOnce};
 ghost use Rattle.port_trait.specs.Hinting.{IsWithin};
@@ -17,8 +17,8 @@ use crate::crowds::Gathering;
 use crate::seat::Seat;
 use mio::Registry;
 use port_trait::{
-    Begun, Counts, Got, Hint, Joining, MadePeer, Making, Port, PortReap, Settled, Shutting, Took,
-    count_reading, count_writing,
+    Begun, Got, Hint, Joining, MadePeer, Making, Port, PortCounts, PortReap, Settled, Shutting,
+    Took, count_reading, count_writing,
 };
 use relay_model::{LONGEST_PACKET, Shut};
 use std::alloc::Global;
@@ -36,7 +36,7 @@ pub struct PeerPort {
     seat: Seat,
     // how often this was asked since a write found no room; None where none did
     blocked: Option<u8>,
-    counts: Counts,
+    counts: PortCounts,
     begun: bool,
     ended: bool,
 }
@@ -57,7 +57,7 @@ impl PeerPort {
         PeerPort {
             seat,
             blocked: None,
-            counts: Counts::new(),
+            counts: PortCounts::new(),
             begun: false,
             ended: false,
         }

@@ -1,12 +1,12 @@
 // A poller that takes what comes for peers which share a socket.
-ghost use Rattle.std.specs.Prelude.{◌≡◌, ◌≤◌, ◌⊎◌, ℕ, Some, true, false, IfSome, IfOk, length};
+ghost use Rattle.std.specs.Prelude.{◌≡◌, ◌≤◌, ◌⊎◌, Some, true, false, IfSome, IfOk, length};
 ghost use Rattle.port_trait.specs.Counting.{Counted};
 ghost use Rattle.socket_ports.specs.Pollers.{AsksBeneath, AsksNoLater, NamesBeneath, has_shared};
 
 use crate::crowds::Gathering;
 use mio_poller::SHARED;
 use port_trait::{KeyList, Polled, Poller};
-use relay_model::NoMemory;
+use relay_model::{MOST_READY, NoMemory};
 use std::alloc::Global;
 use std::marker::Model;
 
@@ -27,9 +27,9 @@ pub struct PeerPoller<P: Poller> {
 
 impl<P: Poller> Model for PeerPoller<P> {
     ghost use Rattle.std.specs.Prelude.{◌≡◌, ◌≤◌, IfSome};
-    ghost use Rattle.socket_ports.specs.Pollers.{PollerState};
+    ghost use Rattle.socket_ports.specs.Pollers.{PeerPollerState};
 
-    ghost Value = { PollerState P };
+    ghost Value = { PeerPollerState P };
 
     ghost view = { λ poller. record { beneath = poller.beneath; owed = poller.owed; asked = poller.asked; named = poller.named.entries; stopped = poller.stopped } };
 
@@ -129,7 +129,7 @@ impl<P: Poller + Drop> Poller for PeerPoller<P> {
             self.gathering.stir();
         }
         self.gathering.gather(ready);
-        self.owed = ready.len() == KeyList::MOST && self.gathering.is_waited_for();
+        self.owed = ready.len() == MOST_READY && self.gathering.is_waited_for();
         self.asked = until;
         self.named.set(ready);
         self.stopped = polled.stop;

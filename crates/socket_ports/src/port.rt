@@ -9,7 +9,7 @@ ghost use Rattle.port_trait.specs.Counted.{counted};
 ghost use Rattle.socket_ports.specs.Sockets.{fresh_port};
 
 use port_trait::{
-    Begun, Counts, Got, Hint, Joining, Port, PortReap, Settled, Shutting, Took, count_reading,
+    Begun, Got, Hint, Joining, Port, PortCounts, PortReap, Settled, Shutting, Took, count_reading,
     count_settling, count_shutting, count_writing, is_end,
 };
 use relay_model::Shut;
@@ -20,16 +20,16 @@ use std::marker::Model;
 #[derive(Drop)]
 pub struct SocketPort<S, G> {
     pub(crate) socket: S,
-    counts: Counts,
+    counts: PortCounts,
     begun: bool,
     ended: bool,
     kept: G,
 }
 
 impl<S, G> Model for SocketPort<S, G> {
-    ghost use Rattle.socket_ports.specs.Sockets.{PortState};
+    ghost use Rattle.socket_ports.specs.Sockets.{SocketPortState};
 
-    ghost Value = { PortState S };
+    ghost Value = { SocketPortState S };
 
     ghost view = { λ port. record { socket = port.socket; counts = port.counts; begun = port.begun; ended = port.ended } };
 }
@@ -41,7 +41,7 @@ impl<S, G> SocketPort<S, G> {
     {
         SocketPort {
             socket,
-            counts: Counts::new(),
+            counts: PortCounts::new(),
             begun: false,
             ended: false,
             kept,
@@ -49,7 +49,7 @@ impl<S, G> SocketPort<S, G> {
     }
 
     /// The port of a socket that stands where another port stood, whose counts go on.
-    pub fn going_on(socket: S, kept: G, counts: Counts, begun: bool) -> SocketPort<S, G>
+    pub fn with_counts(socket: S, kept: G, counts: PortCounts, begun: bool) -> SocketPort<S, G>
         ensures { result ≡ record { socket = socket; counts = counts; begun = begun; ended = false } }
     {
         SocketPort {

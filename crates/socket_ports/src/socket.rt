@@ -117,7 +117,7 @@ impl<U: PacketWire> Link for UdpLink<U> {
         ensures stalls { self.new.stalls ≡ risen_if (send_stalled result) self.old.stalls }
     {
         let took = match address_of(to) {
-            Some(addr) => departed(&self.wire.send_to(bytes, addr), bytes.len()),
+            Some(addr) => send_to_answer(&self.wire.send_to(bytes, addr), bytes.len()),
             None => Took::Failed,
         };
         match took {
@@ -135,11 +135,11 @@ fn receive_packet<U: PacketWire>(wire: &mut U, into: &mut [u8]) -> Received
     ensures once { Answers (U.receives_from wire.old wire.new (take longest_packet into.new)) (λ told. Arrives told result) }
     ensures gives { Receives None None into.new result }
 {
-    arrived(&wire.receive_from(&mut into[..usize::from(LONGEST_PACKET)]))
+    receive_from_answer(&wire.receive_from(&mut into[..usize::from(LONGEST_PACKET)]))
 }
 
 /// What came where the system answered so: the packet's sender is the address that it told.
-fn arrived(answer: &io::Result<(usize, SocketAddr)>) -> Received
+fn receive_from_answer(answer: &io::Result<(usize, SocketAddr)>) -> Received
     ensures { Arrives answer.now result }
 {
     match answer {
@@ -158,7 +158,7 @@ fn arrived(answer: &io::Result<(usize, SocketAddr)>) -> Received
 }
 
 /// What a sending of so many bytes came to where the system answered so.
-fn departed(answer: &io::Result<usize>, len: usize) -> Took
+fn send_to_answer(answer: &io::Result<usize>, len: usize) -> Took
     ensures { Departs len answer.now result }
 {
     match answer {

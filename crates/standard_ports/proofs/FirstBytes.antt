@@ -7,7 +7,7 @@ use Rattle.standard_ports.specs.declared.output.OutputPort.{OutputPort}
 use Rattle.standard_ports.specs.declared.output.OutputPort.TheVariants as outputs
 use Rattle.port_trait.specs.Ports.{PortSeen}
 use Rattle.file_ports.specs.Halves.{HalvesState}
-use Rattle.socket_ports.specs.Sockets.{PortState}
+use Rattle.socket_ports.specs.Sockets.{SocketPortState}
 use Rattle.ring_reader.specs.Readers.{given_of, reader_seen}
 use Rattle.ring_writer.specs.Writers.{WriterState, took_of, writer_seen}
 use Rattle.standard_ports.specs.Told.{ToldState}
@@ -18,20 +18,20 @@ no_bytes [] e = refl
 no_bytes (b ∷ bytes) e = absurd cc
 
 -- a port in the loop tells what passed it
-abbrev TellsGave : (PortState (ToldState HalvesState) → PortSeen) → Type 0
-TellsGave seen = (port : PortState (ToldState HalvesState)) → (seen port).gave ≡ Some port.socket.passed.gave
+abbrev TellsGave : (SocketPortState (ToldState HalvesState) → PortSeen) → Type 0
+TellsGave seen = (port : SocketPortState (ToldState HalvesState)) → (seen port).gave ≡ Some port.socket.passed.gave
 
-abbrev TellsTook : (PortState (ToldState HalvesState) → PortSeen) → Type 0
-TellsTook seen = (port : PortState (ToldState HalvesState)) → (seen port).took ≡ Some port.socket.passed.took
+abbrev TellsTook : (SocketPortState (ToldState HalvesState) → PortSeen) → Type 0
+TellsTook seen = (port : SocketPortState (ToldState HalvesState)) → (seen port).took ≡ Some port.socket.passed.took
 
 -- what standard input tells that it gave
-pub unread : {R : Type 0} (pipe shared : PortState (ToldState HalvesState) → PortSeen) (port : InputPort R) → TellsGave pipe → TellsGave shared → is_unread port ≡ true → (of_input (of_direct pipe shared) reader_seen port).gave ≡ Some []
+pub unread : {R : Type 0} (pipe shared : SocketPortState (ToldState HalvesState) → PortSeen) (port : InputPort R) → TellsGave pipe → TellsGave shared → is_unread port ≡ true → (of_input (of_direct pipe shared) reader_seen port).gave ≡ Some []
 unread pipe shared (inputs.Direct (directs.Pipe port)) tells tells' e = tells port ∙ ap Some (no_bytes port.socket.passed.gave e)
 unread pipe shared (inputs.Direct (directs.Shared port)) tells tells' e = tells' port ∙ ap Some (no_bytes port.socket.passed.gave e)
 unread pipe shared (inputs.Ring ring) tells tells' e = ap Some (no_bytes (given_of ring) e)
 
 -- what standard output tells that it took
-pub unwritten : {R : Type 0} (pipe shared : PortState (ToldState HalvesState) → PortSeen) (port : OutputPort R) → TellsTook pipe → TellsTook shared → is_unwritten port ≡ true → (of_output (of_direct pipe shared) writer_seen port).took ≡ Some []
+pub unwritten : {R : Type 0} (pipe shared : SocketPortState (ToldState HalvesState) → PortSeen) (port : OutputPort R) → TellsTook pipe → TellsTook shared → is_unwritten port ≡ true → (of_output (of_direct pipe shared) writer_seen port).took ≡ Some []
 unwritten pipe shared (outputs.Direct (directs.Pipe port)) tells tells' e = tells port ∙ ap Some (no_bytes port.socket.passed.took e)
 unwritten pipe shared (outputs.Direct (directs.Shared port)) tells tells' e = tells' port ∙ ap Some (no_bytes port.socket.passed.took e)
 unwritten pipe shared (outputs.Ring ring) tells tells' e = ap Some (no_bytes (took_of ring) e)

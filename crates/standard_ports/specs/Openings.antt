@@ -1,16 +1,16 @@
 -- What the ports are that stand in the loop.
 use Rattle.std.specs.Prelude.{◌≡◌, Bool, true, false}
 use Rattle.file_ports.specs.Halves.{HalvesState}
-use Rattle.file_ports.specs.declared.halves.Readiness.TheVariants as readiness
-use Rattle.socket_ports.specs.Sockets.{PortState}
-use Rattle.socket_ports.specs.Accepting.{IsFresh}
+use Rattle.file_ports.specs.declared.halves.HalfReadiness.TheVariants as readiness
+use Rattle.socket_ports.specs.Sockets.{SocketPortState}
+use Rattle.socket_ports.specs.Accepting.{IsFreshPort}
 use Rattle.standard_ports.specs.Told.{ToldState}
 use Rattle.standard_ports.specs.declared.direct.DirectPort.{DirectPort}
 use Rattle.standard_ports.specs.declared.direct.DirectPort.TheVariants as directs
 
 -- a fresh port of which so much is there
-pub record Serves (reading writing : Bool) (port : PortState (ToldState HalvesState)) : Type 0 where
-  pub fresh : IsFresh port
+pub record Serves (reading writing : Bool) (port : SocketPortState (ToldState HalvesState)) : Type 0 where
+  pub fresh : IsFreshPort port
   pub reads : port.socket.socket.reads ≡ reading
   pub writes : port.socket.socket.writes ≡ writing
 

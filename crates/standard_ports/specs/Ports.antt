@@ -9,7 +9,7 @@ use Rattle.standard_ports.specs.declared.output.OutputPort.TheVariants as output
 use Rattle.file_ports.specs.Halves.{HalvesState}
 use Rattle.ring_reader.specs.Readers.{ReaderState, given_of}
 use Rattle.ring_writer.specs.Writers.{WriterState, took_of}
-use Rattle.socket_ports.specs.Sockets.{PortState}
+use Rattle.socket_ports.specs.Sockets.{SocketPortState}
 use Rattle.port_trait.specs.Hinting.{all_hints}
 use Rattle.port_trait.specs.Passages.{Passage}
 use Rattle.port_trait.specs.Ports.{PortSeen}
@@ -22,7 +22,7 @@ pipe_seen seen pipe =
     record beneath { hints = None; hinting = all_hints }
 
 -- what a port in the loop tells
-abbrev pub of_direct : {T : Type 0} → (PortState (ToldState HalvesState) → T) → (PortState (ToldState HalvesState) → T) → DirectPort → T
+abbrev pub of_direct : {T : Type 0} → (SocketPortState (ToldState HalvesState) → T) → (SocketPortState (ToldState HalvesState) → T) → DirectPort → T
 of_direct pipe shared (directs.Pipe port) = pipe port
 of_direct pipe shared (directs.Shared port) = shared port
 

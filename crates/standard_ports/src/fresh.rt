@@ -46,7 +46,7 @@ impl FreshDirect {
     }
 
     /// The descriptor itself.
-    pub fn shared(halves: Halves<Stdin, Stdout>) -> FreshDirect
+    pub fn of_halves(halves: Halves<Stdin, Stdout>) -> FreshDirect
         ensures { result.port ≡ directs.Shared (fresh_port (fresh_told halves)) }
     {
         FreshDirect {

@@ -44,12 +44,12 @@ where
         let mut options = OpenOptions::new();
         options.read(true);
         let pipe = system.open_file(&options, INPUT).ok()?;
-        let halves = Halves::enrolled(poller.registry(), watch.key(), Some(pipe), None)?;
+        let halves = Halves::enroll(poller.registry(), watch.key(), Some(pipe), None)?;
         return Some(FreshDirect::pipe(halves, watch));
     }
     if is_always_ready(poller.registry(), stdin.as_raw_fd()) {
         let halves = Halves::always(Some(stdin), None);
-        return Some(FreshDirect::shared(halves));
+        return Some(FreshDirect::of_halves(halves));
     }
     None
 }
@@ -71,12 +71,12 @@ where
         let mut options = OpenOptions::new();
         options.write(true);
         let pipe = system.open_file(&options, OUTPUT).ok()?;
-        let halves = Halves::enrolled(poller.registry(), watch.key(), None, Some(pipe))?;
+        let halves = Halves::enroll(poller.registry(), watch.key(), None, Some(pipe))?;
         return Some(FreshDirect::pipe(halves, watch));
     }
     if is_always_ready(poller.registry(), stdout.as_raw_fd()) {
         let halves = Halves::always(None, Some(stdout));
-        return Some(FreshDirect::shared(halves));
+        return Some(FreshDirect::of_halves(halves));
     }
     None
 }

@@ -23,11 +23,11 @@ pub struct PipePort {
 }
 
 impl Model for PipePort {
-    ghost use Rattle.socket_ports.specs.Sockets.{PortState};
+    ghost use Rattle.socket_ports.specs.Sockets.{SocketPortState};
     ghost use Rattle.file_ports.specs.Halves.{HalvesState};
     ghost use Rattle.standard_ports.specs.Told.{ToldState};
 
-    ghost Value = { PortState (ToldState HalvesState) };
+    ghost Value = { SocketPortState (ToldState HalvesState) };
 
     ghost view = { λ port. port.pipe };
 }

@@ -1,8 +1,8 @@
 // A socket with an account of what passed it.
-ghost use Rattle.std.specs.Prelude.{◌≡◌, ◌<◌, length};
+ghost use Rattle.std.specs.Prelude.{◌≡◌, ◌<◌};
 ghost use Rattle.standard_ports.specs.Told.{fresh_told, told_or};
 
-use port_trait::{Account, Call, Got, Hint, Settled, Shutting, Took};
+use port_trait::{Account, Got, Hint, PortCall, Settled, Shutting, Took};
 use relay_model::Shut;
 use socket_kinds::Socket;
 use std::marker::Model;
@@ -62,7 +62,7 @@ impl<S: Socket> Socket for ToldSocket<S> {
     fn receive(&mut self, into: &mut [u8]) -> Got {
         let got = self.socket.receive(into);
         if let Got::Bytes(count) = got {
-            self.account = self.account.with(&Call::Gave(&into[..count]));
+            self.account = self.account.with(&PortCall::Gave(&into[..count]));
         }
         got
     }
@@ -71,7 +71,7 @@ impl<S: Socket> Socket for ToldSocket<S> {
     fn transmit(&mut self, bytes: &[u8]) -> Took {
         let took = self.socket.transmit(bytes);
         if let Took::Took(count) = took {
-            self.account = self.account.with(&Call::Took(&bytes[..count]));
+            self.account = self.account.with(&PortCall::Took(&bytes[..count]));
         }
         took
     }
@@ -80,14 +80,14 @@ impl<S: Socket> Socket for ToldSocket<S> {
     fn transmit_packet(&mut self, bytes: &[u8]) -> Took {
         let took = self.socket.transmit_packet(bytes);
         if let Took::Took(_) = took {
-            self.account = self.account.with(&Call::Took(bytes));
+            self.account = self.account.with(&PortCall::Took(bytes));
         }
         took
     }
 
     #[tactic(auto, using(crate::proofs::Tellings::notes))]
     fn finish(&mut self, how: Shut) -> Shutting {
-        self.account = self.account.with(&Call::Shut(how));
+        self.account = self.account.with(&PortCall::Shut(how));
         self.socket.finish(how)
     }
 

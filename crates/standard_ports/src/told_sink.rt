@@ -1,5 +1,4 @@
 // What a thread's sink failed is told beside the ring: a failure after the last act of a run is in no history.
-ghost use Rattle.std.specs.Prelude.{◌≡◌};
 
 use port_trait::{Sink, SinkTook};
 use relay_model::NoMemory;

@@ -2,14 +2,14 @@
 use Rattle.std.specs.Prelude.{◌≡◌, ℕ, ◌<◌, ◌≤◌, Bool, true, false, ◌||◌, List, [], ◌∷◌, length, nat_eq, Option, None, Some}
 use Rattle.std.specs.List.{ends_with}
 use Rattle.httparse.specs.Grammar.{ResponseHead, ReadsResponse, status_code}
-use Rattle.tunnel_port.specs.declared.stage.Stage.{Stage}
-use Rattle.tunnel_port.specs.declared.stage.Stage.TheVariants as stages
-use Rattle.tunnel_port.specs.declared.talk.Heard.{Heard}
-use Rattle.tunnel_port.specs.declared.talk.Heard.TheVariants as hearing
+use Rattle.tunnel_port.specs.declared.stage.TalkStage.{TalkStage}
+use Rattle.tunnel_port.specs.declared.stage.TalkStage.TheVariants as stages
+use Rattle.tunnel_port.specs.declared.talk.HeardReply.{HeardReply}
+use Rattle.tunnel_port.specs.declared.talk.HeardReply.TheVariants as hearing
 use Rattle.tunnel_port.specs.declared.connect_refusal.ConnectEnd.{ConnectEnd}
 use Rattle.tunnel_port.specs.declared.connect_refusal.ConnectEnd.TheVariants as ends
-use Rattle.tunnel_port.specs.declared.connect_head.Verdict.{Verdict}
-use Rattle.tunnel_port.specs.declared.connect_head.Verdict.TheVariants as verdicts
+use Rattle.tunnel_port.specs.declared.connect_head.HeadVerdict.{HeadVerdict}
+use Rattle.tunnel_port.specs.declared.connect_head.HeadVerdict.TheVariants as verdicts
 
 -- the bytes of the request, those of the reply that came, and why it grants nothing
 pub record ConnectState : Type 0 where
@@ -45,28 +45,28 @@ IsEnd bytes ends.TooLong = (is_ended bytes ≡ false) × (length bytes ≡ 8192)
 IsEnd bytes (ends.Short have) = ⊥
 
 -- what the bytes of a reply come to so far
-abbrev pub Means : List ℕ → Verdict → Type 0
+abbrev pub Means : List ℕ → HeadVerdict → Type 0
 Means bytes verdicts.More = (is_ended bytes ≡ false) × (length bytes < 8192)
 Means bytes verdicts.Granted = (is_ended bytes ≡ true) × HasHead bytes (λ h. IsSuccess (status_code h))
 Means bytes (verdicts.Refused why) = IsEnd bytes why
 
 -- the reply is read up to an empty line, and no further
-abbrev pub Judges : ConnectState → Heard → Type 0
+abbrev pub Judges : ConnectState → HeardReply → Type 0
 Judges talk hearing.More = Means talk.heard verdicts.More
 Judges talk hearing.Granted = Means talk.heard verdicts.Granted
 Judges talk hearing.Refused = (why : ConnectEnd) × (talk.end ≡ Some why) × IsEnd talk.heard why
 
 -- the reply by how far the talk has come
-abbrev pub Stands : ConnectState → Stage → Type 0
-Stands talk stages.Joining = Means talk.heard verdicts.More
-Stands talk stages.Talking = Means talk.heard verdicts.More
-Stands talk stages.Passed = Judges talk hearing.Granted
-Stands talk stages.Faulted = Means talk.heard verdicts.More
-Stands talk stages.Refused = Judges talk hearing.Refused
-Stands talk stages.Cut = Means talk.heard verdicts.More
+abbrev pub ConnectStands : ConnectState → TalkStage → Type 0
+ConnectStands talk stages.Joining = Means talk.heard verdicts.More
+ConnectStands talk stages.Talking = Means talk.heard verdicts.More
+ConnectStands talk stages.Passed = Judges talk hearing.Granted
+ConnectStands talk stages.Faulted = Means talk.heard verdicts.More
+ConnectStands talk stages.Refused = Judges talk hearing.Refused
+ConnectStands talk stages.Cut = Means talk.heard verdicts.More
 
 -- why there is no connection, where that is known
-abbrev pub refusal_of : ConnectState → Stage → Option ConnectEnd
+abbrev pub refusal_of : ConnectState → TalkStage → Option ConnectEnd
 refusal_of talk stages.Joining = None
 refusal_of talk stages.Talking = None
 refusal_of talk stages.Passed = None

@@ -6,17 +6,17 @@ use Rattle.port_trait.specs.declared.answers.Got.{Got}
 use Rattle.port_trait.specs.declared.answers.Got.TheVariants as reads
 use Rattle.port_trait.specs.declared.answers.Took.{Took as WriteAnswer}
 use Rattle.port_trait.specs.declared.answers.Took.TheVariants as writes
-use Rattle.port_trait.specs.declared.counts.Counts.{Counts}
+use Rattle.port_trait.specs.declared.counts.PortCounts.{PortCounts}
 use Rattle.port_trait.specs.Counting.{Rose}
 use Rattle.port_trait.specs.Meanings.{emptied}
 use Rattle.port_trait.specs.Ports.{PortSeen}
-use Rattle.tunnel_port.specs.declared.stage.Stage.{Stage}
-use Rattle.tunnel_port.specs.declared.stage.Stage.TheVariants as stages
-use Rattle.tunnel_port.specs.declared.talk.Heard.{Heard}
-use Rattle.tunnel_port.specs.declared.talk.Heard.TheVariants as hearing
+use Rattle.tunnel_port.specs.declared.stage.TalkStage.{TalkStage}
+use Rattle.tunnel_port.specs.declared.stage.TalkStage.TheVariants as stages
+use Rattle.tunnel_port.specs.declared.talk.HeardReply.{HeardReply}
+use Rattle.tunnel_port.specs.declared.talk.HeardReply.TheVariants as hearing
 
 -- whether the request was granted
-abbrev pub is_passed : Stage → Bool
+abbrev pub is_passed : TalkStage → Bool
 is_passed stages.Joining = false
 is_passed stages.Talking = false
 is_passed stages.Passed = true
@@ -25,7 +25,7 @@ is_passed stages.Refused = false
 is_passed stages.Cut = false
 
 -- whether the talk has come to an end, well or badly
-abbrev pub is_over : Stage → Bool
+abbrev pub is_over : TalkStage → Bool
 is_over stages.Joining = false
 is_over stages.Talking = false
 is_over stages.Passed = true
@@ -34,7 +34,7 @@ is_over stages.Refused = true
 is_over stages.Cut = true
 
 -- what a settling answers
-abbrev pub settled_at : Stage → Settled
+abbrev pub settled_at : TalkStage → Settled
 settled_at stages.Joining = settles.NotYet
 settled_at stages.Talking = settles.NotYet
 settled_at stages.Passed = settles.Ready
@@ -43,7 +43,7 @@ settled_at stages.Refused = settles.Failed
 settled_at stages.Cut = settles.Failed
 
 -- what a read and a write answer that come before the request is granted
-abbrev pub read_at : Stage → Got
+abbrev pub read_at : TalkStage → Got
 read_at stages.Joining = reads.NotYet
 read_at stages.Talking = reads.NotYet
 read_at stages.Passed = reads.NotYet
@@ -52,7 +52,7 @@ read_at stages.Refused = reads.Failed
 read_at stages.Cut = reads.Failed
 
 -- the same of a write
-abbrev pub write_at : Stage → WriteAnswer
+abbrev pub write_at : TalkStage → WriteAnswer
 write_at stages.Joining = writes.NotYet
 write_at stages.Talking = writes.NotYet
 write_at stages.Passed = writes.NotYet
@@ -92,7 +92,7 @@ behind_talk false part told = nothing_of told
 
 -- the port beneath took the first bytes of the request, and gave the bytes that were heard. Nothing else went
 -- through it before the request was granted
-pub record InTalk (took gave : Option (List ℕ)) (asks heard : List ℕ) (said : ℕ) (stage : Stage) : Type 0 where
+pub record InTalk (took gave : Option (List ℕ)) (asks heard : List ℕ) (said : ℕ) (stage : TalkStage) : Type 0 where
   pub within : said ≤ length asks
   pub whole : is_passed stage ≡ true → said ≡ length asks
   pub asked : Told (is_passed stage) (take said asks) took
@@ -100,16 +100,16 @@ pub record InTalk (took gave : Option (List ℕ)) (asks heard : List ℕ) (said 
 
 -- once the request is granted, what was taken is the request and then what followed, and what was given the reply and
 -- then what followed
-abbrev pub FollowsTalk : Option (List ℕ) → Option (List ℕ) → List ℕ → List ℕ → Stage → Type 0
+abbrev pub FollowsTalk : Option (List ℕ) → Option (List ℕ) → List ℕ → List ℕ → TalkStage → Type 0
 FollowsTalk took gave asks heard stage =
     is_passed stage ≡ true → Follows asks took (behind_talk (is_passed stage) asks took) × Follows heard gave (behind_talk (is_passed stage) heard gave)
 
 -- the reply goes on, and has fewer bytes than it may have
-abbrev pub StillHears : (Heard → Type 0) → List ℕ → ℕ → Type 0
+abbrev pub StillHears : (HeardReply → Type 0) → List ℕ → ℕ → Type 0
 StillHears judges heard limit = (length heard < limit) × ((heard ≡ []) ⊎ judges hearing.More)
 
 -- what stands by the bytes that were heard
-abbrev pub IsJudged : (Heard → Type 0) → List ℕ → ℕ → Stage → Type 0
+abbrev pub IsJudged : (HeardReply → Type 0) → List ℕ → ℕ → TalkStage → Type 0
 IsJudged judges heard limit stages.Passed = judges hearing.Granted
 IsJudged judges heard limit stages.Refused = judges hearing.Refused
 IsJudged judges heard limit stages.Joining = StillHears judges heard limit
@@ -118,7 +118,7 @@ IsJudged judges heard limit stages.Faulted = StillHears judges heard limit
 IsJudged judges heard limit stages.Cut = StillHears judges heard limit
 
 -- the cause of each stage that a settling came to, by the counts of the port beneath
-abbrev pub HasCause : Stage → Counts → Counts → Type 0
+abbrev pub HasCause : TalkStage → PortCounts → PortCounts → Type 0
 HasCause stages.Joining before now = Rose before.stalls now.stalls
 HasCause stages.Talking before now = Rose before.stalls now.stalls
 HasCause stages.Passed before now = Unit {0}
@@ -127,7 +127,7 @@ HasCause stages.Refused before now = Unit {0}
 HasCause stages.Cut before now = Rose before.ends now.ends ⊎ Rose before.empties now.empties
 
 -- the talk was cut where a read of the port beneath told its end or an empty packet, and nowhere else
-abbrev pub IsCutByEnd : Stage → Bool → Bool → Counts → Counts → Type 0
+abbrev pub IsCutByEnd : TalkStage → Bool → Bool → PortCounts → PortCounts → Type 0
 IsCutByEnd stages.Cut before now old new = (now ≡ true) ⊎ Rose old.empties new.empties
 IsCutByEnd stages.Joining before now old new = now ≡ true → before ≡ true
 IsCutByEnd stages.Talking before now old new = now ≡ true → before ≡ true
@@ -136,7 +136,7 @@ IsCutByEnd stages.Faulted before now old new = now ≡ true → before ≡ true
 IsCutByEnd stages.Refused before now old new = now ≡ true → before ≡ true
 
 -- no empty packet of the port beneath was passed over: the talk was cut by the first that came
-abbrev pub NonePassedOver : Stage → Option ℕ → Option ℕ → Type 0
+abbrev pub NonePassedOver : TalkStage → Option ℕ → Option ℕ → Type 0
 NonePassedOver stages.Cut before now = (now ≡ before) ⊎ (now ≡ emptied reads.Empty before)
 NonePassedOver stages.Joining before now = now ≡ before
 NonePassedOver stages.Talking before now = now ≡ before
@@ -145,7 +145,7 @@ NonePassedOver stages.Faulted before now = now ≡ before
 NonePassedOver stages.Refused before now = now ≡ before
 
 -- how a stage came about, by what is seen of the port beneath: its cause, and whether that was the end
-pub record ComesAbout (stage : Stage) (before now : PortSeen) : Type 0 where
+pub record ComesAbout (stage : TalkStage) (before now : PortSeen) : Type 0 where
   pub cause : HasCause stage before.counts now.counts
   pub cut : IsCutByEnd stage before.ended now.ended before.counts now.counts
 
@@ -161,13 +161,13 @@ pub record LeavesRequest (asks_before asks_now : List ℕ) (before now : PortSee
   pub beneath : LeavesBeneath before now
 
 -- how far a talk comes by this answer of a settling, which left the port beneath so
-abbrev pub JoinedBy : {P : Type 0} → Settled → P → P → Stage → Type 0
+abbrev pub JoinedBy : {P : Type 0} → Settled → P → P → TalkStage → Type 0
 JoinedBy settles.Ready left now stage = stage ≢ stages.Joining
 JoinedBy settles.NotYet left now stage = (stage ≡ stages.Joining) × (now ≡ left)
 JoinedBy settles.Failed left now stage = (stage ≡ stages.Faulted) × (now ≡ left)
 
 -- before the port beneath was ready it is asked whether it is, once
-abbrev pub AsksBeneath : {P : Type 0} → (P → P → Settled → Type 0) → Stage → P → P → Stage → Type 0
+abbrev pub AsksBeneath : {P : Type 0} → (P → P → Settled → Type 0) → TalkStage → P → P → TalkStage → Type 0
 AsksBeneath {P = P} answers stages.Joining before now stage = (left : P) × (settled : Settled) × answers before left settled × JoinedBy settled left now stage
 AsksBeneath answers stages.Talking before now stage = Unit {0}
 AsksBeneath answers stages.Passed before now stage = Unit {0}
@@ -176,7 +176,7 @@ AsksBeneath answers stages.Refused before now stage = Unit {0}
 AsksBeneath answers stages.Cut before now stage = Unit {0}
 
 -- what kept the request from being written
-abbrev pub Paused : Settled → Counts → Counts → Type 0
+abbrev pub Paused : Settled → PortCounts → PortCounts → Type 0
 Paused settles.Ready before now = Unit {0}
 Paused settles.NotYet before now = Rose before.stalls now.stalls
 Paused settles.Failed before now = Rose before.faults now.faults

@@ -1,10 +1,10 @@
 -- What contracts see of a port behind a talk.
 use Rattle.std.specs.Prelude.{ℕ, Bool, false, List, None}
-use Rattle.port_trait.specs.declared.counts.Counts.{Counts}
+use Rattle.port_trait.specs.declared.counts.PortCounts.{PortCounts}
 use Rattle.port_trait.specs.Ports.{PortSeen, nothing_behind}
 use Rattle.tunnel_port.specs.Talks.{InTalk, FollowsTalk, behind_talk, is_passed}
-use Rattle.tunnel_port.specs.declared.stage.Stage.{Stage}
-use Rattle.tunnel_port.specs.declared.stage.Stage.TheVariants as stages
+use Rattle.tunnel_port.specs.declared.stage.TalkStage.{TalkStage}
+use Rattle.tunnel_port.specs.declared.stage.TalkStage.TheVariants as stages
 
 -- the port beneath, the talk, how many bytes of the request were written, how far the talk has come, what was
 -- counted, and whether the last read answered the end
@@ -12,8 +12,8 @@ pub record TunnelState (P T : Type 0) : Type 0 where
   pub inner : P
   pub talk : T
   pub said : ℕ
-  pub stage : Stage
-  pub counts : Counts
+  pub stage : TalkStage
+  pub counts : PortCounts
   pub ended : Bool
 
 -- a port whose talk has not begun

@@ -9,7 +9,7 @@ use httparse::spans::{EMPTY_HEADER_SPAN, parse_response};
 
 /// What the bytes of a reply say so far.
 #[derive(Clone, Copy, Debug, PartialEq)]
-pub(crate) enum Verdict {
+pub(crate) enum HeadVerdict {
     More,
     Granted,
     Refused(ConnectEnd),
@@ -43,24 +43,24 @@ fn status_of(head: &[u8]) -> Option<u16>
 }
 
 /// What these bytes of a reply say.
-pub(crate) fn judge(head: &[u8]) -> Verdict
+pub(crate) fn judge(head: &[u8]) -> HeadVerdict
     requires { length head.now ≤ 8192 }
     ensures { Means head.now result }
 {
     if !is_ended(head) {
         if head.len() < 8192 {
-            return Verdict::More;
+            return HeadVerdict::More;
         }
-        return Verdict::Refused(ConnectEnd::TooLong);
+        return HeadVerdict::Refused(ConnectEnd::TooLong);
     }
     match status_of(head) {
         Some(status) => {
             if status >= 200 && status <= 299 {
-                return Verdict::Granted;
+                return HeadVerdict::Granted;
             }
-            Verdict::Refused(ConnectEnd::Denied { status })
+            HeadVerdict::Refused(ConnectEnd::Denied { status })
         }
-        None => Verdict::Refused(ConnectEnd::BadHead {
+        None => HeadVerdict::Refused(ConnectEnd::BadHead {
             have: head.len() as u32,
         }),
     }

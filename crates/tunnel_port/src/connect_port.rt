@@ -2,13 +2,13 @@
 ghost use Rattle.std.specs.Prelude.{◌≡◌, [], MatchResult};
 ghost use Rattle.tunnel_port.specs.Talks.{IsOnly};
 ghost use Rattle.tunnel_port.specs.Tunnels.{fresh_tunnel};
-ghost use Rattle.tunnel_port.specs.ConnectReplies.{Stands, refusal_of, fresh_talk};
+ghost use Rattle.tunnel_port.specs.ConnectReplies.{ConnectStands, refusal_of, fresh_talk};
 ghost use Rattle.tunnel_port.specs.ConnectRequests.{connect_request};
 
 use crate::connect_refusal::ConnectEnd;
 use crate::connect_talk::ConnectTalk;
 use crate::port::TunnelPort;
-use crate::stage::Stage;
+use crate::stage::TalkStage;
 use port_trait::Port;
 use std::alloc::Global;
 
@@ -34,13 +34,14 @@ impl<P: Port> TunnelPort<P, ConnectTalk> {
     /// the proxy has failed.
     pub fn refusal(&self) -> Option<ConnectEnd>
         ensures refusal { result ≡ refusal_of self.now.talk self.now.stage }
-        ensures stands { Stands self.now.talk self.now.stage }
+        ensures stands { ConnectStands self.now.talk self.now.stage }
     {
         let talk = self.talk();
         match self.stage() {
-            Stage::Joining | Stage::Talking | Stage::Passed | Stage::Faulted => None,
-            Stage::Refused => talk.end(),
-            Stage::Cut => Some(ConnectEnd::Short {
+            TalkStage::Joining | TalkStage::Talking | TalkStage::Passed | TalkStage::Faulted =>
+                None,
+            TalkStage::Refused => talk.end(),
+            TalkStage::Cut => Some(ConnectEnd::Short {
                 have: talk.have() as u32,
             }),
         }

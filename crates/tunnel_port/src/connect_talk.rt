@@ -3,10 +3,10 @@ ghost use Rattle.std.specs.Prelude.{◌≡◌, length, IfOk};
 ghost use Rattle.tunnel_port.specs.ConnectRequests.{connect_request};
 ghost use Rattle.tunnel_port.specs.ConnectReplies.{Judges, fresh_talk};
 
-use crate::connect_head::{Verdict, judge};
+use crate::connect_head::{HeadVerdict, judge};
 use crate::connect_refusal::ConnectEnd;
 use crate::connect_request::request_bytes;
-use crate::talk::{Heard, Talk};
+use crate::talk::{HeardReply, Talk};
 use std::alloc::{AllocError, Global};
 use std::marker::Model;
 
@@ -72,14 +72,14 @@ impl Talk for ConnectTalk {
     }
 
     /// There is room for the byte.
-    fn hear(&mut self, byte: u8) -> Heard {
+    fn hear(&mut self, byte: u8) -> HeardReply {
         let _kept = self.head.push(byte);
         match judge(self.head.as_slice()) {
-            Verdict::More => Heard::More,
-            Verdict::Granted => Heard::Granted,
-            Verdict::Refused(end) => {
+            HeadVerdict::More => HeardReply::More,
+            HeadVerdict::Granted => HeardReply::Granted,
+            HeadVerdict::Refused(end) => {
                 self.end = Some(end);
-                Heard::Refused
+                HeardReply::Refused
             }
         }
     }

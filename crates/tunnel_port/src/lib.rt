@@ -24,5 +24,5 @@ pub use socks_port::SocksPort;
 pub use socks_refusal::SocksEnd;
 pub use socks_request::{Request, request4, request4a};
 pub use socks_talk::SocksTalk;
-pub use stage::Stage;
-pub use talk::{Heard, Talk};
+pub use stage::TalkStage;
+pub use talk::{HeardReply, Talk};

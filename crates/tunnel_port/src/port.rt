@@ -10,11 +10,11 @@ ghost use Rattle.tunnel_port.specs.Talks.{is_passed, is_over, settled_at, read_a
 ghost use Rattle.tunnel_port.specs.Tunnels.{fresh_tunnel, tunnel_seen, KeepsTalk};
 
 use crate::progress::go_on;
-use crate::stage::Stage;
+use crate::stage::TalkStage;
 use crate::talk::Talk;
 use port_trait::{
-    Begun, Counts, Got, Hint, Joining, Port, PortReap, Settled, Shutting, Took, count_beginning,
-    count_reading, count_settling, count_shutting, count_writing, is_end,
+    Begun, Got, Hint, Joining, Port, PortCounts, PortReap, Settled, Shutting, Took,
+    count_beginning, count_reading, count_settling, count_shutting, count_writing, is_end,
 };
 use relay_model::Shut;
 use std::marker::Model;
@@ -26,8 +26,8 @@ pub struct TunnelPort<P: Port, T: Talk> {
     inner: P,
     talk: T,
     said: usize,
-    stage: Stage,
-    counts: Counts,
+    stage: TalkStage,
+    counts: PortCounts,
     ended: bool,
 }
 
@@ -57,14 +57,14 @@ impl<P: Port, T: Talk> TunnelPort<P, T> {
             inner,
             talk,
             said: 0,
-            stage: Stage::Joining,
-            counts: Counts::new(),
+            stage: TalkStage::Joining,
+            counts: PortCounts::new(),
             ended: false,
         }
     }
 
     /// How far the talk has come.
-    pub fn stage(&self) -> Stage
+    pub fn stage(&self) -> TalkStage
         ensures stage { result ≡ self.now.stage }
         ensures talk { InTalk (P.seen self.now.inner).took (P.seen self.now.inner).gave (T.asks self.now.talk)
             (T.heard self.now.talk) self.now.said self.now.stage }
@@ -126,7 +126,7 @@ impl<P: Port, T: Talk> Port for TunnelPort<P, T> {
         ensures counted { self.new.counts ≡ counted (settle_event result) self.old.counts }
     {
         self.stage = go_on(&mut self.inner, &mut self.talk, &mut self.said, self.stage);
-        let settled = self.stage.settled();
+        let settled = self.stage.settle_answer();
         count_settling(&mut self.counts, settled);
         settled
     }

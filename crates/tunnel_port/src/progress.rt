@@ -2,11 +2,11 @@
 ghost use Rattle.std.specs.Prelude.{◌≡◌, ◌≢◌, ◌<◌, ◌≤◌, ◌+◌, true, false, length, take, None, IfSome};
 ghost use Rattle.port_trait.specs.Counting.{Grew};
 ghost use Rattle.port_trait.specs.declared.answers.Settled.TheVariants as settles;
-ghost use Rattle.tunnel_port.specs.declared.stage.Stage.TheVariants as stages;
+ghost use Rattle.tunnel_port.specs.declared.stage.TalkStage.TheVariants as stages;
 ghost use Rattle.tunnel_port.specs.Talks.{is_passed, is_over, IsOnly, behind_talk, InTalk, IsJudged, ComesAbout, NonePassedOver, AsksBeneath, LeavesBeneath, LeavesRequest, StillHears, Paused, nothing_of};
 
-use crate::stage::Stage;
-use crate::talk::{Heard, Talk};
+use crate::stage::TalkStage;
+use crate::talk::{HeardReply, Talk};
 use port_trait::{Got, Port, Settled, Took};
 
 /// Writes what is left of the request, and answers how much of it is written then.
@@ -37,7 +37,7 @@ fn ask<P: Port>(inner: &mut P, request: &[u8], said: usize) -> (usize, Settled)
 
 /// Reads one byte and has it heard. None where the reply goes on.
 #[tactic(auto, using(crate::proofs::Fronts::only_byte, crate::proofs::Fronts::nothing_adds))]
-fn hear_byte<P: Port, T: Talk>(inner: &mut P, talk: &mut T) -> Option<Stage>
+fn hear_byte<P: Port, T: Talk>(inner: &mut P, talk: &mut T) -> Option<TalkStage>
     requires hears { StillHears (T.judges talk.old) (T.heard talk.old) T.limit }
     requires heard { IsOnly (T.heard talk.old) (P.seen inner.old).gave }
     ensures more { result ≡ None → StillHears (T.judges talk.new) (T.heard talk.new) T.limit
@@ -56,18 +56,18 @@ fn hear_byte<P: Port, T: Talk>(inner: &mut P, talk: &mut T) -> Option<Stage>
     let mut byte = [0];
     match inner.read(&mut byte) {
         Got::Bytes(_) => match talk.hear(byte[0]) {
-            Heard::More => None,
-            Heard::Granted => Some(Stage::Passed),
-            Heard::Refused => Some(Stage::Refused),
+            HeardReply::More => None,
+            HeardReply::Granted => Some(TalkStage::Passed),
+            HeardReply::Refused => Some(TalkStage::Refused),
         },
-        Got::Empty | Got::End => Some(Stage::Cut),
-        Got::NotYet => Some(Stage::Talking),
-        Got::Failed => Some(Stage::Faulted),
+        Got::Empty | Got::End => Some(TalkStage::Cut),
+        Got::NotYet => Some(TalkStage::Talking),
+        Got::Failed => Some(TalkStage::Faulted),
     }
 }
 
 /// Reads the reply until it ends, or the port beneath has no more of it for now.
-fn listen<P: Port, T: Talk>(inner: &mut P, talk: &mut T) -> Stage
+fn listen<P: Port, T: Talk>(inner: &mut P, talk: &mut T) -> TalkStage
     requires hears { StillHears (T.judges talk.old) (T.heard talk.old) T.limit }
     requires heard { IsOnly (T.heard talk.old) (P.seen inner.old).gave }
     ensures judged { IsJudged (T.judges talk.new) (T.heard talk.new) T.limit result }
@@ -88,7 +88,7 @@ fn listen<P: Port, T: Talk>(inner: &mut P, talk: &mut T) -> Stage
 
 /// Goes on with the talk: writes what is left of the request, and once it is written reads the reply.
 #[tactic(auto, using(crate::proofs::Fronts::told_part, crate::proofs::Fronts::behind_part))]
-fn talk_on<P: Port, T: Talk>(inner: &mut P, talk: &mut T, said: &mut usize) -> Stage
+fn talk_on<P: Port, T: Talk>(inner: &mut P, talk: &mut T, said: &mut usize) -> TalkStage
     requires talk { InTalk (P.seen inner.old).took (P.seen inner.old).gave (T.asks talk.old) (T.heard talk.old) said.old stages.Talking }
     requires hears { StillHears (T.judges talk.old) (T.heard talk.old) T.limit }
     ensures talk { InTalk (P.seen inner.new).took (P.seen inner.new).gave (T.asks talk.new) (T.heard talk.new) said.new result }
@@ -104,8 +104,8 @@ fn talk_on<P: Port, T: Talk>(inner: &mut P, talk: &mut T, said: &mut usize) -> S
     *said = written;
     match asked {
         Settled::Ready => listen(inner, talk),
-        Settled::NotYet => Stage::Talking,
-        Settled::Failed => Stage::Faulted,
+        Settled::NotYet => TalkStage::Talking,
+        Settled::Failed => TalkStage::Faulted,
     }
 }
 
@@ -115,8 +115,8 @@ pub(crate) fn go_on<P: Port, T: Talk>(
     inner: &mut P,
     talk: &mut T,
     said: &mut usize,
-    stage: Stage,
-) -> Stage
+    stage: TalkStage,
+) -> TalkStage
     requires talk { InTalk (P.seen inner.old).took (P.seen inner.old).gave (T.asks talk.old) (T.heard talk.old) said.old stage }
     requires judged { IsJudged (T.judges talk.old) (T.heard talk.old) T.limit stage }
     ensures talk { InTalk (P.seen inner.new).took (P.seen inner.new).gave (T.asks talk.new) (T.heard talk.new) said.new result }
@@ -132,12 +132,12 @@ pub(crate) fn go_on<P: Port, T: Talk>(
     ensures left { LeavesRequest (T.asks talk.old) (T.asks talk.new) (P.seen inner.old) (P.seen inner.new) }
 {
     match stage {
-        Stage::Joining => match inner.settle() {
+        TalkStage::Joining => match inner.settle() {
             Settled::Ready => talk_on(inner, talk, said),
-            Settled::NotYet => Stage::Joining,
-            Settled::Failed => Stage::Faulted,
+            Settled::NotYet => TalkStage::Joining,
+            Settled::Failed => TalkStage::Faulted,
         },
-        Stage::Talking => talk_on(inner, talk, said),
-        Stage::Passed | Stage::Faulted | Stage::Refused | Stage::Cut => stage,
+        TalkStage::Talking => talk_on(inner, talk, said),
+        TalkStage::Passed | TalkStage::Faulted | TalkStage::Refused | TalkStage::Cut => stage,
     }
 }

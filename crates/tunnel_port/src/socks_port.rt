@@ -2,13 +2,13 @@
 ghost use Rattle.std.specs.Prelude.{◌≡◌, []};
 ghost use Rattle.tunnel_port.specs.Talks.{IsOnly};
 ghost use Rattle.tunnel_port.specs.Tunnels.{fresh_tunnel};
-ghost use Rattle.tunnel_port.specs.SocksReplies.{Stands, refusal_of};
+ghost use Rattle.tunnel_port.specs.SocksReplies.{SocksStands, refusal_of};
 
 use crate::port::TunnelPort;
 use crate::socks_refusal::SocksEnd;
 use crate::socks_request::Request;
 use crate::socks_talk::SocksTalk;
-use crate::stage::Stage;
+use crate::stage::TalkStage;
 use port_trait::Port;
 
 /// A port to a SOCKS server, and through it to a host: the request goes first and the reply comes first, and
@@ -29,14 +29,15 @@ impl<P: Port> TunnelPort<P, SocksTalk> {
     /// the server has failed.
     pub fn refusal(&self) -> Option<SocksEnd>
         ensures refusal { result ≡ refusal_of self.now.talk.heard self.now.stage }
-        ensures stands { Stands self.now.talk.heard self.now.stage }
+        ensures stands { SocksStands self.now.talk.heard self.now.stage }
     {
-        let heard = self.talk().heard();
+        let heard = self.talk().reply_bytes();
         match self.stage() {
-            Stage::Joining | Stage::Talking | Stage::Passed | Stage::Faulted => None,
-            Stage::Refused if heard[0] == 0 => Some(SocksEnd::Denied { code: heard[1] }),
-            Stage::Refused => Some(SocksEnd::BadReply { first: heard[0] }),
-            Stage::Cut => Some(SocksEnd::Short {
+            TalkStage::Joining | TalkStage::Talking | TalkStage::Passed | TalkStage::Faulted =>
+                None,
+            TalkStage::Refused if heard[0] == 0 => Some(SocksEnd::Denied { code: heard[1] }),
+            TalkStage::Refused => Some(SocksEnd::BadReply { first: heard[0] }),
+            TalkStage::Cut => Some(SocksEnd::Short {
                 have: heard.len() as u8,
             }),
         }

@@ -3,7 +3,7 @@ ghost use Rattle.std.specs.Prelude.{◌≡◌, []};
 ghost use Rattle.tunnel_port.specs.SocksReplies.{Judges};
 
 use crate::socks_request::Request;
-use crate::talk::{Heard, Talk};
+use crate::talk::{HeardReply, Talk};
 use std::marker::Model;
 
 /// A request, and the bytes of the reply that came.
@@ -38,7 +38,7 @@ impl SocksTalk {
     }
 
     /// The bytes of the reply that came.
-    pub fn heard(&self) -> &[u8]
+    pub fn reply_bytes(&self) -> &[u8]
         ensures { result.now ≡ self.now.heard }
     {
         &self.reply[..self.have]
@@ -58,15 +58,15 @@ impl Talk for SocksTalk {
         self.request.as_slice()
     }
 
-    fn hear(&mut self, byte: u8) -> Heard {
+    fn hear(&mut self, byte: u8) -> HeardReply {
         self.reply[self.have] = byte;
         self.have += 1;
         if self.have < 8 {
-            return Heard::More;
+            return HeardReply::More;
         }
         if self.reply[0] == 0 && self.reply[1] == 90 {
-            return Heard::Granted;
+            return HeardReply::Granted;
         }
-        Heard::Refused
+        HeardReply::Refused
     }
 }

@@ -6,7 +6,7 @@ use port_trait::{Got, Settled, Took};
 
 /// How far a talk has come.
 #[derive(Clone, Copy, Debug, PartialEq)]
-pub enum Stage {
+pub enum TalkStage {
     /// The port beneath hasn't settled yet.
     Joining,
     /// The request is being written, or the reply is being read.
@@ -21,25 +21,29 @@ pub enum Stage {
     Cut,
 }
 
-impl Stage {
+impl TalkStage {
     /// Whether the reply has granted the request.
     pub fn is_passed(self) -> bool
         ensures { result ≡ is_passed self }
     {
         match self {
-            Stage::Passed => true,
-            Stage::Joining | Stage::Talking | Stage::Faulted | Stage::Refused | Stage::Cut => false,
+            TalkStage::Passed => true,
+            TalkStage::Joining
+            | TalkStage::Talking
+            | TalkStage::Faulted
+            | TalkStage::Refused
+            | TalkStage::Cut => false,
         }
     }
 
     /// What a settling that came this far answers.
-    pub(crate) fn settled(self) -> Settled
+    pub(crate) fn settle_answer(self) -> Settled
         ensures { result ≡ settled_at self }
     {
         match self {
-            Stage::Passed => Settled::Ready,
-            Stage::Joining | Stage::Talking => Settled::NotYet,
-            Stage::Faulted | Stage::Refused | Stage::Cut => Settled::Failed,
+            TalkStage::Passed => Settled::Ready,
+            TalkStage::Joining | TalkStage::Talking => Settled::NotYet,
+            TalkStage::Faulted | TalkStage::Refused | TalkStage::Cut => Settled::Failed,
         }
     }
 
@@ -48,8 +52,8 @@ impl Stage {
         ensures { result ≡ read_at self }
     {
         match self {
-            Stage::Joining | Stage::Talking | Stage::Passed => Got::NotYet,
-            Stage::Faulted | Stage::Refused | Stage::Cut => Got::Failed,
+            TalkStage::Joining | TalkStage::Talking | TalkStage::Passed => Got::NotYet,
+            TalkStage::Faulted | TalkStage::Refused | TalkStage::Cut => Got::Failed,
         }
     }
 
@@ -58,8 +62,8 @@ impl Stage {
         ensures { result ≡ write_at self }
     {
         match self {
-            Stage::Joining | Stage::Talking | Stage::Passed => Took::NotYet,
-            Stage::Faulted | Stage::Refused | Stage::Cut => Took::Failed,
+            TalkStage::Joining | TalkStage::Talking | TalkStage::Passed => Took::NotYet,
+            TalkStage::Faulted | TalkStage::Refused | TalkStage::Cut => Took::Failed,
         }
     }
 }

@@ -1,11 +1,11 @@
 // What is said at the front of a port, and what is heard.
 ghost use Rattle.std.specs.Prelude.{◌≡◌, ◌<◌, ◌++◌, ◌∷◌, [], ℕ, List, length};
-ghost use Rattle.tunnel_port.specs.declared.talk.Heard.{Heard};
-ghost use Rattle.tunnel_port.specs.declared.talk.Heard.TheVariants as hearing;
+ghost use Rattle.tunnel_port.specs.declared.talk.HeardReply.{HeardReply};
+ghost use Rattle.tunnel_port.specs.declared.talk.HeardReply.TheVariants as hearing;
 
 /// What a reply says by the bytes that were heard of it.
 #[derive(Clone, Copy, Debug, PartialEq)]
-pub enum Heard {
+pub enum HeardReply {
     /// It goes on.
     More,
     /// It is whole, and grants the request.
@@ -23,14 +23,14 @@ pub trait Talk: Drop {
     // a reply has at most so many bytes
     ghost limit: { ℕ };
     // what the bytes that were heard say
-    ghost judges: { Self → Heard → Type 0 };
+    ghost judges: { Self → HeardReply → Type 0 };
 
     /// The bytes of the request.
     fn request(&self) -> &[u8]
         ensures { result.now ≡ asks self.now };
 
     /// Hears one more byte.
-    fn hear(&mut self, byte: u8) -> Heard
+    fn hear(&mut self, byte: u8) -> HeardReply
         requires { length (heard self.old) < limit }
         ensures asks { asks self.new ≡ asks self.old }
         ensures heard { heard self.new ≡ heard self.old ++ byte ∷ [] }

@@ -1,10 +1,10 @@
 // The check of each row, and the report of all.
 use crate::faults::RowFault;
-use crate::rows::{Line, Row, read_rows};
-use crate::runs::Ran;
-use crate::spelling::unquoted;
+use crate::rows::{Line, WorkedRow, read_rows};
+use crate::runs::RunResult;
+use crate::spelling::unquote;
 use crate::told::check_told;
-use crate::wants::{Seen, answer, verdict_text};
+use crate::wants::{SeenRun, answer, verdict_text};
 use relay_audit::{Verdict, audit};
 use relay_model::Text;
 use socat_top::Saving;
@@ -13,16 +13,16 @@ use std::str;
 
 /// What was found so far.
 #[derive(Drop)]
-pub(crate) struct Report {
+pub(crate) struct CheckReport {
     text: String,
     rows: u32,
     failed: u32,
 }
 
-impl Report {
+impl CheckReport {
     /// No rows yet; takes no memory.
-    pub(crate) fn new(alloc: Global) -> Report {
-        Report {
+    pub(crate) fn new(alloc: Global) -> CheckReport {
+        CheckReport {
             text: String::new(alloc),
             rows: 0,
             failed: 0,
@@ -53,7 +53,7 @@ impl Report {
     }
 
     /// Says whether a row fits.
-    fn conclude_row(&mut self, row: &Row<'_>, fits: bool) -> Result<(), AllocError> {
+    fn conclude_row(&mut self, row: &WorkedRow<'_>, fits: bool) -> Result<(), AllocError> {
         self.count(fits);
         let (_row, name) = row.head.parts();
         let word = if fits { "ok" } else { "FAILED" };
@@ -71,13 +71,13 @@ impl Report {
 /// Checks the rows of a file. Those behind a line that isn't understood aren't checked.
 pub(crate) fn check_file<F>(
     alloc: Global,
-    report: &mut Report,
+    report: &mut CheckReport,
     run: &F,
     name: &str,
     text: &str,
 ) -> Result<(), AllocError>
 where
-    F: Fn(Global, &Row<'_>, &[Text]) -> Result<Vec<Ran>, RowFault>,
+    F: Fn(Global, &WorkedRow<'_>, &[Text]) -> Result<Vec<RunResult>, RowFault>,
     requires { F.IsAlwaysCallable run.now }
 {
     match check_rows(alloc, report, run, text) {
@@ -90,9 +90,14 @@ where
     }
 }
 
-fn check_rows<F>(alloc: Global, report: &mut Report, run: &F, text: &str) -> Result<(), RowFault>
+fn check_rows<F>(
+    alloc: Global,
+    report: &mut CheckReport,
+    run: &F,
+    text: &str,
+) -> Result<(), RowFault>
 where
-    F: Fn(Global, &Row<'_>, &[Text]) -> Result<Vec<Ran>, RowFault>,
+    F: Fn(Global, &WorkedRow<'_>, &[Text]) -> Result<Vec<RunResult>, RowFault>,
     requires { F.IsAlwaysCallable run.now }
 {
     let rows = read_rows(alloc, text)?;
@@ -102,9 +107,14 @@ where
     Ok(())
 }
 
-fn check_row<F>(alloc: Global, report: &mut Report, run: &F, row: &Row<'_>) -> Result<(), RowFault>
+fn check_row<F>(
+    alloc: Global,
+    report: &mut CheckReport,
+    run: &F,
+    row: &WorkedRow<'_>,
+) -> Result<(), RowFault>
 where
-    F: Fn(Global, &Row<'_>, &[Text]) -> Result<Vec<Ran>, RowFault>,
+    F: Fn(Global, &WorkedRow<'_>, &[Text]) -> Result<Vec<RunResult>, RowFault>,
     requires { F.IsAlwaysCallable run.now }
 {
     let words = row.words(alloc)?;
@@ -120,13 +130,13 @@ where
 /// Whether each run of the words is as the row says.
 fn check_run<F>(
     alloc: Global,
-    report: &mut Report,
+    report: &mut CheckReport,
     run: &F,
-    row: &Row<'_>,
+    row: &WorkedRow<'_>,
     words: &[Text],
 ) -> Result<bool, RowFault>
 where
-    F: Fn(Global, &Row<'_>, &[Text]) -> Result<Vec<Ran>, RowFault>,
+    F: Fn(Global, &WorkedRow<'_>, &[Text]) -> Result<Vec<RunResult>, RowFault>,
     requires { F.IsAlwaysCallable run.now }
 {
     if !has_end(row) {
@@ -153,16 +163,16 @@ fn behind_first(words: &[Text]) -> &[Text] {
 }
 
 /// Whether the row says how its run ends.
-fn has_end(row: &Row<'_>) -> bool {
+fn has_end(row: &WorkedRow<'_>) -> bool {
     row.wants.iter().any(|line| line.text.starts_with("ends "))
 }
 
 /// Whether all is as the row asks for, and the journal is legal.
 fn compare(
     alloc: Global,
-    report: &mut Report,
-    row: &Row<'_>,
-    ran: &Ran,
+    report: &mut CheckReport,
+    row: &WorkedRow<'_>,
+    ran: &RunResult,
     verdict: Verdict,
 ) -> Result<bool, RowFault> {
     let (Ok(said), Ok(journal)) = (
@@ -171,7 +181,7 @@ fn compare(
     ) else {
         return Err(row.head.fault());
     };
-    let seen = Seen {
+    let seen = SeenRun {
         outcome: ran.outcome,
         status: ran.status,
         said: said.trim_end(),
@@ -195,7 +205,7 @@ fn compare(
 }
 
 /// Whether the auditor finds nothing wrong with a run that closed all; words that make no relay have no journal.
-fn is_legal(seen: &Seen<'_>) -> bool {
+fn is_legal(seen: &SeenRun<'_>) -> bool {
     match seen.verdict {
         Verdict::Yes { held, .. } => held == 0,
         Verdict::BadWords => seen.lines.is_empty(),
@@ -206,13 +216,13 @@ fn is_legal(seen: &Seen<'_>) -> bool {
 /// Whether one line of the row fits, or one of the answers that it leaves open, with ` | ` between.
 fn fits_line(
     alloc: Global,
-    report: &mut Report,
-    seen: &Seen<'_>,
+    report: &mut CheckReport,
+    seen: &SeenRun<'_>,
     line: Line<'_>,
     from: &mut usize,
 ) -> Result<bool, RowFault> {
     let (key, asked) = line.parts();
-    let asked = unquoted(alloc, asked)?.ok_or(line.fault())?;
+    let asked = unquote(alloc, asked)?.ok_or(line.fault())?;
     let mut have = String::new(alloc);
     for asked in asked.split(" | ") {
         have = answer(alloc, seen, key, asked, from)?.ok_or(line.fault())?;

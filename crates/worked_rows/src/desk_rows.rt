@@ -2,8 +2,8 @@
 ghost use Rattle.std.specs.Prelude.{◌≡◌, [], IfSome};
 
 use crate::faults::RowFault;
-use crate::rows::Row;
-use crate::runs::{Ran, part};
+use crate::rows::WorkedRow;
+use crate::runs::{RunResult, part};
 use crate::seen::{Look, back_line, taken_lines};
 use port_desk::{Desk, Standard};
 use port_objects::{MemPort, MemSink, Tap};
@@ -18,7 +18,7 @@ pub const ROOM: usize = 65_536;
 
 /// What is run, and by which desk.
 #[derive(Clone, Copy)]
-pub struct Run<'a> {
+pub struct DeskRun<'a> {
     pub alloc: Global,
     pub words: &'a [Text],
     pub turns: u64,
@@ -27,10 +27,15 @@ pub struct Run<'a> {
     pub recorder: Recorder,
 }
 
-impl<'a> Run<'a> {
+impl<'a> DeskRun<'a> {
     /// The run of a row's words by such a desk.
-    pub fn of(alloc: Global, row: &Row<'_>, words: &'a [Text], recorder: Recorder) -> Run<'a> {
-        Run {
+    pub fn of(
+        alloc: Global,
+        row: &WorkedRow<'_>,
+        words: &'a [Text],
+        recorder: Recorder,
+    ) -> DeskRun<'a> {
+        DeskRun {
             alloc,
             words,
             turns: row.turns,
@@ -48,13 +53,13 @@ pub struct Streams<I, O> {
 }
 
 /// Carries out the words over a desk of these ports, which have passed no bytes yet.
-pub fn carried_out<M, P, I: Port, O: Port>(
-    run: Run<'_>,
+pub fn carry_out<M, P, I: Port, O: Port>(
+    run: DeskRun<'_>,
     streams: Streams<I, O>,
     maker: M,
     poller: P,
     looks: &[Look],
-) -> Result<Ran, RowFault>
+) -> Result<RunResult, RowFault>
 where
     M: Maker + Drop,
     P: Poller + Drop,
@@ -70,13 +75,13 @@ where
         stdout,
         stderr,
     };
-    let written = written(run, standard, maker, poller, &mut file)?;
-    told(run.alloc, &written, &said, &saved, looks)
+    let written = run_over_desk(run, standard, maker, poller, &mut file)?;
+    collect_run(run.alloc, &written, &said, &saved, looks)
 }
 
 /// The run over a new desk, without what its clauses say of its end: nothing here asks for that.
-fn written<M, P, I: Port, O: Port>(
-    run: Run<'_>,
+fn run_over_desk<M, P, I: Port, O: Port>(
+    run: DeskRun<'_>,
     standard: Standard<I, O, MemPort>,
     maker: M,
     poller: P,
@@ -94,13 +99,13 @@ where
 }
 
 /// What the run left.
-fn told<I: Port, O: Port>(
+fn collect_run<I: Port, O: Port>(
     alloc: Global,
     written: &Written<I, O, MemPort>,
     said: &Tap,
     saved: &Tap,
     looks: &[Look],
-) -> Result<Ran, RowFault> {
+) -> Result<RunResult, RowFault> {
     let Shipped {
         outcome,
         standard,
@@ -110,7 +115,7 @@ fn told<I: Port, O: Port>(
     let mut ports = taken_lines(alloc, looks)?;
     ports.push(back_line(alloc, "stdin", &standard.stdin)?)?;
     ports.push(back_line(alloc, "stdout", &standard.stdout)?)?;
-    Ok(Ran {
+    Ok(RunResult {
         outcome: *outcome,
         status: written.status,
         said: said.bytes()?,

@@ -1,8 +1,8 @@
 // Files of rows are checked, and what was found is printed.
-use crate::checks::{Report, check_file};
+use crate::checks::{CheckReport, check_file};
 use crate::faults::RowFault;
-use crate::rows::Row;
-use crate::runs::Ran;
+use crate::rows::WorkedRow;
+use crate::runs::RunResult;
 use relay_model::Text;
 use std::alloc::Global;
 use std::rt::Files;
@@ -13,14 +13,14 @@ use std::{fs, io};
 pub fn check_files<R, F>(rt: &R, names: &[String], run: &F) -> io::Result<bool>
 where
     R: Files + Print + AllocGlobal,
-    F: Fn(Global, &Row<'_>, &[Text]) -> Result<Vec<Ran>, RowFault>,
+    F: Fn(Global, &WorkedRow<'_>, &[Text]) -> Result<Vec<RunResult>, RowFault>,
     requires { F.IsAlwaysCallable run.now }
 {
     if names.is_empty() {
         return Ok(true);
     }
     let alloc = rt.alloc();
-    let mut report = Report::new(alloc);
+    let mut report = CheckReport::new(alloc);
     for name in names {
         let text = fs::read_to_string(rt, name.as_str())?;
         check_file(alloc, &mut report, run, name.as_str(), text.as_str())?;

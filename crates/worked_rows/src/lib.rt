@@ -17,12 +17,12 @@ mod told;
 mod wants;
 mod worlds;
 
-pub use desk_rows::{ROOM, Run, Streams, carried_out};
+pub use desk_rows::{DeskRun, ROOM, Streams, carry_out};
 pub use faults::RowFault;
 pub use files::check_files;
-pub use rows::{Line, Row};
-pub use runs::{Parted, Ran, part};
+pub use rows::{Line, WorkedRow};
+pub use runs::{Parted, RunResult, part};
 pub use scripts::{port_of, source_of};
 pub use seen::{Look, taken_line};
-pub use settings::{Input, Output, Setting, System};
+pub use settings::{Input, Output, RowSystem, Setting};
 pub use worlds::world_of;

@@ -42,14 +42,14 @@ pub(crate) fn begins(line: &str, words: &str) -> bool {
 }
 
 /// The digits of what was moved at the place, in a line of this kind.
-fn moved<'a>(line: &'a str, kind: &str, place: &str) -> Option<&'a str> {
+fn moved_digits<'a>(line: &'a str, kind: &str, place: &str) -> Option<&'a str> {
     let rest = line.strip_prefix(kind)?;
     let rest = rest.strip_prefix(place)?;
     rest.strip_prefix(" x")
 }
 
 /// A place, and all bytes that were moved there. Rows can't ask for no bytes: no place is needed for these.
-pub(crate) fn joined(
+pub(crate) fn join_bytes(
     alloc: Global,
     lines: &[&str],
     kind: &str,
@@ -61,7 +61,7 @@ pub(crate) fn joined(
     }
     let mut text = format!(in alloc; "{place} x")?;
     for line in lines {
-        if let Some(digits) = moved(line, kind, place) {
+        if let Some(digits) = moved_digits(line, kind, place) {
             text.push_str(digits)?;
         }
     }
@@ -74,14 +74,14 @@ pub(crate) fn within(
     lines: &[&str],
     asked: &str,
 ) -> Result<Option<String>, AllocError> {
-    match joined(alloc, lines, "wrote ", asked)? {
+    match join_bytes(alloc, lines, "wrote ", asked)? {
         Some(text) if asked.starts_with(text.as_str()) => Ok(Some(String::from_str(alloc, asked)?)),
         other => Ok(other),
     }
 }
 
 /// A place, and the bytes of each write there.
-pub(crate) fn parted(
+pub(crate) fn list_pieces(
     alloc: Global,
     lines: &[&str],
     asked: &str,
@@ -89,7 +89,7 @@ pub(crate) fn parted(
     let (place, _pieces) = first_word(asked);
     let mut text = String::from_str(alloc, place)?;
     for line in lines {
-        if let Some(digits) = moved(line, "wrote ", place) {
+        if let Some(digits) = moved_digits(line, "wrote ", place) {
             text.push_str(" x")?;
             text.push_str(digits)?;
         }
@@ -113,7 +113,7 @@ pub(crate) fn count(
 }
 
 /// A number, and what was asked for where the line begins so; else the line.
-fn numbered(
+fn number_and_line(
     alloc: Global,
     number: &str,
     line: Option<&str>,
@@ -134,7 +134,7 @@ pub(crate) fn line_at(
     match number.parse::<usize>() {
         Ok(index) if index > 0 => {
             let line = lines.get(index - 1).copied();
-            numbered(alloc, number, line, words)
+            number_and_line(alloc, number, line, words)
         }
         _ => Ok(None),
     }
@@ -150,7 +150,7 @@ pub(crate) fn back(
     match number.parse::<usize>() {
         Ok(index) if index > 0 => {
             let line = lines.iter().rev().nth(index - 1).copied();
-            numbered(alloc, number, line, words)
+            number_and_line(alloc, number, line, words)
         }
         _ => Ok(None),
     }

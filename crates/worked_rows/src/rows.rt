@@ -12,7 +12,7 @@ pub struct Line<'a> {
 
 /// One worked run.
 #[derive(Drop)]
-pub struct Row<'a> {
+pub struct WorkedRow<'a> {
     pub head: Line<'a>,
     pub words: Option<&'a str>,
     /// A byte and how often it stands in a word in front of the others.
@@ -45,9 +45,9 @@ impl<'a> Line<'a> {
     }
 }
 
-impl<'a> Row<'a> {
-    fn new(alloc: Global, head: Line<'a>) -> Row<'a> {
-        Row {
+impl<'a> WorkedRow<'a> {
+    fn new(alloc: Global, head: Line<'a>) -> WorkedRow<'a> {
+        WorkedRow {
             head,
             words: None,
             long: None,
@@ -120,14 +120,18 @@ fn add_words(alloc: Global, words: &mut Texts, line: &str) -> Result<(), NoMemor
 }
 
 /// Takes a line of a file: it begins a row or belongs to the last one.
-fn take_line<'a>(alloc: Global, rows: &mut Vec<Row<'a>>, line: Line<'a>) -> Result<(), RowFault> {
+fn take_line<'a>(
+    alloc: Global,
+    rows: &mut Vec<WorkedRow<'a>>,
+    line: Line<'a>,
+) -> Result<(), RowFault> {
     if line.is_silent() {
         return Ok(());
     }
     match line.parts() {
         ("row", "") => return Err(line.fault()),
         ("row", _name) => {
-            rows.push(Row::new(alloc, line))?;
+            rows.push(WorkedRow::new(alloc, line))?;
             return Ok(());
         }
         _ => {}
@@ -139,7 +143,7 @@ fn take_line<'a>(alloc: Global, rows: &mut Vec<Row<'a>>, line: Line<'a>) -> Resu
 }
 
 /// The rows of a text.
-pub fn read_rows(alloc: Global, text: &str) -> Result<Vec<Row<'_>>, RowFault> {
+pub fn read_rows(alloc: Global, text: &str) -> Result<Vec<WorkedRow<'_>>, RowFault> {
     let mut rows = Vec::new(alloc);
     let mut number: usize = 0;
     for text in text.lines() {

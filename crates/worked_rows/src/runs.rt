@@ -7,7 +7,7 @@ use std::alloc::Global;
 
 /// What a run left.
 #[derive(Drop)]
-pub struct Ran {
+pub struct RunResult {
     pub outcome: Outcome,
     pub status: u8,
     /// What was said of the outcome.

@@ -4,24 +4,24 @@ ghost use Rattle.port_objects.specs.Scripts.{IsFilled, given_of};
 
 use crate::faults::RowFault;
 use crate::rows::Line;
-use crate::spelling::{act_of, unquoted};
+use crate::spelling::{act_of, unquote};
 use port_objects::{MemPort, MemSource, PortItem};
 use relay_model::{Act, Bytes, Side};
 use std::alloc::Global;
 
 /// What a read answers, and at which side.
 #[derive(Drop)]
-struct Item {
+struct ScriptedRead {
     side: Side,
     answer: PortItem,
 }
 
 /// What the line of a script says. There is no moment but 0.
-fn item_of(alloc: Global, line: Line<'_>) -> Result<Item, RowFault>
+fn item_of(alloc: Global, line: Line<'_>) -> Result<ScriptedRead, RowFault>
     ensures { IfOk result (λ item. IsFilled item.answer) }
 {
     let (moment, act) = line.parts();
-    let act = unquoted(alloc, act)?.ok_or(line.fault())?;
+    let act = unquote(alloc, act)?.ok_or(line.fault())?;
     if moment != "0" {
         return Err(line.fault());
     }
@@ -30,23 +30,23 @@ fn item_of(alloc: Global, line: Line<'_>) -> Result<Item, RowFault>
 }
 
 /// What a read answers in the act of this line.
-fn answer_of(act: &Act, line: Line<'_>) -> Result<Item, RowFault>
+fn answer_of(act: &Act, line: Line<'_>) -> Result<ScriptedRead, RowFault>
     ensures { IfOk result (λ item. IsFilled item.answer) }
 {
     match act {
-        Act::Read(place, bytes) if bytes.len() > 0 => Ok(Item {
+        Act::Read(place, bytes) if bytes.len() > 0 => Ok(ScriptedRead {
             side: place.side,
             answer: PortItem::Bytes(bytes.copy()?),
         }),
-        Act::ReadEnd(place) => Ok(Item {
+        Act::ReadEnd(place) => Ok(ScriptedRead {
             side: place.side,
             answer: PortItem::End,
         }),
-        Act::ReadNotYet(place) => Ok(Item {
+        Act::ReadNotYet(place) => Ok(ScriptedRead {
             side: place.side,
             answer: PortItem::NotYet,
         }),
-        Act::ReadFault(place) => Ok(Item {
+        Act::ReadFault(place) => Ok(ScriptedRead {
             side: place.side,
             answer: PortItem::Fault,
         }),

@@ -1,6 +1,6 @@
 // What the desk of a row is made of.
 use crate::faults::RowFault;
-use crate::rows::{Line, Row};
+use crate::rows::{Line, WorkedRow};
 
 /// What standard input is: a port in memory, or a ring over a source. That source may wait at a gate, until standard output
 /// took the key or until the run is over, or the thread of the ring may not be started.
@@ -22,7 +22,7 @@ pub enum Output {
 
 /// What makes all other ports, and what waits for them.
 #[derive(Clone, Copy)]
-pub enum System {
+pub enum RowSystem {
     /// Both in memory.
     Memory,
     /// The program's maker and its poller.
@@ -40,17 +40,17 @@ pub enum System {
 pub struct Setting<'a> {
     pub input: Input,
     pub output: Output,
-    pub system: System,
+    pub system: RowSystem,
     pub file: Option<&'a str>,
 }
 
 impl<'a> Setting<'a> {
     /// What the row says.
-    pub fn of(row: &Row<'a>) -> Result<Setting<'a>, RowFault> {
+    pub fn of(row: &WorkedRow<'a>) -> Result<Setting<'a>, RowFault> {
         let mut setting = Setting {
             input: Input::Memory,
             output: Output::Memory,
-            system: System::Memory,
+            system: RowSystem::Memory,
             file: None,
         };
         for line in row.over.as_slice() {
@@ -97,12 +97,12 @@ fn output_of(kind: &str) -> Option<Output> {
     Some(Output::Ring(room))
 }
 
-fn system_of(kind: &str) -> Option<System> {
+fn system_of(kind: &str) -> Option<RowSystem> {
     match kind {
-        "watched" => Some(System::Watched),
-        "served" => Some(System::Served),
-        "unwatched" => Some(System::Unwatched),
-        "ticking" => Some(System::Ticking),
+        "watched" => Some(RowSystem::Watched),
+        "served" => Some(RowSystem::Served),
+        "unwatched" => Some(RowSystem::Unwatched),
+        "ticking" => Some(RowSystem::Ticking),
         _ => None,
     }
 }

@@ -31,7 +31,7 @@ pub(crate) fn push_digits(line: &mut String, bytes: &[u8]) -> Result<(), AllocEr
 }
 
 /// How often a quoted text stands there, and what follows it: `*3` behind the quote is three times.
-fn repeated(behind: &str) -> (u32, &str) {
+fn count_repeats(behind: &str) -> (u32, &str) {
     match behind.strip_prefix('*') {
         Some(rest) => {
             let (times, rest) = rest.split_once(' ').unwrap_or((rest, ""));
@@ -43,7 +43,7 @@ fn repeated(behind: &str) -> (u32, &str) {
 
 /// Pushes the bytes of a quoted text, and what stands behind it.
 fn push_quoted(line: &mut String, quoted: &str, behind: &str) -> Result<(), AllocError> {
-    let (times, rest) = repeated(behind);
+    let (times, rest) = count_repeats(behind);
     line.push('x')?;
     for _ in 0..times {
         push_digits(line, quoted.as_bytes())?;
@@ -52,7 +52,7 @@ fn push_quoted(line: &mut String, quoted: &str, behind: &str) -> Result<(), Allo
 }
 
 /// The line with each text between single quotes as the bytes of it: `'ab'` is `x6162`. None where a quote isn't closed.
-pub(crate) fn unquoted(alloc: Global, line: &str) -> Result<Option<String>, AllocError> {
+pub(crate) fn unquote(alloc: Global, line: &str) -> Result<Option<String>, AllocError> {
     let mut whole = String::new(alloc);
     let mut quoted = None;
     for (i, part) in line.split('\'').enumerate() {

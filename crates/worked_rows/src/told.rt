@@ -1,8 +1,8 @@
 // Rows that tell a journal: what the auditor says of it, and its status.
-use crate::checks::Report;
+use crate::checks::CheckReport;
 use crate::faults::RowFault;
-use crate::rows::{Line, Row};
-use crate::spelling::unquoted;
+use crate::rows::{Line, WorkedRow};
+use crate::spelling::unquote;
 use crate::wants::one_line;
 use port_objects::{MemSink, MemSource};
 use relay_audit::audit_run;
@@ -21,7 +21,7 @@ struct Audited {
 fn text_of(alloc: Global, past: &[Line<'_>]) -> Result<String, RowFault> {
     let mut text = String::new(alloc);
     for line in past {
-        let act = unquoted(alloc, line.text)?.ok_or(line.fault())?;
+        let act = unquote(alloc, line.text)?.ok_or(line.fault())?;
         text.push_str(act.as_str())?;
         text.push('\n')?;
     }
@@ -29,7 +29,7 @@ fn text_of(alloc: Global, past: &[Line<'_>]) -> Result<String, RowFault> {
 }
 
 /// Audits the journal that a row tells, from a source in memory to a sink in memory.
-fn audit_told(alloc: Global, row: &Row<'_>, words: &[Text]) -> Result<Audited, RowFault> {
+fn audit_told(alloc: Global, row: &WorkedRow<'_>, words: &[Text]) -> Result<Audited, RowFault> {
     let text = text_of(alloc, row.past.as_slice())?;
     let mut source = MemSource::new(Bytes::of(alloc, text.as_bytes())?, row.unbroken);
     let mut sink = MemSink::new(alloc, row.room)?;
@@ -54,8 +54,8 @@ fn answer(alloc: Global, audited: &Audited, line: Line<'_>) -> Result<Option<Str
 /// Whether the auditor says of the journal what the row says.
 pub(crate) fn check_told(
     alloc: Global,
-    report: &mut Report,
-    row: &Row<'_>,
+    report: &mut CheckReport,
+    row: &WorkedRow<'_>,
     words: &[Text],
 ) -> Result<bool, RowFault> {
     if row.wants.is_empty() || !row.script.is_empty() {

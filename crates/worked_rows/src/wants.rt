@@ -1,6 +1,6 @@
 // What rows ask of a run, beside what is seen of it.
 use crate::lines::{
-    back, begins, count, joined, line_at, moment, parted, port_line, search, within,
+    back, begins, count, join_bytes, line_at, list_pieces, moment, port_line, search, within,
 };
 use crate::outcomes::outcome_text;
 use exit_status::Outcome;
@@ -10,7 +10,7 @@ use std::alloc::{AllocError, Global};
 
 /// What is seen of a run.
 #[derive(Drop)]
-pub(crate) struct Seen<'a> {
+pub(crate) struct SeenRun<'a> {
     pub(crate) outcome: Outcome,
     pub(crate) status: u8,
     pub(crate) said: &'a str,
@@ -29,7 +29,7 @@ pub(crate) struct Seen<'a> {
 /// `from` is the first line of the journal at which `then` looks.
 pub(crate) fn answer(
     alloc: Global,
-    seen: &Seen<'_>,
+    seen: &SeenRun<'_>,
     key: &str,
     asked: &str,
     from: &mut usize,
@@ -58,10 +58,10 @@ fn answer_of_acts(
     asked: &str,
 ) -> Result<Option<String>, AllocError> {
     match key {
-        "took" => joined(alloc, lines, "wrote ", asked),
-        "gave" => joined(alloc, lines, "read ", asked),
+        "took" => join_bytes(alloc, lines, "wrote ", asked),
+        "gave" => join_bytes(alloc, lines, "read ", asked),
         "within" => within(alloc, lines, asked),
-        "pieces" => parted(alloc, lines, asked),
+        "pieces" => list_pieces(alloc, lines, asked),
         "count" => count(alloc, lines, asked),
         "line" => line_at(alloc, lines, asked),
         "back" => back(alloc, lines, asked),

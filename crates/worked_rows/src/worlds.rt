@@ -1,25 +1,25 @@
 // The script of a row, and the world that it makes.
 ghost use Rattle.std.specs.Prelude.{◌≡◌, IfOk};
-ghost use Rattle.relay_model.specs.declared.places.Place.{Place as Spot};
+ghost use Rattle.relay_model.specs.declared.places.Place.{Place};
 ghost use Rattle.relay_model.specs.Holding.{Free};
 
 use crate::faults::RowFault;
 use crate::rows::Line;
-use crate::spelling::{act_of, place_of, unquoted};
+use crate::spelling::{act_of, place_of, unquote};
 use relay_model::{Act, NoMemory};
 use scripted_world::{MemWorld, OpenItem, PeerItem, ReadItem, WriteItem};
 use std::alloc::Global;
 use world_trait::World;
 
 fn empty(alloc: Global) -> MemWorld
-    ensures { (p : Spot) → (⟦<MemWorld as World>⟧.seen result).held p ≡ Free }
+    ensures { (p : Place) → (⟦<MemWorld as World>⟧.seen result).held p ≡ Free }
 {
     MemWorld::new(alloc)
 }
 
 /// The world of a script.
 pub fn world_of(alloc: Global, script: &[Line<'_>]) -> Result<MemWorld, RowFault>
-    ensures { IfOk result (λ world. (p : Spot) → (⟦<MemWorld as World>⟧.seen world).held p ≡ Free) }
+    ensures { IfOk result (λ world. (p : Place) → (⟦<MemWorld as World>⟧.seen world).held p ≡ Free) }
 {
     let mut world = empty(alloc);
     for line in script {
@@ -30,12 +30,12 @@ pub fn world_of(alloc: Global, script: &[Line<'_>]) -> Result<MemWorld, RowFault
 
 /// Adds what a line of a script says: a moment, and an item.
 fn add_line(alloc: Global, world: &mut MemWorld, line: Line<'_>) -> Result<(), RowFault>
-    requires free { (p : Spot) → (⟦<MemWorld as World>⟧.seen world.old).held p ≡ Free }
-    ensures free { (p : Spot) → (⟦<MemWorld as World>⟧.seen world.new).held p ≡ Free }
+    requires free { (p : Place) → (⟦<MemWorld as World>⟧.seen world.old).held p ≡ Free }
+    ensures free { (p : Place) → (⟦<MemWorld as World>⟧.seen world.new).held p ≡ Free }
 {
     let (moment, item) = line.parts();
     let at = moment.parse().map_err(|_| line.fault())?;
-    let item = unquoted(alloc, item)?.ok_or(line.fault())?;
+    let item = unquote(alloc, item)?.ok_or(line.fault())?;
     if add_item(alloc, world, at, item.as_str())? {
         Ok(())
     } else {
@@ -45,8 +45,8 @@ fn add_line(alloc: Global, world: &mut MemWorld, line: Line<'_>) -> Result<(), R
 
 /// Adds an item that is due at this moment, if the text spells one.
 fn add_item(alloc: Global, world: &mut MemWorld, at: u64, item: &str) -> Result<bool, NoMemory>
-    requires free { (p : Spot) → (⟦<MemWorld as World>⟧.seen world.old).held p ≡ Free }
-    ensures free { (p : Spot) → (⟦<MemWorld as World>⟧.seen world.new).held p ≡ Free }
+    requires free { (p : Place) → (⟦<MemWorld as World>⟧.seen world.old).held p ≡ Free }
+    ensures free { (p : Place) → (⟦<MemWorld as World>⟧.seen world.new).held p ≡ Free }
 {
     if item == "stop" {
         world.add_stop(at)?;
@@ -63,8 +63,8 @@ fn add_item(alloc: Global, world: &mut MemWorld, at: u64, item: &str) -> Result<
 
 /// Adds a write that takes so many bytes at most: a place and a number.
 fn add_limit(alloc: Global, world: &mut MemWorld, at: u64, text: &str) -> Result<bool, NoMemory>
-    requires free { (p : Spot) → (⟦<MemWorld as World>⟧.seen world.old).held p ≡ Free }
-    ensures free { (p : Spot) → (⟦<MemWorld as World>⟧.seen world.new).held p ≡ Free }
+    requires free { (p : Place) → (⟦<MemWorld as World>⟧.seen world.old).held p ≡ Free }
+    ensures free { (p : Place) → (⟦<MemWorld as World>⟧.seen world.new).held p ≡ Free }
 {
     let (place, most) = text.split_once(' ').unwrap_or((text, ""));
     let most = most.parse().unwrap_or(0);
@@ -79,8 +79,8 @@ fn add_limit(alloc: Global, world: &mut MemWorld, at: u64, text: &str) -> Result
 
 /// Adds the item that makes a world answer this act, if there is one.
 fn add_act(world: &mut MemWorld, at: u64, act: &Act) -> Result<bool, NoMemory>
-    requires free { (p : Spot) → (⟦<MemWorld as World>⟧.seen world.old).held p ≡ Free }
-    ensures free { (p : Spot) → (⟦<MemWorld as World>⟧.seen world.new).held p ≡ Free }
+    requires free { (p : Place) → (⟦<MemWorld as World>⟧.seen world.old).held p ≡ Free }
+    ensures free { (p : Place) → (⟦<MemWorld as World>⟧.seen world.new).held p ≡ Free }
 {
     if add_transfer(world, at, act)? || add_peer(world, at, act)? {
         return Ok(true);
@@ -89,8 +89,8 @@ fn add_act(world: &mut MemWorld, at: u64, act: &Act) -> Result<bool, NoMemory>
 }
 
 fn add_transfer(world: &mut MemWorld, at: u64, act: &Act) -> Result<bool, NoMemory>
-    requires free { (p : Spot) → (⟦<MemWorld as World>⟧.seen world.old).held p ≡ Free }
-    ensures free { (p : Spot) → (⟦<MemWorld as World>⟧.seen world.new).held p ≡ Free }
+    requires free { (p : Place) → (⟦<MemWorld as World>⟧.seen world.old).held p ≡ Free }
+    ensures free { (p : Place) → (⟦<MemWorld as World>⟧.seen world.new).held p ≡ Free }
 {
     match act {
         Act::Read(place, bytes) if bytes.len() > 0 => {
@@ -108,8 +108,8 @@ fn add_transfer(world: &mut MemWorld, at: u64, act: &Act) -> Result<bool, NoMemo
 
 /// Adds what comes to a door, which stands in the place of the one that is accepted.
 fn add_peer(world: &mut MemWorld, at: u64, act: &Act) -> Result<bool, NoMemory>
-    requires free { (p : Spot) → (⟦<MemWorld as World>⟧.seen world.old).held p ≡ Free }
-    ensures free { (p : Spot) → (⟦<MemWorld as World>⟧.seen world.new).held p ≡ Free }
+    requires free { (p : Place) → (⟦<MemWorld as World>⟧.seen world.old).held p ≡ Free }
+    ensures free { (p : Place) → (⟦<MemWorld as World>⟧.seen world.new).held p ≡ Free }
 {
     match act {
         Act::Accepted(door, peer) if door.door => {
@@ -122,8 +122,8 @@ fn add_peer(world: &mut MemWorld, at: u64, act: &Act) -> Result<bool, NoMemory>
 }
 
 fn add_opening(world: &mut MemWorld, act: &Act) -> Result<bool, NoMemory>
-    requires free { (p : Spot) → (⟦<MemWorld as World>⟧.seen world.old).held p ≡ Free }
-    ensures free { (p : Spot) → (⟦<MemWorld as World>⟧.seen world.new).held p ≡ Free }
+    requires free { (p : Place) → (⟦<MemWorld as World>⟧.seen world.old).held p ≡ Free }
+    ensures free { (p : Place) → (⟦<MemWorld as World>⟧.seen world.new).held p ≡ Free }
 {
     match act {
         Act::Opened(place) if !place.door => world.add_open(*place, 0, OpenItem::Opens)?,
@@ -137,8 +137,8 @@ fn add_opening(world: &mut MemWorld, act: &Act) -> Result<bool, NoMemory>
 }
 
 fn add_ending(world: &mut MemWorld, act: &Act) -> Result<bool, NoMemory>
-    requires free { (p : Spot) → (⟦<MemWorld as World>⟧.seen world.old).held p ≡ Free }
-    ensures free { (p : Spot) → (⟦<MemWorld as World>⟧.seen world.new).held p ≡ Free }
+    requires free { (p : Place) → (⟦<MemWorld as World>⟧.seen world.old).held p ≡ Free }
+    ensures free { (p : Place) → (⟦<MemWorld as World>⟧.seen world.new).held p ≡ Free }
 {
     match act {
         Act::ShutFault(place, _) => world.add_shut_fault(*place)?,

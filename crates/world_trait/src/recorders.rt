@@ -53,7 +53,7 @@ impl Recording {
     }
 
     /// What was kept; with `Skip` that is nothing.
-    pub fn kept(&self) -> &Kept
+    pub fn kept_lists(&self) -> &Kept
         ensures skipped { is_some self.now.told ≡ false → KeepsNothing result.now }
         ensures told { is_some self.now.told ≡ true → self.now.told ≡ Some (record { acts = result.now.journal.acts; asked = result.now.asked.pairs }) }
     {
@@ -70,7 +70,7 @@ impl Recording {
     }
 
     /// A copy of these bytes for an act, where acts are kept.
-    pub fn copied(&self, alloc: Global, bytes: &[u8]) -> Result<Option<Bytes>, NoMemory>
+    pub fn copy_if_kept(&self, alloc: Global, bytes: &[u8]) -> Result<Option<Bytes>, NoMemory>
         ensures ok { IfOk result (λ copy. MatchOption copy (self.now.told ≡ None) (λ kept. kept ≡ bytes.now)) }
         ensures lacked { OnErr result (is_some self.now.told ≡ true) }
     {

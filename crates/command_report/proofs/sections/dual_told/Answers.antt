@@ -6,6 +6,6 @@ use Rattle.command_report.proofs.sections.dual_told.Goals as goal
 
 pub returns : goal.returns
 returns c =
-    let read = c.formed.ensures ∙ ap (formed c.args.config.now) c.way_from.ensures in
-    let written = c.formed-2.ensures ∙ ap (formed c.args.config.now) c.way_to.ensures in
+    let read = c.is_formed.ensures ∙ ap (formed c.args.config.now) c.way_from.ensures in
+    let written = c.is_formed-2.ensures ∙ ap (formed c.args.config.now) c.way_to.ensures in
     both_told (title_of c.args.side) _ _ _ _ _ _ _ _ _ _ _ c.in_ok-page.ensures c.in_ok-place_told.ensures read written c.in_ok-append.ensures c.in_ok-say_ending.ensures

@@ -7,6 +7,6 @@ use Rattle.command_report.proofs.sections.single_told.Goals as goal
 
 pub returns : goal.returns
 returns c =
-    let read = c.formed.ensures ∙ ap (formed c.args.config.now) c.way_from.ensures in
-    let written = c.formed-2.ensures ∙ ap (formed c.args.config.now) c.way_to.ensures in
+    let read = c.is_formed.ensures ∙ ap (formed c.args.config.now) c.way_from.ensures in
+    let written = c.is_formed-2.ensures ∙ ap (formed c.args.config.now) c.way_to.ensures in
     one_told (title_of c.args.side ++ said ": ") _ _ _ _ _ _ _ _ c.in_ok-page.ensures read written c.in_ok-say_ending.ensures

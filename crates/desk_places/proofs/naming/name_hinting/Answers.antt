@@ -2,7 +2,7 @@ use Rattle.std.proofs.Common.{ap}
 use Rattle.port_table.specs.Ports.{StreamSeen}
 use Rattle.desk_places.specs.Keys.{KeyTable}
 use Rattle.desk_places.proofs.TurnLemmas.{hinting_all, listed_told, told_same}
-use Rattle.desk_places.proofs.OnlyLemmas.{only_step, same_then}
+use Rattle.desk_places.proofs.OnlyLemmas.{names_then}
 use Rattle.desk_places.proofs.naming.name_hinting.Goals as goal
 
 pub returns-clause-named : goal.returns-clause-named
@@ -10,14 +10,10 @@ returns-clause-named g c =
     let before = c.args.ports.now.table in
     let between = c.name_standard.new.ports.table in
     let same = told_same before.input.port.hints before.output.port.hints before.errors.port.hints between.input.port.hints between.output.port.hints between.errors.port.hints before.made between.made
-    (ap (λ (s : StreamSeen). s.port.hints) c.name_standard.ensures.same.streams.input) (ap (λ (s : StreamSeen). s.port.hints) c.name_standard.ensures.same.streams.output) (ap (λ (s : StreamSeen). s.port.hints) c.name_standard.ensures.same.streams.errors) c.name_standard.ensures.same.made in
-    hinting_all before.input.port.hints before.output.port.hints before.errors.port.hints before.made c.args.stations.now.entries c.args.ports.now.listed c.name_standard.new.ready.entries c.name_listed.new.ready.entries c.name_standard.ensures.named c.name_listed.ensures.grown
-    (listed_told _ _ c.args.stations.now.entries before.made between.made c.args.ports.now.listed.keys c.name_standard.new.ports.listed.keys c.name_listed.new.ready.entries same c.name_standard.ensures.same.made (ap (λ (t : KeyTable). t.keys) c.name_standard.ensures.same.listed) c.name_listed.ensures.named)
+    (ap (λ (s : StreamSeen). s.port.hints) c.name_standard.ensures.list.same.streams.input) (ap (λ (s : StreamSeen). s.port.hints) c.name_standard.ensures.list.same.streams.output) (ap (λ (s : StreamSeen). s.port.hints) c.name_standard.ensures.list.same.streams.errors) c.name_standard.ensures.list.same.made in
+    hinting_all before.input.port.hints before.output.port.hints before.errors.port.hints before.made c.args.stations.now.entries c.args.ports.now.listed c.name_standard.new.ready.entries c.name_listed.new.ready.entries c.name_standard.ensures.named c.name_listed.ensures.list.grown
+    (listed_told _ _ c.args.stations.now.entries before.made between.made c.args.ports.now.listed.keys c.name_standard.new.ports.listed.keys c.name_listed.new.ready.entries same c.name_standard.ensures.list.same.made (ap (λ (t : KeyTable). t.keys) c.name_standard.ensures.list.same.listed) c.name_listed.ensures.named)
     c.requires.sound
 
-pub returns-clause-only : goal.returns-clause-only
-returns-clause-only g c = λ keys only.
-    only_step keys c.args.ports.now.table c.name_standard.new.ports.table c.args.stations.now.entries c.name_standard.new.ready.entries c.name_listed.new.ready.entries c.name_standard.ensures.same.streams c.name_standard.ensures.same.made (c.name_listed.ensures.only keys) (c.name_standard.ensures.only keys only)
-
-pub returns-clause-same : goal.returns-clause-same
-returns-clause-same g c = same_then c.args.ports.now c.name_standard.new.ports c.name_listed.new.ports c.name_standard.ensures.same c.name_listed.ensures.same
+pub returns-clause-list : goal.returns-clause-list
+returns-clause-list g c = names_then c.args.stations.now.entries c.args.ports.now c.name_standard.new.ports c.name_listed.new.ports c.args.ready.now c.name_standard.new.ready c.name_listed.new.ready c.name_standard.ensures.list c.name_listed.ensures.list

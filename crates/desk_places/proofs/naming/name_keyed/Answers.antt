@@ -3,7 +3,7 @@ use Rattle.desk_places.proofs.NamingLemmas.{keyed_all, keyed_more}
 use Rattle.desk_places.proofs.naming.name_keyed.Goals as goal
 
 pub name_key-requires-clause-fits : goal.name_key-requires-clause-fits
-name_key-requires-clause-fits g c = omega (arith, c.loop-i.invariant.most, c.loop-i-test.true, c.len-i-end.ensures.most)
+name_key-requires-clause-fits g c = omega (arith, c.loop-i.invariant.most, c.loop-i-test.true, c.len-i-end.ensures.bounded)
 
 pub loop-i-preserved : goal.loop-i-preserved
 loop-i-preserved g c = record {
@@ -15,4 +15,4 @@ loop-i-preserved g c = record {
 }
 
 pub returns-clause-named : goal.returns-clause-named
-returns-clause-named g c = keyed_all c.args.keys.now.entries c.args.stations.now.entries c.loop-i.i c.loop-i.ready.entries (omega (arith, c.loop-i-test.false, c.len-i-end.ensures.value)) c.loop-i.invariant.named
+returns-clause-named g c = keyed_all c.args.keys.now.entries c.args.stations.now.entries c.loop-i.i c.loop-i.ready.entries (omega (arith, c.loop-i-test.false, c.len-i-end.ensures.len)) c.loop-i.invariant.named

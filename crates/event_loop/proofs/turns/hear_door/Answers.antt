@@ -10,9 +10,9 @@ loop-i-preserved c = λ k past until at st. rw (take_next c.args.ready.now.entri
 pub returns-then-stop : goal.returns-then-stop
 returns-then-stop c =
     let e : c.loop-i.i ≡ length c.args.ready.now.entries = omega arith in
-    rw c.if-stop.true (λ k past until at st. c.cut.ensures.stop k past until at (copied_list c.args.ready.now) (rw (e, take-length c.args.ready.now.entries) at (c.loop-i.invariant k past until at (c.woken.ensures k past until at 0 st))) refl)
+    rw c.if-stop.true (λ k past until at st. c.cut.ensures.stop k past until at (copied_list c.args.ready.now) (rw (e, take-length c.args.ready.now.entries) at (c.loop-i.invariant k past until at (c.wake.ensures k past until at 0 st))) refl)
 
 pub returns-else-stop : goal.returns-else-stop
 returns-else-stop c =
     let e : c.loop-i.i ≡ length c.args.ready.now.entries = omega arith in
-    rw c.if-stop.false (λ k past until at st. rw (e, take-length c.args.ready.now.entries) at (c.loop-i.invariant k past until at (c.woken.ensures k past until at 0 st)))
+    rw c.if-stop.false (λ k past until at st. rw (e, take-length c.args.ready.now.entries) at (c.loop-i.invariant k past until at (c.wake.ensures k past until at 0 st)))

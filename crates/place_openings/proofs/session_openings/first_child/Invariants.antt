@@ -1,10 +1,9 @@
-use Rattle.std.proofs.Common.{◌≡◌, length, map}
-use Rattle.place_openings.specs.States.{state_of}
+use Rattle.std.proofs.Common.{◌≡◌, length}
 use Rattle.place_openings.specs.Queries.{first_of, child_by}
 use Rattle.place_openings.proofs.session_openings.first_child.Given as goal
 
 abbrev pub invariant-loop-openings : goal.invariant-loop-openings
-invariant-loop-openings l = first_of child_by (map state_of l.openings) ≡ first_of child_by (map state_of l.initial.openings)
+invariant-loop-openings l = first_of child_by l.openings ≡ first_of child_by l.initial.openings
 
 abbrev pub decreases-loop-openings : goal.decreases-loop-openings
 decreases-loop-openings l = length l.openings

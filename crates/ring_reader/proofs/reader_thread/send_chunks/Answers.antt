@@ -1,6 +1,6 @@
 use Rattle.std.proofs.Common.{rules, take, length, length-drop, ap, ◌∙◌, arith}
 use Rattle.crossbeam_queue.specs.Passes.{view}
-use Rattle.ring_queue.specs.declared.roles.View.{View}
+use Rattle.ring_queue.specs.declared.roles.PassView.{PassView}
 use Rattle.ring_queue.specs.declared.items.RingItem.{RingItem}
 use Rattle.ring_queue.proofs.ItemLists.{chunk_more}
 use Rattle.ring_reader.proofs.reader_thread.send_chunks.Goals as goal
@@ -9,7 +9,7 @@ pub loop-at-preserved : goal.loop-at-preserved
 loop-at-preserved g c =
     let chunk = c.chunk_of-chunk.result in
     let rest = c.split_at.ensures.back in
-    let sent = ap (λ (v : View RingItem). v.sent) (c.send_item.ensures.sent c.if-not-send_item.false) in
+    let sent = ap (λ (v : PassView RingItem). v.sent) (c.send_item.ensures.sent c.if-not-send_item.false) in
     record {
       queue = search rules;
       looks = search rules;

@@ -1,5 +1,5 @@
-use Rattle.event_loop.specs.Loops.{Somewhere}
+use Rattle.event_loop.specs.Loops.{LoopSomewhere}
 use Rattle.run_trials.proofs.looks.count_looks.Given as goal
 
 abbrev pub invariant-loop : goal.invariant-loop
-invariant-loop g l = Somewhere (g.W.World.seen l.world) l.whole
+invariant-loop g l = LoopSomewhere (g.W.World.seen l.world) l.whole

@@ -13,10 +13,10 @@ pushed false old new e room full done = absurd (let f : false ≡ true = full.1 
 one_longer : (xs : List ReadyAt) (e : ReadyAt) → length xs < 256 → length (xs ++ e ∷ []) ≤ 256
 one_longer xs e room = grind (arith, common_steps)
 
-pub returns-then-len-lt-MOST-clause-named : goal.returns-then-len-lt-MOST-clause-named
-returns-then-len-lt-MOST-clause-named c =
+pub returns-then-len-lt-MOST_READY-clause-named : goal.returns-then-len-lt-MOST_READY-clause-named
+returns-then-len-lt-MOST_READY-clause-named c =
     let room : length c.args.ready.now.entries < 256 = omega arith in
     pushed c.push.result c.args.ready.now c.push.new.self c.args.entry room c.push.ensures.full c.push.ensures.pushed ∙ sym (take_fits 256 (c.args.ready.now.entries ++ c.args.entry ∷ []) (one_longer c.args.ready.now.entries c.args.entry room))
 
-pub returns-else-len-lt-MOST-clause-named : goal.returns-else-len-lt-MOST-clause-named
-returns-else-len-lt-MOST-clause-named c = sym (take_full 256 c.args.ready.now.entries (c.args.entry ∷ []) (omega arith) (omega arith))
+pub returns-else-len-lt-MOST_READY-clause-named : goal.returns-else-len-lt-MOST_READY-clause-named
+returns-else-len-lt-MOST_READY-clause-named c = sym (take_full 256 c.args.ready.now.entries (c.args.entry ∷ []) (omega arith) (omega arith))

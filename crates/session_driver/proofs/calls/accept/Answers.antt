@@ -13,7 +13,7 @@ returns-in-Accepted g c = (
     asked = None;
     failed = false;
     did = c.in-Accepted.ensures.act;
-    heard = λ n past s st. heard_as _ n past s _ _ _ _ c.requires.wish (c.heard.ensures.act c.args.config.now n past s st);
+    heard = λ n past s st. heard_as _ n past s _ _ _ _ c.requires.wish (c.hear.ensures.act c.args.config.now n past s st);
     own = λ n past s st. tt;
     here = λ n past s st. at_own _ s c.args.place _ (λ p. refl) refl (own_by _ n past s _ _ st c.requires.wish).1;
     closes = closes_as _ _ c.args.session.now c.requires.wish refl;
@@ -22,8 +22,8 @@ returns-in-Accepted g c = (
     rose = c.in-Accepted.ensures.cause;
     blameless = λ e past. refl;
     waitless = c.in-Accepted.ensures.waitless;
-    over = λ n past s st e. c.heard.ensures.over c.args.config.now n past s st e;
-    ending = λ n past s st e. c.heard.ensures.ending c.args.config.now n past s st e;
+    over = λ n past s st e. c.hear.ensures.over c.args.config.now n past s st e;
+    ending = λ n past s st e. c.hear.ensures.ending c.args.config.now n past s st e;
   },
 )
 
@@ -35,7 +35,7 @@ returns-in-NoPeer g c = (
     asked = None;
     failed = false;
     did = c.in-NoPeer.ensures.act;
-    heard = λ n past s st. heard_as _ n past s _ _ _ _ c.requires.wish (c.heard-in-NoPeer.ensures.act c.args.config.now n past s st);
+    heard = λ n past s st. heard_as _ n past s _ _ _ _ c.requires.wish (c.hear-in-NoPeer.ensures.act c.args.config.now n past s st);
     own = λ n past s st. tt;
     here = λ n past s st. at_own _ s c.args.door _ (λ p. refl) refl (own_by _ n past s _ _ st c.requires.wish).0;
     closes = closes_as _ _ c.args.session.now c.requires.wish refl;
@@ -44,8 +44,8 @@ returns-in-NoPeer g c = (
     rose = c.in-NoPeer.ensures.cause;
     blameless = λ e past. refl;
     waitless = c.in-NoPeer.ensures.waitless;
-    over = λ n past s st e. c.heard-in-NoPeer.ensures.over c.args.config.now n past s st e;
-    ending = λ n past s st e. c.heard-in-NoPeer.ensures.ending c.args.config.now n past s st e;
+    over = λ n past s st e. c.hear-in-NoPeer.ensures.over c.args.config.now n past s st e;
+    ending = λ n past s st e. c.hear-in-NoPeer.ensures.ending c.args.config.now n past s st e;
   },
 )
 
@@ -57,7 +57,7 @@ returns-in-Failed g c = (
     asked = None;
     failed = true;
     did = c.in-Failed.ensures.act;
-    heard = λ n past s st. heard_as _ n past s _ _ _ _ c.requires.wish (c.heard-in-Failed.ensures.act c.args.config.now n past s st);
+    heard = λ n past s st. heard_as _ n past s _ _ _ _ c.requires.wish (c.hear-in-Failed.ensures.act c.args.config.now n past s st);
     own = λ n past s st. tt;
     here = λ n past s st. at_own _ s c.args.door _ (λ p. refl) refl (own_by _ n past s _ _ st c.requires.wish).0;
     closes = closes_as _ _ c.args.session.now c.requires.wish refl;
@@ -66,8 +66,8 @@ returns-in-Failed g c = (
     rose = c.in-Failed.ensures.cause;
     blameless = λ e past. absurd (true≢false e);
     waitless = c.in-Failed.ensures.waitless;
-    over = λ n past s st e. c.heard-in-Failed.ensures.over c.args.config.now n past s st e;
-    ending = λ n past s st e. c.heard-in-Failed.ensures.ending c.args.config.now n past s st e;
+    over = λ n past s st e. c.hear-in-Failed.ensures.over c.args.config.now n past s st e;
+    ending = λ n past s st e. c.hear-in-Failed.ensures.ending c.args.config.now n past s st e;
   },
 )
 

@@ -13,7 +13,7 @@ returns-clause-step g c = (
     asked = None;
     failed = false;
     did = c.close.ensures.act;
-    heard = λ n past s st. heard_as _ n past s _ _ _ _ c.requires.wish (c.heard.ensures.act c.args.config.now n past s st);
+    heard = λ n past s st. heard_as _ n past s _ _ _ _ c.requires.wish (c.hear.ensures.act c.args.config.now n past s st);
     own = λ n past s st. tt;
     here = λ n past s st. at_own _ s c.args.place _ (λ p. refl) refl (own_by _ n past s _ _ st c.requires.wish);
     closes = closes_as _ _ c.args.session.now c.requires.wish refl;
@@ -22,7 +22,7 @@ returns-clause-step g c = (
     rose = record { later = c.close.ensures.faults; rose = λ e. absurd (false≢true e) };
     blameless = λ e past. refl;
     waitless = c.close.ensures.waitless;
-    over = λ n past s st e. c.heard.ensures.over c.args.config.now n past s st e;
-    ending = λ n past s st e. c.heard.ensures.ending c.args.config.now n past s st e;
+    over = λ n past s st e. c.hear.ensures.over c.args.config.now n past s st e;
+    ending = λ n past s st e. c.hear.ensures.ending c.args.config.now n past s st e;
   },
 )

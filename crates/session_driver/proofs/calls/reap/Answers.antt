@@ -13,7 +13,7 @@ returns-in-Reaped g c = (
     asked = None;
     failed = false;
     did = c.in-Reaped.ensures.act;
-    heard = λ n past s st. heard_as _ n past s _ _ _ _ c.requires.wish (c.heard.ensures.act c.args.config.now n past s st);
+    heard = λ n past s st. heard_as _ n past s _ _ _ _ c.requires.wish (c.hear.ensures.act c.args.config.now n past s st);
     own = λ n past s st. tt;
     here = λ n past s st. at_own _ s c.args.place _ (λ p. refl) refl (own_by _ n past s _ _ st c.requires.wish);
     closes = closes_as _ _ c.args.session.now c.requires.wish refl;
@@ -22,8 +22,8 @@ returns-in-Reaped g c = (
     rose = record { later = c.in-Reaped.ensures.faults; rose = λ e. absurd (false≢true e) };
     blameless = λ e past. refl;
     waitless = c.in-Reaped.ensures.waitless;
-    over = λ n past s st e. c.heard.ensures.over c.args.config.now n past s st e;
-    ending = λ n past s st e. c.heard.ensures.ending c.args.config.now n past s st e;
+    over = λ n past s st e. c.hear.ensures.over c.args.config.now n past s st e;
+    ending = λ n past s st e. c.hear.ensures.ending c.args.config.now n past s st e;
   },
 )
 
@@ -31,10 +31,10 @@ pub returns-in-NoChild : goal.returns-in-NoChild
 returns-in-NoChild g c = (
   record {
     did = unreaped c.args.place c.reap.result _ _ c.in-NoChild.is c.reap.ensures.act;
-    stands = λ n past s st. (c.heard-in-NoChild.ensures.childless c.args.config.now n past s st refl).0;
-    ending = λ n past s st e. c.heard-in-NoChild.ensures.ending c.args.config.now n past s st e;
+    stands = λ n past s st. (c.hear-in-NoChild.ensures.childless c.args.config.now n past s st refl).0;
+    ending = λ n past s st e. c.hear-in-NoChild.ensures.ending c.args.config.now n past s st e;
     rose = record { later = c.reap.ensures.faults; rose = λ e. absurd (false≢true e) };
     waitless = c.reap.ensures.waitless;
   },
-  λ n past s st. ((c.heard-in-NoChild.ensures.childless c.args.config.now n past s st refl).1, c.heard-in-NoChild.ensures.over c.args.config.now n past s st),
+  λ n past s st. ((c.hear-in-NoChild.ensures.childless c.args.config.now n past s st refl).1, c.hear-in-NoChild.ensures.over c.args.config.now n past s st),
 )

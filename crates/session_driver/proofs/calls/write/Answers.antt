@@ -14,7 +14,7 @@ returns-in-Took g c = (
     asked = None;
     failed = false;
     did = c.in-Took.ensures.act;
-    heard = λ n past s st. heard_bytes _ n past s c.args.place _ _ _ _ (front_taken c.pending.result.now _ c.in-Took.count c.pending.ensures.front c.in-Took.ensures.fits.1) (heard_as _ n past s _ _ _ _ c.requires.wish (c.heard.ensures.act c.args.config.now n past s st));
+    heard = λ n past s st. heard_bytes _ n past s c.args.place _ _ _ _ (front_taken c.pending.result.now _ c.in-Took.count c.pending.ensures.front c.in-Took.ensures.fits.1) (heard_as _ n past s _ _ _ _ c.requires.wish (c.hear.ensures.act c.args.config.now n past s st));
     own = λ n past s st. tt;
     here = λ n past s st. at_own _ s c.args.place _ (λ p. refl) refl (own_by _ n past s _ _ st c.requires.wish);
     closes = closes_as _ _ c.args.session.now c.requires.wish refl;
@@ -23,8 +23,8 @@ returns-in-Took g c = (
     rose = c.in-Took.ensures.cause;
     blameless = λ e past. refl;
     waitless = c.in-Took.ensures.waitless;
-    over = λ n past s st e. c.heard.ensures.over c.args.config.now n past s st e;
-    ending = λ n past s st e. c.heard.ensures.ending c.args.config.now n past s st e;
+    over = λ n past s st e. c.hear.ensures.over c.args.config.now n past s st e;
+    ending = λ n past s st e. c.hear.ensures.ending c.args.config.now n past s st e;
   },
 )
 
@@ -36,7 +36,7 @@ returns-in-NotYet g c = (
     asked = None;
     failed = false;
     did = c.in-NotYet.ensures.act;
-    heard = λ n past s st. heard_as _ n past s _ _ _ _ c.requires.wish (c.heard-in-NotYet.ensures.act c.args.config.now n past s st);
+    heard = λ n past s st. heard_as _ n past s _ _ _ _ c.requires.wish (c.hear-in-NotYet.ensures.act c.args.config.now n past s st);
     own = λ n past s st. tt;
     here = λ n past s st. at_own _ s c.args.place _ (λ p. refl) refl (own_by _ n past s _ _ st c.requires.wish);
     closes = closes_as _ _ c.args.session.now c.requires.wish refl;
@@ -45,8 +45,8 @@ returns-in-NotYet g c = (
     rose = c.in-NotYet.ensures.cause;
     blameless = λ e past. refl;
     waitless = c.in-NotYet.ensures.waitless;
-    over = λ n past s st e. c.heard-in-NotYet.ensures.over c.args.config.now n past s st e;
-    ending = λ n past s st e. c.heard-in-NotYet.ensures.ending c.args.config.now n past s st e;
+    over = λ n past s st e. c.hear-in-NotYet.ensures.over c.args.config.now n past s st e;
+    ending = λ n past s st e. c.hear-in-NotYet.ensures.ending c.args.config.now n past s st e;
   },
 )
 
@@ -57,7 +57,7 @@ returns-in-Failed g c = (
     asked = None;
     failed = true;
     did = c.in-Failed.ensures.act;
-    heard = λ n past s st. heard_as _ n past s _ _ _ _ c.requires.wish (c.heard-in-Failed.ensures.act c.args.config.now n past s st);
+    heard = λ n past s st. heard_as _ n past s _ _ _ _ c.requires.wish (c.hear-in-Failed.ensures.act c.args.config.now n past s st);
     own = λ n past s st. tt;
     here = λ n past s st. at_own _ s c.args.place _ (λ p. refl) refl (own_by _ n past s _ _ st c.requires.wish);
     closes = closes_as _ _ c.args.session.now c.requires.wish refl;
@@ -66,8 +66,8 @@ returns-in-Failed g c = (
     rose = c.in-Failed.ensures.cause;
     blameless = λ e past. absurd (true≢false e);
     waitless = c.in-Failed.ensures.waitless;
-    over = λ n past s st e. c.heard-in-Failed.ensures.over c.args.config.now n past s st e;
-    ending = λ n past s st e. c.heard-in-Failed.ensures.ending c.args.config.now n past s st e;
+    over = λ n past s st e. c.hear-in-Failed.ensures.over c.args.config.now n past s st e;
+    ending = λ n past s st e. c.hear-in-Failed.ensures.ending c.args.config.now n past s st e;
   },
 )
 

@@ -1,7 +1,7 @@
 use Rattle.std.proofs.Common.{refl, ap, ◌∙◌}
 use Rattle.relay_model.specs.Configs.{program_door}
 use Rattle.relay_model.specs.Holding.{is_free}
-use Rattle.relay_model.specs.History.{Waiting}
+use Rattle.relay_model.specs.declared.stages.Stage.TheVariants.{Waiting}
 use Rattle.relay_session.proofs.Possible.{unheld_free, held_taken, door_unshut}
 use Rattle.relay_session.proofs.Standings.{standing_at, open_where_unshut}
 use Rattle.program_door.specs.declared.wishes.DoorWish.TheVariants as wishes

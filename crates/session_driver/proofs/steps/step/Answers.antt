@@ -49,11 +49,15 @@ accept-requires-clause-place g c = let at = c.requires.meets in at.holds c.in-Ac
 pub accept-requires-clause-going : goal.accept-requires-clause-going
 accept-requires-clause-going g c = let at = c.requires.meets in c.in-Accept.ensures.going c.args.config.now at.n at.past at.s at.stands refl
 
-pub read-requires-clause-wish : goal.read-requires-clause-wish
-read-requires-clause-wish g c = let at = c.requires.meets in sym c.in-Read.ensures.wish
-
-pub read-requires-clause-open : goal.read-requires-clause-open
-read-requires-clause-open g c = let at = c.requires.meets in ap is_open (at.holds c.in-Read.place) ∙ (c.in-Read.ensures.can c.args.config.now at.n at.past at.s at.stands at.legal).0
+pub read-requires-clause-reads : goal.read-requires-clause-reads
+read-requires-clause-reads g c =
+    let at = c.requires.meets in
+    record {
+      wish = sym c.in-Read.ensures.wish;
+      opened = ap is_open (at.holds c.in-Read.place) ∙ (c.in-Read.ensures.can c.args.config.now at.n at.past at.s at.stands at.legal).0;
+      own = λ n past s st. c.in-Read.ensures.own c.args.config.now n past s st;
+      going = c.in-Read.ensures.going c.args.config.now at.n at.past at.s at.stands refl;
+    }
 
 pub read-requires-clause-some : goal.read-requires-clause-some
 read-requires-clause-some g c = let at = c.requires.meets in (c.in-Read.ensures.can c.args.config.now at.n at.past at.s at.stands at.legal).1
@@ -62,12 +66,6 @@ pub read-requires-clause-within : goal.read-requires-clause-within
 read-requires-clause-within g c =
     let at = c.requires.meets in
     wish_fits c.args.config.now at.past at.s c.in-Read.place _ _ (c.in-Read.ensures.wished c.args.config.now at.n at.past at.s at.stands) c.requires.block
-
-pub read-requires-clause-own : goal.read-requires-clause-own
-read-requires-clause-own g c = let at = c.requires.meets in λ n past s st. c.in-Read.ensures.own c.args.config.now n past s st
-
-pub read-requires-clause-going : goal.read-requires-clause-going
-read-requires-clause-going g c = let at = c.requires.meets in c.in-Read.ensures.going c.args.config.now at.n at.past at.s at.stands refl
 
 pub write-requires-clause-wish : goal.write-requires-clause-wish
 write-requires-clause-wish g c = let at = c.requires.meets in sym c.in-Write.ensures.wish

@@ -14,10 +14,10 @@ pub returns-in-Some-step_owing-clause-runs : goal.returns-in-Some-step_owing-cla
 returns-in-Some-step_owing-clause-runs g c = settled_runs c.args.config.now _ _ c.args.member.now _ c.in-Some-step_owing.stepped (subst SpreadsNot c.wish.ensures.wish c.in_default.ensures) c.in-Some-step_owing.ensures.step
 
 pub returns-in-Some-step_owing-clause-pause : goal.returns-in-Some-step_owing-clause-pause
-returns-in-Some-step_owing-clause-pause g c = subst (λ (p : Option Pause). IfSome p (PauseIs c.step_owing.new.session)) (sym c.paused.ensures) (settled_pause c.args.config.now _ _ _ _ _ _ c.in-Some-step_owing.stepped c.in-Some-step_owing.ensures.step)
+returns-in-Some-step_owing-clause-pause g c = subst (λ (p : Option Pause). IfSome p (PauseIs c.step_owing.new.session)) (sym c.pause_after.ensures) (settled_pause c.args.config.now _ _ _ _ _ _ c.in-Some-step_owing.stepped c.in-Some-step_owing.ensures.step)
 
 pub returns-in-Some-step_owing-clause-fewer : goal.returns-in-Some-step_owing-clause-fewer
-returns-in-Some-step_owing-clause-fewer g c = fewer_for c.args.config.now _ _ c.args.member.now (record { session = c.step_owing.new.session; dumper = c.step_owing.new.dumper }) c.in-Some-step_owing.stepped c.paused.result c.paused.ensures c.requires.runs c.in-Some-step_owing.ensures.step
+returns-in-Some-step_owing-clause-fewer g c = fewer_for c.args.config.now _ _ c.args.member.now (record { session = c.step_owing.new.session; dumper = c.step_owing.new.dumper }) c.in-Some-step_owing.stepped c.pause_after.result c.pause_after.ensures c.requires.runs c.in-Some-step_owing.ensures.step
 
 pub returns-in-None-clause-runs : goal.returns-in-None-clause-runs
 returns-in-None-clause-runs g c = owed_runs c.args.config.now _ _ c.args.member.now _ (subst SpreadsNot c.wish.ensures.wish c.in_default.ensures) c.in-None.ensures.step

@@ -8,8 +8,8 @@ returns-clause-headline g c = λ before told.
 
 pub returns-clause-complete : goal.returns-clause-complete
 returns-clause-complete g c =
-    completes_on c.relay-outcome.result c.conclude.result _ _ _ _ _ _ _ _ _ _ c.relay-outcome.ensures.complete c.conclude.ensures.answer c.conclude.ensures.faults c.conclude.ensures.waits c.conclude.ensures.stops
+    completes_on c.relay-outcome.result c.conclude.result _ _ _ _ _ _ _ _ _ _ c.relay-outcome.ensures.complete c.conclude.ensures.answer c.conclude.ensures.calm.faults c.conclude.ensures.calm.waits c.conclude.ensures.calm.stops
 
 pub returns-clause-stopped : goal.returns-clause-stopped
 returns-clause-stopped g c =
-    stop_on c.relay-outcome.result c.conclude.result _ _ _ _ _ _ _ c.relay-outcome.ensures.stopped c.conclude.ensures.answer c.conclude.ensures.waits c.conclude.ensures.stops
+    stop_on c.relay-outcome.result c.conclude.result _ _ _ _ _ _ _ c.relay-outcome.ensures.stopped c.conclude.ensures.answer c.conclude.ensures.calm.waits c.conclude.ensures.calm.stops

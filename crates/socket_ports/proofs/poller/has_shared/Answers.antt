@@ -21,5 +21,5 @@ loop-i-preserved c = none_more (λ (entry : ℕ × Half). entry.0 == 2 ^ 64 - 5)
 
 pub returns : goal.returns
 returns c =
-    let all = take_all c.loop-i.i c.args.ready.now.entries (let v = c.len-i-end.ensures.value in omega (arith, v, c.loop-i-test.false)) in
+    let all = take_all c.loop-i.i c.args.ready.now.entries (let v = c.len-i-end.ensures.len in omega (arith, v, c.loop-i-test.false)) in
     sym (ap has_shared (sym all) ∙ c.loop-i.invariant)

@@ -7,4 +7,4 @@ pub returns-clause-once : goal.returns-clause-once
 returns-clause-once g c =
     let front = c.receive_from.new.into in
     let size : length front ≡ longest_packet = search rules in
-    (c.receive_from.result, subst (λ bytes. g.U.PacketWire.receives_from c.args.wire.now c.receive_from.new.self bytes c.receive_from.result) (sym (take_at front (drop c.from.result c.args.into.now) longest_packet size)) c.receive_from.ensures.answered, c.arrived.ensures)
+    (c.receive_from.result, subst (λ bytes. g.U.PacketWire.receives_from c.args.wire.now c.receive_from.new.self bytes c.receive_from.result) (sym (take_at front (drop c.from.result c.args.into.now) longest_packet size)) c.receive_from.ensures.answered, c.receive_from_answer.ensures)

@@ -14,11 +14,11 @@ use Rattle.desk_places.proofs.SoundLemmas.{id_keeps, sound_but, taking_of}
 use Rattle.desk_places.proofs.StationLemmas.{found_base, found_place}
 use Rattle.desk_places.proofs.ports.Ports.shut.Goals as goal
 
-pub held-station-requires : goal.held-station-requires
-held-station-requires g c = ap is_free c.requires
+pub station_of-station-requires : goal.station_of-station-requires
+station_of-station-requires g c = ap is_free c.requires
 
 pub replace-requires : goal.replace-requires
-replace-requires g c = found_base c.args.stations.now.entries c.args.place c.held-station.result c.held-station.ensures
+replace-requires g c = found_base c.args.stations.now.entries c.args.place c.station_of-station.result c.station_of-station.ensures
 
 pub returns-clause-held : goal.returns-clause-held
 returns-clause-held g c = shut_holds c.shut-answer.result c.args.place c.args.how (hold_at c.args.stations.now.entries) (hold_at c.replace.new.self.entries) c.replace.ensures.held
@@ -27,8 +27,8 @@ pub returns-clause-kept : goal.returns-clause-kept
 returns-clause-kept g c = record {
   sound = λ sound.
       c.list.ensures.sound
-      (sound_but c.args.stations.now.entries c.replace.new.self.entries c.args.place c.held-station.result _ c.args.self.now.table.made c.shut-answer.new.self.made c.args.self.now.listed c.held-station.ensures refl c.replace.ensures.set
-      (id_keeps (taking_port c.held-station.result.base) c.held-station.result.base c.args.self.now.table.made c.shut-answer.new.self.made _ (taking_of c.held-station.result.base) (called_made (finishes c.args.how) (taking_port c.held-station.result.base) c.args.self.now.table c.shut-answer.new.self _ c.shut-answer.ensures))
+      (sound_but c.args.stations.now.entries c.replace.new.self.entries c.args.place c.station_of-station.result _ c.args.self.now.table.made c.shut-answer.new.self.made c.args.self.now.listed c.station_of-station.ensures refl c.replace.ensures.set
+      (id_keeps (taking_port c.station_of-station.result.base) c.station_of-station.result.base c.args.self.now.table.made c.shut-answer.new.self.made _ (taking_of c.station_of-station.result.base) (called_made (finishes c.args.how) (taking_port c.station_of-station.result.base) c.args.self.now.table c.shut-answer.new.self _ c.shut-answer.ensures))
       sound);
   bases = same_bases c.args.stations.now.entries c.replace.new.self.entries c.replace.ensures.standing;
   no_more = search rules;
@@ -39,7 +39,7 @@ returns-clause-kept g c = record {
 pub returns-clause-station : goal.returns-clause-station
 returns-clause-station g c =
     let sets = rw c.is_final.ensures at c.replace.ensures.set in
-    set_as c.args.stations.now.entries c.replace.new.self.entries c.args.place c.held-station.result _ (shut_down (finishes c.args.how)) c.held-station.ensures (ap (λ (q : Place). record (shut_down (finishes c.args.how) c.held-station.result) { place = q }) (sym (found_place c.args.stations.now.entries c.args.place c.held-station.result c.held-station.ensures))) refl sets
+    set_as c.args.stations.now.entries c.replace.new.self.entries c.args.place c.station_of-station.result _ (shut_down (finishes c.args.how)) c.station_of-station.ensures (ap (λ (q : Place). record (shut_down (finishes c.args.how) c.station_of-station.result) { place = q }) (sym (found_place c.args.stations.now.entries c.args.place c.station_of-station.result c.station_of-station.ensures))) refl sets
 
 pub returns-clause-call : goal.returns-clause-call
-returns-clause-call g c = rw c.list.ensures.table (at_base c.args.stations.now.entries c.args.place c.held-station.result _ c.held-station.ensures c.shut-answer.ensures)
+returns-clause-call g c = rw c.list.ensures.rest.table (at_base c.args.stations.now.entries c.args.place c.station_of-station.result _ c.station_of-station.ensures c.shut-answer.ensures)

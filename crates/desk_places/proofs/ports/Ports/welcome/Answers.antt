@@ -27,7 +27,7 @@ returns-in-Begun-clause-kept g c = record {
 }
 
 pub returns-in-Begun-clause-ports : goal.returns-in-Begun-clause-ports
-returns-in-Begun-clause-ports g c = rw c.mark.ensures.table (more_based _ _ c.args.place (base_at c.insert.new.stations.entries c.args.place) (base_at c.mark.new.stations.entries c.args.place) c.args.self.now.table.made c.insert.new.self.table.made (c.mark.ensures.standing c.args.place) c.in-Begun.ensures.made)
+returns-in-Begun-clause-ports g c = rw c.mark.ensures.rest.table (more_based _ _ c.args.place (base_at c.insert.new.stations.entries c.args.place) (base_at c.mark.new.stations.entries c.args.place) c.args.self.now.table.made c.insert.new.self.table.made (c.mark.ensures.standing c.args.place) c.in-Begun.ensures.made)
 
 pub returns-in-Failed-clause-kept : goal.returns-in-Failed-clause-kept
 returns-in-Failed-clause-kept g c = record {

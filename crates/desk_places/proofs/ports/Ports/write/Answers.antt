@@ -9,11 +9,11 @@ use Rattle.desk_places.proofs.PortLemmas.{at_base}
 use Rattle.desk_places.proofs.SoundLemmas.{taking_of, id_keeps, sound_marked}
 use Rattle.desk_places.proofs.ports.Ports.write.Goals as goal
 
-pub held-station-requires : goal.held-station-requires
-held-station-requires g c = ap is_free c.requires.open
+pub station_of-station-requires : goal.station_of-station-requires
+station_of-station-requires g c = ap is_free c.requires.open
 
 pub returns-clause-call : goal.returns-clause-call
-returns-clause-call g c = rw c.mark_held.ensures.table (at_base c.args.stations.now.entries c.args.place c.held-station.result _ c.held-station.ensures c.write-took.ensures.call)
+returns-clause-call g c = rw c.mark_held.ensures.rest.table (at_base c.args.stations.now.entries c.args.place c.station_of-station.result _ c.station_of-station.ensures c.write-took.ensures.call)
 
 pub returns-clause-marks : goal.returns-clause-marks
 returns-clause-marks g c =
@@ -24,8 +24,8 @@ pub returns-clause-kept : goal.returns-clause-kept
 returns-clause-kept g c = record {
   sound = λ sound.
       c.mark_held.ensures.sound
-      (sound_marked c.args.stations.now.entries c.mark_held.new.stations.entries c.args.place c.held-station.result ToWrite c.took_not_yet.result c.args.self.now.table.made c.write-took.new.self.made c.args.self.now.listed c.held-station.ensures c.mark_held.ensures.set
-      (id_keeps (taking_port c.held-station.result.base) c.held-station.result.base c.args.self.now.table.made c.write-took.new.self.made _ (taking_of c.held-station.result.base) (called_made false (taking_port c.held-station.result.base) c.args.self.now.table c.write-took.new.self _ c.write-took.ensures.call))
+      (sound_marked c.args.stations.now.entries c.mark_held.new.stations.entries c.args.place c.station_of-station.result ToWrite c.took_not_yet.result c.args.self.now.table.made c.write-took.new.self.made c.args.self.now.listed c.station_of-station.ensures c.mark_held.ensures.set
+      (id_keeps (taking_port c.station_of-station.result.base) c.station_of-station.result.base c.args.self.now.table.made c.write-took.new.self.made _ (taking_of c.station_of-station.result.base) (called_made false (taking_port c.station_of-station.result.base) c.args.self.now.table c.write-took.new.self _ c.write-took.ensures.call))
       sound);
   bases = same_bases c.args.stations.now.entries c.mark_held.new.stations.entries c.mark_held.ensures.standing;
   no_more = search rules;

@@ -1,6 +1,6 @@
 use Rattle.event_loop.proofs.Looking.{looks_run, looks_after, looks_then, looks_more}
 use Rattle.std.proofs.Common.{refl, inl, inr, arith, ◌∙◌, None}
-use Rattle.event_loop.specs.declared.asked.Asked.TheVariants as asks
+use Rattle.event_loop.specs.declared.asked.DoorAsked.TheVariants as asks
 use Rattle.event_loop.specs.declared.turned.RunEnd.TheVariants as ends
 use Rattle.program_door.specs.declared.wishes.DoorWish.TheVariants as wishes
 use Rattle.event_loop.proofs.RowLoops.{kept_on}

@@ -1,6 +1,6 @@
 use Rattle.std.proofs.Common.{refl, sym, subst, ℕ}
-use Rattle.event_loop.specs.declared.courses.Course.{Course}
-use Rattle.event_loop.specs.declared.courses.Course.TheVariants.{One, Many}
+use Rattle.event_loop.specs.declared.courses.LoopCourse.{LoopCourse}
+use Rattle.event_loop.specs.declared.courses.LoopCourse.TheVariants.{One, Many}
 use Rattle.event_loop.specs.Loops.{CourseLooks, Further, made_in}
 use Rattle.event_loop.proofs.Ending.{course_turned, some_many, some_one, waits_of}
 use Rattle.event_loop.proofs.loops.Loop.turn.Goals as goal
@@ -18,7 +18,7 @@ pub returns-in-One-clause-waits : goal.returns-in-One-clause-waits
 returns-in-One-clause-waits g c = waits_of (g.W.World.seen c.args.world.now) (g.W.World.seen c.turn.new.world) c.args.self.now (record c.args.self.now { course = One c.turn.new.self }) c.turn.result (record { config_same = refl; turns_same = refl }) c.requires (returns-in-One-clause-turns g c)
 
 pub returns-in-One-clause-further : goal.returns-in-One-clause-further
-returns-in-One-clause-further g c = subst (λ (x : Course). Further c.args.self.now.turns (made_in x) c.turn.new.self.driver.made c.turn.result) (sym c.in-One.is) c.turn.ensures.further
+returns-in-One-clause-further g c = subst (λ (x : LoopCourse). Further c.args.self.now.turns (made_in x) c.turn.new.self.driver.made c.turn.result) (sym c.in-One.is) c.turn.ensures.further
 
 pub returns-in-One-clause-looks : goal.returns-in-One-clause-looks
 returns-in-One-clause-looks g c = rw c.in-One.is refl
@@ -30,7 +30,7 @@ pub returns-in-Many-clause-waits : goal.returns-in-Many-clause-waits
 returns-in-Many-clause-waits g c = waits_of (g.W.World.seen c.args.world.now) (g.W.World.seen c.turn-in-Many.new.world) c.args.self.now (record c.args.self.now { course = Many c.turn-in-Many.new.self }) c.turn-in-Many.result (record { config_same = refl; turns_same = refl }) c.requires (returns-in-Many-clause-turns g c)
 
 pub returns-in-Many-clause-further : goal.returns-in-Many-clause-further
-returns-in-Many-clause-further g c = subst (λ (x : Course). Further c.args.self.now.turns (made_in x) c.turn-in-Many.new.self.sessions.made c.turn-in-Many.result) (sym c.in-Many.is) c.turn-in-Many.ensures.further
+returns-in-Many-clause-further g c = subst (λ (x : LoopCourse). Further c.args.self.now.turns (made_in x) c.turn-in-Many.new.self.sessions.made c.turn-in-Many.result) (sym c.in-Many.is) c.turn-in-Many.ensures.further
 
 pub returns-in-Many-clause-looks : goal.returns-in-Many-clause-looks
 returns-in-Many-clause-looks g c = rw c.in-Many.is c.turn-in-Many.ensures.looks

@@ -7,7 +7,7 @@ pub turn-requires-clause-course : goal.turn-requires-clause-course
 turn-requires-clause-course g c = let at = c.requires in record { start = at.start; past = at.past; course = at.is.course }
 
 pub turn-requires-clause-block : goal.turn-requires-clause-block
-turn-requires-clause-block g c = kept_room _ _ _ c.requires.is.room c.as_mut_slice.ensures.len
+turn-requires-clause-block g c = c.requires.is.room
 
 pub turn-requires-clause-within : goal.turn-requires-clause-within
 turn-requires-clause-within g c = c.requires.is.within
@@ -26,7 +26,7 @@ returns-in-None-clause-turns g c = λ start past on.
     let f = c.in-None.ensures.goes in
     record {
       since = w.past;
-      stands = record { course = w.course; within = (let a = f.0 in let b = f.1 in omega (arith, a, b)); room = on.room };
+      stands = record { course = w.course; within = (let a = f.0 in let b = f.1 in omega (arith, a, b)); room = kept_room _ _ _ on.room c.turn.ensures.scratch };
       last = w.last;
       turned = w.course.run.turned ∙ f.1 ∙ ap (λ k. k + 1) (sym on.course.run.turned);
     }

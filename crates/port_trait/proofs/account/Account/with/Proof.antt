@@ -27,7 +27,7 @@ use denote.Triple.Table.{entered}
 use denote.Triple.Walked.{says, Stays, stay_dropped, walk_of, ends_at, walk_Meets, Goes-dropped}
 use Rattle.port_trait.proofs.Walks.{none, none_made}
 use Rattle.port_trait.specs.contracts.account.Account as Account
-use Rattle.port_trait.specs.contracts.call.Call as Call
+use Rattle.port_trait.specs.contracts.call.PortCall as Call
 use Rattle.port_trait.specs.Calls.{passed_with}
 use Rattle.port_trait.specs.contracts.account.Account.with as F
 use Rattle.port_trait.specs.contracts.account.Account.with.Key.{name as #self}

@@ -14,7 +14,7 @@ returns-clause-met c = λ k n past s begins. birth_meets k n past s c.args.peer 
 pub returns-clause-hears : goal.returns-clause-hears
 returns-clause-hears c = λ k n past s pending_session begins clock.
     begun_at k n past s c.args.self.home c.args.peer _ pending_session.home_is
-    (hears_by k n (acts.Accepted c.args.self.home c.args.peer ∷ past) s _ _ (c.born.ensures.begun k n past s pending_session.is_new begins pending_session.home_is clock) (λ p f. c.plan-wish.ensures k n p s f))
+    (hears_by k n (acts.Accepted c.args.self.home c.args.peer ∷ past) s _ _ (c.begin.ensures.begun k n past s pending_session.is_new begins pending_session.home_is clock) (λ p f. c.plan-wish.ensures k n p s f))
 
 pub returns-clause-unasked : goal.returns-clause-unasked
-returns-clause-unasked c = λ k s p pending_session. false_from_ne_true _ (λ e. false≢true (sym (pending_session.is_new.unasked p) ∙ c.born.ensures.asked p e))
+returns-clause-unasked c = λ k s p pending_session. false_from_ne_true _ (λ e. false≢true (sym (pending_session.is_new.unasked p) ∙ c.begin.ensures.asked p e))

@@ -1,23 +1,4 @@
-use Rattle.std.proofs.Common.{ap, ◌∙◌, is_some}
-use Rattle.relay_session.proofs.Lives.{asleep, stands_by, hears_by, heard_by}
-use Rattle.relay_session.proofs.Plans.{quiet_while}
 use Rattle.relay_session.proofs.sessions.Session.heard.Goals as goal
 
-pub returns-clause-act : goal.returns-clause-act
-returns-clause-act c = λ k n past s st. heard_by k n past s _ c.args.self.now _ _ (c.hear.ensures.goes k n past s st.fields st.allowed) (λ p f. c.plan-self.ensures k n p s f)
-
-pub returns-clause-childless : goal.returns-clause-childless
-returns-clause-childless c = λ k n past s st e.
-    let h = c.hear.ensures.childless k n past s st.fields st.allowed e in
-    (stands_by k n past s _ _ h.0 (λ p f. c.plan-self.ensures k n p s f), h.1)
-
-pub returns-clause-woken : goal.returns-clause-woken
-returns-clause-woken c = λ k n past s until st w e.
-    let none = asleep k n past s c.args.self.now.state c.args.self.now.wish until st.allowed w in
-    hears_by k n _ s _ _ (c.hear.ensures.woken k past s until st.fields.ground (quiet_while k n past s c.args.self.now.state.ending st.fields.ending_is none).0 e) (λ p f. c.plan-self.ensures k n p s f)
-
-pub returns-clause-over : goal.returns-clause-over
-returns-clause-over c = λ k n past s st e. ap is_some (c.hear.ensures.over k n past s st.allowed e) ∙ e
-
-pub returns-clause-ending : goal.returns-clause-ending
-returns-clause-ending c = λ k n past s st e. c.hear.ensures.over k n past s st.allowed e
+pub returns-in-Woken-clause-woken : goal.returns-in-Woken-clause-woken
+returns-in-Woken-clause-woken c = λ k n past s until st w e. c.wake.ensures.woken k n past s until st w

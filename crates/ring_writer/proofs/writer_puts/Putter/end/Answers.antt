@@ -1,6 +1,6 @@
 use Rattle.std.proofs.Common.{rules, ◌≡◌, ◌+◌, [], ◌∷◌, ◌++◌, ap, ◌∙◌, sym, if◌then◌else◌}
 use Rattle.crossbeam_queue.specs.Passes.{view}
-use Rattle.ring_queue.specs.declared.roles.View.{View}
+use Rattle.ring_queue.specs.declared.roles.PassView.{PassView}
 use Rattle.ring_queue.specs.declared.items.RingItem.{RingItem}
 use Rattle.ring_queue.specs.declared.items.RingItem.TheVariants as items
 use Rattle.ring_queue.specs.Items.{told}
@@ -11,7 +11,7 @@ pub returns-clause-putting : goal.returns-clause-putting
 returns-clause-putting g c =
     let before = (view c.args.self.now.sender).sent in
     let now = (view c.send.new.pass).sent in
-    let more : now ≡ before ++ items.End c.args.self.now.count ∷ [] = ap (λ (v : View RingItem). v.sent) c.send.ensures.sent in record {
+    let more : now ≡ before ++ items.End c.args.self.now.count ∷ [] = ap (λ (v : PassView RingItem). v.sent) c.send.ensures.sent in record {
       sender_of = search rules;
       sends = search rules;
       taker_of = c.requires.putting.taker_of;

@@ -1,6 +1,6 @@
 use Rattle.std.proofs.Common.{rules, length, ◌≡◌, [], ◌∷◌, ◌++◌, sym, ap, ◌∙◌}
 use Rattle.crossbeam_queue.specs.Passes.{view}
-use Rattle.ring_queue.specs.declared.roles.View.{View}
+use Rattle.ring_queue.specs.declared.roles.PassView.{PassView}
 use Rattle.ring_queue.specs.declared.items.RingItem.{RingItem}
 use Rattle.ring_queue.specs.declared.items.RingItem.TheVariants as items
 use Rattle.ring_writer.proofs.Putting.{chunk_told, chunk_marks, chunk_last}
@@ -11,7 +11,7 @@ returns-in-Ok-clause-kept g c =
     let before = (view c.args.self.now.sender).sent in
     let now = (view c.put.new.pass).sent in
     let chunk = c.chunk_of-chunk.result in
-    let more : now ≡ before ++ items.Chunk chunk ∷ [] = ap (λ (v : View RingItem). v.sent) c.in-Ok.ensures.sent in record {
+    let more : now ≡ before ++ items.Chunk chunk ∷ [] = ap (λ (v : PassView RingItem). v.sent) c.in-Ok.ensures.sent in record {
       putting = record {
         sender_of = search rules;
         sends = search rules;

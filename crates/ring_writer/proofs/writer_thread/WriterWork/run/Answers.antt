@@ -1,5 +1,5 @@
 use Rattle.std.proofs.Common.{refl, ap, ◌∙◌}
-use Rattle.ring_queue.specs.declared.roles.View.{View}
+use Rattle.ring_queue.specs.declared.roles.PassView.{PassView}
 use Rattle.crossbeam_queue.specs.Passes.{Pass, view}
 use Rattle.ring_queue.specs.declared.items.RingItem.{RingItem}
 use Rattle.ring_queue.specs.Items.{is_end_mark, last_is}
@@ -10,9 +10,9 @@ pub returns-in-Ended : goal.returns-in-Ended
 returns-in-Ended g c =
     let took = g.K.Sink.took in let faults = g.K.Sink.faults in let begun = c.args.self.outlet.sink in let was = c.loop.invariant in
     let lines = c.finish.ensures.kept.1 ∙ c.turn.ensures.lines ∙ was.lines in
-    ends_true took faults g.K.Sink.finished c.args.self.lines.value begun c.finish.new.self c.done.result (λ i. (lines i).value) c.finish.ensures.can
-    (ap (λ (taker : Pass RingItem (View RingItem)). last_is is_end_mark (view taker).taken) c.finish.ensures.kept.0 ∙ c.in-Ended.ensures.ended refl)
-    (c.finish.ensures.keeps (took begun) (faults begun) (c.turn.ensures.keeps (took begun) (faults begun) was.true_to_sink)) c.finish.ensures.finished c.done.ensures
+    ends_true took faults g.K.Sink.finished c.args.self.lines.value begun c.finish.new.self c.into_done.result (λ i. (lines i).value) c.finish.ensures.can
+    (ap (λ (taker : Pass RingItem (PassView RingItem)). last_is is_end_mark (view taker).taken) c.finish.ensures.kept.0 ∙ c.in-Ended.ensures.ended refl)
+    (c.finish.ensures.keeps (took begun) (faults begun) (c.turn.ensures.keeps (took begun) (faults begun) was.true_to_sink)) c.finish.ensures.finished c.into_done.ensures
 
 pub loop-preserved : goal.loop-preserved
 loop-preserved g c = let begun = c.args.self.outlet.sink in record {

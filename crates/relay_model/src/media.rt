@@ -1,0 +1,11 @@
+// What a kind of address stands on.
+
+/// What a kind stands on: a standard stream, a file or pipe, a program, a connection, or datagrams.
+#[derive(Clone, Copy, Debug, PartialEq, Eq)]
+pub enum Medium {
+    Standard,
+    Storage,
+    Program,
+    Connection,
+    Datagrams,
+}

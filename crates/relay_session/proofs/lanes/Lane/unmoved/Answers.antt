@@ -1,4 +1,0 @@
-use Rattle.relay_session.proofs.lanes.Lane.unmoved.Goals as goal
-
-pub returns-in-Formed-clause-stopped : goal.returns-in-Formed-clause-stopped
-returns-in-Formed-clause-stopped c = rw c.in-Formed.is c.unmoved.ensures.stopped

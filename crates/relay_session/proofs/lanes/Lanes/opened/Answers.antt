@@ -1,8 +1,0 @@
-use Rattle.relay_model.specs.declared.places.Way.TheVariants.{LeftToRight, RightToLeft}
-use Rattle.relay_session.proofs.lanes.Lanes.opened.Goals as goal
-
-pub returns-clause-opened : goal.returns-clause-opened
-returns-clause-opened c = λ k past s l. record { to_right_is = c.opened.ensures.opened k past s LeftToRight l.to_right_is; to_left_is = c.opened-2.ensures.opened k past s RightToLeft l.to_left_is }
-
-pub returns-clause-accepted : goal.returns-clause-accepted
-returns-clause-accepted c = λ k past s peer l. record { to_right_is = c.opened.ensures.accepted k past s LeftToRight peer l.to_right_is; to_left_is = c.opened-2.ensures.accepted k past s RightToLeft peer l.to_left_is }

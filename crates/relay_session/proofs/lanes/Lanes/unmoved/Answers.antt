@@ -1,8 +1,0 @@
-use Rattle.relay_model.specs.declared.places.Way.TheVariants.{LeftToRight, RightToLeft}
-use Rattle.relay_session.proofs.lanes.Lanes.unmoved.Goals as goal
-
-pub returns-clause-untouched : goal.returns-clause-untouched
-returns-clause-untouched c = λ k past s act l r t. record { to_right_is = c.unmoved.ensures.untouched k past s LeftToRight act l.to_right_is r; to_left_is = c.unmoved-2.ensures.untouched k past s RightToLeft act l.to_left_is t }
-
-pub returns-clause-stopped : goal.returns-clause-stopped
-returns-clause-stopped c = λ k past s until at ready l. record { to_right_is = c.unmoved.ensures.stopped k past s LeftToRight until at ready l.to_right_is; to_left_is = c.unmoved-2.ensures.stopped k past s RightToLeft until at ready l.to_left_is }
