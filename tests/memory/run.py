@@ -202,7 +202,7 @@ def how_it_ended(row, end, journal):
     """What is said of a run that ended so. `journal` is what the auditor says of its journal, None where it has none."""
     if row.is_whole(end):
         return WHOLE if journal in (None, "") else OTHERWISE
-    # A stream whose thread can't be started isn't opened; where it is standard error, what is told there is lost.
+    # A stream whose thread can't be started isn't opened. Standard error then loses what its descriptor doesn't take at once.
     if end.status == 1 and not end.output and end.errors.startswith(NOT_OPENED) and journal in (None, ""):
         return THREADLESS
     if row.errors and row.is_whole(Ended(end.status, end.output, row.errors, 0)) and not end.errors and not journal:

@@ -172,13 +172,25 @@ if [ -r /proc/self/fdinfo/0 ]; then
     [ "$(cat "$scratch/out")" = ab ] || wrong "got $(head -c 60 "$scratch/out")"
     finish
 
-    # A run between two pipes has a thread for standard error alone.
-    begin "one thread beside its own between two pipes"
-    exec 5> >(sh -c 'echo "$$" >"$0"; exec "$@"' "$scratch/pid" "$program" "${relay[@]}" | cat >/dev/null)
-    sleep 0.3
-    threads=("/proc/$(cat "$scratch/pid")/task"/*)
-    exec 5>&-
-    [ "${#threads[@]}" -eq 2 ] || wrong "it has ${#threads[@]}"
+    # threads_of WORD..: how many threads the relay has between two pipes once a byte has passed. Its errors go where ours go.
+    threads_of() {
+        local threads
+        exec 5> >(sh -c 'echo "$$" >"$0"; exec "$@"' "$scratch/pid" "$program" "$@" | cat >/dev/null)
+        printf x >&5
+        sleep 0.3
+        threads=("/proc/$(cat "$scratch/pid")/task"/*)
+        exec 5>&-
+        echo "${#threads[@]}"
+    }
+
+    # Standard error has a thread only from its first line on, and none where it is a file.
+    begin "one thread between two pipes"
+    have="$(threads_of "${relay[@]}" 2> >(cat >/dev/null))"
+    [ "$have" = 1 ] || wrong "it has $have"
+    have="$(threads_of -v "${relay[@]}" 2>"$scratch/err")"
+    [ "$have" = 1 ] || wrong "it has $have with a dump to a file"
+    have="$(threads_of -v "${relay[@]}" 2> >(cat >/dev/null))"
+    [ "$have" = 2 ] || wrong "it has $have with a dump to a pipe"
     finish
 fi
 

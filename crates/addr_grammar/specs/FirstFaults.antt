@@ -1,12 +1,9 @@
 -- Which fault a text has, by what texts spell alone. Nothing here says how a text is read.
 use Rattle.std.specs.Prelude.{◌≡◌, ℕ, ◌+◌, ◌≤◌, ◌⊎◌, List, [], ◌∷◌, ◌++◌, length, take, Some, Ok}
 use Rattle.std.specs.List.{AllByRecursion}
-use Rattle.addr_words.specs.declared.token_list.Token.{Token}
-use Rattle.addr_words.specs.declared.token_list.TokenKind.{TokenKind}
+use Rattle.addr_words.specs.{Token, TokenKind, tokens_of, SpellsKinds}
 use Rattle.addr_words.specs.declared.token_list.TokenKind.TheVariants.{Byte, Colon, Comma, Dual, Equals}
 use Rattle.addr_words.specs.declared.faults.WordFault.TheVariants as words
-use Rattle.addr_words.specs.Reading.{tokens_of}
-use Rattle.addr_words.specs.Spelling.{SpellsKinds}
 use Rattle.addr_words.specs.FirstFaults as faulty
 use Rattle.addr_grammar.specs.declared.faults.GrammarFault.{GrammarFault}
 use Rattle.addr_grammar.specs.declared.faults.GrammarFault.TheVariants.{Unclosed, LoneBackslash, TooLong, Empty, TooManyDuals, EmptyOption, Memory}

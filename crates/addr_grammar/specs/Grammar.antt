@@ -1,11 +1,8 @@
 -- Which address a list of tokens spells, and what is wrong with one that spells none.
 use Rattle.std.specs.Prelude.{◌≡◌, ℕ, Bool, false, true, if◌then◌else◌, List, [], ◌∷◌, map, Option, Some, None, option_map, Result, Ok, Err}
-use Rattle.addr_words.specs.declared.token_list.Token.{Token}
-use Rattle.addr_words.specs.declared.token_list.TokenKind.{TokenKind}
+use Rattle.addr_words.specs.{Token, TokenKind, WordFault, tokens_of}
 use Rattle.addr_words.specs.declared.token_list.TokenKind.TheVariants as kinds
-use Rattle.addr_words.specs.declared.faults.WordFault.{WordFault}
 use Rattle.addr_words.specs.declared.faults.WordFault.TheVariants as words
-use Rattle.addr_words.specs.Reading.{tokens_of}
 use Rattle.addr_grammar.specs.declared.cutting.Mark.{Mark}
 use Rattle.addr_grammar.specs.declared.cutting.Mark.TheVariants.{Colon, Comma, Dual, Equals}
 use Rattle.addr_grammar.specs.declared.faults.GrammarFault.{GrammarFault}

@@ -1,6 +1,6 @@
 -- The text that an address is printed as.
 use Rattle.std.specs.Prelude.{ℕ, List, [], ◌∷◌, ◌++◌, Option, Some, None}
-use Rattle.addr_words.specs.Writing.{written}
+use Rattle.addr_words.specs.{written}
 use Rattle.addr_grammar.specs.declared.addresses.RawAddress.{RawAddress}
 use Rattle.addr_grammar.specs.declared.addresses.RawAddress.TheVariants.{One, Two}
 use Rattle.addr_grammar.specs.Addresses.{Named, Parts, IsSingle}

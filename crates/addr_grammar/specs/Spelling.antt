@@ -1,9 +1,8 @@
 -- Which texts spell which addresses. Where they stand in the text doesn't matter.
 use Rattle.std.specs.Prelude.{◌≡◌, ◌≢◌, ℕ, ◌≤◌, true, false, ◌⊎◌, List, [], ◌∷◌, ◌++◌, length, map, Option, Some, None, option_map, Result, Ok}
 use Rattle.std.specs.List.{AllByRecursion}
-use Rattle.addr_words.specs.declared.token_list.TokenKind.{TokenKind}
+use Rattle.addr_words.specs.{TokenKind, SpellsKinds}
 use Rattle.addr_words.specs.declared.token_list.TokenKind.TheVariants.{Byte, Colon, Comma, Dual, Equals}
-use Rattle.addr_words.specs.Spelling.{SpellsKinds}
 use Rattle.addr_grammar.specs.declared.addresses.RawAddress.{RawAddress}
 use Rattle.addr_grammar.specs.declared.addresses.RawAddress.TheVariants.{One, Two}
 use Rattle.addr_grammar.specs.declared.faults.GrammarFault.{GrammarFault}

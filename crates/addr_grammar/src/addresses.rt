@@ -7,7 +7,7 @@ use relay_model::Bytes;
 use std::marker::Model;
 
 /// One address, or one half of a dual address. Contracts disregard the offsets of its options.
-#[derive(Debug, Drop)]
+#[derive(Drop)]
 pub struct RawSingle {
     keyword: Bytes,
     params: Vec<Bytes>,
@@ -61,7 +61,7 @@ impl RawSingle {
 }
 
 /// An address: one for both ways, or one to read from and one to write to.
-#[derive(Debug, Drop)]
+#[derive(Drop)]
 pub enum RawAddress {
     One(RawSingle),
     Two(RawSingle, RawSingle),

@@ -5,7 +5,7 @@ ghost use Rattle.addr_grammar.specs.Grammar.{is_mark, before, after};
 use addr_words::{Token, TokenKind};
 
 /// What parts an address.
-#[derive(Clone, Copy, Debug)]
+#[derive(Clone, Copy)]
 pub enum Mark {
     Colon,
     Comma,

@@ -5,11 +5,12 @@ ghost use Rattle.addr_grammar.specs.declared.faults.GrammarFault.TheVariants.{Me
 use addr_words::WordFault;
 use relay_model::NoMemory;
 use std::alloc::{AllocError, AllocFailed};
+use std::fmt;
 use thiserror::Error;
 
 /// What is wrong with a text: the first fault of its tokens, then of its halves, then in each half from left
 /// to right. Offsets count bytes from 0.
-#[derive(Debug, Drop, Error)]
+#[derive(Drop, Error)]
 pub enum GrammarFault {
     /// A quote or a bracket is open at the end; `at` is where the outermost of them begins.
     #[error("unclosed at {at}")]
@@ -32,6 +33,13 @@ pub enum GrammarFault {
     /// No memory was found.
     #[error("out of memory")]
     Memory,
+}
+
+/// The same text as it is displayed with.
+impl fmt::Debug for GrammarFault {
+    fn fmt<W: fmt::Write>(&self, f: &mut fmt::Formatter<W>) -> fmt::Result {
+        fmt::Display::fmt(self, f)
+    }
 }
 
 impl From<NoMemory> for GrammarFault {

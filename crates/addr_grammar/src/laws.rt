@@ -1,6 +1,6 @@
 // What the definitions say by themselves.
 ghost use Rattle.std.specs.Prelude.{◌≡◌, ℕ, List, Err};
-ghost use Rattle.addr_words.specs.declared.token_list.Token.{Token};
+ghost use Rattle.addr_words.specs.{Token};
 ghost use Rattle.addr_grammar.specs.declared.faults.GrammarFault.TheVariants.{Memory};
 ghost use Rattle.addr_grammar.specs.FirstFaults.{OptionsBeginBehindCommas};
 ghost use Rattle.addr_grammar.specs.Grammar.{Piece, head_of, options_of, single_of, address_of, reading};

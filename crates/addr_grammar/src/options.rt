@@ -3,7 +3,7 @@ use relay_model::Bytes;
 
 /// An option as it is written: its name, the value where an equals sign stands, and the offset of the text at
 /// which the option begins.
-#[derive(Debug, Drop)]
+#[derive(Drop)]
 pub struct RawOption {
     pub name: Bytes,
     pub value: Option<Bytes>,

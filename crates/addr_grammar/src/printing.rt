@@ -1,6 +1,6 @@
 // Printing an address.
 ghost use Rattle.std.specs.Prelude.{◌≡◌, ◌≤◌, ◌++◌, length, map, Ok, IfOk, OnOk};
-ghost use Rattle.addr_words.specs.Writing.{written};
+ghost use Rattle.addr_words.specs.{written};
 ghost use Rattle.addr_grammar.specs.Addresses.{IsSingle, named};
 ghost use Rattle.addr_grammar.specs.Grammar.{reading};
 ghost use Rattle.addr_grammar.specs.Spelling.{Spells};

@@ -2,13 +2,10 @@
 use Rattle.std.specs.Prelude.{ℕ, Bool, true, false, min, List, Some}
 use Rattle.relay_model.specs.declared.acts.Shut.TheVariants.{Nothing, Down, Close, Null}
 use Rattle.relay_model.specs.declared.commands.Conv.TheVariants as conv
-use Rattle.relay_model.specs.declared.commands.Options.{Options}
-use Rattle.relay_model.specs.declared.commands.Target.{Target}
+use Rattle.relay_model.specs.{Options, Target, default_options}
 use Rattle.relay_model.specs.declared.commands.Target.TheVariants.{NamedPipe, UnixListen}
-use Rattle.relay_model.specs.PlainRelay.{default_options}
-use Rattle.option_table.specs.declared.rows.OptionId.{OptionId}
+use Rattle.option_table.specs.{OptionId, Value}
 use Rattle.option_table.specs.declared.rows.OptionId.TheVariants as id
-use Rattle.option_table.specs.declared.values.Value.{Value}
 use Rattle.option_table.specs.declared.values.Value.TheVariants as value
 use Rattle.addr_kinds.specs.Targets.{counted}
 

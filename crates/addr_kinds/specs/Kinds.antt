@@ -5,11 +5,10 @@ use Rattle.std.specs.List.{list_any}
 use Rattle.std.specs.Str.{byte}
 use Prim.Native.String.{String}
 use Rattle.relay_model.specs.declared.commands.Family.TheVariants.{Any, V4, V6}
-use Rattle.relay_model.specs.declared.commands.Target.{Target}
+use Rattle.relay_model.specs.{Target}
 use Rattle.relay_model.specs.declared.commands.Target.TheVariants as target
-use Rattle.option_table.specs.declared.rows.Group.{Group}
+use Rattle.option_table.specs.{Group, is_listed}
 use Rattle.option_table.specs.declared.rows.Group.TheVariants.{Relay, File, Named, Socket, Tcp, Bind, Retry, Listen, Range, Child, Socks, Proxy}
-use Rattle.option_table.specs.Table.{is_listed}
 use Rattle.addr_kinds.specs.declared.uses.Asked.{Asked}
 use Rattle.addr_kinds.specs.declared.uses.Asked.TheVariants.{Reading, Writing}
 use Rattle.addr_kinds.specs.declared.uses.Uses.{Uses}

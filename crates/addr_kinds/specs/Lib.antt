@@ -3,3 +3,7 @@ pub mod Kinds
 pub mod Resolving
 pub mod Rules
 pub mod Targets
+pub use Resolving.{resolution}
+pub use Targets.{counted}
+pub use declared.uses.Asked.{Asked}
+pub use declared.faults.KindFault.{KindFault}

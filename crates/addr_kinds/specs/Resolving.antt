@@ -1,20 +1,11 @@
 -- What an address of words asks for, or the first thing that is wrong with it: its kind, then its parameters,
 -- then its options from left to right, then its use.
 use Rattle.std.specs.Prelude.{◌≡◌, ℕ, ◌+◌, Bool, true, false, not, ◌&&◌, ◌||◌, List, [], ◌∷◌, Option, Some, None, unwrap_or, Result, Ok, Err, if◌then◌else◌}
-use Rattle.relay_model.specs.declared.commands.FileFlags.{FileFlags}
-use Rattle.relay_model.specs.declared.commands.Options.{Options}
-use Rattle.relay_model.specs.declared.commands.Single.{Single}
-use Rattle.option_table.specs.declared.rows.OptionId.{OptionId}
+use Rattle.relay_model.specs.{FileFlags, Options, Single}
+use Rattle.option_table.specs.{OptionId, OptionRow, Lookup, Value, lookup_of, writes_port, value_of}
 use Rattle.option_table.specs.declared.rows.OptionId.TheVariants as id
-use Rattle.option_table.specs.declared.rows.OptionRow.{OptionRow}
-use Rattle.option_table.specs.declared.rows.Lookup.{Lookup}
 use Rattle.option_table.specs.declared.rows.Lookup.TheVariants.{Known, LeftOut, Unknown}
-use Rattle.option_table.specs.declared.values.Value.{Value}
-use Rattle.option_table.specs.Rows.{lookup_of}
-use Rattle.option_table.specs.Networks.{writes_port}
-use Rattle.option_table.specs.Values.{value_of}
-use Rattle.addr_grammar.specs.Addresses.{Named, Parts}
-use Rattle.addr_grammar.specs.Grammar.{◌>>=◌}
+use Rattle.addr_grammar.specs.{Named, Parts, ◌>>=◌}
 use Rattle.addr_kinds.specs.declared.faults.KindFault.{KindFault}
 use Rattle.addr_kinds.specs.declared.faults.KindFault.TheVariants.{UnknownOption, LeftOutOption, WrongGroup, BadValue, UnknownKind, LeftOutKind, WrongUse, Memory}
 use Rattle.addr_kinds.specs.declared.uses.Asked.{Asked}

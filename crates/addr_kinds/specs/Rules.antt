@@ -2,12 +2,10 @@
 use Rattle.std.specs.Prelude.{ℕ, Bool, true, not, ◌&&◌, ◌==◌, nat_le, List, length, filter, slice_index, Option, is_some, if◌then◌else◌}
 use Rattle.std.specs.List.{list_any, list_all, slice_split}
 use Rattle.std.specs.Str.{byte}
-use Rattle.relay_model.specs.declared.commands.Family.{Family}
+use Rattle.relay_model.specs.{Family}
 use Rattle.relay_model.specs.declared.commands.Family.TheVariants.{Any, V4, V6}
-use Rattle.option_table.specs.Parts.{◌>>=◌, only_if, in_brackets}
-use Rattle.option_table.specs.Numbers.{short_number}
-use Rattle.option_table.specs.Literals.{ipv4_of, ipv6_of}
-use Rattle.addr_grammar.specs.Addresses.{is_empty}
+use Rattle.option_table.specs.{◌>>=◌, only_if, in_brackets, short_number, ipv4_of, ipv6_of}
+use Rattle.addr_grammar.specs.{is_empty}
 
 -- a file name, a host or a command has at least one byte, and no byte 0, which ends a text for the system
 abbrev pub is_name : List ℕ → Bool

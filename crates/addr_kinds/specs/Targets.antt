@@ -1,11 +1,10 @@
 -- What the parameters of a kind make, or what is wrong with them.
 use Rattle.std.specs.Prelude.{ℕ, Bool, true, false, min, ◌^◌, ◌-◌, List, [], ◌∷◌, length, Option, Some, None, Result, Ok, Err}
-use Rattle.relay_model.specs.declared.commands.Family.{Family}
+use Rattle.relay_model.specs.{Family, Target}
 use Rattle.relay_model.specs.declared.commands.Family.TheVariants.{Any, V4}
-use Rattle.relay_model.specs.declared.commands.Target.{Target}
 use Rattle.relay_model.specs.declared.commands.Target.TheVariants as target
-use Rattle.option_table.specs.Parts.{only_if}
-use Rattle.addr_grammar.specs.Grammar.{◌>>=◌}
+use Rattle.option_table.specs.{only_if}
+use Rattle.addr_grammar.specs.{◌>>=◌}
 use Rattle.addr_kinds.specs.declared.faults.KindFault.{KindFault}
 use Rattle.addr_kinds.specs.declared.faults.KindFault.TheVariants.{Parameters, BadParameter}
 use Rattle.addr_kinds.specs.declared.kinds.StreamKind.{StreamKind}

@@ -3,12 +3,13 @@ ghost use Rattle.std.specs.Prelude.{◌≡◌};
 ghost use Rattle.addr_kinds.specs.declared.faults.KindFault.TheVariants.{Memory};
 
 use relay_model::NoMemory;
+use std::fmt;
 use thiserror::Error;
 
 /// What is wrong with an address: first its kind, then its parameters, then its options from left to right, then
 /// its use. Places count from 1, options and parameters apart. A place or a count above 4,294,967,295 stays
 /// there.
-#[derive(Debug, Drop, Error)]
+#[derive(Drop, Error)]
 pub enum KindFault {
     /// No option has this name.
     #[error("unknown option {place}")]
@@ -40,6 +41,13 @@ pub enum KindFault {
     /// No memory was found.
     #[error("out of memory")]
     Memory,
+}
+
+/// The same text as it is displayed with.
+impl fmt::Debug for KindFault {
+    fn fmt<W: fmt::Write>(&self, f: &mut fmt::Formatter<W>) -> fmt::Result {
+        fmt::Display::fmt(self, f)
+    }
 }
 
 impl From<NoMemory> for KindFault {

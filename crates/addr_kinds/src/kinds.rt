@@ -9,7 +9,7 @@ use option_table::Group;
 use relay_model::Family;
 
 /// A kind that stands for the program's own streams.
-#[derive(Clone, Copy, Debug, PartialEq, Eq)]
+#[derive(Clone, Copy)]
 pub(crate) enum StreamKind {
     Stdio,
     Stdin,
@@ -18,7 +18,7 @@ pub(crate) enum StreamKind {
 }
 
 /// A kind that a file name follows.
-#[derive(Clone, Copy, Debug, PartialEq, Eq)]
+#[derive(Clone, Copy)]
 pub(crate) enum FileKind {
     Create,
     Open,
@@ -28,7 +28,7 @@ pub(crate) enum FileKind {
 }
 
 /// A kind that a host and a port follow.
-#[derive(Clone, Copy, Debug, PartialEq, Eq)]
+#[derive(Clone, Copy)]
 pub(crate) enum HostKind {
     Tcp,
     Udp,
@@ -36,7 +36,7 @@ pub(crate) enum HostKind {
 }
 
 /// A kind that a local port follows.
-#[derive(Clone, Copy, Debug, PartialEq, Eq)]
+#[derive(Clone, Copy)]
 pub(crate) enum PortKind {
     TcpListen,
     UdpListen,
@@ -46,7 +46,7 @@ pub(crate) enum PortKind {
 
 /// A kind of address, by the parameters that follow its keyword. `Pipe` has a file name or none; with `named`
 /// the server of `Socks` looks the host up.
-#[derive(Clone, Copy, Debug, PartialEq, Eq)]
+#[derive(Clone, Copy)]
 pub(crate) enum Kind {
     Stream(StreamKind),
     File(FileKind),

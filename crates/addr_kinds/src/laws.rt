@@ -1,7 +1,7 @@
 // What the definitions say by themselves.
 ghost use Rattle.std.specs.Prelude.{◌≡◌, ℕ, Bool, List, Err};
-ghost use Rattle.relay_model.specs.declared.commands.Options.{Options};
-ghost use Rattle.addr_grammar.specs.Addresses.{Named, Parts};
+ghost use Rattle.relay_model.specs.{Options};
+ghost use Rattle.addr_grammar.specs.{Named, Parts};
 ghost use Rattle.addr_kinds.specs.declared.faults.KindFault.TheVariants.{Memory};
 ghost use Rattle.addr_kinds.specs.declared.uses.Asked.{Asked};
 ghost use Rattle.addr_kinds.specs.declared.kinds.Kind.{Kind};

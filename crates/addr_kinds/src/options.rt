@@ -1,8 +1,7 @@
 // The options of an address, read from left to right.
 ghost use Rattle.std.specs.Prelude.{◌≡◌, map, option_copied};
-ghost use Rattle.option_table.specs.Rows.{lookup_of};
-ghost use Rattle.option_table.specs.Values.{value_of};
-ghost use Rattle.addr_grammar.specs.Addresses.{named};
+ghost use Rattle.option_table.specs.{lookup_of, value_of};
+ghost use Rattle.addr_grammar.specs.{named};
 ghost use Rattle.addr_kinds.specs.Kinds.{known_of};
 ghost use Rattle.addr_kinds.specs.Resolving.{option_at, is_port_too_many, value_at, text_of, with_option, with_options, Resolves};
 

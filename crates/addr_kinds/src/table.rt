@@ -1,7 +1,7 @@
 // The kinds that the relay offers, one row a kind, and those of socat(1) that it leaves out.
 ghost use Rattle.std.specs.Prelude.{◌≡◌, map, option_map};
 ghost use Rattle.std.specs.Result.{result_map_both};
-ghost use Rattle.option_table.specs.Table.{is_listed};
+ghost use Rattle.option_table.specs.{is_listed};
 ghost use Rattle.addr_kinds.specs.Kinds.{row_of, as_named, known_of, is_left_out};
 ghost use Rattle.addr_kinds.specs.Resolving.{kind_of};
 

@@ -3,7 +3,7 @@ ghost use Rattle.std.specs.Prelude.{◌≡◌};
 ghost use Rattle.addr_kinds.specs.Kinds.{offers};
 
 /// What an address is asked for: to be read and written, to be read, or to be written.
-#[derive(Clone, Copy, Debug, PartialEq, Eq)]
+#[derive(Clone, Copy, PartialEq, Eq)]
 pub enum Asked {
     TwoWay,
     Reading,
@@ -11,7 +11,7 @@ pub enum Asked {
 }
 
 /// The uses that a kind is offered for.
-#[derive(Clone, Copy, Debug, PartialEq, Eq)]
+#[derive(Clone, Copy)]
 pub(crate) enum Uses {
     Any,
     AllButWriting,

@@ -3,3 +3,9 @@ pub mod Writing
 pub mod Spans
 pub mod Spelling
 pub mod FirstFaults
+pub use Reading.{tokens_of}
+pub use Writing.{written}
+pub use Spelling.{SpellsKinds}
+pub use declared.token_list.Token.{Token}
+pub use declared.token_list.TokenKind.{TokenKind}
+pub use declared.faults.WordFault.{WordFault}

@@ -3,10 +3,11 @@ ghost use Rattle.std.specs.Prelude.{◌≡◌};
 ghost use Rattle.addr_words.specs.declared.faults.WordFault.TheVariants.{Memory};
 
 use std::alloc::{AllocError, AllocFailed};
+use std::fmt;
 use thiserror::Error;
 
 /// What is wrong with a text. Offsets count bytes from 0.
-#[derive(Debug, Drop, Error)]
+#[derive(Drop, Error)]
 pub enum WordFault {
     /// A quote or a bracket is open at the end; `at` is where the outermost of them begins.
     #[error("unclosed at {at}")]
@@ -20,6 +21,13 @@ pub enum WordFault {
     /// No memory was found.
     #[error("out of memory")]
     Memory,
+}
+
+/// The same text as it is displayed with.
+impl fmt::Debug for WordFault {
+    fn fmt<W: fmt::Write>(&self, f: &mut fmt::Formatter<W>) -> fmt::Result {
+        fmt::Display::fmt(self, f)
+    }
 }
 
 impl From<AllocError> for WordFault {

@@ -7,7 +7,7 @@ use std::alloc::{AllocError, Global};
 use std::marker::Model;
 
 /// What may enclose a byte.
-#[derive(Clone, Copy, Debug)]
+#[derive(Clone, Copy)]
 pub enum Enclosure {
     DoubleQuote,
     SingleQuote,
@@ -15,7 +15,7 @@ pub enum Enclosure {
 }
 
 /// An enclosure and the offset of the byte that opens it.
-#[derive(Clone, Copy, Debug)]
+#[derive(Clone, Copy)]
 pub struct OpenEnclosure {
     pub what: Enclosure,
     pub at: u32,

@@ -4,7 +4,7 @@ ghost use Rattle.std.specs.Prelude.{◌≡◌, ◌<◌, length, slice_get, Some}
 use std::marker::Model;
 
 /// What a token is. A `Byte` stands for itself; the others are marks outside of quotes and brackets.
-#[derive(Clone, Copy, Debug, PartialEq, Eq)]
+#[derive(Clone, Copy)]
 pub enum TokenKind {
     Byte(u8),
     Colon,
@@ -15,7 +15,7 @@ pub enum TokenKind {
 }
 
 /// A token and its spelling: the bytes of the text from `from` to before `to`, counted from 0.
-#[derive(Clone, Copy, Debug, PartialEq, Eq)]
+#[derive(Clone, Copy)]
 pub struct Token {
     pub kind: TokenKind,
     pub from: u32,
@@ -23,7 +23,7 @@ pub struct Token {
 }
 
 /// The tokens of a text, in its order.
-#[derive(Debug, Drop)]
+#[derive(Drop)]
 pub struct Words {
     tokens: Vec<Token>,
 }

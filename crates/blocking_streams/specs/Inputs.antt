@@ -3,7 +3,7 @@ use Rattle.std.specs.Prelude.{◌≡◌, ◌≢◌, ℕ, ◌<◌, pos, List, tak
 use Rattle.std.specs.declared.io.Error.{Error}
 use Rattle.std.specs.IoError.{raw_os_error}
 use Rattle.std.specs.Io.KnownBytes.{Keeps, Consumes, IsAtEnd}
-use Rattle.port_trait.specs.declared.answers.SourceGot.{SourceGot}
+use Rattle.port_trait.specs.{SourceGot}
 use Rattle.port_trait.specs.declared.answers.SourceGot.TheVariants as gives
 
 -- no bytes are the end, and so is the error 5 (EIO) of a terminal, which has hung up

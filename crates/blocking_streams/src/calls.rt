@@ -11,7 +11,7 @@ use std::io::{Error, ErrorKind, Read, Write};
 use std::os::fd::AsRawFd;
 
 /// What comes after a call that the system refused.
-#[derive(Clone, Copy, Debug, PartialEq)]
+#[derive(Clone, Copy, PartialEq)]
 pub(crate) enum Next {
     /// The call would have waited: it is made again once the descriptor is ready (read(2), write(2), `EAGAIN`).
     WaitAndRetry,

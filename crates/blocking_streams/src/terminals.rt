@@ -1,7 +1,7 @@
 // An input that may be a terminal.
 ghost use Rattle.std.specs.Prelude.{◌≡◌, ◌<◌, length, None};
 ghost use Rattle.port_trait.specs.Counting.{Counted};
-ghost use Rattle.port_trait.specs.Streams.{SourceGives, ReaderGives, source_failed, source_ended};
+ghost use Rattle.port_trait.specs.{SourceGives, ReaderGives, source_failed, source_ended};
 ghost use Rattle.blocking_streams.specs.Inputs.{InputGives, IsInputAnswer};
 
 use port_trait::{Source, SourceGot};

@@ -2,10 +2,9 @@
 use Rattle.std.specs.Prelude.{◌≡◌, ℕ, Bool, true, false, List, [], ◌∷◌, ◌++◌, Option, option_map, slice_get, IsSomeAnd, IsUtf8}
 use Rattle.std.specs.declared.alloc.Global.{Global}
 use Rattle.std.specs.declared.process.command.Command.{Command}
-use Rattle.relay_model.specs.declared.acts.Peer.{Peer}
-use Rattle.relay_model.specs.declared.commands.Target.{Target}
+use Rattle.relay_model.specs.{Peer, Target}
 use Rattle.relay_model.specs.declared.commands.Target.TheVariants as targets
-use Rattle.port_trait.specs.declared.makers.Making.{Making}
+use Rattle.port_trait.specs.{Making}
 use Rattle.port_trait.specs.declared.makers.Making.TheVariants as makings
 use Rattle.child_ports.specs.Commands.{IsCommandOf, words_of}
 

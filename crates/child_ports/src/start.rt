@@ -2,13 +2,11 @@
 ghost use Rattle.std.specs.Prelude.{◌≡◌, false, None, Some, Ok, is_some, IfOk, IfErr, MatchOption, OnOk};
 ghost use Rattle.std.specs.Process.{SameProgramAndArgs, SameEnv, clears_env};
 ghost use Rattle.child_ports.specs.Commands.{RunsWords, AddsArgument, SetsTexts, TellsTexts, IsCommandOf, shell_words, words_of, told_texts};
-ghost use Rattle.port_trait.specs.Made.{IsAtOnce};
+ghost use Rattle.port_trait.specs.{IsAtOnce};
 ghost use Rattle.port_trait.specs.declared.makers.Making.TheVariants as makings;
-ghost use Rattle.file_ports.specs.Halves.{AreOf};
-ghost use Rattle.file_ports.specs.Opened.{OnMade};
-ghost use Rattle.socket_ports.specs.Accepting.{IsFreshPort};
+ghost use Rattle.file_ports.specs.{AreOf, OnMade, reads_by, writes_by};
+ghost use Rattle.socket_ports.specs.{IsFreshPort};
 ghost use Rattle.child_ports.specs.Programs.{runs_program, IsWordless, IsUnstarted, Starts};
-ghost use Rattle.file_ports.specs.Access.{reads_by, writes_by};
 
 use crate::calls::ProgramCalls;
 use crate::peers::PeerTexts;

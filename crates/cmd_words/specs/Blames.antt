@@ -1,9 +1,9 @@
 -- A refusal that blames the text of an address tells a fault that the text has by itself.
 use Rattle.std.specs.Prelude.{ℕ, List}
-use Rattle.relay_model.specs.declared.refusals.Refusal.{Refusal}
+use Rattle.relay_model.specs.{Refusal}
 use Rattle.relay_model.specs.declared.refusals.Refusal.TheVariants as refusals
 use Rattle.addr_grammar.specs.declared.faults.GrammarFault.TheVariants as texts
-use Rattle.addr_grammar.specs.FirstFaults.{IsFaultOf}
+use Rattle.addr_grammar.specs.{IsFaultOf}
 use Rattle.cmd_words.specs.declared.faults.CommandFault.{CommandFault}
 use Rattle.cmd_words.specs.declared.faults.CommandFault.TheVariants as faults
 

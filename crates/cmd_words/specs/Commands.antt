@@ -1,31 +1,19 @@
 -- Which command a list of words makes, or the first thing that is wrong with it: the flags from left to right, then
 -- the number of addresses, then the first address and the second, then the directions.
 use Rattle.std.specs.Prelude.{◌≡◌, ◌≢◌, ℕ, ◌+◌, Bool, not, ◌&&◌, ◌||◌, List, [], ◌∷◌, length, drop, Option, Some, None, Result, Ok, Err, if◌then◌else◌}
-use Rattle.relay_model.specs.declared.places.Side.{Side}
+use Rattle.relay_model.specs.{Side, Config, Ways, Address, Single, Refusal, Refused, Fit, listens, formed}
 use Rattle.relay_model.specs.declared.places.Side.TheVariants.{Left, Right}
 use Rattle.relay_model.specs.declared.places.Way.TheVariants.{LeftToRight, RightToLeft}
-use Rattle.relay_model.specs.declared.commands.Config.{Config}
-use Rattle.relay_model.specs.declared.commands.Ways.{Ways}
 use Rattle.relay_model.specs.declared.commands.Ways.TheVariants as ways
-use Rattle.relay_model.specs.declared.commands.Address.{Address}
 use Rattle.relay_model.specs.declared.commands.Address.TheVariants as addresses
-use Rattle.relay_model.specs.declared.commands.Single.{Single}
-use Rattle.relay_model.specs.declared.refusals.Refusal.{Refusal}
 use Rattle.relay_model.specs.declared.refusals.Refusal.TheVariants as refusals
-use Rattle.relay_model.specs.declared.refusals.Refused.{Refused}
-use Rattle.relay_model.specs.Configs.{Fit, listens, formed}
-use Rattle.option_table.specs.Parts.{only_if}
-use Rattle.addr_grammar.specs.declared.addresses.RawAddress.{RawAddress}
+use Rattle.option_table.specs.{only_if}
+use Rattle.addr_grammar.specs.{RawAddress, GrammarFault, ◌>>=◌, reading}
 use Rattle.addr_grammar.specs.declared.addresses.RawAddress.TheVariants as written
-use Rattle.addr_grammar.specs.declared.faults.GrammarFault.{GrammarFault}
 use Rattle.addr_grammar.specs.declared.faults.GrammarFault.TheVariants as texts
-use Rattle.addr_grammar.specs.Grammar.{◌>>=◌, reading}
-use Rattle.addr_kinds.specs.declared.faults.KindFault.{KindFault}
+use Rattle.addr_kinds.specs.{KindFault, Asked, resolution, counted}
 use Rattle.addr_kinds.specs.declared.faults.KindFault.TheVariants as kinds
-use Rattle.addr_kinds.specs.declared.uses.Asked.{Asked}
 use Rattle.addr_kinds.specs.declared.uses.Asked.TheVariants.{TwoWay, Reading, Writing}
-use Rattle.addr_kinds.specs.Resolving.{resolution}
-use Rattle.addr_kinds.specs.Targets.{counted}
 use Rattle.cmd_words.specs.declared.settings.Settings.{Settings}
 use Rattle.cmd_words.specs.declared.settings.Instead.{Instead}
 use Rattle.cmd_words.specs.declared.settings.Instead.TheVariants as instead

@@ -3,15 +3,12 @@ use Rattle.std.specs.Prelude.{ℕ, ◌+◌, ◌≤◌, Bool, true, false, ◌&&�
 use Prim.Native.String.{String}
 use Rattle.std.specs.Str.{byte}
 use Rattle.std.specs.Borrow.{Bor}
-use Rattle.relay_model.specs.declared.commands.Dump.{Dump}
+use Rattle.relay_model.specs.{Dump, Refusal, Refused}
 use Rattle.relay_model.specs.declared.commands.Dump.TheVariants as dump
 use Rattle.relay_model.specs.declared.commands.Ways.TheVariants as ways
-use Rattle.relay_model.specs.declared.refusals.Refusal.{Refusal}
 use Rattle.relay_model.specs.declared.refusals.Refusal.TheVariants as refusals
-use Rattle.relay_model.specs.declared.refusals.Refused.{Refused}
-use Rattle.option_table.specs.Parts.{◌>>=◌, only_if}
-use Rattle.option_table.specs.Numbers.{number_of, time_of}
-use Rattle.addr_kinds.specs.Targets.{counted}
+use Rattle.option_table.specs.{◌>>=◌, only_if, number_of, time_of}
+use Rattle.addr_kinds.specs.{counted}
 use Rattle.cmd_words.specs.declared.settings.Settings.{Settings}
 use Rattle.cmd_words.specs.declared.settings.Switch.{Switch}
 use Rattle.cmd_words.specs.declared.settings.Switch.TheVariants.{OnlyRight, OnlyLeft, TextDump, HexDump, AnyGroup, Sloppy, Messages}

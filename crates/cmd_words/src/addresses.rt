@@ -1,7 +1,7 @@
 // One address of the command line.
 ghost use Rattle.std.specs.Prelude.{◌≡◌, ◌+◌, ◌<◌, ◌^◌, None, IfOk, IfErr};
-ghost use Rattle.addr_grammar.specs.Grammar.{reading};
-ghost use Rattle.addr_kinds.specs.Resolving.{resolution};
+ghost use Rattle.addr_grammar.specs.{reading};
+ghost use Rattle.addr_kinds.specs.{resolution};
 ghost use Rattle.cmd_words.specs.Blames.{IsBlamed};
 ghost use Rattle.cmd_words.specs.Commands.{Answers, parsed, single_at, use_of, resolved, misplaced_fork, placed, address_at};
 
@@ -70,8 +70,13 @@ fn resolve_address(
         }
         RawAddress::Two(first, second) => {
             let reading = single_at(alloc, at, 1, first, Asked::Reading, general)?;
-            let writing = single_at(alloc, at, 2, second, Asked::Writing, general)?;
-            Ok(Address::Two { reading, writing })
+            match single_at(alloc, at, 2, second, Asked::Writing, general) {
+                Ok(writing) => Ok(Address::Two { reading, writing }),
+                Err(fault) => {
+                    drop(reading);
+                    Err(fault)
+                }
+            }
         }
     }
 }
@@ -97,7 +102,10 @@ fn check_fork_place(at: usize, side: Side, address: Address) -> Result<Address, 
     ensures placed { IfOk result (λ kept. misplaced_fork side kept ≡ None) }
 {
     match misplaced_fork(side, &address) {
-        Some(half) => Err(wrong_at(at, half, Refusal::ForkPlace)),
+        Some(half) => {
+            drop(address);
+            Err(wrong_at(at, half, Refusal::ForkPlace))
+        }
         None => Ok(address),
     }
 }

@@ -1,6 +1,6 @@
 // What a command line asks for.
-ghost use Rattle.std.specs.Prelude.{◌≡◌, ◌+◌, ◌<◌, ◌^◌, ◌||◌, None, length, IfOk, IfSome};
-ghost use Rattle.relay_model.specs.Configs.{Fit, formed};
+ghost use Rattle.std.specs.Prelude.{◌≡◌, ◌≢◌, ◌+◌, ◌<◌, ◌^◌, ◌||◌, None, length, IfOk, IfSome, MatchOption};
+ghost use Rattle.relay_model.specs.{Config, Fit, formed};
 ghost use Rattle.relay_model.specs.declared.places.Way.TheVariants.{LeftToRight, RightToLeft};
 ghost use Rattle.relay_model.specs.declared.places.Side.TheVariants.{Left, Right};
 ghost use Rattle.cmd_words.specs.Flags.{IsBounded};
@@ -16,7 +16,7 @@ use relay_model::{Address, Config, NoMemory, Refusal, Refused, Side, Text, Way};
 use std::alloc::Global;
 
 /// What a command line asks for: a relay, the usage, the version, or the run that is generated from a number.
-#[derive(Debug, Drop)]
+#[derive(Drop)]
 pub enum Command {
     Relay(Config),
     Usage,
@@ -71,10 +71,11 @@ fn relay_between(settings: Settings, left: Address, right: Address) -> Result<Co
         left,
         right,
     };
-    if !has_direction(&config) {
-        return Err(whole(Refusal::NoDirection));
+    if has_direction(&config) {
+        return Ok(Command::Relay(config));
     }
-    Ok(Command::Relay(config))
+    drop(config);
+    Err(whole(Refusal::NoDirection))
 }
 
 /// The relay between the addresses that are the words from the place `first` on.
@@ -95,8 +96,13 @@ fn between(
         return Err(whole(Refusal::AddressCount { have }));
     };
     let left = address_at(alloc, settings, first, Side::Left, left.as_slice())?;
-    let right = address_at(alloc, settings, first + 1, Side::Right, right.as_slice())?;
-    relay_between(settings, left, right)
+    match address_at(alloc, settings, first + 1, Side::Right, right.as_slice()) {
+        Ok(right) => relay_between(settings, left, right),
+        Err(fault) => {
+            drop(left);
+            Err(fault)
+        }
+    }
 }
 
 /// What a command line asks for (socat(1), "SYNOPSIS"); the words don't include the program's name. Words that
@@ -115,6 +121,16 @@ pub fn command_of(alloc: Global, words: &[Text]) -> Result<Command, CommandFault
     }
 }
 
+/// The relay that a command asks for, where it asks for one.
+fn relay_in(command: Command) -> Option<Config>
+    ensures { MatchOption result ((c : Config) → command ≢ Command.Relay c) (λ c. command ≡ Command.Relay c) }
+{
+    match command {
+        Command::Relay(config) => Some(config),
+        Command::Usage | Command::Version | Command::Load(_) => None,
+    }
+}
+
 /// The relay for which the words ask, where they ask for one.
 pub fn relay_of(alloc: Global, words: &[Text]) -> Result<Option<Config>, NoMemory>
     // It is the relay that the words make, and none only where they make none.
@@ -123,8 +139,7 @@ pub fn relay_of(alloc: Global, words: &[Text]) -> Result<Option<Config>, NoMemor
     ensures fit { IfOk result (λ relay. IfSome relay Fit) }
 {
     match command_of(alloc, words) {
-        Ok(Command::Relay(config)) => Ok(Some(config)),
-        Ok(Command::Usage) | Ok(Command::Version) | Ok(Command::Load(_)) => Ok(None),
+        Ok(command) => Ok(relay_in(command)),
         Err(CommandFault::Refused(_)) => Ok(None),
         Err(CommandFault::Memory) => Err(NoMemory),
     }

@@ -6,11 +6,12 @@ ghost use Rattle.cmd_words.specs.Commands.{wrong_at, text_fault, kind_fault};
 use addr_grammar::GrammarFault;
 use addr_kinds::{KindFault, report_number};
 use relay_model::{NoMemory, Refusal, Refused};
+use std::fmt;
 use thiserror::Error;
 
 /// Why a list of words makes no command. A refusal is the first there is: of the flags from left to right, then
 /// of the number of addresses, then of each address, then of the directions.
-#[derive(Debug, Drop, Error)]
+#[derive(Drop, Error)]
 pub enum CommandFault {
     /// What is wrong, and with which word.
     #[error("refused at word {}, half {}", .0.word, .0.half)]
@@ -18,6 +19,13 @@ pub enum CommandFault {
     /// No memory was found.
     #[error("out of memory")]
     Memory,
+}
+
+/// The same text as it is displayed with.
+impl fmt::Debug for CommandFault {
+    fn fmt<W: fmt::Write>(&self, f: &mut fmt::Formatter<W>) -> fmt::Result {
+        fmt::Display::fmt(self, f)
+    }
 }
 
 /// A refusal of the word at this place, counted from 0, and of a half of its address.

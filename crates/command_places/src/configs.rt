@@ -2,8 +2,12 @@
 // is passed on.
 ghost use Rattle.std.specs.Prelude.{◌≡◌, ◌≤◌, ◌+◌, ◌++◌, ◌∷◌, [], length, map, filter, count_by};
 ghost use Rattle.std.specs.List.{list_any};
-ghost use Rattle.relay_model.specs.Places.{same_place, door_of};
-ghost use Rattle.relay_model.specs.Configs.{medium, is_datagrams, is_program, source, sink, way_from, way_to, address, narrowed, offered, parts_of, parts, place_at, places, single_for, single, options_of, medium_of, listens_at, forks, has_fork, program_door, is_left, is_program_door, has_own_door, accepting_door, own_doors, is_place_of, things, is_of, has_half, part_with, formed, input, output, keeps_borders, writes_output, stands_on_output, output_is_shared, is_error_stream, writes_shared_stream, datagram_shut, connection_shut, plain_shut, shut_on, how};
+ghost use Rattle.relay_model.specs.{same_place, door_of, medium, is_datagrams, is_program, source, sink, way_from, way_to, address, narrowed};
+ghost use Rattle.relay_model.specs.{offered, parts_of, parts, place_at, places, single_for, single, options_of, medium_of, listens_at, forks};
+ghost use Rattle.relay_model.specs.{has_fork, program_door, is_left, is_program_door, has_own_door, accepting_door, own_doors, is_place_of, things};
+ghost use Rattle.relay_model.specs.{is_of, has_half, part_with, formed, input, output, keeps_borders, writes_output, stands_on_output};
+ghost use Rattle.relay_model.specs.{output_is_shared, is_error_stream, writes_shared_stream, datagram_shut, connection_shut, plain_shut, shut_on};
+ghost use Rattle.relay_model.specs.{how};
 
 use crate::place_lists::PlaceList;
 use relay_model::{

@@ -15,7 +15,7 @@ const FREE: Place = Place {
 };
 
 /// Up to eight places or doors, in order. Contracts see them as a list.
-#[derive(Debug, Drop)]
+#[derive(Drop)]
 pub struct PlaceList {
     items: [Place; 8],
     count: usize,
@@ -23,7 +23,7 @@ pub struct PlaceList {
 
 impl Model for PlaceList {
     ghost use Rattle.std.specs.Prelude.{List, take, ◌≤◌};
-    ghost use Rattle.relay_model.specs.declared.places.Place.{Place};
+    ghost use Rattle.relay_model.specs.{Place};
 
     ghost Value = { List Place };
 

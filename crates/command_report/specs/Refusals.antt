@@ -1,13 +1,11 @@
 -- What a report on refused words tells: the line that the program says, the word that is blamed with carets under what is
 -- wrong, and why.
 use Rattle.std.specs.Prelude.{◌≡◌, ℕ, ◌-◌, ◌==◌, min, List, [], ◌∷◌, ◌++◌, length, take, drop, Option, Some, None, slice_get, if◌then◌else◌}
-use Rattle.relay_model.specs.declared.refusals.Refused.{Refused}
-use Rattle.relay_model.specs.declared.refusals.Refusal.{Refusal}
+use Rattle.relay_model.specs.{Refused, Refusal, newline}
 use Rattle.relay_model.specs.declared.refusals.Refusal.TheVariants as refusal
-use Rattle.relay_model.specs.Dumps.{newline}
 use Rattle.exit_status.specs.declared.outcomes.Outcome.TheVariants as outcome
-use Rattle.exit_status.specs.Lines.{line}
-use Rattle.place_report.specs.Shown.{shown, said, marked}
+use Rattle.exit_status.specs.{line}
+use Rattle.place_report.specs.{shown, said, marked}
 
 -- where in its word a refusal points to; those that name no byte point to the whole word
 abbrev pub offset_of : Refusal → ℕ

@@ -1,19 +1,12 @@
 -- What a report on a command tells, in order: what holds for the whole relay, the first address, the second.
 use Rattle.std.specs.Prelude.{◌≡◌, ℕ, ◌*◌, Bool, true, false, List, [], ◌∷◌, ◌++◌, Option, Some, None, decimal, if◌then◌else◌}
-use Rattle.relay_model.specs.declared.places.Side.{Side}
+use Rattle.relay_model.specs.{Side, Shut, Config, Target, Address, address, formed, output, how, way_from, way_to, newline}
 use Rattle.relay_model.specs.declared.places.Side.TheVariants.{Left, Right}
-use Rattle.relay_model.specs.declared.acts.Shut.{Shut}
 use Rattle.relay_model.specs.declared.acts.Shut.TheVariants as shuts
-use Rattle.relay_model.specs.declared.commands.Config.{Config}
-use Rattle.relay_model.specs.declared.commands.Target.{Target}
-use Rattle.relay_model.specs.declared.commands.Address.{Address}
 use Rattle.relay_model.specs.declared.commands.Address.TheVariants as addresses
-use Rattle.relay_model.specs.Configs.{address, formed, output, how, way_from, way_to}
-use Rattle.relay_model.specs.Dumps.{newline}
-use Rattle.cmd_words.specs.declared.commands.Command.{Command}
+use Rattle.cmd_words.specs.{Command}
 use Rattle.cmd_words.specs.declared.commands.Command.TheVariants as commands
-use Rattle.place_report.specs.Shown.{said}
-use Rattle.place_report.specs.Places.{title_of, use_line, IsTold}
+use Rattle.place_report.specs.{said, title_of, use_line, IsTold}
 
 -- the line on blocks: how long one is, and that no more than two wait
 abbrev pub block_line : ℕ → List ℕ

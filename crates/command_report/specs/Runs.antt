@@ -1,12 +1,10 @@
 -- What the program makes of its words.
 use Rattle.std.specs.Prelude.{◌≡◌, ℕ, List, [], ◌∷◌, ◌++◌, codes, nat_eq, Option, option_map, Result, Ok, Err, if◌then◌else◌}
 use Rattle.std.specs.List.{starts_with}
-use Rattle.cmd_words.specs.declared.commands.Command.{Command}
-use Rattle.cmd_words.specs.declared.faults.CommandFault.{CommandFault}
+use Rattle.cmd_words.specs.{Command, CommandFault, command}
 use Rattle.cmd_words.specs.declared.faults.CommandFault.TheVariants as faults
-use Rattle.cmd_words.specs.Commands.{command}
 use Rattle.std.specs.Io.KnownBytes.{Appends}
-use Rattle.place_report.specs.Shown.{IsPrintable, EndsLine}
+use Rattle.place_report.specs.{IsPrintable, EndsLine}
 use Rattle.command_report.specs.Reports.{Tells}
 use Rattle.command_report.specs.Refusals.{RefusalTold}
 

@@ -1,7 +1,7 @@
 // The report on a command.
 ghost use Rattle.std.specs.Prelude.{◌≡◌, ◌++◌, decimal, IfOk};
-ghost use Rattle.relay_model.specs.Dumps.{newline};
-ghost use Rattle.place_report.specs.Shown.{IsPrintable, EndsLine, shown};
+ghost use Rattle.relay_model.specs.{newline};
+ghost use Rattle.place_report.specs.{IsPrintable, EndsLine, shown};
 ghost use Rattle.command_report.specs.Reports.{RelayTold, Tells};
 
 use crate::sections::address_told;

@@ -1,8 +1,8 @@
 // The report on words that are refused.
 ghost use Rattle.std.specs.Prelude.{◌≡◌, ◌≤◌, ◌++◌, length, option_copied, min, take, drop, IfOk, OnOk};
 ghost use Rattle.exit_status.specs.declared.outcomes.Outcome.TheVariants as outcome;
-ghost use Rattle.exit_status.specs.Lines.{line};
-ghost use Rattle.place_report.specs.Shown.{IsPrintable, EndsLine};
+ghost use Rattle.exit_status.specs.{line};
+ghost use Rattle.place_report.specs.{IsPrintable, EndsLine};
 ghost use Rattle.command_report.specs.Refusals.{offset_of, carets, underlined, blamed, word_told, RefusalTold};
 
 use crate::reasons::reason;

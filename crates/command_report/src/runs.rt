@@ -1,6 +1,6 @@
 // The program's work: what its words make is written to a sink.
 ghost use Rattle.std.specs.Prelude.{◌≡◌, ◌<◌, true, IfOk};
-ghost use Rattle.port_trait.specs.Counting.{Rose};
+ghost use Rattle.port_trait.specs.{Rose};
 ghost use Rattle.command_report.specs.Runs.{words_of_run, IsReport, Explained, ExplainedBeneath};
 
 use crate::commands::explanation;

@@ -1,8 +1,7 @@
 // The lines on the addresses of a relay.
 ghost use Rattle.std.specs.Prelude.{◌≡◌, ◌++◌, IfOk, OnOk};
-ghost use Rattle.relay_model.specs.Configs.{address, formed, way_from, way_to};
-ghost use Rattle.place_report.specs.Places.{title_of, use_line, IsTold};
-ghost use Rattle.place_report.specs.Shown.{shown, said};
+ghost use Rattle.relay_model.specs.{address, formed, way_from, way_to};
+ghost use Rattle.place_report.specs.{title_of, use_line, IsTold, shown, said};
 ghost use Rattle.command_report.specs.Reports.{ending_words, ending, ending_line, AreTold, SideTold};
 
 use command_places::{how, is_formed, output, parts, way_from, way_to};

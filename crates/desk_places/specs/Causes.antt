@@ -1,24 +1,14 @@
 -- Why an opening, a listening or an accepting on a made port answers what it answers.
 use Rattle.std.specs.Prelude.{◌≡◌, ◌⊎◌, ⊤, Option, Some, IfSome}
-use Rattle.relay_model.specs.declared.acts.Peer.{Peer}
-use Rattle.relay_model.specs.declared.places.Place.{Place}
-use Rattle.relay_model.specs.declared.commands.Single.{Single}
-use Rattle.port_trait.specs.declared.makers.AskedPlace.{AskedPlace}
-use Rattle.port_trait.specs.declared.makers.Making.{Making}
+use Rattle.relay_model.specs.{Peer, Place, Single}
+use Rattle.port_trait.specs.{AskedPlace, Making, MadePeer, Rose, MakerSeen, PortSeen, Begun}
 use Rattle.port_trait.specs.declared.makers.Making.TheVariants as makings
-use Rattle.port_trait.specs.declared.makers.MadePeer.{MadePeer}
 use Rattle.port_trait.specs.declared.makers.MadePeer.TheVariants as peers
-use Rattle.port_trait.specs.Counting.{Rose}
-use Rattle.port_trait.specs.Makers.{MakerSeen}
-use Rattle.port_trait.specs.Ports.{PortSeen}
-use Rattle.port_table.specs.Ports.{FailsToBegin}
-use Rattle.world_trait.specs.declared.answers.OpenAnswer.{OpenAnswer}
+use Rattle.port_table.specs.{FailsToBegin}
+use Rattle.world_trait.specs.{OpenAnswer, ListenAnswer, AcceptAnswer}
 use Rattle.world_trait.specs.declared.answers.OpenAnswer.TheVariants as opens
-use Rattle.world_trait.specs.declared.answers.ListenAnswer.{ListenAnswer}
 use Rattle.world_trait.specs.declared.answers.ListenAnswer.TheVariants as listens
-use Rattle.world_trait.specs.declared.answers.AcceptAnswer.{AcceptAnswer}
 use Rattle.world_trait.specs.declared.answers.AcceptAnswer.TheVariants as accepts
-use Rattle.port_trait.specs.declared.answers.Begun.{Begun}
 use Rattle.port_trait.specs.declared.answers.Begun.TheVariants as begins
 
 -- a new port that was dropped since it didn't begin: its state as the maker gave it in this call, and the one after that

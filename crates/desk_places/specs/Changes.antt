@@ -2,40 +2,23 @@
 use Rattle.std.specs.Prelude.{◌≡◌, ◌≢◌, ◌⊎◌, ℕ, Bool, true, false, List, ◌∷◌, Option, None, Some, IfSome, MatchOption, position, ⊤, if◌then◌else◌}
 use Rattle.std.specs.List.{remove}
 use Rattle.slab.specs.Slab.{SameValues, Slab, Updates, get}
-use Rattle.relay_model.specs.declared.places.Place.{Place}
-use Rattle.relay_model.specs.declared.acts.Act.{Act}
-use Rattle.relay_model.specs.Holding.{Hold, Settling, Open, hold_after}
-use Rattle.relay_model.specs.Places.{same_place}
-use Rattle.port_trait.specs.Meanings.{join_answer}
-use Rattle.port_trait.specs.declared.answers.Begun.{Begun}
+use Rattle.relay_model.specs.{Place, Act, Hold, Settling, Open, hold_after, same_place, Why}
+use Rattle.port_trait.specs.{join_answer, Begun, Making, MadePeer, Joining, PortReap, Shutting, Begins, PortSeen, JoinsSo, MovesNothing, Reaps}
+use Rattle.port_trait.specs.{Settles}
 use Rattle.port_trait.specs.declared.answers.Begun.TheVariants as begins
 use Rattle.port_trait.specs.declared.answers.Settled.TheVariants as settles
-use Rattle.port_trait.specs.declared.makers.Making.{Making}
 use Rattle.port_trait.specs.declared.makers.Making.TheVariants as makings
-use Rattle.port_trait.specs.declared.makers.MadePeer.{MadePeer}
 use Rattle.port_trait.specs.declared.makers.MadePeer.TheVariants as peers
-use Rattle.port_trait.specs.declared.answers.Joining.{Joining}
-use Rattle.port_trait.specs.declared.answers.PortReap.{PortReap}
 use Rattle.port_trait.specs.declared.answers.PortReap.TheVariants as reaps
-use Rattle.port_trait.specs.declared.answers.Shutting.{Shutting}
 use Rattle.port_trait.specs.declared.answers.Shutting.TheVariants as shuttings
-use Rattle.world_trait.specs.declared.answers.OpenAnswer.{OpenAnswer}
+use Rattle.world_trait.specs.{OpenAnswer, ReapAnswer, ShutAnswer, ListenAnswer, AcceptAnswer}
 use Rattle.world_trait.specs.declared.answers.OpenAnswer.TheVariants as opens
-use Rattle.world_trait.specs.declared.answers.ReapAnswer.{ReapAnswer}
 use Rattle.world_trait.specs.declared.answers.ReapAnswer.TheVariants as reaped
-use Rattle.world_trait.specs.declared.answers.ShutAnswer.{ShutAnswer}
 use Rattle.world_trait.specs.declared.answers.ShutAnswer.TheVariants as shuts
-use Rattle.world_trait.specs.declared.answers.ListenAnswer.{ListenAnswer}
 use Rattle.world_trait.specs.declared.answers.ListenAnswer.TheVariants as listens
-use Rattle.world_trait.specs.declared.answers.AcceptAnswer.{AcceptAnswer}
 use Rattle.world_trait.specs.declared.answers.AcceptAnswer.TheVariants as accepts
-use Rattle.port_trait.specs.Ports.{Begins, PortSeen, JoinsSo, MovesNothing, Reaps, Settles}
-use Rattle.port_table.specs.Ports.{EntrySeen}
-use Rattle.port_table.specs.PortTables.{BeginsAt, Errors, Input, Made, MadeCall, Output, PortId, SameStreams, StreamCall}
-use Rattle.port_table.specs.declared.table.PortTable.{PortTable}
-use Rattle.port_table.specs.declared.bases.Base.{Base}
+use Rattle.port_table.specs.{EntrySeen, BeginsAt, Errors, Input, Made, MadeCall, Output, PortId, SameStreams, StreamCall, PortTable, Base}
 use Rattle.port_table.specs.declared.bases.Base.TheVariants as bases
-use Rattle.relay_model.specs.declared.acts.Why.{Why}
 use Rattle.relay_model.specs.declared.acts.Why.TheVariants as whys
 
 -- a place on a port that has begun is held, settling or open, and on one that hasn't it isn't

@@ -1,7 +1,6 @@
 -- What a call leaves of the places and of the ports that they stand on.
-use Rattle.std.specs.Prelude.{◌≡◌, ◌<◌, ◌≤◌, ◌+◌, List, length}
-use Rattle.relay_model.specs.declared.places.Place.{Place}
-use Rattle.relay_model.specs.Holding.{Free}
+use Rattle.std.specs.Prelude.{◌≡◌, ◌<◌, ◌≤◌, ◌+◌, List, length, vec_capacity}
+use Rattle.relay_model.specs.{Place, Free}
 use Rattle.desk_places.specs.declared.ports.Ports.{Ports}
 use Rattle.desk_places.specs.declared.stations.Station.{Station}
 use Rattle.desk_places.specs.PlaceBases.{SameBases}
@@ -20,6 +19,11 @@ pub record SameButListed {A B C D E : Type 0} (before now : Ports A B C D E) : T
   pub maker : now.maker ≡ before.maker
   pub parents : now.parents ≡ before.parents
   pub covered : now.listed.covered ≡ before.listed.covered
+
+-- the maker has made nothing, and there is room for as many ports that closed places leave
+pub record SameMakerAndRoom {A B C D E : Type 0} (before now : Ports A B C D E) : Type 0 where
+  pub maker : now.maker ≡ before.maker
+  pub capacity : vec_capacity now.parents ≡ vec_capacity before.parents
 
 -- at most one place more is held, each stands on a port of its own as before, and no port is kept without its place
 pub record TakesOne {A B C D E : Type 0} (stations stations' : List Station) (before now : Ports A B C D E) : Type 0 where

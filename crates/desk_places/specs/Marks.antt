@@ -1,16 +1,12 @@
 -- Which halves are disarmed after a call: those that it answered with nothing yet.
 use Rattle.std.specs.Prelude.{◌≡◌, ◌&&◌, Bool, true, false, if◌then◌else◌}
-use Rattle.relay_model.specs.declared.places.Place.{Place}
-use Rattle.relay_model.specs.declared.places.Half.{Half}
+use Rattle.relay_model.specs.{Place, Half, same_half, same_place}
 use Rattle.relay_model.specs.declared.places.Half.TheVariants.{ToRead}
-use Rattle.relay_model.specs.Places.{same_half, same_place}
-use Rattle.port_trait.specs.declared.answers.Begun.{Begun}
+use Rattle.port_trait.specs.{Begun}
 use Rattle.port_trait.specs.declared.answers.Begun.TheVariants as begins
-use Rattle.world_trait.specs.declared.answers.OpenAnswer.{OpenAnswer}
+use Rattle.world_trait.specs.{OpenAnswer, ListenAnswer, AcceptAnswer}
 use Rattle.world_trait.specs.declared.answers.OpenAnswer.TheVariants as opens
-use Rattle.world_trait.specs.declared.answers.ListenAnswer.{ListenAnswer}
 use Rattle.world_trait.specs.declared.answers.ListenAnswer.TheVariants as listens
-use Rattle.world_trait.specs.declared.answers.AcceptAnswer.{AcceptAnswer}
 use Rattle.world_trait.specs.declared.answers.AcceptAnswer.TheVariants as accepts
 
 -- each half is disarmed where it was

@@ -1,20 +1,12 @@
 -- What a turn is to name: halves whose key a poller named, and disarmed ones whose port hints that they are ready.
 use Rattle.std.specs.Prelude.{◌≡◌, ◌≤◌, ◌⊎◌, ℕ, Bool, true, false, List, [], ◌∷◌, length, slice_get, Option, None, Some, IfSome, ⊤}
-use Rattle.relay_model.specs.declared.places.Place.{Place}
-use Rattle.relay_model.specs.declared.places.Half.{Half}
+use Rattle.relay_model.specs.{Place, Half, ReadyAt, Hold, is_free, Listed, names}
 use Rattle.relay_model.specs.declared.places.Half.TheVariants.{ToRead, ToWrite}
-use Rattle.relay_model.specs.declared.readiness.ReadyAt.{ReadyAt}
-use Rattle.relay_model.specs.Holding.{Hold, is_free}
-use Rattle.relay_model.specs.Readiness.{Listed, names}
-use Rattle.world_trait.specs.Answers.{NamesHeld}
-use Rattle.port_trait.specs.declared.answers.Hint.{Hint}
+use Rattle.world_trait.specs.{NamesHeld}
+use Rattle.port_trait.specs.{Hint}
 use Rattle.slab.specs.Slab.{SameValues, Slab, get}
-use Rattle.port_table.specs.Bases.{is_standard}
-use Rattle.port_table.specs.PortTables.{PortId, SameStreams, giving_port, hint_told, place_of, taking_port}
-use Rattle.port_table.specs.Ports.{EntrySeen}
-use Rattle.port_table.specs.declared.bases.Base.{Base}
+use Rattle.port_table.specs.{is_standard, PortId, SameStreams, giving_port, hint_told, place_of, taking_port, EntrySeen, Base, PortTable}
 use Rattle.port_table.specs.declared.bases.Base.TheVariants as bases
-use Rattle.port_table.specs.declared.table.PortTable.{PortTable}
 use Rattle.desk_places.specs.declared.ports.Ports.{Ports}
 use Rattle.desk_places.specs.declared.stations.Station.{Station}
 use Rattle.desk_places.specs.Stations.{base_at, half_disarmed, hold_at, station_at}

@@ -1,16 +1,13 @@
 -- What places stand on after a call.
 use Rattle.std.specs.Prelude.{◌≡◌, Bool, true, false, Option, None, Some}
-use Rattle.relay_model.specs.declared.places.Place.{Place}
-use Rattle.relay_model.specs.Places.{same_place}
-use Rattle.port_trait.specs.declared.answers.Begun.{Begun}
+use Rattle.relay_model.specs.{Place, same_place}
+use Rattle.port_trait.specs.{Begun}
 use Rattle.port_trait.specs.declared.answers.Begun.TheVariants as begins
-use Rattle.world_trait.specs.declared.answers.OpenAnswer.{OpenAnswer}
+use Rattle.world_trait.specs.{OpenAnswer, ListenAnswer, AcceptAnswer}
 use Rattle.world_trait.specs.declared.answers.OpenAnswer.TheVariants as opens
-use Rattle.world_trait.specs.declared.answers.ListenAnswer.{ListenAnswer}
 use Rattle.world_trait.specs.declared.answers.ListenAnswer.TheVariants as listens
-use Rattle.world_trait.specs.declared.answers.AcceptAnswer.{AcceptAnswer}
 use Rattle.world_trait.specs.declared.answers.AcceptAnswer.TheVariants as accepts
-use Rattle.port_table.specs.declared.bases.Base.{Base}
+use Rattle.port_table.specs.{Base}
 use Rattle.port_table.specs.declared.bases.Base.TheVariants as bases
 
 -- every place stands on what it stood on

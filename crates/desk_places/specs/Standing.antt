@@ -1,14 +1,10 @@
 -- That each held place stands on a port of its own, and that a port that may hint at a disarmed half is listed.
 use Rattle.std.specs.Prelude.{◌≡◌, ◌<◌, Bool, true, false, not, ◌&&◌, ◌||◌, nat_lt, ℕ, List, Option, None, Some, IfSome}
 use Rattle.slab.specs.Slab.{HasRoomFor, Slab, get}
-use Rattle.relay_model.specs.declared.places.Half.{Half}
+use Rattle.relay_model.specs.{Half, Place, same_place}
 use Rattle.relay_model.specs.declared.places.Half.TheVariants.{ToRead, ToWrite}
-use Rattle.relay_model.specs.declared.places.Place.{Place}
-use Rattle.relay_model.specs.Places.{same_place}
-use Rattle.port_trait.specs.declared.answers.Hint.{Hint}
-use Rattle.port_trait.specs.Ports.{PortSeen}
-use Rattle.port_table.specs.Ports.{EntrySeen}
-use Rattle.port_table.specs.declared.bases.Base.{Base}
+use Rattle.port_trait.specs.{Hint, PortSeen}
+use Rattle.port_table.specs.{EntrySeen, Base}
 use Rattle.port_table.specs.declared.bases.Base.TheVariants as bases
 use Rattle.desk_places.specs.declared.stations.Station.{Station}
 use Rattle.desk_places.specs.Keys.{KeyTable, is_in}

@@ -1,15 +1,11 @@
 -- How held places stand, and what they stand on.
 use Rattle.std.specs.Prelude.{◌≡◌, ◌≤◌, ◌<◌, ℕ, zero, suc, Bool, true, false, not, ◌||◌, List, [], ◌∷◌, length, get_or, Option, None, Some, option_map, find, if◌then◌else◌}
 use Rattle.std.specs.List.Sorted.{IsNonDecreasingBy}
-use Rattle.relay_model.specs.declared.places.Place.{Place}
-use Rattle.relay_model.specs.declared.places.Half.{Half}
+use Rattle.relay_model.specs.{Place, Half, same_place, Hold, Free}
 use Rattle.relay_model.specs.declared.places.Half.TheVariants.{ToRead, ToWrite}
-use Rattle.relay_model.specs.Places.{same_place}
-use Rattle.relay_model.specs.Holding.{Hold, Free}
-use Rattle.world_trait.specs.HoldTables.{hold_of}
+use Rattle.world_trait.specs.{hold_of}
 use Rattle.world_trait.specs.declared.tables.Standing.TheVariants as standings
-use Rattle.port_table.specs.Bases.{is_standard}
-use Rattle.port_table.specs.declared.bases.Base.{Base}
+use Rattle.port_table.specs.{is_standard, Base}
 use Rattle.desk_places.specs.declared.stations.Station.{Station}
 
 -- the held places in the order of their sessions, those of them on standard streams, and how many more places there is

@@ -8,7 +8,7 @@ use std::marker::Model;
 
 /// All keys below a bound stand in one order, those of the set first; `places` tells where each stands. A key is put in
 /// or taken out by an exchange with the one at the border.
-#[derive(Debug, Drop)]
+#[derive(Drop)]
 pub struct KeySet {
     order: Vec<usize>,
     places: Vec<usize>,

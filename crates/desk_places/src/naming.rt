@@ -1,13 +1,10 @@
 // What a turn names: halves that hint so, and those whose key was named.
 ghost use Rattle.std.specs.Prelude.{◌≡◌, ◌≤◌, ◌<◌, ◌+◌, ◌&&◌, ℕ, not, true, false, List, Option, Some, [], length, slice_get, IfSome};
 ghost use Rattle.slab.specs.Slab.{Slab, get};
-ghost use Rattle.relay_model.specs.Readiness.{names};
-ghost use Rattle.relay_model.specs.declared.places.Half.{Half};
-ghost use Rattle.relay_model.specs.declared.places.Place.{Place};
-ghost use Rattle.world_trait.specs.Answers.{NamesHeld};
-ghost use Rattle.port_trait.specs.declared.answers.Hint.{Hint};
-ghost use Rattle.port_table.specs.PortTables.{PortId, place_of};
-ghost use Rattle.port_table.specs.Ports.{EntrySeen};
+ghost use Rattle.relay_model.specs.{names, Half, Place};
+ghost use Rattle.world_trait.specs.{NamesHeld};
+ghost use Rattle.port_trait.specs.{Hint};
+ghost use Rattle.port_table.specs.{PortId, place_of, EntrySeen};
 ghost use Rattle.desk_places.specs.declared.stations.Station.{Station};
 ghost use Rattle.desk_places.specs.Standing.{IsSound};
 ghost use Rattle.desk_places.specs.Keys.{KeyTable};

@@ -4,26 +4,20 @@ ghost use Rattle.std.specs.Prelude.{◌≡◌, ◌≢◌, ℕ, List, None, ◌<�
 ghost use Rattle.std.specs.List.{remove};
 ghost use Rattle.slab.specs.Slab.{SameValues, Updates, get};
 ghost use Rattle.port_table.specs.declared.bases.Base.TheVariants as bases;
-ghost use Rattle.relay_model.specs.Holding.{Free, Open, Settling, is_free, is_open};
-ghost use Rattle.relay_model.specs.Places.{same_place};
-ghost use Rattle.relay_model.specs.declared.places.Place.{Place};
-ghost use Rattle.world_trait.specs.Answers.{accept_act, close_act, listen_act, open_act, shut_act};
+ghost use Rattle.relay_model.specs.{Free, Open, Settling, is_free, is_open, same_place, Place};
+ghost use Rattle.world_trait.specs.{accept_act, close_act, listen_act, open_act, shut_act};
 ghost use Rattle.relay_model.specs.declared.places.Half.TheVariants.{ToRead, ToWrite};
-ghost use Rattle.port_trait.specs.Counting.{Rose};
+ghost use Rattle.port_trait.specs.{Rose, JoinsSo, Reads, Sends, Shuts, Writes, finishes};
 ghost use Rattle.desk_places.specs.Causes.{AcceptCause, AskedFor, BeginCause, ListenCause, OpenCause, StandardCause, WelcomeCause, asking};
-ghost use Rattle.port_trait.specs.Ports.{JoinsSo, Reads, Sends, Shuts, Writes};
-ghost use Rattle.port_table.specs.Ports.{IsOf};
-ghost use Rattle.port_table.specs.PortTables.{AtMade, CalledAt, EndsAt, SameStreams, StreamFailed, StreamNotes, StreamsStay, giving_port, taking_port};
-ghost use Rattle.port_table.specs.Answers.{GotFits, SaidSo, TookFits, is_got_not_yet, is_took_not_yet, is_unsaid};
+ghost use Rattle.port_table.specs.{IsOf, AtMade, CalledAt, EndsAt, SameStreams, StreamFailed, StreamNotes, StreamsStay, giving_port, taking_port};
+ghost use Rattle.port_table.specs.{GotFits, SaidSo, TookFits, is_got_not_yet, is_took_not_yet, is_unsaid, IsStandard, key_of, standard_of};
 ghost use Rattle.desk_places.specs.Changes.{AcceptsMade, BeginsMade, DropsFirst, ListensMade, OpensAt, OpensMade, WelcomesMade, HeldAfter, HeldSo, LeavesParent, LeftSo, ReapsKept, SettledAt, is_finished, joined_answer, made_at, shut_answer};
 ghost use Rattle.desk_places.specs.PlaceBases.{AcceptsOn, BeginsOn, Leaves, ListensOn, OpensOn, SettlesOn};
 ghost use Rattle.desk_places.specs.Standing.{HasVacancy, IsSound, IsSoundBut};
-ghost use Rattle.desk_places.specs.Keeping.{CanTakeIn, KeepsPlaces, SameButListed, TakesOne};
+ghost use Rattle.desk_places.specs.Keeping.{CanTakeIn, KeepsPlaces, SameButListed, SameMakerAndRoom, TakesOne};
 ghost use Rattle.desk_places.specs.Keys.{is_in};
 ghost use Rattle.desk_places.specs.Marks.{AcceptMarks, BeginMarks, ListenMarks, MarksPlace, OpenMarks, SettleMarks};
 ghost use Rattle.desk_places.specs.declared.stations.Station.{Station};
-ghost use Rattle.port_table.specs.Bases.{IsStandard, key_of, standard_of};
-ghost use Rattle.port_trait.specs.Streams.{finishes};
 ghost use Rattle.desk_places.specs.Stations.{SameStanding, SameHold, SetsStation, base_at, hold_at, is_disarmed, shut_down, station_at, with_half};
 
 use crate::keys::KeySet;
@@ -300,7 +294,6 @@ impl<M: Maker + Drop, I: Port, O: Port, E: Port> Ports<M, I, O, E> {
         ensures call { IfSome (base_at stations.old.entries place)
             (λ base. SettledAt M.Made.seen (giving_port base) self.old.table self.new.table self.old.parents.items self.new.parents.items
             result) }
-        ensures maker { self.new.maker ≡ self.old.maker }
         ensures marks { SettleMarks place result (is_disarmed stations.old.entries) (is_disarmed stations.new.entries) }
         ensures bases { SettlesOn place (base_at stations.old.entries) (base_at stations.new.entries) result }
         ensures sound { IsSound stations.old.entries self.old.table.made self.old.listed
@@ -308,7 +301,7 @@ impl<M: Maker + Drop, I: Port, O: Port, E: Port> Ports<M, I, O, E> {
         ensures held { HeldAfter (open_act place result) (hold_at stations.old.entries) (hold_at stations.new.entries) }
         ensures no_more { length stations.new.entries ≤ length stations.old.entries }
         ensures room { length stations.new.entries + vec_len self.new.parents ≤ length stations.old.entries + vec_len self.old.parents }
-        ensures capacity { vec_capacity self.new.parents ≡ vec_capacity self.old.parents }
+        ensures rest { SameMakerAndRoom self.old self.new }
     {
         let station = stations.station_of(place);
         match self.table.settle(station.base) {
@@ -518,7 +511,6 @@ impl<M: Maker + Drop, I: Port, O: Port, E: Port> Ports<M, I, O, E> {
         ensures gone { (key : ℕ) → base_at stations.old.entries place ≡ Some (bases.Made key) → get self.new.table.made key ≡ None }
         ensures others { (key : ℕ) → (base_at stations.old.entries place ≡ Some (bases.Made key) → ⊥)
             → get self.new.table.made key ≡ get self.old.table.made key }
-        ensures maker { self.new.maker ≡ self.old.maker }
         ensures marks { MarksPlace place false (is_disarmed stations.old.entries) (is_disarmed stations.new.entries) }
         ensures bases { Leaves place (base_at stations.old.entries) (base_at stations.new.entries) }
         ensures sound { IsSound stations.old.entries self.old.table.made self.old.listed
@@ -531,7 +523,7 @@ impl<M: Maker + Drop, I: Port, O: Port, E: Port> Ports<M, I, O, E> {
         ensures held { HeldAfter (close_act place why) (hold_at stations.old.entries) (hold_at stations.new.entries) }
         ensures room { length stations.new.entries + vec_len self.new.parents ≤ length stations.old.entries + vec_len self.old.parents }
         ensures fewer { length stations.new.entries + 1 ≤ length stations.old.entries }
-        ensures capacity { vec_capacity self.new.parents ≡ vec_capacity self.old.parents }
+        ensures rest { SameMakerAndRoom self.old self.new }
     {
         let station = stations.station_of(place);
         let joined = station.finished && is_finished(why);
@@ -553,7 +545,6 @@ impl<M: Maker + Drop, I: Port, O: Port, E: Port> Ports<M, I, O, E> {
         ensures others { (key : ℕ) → (base_at stations.old.entries place ≡ Some (bases.Made key) → ⊥)
             → get self.new.table.made key ≡ get self.old.table.made key }
         ensures standard { key_of base ≡ None → self.new.table.made ≡ self.old.table.made }
-        ensures maker { self.new.maker ≡ self.old.maker }
         ensures told { IfSome (made_at self.old.table.made base) (λ entry. IsOf M.Made.seen entry.port) }
         ensures marks { MarksPlace place false (is_disarmed stations.old.entries) (is_disarmed stations.new.entries) }
         ensures bases { Leaves place (base_at stations.old.entries) (base_at stations.new.entries) }
@@ -565,7 +556,7 @@ impl<M: Maker + Drop, I: Port, O: Port, E: Port> Ports<M, I, O, E> {
             → hold_at stations.new.entries p ≡ (if same_place place p then Free else hold_at stations.old.entries p) }
         ensures room { length stations.new.entries + vec_len self.new.parents ≤ length stations.old.entries + vec_len self.old.parents }
         ensures fewer { length stations.new.entries + 1 ≤ length stations.old.entries }
-        ensures capacity { vec_capacity self.new.parents ≡ vec_capacity self.old.parents }
+        ensures rest { SameMakerAndRoom self.old self.new }
     {
         stations.remove(place);
         match base.made_key() {
@@ -585,8 +576,7 @@ impl<M: Maker + Drop, I: Port, O: Port, E: Port> Ports<M, I, O, E> {
         ensures joined { result ≡ joined_answer joined (get self.old.table.made key) }
         ensures parents { LeavesParent joined (get self.old.table.made key) self.old.parents.items self.new.parents.items }
         ensures room { vec_len self.new.parents ≤ vec_len self.old.parents + 1 }
-        ensures capacity { vec_capacity self.new.parents ≡ vec_capacity self.old.parents }
-        ensures maker { self.new.maker ≡ self.old.maker }
+        ensures rest { SameMakerAndRoom self.old self.new }
     {
         self.listed.set(key, false);
         match self.table.remove(key) {

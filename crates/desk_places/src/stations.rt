@@ -1,9 +1,8 @@
 // What each held place stands on.
 ghost use Rattle.std.specs.Prelude.{◌≡◌, ◌++◌, ◌∷◌, vec_len, vec_capacity, if◌then◌else◌, ◌<◌, ◌≤◌, ◌+◌, ◌-◌, ◌^◌, [], None, Some, true, false, is_some, IfSome, IfNone, length, option_map, position, slice_get, OnOk, MatchOption};
-ghost use Rattle.relay_model.specs.Places.{same_place};
-ghost use Rattle.relay_model.specs.Holding.{Open, Settling, is_free};
-ghost use Rattle.world_trait.specs.HoldTables.{SetsHold};
-ghost use Rattle.port_table.specs.Bases.{is_standard, key_of};
+ghost use Rattle.relay_model.specs.{same_place, Open, Settling, is_free};
+ghost use Rattle.world_trait.specs.{SetsHold};
+ghost use Rattle.port_table.specs.{is_standard, key_of};
 ghost use Rattle.port_table.specs.declared.bases.Base.TheVariants as bases;
 ghost use Rattle.desk_places.specs.Stations.{AreInOrder, AreListed, IsFirstOf, IsStartOf, SameStanding, SameHold, SetsStation, base_at, hold_at, hold_by, station_at, with_half};
 
@@ -13,9 +12,12 @@ use std::alloc::Global;
 use std::marker::Model;
 use world_trait::Standing;
 
+/// So few stations are compared one after the other: their order would save nothing.
+const FEW: usize = 8;
+
 /// A held place: what it stands on and how it stands, whether it was shut so that its output is finished, and which of its
 /// halves are disarmed, that is, answered last that there is nothing yet.
-#[derive(Clone, Copy, Debug, PartialEq, Eq)]
+#[derive(Clone, Copy, PartialEq, Eq)]
 pub struct Station {
     pub place: Place,
     pub base: Base,
@@ -112,7 +114,7 @@ impl Station {
 
 /// The held places, in the order of their sessions, so that one is found by a few comparisons. A place that isn't in the
 /// table is free. Those on standard streams are listed once more, since a wait asks them each time.
-#[derive(Debug, Drop)]
+#[derive(Drop)]
 pub struct Stations {
     entries: Vec<Station>,
     asked: Vec<Place>,
@@ -268,10 +270,11 @@ impl Stations {
         ensures standing { SameStanding self.old.entries self.new.entries }
         ensures len { length self.new.entries ≡ length self.old.entries }
     {
-        let marked = station.with_half(half, disarmed);
-        if !station.has_half(half, disarmed) {
-            self.replace(marked);
+        if station.has_half(half, disarmed) {
+            return station;
         }
+        let marked = station.with_half(half, disarmed);
+        self.replace(marked);
         marked
     }
 
@@ -309,6 +312,19 @@ fn start_of(entries: &[Station], session: u32) -> usize
 
 /// Where the first station of the place is, among stations in the order of their sessions.
 fn index_in(entries: &[Station], place: Place) -> Option<usize>
+    requires { AreInOrder entries.now }
+    ensures first { MatchOption result (station_at entries.now place ≡ None) (λ i. IsFirstOf place entries.now i) }
+    ensures below { IfSome result (λ i. i < length entries.now) }
+{
+    if entries.len() <= FEW {
+        first_in(entries, place)
+    } else {
+        index_by_session(entries, place)
+    }
+}
+
+/// The same by the order, in a few comparisons.
+fn index_by_session(entries: &[Station], place: Place) -> Option<usize>
     requires { AreInOrder entries.now }
     ensures first { MatchOption result (station_at entries.now place ≡ None) (λ i. IsFirstOf place entries.now i) }
     ensures below { IfSome result (λ i. i < length entries.now) }

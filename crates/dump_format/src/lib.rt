@@ -2,7 +2,7 @@
 #![tactic(auto)]
 
 ghost use Rattle.std.specs.Prelude.{◌≡◌, ◌≢◌, ◌+◌, ◌<◌, ◌++◌, ◌∷◌, [], length, take, true, ◌≤◌, ◌*◌, ◌&&◌, ◌==◌, not, if◌then◌else◌, IfOk, OnOk};
-ghost use Rattle.relay_model.specs.Dumps.{arrow, header, hex_digit, hex_lines, shown_byte, text_lines, text_dump, hex_dump, newline, dump_of};
+ghost use Rattle.relay_model.specs.{arrow, header, hex_digit, hex_lines, shown_byte, text_lines, text_dump, hex_dump, newline, dump_of};
 
 use relay_model::{Bytes, Dump, NoMemory, Way};
 use std::alloc::Global;

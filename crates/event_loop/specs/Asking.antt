@@ -1,14 +1,10 @@
 -- What the calls of the program door make of the loop.
 use Rattle.std.specs.Prelude.{vec_len, ◌≡◌, ℕ, ◌<◌, List, Option, Some, None}
-use Rattle.relay_model.specs.declared.commands.Config.{Config}
-use Rattle.relay_model.specs.declared.acts.Act.{Act}
-use Rattle.relay_model.specs.Sessions.{admitted}
-use Rattle.relay_session.specs.declared.sessions.PendingSession.{PendingSession}
-use Rattle.relay_session.specs.Sessions.{IsPendingSession}
+use Rattle.relay_model.specs.{Config, Act, admitted}
+use Rattle.relay_session.specs.{PendingSession, IsPendingSession}
 use Rattle.program_door.specs.declared.wishes.DoorWish.TheVariants as wishes
-use Rattle.program_door.specs.Steps.{steps_of}
-use Rattle.program_door.specs.Wishes.{Wished}
-use Rattle.fork_table.specs.Tables.{HasRoom, SameBounds, row_of}
+use Rattle.program_door.specs.{steps_of, Wished}
+use Rattle.fork_table.specs.{HasRoom, SameBounds, row_of}
 use Rattle.world_trait.specs.Seen.{Seen}
 use Rattle.event_loop.specs.declared.all_sessions.Sessions.{Sessions}
 use Rattle.event_loop.specs.declared.asked.DoorAsked.{DoorAsked}

@@ -1,9 +1,6 @@
 -- The loop at the beginning of a history.
 use Rattle.std.specs.Prelude.{◌≡◌, ℕ, true, []}
-use Rattle.relay_model.specs.declared.commands.Config.{Config}
-use Rattle.relay_model.specs.declared.places.Place.{Place}
-use Rattle.relay_model.specs.Configs.{Fit, has_fork}
-use Rattle.relay_model.specs.Holding.{Free}
+use Rattle.relay_model.specs.{Config, Place, Fit, has_fork, Free}
 use Rattle.world_trait.specs.Seen.{Seen}
 use Rattle.event_loop.specs.declared.all_sessions.Sessions.{Sessions}
 use Rattle.event_loop.specs.Courses.{SessionsCourse}

@@ -1,24 +1,14 @@
 -- How all that is held is closed, once each session was cut.
 use Rattle.std.specs.Prelude.{vec_len, ◌≡◌, ◌≢◌, ◌⊎◌, ℕ, ◌+◌, ◌<◌, ◌≤◌, Bool, true, false, List, ◌∷◌, ◌++◌, length, Option, Some, None, is_some}
-use Rattle.relay_model.specs.declared.places.Place.{Place}
-use Rattle.relay_model.specs.declared.commands.Config.{Config}
-use Rattle.relay_model.specs.declared.acts.Act.{Act}
+use Rattle.relay_model.specs.{Place, Config, Act, Why, turns, admitted, holds, closed_why, count, is_common}
 use Rattle.relay_model.specs.declared.acts.Act.TheVariants.{Closed}
-use Rattle.relay_model.specs.declared.acts.Why.{Why}
-use Rattle.relay_model.specs.History.{turns}
-use Rattle.relay_model.specs.Sessions.{admitted, holds}
-use Rattle.relay_model.specs.Cause.{closed_why}
-use Rattle.relay_model.specs.Choices.{count}
-use Rattle.relay_model.specs.Frames.{is_common}
-use Rattle.relay_session.specs.declared.sessions.Session.{Session}
-use Rattle.relay_session.specs.declared.wishes.Wish.{Wish}
+use Rattle.relay_session.specs.{Session, Wish, Stands, wish_of, ending_of}
 use Rattle.relay_session.specs.declared.wishes.Wish.TheVariants as wishes
-use Rattle.relay_session.specs.Sessions.{Stands, wish_of, ending_of}
-use Rattle.program_door.specs.declared.doors.Door.{Door}
-use Rattle.fork_table.specs.Tables.{row_of}
+use Rattle.program_door.specs.{Door}
+use Rattle.fork_table.specs.{row_of}
 use Rattle.world_trait.specs.Seen.{Seen}
-use Rattle.session_driver.specs.Steps.{IsActOf}
-use Rattle.session_laws.specs.SessionSets.{IsSaid}
+use Rattle.session_driver.specs.{IsActOf}
+use Rattle.session_laws.specs.{IsSaid}
 use Rattle.event_loop.specs.declared.all_sessions.Sessions.{Sessions}
 use Rattle.event_loop.specs.declared.all_sessions.Row.{Row}
 use Rattle.event_loop.specs.Courses.{CountsSessions, OthersStay}

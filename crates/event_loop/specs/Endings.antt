@@ -1,24 +1,15 @@
 -- How the run of all sessions is ended.
 use Rattle.std.specs.Prelude.{◌≡◌, ◌⊎◌, ℕ, ◌<◌, ◌≤◌, true, false, List, [], ◌∷◌, Option, Some, None, is_some}
-use Rattle.relay_model.specs.declared.commands.Config.{Config}
-use Rattle.relay_model.specs.declared.acts.Act.{Act}
+use Rattle.relay_model.specs.{Config, Act, Why, now as moment, turns, accept_failed, program_door, admitted, holds, live, numbers, closed_why}
 use Rattle.relay_model.specs.declared.acts.Act.TheVariants.{AcceptFailed}
-use Rattle.relay_model.specs.declared.acts.Why.{Why}
 use Rattle.relay_model.specs.declared.acts.Why.TheVariants as whys
-use Rattle.relay_model.specs.History.{now as moment, turns, accept_failed}
 use Rattle.relay_model.specs.Rest.{Rest, owed}
-use Rattle.relay_model.specs.Configs.{program_door}
-use Rattle.relay_model.specs.Sessions.{admitted, holds, live, numbers}
-use Rattle.relay_model.specs.Cause.{closed_why}
-use Rattle.relay_session.specs.declared.sessions.Session.{Session}
-use Rattle.relay_session.specs.Endings.{Ends}
-use Rattle.relay_session.specs.Sessions.{IsGrounded}
-use Rattle.fork_table.specs.Tables.{row_of}
+use Rattle.relay_session.specs.{Session, Ends, IsGrounded}
+use Rattle.fork_table.specs.{row_of}
 use Rattle.world_trait.specs.Seen.{Seen}
-use Rattle.session_driver.specs.Dumpers.{Counted}
-use Rattle.session_laws.specs.SessionSets.{Leaver, Sleeper, Woke}
-use Rattle.session_loop.specs.Pauses.{ends_all}
-use Rattle.session_loop.specs.Runs.{Ran}
+use Rattle.session_driver.specs.{Counted}
+use Rattle.session_laws.specs.{Leaver, Sleeper, Woke}
+use Rattle.session_loop.specs.{ends_all, Ran}
 use Rattle.event_loop.specs.declared.all_sessions.Sessions.{Sessions}
 use Rattle.event_loop.specs.declared.all_sessions.Row.{Row}
 use Rattle.event_loop.specs.Rows.{Sleeping, Has, RowIs}

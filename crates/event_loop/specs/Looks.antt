@@ -2,14 +2,10 @@
 use Rattle.std.specs.Prelude.{◌≡◌, ◌⊎◌, ℕ, ◌+◌, ◌*◌, ◌≤◌, ◌<◌, true, false, List, [], ◌∷◌, ◌++◌, Option, Some, None, length}
 use Rattle.std.specs.FinMap.{len}
 use Rattle.event_loop.specs.declared.all_sessions.Sessions.{Sessions}
-use Rattle.relay_model.specs.declared.commands.Config.{Config}
-use Rattle.relay_model.specs.declared.readiness.ReadyAt.{ReadyAt}
-use Rattle.relay_model.specs.declared.acts.Act.{Act}
+use Rattle.relay_model.specs.{Config, ReadyAt, Act, now as moment, numbers}
 use Rattle.relay_model.specs.declared.acts.Act.TheVariants.{Turn}
-use Rattle.relay_model.specs.History.{now as moment}
-use Rattle.relay_model.specs.Sessions.{numbers}
-use Rattle.relay_session.specs.Timers.{session_until}
-use Rattle.relay_laws.specs.Sleeps.{IsBefore}
+use Rattle.relay_session.specs.{session_until}
+use Rattle.relay_laws.specs.{IsBefore}
 use Rattle.event_loop.specs.Rows.{Has}
 use Rattle.event_loop.specs.Courses.{timer_of}
 use Rattle.event_loop.specs.Endings.{Once}

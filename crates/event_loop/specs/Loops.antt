@@ -1,18 +1,11 @@
 -- What a loop stands for, and what a call makes of it.
 use Rattle.std.specs.Prelude.{vec_len, ◌≡◌, ℕ, ◌+◌, ◌-◌, ◌*◌, ◌^◌, ◌≤◌, ◌<◌, Bool, true, false, List, [], ◌∷◌, ◌++◌, length, Option, Some, None}
-use Rattle.relay_model.specs.declared.acts.Act.{Act}
+use Rattle.relay_model.specs.{Act, Place, Config, Fit, Free, turns, copied_list}
 use Rattle.relay_model.specs.declared.acts.Act.TheVariants.{Turn}
-use Rattle.relay_model.specs.declared.places.Place.{Place}
-use Rattle.relay_model.specs.declared.commands.Config.{Config}
-use Rattle.relay_model.specs.Configs.{Fit}
-use Rattle.relay_model.specs.Holding.{Free}
-use Rattle.relay_model.specs.History.{turns}
-use Rattle.relay_model.specs.Readiness.{copied_list}
-use Rattle.exit_status.specs.declared.outcomes.Outcome.{Outcome}
+use Rattle.exit_status.specs.{Outcome}
 use Rattle.world_trait.specs.Seen.{Seen}
-use Rattle.session_loop.specs.Courses.{ends_in_turn}
+use Rattle.session_loop.specs.{ends_in_turn, HasRunEnded, Happened}
 use Rattle.session_loop.specs.Courses as single
-use Rattle.session_loop.specs.Ended.{HasRunEnded, Happened}
 use Rattle.event_loop.specs.declared.all_sessions.Sessions.{Sessions}
 use Rattle.event_loop.specs.declared.turned.RunEnd.{RunEnd}
 use Rattle.event_loop.specs.declared.turned.RunEnd.TheVariants as ends

@@ -1,17 +1,13 @@
 -- Looks at sessions, and the acts that pay for them.
 use Rattle.std.specs.Prelude.{◌≡◌, ◌⊎◌, ℕ, ◌+◌, ◌*◌, ◌≤◌, ◌<◌, List, [], ◌∷◌, ◌++◌, Option, Some, None, length}
-use Rattle.relay_model.specs.declared.commands.Config.{Config}
-use Rattle.relay_model.specs.declared.acts.Act.{Act}
+use Rattle.relay_model.specs.{Config, Act, Why, program_door, numbers}
 use Rattle.relay_model.specs.declared.acts.Act.TheVariants.{AcceptFailed}
-use Rattle.relay_model.specs.declared.acts.Why.{Why}
 use Rattle.relay_model.specs.declared.acts.Why.TheVariants as whys
-use Rattle.relay_model.specs.Configs.{program_door}
-use Rattle.relay_model.specs.Sessions.{numbers}
 use Rattle.program_door.specs.declared.wishes.DoorWish.TheVariants as wishes
-use Rattle.program_door.specs.Wishes.{Wished}
+use Rattle.program_door.specs.{Wished}
 use Rattle.world_trait.specs.Seen.{Seen}
-use Rattle.session_loop.specs.Runs.{Run}
-use Rattle.session_laws.specs.Works.{MustAct}
+use Rattle.session_loop.specs.{Run}
+use Rattle.session_laws.specs.{MustAct}
 use Rattle.event_loop.specs.declared.all_sessions.Sessions.{Sessions}
 use Rattle.event_loop.specs.declared.asked.DoorAsked.{DoorAsked}
 use Rattle.event_loop.specs.declared.asked.DoorAsked.TheVariants as asks

@@ -1,14 +1,10 @@
 -- What the row of a session says of it: whether it has heard the last turn, is in the list of work, or sleeps.
 use Rattle.std.specs.Prelude.{◌≡◌, ◌⊎◌, ℕ, ◌<◌, ◌≤◌, true, false, List, [], ◌∷◌, Option, Some, None}
-use Rattle.relay_model.specs.declared.acts.Act.{Act}
-use Rattle.relay_model.specs.declared.commands.Config.{Config}
-use Rattle.relay_model.specs.History.{now as moment, turns}
-use Rattle.relay_model.specs.Sessions.{admitted, holds, live, numbers}
-use Rattle.relay_session.specs.declared.sessions.Session.{Session}
+use Rattle.relay_model.specs.{Act, Config, now as moment, turns, admitted, holds, live, numbers}
+use Rattle.relay_session.specs.{Session, wish_of}
 use Rattle.relay_session.specs.declared.wishes.Wish.TheVariants as wishes
-use Rattle.relay_session.specs.Sessions.{wish_of}
-use Rattle.session_driver.specs.Dumpers.{Counted}
-use Rattle.session_laws.specs.SessionSets.{Sleeper, Waker, Woke}
+use Rattle.session_driver.specs.{Counted}
+use Rattle.session_laws.specs.{Sleeper, Waker, Woke}
 use Rattle.event_loop.specs.declared.all_sessions.Row.{Row}
 
 -- the number is in the list

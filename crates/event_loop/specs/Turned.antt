@@ -1,16 +1,15 @@
 -- What a turn of the loop makes of it.
 use Rattle.std.specs.Prelude.{◌≡◌, ◌⊎◌, ℕ, suc, ◌<◌, true, List, Option, Some, None, is_some}
-use Rattle.relay_model.specs.declared.commands.Config.{Config}
-use Rattle.relay_model.specs.declared.acts.Act.{Act}
-use Rattle.program_door.specs.Wishes.{DoorSleeps, GoesOn}
-use Rattle.fork_table.specs.Tables.{row_of}
+use Rattle.relay_model.specs.{Config, Act}
+use Rattle.program_door.specs.{DoorSleeps, GoesOn}
+use Rattle.fork_table.specs.{row_of}
 use Rattle.world_trait.specs.Seen.{Seen}
 use Rattle.event_loop.specs.declared.all_sessions.Sessions.{Sessions}
 use Rattle.event_loop.specs.declared.turned.RunEnd.{RunEnd}
 use Rattle.event_loop.specs.declared.turned.RunEnd.TheVariants as ends
 use Rattle.event_loop.specs.Asking.{DoorIsOver}
 use Rattle.event_loop.specs.Courses.{SessionsCourse}
-use Rattle.session_loop.specs.Runs.{Run}
+use Rattle.session_loop.specs.{Run}
 use Rattle.event_loop.specs.Endings.{MayEnd, MayEndAfter}
 use Rattle.event_loop.specs.Looks.{BeginsCall, IsTimely, LooksPaid}
 use Rattle.event_loop.specs.Waited.{ShortAt, Stopping, TurnedOn}

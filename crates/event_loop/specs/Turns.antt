@@ -1,20 +1,15 @@
 -- What a turn makes of the door and of all sessions.
 use Rattle.std.specs.Prelude.{vec_len, ◌≡◌, ◌⊎◌, ℕ, ◌+◌, ◌^◌, ◌<◌, ◌≤◌, Bool, true, false, List, ◌∷◌, Option, Some, None}
 use Rattle.std.specs.List.{list_any}
-use Rattle.relay_model.specs.declared.commands.Config.{Config}
-use Rattle.relay_model.specs.declared.readiness.ReadyAt.{ReadyAt}
-use Rattle.relay_model.specs.declared.acts.Act.{Act}
+use Rattle.relay_model.specs.{Config, ReadyAt, Act, Listed, copied_list}
 use Rattle.relay_model.specs.declared.acts.Act.TheVariants.{Turn}
 use Rattle.relay_model.specs.declared.acts.Why.TheVariants as whys
-use Rattle.relay_model.specs.Readiness.{Listed, copied_list}
-use Rattle.relay_session.specs.declared.sessions.Session.{Session}
+use Rattle.relay_session.specs.{Session, Stands, Hears, wish_of}
 use Rattle.relay_session.specs.declared.wishes.Wish.TheVariants as wishes
-use Rattle.relay_session.specs.Sessions.{Stands, Hears, wish_of}
-use Rattle.program_door.specs.declared.doors.Door.{Door}
-use Rattle.program_door.specs.Stands.{DoorStands}
-use Rattle.fork_table.specs.Tables.{row_of}
-use Rattle.relay_laws.specs.Stories.{is_own_place}
-use Rattle.session_laws.specs.SessionSets.{Leaver}
+use Rattle.program_door.specs.{Door, DoorStands}
+use Rattle.fork_table.specs.{row_of}
+use Rattle.relay_laws.specs.{is_own_place}
+use Rattle.session_laws.specs.{Leaver}
 use Rattle.event_loop.specs.declared.all_sessions.Sessions.{Sessions}
 use Rattle.event_loop.specs.declared.all_sessions.Row.{Row}
 use Rattle.event_loop.specs.Rows.{Has, Sleeping}

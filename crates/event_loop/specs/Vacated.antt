@@ -1,22 +1,16 @@
 -- What is left of a run once no session lives and the door closes what it holds.
 use Rattle.std.specs.Prelude.{◌≡◌, ◌⊎◌, ℕ, ◌+◌, ◌*◌, ◌<◌, ◌≤◌, true, false, List, ◌∷◌, ◌++◌, length, Option, Some, None}
-use Rattle.relay_model.specs.declared.places.Place.{Place}
-use Rattle.relay_model.specs.declared.commands.Config.{Config}
-use Rattle.relay_model.specs.declared.acts.Act.{Act}
+use Rattle.relay_model.specs.{Place, Config, Act, copied_list, Why, turns, held, admitted, holds}
 use Rattle.relay_model.specs.declared.acts.Act.TheVariants.{Closed, Turn}
-use Rattle.relay_model.specs.Readiness.{copied_list}
-use Rattle.relay_model.specs.declared.acts.Why.{Why}
 use Rattle.relay_model.specs.declared.acts.Why.TheVariants as whys
-use Rattle.relay_model.specs.History.{turns, held}
-use Rattle.relay_model.specs.Sessions.{admitted, holds}
-use Rattle.program_door.specs.Turns.{first_held}
-use Rattle.exit_status.specs.declared.outcomes.Outcome.{Outcome}
+use Rattle.program_door.specs.{first_held}
+use Rattle.exit_status.specs.{Outcome}
 use Rattle.world_trait.specs.Seen.{Seen}
 use Rattle.event_loop.specs.declared.all_sessions.Sessions.{Sessions}
 use Rattle.event_loop.specs.declared.turned.RunEnd.{RunEnd}
 use Rattle.event_loop.specs.declared.turned.RunEnd.TheVariants as ends
 use Rattle.event_loop.specs.Closings.{rows_below}
-use Rattle.session_loop.specs.Ended.{HasRunEnded}
+use Rattle.session_loop.specs.{HasRunEnded}
 use Rattle.event_loop.specs.Asking.{DoorIsOver}
 use Rattle.event_loop.specs.Turned.{NoneLives, RunIs}
 use Rattle.event_loop.specs.Waited.{Exit, Leaving}

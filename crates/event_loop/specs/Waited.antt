@@ -1,24 +1,16 @@
 -- What a wait makes of the loop.
 use Rattle.std.specs.Prelude.{vec_len, ◌≡◌, ◌⊎◌, ℕ, suc, ◌<◌, ◌≤◌, true, false, List, ◌∷◌, length, Option, Some, None}
-use Rattle.relay_model.specs.declared.commands.Config.{Config}
-use Rattle.relay_model.specs.declared.acts.Act.{Act}
+use Rattle.relay_model.specs.{Config, Act, Why, has_fork, Listed, copied_list, turns, memory_said, admitted, holds}
 use Rattle.relay_model.specs.declared.acts.Act.TheVariants.{Turn}
-use Rattle.relay_model.specs.declared.acts.Why.{Why}
 use Rattle.relay_model.specs.declared.acts.Why.TheVariants as whys
-use Rattle.relay_model.specs.Configs.{has_fork}
-use Rattle.relay_model.specs.Readiness.{Listed, copied_list}
-use Rattle.relay_model.specs.History.{turns, memory_said}
-use Rattle.relay_model.specs.Sessions.{admitted, holds}
 use Rattle.relay_model.specs.Rest.{Rest, owed, until_of}
-use Rattle.relay_session.specs.Timers.{session_until}
-use Rattle.relay_session.specs.Told.{stop_turned}
-use Rattle.program_door.specs.declared.doors.Door.{Door}
-use Rattle.program_door.specs.Stands.{DoorStands}
-use Rattle.fork_table.specs.Tables.{row_of}
+use Rattle.relay_session.specs.{session_until, stop_turned}
+use Rattle.program_door.specs.{Door, DoorStands}
+use Rattle.fork_table.specs.{row_of}
 use Rattle.world_trait.specs.Seen.{Seen}
-use Rattle.session_laws.specs.SessionSets.{IsSaid, MaySay, Sleeper}
-use Rattle.session_loop.specs.Runs.{Run}
-use Rattle.relay_laws.specs.Sleeps.{IsBefore}
+use Rattle.session_laws.specs.{IsSaid, MaySay, Sleeper}
+use Rattle.session_loop.specs.{Run}
+use Rattle.relay_laws.specs.{IsBefore}
 use Rattle.event_loop.specs.declared.all_sessions.Sessions.{Sessions}
 use Rattle.event_loop.specs.declared.all_sessions.Row.{Row}
 use Rattle.event_loop.specs.declared.waited.Waited.{Waited}

@@ -1,10 +1,8 @@
 // The program door between two turns.
 ghost use Rattle.std.specs.Prelude.{◌≡◌, List, None, IfOk};
-ghost use Rattle.relay_model.specs.declared.acts.Act.{Act};
-ghost use Rattle.relay_model.specs.Sessions.{admitted};
-ghost use Rattle.relay_session.specs.Sessions.{IsPendingSession};
-ghost use Rattle.fork_table.specs.Tables.{HasRoom};
-ghost use Rattle.relay_model.specs.Configs.{Fit};
+ghost use Rattle.relay_model.specs.{Act, admitted, Fit};
+ghost use Rattle.relay_session.specs.{IsPendingSession};
+ghost use Rattle.fork_table.specs.{HasRoom};
 
 use crate::all_sessions::{Row, Sessions};
 use fork_table::Steps;
@@ -17,7 +15,7 @@ use std::sync::ledger::Ledger;
 use world_trait::World;
 
 /// What the program door came to.
-#[derive(Clone, Copy, Debug, PartialEq, Eq)]
+#[derive(Clone, Copy, PartialEq, Eq)]
 pub enum DoorAsked {
     /// It waits for a turn, until this moment in milliseconds, and so does every session.
     Waits(Option<u64>),

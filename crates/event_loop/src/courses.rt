@@ -1,6 +1,6 @@
 // What a loop drives: one session or many.
 ghost use Rattle.std.specs.Prelude.{IfOk};
-ghost use Rattle.relay_model.specs.Configs.{Fit};
+ghost use Rattle.relay_model.specs.{Fit};
 
 use crate::many::ManySessions;
 use crate::one::OneSession;

@@ -1,7 +1,7 @@
 // The end of all sessions.
 ghost use Rattle.std.specs.Prelude.{◌≤◌, ◌+◌, OnOk};
 ghost use Rattle.event_loop.specs.Rows.{SleepsIfLate};
-ghost use Rattle.fork_table.specs.Tables.{row_of};
+ghost use Rattle.fork_table.specs.{row_of};
 
 use crate::all_sessions::Sessions;
 use crate::rows::wake_row;

@@ -1,6 +1,6 @@
 // The closings of one session that was cut, while the program door hears of them.
 ghost use Rattle.std.specs.Prelude.{◌≡◌, ◌<◌, ◌≤◌, true, false, vec_len};
-ghost use Rattle.relay_session.specs.Sessions.{left_of};
+ghost use Rattle.relay_session.specs.{left_of};
 ghost use Rattle.event_loop.specs.Closings.{IsOver, LeavesOn, SomeLeaves, closes};
 
 use program_door::Door;

@@ -1,6 +1,6 @@
 // The loop of any command.
 ghost use Rattle.std.specs.Prelude.{◌-◌, ◌^◌, IfOk};
-ghost use Rattle.relay_model.specs.Configs.{Fit};
+ghost use Rattle.relay_model.specs.{Fit};
 
 use crate::courses::LoopCourse;
 use crate::steps::Step;
@@ -38,14 +38,19 @@ impl Loop {
         requires { Fit config.now }
         ensures { IfOk result (BeginsLoop config.now turns) }
     {
-        let course = LoopCourse::new(alloc, config)?;
         let own = config.copy()?;
-        Ok(Loop {
-            alloc,
-            config: own,
-            turns,
-            course,
-        })
+        match LoopCourse::new(alloc, config) {
+            Ok(course) => Ok(Loop {
+                alloc,
+                config: own,
+                turns,
+                course,
+            }),
+            Err(NoMemory) => {
+                drop(own);
+                Err(NoMemory)
+            }
+        }
     }
 
     /// Makes all calls that are called for and then waits once; or ends the relay, without a wait in this call. The world

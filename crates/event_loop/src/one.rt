@@ -1,6 +1,6 @@
 // The loop of a command of one session.
 ghost use Rattle.std.specs.Prelude.{IfOk};
-ghost use Rattle.session_loop.specs.Commands.{Runnable};
+ghost use Rattle.session_loop.specs.{Runnable};
 
 use crate::steps::Step;
 use relay_model::{Config, NoMemory};

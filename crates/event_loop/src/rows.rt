@@ -1,6 +1,6 @@
 // The sessions of the loop between two turns: those that have work, one after another.
 ghost use Rattle.std.specs.Prelude.{◌≡◌, ◌<◌, ◌≤◌, ◌+◌, length, OnOk};
-ghost use Rattle.fork_table.specs.Tables.{IsFirstLive};
+ghost use Rattle.fork_table.specs.{IsFirstLive};
 ghost use Rattle.event_loop.specs.Rows.{Wakened, Sleeping};
 
 use crate::all_sessions::{Row, Sessions};

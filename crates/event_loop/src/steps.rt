@@ -2,7 +2,7 @@
 use exit_status::Outcome;
 
 /// What a call of the loop came to.
-#[derive(Debug, Drop)]
+#[derive(Drop)]
 pub enum Step {
     /// It waited once, and goes on at the next call.
     Goes,

@@ -1,6 +1,6 @@
 // One turn of the loop: all calls that are called for, and then one wait.
 ghost use Rattle.std.specs.Prelude.{◌+◌, length};
-ghost use Rattle.relay_model.specs.Configs.{Fit};
+ghost use Rattle.relay_model.specs.{Fit};
 
 use crate::all_sessions::Sessions;
 use crate::asked::DoorAsked;
@@ -12,7 +12,7 @@ use std::sync::ledger::Ledger;
 use world_trait::World;
 
 /// Why the loop takes no more turns.
-#[derive(Clone, Copy, Debug, PartialEq, Eq)]
+#[derive(Clone, Copy, PartialEq, Eq)]
 pub enum RunEnd {
     /// The door is over, and no session lives.
     Over,

@@ -1,12 +1,11 @@
 // What a turn says to the door and to the sessions that it names, or to all where it says stop.
 ghost use Rattle.std.specs.Prelude.{◌≡◌, ℕ, ◌<◌, ◌≤◌, ◌+◌, ◌∷◌, [], List, length, Option, false, OnOk};
-ghost use Rattle.relay_model.specs.declared.acts.Act.{Act};
+ghost use Rattle.relay_model.specs.{Act, Config as Command};
 ghost use Rattle.relay_model.specs.declared.acts.Act.TheVariants as acts;
-ghost use Rattle.relay_model.specs.declared.commands.Config.{Config as Command};
-ghost use Rattle.session_direction.specs.Directions.{listed};
+ghost use Rattle.session_direction.specs.{listed};
 ghost use Rattle.relay_session.specs.declared.wishes.Wish.TheVariants as wishes;
-ghost use Rattle.relay_session.specs.Sessions.{Hears, wish_of};
-ghost use Rattle.fork_table.specs.Tables.{row_of};
+ghost use Rattle.relay_session.specs.{Hears, wish_of};
+ghost use Rattle.fork_table.specs.{row_of};
 ghost use Rattle.event_loop.specs.Rows.{Sleeping, SleepsIfLate};
 ghost use Rattle.event_loop.specs.Turns.{HearsTurn, HeardOnce, DoorHearsTurn};
 

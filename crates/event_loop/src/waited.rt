@@ -9,7 +9,7 @@ use std::sync::ledger::Ledger;
 use world_trait::{Turned, World};
 
 /// What a wait came to.
-#[derive(Clone, Copy, Debug, PartialEq, Eq)]
+#[derive(Clone, Copy, PartialEq, Eq)]
 pub enum Waited {
     Goes,
     /// The turn says stop, which no session has heard yet.

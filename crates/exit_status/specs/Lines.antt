@@ -1,9 +1,7 @@
 -- What is said of an outcome on standard error, and what usage and version say.
 use Rattle.std.specs.Prelude.{ℕ, List, [], ◌∷◌, ◌++◌, ◌==◌, codes, decimal, if◌then◌else◌}
-use Rattle.relay_model.specs.declared.places.Side.{Side}
+use Rattle.relay_model.specs.{Side, Refused, Refusal}
 use Rattle.relay_model.specs.declared.places.Side.TheVariants.{Left, Right}
-use Rattle.relay_model.specs.declared.refusals.Refused.{Refused}
-use Rattle.relay_model.specs.declared.refusals.Refusal.{Refusal}
 use Rattle.relay_model.specs.declared.refusals.Refusal.TheVariants as refusal
 use Rattle.exit_status.specs.declared.outcomes.Op.{Op}
 use Rattle.exit_status.specs.declared.outcomes.Op.TheVariants.{Reading, Writing}

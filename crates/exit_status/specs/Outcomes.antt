@@ -1,16 +1,9 @@
 -- How the outcome that is told stands to the one that a list of acts gives.
 use Rattle.std.specs.Prelude.{◌≡◌, ℕ, ◌⊎◌, false, List, Option, Some, None}
-use Rattle.relay_model.specs.declared.commands.Config.{Config}
-use Rattle.relay_model.specs.declared.acts.Act.{Act}
-use Rattle.relay_model.specs.declared.acts.Why.{Why}
+use Rattle.relay_model.specs.{Config, Act, Why, Half, turns, holds_something, RunOutcome, outcome}
 use Rattle.relay_model.specs.declared.acts.Why.TheVariants as whys
-use Rattle.relay_model.specs.declared.places.Half.{Half}
 use Rattle.relay_model.specs.declared.places.Half.TheVariants.{ToRead, ToWrite}
-use Rattle.relay_model.specs.History.{turns}
 use Rattle.relay_model.specs.Rest.{Rest}
-use Rattle.relay_model.specs.Outcome.{holds_something}
-use Rattle.relay_model.specs.declared.outcomes.RunOutcome.{RunOutcome}
-use Rattle.relay_model.specs.Outcome.{outcome}
 use Rattle.relay_model.specs.declared.outcomes.RunOutcome.TheVariants as endings
 use Rattle.exit_status.specs.declared.outcomes.EndWhy.{EndWhy}
 use Rattle.exit_status.specs.declared.outcomes.EndWhy.TheVariants as ends

@@ -7,7 +7,7 @@ use relay_model::{Place, Refused, Side};
 
 /// Why a relay that was in order ended: all bytes passed, the closing time after the first end, no transfer
 /// for the time of `-T`, or with `fork` as many sessions served as were asked for.
-#[derive(Clone, Copy, Debug, PartialEq, Eq)]
+#[derive(Clone, Copy, PartialEq, Eq)]
 pub enum EndWhy {
     Finished,
     ClosingTime,
@@ -16,14 +16,14 @@ pub enum EndWhy {
 }
 
 /// What was being done at a place that failed.
-#[derive(Clone, Copy, Debug, PartialEq, Eq)]
+#[derive(Clone, Copy, PartialEq, Eq)]
 pub enum Op {
     Reading,
     Writing,
 }
 
 /// How a run ended. `attempts` counts the failed tries, `turns` the waits that were made.
-#[derive(Clone, Copy, Debug, PartialEq, Eq)]
+#[derive(Clone, Copy, PartialEq, Eq)]
 pub enum Outcome {
     Ended(EndWhy),
     /// Usage or version was printed.

@@ -1,8 +1,7 @@
 -- What is asked of the opening of a file.
 use Rattle.std.specs.Prelude.{Bool, true, false, not, ◌&&◌}
-use Rattle.relay_model.specs.declared.places.Part.{Part}
+use Rattle.relay_model.specs.{Part, FileFlags}
 use Rattle.relay_model.specs.declared.places.Part.TheVariants as parts
-use Rattle.relay_model.specs.declared.commands.FileFlags.{FileFlags}
 use Rattle.std.specs.declared.fs.options.OpenOptions.{OpenOptions}
 use Rattle.std.specs.Fs.{new_options, with_read, with_write, with_append, with_truncate, with_create, with_create_new}
 use Rattle.file_ports.specs.declared.access.Access.{Access}

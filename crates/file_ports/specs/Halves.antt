@@ -1,8 +1,7 @@
 -- What contracts see of two halves.
 use Rattle.std.specs.Prelude.{◌≡◌, Bool, true, false, not, ◌&&◌, Option, None, Some, IsSomeAnd}
-use Rattle.relay_model.specs.declared.places.Part.{Part}
-use Rattle.port_trait.specs.Hinting.{no_hint}
-use Rattle.port_trait.specs.declared.answers.Hint.{Hint}
+use Rattle.relay_model.specs.{Part}
+use Rattle.port_trait.specs.{no_hint, Hint}
 use Rattle.file_ports.specs.declared.halves.HalfReadiness.{HalfReadiness}
 use Rattle.file_ports.specs.declared.halves.HalfReadiness.TheVariants as readiness
 use Rattle.file_ports.specs.Access.{reads_by, writes_by}

@@ -2,14 +2,12 @@
 use Rattle.std.specs.Prelude.{◌≡◌, ◌⊎◌, ℕ, Bool, true, List, [], ◌∷◌, ◌++◌, Option, None, Some, option_map, if◌then◌else◌, IsUtf8, string_bytes, ⊤}
 use Rattle.std.specs.declared.fs.File.{File}
 use Rattle.std.specs.declared.fs.options.OpenOptions.{OpenOptions}
-use Rattle.relay_model.specs.declared.places.Part.{Part}
+use Rattle.relay_model.specs.{Part, Target, Single}
 use Rattle.relay_model.specs.declared.places.Part.TheVariants as parts
-use Rattle.relay_model.specs.declared.commands.Target.{Target}
 use Rattle.relay_model.specs.declared.commands.Target.TheVariants as targets
-use Rattle.relay_model.specs.declared.commands.Single.{Single}
-use Rattle.port_trait.specs.declared.makers.Making.{Making}
+use Rattle.port_trait.specs.{Making}
 use Rattle.port_trait.specs.declared.makers.Making.TheVariants as makings
-use Rattle.socket_ports.specs.Removals.{IsRemoval}
+use Rattle.socket_ports.specs.{IsRemoval}
 use Rattle.file_ports.specs.declared.access.Access.{Access}
 use Rattle.file_ports.specs.declared.access.FileAddress.{FileAddress}
 use Rattle.file_ports.specs.declared.access.FileAddress.TheVariants as kinds

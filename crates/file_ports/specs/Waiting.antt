@@ -1,6 +1,6 @@
 -- What contracts see of pipes that wait.
 use Rattle.std.specs.declared.fs.File.{File}
-use Rattle.port_trait.specs.declared.answers.Shutting.{Shutting}
+use Rattle.port_trait.specs.{Shutting}
 use Rattle.port_trait.specs.declared.answers.Shutting.TheVariants as shuts
 use Rattle.file_ports.specs.declared.pipes.PipeOutcome.{PipeOutcome}
 use Rattle.file_ports.specs.declared.pipes.PipeOutcome.TheVariants as outcomes

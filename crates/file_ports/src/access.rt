@@ -6,7 +6,7 @@ use relay_model::{FileFlags, Part};
 use std::fs::OpenOptions;
 
 /// The addresses that open a file by its name (socat(1): `CREATE`, `OPEN`, `GOPEN`, `PIPE`).
-#[derive(Clone, Copy, Debug, PartialEq)]
+#[derive(Clone, Copy, PartialEq)]
 pub enum FileAddress {
     Create,
     Open,
@@ -17,7 +17,7 @@ pub enum FileAddress {
 /// What is asked of the opening. The names are those of std's options: `create_new` makes the file, and fails where
 /// something is there or where nothing is to be written. `empty` is no option: std opens no file to truncate it and to
 /// append to it, so a regular file is emptied once it is open.
-#[derive(Clone, Copy, Debug, PartialEq)]
+#[derive(Clone, Copy, PartialEq)]
 pub struct Access {
     pub read: bool,
     pub write: bool,

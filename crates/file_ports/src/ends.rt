@@ -3,9 +3,9 @@ ghost use Rattle.std.specs.Prelude.{◌≢◌, ◌<◌, ℕ, List, length, Resul
 ghost use Rattle.std.specs.Io.{ReadsAtMost, WritesAtMost};
 ghost use Rattle.std.specs.Io.KnownBytes.{ReadConsumes, WriteAppends};
 ghost use Rattle.std.specs.declared.io.Error.{Error};
-ghost use Rattle.port_trait.specs.Meanings.{Gives, Accepts};
+ghost use Rattle.port_trait.specs.{Gives, Accepts};
 ghost use Rattle.port_trait.specs.declared.answers.Got.TheVariants as reads;
-ghost use Rattle.socket_kinds.specs.Answering.{Answers, ReaderGave, WriterTook, IsReceived, IsAccepted};
+ghost use Rattle.socket_kinds.specs.{Answers, ReaderGave, WriterTook, IsReceived, IsAccepted};
 
 use port_trait::{Got, Took};
 use socket_kinds::{receive_answer, send_answer};

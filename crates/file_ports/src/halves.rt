@@ -1,12 +1,11 @@
 // What is read and what is written through descriptors whose calls answer at once.
 ghost use Rattle.std.specs.Prelude.{◌≡◌, ◌≢◌, ◌<◌, ◌&&◌, length, false, not, None, is_some, IfSome};
-ghost use Rattle.port_trait.specs.Meanings.{Gives, Accepts};
-ghost use Rattle.port_trait.specs.Streams.{finishes};
+ghost use Rattle.port_trait.specs.{Gives, Accepts, finishes};
 ghost use Rattle.port_trait.specs.declared.answers.Got.TheVariants as reads;
 ghost use Rattle.port_trait.specs.declared.answers.Settled.TheVariants as settles;
 ghost use Rattle.port_trait.specs.declared.answers.Shutting.TheVariants as shuts;
 ghost use Rattle.port_trait.specs.declared.answers.Took.TheVariants as writes;
-ghost use Rattle.socket_kinds.specs.Answering.{Answers, ReaderGave, WriterTook, IsReceived, IsAccepted};
+ghost use Rattle.socket_kinds.specs.{Answers, ReaderGave, WriterTook, IsReceived, IsAccepted};
 ghost use Rattle.file_ports.specs.Halves.{AtHalf, HalvesState, halves_hint, is_always};
 ghost use Rattle.file_ports.specs.declared.halves.HalfReadiness.TheVariants as readiness;
 
@@ -21,7 +20,7 @@ use std::marker::Model;
 use std::os::fd::AsRawFd;
 
 /// Who knows when a descriptor is ready. A regular file always is, and no registry takes it (epoll_ctl(2), `EPERM`).
-#[derive(Clone, Copy, Debug, PartialEq)]
+#[derive(Clone, Copy, PartialEq)]
 pub enum HalfReadiness {
     Reported,
     Always,

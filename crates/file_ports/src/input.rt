@@ -2,7 +2,7 @@
 ghost use Rattle.std.specs.Prelude.{◌≡◌, true, false};
 ghost use Rattle.std.specs.Io.{ReadsAtMost};
 ghost use Rattle.file_ports.specs.Inputs.{GaveToHangUp, IsHangUp, IsToHangUp};
-ghost use Rattle.socket_kinds.specs.Answering.{Answers};
+ghost use Rattle.socket_kinds.specs.{Answers};
 
 use crate::ends::ReadEnd;
 use std::fs::File;

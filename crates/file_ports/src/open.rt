@@ -4,7 +4,7 @@ ghost use Rattle.std.specs.Fs.{IsValidOptions};
 ghost use Rattle.port_trait.specs.declared.makers.Making.TheVariants as makings;
 ghost use Rattle.file_ports.specs.Access.{access_of, options_of};
 ghost use Rattle.file_ports.specs.Opened.{file_named, OnMade, AreOpened, IsAskedFile, IsOpened, Unlinks, UnlinksEntry};
-ghost use Rattle.socket_ports.specs.Removals.{IsRemoval};
+ghost use Rattle.socket_ports.specs.{IsRemoval};
 
 use crate::access::{Access, FileAddress};
 use crate::opening::{FileCalls, open_asked};
@@ -36,7 +36,7 @@ pub struct NamedPipe {
 }
 
 /// The entry that a named pipe had when its name was looked at (stat(2)).
-#[derive(Clone, Copy, Debug, PartialEq)]
+#[derive(Clone, Copy, PartialEq)]
 pub struct PipeEntry {
     pub device: u64,
     pub inode: u64,

@@ -1,5 +1,5 @@
 // Named pipes that wait for their other ends, and the threads that open them.
-ghost use Rattle.port_trait.specs.Made.{IsAtOnce};
+ghost use Rattle.port_trait.specs.{IsAtOnce};
 ghost use Rattle.file_ports.specs.Access.{options_of};
 ghost use Rattle.file_ports.specs.Waiting.{OnOutcome};
 
@@ -37,7 +37,7 @@ pub(crate) enum PipeOutcome {
 }
 
 /// Why nobody waits for a pipe.
-#[derive(Clone, Copy, Debug, PartialEq)]
+#[derive(Clone, Copy, PartialEq)]
 pub(crate) enum Refusal {
     Failed,
     Memory,

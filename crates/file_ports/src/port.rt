@@ -1,9 +1,8 @@
 // The port of a file.
 ghost use Rattle.std.specs.Prelude.{◌≡◌, None, IfOk};
-ghost use Rattle.port_trait.specs.Made.{IsAtOnce};
+ghost use Rattle.port_trait.specs.{IsAtOnce};
 ghost use Rattle.port_trait.specs.declared.makers.Making.TheVariants as makings;
-ghost use Rattle.socket_ports.specs.Accepting.{IsFreshPort};
-ghost use Rattle.socket_ports.specs.Sockets.{fresh_port};
+ghost use Rattle.socket_ports.specs.{IsFreshPort, fresh_port};
 ghost use Rattle.file_ports.specs.Halves.{AreOf};
 ghost use Rattle.file_ports.specs.Opened.{file_named, AreEndsOf, IsRemovalOf, OnMade};
 ghost use Rattle.file_ports.specs.Streams.{halves_of};

@@ -1,7 +1,6 @@
 // A file, from its opening on.
 ghost use Rattle.std.specs.Prelude.{◌≡◌, ◌≢◌, ◌<◌, ◌&&◌, length, true, false, not, None};
-ghost use Rattle.port_trait.specs.Meanings.{Gives, Accepts};
-ghost use Rattle.port_trait.specs.Streams.{finishes};
+ghost use Rattle.port_trait.specs.{Gives, Accepts, finishes};
 ghost use Rattle.port_trait.specs.declared.answers.Got.TheVariants as reads;
 ghost use Rattle.port_trait.specs.declared.answers.Settled.TheVariants as settles;
 ghost use Rattle.port_trait.specs.declared.answers.Shutting.TheVariants as shuts;

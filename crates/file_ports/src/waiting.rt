@@ -1,6 +1,6 @@
 // The port's side of a named pipe whose opening waits for its other end.
 ghost use Rattle.std.specs.Prelude.{◌≡◌, ◌||◌, true, false, IfOk, IfSome};
-ghost use Rattle.port_trait.specs.Streams.{finishes};
+ghost use Rattle.port_trait.specs.{finishes};
 ghost use Rattle.port_trait.specs.declared.answers.Shutting.TheVariants as shuts;
 ghost use Rattle.file_ports.specs.Halves.{waiting_halves, halves_hint};
 ghost use Rattle.file_ports.specs.Opened.{IsPipeOf};

@@ -2,9 +2,9 @@
 use Rattle.std.specs.Prelude.{◌≡◌, ◌≢◌, ℕ, ◌<◌, ◌≤◌, Bool, true, ◌&&◌, nat_lt, Option, Some, None, is_some, refl}
 use Rattle.std.specs.Coded.{Coded, code_by, coded×, coded_ℕ}
 use Rattle.slab.specs.Slab.{Slab, slab_code, get, with_value, ContainsKey, HasRoomFor}
-use Rattle.key_map.specs.Entries.{Keyed, keyed_code}
+use Rattle.key_map.specs.{Keyed, keyed_code}
 use Rattle.std.specs.FinMap as map
-use Rattle.relay_model.specs.Choices.{count}
+use Rattle.relay_model.specs.{count}
 
 -- the rows by their keys, the key of each live session's row by its number, and the counts
 pub record Table (T : Type 0) : Type 0 where

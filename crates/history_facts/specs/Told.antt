@@ -1,23 +1,14 @@
 -- What the tables that are kept up with each act say of the acts before.
 use Rattle.std.specs.Prelude.{◌≡◌, ◌≤◌, ◌==◌, ℕ, suc, Bool, List, [], ◌∷◌, length, Option, None, Some}
-use Rattle.relay_model.specs.declared.places.Place.{Place}
-use Rattle.relay_model.specs.declared.acts.Act.{Act}
-use Rattle.relay_model.specs.declared.places.Way.{Way}
-use Rattle.relay_model.specs.declared.commands.Config.{Config}
-use Rattle.relay_model.specs.Configs.{input, output}
-use Rattle.relay_model.specs.Arming.{read_arming, armed_to_write, armed_to_accept, asked_to_read, asked_to_write, asked_to_accept}
-use Rattle.relay_model.specs.History.{now, turns, stop_said, memory_said, stage, failures, woken, accept_failed, was_closed, was_reaped, got, put, met_end, met_empty, shut_at, read_fault_at, write_fault_at}
-use Rattle.relay_model.specs.Sessions.{admitted}
-use Rattle.relay_model.specs.Moments.{moved_at}
-use Rattle.relay_model.specs.Cause.{closed_why}
-use Rattle.relay_model.specs.declared.acts.Why.{Why}
+use Rattle.relay_model.specs.{Place, Act, Way, Config, input, output, read_arming, armed_to_write, armed_to_accept, asked_to_read, asked_to_write}
+use Rattle.relay_model.specs.{asked_to_accept, now, turns, stop_said, memory_said, stage, failures, woken, accept_failed, was_closed, was_reaped, got}
+use Rattle.relay_model.specs.{put, met_end, met_empty, shut_at, read_fault_at, write_fault_at, admitted, moved_at, closed_why, Why, Stage}
 use Rattle.history_facts.specs.declared.placed.Placed.{Placed}
 use Rattle.history_facts.specs.declared.numbered.Numbered.{Numbered}
 use Rattle.history_facts.specs.Tables.{numbered, placed}
 use Rattle.history_facts.specs.declared.clock.TurnFacts.{TurnFacts}
 use Rattle.history_facts.specs.declared.traffic.Traffic.{Traffic}
 use Rattle.history_facts.specs.declared.sessions.SessionFacts.{SessionFacts}
-use Rattle.relay_model.specs.declared.stages.Stage.{Stage}
 use Rattle.history_facts.specs.declared.openings.OpeningFacts.{OpeningFacts}
 use Rattle.relay_model.specs.declared.armings.Arming.{Arming}
 use Rattle.history_facts.specs.declared.armings.Armings.{Armings}

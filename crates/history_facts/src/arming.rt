@@ -1,7 +1,7 @@
 // Which halves and doors are armed, which is to say worth asking, and which were asked since the last turn.
 ghost use Rattle.std.specs.Prelude.{◌≡◌};
-ghost use Rattle.relay_model.specs.Arming.{pause_after_end, read_arming, armed_to_read, arming_moment, armed_to_write, armed_to_accept, asked_to_read, asked_to_write, asked_to_accept};
-ghost use Rattle.relay_model.specs.Configs.{input, output};
+ghost use Rattle.relay_model.specs.{pause_after_end, read_arming, armed_to_read, arming_moment, armed_to_write, armed_to_accept, asked_to_read};
+ghost use Rattle.relay_model.specs.{asked_to_write, asked_to_accept, input, output};
 
 use crate::history::now;
 use crate::past::Past;

@@ -1,13 +1,7 @@
 // Which halves and doors are armed, which is to say worth asking, and which were asked since the last turn, kept up
 // with each act.
 ghost use Rattle.std.specs.Prelude.{◌≡◌, ◌∷◌, ℕ, suc, Bool, not, ◌&&◌, ◌||◌, List, [], OnOk};
-ghost use Rattle.relay_model.specs.declared.places.Way.{Way};
-ghost use Rattle.relay_model.specs.declared.places.Place.{Place};
-ghost use Rattle.relay_model.specs.declared.commands.Config.{Config};
-ghost use Rattle.relay_model.specs.declared.acts.Act.{Act};
-ghost use Rattle.relay_model.specs.Places.{same_place};
-ghost use Rattle.relay_model.specs.Configs.{input, output};
-ghost use Rattle.relay_model.specs.History.{now, turns};
+ghost use Rattle.relay_model.specs.{Way, Place, Config, Act, same_place, input, output, now, turns};
 ghost use Rattle.history_facts.specs.Tables.{placed};
 ghost use Rattle.history_facts.specs.Told.{ReadArmingsTold, WriteArmingsTold, AcceptArmingsTold, ReadsAsked, WritesAsked, AcceptsAsked, AskedBefore, ArmingsTold};
 

@@ -1,6 +1,6 @@
 // Small choices: the first of two answers, the lesser of two moments.
 ghost use Rattle.std.specs.Prelude.{◌≡◌};
-ghost use Rattle.relay_model.specs.Choices.{or_else, earlier, later};
+ghost use Rattle.relay_model.specs.{or_else, earlier, later};
 
 /// The first moment where there is one, else the second.
 pub fn or_else(one: Option<u64>, other: Option<u64>) -> Option<u64>

@@ -1,6 +1,6 @@
 // The turns so far, and what ends every session, kept up with each act.
 ghost use Rattle.std.specs.Prelude.{◌≡◌, ◌∷◌, List, [], OnOk};
-ghost use Rattle.relay_model.specs.declared.acts.Act.{Act};
+ghost use Rattle.relay_model.specs.{Act};
 ghost use Rattle.history_facts.specs.Told.{ClockTold};
 
 use relay_model::{Act, NoMemory, Why};

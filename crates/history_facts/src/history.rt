@@ -1,10 +1,7 @@
 // What the acts so far say of a place or door, and of the whole.
 ghost use Rattle.std.specs.Prelude.{◌≡◌, ◌<◌, ◌^◌, length};
-ghost use Rattle.relay_model.specs.Tries.{next_due};
-ghost use Rattle.relay_model.specs.History.{now, turns, stop_said, memory_said, stage, held, served, failures, woken, accept_failed, was_closed, was_reaped, got, put, met_end, met_empty, shut_at, read_fault_at, write_fault_at};
-ghost use Rattle.relay_model.specs.Sessions.{admitted};
-ghost use Rattle.relay_model.specs.Moments.{moved_at};
-ghost use Rattle.relay_model.specs.Cause.{closed_why};
+ghost use Rattle.relay_model.specs.{next_due, now, turns, stop_said, memory_said, stage, held, served, failures, woken, accept_failed, was_closed};
+ghost use Rattle.relay_model.specs.{was_reaped, got, put, met_end, met_empty, shut_at, read_fault_at, write_fault_at, admitted, moved_at, closed_why};
 
 use crate::past::Past;
 use relay_model::{Place, Stage, Why};

@@ -1,8 +1,6 @@
 // What a turn names.
 ghost use Rattle.std.specs.Prelude.{◌≡◌, ◌&&◌, if◌then◌else◌, OnOk};
-ghost use Rattle.relay_model.specs.declared.places.Place.{Place};
-ghost use Rattle.relay_model.specs.Readiness.{names};
-ghost use Rattle.relay_model.specs.Places.{same_place, same_half};
+ghost use Rattle.relay_model.specs.{Place, names, same_place, same_half};
 ghost use Rattle.history_facts.specs.Tables.{placed};
 
 use crate::placed::Placed;

@@ -1,7 +1,6 @@
 // How places and doors stand, and what their openings, listenings and closings came to, kept up with each act.
 ghost use Rattle.std.specs.Prelude.{◌≡◌, ◌∷◌, List, [], OnOk};
-ghost use Rattle.relay_model.specs.declared.acts.Act.{Act};
-ghost use Rattle.relay_model.specs.History.{now};
+ghost use Rattle.relay_model.specs.{Act, now};
 ghost use Rattle.history_facts.specs.Told.{StagesTold, FailuresCounted, LastFailuresTold, WokenTold, AcceptsFailedTold, ClosedTold, ReapedTold, OpeningsTold};
 
 use crate::naming::name_all;

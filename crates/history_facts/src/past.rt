@@ -1,6 +1,8 @@
 // The acts so far, with all that is asked of them kept beside them.
-ghost use Rattle.std.specs.Prelude.{◌≡◌, ◌∷◌, [], IfOk};
+ghost use Rattle.std.specs.Prelude.{◌≡◌, ◌∷◌, List, [], IfOk, OnOk};
+ghost use Rattle.relay_model.specs.{Act};
 ghost use Rattle.history_facts.specs.Pasts.{acts};
+ghost use Rattle.history_facts.specs.Told.{AllTold};
 
 use crate::armings::Armings;
 use crate::clock::TurnFacts;
@@ -34,6 +36,27 @@ impl<'a> Model for Past<'a> {
     ghost view = { λ past. seen past.config.now past.acts.now };
 
     ghost invariant = { λ past. AllTold (seen past.config.now past.acts.now) past.clock past.openings past.armings past.traffic past.sessions };
+}
+
+/// Takes one more act into what is kept.
+fn note_act(
+    config: &Config,
+    act: &Act,
+    clock: &mut TurnFacts,
+    openings: &mut OpeningFacts,
+    armings: &mut Armings,
+    traffic: &mut Traffic,
+    sessions: &mut SessionFacts,
+) -> Result<(), NoMemory>
+    ensures { OnOk result ((before : List Act) → AllTold (record { config = config.now; acts = before }) clock.old openings.old armings.old traffic.old sessions.old
+        → AllTold (record { config = config.now; acts = act.now ∷ before }) clock.new openings.new armings.new traffic.new sessions.new) }
+{
+    let at = clock.now;
+    openings.note(act, at)?;
+    armings.note(config, act, at, clock.turn)?;
+    traffic.note(act, at)?;
+    sessions.note(config, act, at)?;
+    clock.note(act)
 }
 
 impl<'a> Past<'a> {
@@ -82,12 +105,15 @@ impl<'a> Past<'a> {
             mut traffic,
             mut sessions,
         } = self;
-        let at = clock.now;
-        openings.note(act, at)?;
-        armings.note(config, act, at, clock.turn)?;
-        traffic.note(act, at)?;
-        sessions.note(config, act, at)?;
-        clock.note(act)?;
+        note_act(
+            config,
+            act,
+            &mut clock,
+            &mut openings,
+            &mut armings,
+            &mut traffic,
+            &mut sessions,
+        )?;
         Ok(Past {
             config,
             acts: grown,

@@ -1,7 +1,6 @@
 // An answer for each place.
 ghost use Rattle.std.specs.Prelude.{◌≡◌, ◌<◌, if◌then◌else◌, OnOk};
-ghost use Rattle.relay_model.specs.declared.places.Place.{Place};
-ghost use Rattle.relay_model.specs.Places.{same_place};
+ghost use Rattle.relay_model.specs.{Place, same_place};
 ghost use Rattle.history_facts.specs.Tables.{placed, part_number, place_number};
 
 use crate::numbered::Numbered;

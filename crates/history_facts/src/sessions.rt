@@ -1,11 +1,6 @@
 // What is known of each session, kept up with each act: when it last moved, why it ended, and how many there are.
 ghost use Rattle.std.specs.Prelude.{◌≡◌, ◌∷◌, ◌&&◌, ℕ, Some, List, [], if◌then◌else◌, OnOk};
-ghost use Rattle.relay_model.specs.declared.commands.Config.{Config};
-ghost use Rattle.relay_model.specs.declared.acts.Act.{Act};
-ghost use Rattle.relay_model.specs.Configs.{is_place_of, is_of};
-ghost use Rattle.relay_model.specs.History.{now};
-ghost use Rattle.relay_model.specs.Sessions.{permits, is_admission};
-ghost use Rattle.relay_model.specs.Cause.{is_end};
+ghost use Rattle.relay_model.specs.{Config, Act, is_place_of, is_of, now, permits, is_admission, is_end};
 ghost use Rattle.history_facts.specs.Tables.{numbered};
 ghost use Rattle.history_facts.specs.Told.{MovesTold, CausesTold, AdmittedTold, SessionsTold};
 

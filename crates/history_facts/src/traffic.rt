@@ -1,9 +1,6 @@
 // What was read and written at places, and what ended there, kept up with each act.
 ghost use Rattle.std.specs.Prelude.{◌≡◌, ◌∷◌, ◌+◌, ℕ, List, [], if◌then◌else◌, OnOk};
-ghost use Rattle.relay_model.specs.declared.places.Place.{Place};
-ghost use Rattle.relay_model.specs.declared.acts.Act.{Act};
-ghost use Rattle.relay_model.specs.Places.{same_place};
-ghost use Rattle.relay_model.specs.History.{now};
+ghost use Rattle.relay_model.specs.{Place, Act, same_place, now};
 ghost use Rattle.history_facts.specs.Tables.{placed};
 ghost use Rattle.history_facts.specs.Told.{ReadTold, WrittenTold, EndsTold, EmptiesTold, ShutsTold, ReadFaultsTold, WriteFaultsTold, TrafficTold};
 

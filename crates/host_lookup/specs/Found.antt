@@ -4,9 +4,9 @@ use Rattle.std.specs.List.{find}
 use Rattle.std.specs.declared.net.socket_addr.SocketAddr.{SocketAddr}
 use Rattle.std.specs.Net.Addr.{is_ipv4, is_ipv6}
 use Rattle.std.specs.Net.Socket.{socket_ip, socket_port}
-use Rattle.relay_model.specs.declared.commands.Family.{Family}
+use Rattle.relay_model.specs.{Family}
 use Rattle.relay_model.specs.declared.commands.Family.TheVariants as families
-use Rattle.port_trait.specs.declared.makers.Making.{Making}
+use Rattle.port_trait.specs.{Making}
 use Rattle.port_trait.specs.declared.makers.Making.TheVariants as makings
 
 -- an IPv4 address

@@ -1,6 +1,6 @@
 // Names are looked up by threads, one for each name, and the loop is woken when one is done.
 ghost use Rattle.std.specs.Prelude.{◌≡◌, true, IfOk, IfSome};
-ghost use Rattle.port_trait.specs.Made.{IsAtOnce};
+ghost use Rattle.port_trait.specs.{IsAtOnce};
 ghost use Rattle.host_lookup.specs.Found.{OnBegun};
 
 use crate::hosts::HostAddresses;

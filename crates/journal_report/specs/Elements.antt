@@ -1,8 +1,8 @@
 -- What a picture is made of: lines and words, in the markup of SVG, and nothing else.
 use Rattle.std.specs.Prelude.{◌≡◌, ℕ, ◌==◌, List, [], ◌∷◌, ◌++◌, codes, decimal, if◌then◌else◌}
 use Rattle.std.specs.List.{flat_map}
-use Rattle.relay_model.specs.Dumps.{newline}
-use Rattle.place_report.specs.Shown.{shown, said}
+use Rattle.relay_model.specs.{newline}
+use Rattle.place_report.specs.{shown, said}
 use Rattle.journal_report.specs.declared.elements.Ink.{Ink}
 use Rattle.journal_report.specs.declared.elements.Ink.TheVariants as ink
 use Rattle.journal_report.specs.declared.elements.Stroke.{Stroke}

@@ -1,11 +1,8 @@
 -- The timeline as a picture: what stands before the elements, the elements of each session, and what stands behind.
 use Rattle.std.specs.Prelude.{◌≡◌, ℕ, zero, suc, ◌+◌, ◌*◌, List, ◌++◌, codes, decimal}
-use Rattle.relay_model.specs.declared.commands.Config.{Config}
-use Rattle.relay_model.specs.declared.acts.Act.{Act}
-use Rattle.relay_model.specs.Sessions.{numbers}
-use Rattle.relay_model.specs.Dumps.{newline}
-use Rattle.place_report.specs.Shown.{shown, said}
-use Rattle.journal_table.specs.Tables.{peers_cell}
+use Rattle.relay_model.specs.{Config, Act, numbers, newline}
+use Rattle.place_report.specs.{shown, said}
+use Rattle.journal_table.specs.{peers_cell}
 use Rattle.journal_report.specs.Elements.{Words, element_text, AddsElements}
 
 -- the number of a session and its peers

@@ -1,10 +1,9 @@
 -- What the program does with what a source gives.
 use Rattle.std.specs.Prelude.{◌≡◌, ℕ, ◌++◌, List, [], codes, Option, option_map, IfSome}
 use Rattle.std.specs.Fmt.{decimal}
-use Rattle.port_trait.specs.Counting.{Rose}
+use Rattle.port_trait.specs.{Rose, Loses}
 use Rattle.std.specs.Io.KnownBytes.{Consumes, Appends, IsAtEnd}
-use Rattle.port_trait.specs.Streams.{Loses}
-use Rattle.relay_model.specs.Dumps.{newline}
+use Rattle.relay_model.specs.{newline}
 use Rattle.journal_report.specs.declared.views.View.{View}
 use Rattle.journal_report.specs.declared.shown.Unshown.{Unshown}
 use Rattle.journal_report.specs.declared.shown.Unshown.TheVariants.{TooLong, BadWords, BadLine, NoSession}

@@ -1,16 +1,12 @@
 -- What a view of a journal shows, and why there may be none.
 use Rattle.std.specs.Prelude.{◌≡◌, ℕ, ◌<◌, ◌≤◌, Bool, true, false, nat_lt, List, length, Option, Some, None, Ok}
-use Rattle.relay_model.specs.declared.commands.Config.{Config}
+use Rattle.relay_model.specs.{Config, Act, input, output, got, put, numbers}
 use Rattle.relay_model.specs.declared.commands.Dump.TheVariants as dumps
-use Rattle.relay_model.specs.declared.acts.Act.{Act}
-use Rattle.relay_model.specs.Configs.{input, output}
-use Rattle.relay_model.specs.History.{got, put}
-use Rattle.relay_model.specs.Sessions.{numbers}
 use Rattle.cmd_words.specs.declared.commands.Command.TheVariants.{Relay}
-use Rattle.cmd_words.specs.Commands.{MakesNoRelay, command}
-use Rattle.journal_text.specs.Texts.{IsTextOf, IsFirstBadLine, kept}
-use Rattle.place_report.specs.Shown.{IsPrintable}
-use Rattle.journal_table.specs.Streams.{dumped}
+use Rattle.cmd_words.specs.{MakesNoRelay, command}
+use Rattle.journal_text.specs.{IsTextOf, IsFirstBadLine, kept, longest_text}
+use Rattle.place_report.specs.{IsPrintable}
+use Rattle.journal_table.specs.{dumped, TableTold, acts_text}
 use Rattle.journal_report.specs.declared.views.ViewedStream.{ViewedStream}
 use Rattle.journal_report.specs.declared.views.View.{View}
 use Rattle.journal_report.specs.declared.views.View.TheVariants as view
@@ -18,9 +14,6 @@ use Rattle.journal_report.specs.declared.shown.Unshown.{Unshown}
 use Rattle.journal_report.specs.declared.shown.Unshown.TheVariants.{TooLong, BadWords, BadLine, NoSession}
 use Rattle.journal_report.specs.declared.shown.ViewFault.{ViewFault}
 use Rattle.journal_report.specs.declared.shown.ViewFault.TheVariants as faults
-use Rattle.journal_text.specs.Sources.{longest_text}
-use Rattle.journal_table.specs.Tables.{TableTold}
-use Rattle.journal_table.specs.Acts.{acts_text}
 use Rattle.journal_report.specs.Timelines.{TimelineTold}
 use Rattle.journal_report.specs.Pictures.{IsPicture}
 

@@ -1,14 +1,8 @@
 -- What a timeline shows, and what a picture is made of.
 use Rattle.std.specs.Prelude.{◌≡◌, ℕ, zero, suc, List, ◌++◌, length, decimal, Some}
-use Rattle.relay_model.specs.declared.commands.Config.{Config}
-use Rattle.relay_model.specs.declared.acts.Act.{Act}
-use Rattle.relay_model.specs.History.{now}
-use Rattle.relay_model.specs.Sessions.{numbers}
-use Rattle.relay_model.specs.Cause.{closed_why}
-use Rattle.relay_model.specs.Dumps.{newline}
-use Rattle.place_report.specs.Shown.{said}
-use Rattle.journal_table.specs.Cells.{to_left, to_right, moment_text}
-use Rattle.journal_table.specs.Tables.{peers_cell, why_cell}
+use Rattle.relay_model.specs.{Config, Act, now, numbers, closed_why, newline}
+use Rattle.place_report.specs.{said}
+use Rattle.journal_table.specs.{to_left, to_right, moment_text, peers_cell, why_cell}
 
 -- ---- timelines
 

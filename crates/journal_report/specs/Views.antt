@@ -3,7 +3,7 @@ use Rattle.std.specs.Prelude.{ℕ, ◌^◌, Bool, ◌&&◌, nat_le, nat_lt, List
 use Rattle.std.specs.List.{starts_with}
 use Rattle.std.specs.Str.{all_ascii_digits}
 use Rattle.std.specs.Str.Parse.{digits_value}
-use Rattle.relay_model.specs.declared.places.Way.{Way}
+use Rattle.relay_model.specs.{Way}
 use Rattle.relay_model.specs.declared.places.Way.TheVariants.{LeftToRight, RightToLeft}
 use Rattle.journal_report.specs.declared.views.ViewedStream.{ViewedStream}
 use Rattle.journal_report.specs.declared.views.View.{View}

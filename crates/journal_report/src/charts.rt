@@ -1,6 +1,6 @@
 // A chart of a run: a row for each session, and in each column what happened in that part of the time.
 ghost use Rattle.std.specs.Prelude.{◌≡◌, ◌<◌, ◌≤◌, ◌*◌, length, IfOk};
-ghost use Rattle.relay_model.specs.Sessions.{numbers};
+ghost use Rattle.relay_model.specs.{numbers};
 
 use command_places::{way_from, way_to};
 use history_facts::now;
@@ -9,7 +9,7 @@ use relay_model::{Act, NoMemory, Place, Way, Why};
 use std::alloc::Global;
 
 /// What happened in a part of the time, from the weakest sign to the strongest. Of several the strongest is shown.
-#[derive(Clone, Copy, Debug, PartialEq, Eq)]
+#[derive(Clone, Copy)]
 pub enum ChartMark {
     /// Nothing.
     Quiet,

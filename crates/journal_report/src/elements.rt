@@ -1,7 +1,7 @@
 // What a picture is made of: lines and words, in the markup of SVG.
 ghost use Rattle.std.specs.Prelude.{◌≡◌, ◌++◌, codes, decimal, string_bytes, IfOk, OnOk};
 ghost use Rattle.std.specs.List.{flat_map};
-ghost use Rattle.place_report.specs.Shown.{shown, said};
+ghost use Rattle.place_report.specs.{shown, said};
 ghost use Rattle.journal_report.specs.Elements.{ink_text, from_text, to_text, style_text, xml_byte, xml_text, element_text};
 ghost use Rattle.journal_report.specs.Elements as elements;
 
@@ -10,7 +10,7 @@ use relay_model::NoMemory;
 use std::alloc::Global;
 
 /// The colour of a line.
-#[derive(Clone, Copy, Debug, PartialEq, Eq)]
+#[derive(Clone, Copy)]
 pub enum Ink {
     Black,
     White,
@@ -23,7 +23,7 @@ pub enum Ink {
 }
 
 /// A line from one point to another.
-#[derive(Clone, Copy, Debug, PartialEq, Eq)]
+#[derive(Clone, Copy)]
 pub struct Stroke {
     pub x1: u64,
     pub y1: u64,

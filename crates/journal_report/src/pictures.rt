@@ -1,9 +1,8 @@
 // The timeline as a picture: lines and words alone, in the markup of SVG.
 ghost use Rattle.std.specs.Prelude.{◌≡◌, ◌<◌, ◌++◌, ◌+◌, ◌*◌, [], length, codes, decimal, string_bytes, IfOk, OnOk};
-ghost use Rattle.place_report.specs.Shown.{shown, said};
-ghost use Rattle.relay_model.specs.Dumps.{newline};
-ghost use Rattle.relay_model.specs.Sessions.{numbers};
-ghost use Rattle.history_facts.specs.Pasts.{acts};
+ghost use Rattle.place_report.specs.{shown, said};
+ghost use Rattle.relay_model.specs.{newline, numbers};
+ghost use Rattle.history_facts.specs.{acts};
 ghost use Rattle.journal_report.specs.Elements.{AddsElements};
 ghost use Rattle.journal_report.specs.Pictures.{label, AddsPictureRow, AddsPictureRows, head_text, IsPicture};
 

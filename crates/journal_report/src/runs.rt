@@ -1,6 +1,6 @@
 // The program's work: what a source gives is shown as it is asked for, or one line says why it isn't.
 ghost use Rattle.std.specs.Prelude.{◌≡◌, ◌<◌, ◌⊎◌, true, string_bytes, IfOk};
-ghost use Rattle.port_trait.specs.Counting.{Rose};
+ghost use Rattle.port_trait.specs.{Rose};
 ghost use Rattle.journal_report.specs.Runs.{line_of, Shows, ShowsBeneath, Refuses, RefusesBeneath};
 
 use crate::shown::{Unshown, ViewFault, view_of_text};

@@ -1,14 +1,12 @@
 // The text of a view of a journal, or why there is none.
 ghost use Rattle.std.specs.Prelude.{◌≡◌, ◌≢◌, ◌<◌, ◌≤◌, ◌^◌, length, IfOk, IfErr, Ok};
 ghost use Rattle.std.specs.List.{AllByRecursion};
-ghost use Rattle.journal_text.specs.Ranges.{IsAct};
-ghost use Rattle.history_facts.specs.Pasts.{acts};
-ghost use Rattle.place_report.specs.Shown.{IsPrintable};
-ghost use Rattle.relay_model.specs.Configs.{input, output};
-ghost use Rattle.relay_model.specs.History.{got, put};
-ghost use Rattle.journal_table.specs.Streams.{dumped};
+ghost use Rattle.journal_text.specs.{IsAct, longest_text};
+ghost use Rattle.history_facts.specs.{acts};
+ghost use Rattle.place_report.specs.{IsPrintable};
+ghost use Rattle.relay_model.specs.{input, output, got, put};
+ghost use Rattle.journal_table.specs.{dumped};
 ghost use Rattle.journal_report.specs.declared.shown.ViewFault.TheVariants as fault;
-ghost use Rattle.journal_text.specs.Sources.{longest_text};
 ghost use Rattle.journal_report.specs.Shown.{stream_of, has_session, ViewTold, IsPlain, ViewShown, Reads, IsViewOf, OnFault, WhyUnshownOf, WhyNoJournal, IsViewBy, WhyUnshownBy, WhyUnshown};
 
 use crate::pictures::picture;
@@ -25,7 +23,7 @@ use relay_model::{Act, Config, Dump, Journal, NoMemory, Text};
 use std::alloc::Global;
 
 /// Why a journal isn't shown.
-#[derive(Clone, Copy, Debug, PartialEq, Eq)]
+#[derive(Clone, Copy)]
 pub enum Unshown {
     /// More than 16,777,216 bytes were given; the rest isn't read.
     TooLong,
@@ -38,7 +36,7 @@ pub enum Unshown {
 }
 
 /// Why a view isn't made.
-#[derive(Clone, Copy, Debug, PartialEq, Eq)]
+#[derive(Clone, Copy)]
 pub enum ViewFault {
     /// There is nothing to be shown.
     Unshown(Unshown),

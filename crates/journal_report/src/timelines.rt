@@ -1,9 +1,8 @@
 // The timeline: a row for each session, with time to the right.
 ghost use Rattle.std.specs.Prelude.{◌≡◌, ◌<◌, ◌≤◌, ◌++◌, ◌*◌, [], length, codes, decimal, string_bytes, IfOk, OnOk};
-ghost use Rattle.place_report.specs.Shown.{shown, said};
-ghost use Rattle.relay_model.specs.Dumps.{newline};
-ghost use Rattle.relay_model.specs.Sessions.{numbers};
-ghost use Rattle.history_facts.specs.Pasts.{acts};
+ghost use Rattle.place_report.specs.{shown, said};
+ghost use Rattle.relay_model.specs.{newline, numbers};
+ghost use Rattle.history_facts.specs.{acts};
 ghost use Rattle.journal_report.specs.Timelines.{AddsCells, AddsRow, AddsRows, TimelineTold, legend, scale_line};
 
 use crate::charts::{Chart, ChartMark, chart_of};
@@ -61,7 +60,7 @@ fn sign_at(chart: &Chart, row: &SessionRow, column: usize) -> &'static str
         .saturating_mul(chart.columns)
         .saturating_add(column);
     let mark = chart.at(place);
-    if mark == ChartMark::Quiet && !lives(chart, row, column) {
+    if matches!(mark, ChartMark::Quiet) && !lives(chart, row, column) {
         " "
     } else {
         sign(mark)

@@ -6,14 +6,14 @@ use relay_model::{Text, Way};
 use std::str;
 
 /// A direction of a session.
-#[derive(Clone, Copy, Debug, PartialEq, Eq)]
+#[derive(Clone, Copy)]
 pub struct ViewedStream {
     pub session: u32,
     pub way: Way,
 }
 
 /// How a journal is shown.
-#[derive(Clone, Copy, Debug, PartialEq, Eq)]
+#[derive(Clone, Copy)]
 pub enum View {
     /// A row for each session, and the outcome.
     Table,

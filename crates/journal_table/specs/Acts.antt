@@ -1,15 +1,10 @@
 -- The acts of a run in plain words, a line each.
 use Rattle.std.specs.Prelude.{ℕ, Bool, true, false, List, [], ◌∷◌, ◌++◌, length, codes, decimal, Option, Some, None}
-use Rattle.relay_model.specs.declared.places.Part.{Part}
+use Rattle.relay_model.specs.{Part, Place, Shut as Shutting, Act, now, newline}
 use Rattle.relay_model.specs.declared.places.Part.TheVariants.{Both, Reading, Writing}
-use Rattle.relay_model.specs.declared.places.Place.{Place}
-use Rattle.relay_model.specs.declared.acts.Shut.{Shut as Shutting}
 use Rattle.relay_model.specs.declared.acts.Shut.TheVariants as shuts
-use Rattle.relay_model.specs.declared.acts.Act.{Act}
 use Rattle.relay_model.specs.declared.acts.Act.TheVariants.{Turn, Opened, OpenLater, OpenFailed, Listening, ListenFailed, Accepted, NoPeer, AcceptFailed, Read, ReadEmpty, ReadEnd, ReadNotYet, ReadFault, Wrote, WriteNotYet, WriteFault, Shut, ShutFault, Closed, Reaped, Note, NoteFault}
-use Rattle.relay_model.specs.History.{now}
-use Rattle.relay_model.specs.Dumps.{newline}
-use Rattle.place_report.specs.Shown.{shown, said}
+use Rattle.place_report.specs.{shown, said}
 use Rattle.journal_table.specs.Cells.{to_right, moment_text, peer_text, child_text, why_text}
 use Rattle.journal_table.specs.Tables.{side_words}
 

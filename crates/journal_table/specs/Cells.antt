@@ -3,13 +3,11 @@ use Rattle.std.specs.Prelude.{ℕ, zero, suc, ◌-◌, ◌/◌, ◌%◌, List, [
 use Rattle.std.specs.Fmt.{signed_decimal}
 use Rattle.std.specs.Net.Addr.{segments_of}
 use Rattle.std.specs.Net.Text.{ipv4_text, ipv6_text}
-use Rattle.relay_model.specs.declared.acts.Peer.{Peer}
+use Rattle.relay_model.specs.{Peer, ChildEnd, Why}
 use Rattle.relay_model.specs.declared.acts.Peer.TheVariants as peers
-use Rattle.relay_model.specs.declared.acts.ChildEnd.{ChildEnd}
 use Rattle.relay_model.specs.declared.acts.ChildEnd.TheVariants as ends
-use Rattle.relay_model.specs.declared.acts.Why.{Why}
 use Rattle.relay_model.specs.declared.acts.Why.TheVariants as whys
-use Rattle.place_report.specs.Shown.{shown, said}
+use Rattle.place_report.specs.{shown, said}
 use Rattle.journal_table.specs.declared.rows.WayEnding.{WayEnding}
 use Rattle.journal_table.specs.declared.rows.WayEnding.TheVariants as endings
 

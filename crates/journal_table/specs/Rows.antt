@@ -1,14 +1,8 @@
 -- The row of a session in a table: when it began and ended, what passed each way, and how each way ended.
 use Rattle.std.specs.Prelude.{◌≡◌, ℕ, ◌-◌, Bool, ◌||◌, nat_lt, List, length, Option, Some, None, is_some, unwrap_or, if◌then◌else◌}
-use Rattle.relay_model.specs.declared.places.Way.{Way}
+use Rattle.relay_model.specs.{Way, Config, Act, input, output, formed, now, got, put, read_fault_at, write_fault_at, numbers, moved_at, passed}
+use Rattle.relay_model.specs.{closed_why}
 use Rattle.relay_model.specs.declared.places.Way.TheVariants.{LeftToRight, RightToLeft}
-use Rattle.relay_model.specs.declared.commands.Config.{Config}
-use Rattle.relay_model.specs.declared.acts.Act.{Act}
-use Rattle.relay_model.specs.Configs.{input, output, formed}
-use Rattle.relay_model.specs.History.{now, got, put, read_fault_at, write_fault_at}
-use Rattle.relay_model.specs.Sessions.{numbers}
-use Rattle.relay_model.specs.Moments.{moved_at, passed}
-use Rattle.relay_model.specs.Cause.{closed_why}
 use Rattle.journal_table.specs.declared.rows.WayEnding.{WayEnding}
 use Rattle.journal_table.specs.declared.rows.WayEnding.TheVariants.{Open, Passed, Failed, Cut}
 use Rattle.journal_table.specs.declared.rows.WayTraffic.{WayTraffic}

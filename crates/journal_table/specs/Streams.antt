@@ -1,13 +1,7 @@
 -- How a dump shows what was read at a place.
 use Rattle.std.specs.Prelude.{◌≡◌, ℕ, ◌-◌, ◌^◌, min, List, [], ◌∷◌, ◌++◌, length, if◌then◌else◌}
-use Rattle.relay_model.specs.declared.places.Place.{Place}
-use Rattle.relay_model.specs.declared.places.Way.{Way}
-use Rattle.relay_model.specs.declared.commands.Dump.{Dump}
-use Rattle.relay_model.specs.declared.acts.Act.{Act}
+use Rattle.relay_model.specs.{Place, Way, Dump, Act, same_place, dump_of, got}
 use Rattle.relay_model.specs.declared.acts.Act.TheVariants.{Read}
-use Rattle.relay_model.specs.Places.{same_place}
-use Rattle.relay_model.specs.Dumps.{dump_of}
-use Rattle.relay_model.specs.History.{got}
 use Rattle.journal_table.specs.declared.streams.Dumping.{Dumping}
 
 -- the text, with a further piece of so many bytes behind it; a piece without bytes shows nothing

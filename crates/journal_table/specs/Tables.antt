@@ -1,20 +1,10 @@
 -- The table: a row for each session that has begun, and the outcome.
 use Rattle.std.specs.Prelude.{◌≡◌, ℕ, zero, suc, is_some, nat_lt, List, [], ◌∷◌, ◌++◌, codes, decimal, Option, Some, None}
-use Rattle.relay_model.specs.declared.places.Side.{Side}
+use Rattle.relay_model.specs.{Side, Half, Place, Config, Why, Act, places, numbers, outcome, RunOutcome, newline}
 use Rattle.relay_model.specs.declared.places.Side.TheVariants.{Left, Right}
-use Rattle.relay_model.specs.declared.places.Half.{Half}
 use Rattle.relay_model.specs.declared.places.Half.TheVariants.{ToRead, ToWrite}
-use Rattle.relay_model.specs.declared.places.Place.{Place}
-use Rattle.relay_model.specs.declared.commands.Config.{Config}
-use Rattle.relay_model.specs.declared.acts.Why.{Why}
-use Rattle.relay_model.specs.declared.acts.Act.{Act}
-use Rattle.relay_model.specs.Configs.{places}
-use Rattle.relay_model.specs.Sessions.{numbers}
-use Rattle.relay_model.specs.Outcome.{outcome}
-use Rattle.relay_model.specs.declared.outcomes.RunOutcome.{RunOutcome}
 use Rattle.relay_model.specs.declared.outcomes.RunOutcome.TheVariants as outcomes
-use Rattle.relay_model.specs.Dumps.{newline}
-use Rattle.place_report.specs.Shown.{shown, said}
+use Rattle.place_report.specs.{shown, said}
 use Rattle.journal_table.specs.declared.rows.WayTraffic.{WayTraffic}
 use Rattle.journal_table.specs.declared.rows.SessionRow.{SessionRow}
 use Rattle.journal_table.specs.Visits.{met_at, child_at, began_at}

@@ -1,13 +1,7 @@
 -- What the tables that are kept up with each act say of the acts before.
 use Rattle.std.specs.Prelude.{◌≡◌, ℕ, List, Option}
-use Rattle.relay_model.specs.declared.places.Place.{Place}
-use Rattle.relay_model.specs.declared.commands.Config.{Config}
-use Rattle.relay_model.specs.declared.acts.Peer.{Peer}
-use Rattle.relay_model.specs.declared.acts.ChildEnd.{ChildEnd}
-use Rattle.relay_model.specs.declared.acts.Act.{Act}
-use Rattle.history_facts.specs.declared.placed.Placed.{Placed}
-use Rattle.history_facts.specs.declared.numbered.Numbered.{Numbered}
-use Rattle.history_facts.specs.Tables.{numbered, placed}
+use Rattle.relay_model.specs.{Place, Config, Peer, ChildEnd, Act}
+use Rattle.history_facts.specs.{Placed, Numbered, numbered, placed}
 use Rattle.journal_table.specs.declared.visits.Visits.{Visits}
 use Rattle.journal_table.specs.Visits.{met_at, child_at, admitted_at, closed_at}
 

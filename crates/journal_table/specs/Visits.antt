@@ -1,15 +1,7 @@
 -- What a list of acts says of the visits of peers and of their sessions. Lists of acts stand newest first.
 use Rattle.std.specs.Prelude.{ℕ, ◌&&◌, ◌==◌, List, [], ◌∷◌, Option, Some, None, if◌then◌else◌}
-use Rattle.relay_model.specs.declared.places.Place.{Place}
-use Rattle.relay_model.specs.declared.commands.Config.{Config}
-use Rattle.relay_model.specs.declared.acts.Peer.{Peer}
-use Rattle.relay_model.specs.declared.acts.ChildEnd.{ChildEnd}
-use Rattle.relay_model.specs.declared.acts.Act.{Act}
+use Rattle.relay_model.specs.{Place, Config, Peer, ChildEnd, Act, same_place, has_fork, is_of, now, permits, is_admission, admitted, holds}
 use Rattle.relay_model.specs.declared.acts.Act.TheVariants.{Accepted, Closed, Reaped}
-use Rattle.relay_model.specs.Places.{same_place}
-use Rattle.relay_model.specs.Configs.{has_fork, is_of}
-use Rattle.relay_model.specs.History.{now}
-use Rattle.relay_model.specs.Sessions.{permits, is_admission, admitted, holds}
 
 -- the last permitted peer that came to a place
 abbrev pub met_at : Config → List Act → Place → Option Peer

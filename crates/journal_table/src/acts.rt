@@ -1,10 +1,8 @@
 // The acts of a run in plain words, a line each, with the moment of each.
 ghost use Rattle.std.specs.Prelude.{◌≡◌, ◌++◌, ◌∷◌, List, Some, string_bytes, decimal, codes, length, IfOk, OnOk};
-ghost use Rattle.relay_model.specs.declared.acts.Act.{Act};
-ghost use Rattle.relay_model.specs.Dumps.{newline};
-ghost use Rattle.relay_model.specs.History.{now};
-ghost use Rattle.history_facts.specs.Pasts.{acts};
-ghost use Rattle.place_report.specs.Shown.{shown};
+ghost use Rattle.relay_model.specs.{Act, newline, now};
+ghost use Rattle.history_facts.specs.{acts};
+ghost use Rattle.place_report.specs.{shown};
 ghost use Rattle.journal_table.specs.Cells.{to_right, moment_text};
 ghost use Rattle.journal_table.specs.Acts.{part_text, door_text, place_of, address_text, subject, verb, shut_text, turn_detail, detail, act_line, acts_text};
 

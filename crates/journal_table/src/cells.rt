@@ -1,7 +1,7 @@
 // Cells of a table: moments, peers, children and reasons in a few words, and blanks beside them.
 ghost use Rattle.std.specs.Prelude.{◌≡◌, ◌++◌, ◌-◌, string_bytes, decimal, IfOk, OnOk};
 ghost use Rattle.std.specs.Net.Text.{ipv4_text};
-ghost use Rattle.place_report.specs.Shown.{shown};
+ghost use Rattle.place_report.specs.{shown};
 ghost use Rattle.journal_table.specs.Cells.{blanks, to_left, to_right, seconds, moment_text, peer_text, peer_cell, child_text, child_cell, why_text, ending_text, beside};
 
 use crate::rows::WayEnding;

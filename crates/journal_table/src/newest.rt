@@ -1,6 +1,6 @@
 // The acts of a journal as a slice, the newest first.
 ghost use Rattle.std.specs.Prelude.{◌≡◌, IfOk};
-ghost use Rattle.history_facts.specs.Pasts.{acts};
+ghost use Rattle.history_facts.specs.{acts};
 
 use relay_model::{Act, Journal, NoMemory};
 use std::alloc::Global;

@@ -1,11 +1,7 @@
 // A run at a glance: what its acts say of each session.
 ghost use Rattle.std.specs.Prelude.{◌≡◌, ◌∷◌, ◌<◌, ◌≤◌, ◌^◌, [], length, option_map, IfOk};
-ghost use Rattle.history_facts.specs.Pasts.{acts};
-ghost use Rattle.relay_model.specs.History.{now, put, got};
-ghost use Rattle.relay_model.specs.Sessions.{admitted, numbers};
-ghost use Rattle.relay_model.specs.Moments.{moved_at};
-ghost use Rattle.relay_model.specs.Cause.{closed_why};
-ghost use Rattle.relay_model.specs.Outcome.{outcome};
+ghost use Rattle.history_facts.specs.{acts};
+ghost use Rattle.relay_model.specs.{now, put, got, admitted, numbers, moved_at, closed_why, outcome};
 ghost use Rattle.journal_table.specs.Visits.{met_at, child_at, began_at, ended_at};
 
 use crate::visits::Visits;
@@ -26,7 +22,7 @@ pub struct Overview<'a> {
 
 impl<'a> Model for Overview<'a> {
     ghost use Rattle.std.specs.Prelude.{◌<◌, ◌^◌, length};
-    ghost use Rattle.history_facts.specs.Pasts.{Chronicle};
+    ghost use Rattle.history_facts.specs.{Chronicle};
     ghost use Rattle.journal_table.specs.Told.{VisitsTold};
 
     ghost Value = { Chronicle };

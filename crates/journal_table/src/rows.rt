@@ -1,6 +1,6 @@
 // A session as a row of a table: when it began and ended, what passed each way, and how each way ended.
 ghost use Rattle.std.specs.Prelude.{◌≡◌};
-ghost use Rattle.relay_model.specs.Moments.{passed};
+ghost use Rattle.relay_model.specs.{passed};
 ghost use Rattle.journal_table.specs.Rows.{failed, ending_of, passage_of, idle_of, row_of};
 
 use crate::overviews::Overview;
@@ -11,7 +11,7 @@ use history_facts::{
 use relay_model::{Way, Why};
 
 /// How far a direction of a session came.
-#[derive(Clone, Copy, Debug, PartialEq, Eq)]
+#[derive(Clone, Copy)]
 pub enum WayEnding {
     /// It goes on.
     Open,
@@ -24,7 +24,7 @@ pub enum WayEnding {
 }
 
 /// What went through a direction: the bytes that were read and those that were written.
-#[derive(Clone, Copy, Debug, PartialEq, Eq)]
+#[derive(Clone, Copy)]
 pub struct WayTraffic {
     pub read: usize,
     pub written: usize,
@@ -33,7 +33,7 @@ pub struct WayTraffic {
 
 /// A session: its number, the moments at which it began and ended, and how long nothing had moved then. A direction
 /// that the command doesn't form has no passage.
-#[derive(Clone, Copy, Debug, PartialEq, Eq)]
+#[derive(Clone, Copy)]
 pub struct SessionRow {
     pub session: u32,
     pub began: Option<u64>,

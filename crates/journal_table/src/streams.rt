@@ -1,8 +1,7 @@
 // The bytes that were read or written at a place, and how a dump would have shown those that were read.
 ghost use Rattle.std.specs.Prelude.{◌≡◌, ◌≢◌, ◌∷◌, ◌+◌, ◌<◌, ◌^◌, ◌-◌, List, length, min, IfOk, OnOk};
-ghost use Rattle.relay_model.specs.declared.acts.Act.{Act};
-ghost use Rattle.relay_model.specs.History.{got, put};
-ghost use Rattle.history_facts.specs.Pasts.{acts};
+ghost use Rattle.relay_model.specs.{Act, got, put};
+ghost use Rattle.history_facts.specs.{acts};
 ghost use Rattle.journal_table.specs.Streams.{shown_piece, dumped, DumpedSoFar};
 
 use dump_format::push_dump;

@@ -1,8 +1,7 @@
 // The table: a row for each session that has begun, and the outcome.
 ghost use Rattle.std.specs.Prelude.{◌≡◌, ◌++◌, ◌<◌, [], None, Some, decimal, string_bytes, length, option_map, IfOk, OnOk};
-ghost use Rattle.place_report.specs.Shown.{shown};
-ghost use Rattle.relay_model.specs.Configs.{places};
-ghost use Rattle.relay_model.specs.Dumps.{newline};
+ghost use Rattle.place_report.specs.{shown};
+ghost use Rattle.relay_model.specs.{places, newline};
 ghost use Rattle.journal_table.specs.Cells.{to_left, to_right, ending_text};
 ghost use Rattle.journal_table.specs.Tables.{peers_beside, peers_cell, children_beside, children_cell, visit_cells, passage_cells, why_cell, row_line, session_line, heading, rows_below, side_words, half_words, outcome_words, outcome_line, TableTold};
 

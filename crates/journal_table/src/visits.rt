@@ -1,14 +1,8 @@
 // Who came to a session, when it began, when something of it was closed last, and what became of its children, kept up
 // with each act.
 ghost use Rattle.std.specs.Prelude.{◌≡◌, ◌∷◌, ◌&&◌, ◌==◌, ℕ, Some, List, [], if◌then◌else◌, OnOk};
-ghost use Rattle.relay_model.specs.declared.commands.Config.{Config};
-ghost use Rattle.relay_model.specs.declared.acts.Act.{Act};
-ghost use Rattle.relay_model.specs.declared.places.Place.{Place};
-ghost use Rattle.relay_model.specs.Places.{same_place};
-ghost use Rattle.relay_model.specs.Configs.{is_of};
-ghost use Rattle.relay_model.specs.History.{now};
-ghost use Rattle.relay_model.specs.Sessions.{permits, is_admission, admitted};
-ghost use Rattle.history_facts.specs.Tables.{numbered, placed};
+ghost use Rattle.relay_model.specs.{Config, Act, Place, same_place, is_of, now, permits, is_admission, admitted};
+ghost use Rattle.history_facts.specs.{numbered, placed};
 ghost use Rattle.journal_table.specs.Told.{MetTold, ChildrenTold, BeginningsTold, ClosingsTold, VisitsTold};
 
 use command_places::{has_fork, is_left, is_of};

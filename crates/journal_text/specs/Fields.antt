@@ -3,22 +3,13 @@ use Rattle.std.specs.Prelude.{ℕ, Bool, true, false, List, [], ◌∷◌, ◌++
 use Rattle.std.specs.Fmt.{decimal, signed_decimal}
 use Rattle.std.specs.List.{flat_map, join_with_byte}
 use Rattle.std.specs.Str.{byte}
-use Rattle.relay_model.specs.Dumps.{hex_byte}
-use Rattle.relay_model.specs.declared.places.Side.{Side}
+use Rattle.relay_model.specs.{hex_byte, Side, Part, Half, Place, ReadyAt, Peer, Shut, Why, ChildEnd}
 use Rattle.relay_model.specs.declared.places.Side.TheVariants.{Left, Right}
-use Rattle.relay_model.specs.declared.places.Part.{Part}
 use Rattle.relay_model.specs.declared.places.Part.TheVariants.{Both, Reading, Writing}
-use Rattle.relay_model.specs.declared.places.Half.{Half}
 use Rattle.relay_model.specs.declared.places.Half.TheVariants.{ToRead, ToWrite}
-use Rattle.relay_model.specs.declared.places.Place.{Place}
-use Rattle.relay_model.specs.declared.readiness.ReadyAt.{ReadyAt}
-use Rattle.relay_model.specs.declared.acts.Peer.{Peer}
 use Rattle.relay_model.specs.declared.acts.Peer.TheVariants.{V4, V6, Local}
-use Rattle.relay_model.specs.declared.acts.Shut.{Shut}
 use Rattle.relay_model.specs.declared.acts.Shut.TheVariants.{Nothing, Down, Close, Null}
-use Rattle.relay_model.specs.declared.acts.Why.{Why}
 use Rattle.relay_model.specs.declared.acts.Why.TheVariants as reason
-use Rattle.relay_model.specs.declared.acts.ChildEnd.{ChildEnd}
 use Rattle.relay_model.specs.declared.acts.ChildEnd.TheVariants.{Running, Ended, Killed}
 
 -- the letter of a side

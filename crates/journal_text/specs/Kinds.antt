@@ -2,7 +2,7 @@
 use Rattle.std.specs.Prelude.{ℕ, List, drop}
 use Rattle.std.specs.List.{join_with_byte}
 use Rattle.std.specs.Str.{byte}
-use Rattle.relay_model.specs.declared.acts.Act.{Act}
+use Rattle.relay_model.specs.{Act}
 use Rattle.relay_model.specs.declared.acts.Act.TheVariants as act
 use Rattle.journal_text.specs.declared.kinds.ActKind.{ActKind}
 use Rattle.journal_text.specs.declared.kinds.ActKind.TheVariants as kind

@@ -5,3 +5,6 @@ pub mod Ranges
 pub mod Reading
 pub mod Sources
 pub mod Texts
+pub use Ranges.{IsAct}
+pub use Sources.{longest_text}
+pub use Texts.{IsFirstBadLine, IsTextOf, kept}

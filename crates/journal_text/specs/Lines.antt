@@ -3,8 +3,7 @@ use Rattle.std.specs.Prelude.{ℕ, List, [], ◌∷◌, ◌++◌, codes}
 use Rattle.std.specs.Fmt.{decimal}
 use Rattle.std.specs.List.{join_with_byte}
 use Rattle.std.specs.Str.{byte}
-use Rattle.relay_model.specs.Dumps.{newline}
-use Rattle.relay_model.specs.declared.acts.Act.{Act}
+use Rattle.relay_model.specs.{newline, Act}
 use Rattle.relay_model.specs.declared.acts.Act.TheVariants as act
 use Rattle.journal_text.specs.Fields.{flag_text, optional_text, place_text, ready_text, bytes_text, peer_text, shut_text, why_text, child_text}
 

@@ -4,23 +4,14 @@ use Rattle.std.specs.Prelude.{◌≡◌, ℕ, ◌+◌, ◌-◌, ◌*◌, ◌^◌
 use Rattle.std.specs.List.{slice_split}
 use Rattle.std.specs.Str.{byte, bytes_eq, all_ascii_digits}
 use Rattle.std.specs.Str.Parse.{digits_value}
-use Rattle.relay_model.specs.declared.places.Side.{Side}
+use Rattle.relay_model.specs.{Side, Part, Half, Place, ReadyAt, Peer, Shut, Why, ChildEnd, Act}
 use Rattle.relay_model.specs.declared.places.Side.TheVariants.{Left, Right}
-use Rattle.relay_model.specs.declared.places.Part.{Part}
 use Rattle.relay_model.specs.declared.places.Part.TheVariants.{Both, Reading, Writing}
-use Rattle.relay_model.specs.declared.places.Half.{Half}
 use Rattle.relay_model.specs.declared.places.Half.TheVariants.{ToRead, ToWrite}
-use Rattle.relay_model.specs.declared.places.Place.{Place}
-use Rattle.relay_model.specs.declared.readiness.ReadyAt.{ReadyAt}
-use Rattle.relay_model.specs.declared.acts.Peer.{Peer}
 use Rattle.relay_model.specs.declared.acts.Peer.TheVariants.{V4, V6, Local}
-use Rattle.relay_model.specs.declared.acts.Shut.{Shut}
 use Rattle.relay_model.specs.declared.acts.Shut.TheVariants.{Nothing, Down, Close, Null}
-use Rattle.relay_model.specs.declared.acts.Why.{Why}
 use Rattle.relay_model.specs.declared.acts.Why.TheVariants as reason
-use Rattle.relay_model.specs.declared.acts.ChildEnd.{ChildEnd}
 use Rattle.relay_model.specs.declared.acts.ChildEnd.TheVariants.{Running, Ended, Killed}
-use Rattle.relay_model.specs.declared.acts.Act.{Act}
 use Rattle.relay_model.specs.declared.acts.Act.TheVariants as act
 use Rattle.journal_text.specs.declared.faults.LineFault.{LineFault}
 use Rattle.journal_text.specs.declared.faults.LineFault.TheVariants as fault

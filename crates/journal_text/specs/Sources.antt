@@ -1,8 +1,7 @@
 -- When a text was read to its end.
 use Rattle.std.specs.Prelude.{◌≡◌, ℕ, ◌≤◌, List, [], length, Option, IfSome}
-use Rattle.port_trait.specs.Counting.{Rose}
+use Rattle.port_trait.specs.{Rose, Loses}
 use Rattle.std.specs.Io.KnownBytes.{Consumes, IsAtEnd}
-use Rattle.port_trait.specs.Streams.{Loses}
 use Rattle.journal_text.specs.declared.sources.Unread.{Unread}
 use Rattle.journal_text.specs.declared.sources.Unread.TheVariants.{Memory, Failed}
 

@@ -1,9 +1,7 @@
 -- What a text is: that of a list of acts, or one with a line that no act spells. Lists of acts stand newest first.
 use Rattle.std.specs.Prelude.{◌≡◌, ◌≢◌, ℕ, ◌+◌, List, [], ◌++◌, length, map, Result, Ok, Err}
 use Rattle.std.specs.List.{AllByRecursion}
-use Rattle.relay_model.specs.declared.acts.Act.{Act}
-use Rattle.relay_model.specs.Acts.{copied_act}
-use Rattle.relay_model.specs.Journals.{Story}
+use Rattle.relay_model.specs.{Act, copied_act, Story}
 use Rattle.journal_text.specs.Lines.{line_of, spelt}
 use Rattle.journal_text.specs.Ranges.{IsAct}
 use Rattle.journal_text.specs.declared.faults.JournalFault.{JournalFault}

@@ -7,7 +7,7 @@ use relay_model::NoMemory;
 use std::alloc::AllocFailed;
 
 /// What keeps a text from being read.
-#[derive(Clone, Copy, Debug, PartialEq, Eq)]
+#[derive(Clone, Copy)]
 pub enum JournalFault {
     /// The first line, counted from 1, that no act spells. A last line without its newline is one.
     Line { number: u64 },
@@ -24,7 +24,7 @@ impl From<NoMemory> for JournalFault {
 }
 
 /// What keeps a line from being read.
-#[derive(Clone, Copy, Debug, PartialEq, Eq)]
+#[derive(Clone, Copy)]
 pub(crate) enum LineFault {
     /// No act is spelt so.
     NoAct,

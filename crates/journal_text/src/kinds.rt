@@ -6,7 +6,7 @@ ghost use Rattle.journal_text.specs.Kinds.{kind_of};
 use relay_model::Act;
 
 /// What an act tells of, without its fields.
-#[derive(Clone, Copy, Debug, PartialEq, Eq)]
+#[derive(Clone, Copy)]
 pub(crate) enum ActKind {
     Turn,
     Opened,

@@ -1,7 +1,7 @@
 // What the spelling of journals says by itself.
 ghost use Rattle.std.specs.Prelude.{◌≡◌, ℕ, List};
 ghost use Rattle.std.specs.List.{AllByRecursion};
-ghost use Rattle.relay_model.specs.declared.acts.Act.{Act};
+ghost use Rattle.relay_model.specs.{Act};
 ghost use Rattle.journal_text.specs.Lines.{spelt};
 ghost use Rattle.journal_text.specs.Ranges.{IsAct};
 ghost use Rattle.journal_text.specs.Texts.{IsTextOf, IsFirstBadLine, kept};

@@ -1,6 +1,6 @@
 // A journal that is read from its text.
 ghost use Rattle.std.specs.Prelude.{ℕ, List, IfOk, IfErr, ◌≡◌};
-ghost use Rattle.relay_model.specs.declared.acts.Act.{Act};
+ghost use Rattle.relay_model.specs.{Act};
 ghost use Rattle.journal_text.specs.Texts.{IsTextOf, IsFirstBadLine, IsFaultOf, IsActsOrMemory, IsLineOrMemory, kept};
 
 use crate::faults::{JournalFault, LineFault};

@@ -13,7 +13,7 @@ pub const LONGEST_TEXT: usize = 16_777_216;
 const CHUNK: usize = 16_384;
 
 /// Why a text isn't read.
-#[derive(Clone, Copy, Debug, PartialEq, Eq)]
+#[derive(Clone, Copy, PartialEq, Eq)]
 pub enum Unread {
     Memory,
     Failed,

@@ -3,7 +3,7 @@ ghost use Rattle.std.specs.Prelude.{◌≡◌, ◌<◌, ◌≤◌, ◌++◌, ◌
 ghost use Rattle.std.specs.Fmt.{decimal, signed_decimal};
 ghost use Rattle.std.specs.List.{join_with_byte, flat_map};
 ghost use Rattle.std.specs.Str.{byte};
-ghost use Rattle.relay_model.specs.Dumps.{hex_digit, hex_byte};
+ghost use Rattle.relay_model.specs.{hex_digit, hex_byte};
 ghost use Rattle.journal_text.specs.Fields.{optional_text, side_letter, part_letter, door_letter, half_letter, flag_text, place_text, entry_text, ready_text, digits_text, bytes_text, peer_text, child_text};
 ghost use Rattle.journal_text.specs.Kinds.{fields_of};
 ghost use Rattle.journal_text.specs.Lines.{line_of};

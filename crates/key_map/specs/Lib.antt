@@ -1,1 +1,2 @@
 pub mod Entries
+pub use Entries.{Keyed, keyed_code}

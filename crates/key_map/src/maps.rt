@@ -7,7 +7,7 @@ use relay_model::NoMemory;
 use std::alloc::Global;
 use std::marker::Model;
 
-#[derive(Debug, Drop)]
+#[derive(Drop)]
 pub struct KeyMap {
     pairs: Vec<(u32, usize)>,
 }

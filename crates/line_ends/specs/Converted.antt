@@ -1,6 +1,6 @@
 -- Both conversions of a direction, one after the other, and where they change something.
 use Rattle.std.specs.Prelude.{◌≡◌, ◌⊎◌, ℕ, ◌<◌, List, length, take, slice_index, Option, None, Some}
-use Rattle.relay_model.specs.Conversions.{read_converted, write_converted}
+use Rattle.relay_model.specs.{read_converted, write_converted}
 use Rattle.line_ends.specs.declared.Convs.{Convs}
 
 -- bytes as they were read, converted for reading and then for writing

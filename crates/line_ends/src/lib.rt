@@ -13,7 +13,7 @@ const CARRIAGE_RETURN: u8 = b'\r';
 const NEWLINE: u8 = b'\n';
 
 /// How one direction converts line ends: as the source is read, and then as the sink is written.
-#[derive(Clone, Copy, Debug, PartialEq, Eq)]
+#[derive(Clone, Copy, PartialEq, Eq)]
 pub struct Convs {
     pub read: Conv,
     pub write: Conv,

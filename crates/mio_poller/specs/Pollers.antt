@@ -5,10 +5,10 @@ use Rattle.std.specs.Duration.{as_nanos}
 use Rattle.std.specs.declared.time.Duration.{Duration}
 use Rattle.std.specs.declared.io.Error.{Error}
 use Rattle.mio.specs.declared.event.event.Event.{Event}
-use Rattle.port_trait.specs.declared.makers.Making.{Making}
+use Rattle.port_trait.specs.{Making}
 use Rattle.port_trait.specs.declared.makers.Making.TheVariants as makings
 use Rattle.mio.specs.Event.{event_token, is_readable, is_writable, is_error, is_read_closed, is_write_closed}
-use Rattle.relay_model.specs.declared.places.Half.{Half}
+use Rattle.relay_model.specs.{Half}
 use Rattle.relay_model.specs.declared.places.Half.TheVariants as halves
 
 -- the system that it waits with, the moment of its last poll, and the one until which it was asked to wait at most

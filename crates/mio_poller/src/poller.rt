@@ -1,7 +1,7 @@
 // The poller over the system's readiness, and what wakes it.
 ghost use Rattle.std.specs.Prelude.{◌≡◌, ◌≤◌, ◌-◌, ◌*◌, ◌/◌, ◌^◌, ◌<◌, ◌++◌, ◌∷◌, [], length, min, false, Some, None, option_map, IfOk};
 ghost use Rattle.std.specs.Duration.{as_nanos};
-ghost use Rattle.port_trait.specs.Made.{IsAtOnce};
+ghost use Rattle.port_trait.specs.{IsAtOnce};
 ghost use Rattle.mio_poller.specs.Pollers.{named, event_keys, watch_key, later_moment, IfMade, IsMoment, WaitsOnce};
 
 use crate::reserved::WAKE;

@@ -2,11 +2,9 @@
 use Rattle.std.specs.Prelude.{ℕ, ◌*◌, ◌-◌, ◌^◌, min, Bool, not, ◌==◌, List, [], ◌∷◌, length, drop, map, slice_index, bit_and, Option, Some, None, if◌then◌else◌}
 use Rattle.std.specs.List.{range_with_len, list_any}
 use Rattle.std.specs.Str.{byte}
-use Rattle.relay_model.specs.declared.acts.Peer.{Peer}
+use Rattle.relay_model.specs.{Peer, Range, Bind}
 use Rattle.relay_model.specs.declared.acts.Peer.TheVariants as peer
-use Rattle.relay_model.specs.declared.commands.Range.{Range}
 use Rattle.relay_model.specs.declared.commands.Range.TheVariants as network
-use Rattle.relay_model.specs.declared.commands.Bind.{Bind}
 use Rattle.option_table.specs.Parts.{◌>>=◌, only_if, or_else, around_first, in_brackets}
 use Rattle.option_table.specs.Numbers.{short_number}
 use Rattle.option_table.specs.Literals.{ipv4_of, ipv6_of}

@@ -66,7 +66,7 @@ pub enum Phase {
 }
 
 /// How an option's value is written. The bounds of a number are both allowed.
-#[derive(Clone, Copy, Debug, PartialEq, Eq)]
+#[derive(Clone, Copy, Debug)]
 pub enum Form {
     Bool,
     Number { least: u64, greatest: u64 },
@@ -78,7 +78,7 @@ pub enum Form {
 }
 
 /// What is known of an option besides its name.
-#[derive(Clone, Copy, Debug, PartialEq, Eq)]
+#[derive(Clone, Copy)]
 pub struct OptionRow {
     pub id: OptionId,
     pub group: Group,
@@ -87,7 +87,7 @@ pub struct OptionRow {
 }
 
 /// What an option's name stands for. `LeftOut` is an option of socat(1) that this relay doesn't offer.
-#[derive(Clone, Copy, Debug, PartialEq, Eq)]
+#[derive(Clone, Copy)]
 pub enum Lookup {
     Known(OptionRow),
     LeftOut,

@@ -9,7 +9,7 @@ use relay_model::{Bind, Range};
 
 /// What the value of an option says. `Time` is in milliseconds. `Text` holds no bytes: the value's own bytes
 /// are the text.
-#[derive(Clone, Copy, Debug, PartialEq, Eq)]
+#[derive(Clone, Copy)]
 pub enum Value {
     Bool(bool),
     Number(u64),

@@ -14,7 +14,10 @@ pub(crate) fn ask(alloc: Global, inputs: &mut Inputs<'_>, answers: &mut Answers)
     one_address();
     options_begin();
     match parse_address(alloc, text.as_slice()) {
-        Ok(address) => say_address(&address, answers),
+        Ok(address) => {
+            say_address(&address, answers);
+            drop(address);
+        }
         Err(GrammarFault::Memory) => return Err(CaseFault::NoMemory),
         Err(fault) => {
             let line = format!(in alloc; "{fault}")?;
@@ -34,8 +37,9 @@ pub(crate) fn ask_printed(
     let Ok(address) = parse_address(alloc, text.as_slice()) else {
         return Err(CaseFault::NoRow);
     };
-    let printed = print_address(alloc, &address)?;
-    answers.bytes(printed.as_slice());
+    let printed = print_address(alloc, &address);
+    drop(address);
+    answers.bytes(printed?.as_slice());
     Ok(())
 }
 

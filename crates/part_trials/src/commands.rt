@@ -13,6 +13,7 @@ pub(crate) fn ask(alloc: Global, inputs: &mut Inputs<'_>, answers: &mut Answers)
     match command_of(alloc, words.as_slice()) {
         Ok(command) => {
             say_command(&command, answers);
+            drop(command);
             Ok(())
         }
         Err(CommandFault::Refused(refused)) => tell_refused(alloc, refused, answers),
@@ -24,7 +25,10 @@ pub(crate) fn ask(alloc: Global, inputs: &mut Inputs<'_>, answers: &mut Answers)
 pub(crate) fn ask_fault(alloc: Global, inputs: &mut Inputs<'_>, answers: &mut Answers) -> Answered {
     let words = inputs.texts(alloc)?;
     match command_of(alloc, words.as_slice()) {
-        Ok(_) => answers.word("none"),
+        Ok(command) => {
+            drop(command);
+            answers.word("none");
+        }
         Err(fault) => {
             let line = format!(in alloc; "{fault}")?;
             answers.word(line.as_str());

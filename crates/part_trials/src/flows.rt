@@ -1,7 +1,7 @@
 // A flow that is filled and taken from step by step. First its lane: the block, how it is read and written, the number
 // of bytes that may be read and the escape byte, each a number or `-`, and `stream` or `packets`.
 ghost use Rattle.std.specs.Prelude.{◌≡◌, ◌≤◌, length, vec_len, IfOk, IfSome};
-ghost use Rattle.relay_model.specs.Conversions.{packet_cap};
+ghost use Rattle.relay_model.specs.{packet_cap};
 
 use crate::spellings::{CONVS, value_of};
 use case_rows::{Answered, Answers, CaseFault, Inputs, bytes_of, step_parts};
@@ -15,13 +15,9 @@ pub(crate) fn ask(alloc: Global, inputs: &mut Inputs<'_>, answers: &mut Answers)
     let flow = Flow::new(alloc, lane)?;
     let block = new_block(alloc, lane.block)?;
     let mut tried = Tried { lane, flow, block };
-    for _ in 0..u64::MAX {
-        let Some(step) = inputs.step() else {
-            break;
-        };
-        tried.make_step(alloc, step, answers)?;
-    }
-    Ok(())
+    let told = tried.make_steps(alloc, inputs, answers);
+    drop(tried);
+    told
 }
 
 /// A flow beside the lane that it was made with, and a block to fill it with.
@@ -77,6 +73,22 @@ fn longest_packet(word: &str, write: Conv) -> Result<Option<u32>, CaseFault>
 }
 
 impl Tried {
+    /// Makes all further steps.
+    fn make_steps(
+        &mut self,
+        alloc: Global,
+        inputs: &mut Inputs<'_>,
+        answers: &mut Answers,
+    ) -> Answered {
+        for _ in 0..u64::MAX {
+            let Some(step) = inputs.step() else {
+                break;
+            };
+            self.make_step(alloc, step, answers)?;
+        }
+        Ok(())
+    }
+
     fn make_step(&mut self, alloc: Global, step: &str, answers: &mut Answers) -> Answered {
         let (name, value) = step_parts(step);
         match name {

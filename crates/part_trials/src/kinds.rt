@@ -20,7 +20,10 @@ pub(crate) fn ask(alloc: Global, inputs: &mut Inputs<'_>, answers: &mut Answers)
         return Err(CaseFault::NoRow);
     };
     match resolve(alloc, &raw, asked, general) {
-        Ok(single) => say_single(&single, answers),
+        Ok(single) => {
+            say_single(&single, answers);
+            drop(single);
+        }
         Err(KindFault::Memory) => return Err(CaseFault::NoMemory),
         Err(fault) => {
             let line = format!(in alloc; "{fault}")?;

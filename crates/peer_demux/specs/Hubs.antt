@@ -1,6 +1,6 @@
 -- What contracts see of a socket and the table of its packets.
 use Rattle.std.specs.Prelude.{◌≡◌, ℕ, zero, suc, ◌≤◌, Bool, true, false, List, [], ◌∷◌, length, Option, Some, None}
-use Rattle.port_trait.specs.declared.answers.Got.{Got}
+use Rattle.port_trait.specs.{Got}
 use Rattle.port_trait.specs.declared.answers.Got.TheVariants as reads
 use Rattle.peer_demux.specs.declared.answers.Put.{Put}
 use Rattle.peer_demux.specs.declared.answers.Mode.{Mode}

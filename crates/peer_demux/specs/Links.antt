@@ -1,8 +1,7 @@
 -- What the calls of a socket do to what it gave and sent. A list that isn't told is None before and after.
 use Rattle.std.specs.Prelude.{◌≡◌, ℕ, ◌≤◌, Bool, true, false, List, [], ◌∷◌, ◌++◌, length, take, Option, option_map}
-use Rattle.relay_model.specs.Conversions.{longest_packet}
-use Rattle.relay_model.specs.declared.acts.Peer.{Peer}
-use Rattle.port_trait.specs.declared.answers.Took.{Took as WriteAnswer}
+use Rattle.relay_model.specs.{longest_packet, Peer}
+use Rattle.port_trait.specs.{Took as WriteAnswer}
 use Rattle.port_trait.specs.declared.answers.Took.TheVariants as writes
 use Rattle.peer_demux.specs.declared.links.Received.{Received}
 use Rattle.peer_demux.specs.declared.links.Received.TheVariants as gots

@@ -1,7 +1,7 @@
 -- What contracts see of a row: the packets of one sender that weren't given yet.
 use Rattle.std.specs.Prelude.{◌≡◌, ℕ, ◌+◌, ◌-◌, ◌<◌, ◌≤◌, nat_lt, nat_le, Bool, ◌||◌, List, [], ◌∷◌, length, take, drop, min, slice_index_or, Option, None, Some, if◌then◌else◌}
 use Rattle.std.specs.List.{sum_by}
-use Rattle.relay_model.specs.declared.acts.Peer.{Peer}
+use Rattle.relay_model.specs.{Peer}
 
 -- its number, its peer, the packets that it holds, and how many bytes of the first one were given
 pub record RowState : Type 0 where

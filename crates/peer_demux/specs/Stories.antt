@@ -1,7 +1,7 @@
 -- The calls of a table of senders one after another, and what they say of one row.
 use Rattle.std.specs.Prelude.{◌≡◌, ℕ, ◌==◌, ◌<◌, Bool, true, false, not, ◌||◌, ◌&&◌, List, [], ◌∷◌, ◌++◌, length, take, Option, None, Some, if◌then◌else◌}
 use Rattle.std.specs.List.{concat, list_any}
-use Rattle.relay_model.specs.declared.acts.Peer.{Peer}
+use Rattle.relay_model.specs.{Peer}
 use Rattle.peer_demux.specs.declared.answers.Mode.{Mode}
 use Rattle.peer_demux.specs.declared.answers.Mode.TheVariants as modes
 use Rattle.peer_demux.specs.declared.answers.Put.{Put}

@@ -1,7 +1,7 @@
 -- What contracts see of a table of peers, and what its calls do.
 use Rattle.std.specs.Prelude.{◌≡◌, ◌≢◌, ℕ, ◌+◌, ◌-◌, ◌^◌, ◌<◌, ◌≤◌, Bool, true, false, ◌==◌, ◌&&◌, ◌⊎◌, not, List, [], ◌∷◌, ◌++◌, length, set, take, min, slice_index_or, Option, None, Some, if◌then◌else◌}
 use Rattle.std.specs.List.{list_any, remove}
-use Rattle.relay_model.specs.declared.acts.Peer.{Peer}
+use Rattle.relay_model.specs.{Peer}
 use Rattle.relay_model.specs.declared.acts.Peer.TheVariants as peers
 use Rattle.peer_demux.specs.declared.answers.Mode.{Mode}
 use Rattle.peer_demux.specs.declared.answers.Mode.TheVariants as modes

@@ -1,14 +1,14 @@
 // What a table of peers answers.
 
 /// What becomes one row: all packets of a sender, or each packet by itself.
-#[derive(Clone, Copy, Debug, PartialEq)]
+#[derive(Clone, Copy, PartialEq)]
 pub enum Mode {
     ByPeer,
     ByPacket,
 }
 
 /// Why a packet was dropped.
-#[derive(Clone, Copy, Debug, PartialEq)]
+#[derive(Clone, Copy, PartialEq)]
 pub enum Lost {
     /// The row of its sender holds 64 packets, or its bytes and these exceed 65,536.
     RowFull { row: u32 },
@@ -20,7 +20,7 @@ pub enum Lost {
 }
 
 /// What became of a packet.
-#[derive(Clone, Copy, Debug, PartialEq)]
+#[derive(Clone, Copy, PartialEq)]
 pub enum Put {
     /// It is the first one of a new row.
     New { row: u32 },
@@ -30,7 +30,7 @@ pub enum Put {
 }
 
 /// What a row gave: bytes of its first packet, an empty packet, nothing for now, or the end behind its only packet.
-#[derive(Clone, Copy, Debug, PartialEq)]
+#[derive(Clone, Copy, PartialEq)]
 pub enum Taken {
     Bytes(usize),
     Empty,

@@ -1,6 +1,6 @@
 // One socket for the sessions of many peers.
 ghost use Rattle.std.specs.Prelude.{◌≡◌, ◌<◌, ◌≤◌, ◌↔◌, nat_lt, List, ℕ, length, true, false, IfOk, IsTrue, not};
-ghost use Rattle.relay_model.specs.Conversions.{longest_packet};
+ghost use Rattle.relay_model.specs.{longest_packet};
 ghost use Rattle.peer_demux.specs.Hubs.{AcceptsRow, Drains, ReadsRow, TakesPackets, TakesOne, accept_failed, fresh_hub, got_of, read_failed};
 ghost use Rattle.peer_demux.specs.Links.{Packet, Sends, has_failed, has_packet, has_stalled, send_failed, send_stalled};
 ghost use Rattle.peer_demux.specs.Tables.{HasNew, IsDropped, IsLive, IsNextCall, IsTrimmed, RowStands, TableState, risen_if, row_at};
@@ -17,7 +17,7 @@ use std::marker::Model;
 const MOST_TAKEN: usize = 64;
 
 /// What an accepting came to: a new row with its sender, none, or a fault of the socket.
-#[derive(Clone, Copy, Debug, PartialEq)]
+#[derive(Clone, Copy, PartialEq)]
 pub enum RowPeer {
     New { row: u32, from: Peer },
     NoPeer,
@@ -36,7 +36,7 @@ pub struct Hub<L> {
 
 impl<L> Model for Hub<L> {
     ghost use Rattle.std.specs.Prelude.{◌≡◌, vec_len};
-    ghost use Rattle.relay_model.specs.Conversions.{longest_packet};
+    ghost use Rattle.relay_model.specs.{longest_packet};
     ghost use Rattle.peer_demux.specs.Hubs.{HubState};
 
     ghost Value = { HubState L };

@@ -1,7 +1,6 @@
 // The socket whose packets are sorted.
 ghost use Rattle.std.specs.Prelude.{◌≡◌, ◌≤◌, ℕ, List, length, Option, None};
-ghost use Rattle.relay_model.specs.Conversions.{longest_packet};
-ghost use Rattle.relay_model.specs.declared.acts.Peer.{Peer};
+ghost use Rattle.relay_model.specs.{longest_packet, Peer};
 ghost use Rattle.peer_demux.specs.Links.{Receives, Sends, has_failed, has_stalled, has_packet, send_failed, send_stalled};
 ghost use Rattle.peer_demux.specs.Tables.{risen_if};
 
@@ -9,7 +8,7 @@ use port_trait::Took;
 use relay_model::Peer;
 
 /// What a receiving came to: a packet of this sender, which fills so many bytes of the buffer; none for now; a fault.
-#[derive(Clone, Copy, Debug, PartialEq)]
+#[derive(Clone, Copy, PartialEq)]
 pub enum Received {
     Packet { from: Peer, len: usize },
     NotYet,

@@ -1,6 +1,6 @@
 // A socket in memory.
 ghost use Rattle.std.specs.Prelude.{◌≡◌, ◌≤◌, ◌++◌, ◌∷◌, [], length, OnOk, OnErr, Some};
-ghost use Rattle.relay_model.specs.Conversions.{longest_packet};
+ghost use Rattle.relay_model.specs.{longest_packet};
 ghost use Rattle.peer_demux.specs.Links.{AllFit, IsFit, fresh_link, given_by, IsGiven};
 ghost use Rattle.port_trait.specs.declared.answers.Took.TheVariants as writes;
 

@@ -1,8 +1,7 @@
 // The rows of all senders.
 ghost use Rattle.std.specs.Prelude.{◌≡◌, ◌≢◌, ℕ, ◌<◌, ◌≤◌, ◌↔◌, ◌+◌, nat_lt, length, false, IfSome, IfNone, IsTrue, OnOk, OnErr};
 ghost use Rattle.std.specs.VecDeque.{deque_len, deque_capacity};
-ghost use Rattle.relay_model.specs.Conversions.{longest_packet};
-ghost use Rattle.relay_model.specs.declared.acts.Peer.{Peer};
+ghost use Rattle.relay_model.specs.{longest_packet, Peer};
 ghost use Rattle.peer_demux.specs.declared.answers.Mode.TheVariants as modes;
 ghost use Rattle.peer_demux.specs.declared.answers.Put.TheVariants as puts;
 ghost use Rattle.peer_demux.specs.Tables.{fresh_table, HasNew, IsTrimmed, row_at, IsLive, IsRising, IsUnknown, GivesOne, IsPut, IsNext, IsTaken, IsDropped, IsNextCall, RowStands, nothing_of, risen, with_call, with_packet};

@@ -2,7 +2,7 @@
 #![tactic(auto)]
 
 ghost use Rattle.std.specs.Prelude.{◌≡◌, length};
-ghost use Rattle.relay_model.specs.Permits.{is_permitted, is_port_permitted, is_same_under};
+ghost use Rattle.relay_model.specs.{is_permitted, is_port_permitted, is_same_under};
 
 use relay_model::{Admission, Options, Peer, Range};
 use std::marker::Model;
@@ -11,13 +11,13 @@ use std::marker::Model;
 const HIGHEST_LOW_PORT: u16 = 1023;
 
 /// What the options of one address ask of its peers.
-#[derive(Clone, Copy, Debug)]
+#[derive(Clone, Copy)]
 pub struct Filter {
     admission: Admission,
 }
 
 impl Model for Filter {
-    ghost use Rattle.relay_model.specs.declared.commands.Admission.{Admission};
+    ghost use Rattle.relay_model.specs.{Admission};
 
     ghost Value = { Admission };
 

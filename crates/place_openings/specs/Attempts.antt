@@ -1,16 +1,7 @@
 -- Where no try is left, and how many failed there.
 use Rattle.std.specs.Prelude.{◌≡◌, ℕ, ◌<◌, ◌-◌, ◌^◌, Bool, true, false, List, [], ◌∷◌, Option, Some, None}
-use Rattle.relay_model.specs.declared.places.Side.{Side}
-use Rattle.relay_model.specs.declared.places.Place.{Place}
-use Rattle.relay_model.specs.declared.commands.Config.{Config}
-use Rattle.relay_model.specs.declared.acts.Act.{Act}
-use Rattle.relay_model.specs.Choices.{only_if, or_else}
-use Rattle.relay_model.specs.Configs.{options_of}
-use Rattle.relay_model.specs.History.{failures}
-use Rattle.relay_model.specs.Tries.{is_out_of_tries}
-use Rattle.relay_model.specs.Openings.{out_of_tries}
-use Rattle.retry_plan.specs.Plans.{attempts_of}
-use Rattle.retry_plan.specs.declared.NextTry.{NextTry}
+use Rattle.relay_model.specs.{Side, Place, Config, Act, only_if, or_else, options_of, failures, is_out_of_tries, out_of_tries}
+use Rattle.retry_plan.specs.{attempts_of, NextTry}
 use Rattle.retry_plan.specs.declared.NextTry.TheVariants.{Now, At, Never, GiveUp}
 use Rattle.place_openings.specs.Queries.{gave_up}
 use Rattle.place_openings.specs.Stands.{tried_at}

@@ -1,14 +1,7 @@
 -- What a step makes of the list of acts, and of one opening.
 use Rattle.std.specs.Prelude.{◌≡◌, ◌<◌, ◌⊎◌, ◌||◌, ℕ, Bool, true, false, List, [], ◌∷◌, ◌++◌, Option}
-use Rattle.relay_model.specs.declared.places.Place.{Place}
-use Rattle.relay_model.specs.declared.readiness.ReadyAt.{ReadyAt}
-use Rattle.relay_model.specs.declared.commands.Config.{Config}
-use Rattle.relay_model.specs.declared.acts.ChildEnd.{ChildEnd}
-use Rattle.relay_model.specs.declared.acts.Act.{Act}
+use Rattle.relay_model.specs.{Place, ReadyAt, Config, ChildEnd, Act, same_place, listens_at, now, holds_at}
 use Rattle.relay_model.specs.declared.acts.Act.TheVariants as acts
-use Rattle.relay_model.specs.Places.{same_place}
-use Rattle.relay_model.specs.Configs.{listens_at}
-use Rattle.relay_model.specs.History.{now, holds_at}
 use Rattle.place_openings.specs.declared.one_place.Opening.{Opening}
 use Rattle.place_openings.specs.Queries.{ready_by}
 use Rattle.place_openings.specs.Stands.{kept, IsOpening}

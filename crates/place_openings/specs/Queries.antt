@@ -1,19 +1,9 @@
 -- What is asked of the openings of a session, from their states alone.
 use Rattle.std.specs.Prelude.{Bool, false, not, ◌&&◌, ◌||◌, List, [], ◌∷◌, Option, Some, None, if◌then◌else◌}
-use Rattle.relay_model.specs.declared.places.Place.{Place}
-use Rattle.relay_model.specs.declared.acts.Peer.{Peer}
+use Rattle.relay_model.specs.{Place, Peer, Config, Act, same_bool, door_of, options_of, has_own_door, holds_at, is_gone_with, stage, held, Stage}
+use Rattle.relay_model.specs.{Admission, is_permitted, only_if, or_else, out_of_tries}
 use Rattle.relay_model.specs.declared.acts.Why.TheVariants as whys
-use Rattle.relay_model.specs.declared.commands.Config.{Config}
-use Rattle.relay_model.specs.declared.acts.Act.{Act}
-use Rattle.relay_model.specs.Places.{same_bool, door_of}
-use Rattle.relay_model.specs.Configs.{options_of, has_own_door}
-use Rattle.relay_model.specs.History.{holds_at, is_gone_with, stage, held}
-use Rattle.relay_model.specs.declared.stages.Stage.{Stage}
 use Rattle.relay_model.specs.declared.stages.Stage.TheVariants.{Usable, Met}
-use Rattle.relay_model.specs.declared.commands.Admission.{Admission}
-use Rattle.relay_model.specs.Permits.{is_permitted}
-use Rattle.relay_model.specs.Choices.{only_if, or_else}
-use Rattle.relay_model.specs.Openings.{out_of_tries}
 use Rattle.place_openings.specs.declared.one_place.Opening.{Opening}
 use Rattle.place_openings.specs.Stands.{tried_at}
 

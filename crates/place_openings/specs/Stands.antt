@@ -1,15 +1,8 @@
 -- What the openings of a session stand for: each says of its place what the list of acts says.
 use Rattle.std.specs.Prelude.{◌≡◌, ℕ, Bool, true, false, List, [], ◌∷◌, Some, if◌then◌else◌}
-use Rattle.relay_model.specs.declared.places.Place.{Place}
-use Rattle.relay_model.specs.declared.readiness.ReadyAt.{ReadyAt}
-use Rattle.relay_model.specs.declared.commands.Config.{Config}
-use Rattle.relay_model.specs.declared.acts.Act.{Act}
-use Rattle.relay_model.specs.Readiness.{Listed}
-use Rattle.relay_model.specs.Places.{door_of}
-use Rattle.relay_model.specs.Configs.{places, options_of, medium_of, is_program, listens_at, has_own_door}
-use Rattle.relay_model.specs.History.{now, stage, woken, failures, was_closed, was_reaped}
-use Rattle.relay_model.specs.Arming.{armed_to_accept, asked_to_accept}
-use Rattle.retry_plan.specs.Plans.{PlanIs, last_of}
+use Rattle.relay_model.specs.{Place, ReadyAt, Config, Act, Listed, door_of, places, options_of, medium_of, is_program, listens_at, has_own_door, now}
+use Rattle.relay_model.specs.{stage, woken, failures, was_closed, was_reaped, armed_to_accept, asked_to_accept}
+use Rattle.retry_plan.specs.{PlanIs, last_of}
 use Rattle.place_openings.specs.declared.one_place.Opening.{Opening}
 
 -- where tries are made: at the place's own door, or at the place itself

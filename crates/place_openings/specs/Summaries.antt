@@ -1,12 +1,7 @@
 -- What is worked out of the openings of a session at the steps that may change it.
 use Rattle.std.specs.Prelude.{◌≡◌, ℕ, List, Option, is_none}
-use Rattle.relay_model.specs.declared.commands.Config.{Config}
-use Rattle.relay_model.specs.declared.acts.Act.{Act}
-use Rattle.relay_model.specs.declared.acts.Why.{Why}
+use Rattle.relay_model.specs.{Config, Act, Why, only_if, or_else, places, listening_failed, opening_failed}
 use Rattle.relay_model.specs.declared.acts.Why.TheVariants as whys
-use Rattle.relay_model.specs.Choices.{only_if, or_else}
-use Rattle.relay_model.specs.Configs.{places}
-use Rattle.relay_model.specs.Cause.{listening_failed, opening_failed}
 use Rattle.place_openings.specs.declared.one_place.Opening.{Opening}
 use Rattle.place_openings.specs.Queries.{first_unready}
 use Rattle.place_openings.specs.Stands.{EachTried}

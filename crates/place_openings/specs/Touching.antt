@@ -1,9 +1,7 @@
 -- Which acts the openings of a session depend on.
 use Rattle.std.specs.Prelude.{ℕ, Bool, true, false}
-use Rattle.relay_model.specs.declared.commands.Config.{Config}
-use Rattle.relay_model.specs.declared.acts.Act.{Act}
+use Rattle.relay_model.specs.{Config, Act, is_of}
 use Rattle.relay_model.specs.declared.acts.Act.TheVariants.{Turn, Opened, OpenLater, OpenFailed, Listening, ListenFailed, Accepted, NoPeer, AcceptFailed, Closed, Reaped}
-use Rattle.relay_model.specs.Configs.{is_of}
 
 -- turns, and acts of opening, accepting, closing and reaping at the session's places and doors
 abbrev pub touches : Config → ℕ → Act → Bool

@@ -1,10 +1,8 @@
 -- What is said of a further try, from the failures so far.
 use Rattle.std.specs.Prelude.{ℕ, Bool, true, false, nat_le, List, if◌then◌else◌}
-use Rattle.relay_model.specs.Tries.{is_out_of_tries, next_due}
-use Rattle.relay_model.specs.Openings.{when_due}
-use Rattle.relay_model.specs.declared.calls.Call.{Call}
+use Rattle.relay_model.specs.{is_out_of_tries, next_due, when_due, Call}
 use Rattle.relay_model.specs.declared.calls.Call.TheVariants.{Nothing, TryAt}
-use Rattle.retry_plan.specs.declared.NextTry.{NextTry}
+use Rattle.retry_plan.specs.{NextTry}
 use Rattle.retry_plan.specs.declared.NextTry.TheVariants.{Now, At, Never, GiveUp}
 
 -- the call that a further try is, once it is due and while tries are left

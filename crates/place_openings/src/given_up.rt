@@ -1,10 +1,7 @@
 // Where no try is left, and how many failed there.
 ghost use Rattle.std.specs.Prelude.{◌≡◌, ℕ, Bool, List, map};
-ghost use Rattle.relay_model.specs.declared.places.Place.{Place};
-ghost use Rattle.relay_model.specs.declared.commands.Config.{Config as Command};
-ghost use Rattle.relay_model.specs.declared.acts.Act.{Act};
-ghost use Rattle.relay_model.specs.Configs.{places, own_doors};
-ghost use Rattle.retry_plan.specs.Plans.{PlanIs};
+ghost use Rattle.relay_model.specs.{Place, Config as Command, Act, places, own_doors};
+ghost use Rattle.retry_plan.specs.{PlanIs};
 ghost use Rattle.place_openings.specs.Attempts.{attempts_in, attempts_told, given_up_by, first_unlistened, first_unopened, FirstCanCount, FirstGivesUp, GivesUp, Spends};
 ghost use Rattle.place_openings.specs.Stands.{AreOpenings, Each, IsOpening};
 
@@ -14,7 +11,7 @@ use relay_model::Side;
 use retry_plan::NextTry;
 
 /// The tries at a place were given up: the side of its address, and how many failed. The count stops at `u64::MAX`.
-#[derive(Clone, Copy, Debug, PartialEq, Eq)]
+#[derive(Clone, Copy, PartialEq, Eq)]
 pub struct GivenUp {
     pub side: Side,
     pub attempts: u64,

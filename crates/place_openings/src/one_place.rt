@@ -1,18 +1,10 @@
 // The opening of one place: how far it and its own door have come, and what is called for there.
 ghost use Rattle.std.specs.Prelude.{◌≡◌, ◌<◌, ◌||◌, ◌&&◌, ℕ, Bool, List, Option, ◌∷◌, ◌++◌, [], true, false};
-ghost use Rattle.relay_model.specs.declared.places.Place.{Place};
-ghost use Rattle.relay_model.specs.declared.readiness.ReadyAt.{ReadyAt as Entry};
-ghost use Rattle.relay_model.specs.declared.commands.Config.{Config as Command};
-ghost use Rattle.relay_model.specs.declared.acts.Act.{Act};
+ghost use Rattle.relay_model.specs.{Place, ReadyAt as Entry, Config as Command, Act, ChildEnd as Ending, listens_at, door_of, same_bool, same_half};
+ghost use Rattle.relay_model.specs.{same_place, now as moment, stage, holds_at, is_out_of_tries, opening_call, listening_call, peer_call, place_call};
 ghost use Rattle.relay_model.specs.declared.acts.Act.TheVariants as acts;
-ghost use Rattle.relay_model.specs.declared.acts.ChildEnd.{ChildEnd as Ending};
-ghost use Rattle.relay_model.specs.Configs.{listens_at};
-ghost use Rattle.relay_model.specs.Places.{door_of, same_bool, same_half, same_place};
 ghost use Rattle.relay_model.specs.declared.places.Half.TheVariants.{ToRead};
-ghost use Rattle.relay_model.specs.History.{now as moment, stage, holds_at};
-ghost use Rattle.relay_model.specs.Tries.{is_out_of_tries};
-ghost use Rattle.relay_model.specs.Openings.{opening_call, listening_call, peer_call, place_call};
-ghost use Rattle.retry_plan.specs.Plans.{PlanIs};
+ghost use Rattle.retry_plan.specs.{PlanIs};
 ghost use Rattle.place_openings.specs.Moves.{Alike};
 ghost use Rattle.place_openings.specs.Queries.{ready_by, held_by, child_by, peer_by, gave_up};
 ghost use Rattle.place_openings.specs.Stands.{IsOpening, IsTried, kept, tried_at};
@@ -26,7 +18,7 @@ use retry_plan::{NextTry, Plan};
 
 /// How far a place and its own door have come, and what was tried and asked there since the last turn. The tries are
 /// the door's, where the place has one.
-#[derive(Clone, Copy, Debug)]
+#[derive(Clone, Copy)]
 pub struct Opening {
     pub place: Place,
     pub listens: bool,

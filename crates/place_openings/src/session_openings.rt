@@ -1,28 +1,17 @@
 // The openings of a session, place by place in opening order.
 ghost use Rattle.std.specs.Prelude.{◌≡◌, ◌<◌, ◌≤◌, ◌||◌, ◌∷◌, ◌++◌, [], ℕ, true, false, List, Option, length, Some, None, map};
 ghost use Rattle.std.specs.List.{All};
-ghost use Rattle.relay_model.specs.declared.places.Place.{Place};
-ghost use Rattle.relay_model.specs.declared.readiness.ReadyAt.{ReadyAt as Entry};
-ghost use Rattle.relay_model.specs.declared.commands.Config.{Config as Command};
-ghost use Rattle.relay_model.specs.declared.acts.Act.{Act};
+ghost use Rattle.relay_model.specs.{Place, ReadyAt as Entry, Config as Command, Act, ChildEnd as Ending, only_if, or_else, same_place, places};
+ghost use Rattle.relay_model.specs.{listens_at, is_of, is_place_of, is_program, medium_of, now as moment, held, was_closed, was_reaped};
+ghost use Rattle.relay_model.specs.{asked_to_accept, holds, first_call, ready, listening_failed, opening_failed, Listed};
 ghost use Rattle.relay_model.specs.declared.acts.Act.TheVariants as acts;
-ghost use Rattle.relay_model.specs.declared.acts.ChildEnd.{ChildEnd as Ending};
 ghost use Rattle.relay_model.specs.declared.acts.Why.TheVariants as whys;
-ghost use Rattle.relay_model.specs.Choices.{only_if, or_else};
-ghost use Rattle.relay_model.specs.Places.{same_place};
-ghost use Rattle.relay_model.specs.Configs.{places, listens_at, is_of, is_place_of, is_program, medium_of};
-ghost use Rattle.relay_model.specs.History.{now as moment, held, was_closed, was_reaped};
-ghost use Rattle.relay_model.specs.Arming.{asked_to_accept};
-ghost use Rattle.relay_model.specs.Sessions.{holds};
-ghost use Rattle.relay_model.specs.Openings.{first_call, ready};
 ghost use Rattle.relay_model.specs.declared.calls.Call.TheVariants as calls;
-ghost use Rattle.relay_model.specs.Cause.{listening_failed, opening_failed};
 ghost use Rattle.place_openings.specs.Moves.{TookEach};
 ghost use Rattle.place_openings.specs.Queries.{first_of, held_by, child_by, peer_of_first};
 ghost use Rattle.place_openings.specs.Stands.{Each, AreOpenings, kept};
 ghost use Rattle.place_openings.specs.Steps.{has_asked, steps_in};
 ghost use Rattle.place_openings.specs.Touching.{touches};
-ghost use Rattle.relay_model.specs.Readiness.{Listed};
 
 use crate::one_place::Opening;
 use crate::steps::OpeningStep;
@@ -33,7 +22,7 @@ use std::marker::Model;
 
 /// The openings of the places of a session, which are at most four, in opening order. Contracts see them as a list of
 /// states. What is asked before each call is worked out at the steps that may change it.
-#[derive(Debug, Drop)]
+#[derive(Drop)]
 pub struct Openings {
     items: [Opening; 4],
     count: usize,

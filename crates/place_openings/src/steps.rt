@@ -1,8 +1,6 @@
 // What happens to the openings of a session.
 ghost use Rattle.std.specs.Prelude.{◌≡◌, ◌<◌, ◌||◌, true, List};
-ghost use Rattle.relay_model.specs.declared.places.Place.{Place};
-ghost use Rattle.relay_model.specs.declared.commands.Config.{Config as Command};
-ghost use Rattle.relay_model.specs.declared.acts.Act.{Act};
+ghost use Rattle.relay_model.specs.{Place, Config as Command, Act};
 ghost use Rattle.place_openings.specs.Moves.{Follows, Apart, Lower, Alike, asks_at, is_still};
 ghost use Rattle.place_openings.specs.Stands.{IsOpening};
 ghost use Rattle.place_openings.specs.Steps.{asked_by, steps_of};
@@ -11,7 +9,7 @@ use crate::one_place::Opening;
 use relay_model::{Peer, Place, ReadyAt, Why};
 
 /// One step of the openings of a session: an act at a place or door, or a part of a turn.
-#[derive(Clone, Copy, Debug)]
+#[derive(Clone, Copy)]
 pub enum OpeningStep {
     Opened(Place),
     OpenedLater(Place),

@@ -1,11 +1,8 @@
 // What is asked of the openings of a session before each call, worked out at the steps that may change it.
 ghost use Rattle.std.specs.Prelude.{◌≡◌, ℕ, Bool, List, option_map, map, is_none};
 ghost use Rattle.std.specs.List.{list_any};
-ghost use Rattle.relay_model.specs.declared.places.Place.{Place};
-ghost use Rattle.relay_model.specs.declared.commands.Config.{Config as Command};
-ghost use Rattle.relay_model.specs.declared.acts.Act.{Act};
+ghost use Rattle.relay_model.specs.{Place, Config as Command, Act, only_if, or_else};
 ghost use Rattle.relay_model.specs.declared.acts.Why.TheVariants as whys;
-ghost use Rattle.relay_model.specs.Choices.{only_if, or_else};
 ghost use Rattle.place_openings.specs.Moves.{TookEach};
 ghost use Rattle.place_openings.specs.declared.one_place.Opening.{Opening};
 ghost use Rattle.place_openings.specs.Queries.{first_unready, gave_up};
@@ -17,7 +14,7 @@ use crate::steps::OpeningStep;
 use relay_model::Why;
 
 /// Whether every place is ready, and why the session ends, where no try is left at one of its places or doors.
-#[derive(Clone, Copy, Debug)]
+#[derive(Clone, Copy)]
 pub struct OpeningSummary {
     pub ready: bool,
     pub given_up: Option<Why>,

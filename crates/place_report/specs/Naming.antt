@@ -1,6 +1,6 @@
 -- What a line on the kind of an address has to name: each of its parameters, in order.
 use Rattle.std.specs.Prelude.{◌≡◌, ℕ, List, [], ◌∷◌, ◌++◌, map, decimal}
-use Rattle.relay_model.specs.declared.commands.Target.{Target}
+use Rattle.relay_model.specs.{Target}
 use Rattle.relay_model.specs.declared.commands.Target.TheVariants as targets
 use Rattle.place_report.specs.Shown.{quoted}
 

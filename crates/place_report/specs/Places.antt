@@ -1,9 +1,7 @@
 -- What the lines on one place tell: an address, or a half of a dual one.
 use Rattle.std.specs.Prelude.{◌≡◌, ℕ, Bool, true, false, List, ◌++◌}
-use Rattle.relay_model.specs.declared.places.Side.{Side}
+use Rattle.relay_model.specs.{Side, Target, newline}
 use Rattle.relay_model.specs.declared.places.Side.TheVariants.{Left, Right}
-use Rattle.relay_model.specs.declared.commands.Target.{Target}
-use Rattle.relay_model.specs.Dumps.{newline}
 use Rattle.place_report.specs.Shown.{said}
 use Rattle.place_report.specs.Naming.{Names, parameters}
 

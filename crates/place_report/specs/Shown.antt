@@ -2,7 +2,7 @@
 use Rattle.std.specs.Prelude.{◌≡◌, ℕ, ◌<◌, ◌/◌, ◌%◌, Bool, true, not, ◌&&◌, ◌||◌, ◌==◌, nat_le, List, [], ◌∷◌, ◌++◌, map, codes, if◌then◌else◌}
 use Prim.Native.String.{String}
 use Rattle.std.specs.List.{list_all, flat_map, AllByRecursion}
-use Rattle.relay_model.specs.Dumps.{hex_digit}
+use Rattle.relay_model.specs.{hex_digit}
 
 -- a byte that may stand in a report: a printable one of ASCII, or the end of a line
 abbrev pub is_printable : ℕ → Bool

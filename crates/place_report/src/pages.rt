@@ -1,7 +1,7 @@
 // A page: text that a terminal can be shown, whatever the words of the command hold.
 ghost use Rattle.std.specs.Prelude.{◌≡◌, ◌<◌, ◌++◌, ◌∷◌, [], true, decimal, OnOk};
 ghost use Rattle.std.specs.List.{list_all};
-ghost use Rattle.relay_model.specs.Dumps.{hex_digit};
+ghost use Rattle.relay_model.specs.{hex_digit};
 ghost use Rattle.place_report.specs.Shown.{is_printable, IsPrintable, is_plain, shown_byte, shown, quoted, marked};
 
 use relay_model::NoMemory;
@@ -10,7 +10,7 @@ use std::marker::Model;
 
 /// Lines of printable bytes of ASCII. Bytes of the command are shown as they are or by their number, so that no other
 /// byte ever stands here. After want of memory a front of what was to be added may stand there.
-#[derive(Debug, Drop)]
+#[derive(Drop)]
 pub struct Page {
     bytes: Vec<u8>,
 }

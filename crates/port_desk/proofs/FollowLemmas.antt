@@ -13,8 +13,7 @@ use Rattle.relay_model.specs.Choices.{joined}
 use Rattle.relay_model.specs.Holding.{Free}
 use Rattle.relay_model.specs.Journals.{History}
 use Rattle.relay_model.specs.Readiness.{Listed}
-use Rattle.world_trait.specs.Answers.{Answered, AnsweredAsking, accept_act, close_act, listen_act, note_act, open_act, read_act, reap_act, send_act, shut_act, wait_act, write_act}
-use Rattle.world_trait.specs.Seen.{Seen}
+use Rattle.world_trait.specs.Answers.{accept_act, close_act, listen_act, note_act, open_act, read_act, reap_act, send_act, shut_act, wait_act, write_act}
 use Rattle.world_trait.specs.declared.answers.Turned.{Turned}
 use Rattle.world_trait.specs.declared.answers.Turned.TheVariants as turns
 use Rattle.world_trait.specs.declared.answers.OpenAnswer.{OpenAnswer}
@@ -46,9 +45,9 @@ use Rattle.desk_places.specs.PlaceBases.{AcceptsOn, Leaves, ListensOn, OpensOn, 
 use Rattle.desk_places.specs.Changes.{SettlesSo}
 use Rattle.desk_places.specs.Stations.{base_at, hold_at}
 use Rattle.desk_places.proofs.StationLemmas.{found_none, free_station}
-use Rattle.port_desk.specs.Records.{NotedSo, are_none, has_no_acts}
+use Rattle.port_desk.specs.Records.{NotedSo, Tells, TellsAsking, are_none, has_no_acts}
 use Rattle.port_desk.specs.Calls.{ReadsSo, SendsSo, ShutsSo, WritesSo}
-use Rattle.port_desk.specs.Following.{FollowsTold, IsUnused, Passed, PassedBy, PassedTold, Start, StartsInStep, are_noted, errors_written, input_ended, input_read, output_written, reads_input, stream_of, writes_errors, writes_output}
+use Rattle.port_desk.specs.Following.{FollowsTold, GoesOn, IsUnused, Passed, PassedBy, PassedTold, Start, StartsInStep, are_noted, errors_written, input_ended, input_read, output_written, reads_input, stream_of, writes_errors, writes_output}
 use Rattle.port_desk.proofs.FollowSteps.{Goes, IsStill, AllStandFor, acted, asked, ended_of, found, gave_of, grown_sum, kept_over, kept_sum, kept_told, nothing, on_slot, own_reads, own_said, own_writes, quiet, stands_comes, stands_leaves, stands_same, still_follows, took_of, unmapped}
 
 -- ---- a read
@@ -190,53 +189,53 @@ read_bytes own place b n into base base' input input' output output' errors erro
       over = over_cut (reads_input (stream_of own place)) (input_ended own past) input.port.ended input'.port.ended (subst (λ r. input'.port.ended ≡ cond r false input.port.ended) (sym (own_reads (stream_of own place) b on)) ends) follows.over;
     }
 
-pub read_follows : (result : ReadAnswer) (place : Place) (into : List ℕ) (old new : Seen) (base base' : Place → Option Base) (input input' output output' errors errors' : StreamSeen) → is_some (base place) ≡ true → Answered old new (read_act place into result) → IfSome (base place) (λ b. AtInput (giving_port b) (ReadsSo into result input.port input'.port) (input' ≡ input)) → IfSome (base place) (λ b. AtOutput (giving_port b) (ReadsSo into result output.port output'.port) (output' ≡ output)) → IfSome (base place) (λ b. AtErrors (giving_port b) (ReadsSo into result errors.port errors'.port) (errors' ≡ errors)) → SameBases base base' → FollowsTold old.told base input.port.gave output.port.took errors.port.took input.port.ended → FollowsTold new.told base' input'.port.gave output'.port.took errors'.port.took input'.port.ended
-read_follows (reads.Bytes n) place into old new base base' input input' output output' errors errors' some did at_in at_out at_err same =
+pub read_follows : (result : ReadAnswer) (place : Place) (into : List ℕ) (told told' : Option History) (base base' : Place → Option Base) (input input' output output' errors errors' : StreamSeen) → is_some (base place) ≡ true → Tells (read_act place into result) told told' → IfSome (base place) (λ b. AtInput (giving_port b) (ReadsSo into result input.port input'.port) (input' ≡ input)) → IfSome (base place) (λ b. AtOutput (giving_port b) (ReadsSo into result output.port output'.port) (output' ≡ output)) → IfSome (base place) (λ b. AtErrors (giving_port b) (ReadsSo into result errors.port errors'.port) (errors' ≡ errors)) → SameBases base base' → FollowsTold told base input.port.gave output.port.took errors.port.took input.port.ended → FollowsTold told' base' input'.port.gave output'.port.took errors'.port.took input'.port.ended
+read_follows (reads.Bytes n) place into told told' base base' input input' output output' errors errors' some did at_in at_out at_err same =
     let on = found (base place) some in
     let still = read_untaken on.0 (reads.Bytes n) into output output' (on_slot (base place) on.0 (λ b. AtOutput (giving_port b) (ReadsSo into (reads.Bytes n) output.port output'.port) (output' ≡ output)) on.1 at_out) in
     let unsaid = read_unsaid on.0 (reads.Bytes n) into errors errors' (on_slot (base place) on.0 (λ b. AtErrors (giving_port b) (ReadsSo into (reads.Bytes n) errors.port errors'.port) (errors' ≡ errors)) on.1 at_err) in
     let call = on_slot (base place) on.0 (λ b. AtInput (giving_port b) (ReadsSo into (reads.Bytes n) input.port input'.port) (input' ≡ input)) on.1 at_in in
-    acted old.told new.told (acts.Read place (take n into)) base base' input.port.gave input'.port.gave output.port.took output'.port.took errors.port.took errors'.port.took input.port.ended input'.port.ended did.told
+    acted told told' (acts.Read place (take n into)) base base' input.port.gave input'.port.gave output.port.took output'.port.took errors.port.took errors'.port.took input.port.ended input'.port.ended did
     (λ own elsewhere. read_bytes own place on.0 n into base base' input input' output output' errors errors' on.1 call still unsaid (read_ends on.0 (reads.Bytes n) into input input' refl call) same)
-read_follows reads.Empty place into old new base base' input input' output output' errors errors' some did at_in at_out at_err same =
+read_follows reads.Empty place into told told' base base' input input' output output' errors errors' some did at_in at_out at_err same =
     let on = found (base place) some in
     let given = read_ungiven on.0 reads.Empty into input input' refl (on_slot (base place) on.0 (λ b. AtInput (giving_port b) (ReadsSo into reads.Empty input.port input'.port) (input' ≡ input)) on.1 at_in) in
     let taken = read_untaken on.0 reads.Empty into output output' (on_slot (base place) on.0 (λ b. AtOutput (giving_port b) (ReadsSo into reads.Empty output.port output'.port) (output' ≡ output)) on.1 at_out) in
     let unsaid = read_unsaid on.0 reads.Empty into errors errors' (on_slot (base place) on.0 (λ b. AtErrors (giving_port b) (ReadsSo into reads.Empty errors.port errors'.port) (errors' ≡ errors)) on.1 at_err) in
     let ends = read_ends on.0 reads.Empty into input input' refl (on_slot (base place) on.0 (λ b. AtInput (giving_port b) (ReadsSo into reads.Empty input.port input'.port) (input' ≡ input)) on.1 at_in) in
-    acted old.told new.told (acts.ReadEmpty place) base base' input.port.gave input'.port.gave output.port.took output'.port.took errors.port.took errors'.port.took input.port.ended input'.port.ended did.told
+    acted told told' (acts.ReadEmpty place) base base' input.port.gave input'.port.gave output.port.took output'.port.took errors.port.took errors'.port.took input.port.ended input'.port.ended did
     (λ own elsewhere. read_cut own place on.0 (acts.ReadEmpty place) base base' input.port.gave input'.port.gave output.port.took output'.port.took errors.port.took errors'.port.took input.port.ended input'.port.ended on.1 (λ past. (refl, (refl, (refl, refl)))) (λ past. refl) ends given taken unsaid same)
-read_follows reads.End place into old new base base' input input' output output' errors errors' some did at_in at_out at_err same =
+read_follows reads.End place into told told' base base' input input' output output' errors errors' some did at_in at_out at_err same =
     let on = found (base place) some in
     let given = read_ungiven on.0 reads.End into input input' refl (on_slot (base place) on.0 (λ b. AtInput (giving_port b) (ReadsSo into reads.End input.port input'.port) (input' ≡ input)) on.1 at_in) in
     let taken = read_untaken on.0 reads.End into output output' (on_slot (base place) on.0 (λ b. AtOutput (giving_port b) (ReadsSo into reads.End output.port output'.port) (output' ≡ output)) on.1 at_out) in
     let unsaid = read_unsaid on.0 reads.End into errors errors' (on_slot (base place) on.0 (λ b. AtErrors (giving_port b) (ReadsSo into reads.End errors.port errors'.port) (errors' ≡ errors)) on.1 at_err) in
     let ends = read_ends on.0 reads.End into input input' refl (on_slot (base place) on.0 (λ b. AtInput (giving_port b) (ReadsSo into reads.End input.port input'.port) (input' ≡ input)) on.1 at_in) in
-    acted old.told new.told (acts.ReadEnd place) base base' input.port.gave input'.port.gave output.port.took output'.port.took errors.port.took errors'.port.took input.port.ended input'.port.ended did.told
+    acted told told' (acts.ReadEnd place) base base' input.port.gave input'.port.gave output.port.took output'.port.took errors.port.took errors'.port.took input.port.ended input'.port.ended did
     (λ own elsewhere. read_met own place on.0 base base' input.port.gave input'.port.gave output.port.took output'.port.took errors.port.took errors'.port.took input.port.ended input'.port.ended on.1 ends given taken unsaid same)
-read_follows reads.NotYet place into old new base base' input input' output output' errors errors' some did at_in at_out at_err same =
+read_follows reads.NotYet place into told told' base base' input input' output output' errors errors' some did at_in at_out at_err same =
     let on = found (base place) some in
     let given = read_ungiven on.0 reads.NotYet into input input' refl (on_slot (base place) on.0 (λ b. AtInput (giving_port b) (ReadsSo into reads.NotYet input.port input'.port) (input' ≡ input)) on.1 at_in) in
     let taken = read_untaken on.0 reads.NotYet into output output' (on_slot (base place) on.0 (λ b. AtOutput (giving_port b) (ReadsSo into reads.NotYet output.port output'.port) (output' ≡ output)) on.1 at_out) in
     let unsaid = read_unsaid on.0 reads.NotYet into errors errors' (on_slot (base place) on.0 (λ b. AtErrors (giving_port b) (ReadsSo into reads.NotYet errors.port errors'.port) (errors' ≡ errors)) on.1 at_err) in
     let ends = read_ends on.0 reads.NotYet into input input' refl (on_slot (base place) on.0 (λ b. AtInput (giving_port b) (ReadsSo into reads.NotYet input.port input'.port) (input' ≡ input)) on.1 at_in) in
-    acted old.told new.told (acts.ReadNotYet place) base base' input.port.gave input'.port.gave output.port.took output'.port.took errors.port.took errors'.port.took input.port.ended input'.port.ended did.told
+    acted told told' (acts.ReadNotYet place) base base' input.port.gave input'.port.gave output.port.took output'.port.took errors.port.took errors'.port.took input.port.ended input'.port.ended did
     (λ own elsewhere. read_cut own place on.0 (acts.ReadNotYet place) base base' input.port.gave input'.port.gave output.port.took output'.port.took errors.port.took errors'.port.took input.port.ended input'.port.ended on.1 (λ past. (refl, (refl, (refl, refl)))) (λ past. refl) ends given taken unsaid same)
-read_follows reads.Failed place into old new base base' input input' output output' errors errors' some did at_in at_out at_err same =
+read_follows reads.Failed place into told told' base base' input input' output output' errors errors' some did at_in at_out at_err same =
     let on = found (base place) some in
     let given = read_ungiven on.0 reads.Failed into input input' refl (on_slot (base place) on.0 (λ b. AtInput (giving_port b) (ReadsSo into reads.Failed input.port input'.port) (input' ≡ input)) on.1 at_in) in
     let taken = read_untaken on.0 reads.Failed into output output' (on_slot (base place) on.0 (λ b. AtOutput (giving_port b) (ReadsSo into reads.Failed output.port output'.port) (output' ≡ output)) on.1 at_out) in
     let unsaid = read_unsaid on.0 reads.Failed into errors errors' (on_slot (base place) on.0 (λ b. AtErrors (giving_port b) (ReadsSo into reads.Failed errors.port errors'.port) (errors' ≡ errors)) on.1 at_err) in
     let ends = read_ends on.0 reads.Failed into input input' refl (on_slot (base place) on.0 (λ b. AtInput (giving_port b) (ReadsSo into reads.Failed input.port input'.port) (input' ≡ input)) on.1 at_in) in
-    acted old.told new.told (acts.ReadFault place) base base' input.port.gave input'.port.gave output.port.took output'.port.took errors.port.took errors'.port.took input.port.ended input'.port.ended did.told
+    acted told told' (acts.ReadFault place) base base' input.port.gave input'.port.gave output.port.took output'.port.took errors.port.took errors'.port.took input.port.ended input'.port.ended did
     (λ own elsewhere. read_cut own place on.0 (acts.ReadFault place) base base' input.port.gave input'.port.gave output.port.took output'.port.took errors.port.took errors'.port.took input.port.ended input'.port.ended on.1 (λ past. (refl, (refl, (refl, refl)))) (λ past. refl) ends given taken unsaid same)
-read_follows reads.Memory place into old new base base' input input' output output' errors errors' some did at_in at_out at_err same =
+read_follows reads.Memory place into told told' base base' input input' output output' errors errors' some did at_in at_out at_err same =
     let on = found (base place) some in
     let given = read_ungiven on.0 reads.Memory into input input' refl (on_slot (base place) on.0 (λ b. AtInput (giving_port b) (ReadsSo into reads.Memory input.port input'.port) (input' ≡ input)) on.1 at_in) in
     let taken = read_untaken on.0 reads.Memory into output output' (on_slot (base place) on.0 (λ b. AtOutput (giving_port b) (ReadsSo into reads.Memory output.port output'.port) (output' ≡ output)) on.1 at_out) in
     let unsaid = read_unsaid on.0 reads.Memory into errors errors' (on_slot (base place) on.0 (λ b. AtErrors (giving_port b) (ReadsSo into reads.Memory errors.port errors'.port) (errors' ≡ errors)) on.1 at_err) in
     let kept = read_unended on.0 into input input' (on_slot (base place) on.0 (λ b. AtInput (giving_port b) (ReadsSo into reads.Memory input.port input'.port) (input' ≡ input)) on.1 at_in) in
-    nothing old.told new.told base base' input.port.gave input'.port.gave output.port.took output'.port.took errors.port.took errors'.port.took input.port.ended input'.port.ended did.told same given taken unsaid kept
+    nothing told told' base base' input.port.gave input'.port.gave output.port.took output'.port.took errors.port.took errors'.port.took input.port.ended input'.port.ended did same given taken unsaid kept
 
 -- ---- a write
 
@@ -322,36 +321,36 @@ wrote_bytes own place b bytes base base' gave gave' took took' said said' over o
       over = kept_over _ _ over over' kept refl follows.over;
     }
 
-pub write_follows : (result : WriteAnswer) (place : Place) (bytes : List ℕ) (old new : Seen) (base base' : Place → Option Base) (input input' output output' errors errors' : StreamSeen) → is_some (base place) ≡ true → Answered old new (write_act place bytes result) → IfSome (base place) (λ b. AtInput (taking_port b) (WritesSo bytes result input.port input'.port) (input' ≡ input)) → IfSome (base place) (λ b. AtOutput (taking_port b) (WritesSo bytes result output.port output'.port) (output' ≡ output)) → IfSome (base place) (λ b. AtErrors (taking_port b) (WritesSo bytes result errors.port errors'.port) (errors' ≡ errors)) → SameBases base base' → FollowsTold old.told base input.port.gave output.port.took errors.port.took input.port.ended → FollowsTold new.told base' input'.port.gave output'.port.took errors'.port.took input'.port.ended
-write_follows (writes.Took n) place bytes old new base base' input input' output output' errors errors' some did at_in at_out at_err same =
+pub write_follows : (result : WriteAnswer) (place : Place) (bytes : List ℕ) (told told' : Option History) (base base' : Place → Option Base) (input input' output output' errors errors' : StreamSeen) → is_some (base place) ≡ true → Tells (write_act place bytes result) told told' → IfSome (base place) (λ b. AtInput (taking_port b) (WritesSo bytes result input.port input'.port) (input' ≡ input)) → IfSome (base place) (λ b. AtOutput (taking_port b) (WritesSo bytes result output.port output'.port) (output' ≡ output)) → IfSome (base place) (λ b. AtErrors (taking_port b) (WritesSo bytes result errors.port errors'.port) (errors' ≡ errors)) → SameBases base base' → FollowsTold told base input.port.gave output.port.took errors.port.took input.port.ended → FollowsTold told' base' input'.port.gave output'.port.took errors'.port.took input'.port.ended
+write_follows (writes.Took n) place bytes told told' base base' input input' output output' errors errors' some did at_in at_out at_err same =
     let on = found (base place) some in
     let given = write_ungiven on.0 (writes.Took n) bytes input input' (on_slot (base place) on.0 (λ b. AtInput (taking_port b) (WritesSo bytes (writes.Took n) input.port input'.port) (input' ≡ input)) on.1 at_in) in
     let kept = write_unended on.0 (writes.Took n) bytes input input' (on_slot (base place) on.0 (λ b. AtInput (taking_port b) (WritesSo bytes (writes.Took n) input.port input'.port) (input' ≡ input)) on.1 at_in) in
     let taken = write_taken on.0 n bytes output output' (on_slot (base place) on.0 (λ b. AtOutput (taking_port b) (WritesSo bytes (writes.Took n) output.port output'.port) (output' ≡ output)) on.1 at_out) in
     let said = write_said on.0 n bytes errors errors' (on_slot (base place) on.0 (λ b. AtErrors (taking_port b) (WritesSo bytes (writes.Took n) errors.port errors'.port) (errors' ≡ errors)) on.1 at_err) in
-    acted old.told new.told (acts.Wrote place (take n bytes)) base base' input.port.gave input'.port.gave output.port.took output'.port.took errors.port.took errors'.port.took input.port.ended input'.port.ended did.told
+    acted told told' (acts.Wrote place (take n bytes)) base base' input.port.gave input'.port.gave output.port.took output'.port.took errors.port.took errors'.port.took input.port.ended input'.port.ended did
     (λ own elsewhere. wrote_bytes own place on.0 (take n bytes) base base' input.port.gave input'.port.gave output.port.took output'.port.took errors.port.took errors'.port.took input.port.ended input'.port.ended on.1 taken said given kept same)
-write_follows writes.NotYet place bytes old new base base' input input' output output' errors errors' some did at_in at_out at_err same =
+write_follows writes.NotYet place bytes told told' base base' input input' output output' errors errors' some did at_in at_out at_err same =
     let on = found (base place) some in
     let given = write_ungiven on.0 writes.NotYet bytes input input' (on_slot (base place) on.0 (λ b. AtInput (taking_port b) (WritesSo bytes writes.NotYet input.port input'.port) (input' ≡ input)) on.1 at_in) in
     let kept = write_unended on.0 writes.NotYet bytes input input' (on_slot (base place) on.0 (λ b. AtInput (taking_port b) (WritesSo bytes writes.NotYet input.port input'.port) (input' ≡ input)) on.1 at_in) in
     let taken = write_untaken on.0 writes.NotYet bytes output output' refl (on_slot (base place) on.0 (λ b. AtOutput (taking_port b) (WritesSo bytes writes.NotYet output.port output'.port) (output' ≡ output)) on.1 at_out) in
     let unsaid = write_unsaid on.0 writes.NotYet bytes errors errors' refl (on_slot (base place) on.0 (λ b. AtErrors (taking_port b) (WritesSo bytes writes.NotYet errors.port errors'.port) (errors' ≡ errors)) on.1 at_err) in
-    still_follows (write_act place bytes writes.NotYet) old new base base' input.port.gave input'.port.gave output.port.took output'.port.took errors.port.took errors'.port.took input.port.ended input'.port.ended (λ own past. (refl, (refl, (refl, (refl, refl))))) did same given taken unsaid kept
-write_follows writes.Failed place bytes old new base base' input input' output output' errors errors' some did at_in at_out at_err same =
+    still_follows (write_act place bytes writes.NotYet) told told' base base' input.port.gave input'.port.gave output.port.took output'.port.took errors.port.took errors'.port.took input.port.ended input'.port.ended (λ own past. (refl, (refl, (refl, (refl, refl))))) did same given taken unsaid kept
+write_follows writes.Failed place bytes told told' base base' input input' output output' errors errors' some did at_in at_out at_err same =
     let on = found (base place) some in
     let given = write_ungiven on.0 writes.Failed bytes input input' (on_slot (base place) on.0 (λ b. AtInput (taking_port b) (WritesSo bytes writes.Failed input.port input'.port) (input' ≡ input)) on.1 at_in) in
     let kept = write_unended on.0 writes.Failed bytes input input' (on_slot (base place) on.0 (λ b. AtInput (taking_port b) (WritesSo bytes writes.Failed input.port input'.port) (input' ≡ input)) on.1 at_in) in
     let taken = write_untaken on.0 writes.Failed bytes output output' refl (on_slot (base place) on.0 (λ b. AtOutput (taking_port b) (WritesSo bytes writes.Failed output.port output'.port) (output' ≡ output)) on.1 at_out) in
     let unsaid = write_unsaid on.0 writes.Failed bytes errors errors' refl (on_slot (base place) on.0 (λ b. AtErrors (taking_port b) (WritesSo bytes writes.Failed errors.port errors'.port) (errors' ≡ errors)) on.1 at_err) in
-    still_follows (write_act place bytes writes.Failed) old new base base' input.port.gave input'.port.gave output.port.took output'.port.took errors.port.took errors'.port.took input.port.ended input'.port.ended (λ own past. (refl, (refl, (refl, (refl, refl))))) did same given taken unsaid kept
-write_follows writes.Memory place bytes old new base base' input input' output output' errors errors' some did at_in at_out at_err same =
+    still_follows (write_act place bytes writes.Failed) told told' base base' input.port.gave input'.port.gave output.port.took output'.port.took errors.port.took errors'.port.took input.port.ended input'.port.ended (λ own past. (refl, (refl, (refl, (refl, refl))))) did same given taken unsaid kept
+write_follows writes.Memory place bytes told told' base base' input input' output output' errors errors' some did at_in at_out at_err same =
     let on = found (base place) some in
     let given = write_ungiven on.0 writes.Memory bytes input input' (on_slot (base place) on.0 (λ b. AtInput (taking_port b) (WritesSo bytes writes.Memory input.port input'.port) (input' ≡ input)) on.1 at_in) in
     let kept = write_unended on.0 writes.Memory bytes input input' (on_slot (base place) on.0 (λ b. AtInput (taking_port b) (WritesSo bytes writes.Memory input.port input'.port) (input' ≡ input)) on.1 at_in) in
     let taken = write_untaken on.0 writes.Memory bytes output output' refl (on_slot (base place) on.0 (λ b. AtOutput (taking_port b) (WritesSo bytes writes.Memory output.port output'.port) (output' ≡ output)) on.1 at_out) in
     let unsaid = write_unsaid on.0 writes.Memory bytes errors errors' refl (on_slot (base place) on.0 (λ b. AtErrors (taking_port b) (WritesSo bytes writes.Memory errors.port errors'.port) (errors' ≡ errors)) on.1 at_err) in
-    still_follows (write_act place bytes writes.Memory) old new base base' input.port.gave input'.port.gave output.port.took output'.port.took errors.port.took errors'.port.took input.port.ended input'.port.ended tt did same given taken unsaid kept
+    still_follows (write_act place bytes writes.Memory) told told' base base' input.port.gave input'.port.gave output.port.took output'.port.took errors.port.took errors'.port.took input.port.ended input'.port.ended tt did same given taken unsaid kept
 
 -- ---- a packet
 
@@ -421,36 +420,36 @@ send_unsaid bases.Output result bytes errors errors' silent same = took_of error
 send_unsaid bases.Both result bytes errors errors' silent same = took_of errors errors' same
 send_unsaid (bases.Made key) result bytes errors errors' silent same = took_of errors errors' same
 
-pub send_follows : (result : SendAnswer) (place : Place) (bytes : List ℕ) (old new : Seen) (base base' : Place → Option Base) (input input' output output' errors errors' : StreamSeen) → is_some (base place) ≡ true → Answered old new (send_act place bytes result) → IfSome (base place) (λ b. AtInput (taking_port b) (SendsSo bytes result input.port input'.port) (input' ≡ input)) → IfSome (base place) (λ b. AtOutput (taking_port b) (SendsSo bytes result output.port output'.port) (output' ≡ output)) → IfSome (base place) (λ b. AtErrors (taking_port b) (SendsSo bytes result errors.port errors'.port) (errors' ≡ errors)) → SameBases base base' → FollowsTold old.told base input.port.gave output.port.took errors.port.took input.port.ended → FollowsTold new.told base' input'.port.gave output'.port.took errors'.port.took input'.port.ended
-send_follows sends.Sent place bytes old new base base' input input' output output' errors errors' some did at_in at_out at_err same =
+pub send_follows : (result : SendAnswer) (place : Place) (bytes : List ℕ) (told told' : Option History) (base base' : Place → Option Base) (input input' output output' errors errors' : StreamSeen) → is_some (base place) ≡ true → Tells (send_act place bytes result) told told' → IfSome (base place) (λ b. AtInput (taking_port b) (SendsSo bytes result input.port input'.port) (input' ≡ input)) → IfSome (base place) (λ b. AtOutput (taking_port b) (SendsSo bytes result output.port output'.port) (output' ≡ output)) → IfSome (base place) (λ b. AtErrors (taking_port b) (SendsSo bytes result errors.port errors'.port) (errors' ≡ errors)) → SameBases base base' → FollowsTold told base input.port.gave output.port.took errors.port.took input.port.ended → FollowsTold told' base' input'.port.gave output'.port.took errors'.port.took input'.port.ended
+send_follows sends.Sent place bytes told told' base base' input input' output output' errors errors' some did at_in at_out at_err same =
     let on = found (base place) some in
     let given = send_ungiven on.0 sends.Sent bytes input input' (on_slot (base place) on.0 (λ b. AtInput (taking_port b) (SendsSo bytes sends.Sent input.port input'.port) (input' ≡ input)) on.1 at_in) in
     let kept = send_unended on.0 sends.Sent bytes input input' (on_slot (base place) on.0 (λ b. AtInput (taking_port b) (SendsSo bytes sends.Sent input.port input'.port) (input' ≡ input)) on.1 at_in) in
     let taken = send_taken on.0 bytes output output' (on_slot (base place) on.0 (λ b. AtOutput (taking_port b) (SendsSo bytes sends.Sent output.port output'.port) (output' ≡ output)) on.1 at_out) in
     let said = send_said on.0 bytes errors errors' (on_slot (base place) on.0 (λ b. AtErrors (taking_port b) (SendsSo bytes sends.Sent errors.port errors'.port) (errors' ≡ errors)) on.1 at_err) in
-    acted old.told new.told (acts.Wrote place bytes) base base' input.port.gave input'.port.gave output.port.took output'.port.took errors.port.took errors'.port.took input.port.ended input'.port.ended did.told
+    acted told told' (acts.Wrote place bytes) base base' input.port.gave input'.port.gave output.port.took output'.port.took errors.port.took errors'.port.took input.port.ended input'.port.ended did
     (λ own elsewhere. wrote_bytes own place on.0 bytes base base' input.port.gave input'.port.gave output.port.took output'.port.took errors.port.took errors'.port.took input.port.ended input'.port.ended on.1 taken said given kept same)
-send_follows sends.NotYet place bytes old new base base' input input' output output' errors errors' some did at_in at_out at_err same =
+send_follows sends.NotYet place bytes told told' base base' input input' output output' errors errors' some did at_in at_out at_err same =
     let on = found (base place) some in
     let given = send_ungiven on.0 sends.NotYet bytes input input' (on_slot (base place) on.0 (λ b. AtInput (taking_port b) (SendsSo bytes sends.NotYet input.port input'.port) (input' ≡ input)) on.1 at_in) in
     let kept = send_unended on.0 sends.NotYet bytes input input' (on_slot (base place) on.0 (λ b. AtInput (taking_port b) (SendsSo bytes sends.NotYet input.port input'.port) (input' ≡ input)) on.1 at_in) in
     let taken = send_untaken on.0 sends.NotYet bytes output output' refl (on_slot (base place) on.0 (λ b. AtOutput (taking_port b) (SendsSo bytes sends.NotYet output.port output'.port) (output' ≡ output)) on.1 at_out) in
     let unsaid = send_unsaid on.0 sends.NotYet bytes errors errors' refl (on_slot (base place) on.0 (λ b. AtErrors (taking_port b) (SendsSo bytes sends.NotYet errors.port errors'.port) (errors' ≡ errors)) on.1 at_err) in
-    still_follows (send_act place bytes sends.NotYet) old new base base' input.port.gave input'.port.gave output.port.took output'.port.took errors.port.took errors'.port.took input.port.ended input'.port.ended (λ own past. (refl, (refl, (refl, (refl, refl))))) did same given taken unsaid kept
-send_follows sends.Failed place bytes old new base base' input input' output output' errors errors' some did at_in at_out at_err same =
+    still_follows (send_act place bytes sends.NotYet) told told' base base' input.port.gave input'.port.gave output.port.took output'.port.took errors.port.took errors'.port.took input.port.ended input'.port.ended (λ own past. (refl, (refl, (refl, (refl, refl))))) did same given taken unsaid kept
+send_follows sends.Failed place bytes told told' base base' input input' output output' errors errors' some did at_in at_out at_err same =
     let on = found (base place) some in
     let given = send_ungiven on.0 sends.Failed bytes input input' (on_slot (base place) on.0 (λ b. AtInput (taking_port b) (SendsSo bytes sends.Failed input.port input'.port) (input' ≡ input)) on.1 at_in) in
     let kept = send_unended on.0 sends.Failed bytes input input' (on_slot (base place) on.0 (λ b. AtInput (taking_port b) (SendsSo bytes sends.Failed input.port input'.port) (input' ≡ input)) on.1 at_in) in
     let taken = send_untaken on.0 sends.Failed bytes output output' refl (on_slot (base place) on.0 (λ b. AtOutput (taking_port b) (SendsSo bytes sends.Failed output.port output'.port) (output' ≡ output)) on.1 at_out) in
     let unsaid = send_unsaid on.0 sends.Failed bytes errors errors' refl (on_slot (base place) on.0 (λ b. AtErrors (taking_port b) (SendsSo bytes sends.Failed errors.port errors'.port) (errors' ≡ errors)) on.1 at_err) in
-    still_follows (send_act place bytes sends.Failed) old new base base' input.port.gave input'.port.gave output.port.took output'.port.took errors.port.took errors'.port.took input.port.ended input'.port.ended (λ own past. (refl, (refl, (refl, (refl, refl))))) did same given taken unsaid kept
-send_follows sends.Memory place bytes old new base base' input input' output output' errors errors' some did at_in at_out at_err same =
+    still_follows (send_act place bytes sends.Failed) told told' base base' input.port.gave input'.port.gave output.port.took output'.port.took errors.port.took errors'.port.took input.port.ended input'.port.ended (λ own past. (refl, (refl, (refl, (refl, refl))))) did same given taken unsaid kept
+send_follows sends.Memory place bytes told told' base base' input input' output output' errors errors' some did at_in at_out at_err same =
     let on = found (base place) some in
     let given = send_ungiven on.0 sends.Memory bytes input input' (on_slot (base place) on.0 (λ b. AtInput (taking_port b) (SendsSo bytes sends.Memory input.port input'.port) (input' ≡ input)) on.1 at_in) in
     let kept = send_unended on.0 sends.Memory bytes input input' (on_slot (base place) on.0 (λ b. AtInput (taking_port b) (SendsSo bytes sends.Memory input.port input'.port) (input' ≡ input)) on.1 at_in) in
     let taken = send_untaken on.0 sends.Memory bytes output output' refl (on_slot (base place) on.0 (λ b. AtOutput (taking_port b) (SendsSo bytes sends.Memory output.port output'.port) (output' ≡ output)) on.1 at_out) in
     let unsaid = send_unsaid on.0 sends.Memory bytes errors errors' refl (on_slot (base place) on.0 (λ b. AtErrors (taking_port b) (SendsSo bytes sends.Memory errors.port errors'.port) (errors' ≡ errors)) on.1 at_err) in
-    still_follows (send_act place bytes sends.Memory) old new base base' input.port.gave input'.port.gave output.port.took output'.port.took errors.port.took errors'.port.took input.port.ended input'.port.ended tt did same given taken unsaid kept
+    still_follows (send_act place bytes sends.Memory) told told' base base' input.port.gave input'.port.gave output.port.took output'.port.took errors.port.took errors'.port.took input.port.ended input'.port.ended tt did same given taken unsaid kept
 
 -- ---- a shut
 
@@ -497,14 +496,14 @@ shut_is_still place how shuts.Done = λ own past. (refl, (refl, (refl, (refl, re
 shut_is_still place how shuts.Failed = λ own past. (refl, (refl, (refl, (refl, refl))))
 shut_is_still place how shuts.Memory = tt
 
-pub shut_follows : (result : ShutAnswer) (place : Place) (how : Shut) (old new : Seen) (base base' : Place → Option Base) (input input' output output' errors errors' : StreamSeen) → is_some (base place) ≡ true → Answered old new (shut_act place how result) → IfSome (base place) (λ b. AtInput (taking_port b) (ShutsSo how result input.port input'.port) (input' ≡ input)) → IfSome (base place) (λ b. AtOutput (taking_port b) (ShutsSo how result output.port output'.port) (output' ≡ output)) → IfSome (base place) (λ b. AtErrors (taking_port b) (ShutsSo how result errors.port errors'.port) (errors' ≡ errors)) → SameBases base base' → FollowsTold old.told base input.port.gave output.port.took errors.port.took input.port.ended → FollowsTold new.told base' input'.port.gave output'.port.took errors'.port.took input'.port.ended
-shut_follows result place how old new base base' input input' output output' errors errors' some did at_in at_out at_err same =
+pub shut_follows : (result : ShutAnswer) (place : Place) (how : Shut) (told told' : Option History) (base base' : Place → Option Base) (input input' output output' errors errors' : StreamSeen) → is_some (base place) ≡ true → Tells (shut_act place how result) told told' → IfSome (base place) (λ b. AtInput (taking_port b) (ShutsSo how result input.port input'.port) (input' ≡ input)) → IfSome (base place) (λ b. AtOutput (taking_port b) (ShutsSo how result output.port output'.port) (output' ≡ output)) → IfSome (base place) (λ b. AtErrors (taking_port b) (ShutsSo how result errors.port errors'.port) (errors' ≡ errors)) → SameBases base base' → FollowsTold told base input.port.gave output.port.took errors.port.took input.port.ended → FollowsTold told' base' input'.port.gave output'.port.took errors'.port.took input'.port.ended
+shut_follows result place how told told' base base' input input' output output' errors errors' some did at_in at_out at_err same =
     let on = found (base place) some in
     let given = shut_ungiven on.0 how result input input' (on_slot (base place) on.0 (λ b. AtInput (taking_port b) (ShutsSo how result input.port input'.port) (input' ≡ input)) on.1 at_in) in
     let kept = shut_unended on.0 how result input input' (on_slot (base place) on.0 (λ b. AtInput (taking_port b) (ShutsSo how result input.port input'.port) (input' ≡ input)) on.1 at_in) in
     let taken = shut_untaken on.0 how result output output' (on_slot (base place) on.0 (λ b. AtOutput (taking_port b) (ShutsSo how result output.port output'.port) (output' ≡ output)) on.1 at_out) in
     let unsaid = shut_unsaid on.0 how result errors errors' (on_slot (base place) on.0 (λ b. AtErrors (taking_port b) (ShutsSo how result errors.port errors'.port) (errors' ≡ errors)) on.1 at_err) in
-    still_follows (shut_act place how result) old new base base' input.port.gave input'.port.gave output.port.took output'.port.took errors.port.took errors'.port.took input.port.ended input'.port.ended (shut_is_still place how result) did same given taken unsaid kept
+    still_follows (shut_act place how result) told told' base base' input.port.gave input'.port.gave output.port.took output'.port.took errors.port.took errors'.port.took input.port.ended input'.port.ended (shut_is_still place how result) did same given taken unsaid kept
 
 -- ---- a wait, a note and a reaping
 
@@ -512,9 +511,9 @@ wait_is_still : (until : Option ℕ) (ready : Listed) (result : Turned) → IfSo
 wait_is_still until ready (turns.Turned at stop) = λ own past. (refl, (refl, (refl, (refl, refl))))
 wait_is_still until ready turns.Memory = tt
 
-pub wait_follows : (result : Turned) (until : Option ℕ) (ready : Listed) (old new : Seen) (base base' : Place → Option Base) (input input' output output' errors errors' : StreamSeen) → Answered old new (wait_act until ready result) → input'.port ≡ input.port → output'.port ≡ output.port → errors'.port ≡ errors.port → SameBases base base' → FollowsTold old.told base input.port.gave output.port.took errors.port.took input.port.ended → FollowsTold new.told base' input'.port.gave output'.port.took errors'.port.took input'.port.ended
-wait_follows result until ready old new base base' input input' output output' errors errors' did in_same out_same err_same same =
-    still_follows (wait_act until ready result) old new base base' input.port.gave input'.port.gave output.port.took output'.port.took errors.port.took errors'.port.took input.port.ended input'.port.ended (wait_is_still until ready result) did same (ap (λ (p : PortSeen). p.gave) in_same) (ap (λ (p : PortSeen). p.took) out_same) (ap (λ (p : PortSeen). p.took) err_same) (ap (λ (p : PortSeen). p.ended) in_same)
+pub wait_follows : (result : Turned) (until : Option ℕ) (ready : Listed) (told told' : Option History) (base base' : Place → Option Base) (input input' output output' errors errors' : StreamSeen) → Tells (wait_act until ready result) told told' → input'.port ≡ input.port → output'.port ≡ output.port → errors'.port ≡ errors.port → SameBases base base' → FollowsTold told base input.port.gave output.port.took errors.port.took input.port.ended → FollowsTold told' base' input'.port.gave output'.port.took errors'.port.took input'.port.ended
+wait_follows result until ready told told' base base' input input' output output' errors errors' did in_same out_same err_same same =
+    still_follows (wait_act until ready result) told told' base base' input.port.gave input'.port.gave output.port.took output'.port.took errors.port.took errors'.port.took input.port.ended input'.port.ended (wait_is_still until ready result) did same (ap (λ (p : PortSeen). p.gave) in_same) (ap (λ (p : PortSeen). p.took) out_same) (ap (λ (p : PortSeen). p.took) err_same) (ap (λ (p : PortSeen). p.ended) in_same)
 
 noted_bytes : (own : Place → Single) (text : List ℕ) (base base' : Place → Option Base) (gave gave' took took' said said' : Option (List ℕ)) (over over' : Bool) → gave' ≡ gave → took' ≡ took → said' ≡ option_map (λ all. all ++ text) said → over' ≡ over → SameBases base base' → Goes own (acts.Note text) base base' gave gave' took took' said said' over over'
 noted_bytes own text base base' gave gave' took took' said said' over over' e f g k same past follows = record {
@@ -535,39 +534,39 @@ note_failed own text base base' gave gave' took took' said said' over over' e f 
   over = kept_over _ _ over over' k refl follows.over;
 }
 
-pub note_follows : (result : NoteAnswer) (text : List ℕ) (old new : Seen) (base base' : Place → Option Base) (input input' output output' errors errors' : StreamSeen) → Answered old new (note_act text result) → input' ≡ input → output' ≡ output → NotedSo result errors.port.took errors'.port.took text → SameBases base base' → FollowsTold old.told base input.port.gave output.port.took errors.port.took input.port.ended → FollowsTold new.told base' input'.port.gave output'.port.took errors'.port.took input'.port.ended
-note_follows notes.Noted text old new base base' input input' output output' errors errors' did in_same out_same says same =
-    acted old.told new.told (acts.Note text) base base' input.port.gave input'.port.gave output.port.took output'.port.took errors.port.took errors'.port.took input.port.ended input'.port.ended did.told
+pub note_follows : (result : NoteAnswer) (text : List ℕ) (told told' : Option History) (base base' : Place → Option Base) (input input' output output' errors errors' : StreamSeen) → Tells (note_act text result) told told' → input' ≡ input → output' ≡ output → NotedSo result errors.port.took errors'.port.took text → SameBases base base' → FollowsTold told base input.port.gave output.port.took errors.port.took input.port.ended → FollowsTold told' base' input'.port.gave output'.port.took errors'.port.took input'.port.ended
+note_follows notes.Noted text told told' base base' input input' output output' errors errors' did in_same out_same says same =
+    acted told told' (acts.Note text) base base' input.port.gave input'.port.gave output.port.took output'.port.took errors.port.took errors'.port.took input.port.ended input'.port.ended did
     (λ own elsewhere. noted_bytes own text base base' input.port.gave input'.port.gave output.port.took output'.port.took errors.port.took errors'.port.took input.port.ended input'.port.ended (gave_of input input' in_same) (took_of output output' out_same) says (ended_of input input' in_same) same)
-note_follows notes.Failed text old new base base' input input' output output' errors errors' did in_same out_same says same =
-    acted old.told new.told (acts.NoteFault text) base base' input.port.gave input'.port.gave output.port.took output'.port.took errors.port.took errors'.port.took input.port.ended input'.port.ended did.told
+note_follows notes.Failed text told told' base base' input input' output output' errors errors' did in_same out_same says same =
+    acted told told' (acts.NoteFault text) base base' input.port.gave input'.port.gave output.port.took output'.port.took errors.port.took errors'.port.took input.port.ended input'.port.ended did
     (λ own elsewhere. note_failed own text base base' input.port.gave input'.port.gave output.port.took output'.port.took errors.port.took errors'.port.took input.port.ended input'.port.ended (gave_of input input' in_same) (took_of output output' out_same) (ended_of input input' in_same) same)
-note_follows notes.Memory text old new base base' input input' output output' errors errors' did in_same out_same says same =
-    nothing old.told new.told base base' input.port.gave input'.port.gave output.port.took output'.port.took errors.port.took errors'.port.took input.port.ended input'.port.ended did.told same (gave_of input input' in_same) (took_of output output' out_same) says (ended_of input input' in_same)
+note_follows notes.Memory text told told' base base' input input' output output' errors errors' did in_same out_same says same =
+    nothing told told' base base' input.port.gave input'.port.gave output.port.took output'.port.took errors.port.took errors'.port.took input.port.ended input'.port.ended did same (gave_of input input' in_same) (took_of output output' out_same) says (ended_of input input' in_same)
 
 reap_is_still : (place : Place) (result : ReapAnswer) → IfSome (reap_act place result) IsStill
 reap_is_still place (reaps.Reaped end) = λ own past. (refl, (refl, (refl, (refl, refl))))
 reap_is_still place reaps.NoChild = tt
 reap_is_still place reaps.Memory = tt
 
-pub reap_follows : (result : ReapAnswer) (place : Place) (old new : Seen) (base base' : Place → Option Base) (input input' output output' errors errors' : StreamSeen) → Answered old new (reap_act place result) → input' ≡ input → output' ≡ output → errors' ≡ errors → SameBases base base' → FollowsTold old.told base input.port.gave output.port.took errors.port.took input.port.ended → FollowsTold new.told base' input'.port.gave output'.port.took errors'.port.took input'.port.ended
-reap_follows result place old new base base' input input' output output' errors errors' did in_same out_same err_same same =
-    still_follows (reap_act place result) old new base base' input.port.gave input'.port.gave output.port.took output'.port.took errors.port.took errors'.port.took input.port.ended input'.port.ended (reap_is_still place result) did same (gave_of input input' in_same) (took_of output output' out_same) (took_of errors errors' err_same) (ended_of input input' in_same)
+pub reap_follows : (result : ReapAnswer) (place : Place) (told told' : Option History) (base base' : Place → Option Base) (input input' output output' errors errors' : StreamSeen) → Tells (reap_act place result) told told' → input' ≡ input → output' ≡ output → errors' ≡ errors → SameBases base base' → FollowsTold told base input.port.gave output.port.took errors.port.took input.port.ended → FollowsTold told' base' input'.port.gave output'.port.took errors'.port.took input'.port.ended
+reap_follows result place told told' base base' input input' output output' errors errors' did in_same out_same err_same same =
+    still_follows (reap_act place result) told told' base base' input.port.gave input'.port.gave output.port.took output'.port.took errors.port.took errors'.port.took input.port.ended input'.port.ended (reap_is_still place result) did same (gave_of input input' in_same) (took_of output output' out_same) (took_of errors errors' err_same) (ended_of input input' in_same)
 
 -- ---- what opens and closes places
 
-pub open_follows : (result : OpenAnswer) (place : Place) (single : Single) (old new : Seen) (base base' : Place → Option Base) (input input' output output' errors errors' : StreamSeen) → AnsweredAsking (place, single) old new (open_act place result) → MovesNothing input.port input'.port → MovesNothing output.port output'.port → MovesNothing errors.port errors'.port → input'.port.ended ≡ input.port.ended → OpensOn (standard_of place single.target) place base base' result → FollowsTold old.told base input.port.gave output.port.took errors.port.took input.port.ended → FollowsTold new.told base' input'.port.gave output'.port.took errors'.port.took input'.port.ended
-open_follows opens.Opened place single old new base base' input input' output output' errors errors' did in_still out_still err_still kept on =
-    asked old.told new.told (acts.Opened place) (place, single) base base' input.port.gave input'.port.gave output.port.took output'.port.took errors.port.took errors'.port.took input.port.ended input'.port.ended did.told
+pub open_follows : (result : OpenAnswer) (place : Place) (single : Single) (told told' : Option History) (base base' : Place → Option Base) (input input' output output' errors errors' : StreamSeen) → TellsAsking (place, single) (open_act place result) told told' → MovesNothing input.port input'.port → MovesNothing output.port output'.port → MovesNothing errors.port errors'.port → input'.port.ended ≡ input.port.ended → OpensOn (standard_of place single.target) place base base' result → FollowsTold told base input.port.gave output.port.took errors.port.took input.port.ended → FollowsTold told' base' input'.port.gave output'.port.took errors'.port.took input'.port.ended
+open_follows opens.Opened place single told told' base base' input input' output output' errors errors' did in_still out_still err_still kept on =
+    asked told told' (acts.Opened place) (place, single) base base' input.port.gave input'.port.gave output.port.took output'.port.took errors.port.took errors'.port.took input.port.ended input'.port.ended did
     (λ own elsewhere is. quiet own (acts.Opened place) base base' input.port.gave input'.port.gave output.port.took output'.port.took errors.port.took errors'.port.took input.port.ended input'.port.ended (stands_comes own place (standard_of place single.target) base base' (ap (λ (s : Single). standard_of place s.target) (sym is)) on) in_still.gave out_still.took err_still.took kept (λ past. (refl, (refl, (refl, (refl, refl))))))
-open_follows opens.Later place single old new base base' input input' output output' errors errors' did in_still out_still err_still kept on =
-    asked old.told new.told (acts.OpenLater place) (place, single) base base' input.port.gave input'.port.gave output.port.took output'.port.took errors.port.took errors'.port.took input.port.ended input'.port.ended did.told
+open_follows opens.Later place single told told' base base' input input' output output' errors errors' did in_still out_still err_still kept on =
+    asked told told' (acts.OpenLater place) (place, single) base base' input.port.gave input'.port.gave output.port.took output'.port.took errors.port.took errors'.port.took input.port.ended input'.port.ended did
     (λ own elsewhere is. quiet own (acts.OpenLater place) base base' input.port.gave input'.port.gave output.port.took output'.port.took errors.port.took errors'.port.took input.port.ended input'.port.ended (stands_comes own place (standard_of place single.target) base base' (ap (λ (s : Single). standard_of place s.target) (sym is)) on) in_still.gave out_still.took err_still.took kept (λ past. (refl, (refl, (refl, (refl, refl))))))
-open_follows opens.Failed place single old new base base' input input' output output' errors errors' did in_still out_still err_still kept on =
-    asked old.told new.told (acts.OpenFailed place) (place, single) base base' input.port.gave input'.port.gave output.port.took output'.port.took errors.port.took errors'.port.took input.port.ended input'.port.ended did.told
+open_follows opens.Failed place single told told' base base' input input' output output' errors errors' did in_still out_still err_still kept on =
+    asked told told' (acts.OpenFailed place) (place, single) base base' input.port.gave input'.port.gave output.port.took output'.port.took errors.port.took errors'.port.took input.port.ended input'.port.ended did
     (λ own elsewhere is. quiet own (acts.OpenFailed place) base base' input.port.gave input'.port.gave output.port.took output'.port.took errors.port.took errors'.port.took input.port.ended input'.port.ended (stands_same own base base' on) in_still.gave out_still.took err_still.took kept (λ past. (refl, (refl, (refl, (refl, refl))))))
-open_follows opens.Memory place single old new base base' input input' output output' errors errors' did in_still out_still err_still kept on =
-    nothing old.told new.told base base' input.port.gave input'.port.gave output.port.took output'.port.took errors.port.took errors'.port.took input.port.ended input'.port.ended did.told on in_still.gave out_still.took err_still.took kept
+open_follows opens.Memory place single told told' base base' input input' output output' errors errors' did in_still out_still err_still kept on =
+    nothing told told' base base' input.port.gave input'.port.gave output.port.took output'.port.took errors.port.took errors'.port.took input.port.ended input'.port.ended did on in_still.gave out_still.took err_still.took kept
 
 settles_still : (result : OpenAnswer) (before now : PortSeen) → SettlesSo before now result → (now.gave ≡ before.gave) × (now.took ≡ before.took)
 settles_still opens.Opened before now call = (call.still.gave, call.still.took)
@@ -609,50 +608,50 @@ settle_unsaid bases.Output result errors errors' same = took_of errors errors' s
 settle_unsaid bases.Both result errors errors' same = took_of errors errors' same
 settle_unsaid (bases.Made key) result errors errors' same = took_of errors errors' same
 
-settled : (result : OpenAnswer) (place : Place) (old new : Seen) (base base' : Place → Option Base) (gave gave' took took' said said' : Option (List ℕ)) (over over' : Bool) → Answered old new (open_act place result) → gave' ≡ gave → took' ≡ took → said' ≡ said → over' ≡ over → SettlesOn place base base' result → FollowsTold old.told base gave took said over → FollowsTold new.told base' gave' took' said' over'
-settled opens.Opened place old new base base' gave gave' took took' said said' over over' did e f g k on =
-    still_follows (Some (acts.Opened place)) old new base base' gave gave' took took' said said' over over' (λ own past. (refl, (refl, (refl, (refl, refl))))) did on e f g k
-settled opens.Later place old new base base' gave gave' took took' said said' over over' did e f g k on =
-    still_follows (Some (acts.OpenLater place)) old new base base' gave gave' took took' said said' over over' (λ own past. (refl, (refl, (refl, (refl, refl))))) did on e f g k
-settled opens.Failed place old new base base' gave gave' took took' said said' over over' did e f g k on =
-    acted old.told new.told (acts.OpenFailed place) base base' gave gave' took took' said said' over over' did.told
+settled : (result : OpenAnswer) (place : Place) (told told' : Option History) (base base' : Place → Option Base) (gave gave' took took' said said' : Option (List ℕ)) (over over' : Bool) → Tells (open_act place result) told told' → gave' ≡ gave → took' ≡ took → said' ≡ said → over' ≡ over → SettlesOn place base base' result → FollowsTold told base gave took said over → FollowsTold told' base' gave' took' said' over'
+settled opens.Opened place told told' base base' gave gave' took took' said said' over over' did e f g k on =
+    still_follows (Some (acts.Opened place)) told told' base base' gave gave' took took' said said' over over' (λ own past. (refl, (refl, (refl, (refl, refl))))) did on e f g k
+settled opens.Later place told told' base base' gave gave' took took' said said' over over' did e f g k on =
+    still_follows (Some (acts.OpenLater place)) told told' base base' gave gave' took took' said said' over over' (λ own past. (refl, (refl, (refl, (refl, refl))))) did on e f g k
+settled opens.Failed place told told' base base' gave gave' took took' said said' over over' did e f g k on =
+    acted told told' (acts.OpenFailed place) base base' gave gave' took took' said said' over over' did
     (λ own elsewhere. quiet own (acts.OpenFailed place) base base' gave gave' took took' said said' over over' (stands_leaves own place base base' on) e f g k (λ past. (refl, (refl, (refl, (refl, refl))))))
-settled opens.Memory place old new base base' gave gave' took took' said said' over over' did e f g k on =
-    nothing old.told new.told base base' gave gave' took took' said said' over over' did.told on e f g k
+settled opens.Memory place told told' base base' gave gave' took took' said said' over over' did e f g k on =
+    nothing told told' base base' gave gave' took took' said said' over over' did on e f g k
 
-pub settle_follows : (result : OpenAnswer) (place : Place) (old new : Seen) (base base' : Place → Option Base) (input input' output output' errors errors' : StreamSeen) → is_some (base place) ≡ true → Answered old new (open_act place result) → IfSome (base place) (λ b. AtInput (giving_port b) (SettlesSo input.port input'.port result) (input' ≡ input)) → IfSome (base place) (λ b. AtOutput (giving_port b) (SettlesSo output.port output'.port result) (output' ≡ output)) → IfSome (base place) (λ b. AtErrors (giving_port b) (SettlesSo errors.port errors'.port result) (errors' ≡ errors)) → SettlesOn place base base' result → FollowsTold old.told base input.port.gave output.port.took errors.port.took input.port.ended → FollowsTold new.told base' input'.port.gave output'.port.took errors'.port.took input'.port.ended
-settle_follows result place old new base base' input input' output output' errors errors' some did at_in at_out at_err on_after =
+pub settle_follows : (result : OpenAnswer) (place : Place) (told told' : Option History) (base base' : Place → Option Base) (input input' output output' errors errors' : StreamSeen) → is_some (base place) ≡ true → Tells (open_act place result) told told' → IfSome (base place) (λ b. AtInput (giving_port b) (SettlesSo input.port input'.port result) (input' ≡ input)) → IfSome (base place) (λ b. AtOutput (giving_port b) (SettlesSo output.port output'.port result) (output' ≡ output)) → IfSome (base place) (λ b. AtErrors (giving_port b) (SettlesSo errors.port errors'.port result) (errors' ≡ errors)) → SettlesOn place base base' result → FollowsTold told base input.port.gave output.port.took errors.port.took input.port.ended → FollowsTold told' base' input'.port.gave output'.port.took errors'.port.took input'.port.ended
+settle_follows result place told told' base base' input input' output output' errors errors' some did at_in at_out at_err on_after =
     let on = found (base place) some in
     let given = settle_ungiven on.0 result input input' (on_slot (base place) on.0 (λ b. AtInput (giving_port b) (SettlesSo input.port input'.port result) (input' ≡ input)) on.1 at_in) in
     let kept = settle_unended on.0 result input input' (on_slot (base place) on.0 (λ b. AtInput (giving_port b) (SettlesSo input.port input'.port result) (input' ≡ input)) on.1 at_in) in
     let taken = settle_untaken on.0 result output output' (on_slot (base place) on.0 (λ b. AtOutput (giving_port b) (SettlesSo output.port output'.port result) (output' ≡ output)) on.1 at_out) in
     let unsaid = settle_unsaid on.0 result errors errors' (on_slot (base place) on.0 (λ b. AtErrors (giving_port b) (SettlesSo errors.port errors'.port result) (errors' ≡ errors)) on.1 at_err) in
-    settled result place old new base base' input.port.gave input'.port.gave output.port.took output'.port.took errors.port.took errors'.port.took input.port.ended input'.port.ended did given taken unsaid kept on_after
+    settled result place told told' base base' input.port.gave input'.port.gave output.port.took output'.port.took errors.port.took errors'.port.took input.port.ended input'.port.ended did given taken unsaid kept on_after
 
-pub listen_follows : (result : ListenAnswer) (door : Place) (single : Single) (old new : Seen) (base base' : Place → Option Base) (input input' output output' errors errors' : StreamSeen) → AnsweredAsking (door, single) old new (listen_act door result) → input' ≡ input → output' ≡ output → errors' ≡ errors → ListensOn door base base' result → FollowsTold old.told base input.port.gave output.port.took errors.port.took input.port.ended → FollowsTold new.told base' input'.port.gave output'.port.took errors'.port.took input'.port.ended
-listen_follows listens.Listening door single old new base base' input input' output output' errors errors' did in_same out_same err_same on =
-    asked old.told new.told (acts.Listening door) (door, single) base base' input.port.gave input'.port.gave output.port.took output'.port.took errors.port.took errors'.port.took input.port.ended input'.port.ended did.told
+pub listen_follows : (result : ListenAnswer) (door : Place) (single : Single) (told told' : Option History) (base base' : Place → Option Base) (input input' output output' errors errors' : StreamSeen) → TellsAsking (door, single) (listen_act door result) told told' → input' ≡ input → output' ≡ output → errors' ≡ errors → ListensOn door base base' result → FollowsTold told base input.port.gave output.port.took errors.port.took input.port.ended → FollowsTold told' base' input'.port.gave output'.port.took errors'.port.took input'.port.ended
+listen_follows listens.Listening door single told told' base base' input input' output output' errors errors' did in_same out_same err_same on =
+    asked told told' (acts.Listening door) (door, single) base base' input.port.gave input'.port.gave output.port.took output'.port.took errors.port.took errors'.port.took input.port.ended input'.port.ended did
     (λ own elsewhere is. quiet own (acts.Listening door) base base' input.port.gave input'.port.gave output.port.took output'.port.took errors.port.took errors'.port.took input.port.ended input'.port.ended (stands_comes own door None base base' elsewhere on) (gave_of input input' in_same) (took_of output output' out_same) (took_of errors errors' err_same) (ended_of input input' in_same) (λ past. (refl, (refl, (refl, (refl, refl))))))
-listen_follows listens.Failed door single old new base base' input input' output output' errors errors' did in_same out_same err_same on =
-    asked old.told new.told (acts.ListenFailed door) (door, single) base base' input.port.gave input'.port.gave output.port.took output'.port.took errors.port.took errors'.port.took input.port.ended input'.port.ended did.told
+listen_follows listens.Failed door single told told' base base' input input' output output' errors errors' did in_same out_same err_same on =
+    asked told told' (acts.ListenFailed door) (door, single) base base' input.port.gave input'.port.gave output.port.took output'.port.took errors.port.took errors'.port.took input.port.ended input'.port.ended did
     (λ own elsewhere is. quiet own (acts.ListenFailed door) base base' input.port.gave input'.port.gave output.port.took output'.port.took errors.port.took errors'.port.took input.port.ended input'.port.ended (stands_same own base base' on) (gave_of input input' in_same) (took_of output output' out_same) (took_of errors errors' err_same) (ended_of input input' in_same) (λ past. (refl, (refl, (refl, (refl, refl))))))
-listen_follows listens.Memory door single old new base base' input input' output output' errors errors' did in_same out_same err_same on =
-    nothing old.told new.told base base' input.port.gave input'.port.gave output.port.took output'.port.took errors.port.took errors'.port.took input.port.ended input'.port.ended did.told on (gave_of input input' in_same) (took_of output output' out_same) (took_of errors errors' err_same) (ended_of input input' in_same)
+listen_follows listens.Memory door single told told' base base' input input' output output' errors errors' did in_same out_same err_same on =
+    nothing told told' base base' input.port.gave input'.port.gave output.port.took output'.port.took errors.port.took errors'.port.took input.port.ended input'.port.ended did on (gave_of input input' in_same) (took_of output output' out_same) (took_of errors errors' err_same) (ended_of input input' in_same)
 
-pub accept_follows : (result : AcceptAnswer) (door place : Place) (old new : Seen) (base base' : Place → Option Base) (input input' output output' errors errors' : StreamSeen) → Answered old new (accept_act door place result) → input' ≡ input → output' ≡ output → errors' ≡ errors → AcceptsOn place base base' result → FollowsTold old.told base input.port.gave output.port.took errors.port.took input.port.ended → FollowsTold new.told base' input'.port.gave output'.port.took errors'.port.took input'.port.ended
-accept_follows (accepts.Accepted peer) door place old new base base' input input' output output' errors errors' did in_same out_same err_same on =
-    acted old.told new.told (acts.Accepted place peer) base base' input.port.gave input'.port.gave output.port.took output'.port.took errors.port.took errors'.port.took input.port.ended input'.port.ended did.told
+pub accept_follows : (result : AcceptAnswer) (door place : Place) (told told' : Option History) (base base' : Place → Option Base) (input input' output output' errors errors' : StreamSeen) → Tells (accept_act door place result) told told' → input' ≡ input → output' ≡ output → errors' ≡ errors → AcceptsOn place base base' result → FollowsTold told base input.port.gave output.port.took errors.port.took input.port.ended → FollowsTold told' base' input'.port.gave output'.port.took errors'.port.took input'.port.ended
+accept_follows (accepts.Accepted peer) door place told told' base base' input input' output output' errors errors' did in_same out_same err_same on =
+    acted told told' (acts.Accepted place peer) base base' input.port.gave input'.port.gave output.port.took output'.port.took errors.port.took errors'.port.took input.port.ended input'.port.ended did
     (λ own elsewhere. quiet own (acts.Accepted place peer) base base' input.port.gave input'.port.gave output.port.took output'.port.took errors.port.took errors'.port.took input.port.ended input'.port.ended (stands_comes own place None base base' elsewhere on) (gave_of input input' in_same) (took_of output output' out_same) (took_of errors errors' err_same) (ended_of input input' in_same) (λ past. (refl, (refl, (refl, (refl, refl))))))
-accept_follows accepts.NoPeer door place old new base base' input input' output output' errors errors' did in_same out_same err_same on =
-    still_follows (Some (acts.NoPeer door)) old new base base' input.port.gave input'.port.gave output.port.took output'.port.took errors.port.took errors'.port.took input.port.ended input'.port.ended (λ own past. (refl, (refl, (refl, (refl, refl))))) did on (gave_of input input' in_same) (took_of output output' out_same) (took_of errors errors' err_same) (ended_of input input' in_same)
-accept_follows accepts.Failed door place old new base base' input input' output output' errors errors' did in_same out_same err_same on =
-    still_follows (Some (acts.AcceptFailed door)) old new base base' input.port.gave input'.port.gave output.port.took output'.port.took errors.port.took errors'.port.took input.port.ended input'.port.ended (λ own past. (refl, (refl, (refl, (refl, refl))))) did on (gave_of input input' in_same) (took_of output output' out_same) (took_of errors errors' err_same) (ended_of input input' in_same)
-accept_follows accepts.Memory door place old new base base' input input' output output' errors errors' did in_same out_same err_same on =
-    nothing old.told new.told base base' input.port.gave input'.port.gave output.port.took output'.port.took errors.port.took errors'.port.took input.port.ended input'.port.ended did.told on (gave_of input input' in_same) (took_of output output' out_same) (took_of errors errors' err_same) (ended_of input input' in_same)
+accept_follows accepts.NoPeer door place told told' base base' input input' output output' errors errors' did in_same out_same err_same on =
+    still_follows (Some (acts.NoPeer door)) told told' base base' input.port.gave input'.port.gave output.port.took output'.port.took errors.port.took errors'.port.took input.port.ended input'.port.ended (λ own past. (refl, (refl, (refl, (refl, refl))))) did on (gave_of input input' in_same) (took_of output output' out_same) (took_of errors errors' err_same) (ended_of input input' in_same)
+accept_follows accepts.Failed door place told told' base base' input input' output output' errors errors' did in_same out_same err_same on =
+    still_follows (Some (acts.AcceptFailed door)) told told' base base' input.port.gave input'.port.gave output.port.took output'.port.took errors.port.took errors'.port.took input.port.ended input'.port.ended (λ own past. (refl, (refl, (refl, (refl, refl))))) did on (gave_of input input' in_same) (took_of output output' out_same) (took_of errors errors' err_same) (ended_of input input' in_same)
+accept_follows accepts.Memory door place told told' base base' input input' output output' errors errors' did in_same out_same err_same on =
+    nothing told told' base base' input.port.gave input'.port.gave output.port.took output'.port.took errors.port.took errors'.port.took input.port.ended input'.port.ended did on (gave_of input input' in_same) (took_of output output' out_same) (took_of errors errors' err_same) (ended_of input input' in_same)
 
-pub close_follows : (place : Place) (why : Why) (old new : Seen) (base base' : Place → Option Base) (input input' output output' errors errors' : StreamSeen) → Answered old new (close_act place why) → input' ≡ input → output' ≡ output → errors' ≡ errors → Leaves place base base' → FollowsTold old.told base input.port.gave output.port.took errors.port.took input.port.ended → FollowsTold new.told base' input'.port.gave output'.port.took errors'.port.took input'.port.ended
-close_follows place why old new base base' input input' output output' errors errors' did in_same out_same err_same on =
-    acted old.told new.told (acts.Closed place why) base base' input.port.gave input'.port.gave output.port.took output'.port.took errors.port.took errors'.port.took input.port.ended input'.port.ended did.told
+pub close_follows : (place : Place) (why : Why) (told told' : Option History) (base base' : Place → Option Base) (input input' output output' errors errors' : StreamSeen) → Tells (close_act place why) told told' → input' ≡ input → output' ≡ output → errors' ≡ errors → Leaves place base base' → FollowsTold told base input.port.gave output.port.took errors.port.took input.port.ended → FollowsTold told' base' input'.port.gave output'.port.took errors'.port.took input'.port.ended
+close_follows place why told told' base base' input input' output output' errors errors' did in_same out_same err_same on =
+    acted told told' (acts.Closed place why) base base' input.port.gave input'.port.gave output.port.took output'.port.took errors.port.took errors'.port.took input.port.ended input'.port.ended did
     (λ own elsewhere. quiet own (acts.Closed place why) base base' input.port.gave input'.port.gave output.port.took output'.port.took errors.port.took errors'.port.took input.port.ended input'.port.ended (stands_leaves own place base base' on) (gave_of input input' in_same) (took_of output output' out_same) (took_of errors errors' err_same) (ended_of input input' in_same) (λ past. (refl, (refl, (refl, (refl, refl))))))
 
 -- ---- the start
@@ -668,8 +667,8 @@ starts (Some h) base gave took said over free passed = λ own all elsewhere.
     record { stands = nowhere own base free; given = by.given; taken = by.taken; told = by.told; over = by.over }
 
 -- a desk that starts like this
-pub starts_from : (start : Start) (told : Option History) (base : Place → Option Base) (gave took said : Option (List ℕ)) (over : Bool) → start ≡ record { told = told; gave = gave; took = took; said = said; ended = over } → ((p : Place) → base p ≡ None) → StartsInStep start → FollowsTold told base gave took said over
-starts_from start told base gave took said over is free passed = starts told base gave took said over free (subst StartsInStep is passed)
+pub starts_from : (start : Option Start) (told : Option History) (base : Place → Option Base) (gave took said : Option (List ℕ)) (over : Bool) → start ≡ Some (record { told = told; gave = gave; took = took; said = said; ended = over }) → ((p : Place) → base p ≡ None) → GoesOn start told base gave took said over
+starts_from start told base gave took said over is free = record { follows = λ passed. starts told base gave took said over free (subst StartsInStep is passed) }
 
 -- streams that passed no bytes have passed what a history without acts tells
 pub unused_passed : (history : History) (gave took said : Option (List ℕ)) (over : Bool) → history.acts ≡ [] → IsUnused gave took said → Passed history gave took said over
@@ -706,5 +705,5 @@ passed_by (Some h) base gave took said over follows = λ own all elsewhere. reco
 }
 
 -- the same of a desk that was followed from this start on
-pub passed_since : (start : Start) (told : Option History) (base : Place → Option Base) (gave took said : Option (List ℕ)) (over : Bool) → ∥ (StartsInStep start → FollowsTold told base gave took said over) ∥₁ → StartsInStep start → IfSome told (λ h. Passed h gave took said over)
-passed_since start told base gave took said over follows at = passed_by told base gave took said over (∥∥₁_map follows (λ f. f at))
+pub passed_since : (start : Option Start) (told : Option History) (base : Place → Option Base) (gave took said : Option (List ℕ)) (over : Bool) → ∥ GoesOn start told base gave took said over ∥₁ → StartsInStep start → IfSome told (λ h. Passed h gave took said over)
+passed_since start told base gave took said over follows at = passed_by told base gave took said over (∥∥₁_map follows (λ f. f.follows at))

@@ -6,8 +6,6 @@ use Rattle.relay_model.specs.declared.commands.Single.{Single}
 use Rattle.relay_model.specs.Holding.{is_free}
 use Rattle.relay_model.specs.Journals.{Asking, History}
 use Rattle.relay_model.specs.Places.{same_place}
-use Rattle.world_trait.specs.Answers.{Answered}
-use Rattle.world_trait.specs.Seen.{Seen}
 use Rattle.world_trait.specs.Recordings.{with_act, with_asking}
 use Rattle.port_table.specs.Ports.{StreamSeen}
 use Rattle.port_table.specs.declared.bases.Base.{Base}
@@ -16,6 +14,7 @@ use Rattle.desk_places.specs.declared.stations.Station.{Station}
 use Rattle.desk_places.specs.PlaceBases.{ComesOn, Leaves, SameBases, StandsFor}
 use Rattle.desk_places.specs.Stations.{base_at, hold_at, hold_by, station_at}
 use Rattle.desk_places.proofs.PlaceLemmas.{same_place-eq}
+use Rattle.port_desk.specs.Records.{Tells}
 use Rattle.port_desk.specs.Following.{AllOwn, Follows, FollowsTold, IsElsewhere, are_noted, errors_written, input_ended, input_read, output_written, reads_input, stream_of, writes_errors, writes_output}
 
 -- ---- what a place stands on
@@ -178,9 +177,9 @@ ended_of stream stream' same = ap (λ (s : StreamSeen). s.port.ended) same
 abbrev pub IsStill : Act → Type 0
 IsStill act = (own : Place → Single) (past : List Act) → IsStillAt own act past
 
-pub still_follows : (made : Option Act) (old new : Seen) (base base' : Place → Option Base) (gave gave' took took' said said' : Option (List ℕ)) (over over' : Bool) → IfSome made IsStill → Answered old new made → SameBases base base' → gave' ≡ gave → took' ≡ took → said' ≡ said → over' ≡ over → FollowsTold old.told base gave took said over → FollowsTold new.told base' gave' took' said' over'
-still_follows None old new base base' gave gave' took took' said said' over over' is_still did same e f g k =
-    nothing old.told new.told base base' gave gave' took took' said said' over over' did.told same e f g k
-still_follows (Some act) old new base base' gave gave' took took' said said' over over' is_still did same e f g k =
-    acted old.told new.told act base base' gave gave' took took' said said' over over' did.told
+pub still_follows : (made : Option Act) (told told' : Option History) (base base' : Place → Option Base) (gave gave' took took' said said' : Option (List ℕ)) (over over' : Bool) → IfSome made IsStill → Tells made told told' → SameBases base base' → gave' ≡ gave → took' ≡ took → said' ≡ said → over' ≡ over → FollowsTold told base gave took said over → FollowsTold told' base' gave' took' said' over'
+still_follows None told told' base base' gave gave' took took' said said' over over' is_still did same e f g k =
+    nothing told told' base base' gave gave' took took' said said' over over' did same e f g k
+still_follows (Some act) told told' base base' gave gave' took took' said said' over over' is_still did same e f g k =
+    acted told told' act base base' gave gave' took took' said said' over over' did
     (λ own elsewhere. quiet own act base base' gave gave' took took' said said' over over' (stands_same own base base' same) e f g k (is_still own))

@@ -1,30 +1,19 @@
 -- The one call on a port that stands behind an answer of a desk. After `Memory` none was made.
 use Rattle.std.specs.Prelude.{◌≡◌, ◌≤◌, ◌&&◌, ◌⊎◌, ℕ, Bool, not, List, Option, None, Some, IfSome, ⊤}
 use Rattle.port_trait.specs.Counting.{Counted}
-use Rattle.relay_model.specs.Readiness.{names}
-use Rattle.relay_model.specs.declared.acts.Shut.{Shut}
-use Rattle.relay_model.specs.declared.places.Half.{Half}
-use Rattle.relay_model.specs.declared.places.Place.{Place}
-use Rattle.relay_model.specs.declared.readiness.ReadyAt.{ReadyAt}
-use Rattle.desk_places.specs.Marks.{SameMarks}
-use Rattle.port_table.specs.PortTables.{StreamNotes}
-use Rattle.port_trait.specs.Ports.{PortSeen, Reads, Writes, Sends, Shuts}
-use Rattle.port_table.specs.Ports.{StreamSeen}
-use Rattle.port_trait.specs.declared.pollers.Polled.{Polled}
+use Rattle.relay_model.specs.{names, Shut, Half, Place, ReadyAt}
+use Rattle.desk_places.specs.{SameMarks}
+use Rattle.port_table.specs.{StreamNotes, StreamSeen}
+use Rattle.port_trait.specs.{PortSeen, Reads, Writes, Sends, Shuts, Polled}
 use Rattle.port_trait.specs.declared.answers.Got.TheVariants as gots
 use Rattle.port_trait.specs.declared.answers.Took.TheVariants as tooks
 use Rattle.port_trait.specs.declared.answers.Shutting.TheVariants as shuttings
-use Rattle.world_trait.specs.declared.answers.Turned.{Turned}
+use Rattle.world_trait.specs.{Turned, ReadAnswer, WriteAnswer, SendAnswer, ShutAnswer, NoteAnswer}
 use Rattle.world_trait.specs.declared.answers.Turned.TheVariants as turns
-use Rattle.world_trait.specs.declared.answers.ReadAnswer.{ReadAnswer}
 use Rattle.world_trait.specs.declared.answers.ReadAnswer.TheVariants as reads
-use Rattle.world_trait.specs.declared.answers.WriteAnswer.{WriteAnswer}
 use Rattle.world_trait.specs.declared.answers.WriteAnswer.TheVariants as writes
-use Rattle.world_trait.specs.declared.answers.SendAnswer.{SendAnswer}
 use Rattle.world_trait.specs.declared.answers.SendAnswer.TheVariants as sends
-use Rattle.world_trait.specs.declared.answers.ShutAnswer.{ShutAnswer}
 use Rattle.world_trait.specs.declared.answers.ShutAnswer.TheVariants as shuts
-use Rattle.world_trait.specs.declared.answers.NoteAnswer.{NoteAnswer}
 use Rattle.world_trait.specs.declared.answers.NoteAnswer.TheVariants as notes
 
 -- a read of the desk is one of the port

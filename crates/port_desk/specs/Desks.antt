@@ -1,24 +1,14 @@
 -- What a call makes of a desk, in one word for each thing that it may change: what is kept of it, and the ports.
 use Rattle.std.specs.Prelude.{◌≡◌, Bool, true, false, Option, None, Some, IfSome, option_map}
-use Rattle.relay_model.specs.declared.acts.Shut.{Shut}
-use Rattle.relay_model.specs.declared.places.Half.{Half}
-use Rattle.relay_model.specs.declared.places.Place.{Place}
-use Rattle.world_trait.specs.Answers.{Rose}
-use Rattle.port_table.specs.PortTables.{CalledAt, EndsAt, PortId}
-use Rattle.port_trait.specs.Ports.{PortSeen}
-use Rattle.port_table.specs.declared.bases.Base.{Base}
-use Rattle.desk_places.specs.Stations.{SetsStation, base_at, station_at, with_half}
-use Rattle.desk_places.specs.declared.stations.Station.{Station}
-use Rattle.world_trait.specs.declared.answers.ReadAnswer.{ReadAnswer}
+use Rattle.relay_model.specs.{Shut, Half, Place}
+use Rattle.world_trait.specs.{Rose, ReadAnswer, WriteAnswer, SendAnswer, ShutAnswer}
+use Rattle.port_table.specs.{CalledAt, EndsAt, PortId, Base}
+use Rattle.port_trait.specs.{PortSeen, finishes}
+use Rattle.desk_places.specs.{SetsStation, base_at, station_at, with_half, Station, Ports}
 use Rattle.world_trait.specs.declared.answers.ReadAnswer.TheVariants as reads
-use Rattle.world_trait.specs.declared.answers.WriteAnswer.{WriteAnswer}
 use Rattle.world_trait.specs.declared.answers.WriteAnswer.TheVariants as writes
-use Rattle.world_trait.specs.declared.answers.SendAnswer.{SendAnswer}
 use Rattle.world_trait.specs.declared.answers.SendAnswer.TheVariants as sends
-use Rattle.world_trait.specs.declared.answers.ShutAnswer.{ShutAnswer}
 use Rattle.world_trait.specs.declared.answers.ShutAnswer.TheVariants as shuts
-use Rattle.port_trait.specs.Streams.{finishes}
-use Rattle.desk_places.specs.declared.ports.Ports.{Ports}
 use Rattle.port_desk.specs.Records.{CountsOnce}
 use Rattle.port_desk.specs.declared.records.Log.{Log}
 

@@ -1,14 +1,10 @@
 -- What passes the standard streams, by the acts of a history and by the address that each place has.
 use Rattle.std.specs.Prelude.{◌≡◌, ℕ, Bool, true, false, not, ◌&&◌, ◌||◌, List, [], ◌∷◌, ◌++◌, Option, None, Some, IfSome, ⊤}
-use Rattle.relay_model.specs.declared.acts.Act.{Act}
+use Rattle.relay_model.specs.{Act, Place, Single, joined}
 use Rattle.relay_model.specs.declared.acts.Act.TheVariants.{Listening, Accepted, Read, ReadEmpty, ReadEnd, ReadNotYet, ReadFault, Wrote, Note, NoteFault}
-use Rattle.relay_model.specs.declared.places.Place.{Place}
-use Rattle.relay_model.specs.declared.commands.Single.{Single}
-use Rattle.relay_model.specs.Choices.{joined}
 use Rattle.relay_model.specs.Journals.{Asking, History}
-use Rattle.port_table.specs.Bases.{standard_of}
-use Rattle.desk_places.specs.PlaceBases.{StandsFor}
-use Rattle.port_table.specs.declared.bases.Base.{Base}
+use Rattle.port_table.specs.{standard_of, Base}
+use Rattle.desk_places.specs.{StandsFor}
 use Rattle.port_table.specs.declared.bases.Base.TheVariants as bases
 
 -- the standard streams that a place stands on by its own address; none where that is of a made port
@@ -140,6 +136,11 @@ pub record Start : Type 0 where
   pub said : Option (List ℕ)
   pub ended : Bool
 
--- the streams had passed what was told
-abbrev pub StartsInStep : Start → Type 0
-StartsInStep start = PassedTold start.told start.gave start.took start.said start.ended
+-- a desk is followed from where its streams had passed what was told
+abbrev pub StartsInStep : Option Start → Type 0
+StartsInStep None = ⊥
+StartsInStep (Some start) = PassedTold start.told start.gave start.took start.said start.ended
+
+-- from a start in step on, places and streams follow what is told
+pub record GoesOn (start : Option Start) (told : Option History) (base : Place → Option Base) (gave took said : Option (List ℕ)) (ended : Bool) : Type 0 where
+  pub follows : StartsInStep start → FollowsTold told base gave took said ended

@@ -2,5 +2,8 @@ pub mod Calls
 pub mod Clocks
 pub mod Desks
 pub mod Following
+pub mod Keeping
 pub mod Models
 pub mod Records
+pub use Following.{Passed, PassedBy, StartsInStep, reads_input, stream_of, writes_output}
+pub use Models.{AreUnused, BeginsHistory, HasPassed, IsFree, start_of}

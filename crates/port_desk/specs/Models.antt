@@ -1,9 +1,8 @@
 -- A desk as its callers see it.
 use Rattle.std.specs.Prelude.{◌≡◌, ℕ, [], Bool, false, Option, Some}
-use Rattle.relay_model.specs.declared.places.Place.{Place}
-use Rattle.relay_model.specs.Holding.{Hold, Free}
+use Rattle.relay_model.specs.{Place, Hold, Free}
 use Rattle.relay_model.specs.Journals.{History}
-use Rattle.port_table.specs.Ports.{EntrySeen, StreamSeen}
+use Rattle.port_table.specs.{EntrySeen, StreamSeen}
 use Rattle.port_desk.specs.declared.endings.Counts.{Counts}
 use Rattle.port_desk.specs.Following.{IsUnused, Passed, Start}
 

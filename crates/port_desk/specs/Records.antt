@@ -1,26 +1,17 @@
 -- The acts by which a desk keeps what it did, and the answers that stand for those of a port.
 use Rattle.std.specs.Prelude.{◌≡◌, ℕ, ◌+◌, ◌-◌, ◌^◌, min, ◌≤◌, Bool, true, false, List, [], ◌∷◌, length, take, Option, None, Some, option_map, if◌then◌else◌}
-use Rattle.relay_model.specs.declared.acts.Act.{Act}
+use Rattle.relay_model.specs.{Act}
 use Rattle.relay_model.specs.Journals.{History, Asking}
-use Rattle.world_trait.specs.Recordings.{with_act, with_asking}
-use Rattle.port_trait.specs.Meanings.{Adds}
-use Rattle.port_trait.specs.declared.answers.Got.{Got}
+use Rattle.world_trait.specs.{with_act, with_asking, Turned, ReadAnswer, WriteAnswer, SendAnswer, NoteAnswer, ReapAnswer}
+use Rattle.port_trait.specs.{Adds, Got, Took, PortReap}
 use Rattle.port_trait.specs.declared.answers.Got.TheVariants as gots
-use Rattle.port_trait.specs.declared.answers.Took.{Took}
 use Rattle.port_trait.specs.declared.answers.Took.TheVariants as tooks
-use Rattle.port_trait.specs.declared.answers.PortReap.{PortReap}
 use Rattle.port_trait.specs.declared.answers.PortReap.TheVariants as childs
-use Rattle.world_trait.specs.declared.answers.Turned.{Turned}
 use Rattle.world_trait.specs.declared.answers.Turned.TheVariants as turns
-use Rattle.world_trait.specs.declared.answers.ReadAnswer.{ReadAnswer}
 use Rattle.world_trait.specs.declared.answers.ReadAnswer.TheVariants as reads
-use Rattle.world_trait.specs.declared.answers.WriteAnswer.{WriteAnswer}
 use Rattle.world_trait.specs.declared.answers.WriteAnswer.TheVariants as writes
-use Rattle.world_trait.specs.declared.answers.SendAnswer.{SendAnswer}
 use Rattle.world_trait.specs.declared.answers.SendAnswer.TheVariants as sends
-use Rattle.world_trait.specs.declared.answers.NoteAnswer.{NoteAnswer}
 use Rattle.world_trait.specs.declared.answers.NoteAnswer.TheVariants as notes
-use Rattle.world_trait.specs.declared.answers.ReapAnswer.{ReapAnswer}
 use Rattle.world_trait.specs.declared.answers.ReapAnswer.TheVariants as reaps
 
 -- there are no acts

@@ -2,20 +2,16 @@
 ghost use Rattle.std.specs.Prelude.{◌≡◌, ◌≤◌, ◌<◌, ◌&&◌, ◌+◌, not, [], length, vec_len, vec_capacity, Some, true, false, is_some, IfOk, IfSome, MatchOption, None, OnOk};
 ghost use Rattle.std.proofs.Props.{props};
 ghost use Rattle.slab.specs.Slab.{SameValues};
-ghost use Rattle.world_trait.specs.Answers.{NamesHeld};
-ghost use Rattle.world_trait.specs.HoldTables.{hold_found};
-ghost use Rattle.world_trait.specs.Recordings.{HasAskingRoom, HasRoom, KeepsNothing, told_by};
-ghost use Rattle.world_trait.specs.Seen.{IsFresh};
-ghost use Rattle.relay_model.specs.declared.places.Place.{Place};
+ghost use Rattle.world_trait.specs.{NamesHeld, hold_found, HasAskingRoom, HasRoom, KeepsNothing, told_by, IsFresh};
+ghost use Rattle.relay_model.specs.{Place};
 ghost use Rattle.port_trait.specs.Counting.{Counted};
-ghost use Rattle.port_trait.specs.Ports.{Agrees};
-ghost use Rattle.port_table.specs.Endings.{EndsSo, OnJoinedBack, handed, is_left};
-ghost use Rattle.port_table.specs.PortTables.{SameStreams};
-ghost use Rattle.port_desk.specs.Models.{BeginsHistory, IsFree};
-ghost use Rattle.desk_places.specs.Standing.{HasVacancy, IsSound};
-ghost use Rattle.desk_places.specs.Stations.{hold_at};
-ghost use Rattle.desk_places.specs.Naming.{NamesHinting, NamesKeyed, NamesOnly, PollsUntil, WaitsIdle, told_by as hints_told};
+ghost use Rattle.port_trait.specs.{Agrees};
+ghost use Rattle.port_table.specs.{EndsSo, OnJoinedBack, handed, is_left, SameStreams};
+ghost use Rattle.port_desk.specs.Following.{GoesOn, StartsInStep};
+ghost use Rattle.port_desk.specs.Models.{BeginsHistory, HasPassed, IsFree, start_of};
+ghost use Rattle.desk_places.specs.{HasVacancy, IsSound, base_at, hold_at, NamesHinting, NamesKeyed, NamesOnly, PollsUntil, WaitsIdle, told_by as hints_told};
 
+use crate::beginnings::{Beginning, SinceBeginning, Unfollowed};
 use crate::clocks::Clock;
 use crate::endings::{Backs, Counts, Ended};
 use crate::models::Modelled;
@@ -25,12 +21,21 @@ use port_table::Standard;
 use port_trait::{Joining, Maker, Polled, Poller, Port};
 use relay_model::{NoMemory, Place, ReadyList, Single};
 use std::alloc::Global;
+use std::marker::PhantomData;
 use world_trait::{Recorder, Standing, World};
 
 /// A world over ports: standard input, output and errors, and the ports of a maker for all other addresses. A poller
 /// waits for them. Each call on a place is one call on its port, and each failure of a call is a fault that it counts.
+/// One that is followed from a beginning on keeps what its standard streams passed in step with what its history tells.
 #[derive(Drop)]
-pub struct Desk<M: Maker + Drop, P: Poller + Drop, I: Port, O: Port, E: Port> {
+pub struct Desk<
+    M: Maker + Drop,
+    P: Poller + Drop,
+    I: Port,
+    O: Port,
+    E: Port,
+    B: Beginning = Unfollowed,
+> {
     pub(crate) ports: Ports<M, I, O, E>,
     pub(crate) clock: Clock<P>,
     pub(crate) log: Log,
@@ -38,8 +43,11 @@ pub struct Desk<M: Maker + Drop, P: Poller + Drop, I: Port, O: Port, E: Port> {
     pub(crate) stops: u64,
     // what the join of the port that the last closing let go answered; none where it wasn't joined
     pub(crate) joined: Option<Joining>,
+    since: SinceBeginning<B>,
     ghost sound: { IsSound log.stations.entries ports.table.made ports.listed } by { Prim.hlevel props },
     ghost parents_room: { length log.stations.entries + vec_len ports.parents ≤ vec_capacity ports.parents },
+    ghost follows: { ∥ GoesOn B.start log.recording.told (base_at log.stations.entries) ports.table.input.port.gave
+        ports.table.output.port.took ports.table.errors.port.took ports.table.input.port.ended ∥₁ },
 }
 
 impl<M: Maker + Drop, P: Poller + Drop, I: Port, O: Port, E: Port> Desk<M, P, I, O, E> {
@@ -69,6 +77,7 @@ impl<M: Maker + Drop, P: Poller + Drop, I: Port, O: Port, E: Port> Desk<M, P, I,
             waits: 0,
             stops: 0,
             joined: None,
+            since: SinceBeginning { of: PhantomData },
         })
     }
 
@@ -82,9 +91,63 @@ impl<M: Maker + Drop, P: Poller + Drop, I: Port, O: Port, E: Port> Desk<M, P, I,
         self.log.keep();
     }
 
+    /// The desk, at which nothing is held, followed from here on.
+    pub fn follow<B: Beginning>(self) -> Desk<M, P, I, O, E, B>
+        requires free { IsFree (⟦<Desk<M, P, I, O, E> as Modelled>⟧.model self) }
+        requires start { B.start ≡ Some (start_of (⟦<Desk<M, P, I, O, E> as Modelled>⟧.model self)) }
+        ensures { (result.ports ≡ self.ports) × (result.clock ≡ self.clock) × (result.log ≡ self.log)
+            × (result.waits ≡ self.waits) × (result.stops ≡ self.stops) }
+    {
+        self.with_beginning()
+    }
+}
+
+impl<M, P, I: Port, O: Port, E: Port, B: Beginning> Desk<M, P, I, O, E, B>
+where
+    M: Maker + Drop,
+    P: Poller + Drop,
+{
+    /// The desk, followed no longer.
+    pub fn unfollow(self) -> Desk<M, P, I, O, E>
+        ensures same { (result.ports ≡ self.ports) × (result.clock ≡ self.clock) × (result.log ≡ self.log)
+            × (result.waits ≡ self.waits) × (result.stops ≡ self.stops) }
+        ensures passed { StartsInStep B.start
+            → IfSome (⟦<Desk<M, P, I, O, E> as Modelled>⟧.model result).history (λ history. HasPassed history (⟦<Desk<M, P, I, O, E> as Modelled>⟧.model result)) }
+    {
+        self.with_beginning()
+    }
+
+    /// The same desk, with another beginning.
+    fn with_beginning<C: Beginning>(self) -> Desk<M, P, I, O, E, C>
+        requires { GoesOn C.start self.log.recording.told (base_at self.log.stations.entries)
+            self.ports.table.input.port.gave self.ports.table.output.port.took self.ports.table.errors.port.took
+            self.ports.table.input.port.ended }
+        ensures { (result.ports ≡ self.ports) × (result.clock ≡ self.clock) × (result.log ≡ self.log)
+            × (result.waits ≡ self.waits) × (result.stops ≡ self.stops) }
+    {
+        let Desk {
+            ports,
+            clock,
+            log,
+            waits,
+            stops,
+            joined,
+            since: _,
+        } = self;
+        Desk {
+            ports,
+            clock,
+            log,
+            waits,
+            stops,
+            joined,
+            since: SinceBeginning { of: PhantomData },
+        }
+    }
+
     /// How the place stands; none where nothing is held there.
     pub fn standing(&self, place: Place) -> Option<Standing>
-        ensures { hold_found result ≡ (⟦<Desk<M, P, I, O, E> as World>⟧.seen self.now).held place }
+        ensures { hold_found result ≡ (⟦<Desk<M, P, I, O, E, B> as World>⟧.seen self.now).held place }
     {
         match self.log.stations.find(place) {
             None => None,
@@ -95,20 +158,20 @@ impl<M: Maker + Drop, P: Poller + Drop, I: Port, O: Port, E: Port> Desk<M, P, I,
     /// Ends the desk, at which nothing is held. Each standard port that has begun and wasn't told the end of its output
     /// is shut with `Close`; then each is joined. Takes no memory.
     pub fn end(self) -> Ended<I, O, E>
-        requires { IsFree (⟦<Desk<M, P, I, O, E> as Modelled>⟧.model self) }
-        ensures stdin { let stream = (⟦<Desk<M, P, I, O, E> as Modelled>⟧.model self).stdin in
+        requires { IsFree (⟦<Desk<M, P, I, O, E, B> as Modelled>⟧.model self) }
+        ensures stdin { let stream = (⟦<Desk<M, P, I, O, E, B> as Modelled>⟧.model self).stdin in
             EndsSo (stream.begun && not stream.finished) stream.port (is_left result.standard.stdin) (I.seen (handed result.standard.stdin)) }
         ensures stdin_behind { OnJoinedBack (λ port. Agrees (I.seen port)) result.standard.stdin }
-        ensures stdout { let stream = (⟦<Desk<M, P, I, O, E> as Modelled>⟧.model self).stdout in
+        ensures stdout { let stream = (⟦<Desk<M, P, I, O, E, B> as Modelled>⟧.model self).stdout in
             EndsSo (stream.begun && not stream.finished) stream.port (is_left result.standard.stdout) (O.seen (handed result.standard.stdout)) }
         ensures stdout_behind { OnJoinedBack (λ port. Agrees (O.seen port)) result.standard.stdout }
-        ensures stderr { let stream = (⟦<Desk<M, P, I, O, E> as Modelled>⟧.model self).stderr in
+        ensures stderr { let stream = (⟦<Desk<M, P, I, O, E, B> as Modelled>⟧.model self).stderr in
             EndsSo (stream.begun && not stream.finished) stream.port (is_left result.standard.stderr) (E.seen (handed result.standard.stderr)) }
         ensures stderr_behind { OnJoinedBack (λ port. Agrees (E.seen port)) result.standard.stderr }
-        ensures skipped { is_some (⟦<Desk<M, P, I, O, E> as Modelled>⟧.model self).history ≡ false → KeepsNothing result.kept }
-        ensures kept { let history = (⟦<Desk<M, P, I, O, E> as Modelled>⟧.model self).history in is_some history ≡ true
+        ensures skipped { is_some (⟦<Desk<M, P, I, O, E, B> as Modelled>⟧.model self).history ≡ false → KeepsNothing result.kept }
+        ensures kept { let history = (⟦<Desk<M, P, I, O, E, B> as Modelled>⟧.model self).history in is_some history ≡ true
             → history ≡ Some (record { acts = result.kept.journal.acts; asked = result.kept.asked.pairs }) }
-        ensures counts { result.counts ≡ (⟦<Desk<M, P, I, O, E> as Modelled>⟧.model self).counts }
+        ensures counts { result.counts ≡ (⟦<Desk<M, P, I, O, E, B> as Modelled>⟧.model self).counts }
     {
         let counts = Counts::new(self.log.faults, self.waits, self.stops);
         let Desk {
@@ -118,6 +181,7 @@ impl<M: Maker + Drop, P: Poller + Drop, I: Port, O: Port, E: Port> Desk<M, P, I,
             waits: _,
             stops: _,
             joined: _,
+            since: _,
         } = self;
         let (input, output, errors) = ports.into_streams();
         Ended {

@@ -13,7 +13,7 @@ pub struct Backs<I, O, E> {
 }
 
 /// How often something failed, a turn was waited for, and a stop was answered, until the end of a desk.
-#[derive(Clone, Copy, Debug, PartialEq, Eq)]
+#[derive(Clone, Copy, PartialEq, Eq)]
 pub struct Counts {
     faults: u64,
     waits: u64,

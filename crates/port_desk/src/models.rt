@@ -1,8 +1,9 @@
 // A desk as its callers see it.
 ghost use Rattle.slab.specs.Slab.{get};
-ghost use Rattle.desk_places.specs.Stations.{hold_at};
+ghost use Rattle.desk_places.specs.{hold_at};
 ghost use Rattle.port_desk.specs.Models.{DeskModel};
 
+use crate::beginnings::Beginning;
 use crate::desk::Desk;
 use port_trait::{Maker, Poller, Port};
 
@@ -11,8 +12,8 @@ pub trait Modelled {
     ghost model: { Self → DeskModel };
 }
 
-impl<M: Maker + Drop, P: Poller + Drop, I: Port, O: Port, E: Port> Modelled
-    for Desk<M, P, I, O, E> {
+impl<M: Maker + Drop, P: Poller + Drop, I: Port, O: Port, E: Port, B: Beginning> Modelled
+    for Desk<M, P, I, O, E, B> {
     ghost model = { λ d. record {
       stdin = d.ports.table.input;
       stdout = d.ports.table.output;

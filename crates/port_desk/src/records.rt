@@ -1,10 +1,11 @@
 // The held places of a desk, and what it keeps and counts of its acts.
 ghost use Rattle.std.specs.Prelude.{◌≡◌, ◌||◌, ◌≤◌, ◌<◌, ◌+◌, ◌-◌, ◌^◌, [], None, Some, true, false, is_some, length, min, OnOk, OnErr, IfOk, MatchOption, option_map};
-ghost use Rattle.relay_model.specs.Readiness.{copied_list};
-ghost use Rattle.world_trait.specs.Recordings.{HasRoom, HasAskingRoom, KeepsNothing, told_by, with_act, with_asking};
-ghost use Rattle.world_trait.specs.Answers.{ReadFits, Rose, WriteFits, accept_act, is_accept_fault, is_listen_fault, is_open_fault, is_read_fault, is_send_fault, is_shut_fault, is_write_fault, listen_act, open_act, read_act, reap_act, send_act, shut_act, write_act};
-ghost use Rattle.port_table.specs.Answers.{GotFits, TookFits};
-ghost use Rattle.desk_places.specs.Changes.{shut_answer};
+ghost use Rattle.relay_model.specs.{copied_list};
+ghost use Rattle.world_trait.specs.{HasRoom, HasAskingRoom, KeepsNothing, told_by, with_act, with_asking, ReadFits, Rose, WriteFits, accept_act};
+ghost use Rattle.world_trait.specs.{is_accept_fault, is_listen_fault, is_open_fault, is_read_fault, is_send_fault, is_shut_fault, is_write_fault};
+ghost use Rattle.world_trait.specs.{listen_act, open_act, read_act, reap_act, send_act, shut_act, write_act};
+ghost use Rattle.port_table.specs.{GotFits, TookFits};
+ghost use Rattle.desk_places.specs.{shut_answer};
 ghost use Rattle.port_desk.specs.Records.{CountsOnce, has_no_acts, Tells, TellsAsking, read_answer, reap_answer, send_answer, write_answer};
 
 use desk_places::Stations;
@@ -30,6 +31,8 @@ pub struct Log {
 }
 
 impl Log {
+    ghost use Rattle.port_desk.specs.Keeping.{CanKeep, SameButRoom, SameButTold};
+
     /// Nothing kept and nothing counted; takes no memory.
     pub fn new(alloc: Global, recorder: Recorder) -> Log
         ensures stations { result.stations.entries ≡ [] }
@@ -49,9 +52,8 @@ impl Log {
     /// Keeps the acts from now on. Nothing is held.
     pub fn keep(&mut self)
         requires { self.old.stations.entries ≡ [] }
-        ensures stations { self.new.stations ≡ self.old.stations }
+        ensures rest { SameButTold self.old self.new }
         ensures told { self.new.recording.told ≡ Some (record { acts = []; asked = [] }) }
-        ensures faults { self.new.faults ≡ self.old.faults }
         ensures acted { self.new.acted ≡ self.old.acted }
     {
         self.recording = Recording::new(self.alloc, Recorder::Keep);
@@ -76,11 +78,8 @@ impl Log {
     pub fn reserve(&mut self, n: usize) -> Result<(), NoMemory>
         requires { n ≤ 2 }
         ensures room { OnOk result (HasRoom (length self.new.stations.entries + n) self.new.recording) }
-        ensures stations { self.new.stations ≡ self.old.stations }
-        ensures told { self.new.recording.told ≡ self.old.recording.told }
+        ensures rest { SameButRoom self.old self.new }
         ensures lacked { OnErr result (is_some self.old.recording.told ≡ true) }
-        ensures faults { self.new.faults ≡ self.old.faults }
-        ensures acted { self.new.acted ≡ self.old.acted }
     {
         self.recording.reserve(self.stations.len() + n)
     }
@@ -97,10 +96,8 @@ impl Log {
     pub fn prepare(&mut self, bytes: &[u8]) -> Result<Option<Bytes>, NoMemory>
         ensures room { OnOk result (HasRoom (length self.new.stations.entries + 1) self.new.recording) }
         ensures ok { IfOk result (λ copy. MatchOption copy (self.new.recording.told ≡ None) (λ kept. kept ≡ bytes.now)) }
-        ensures stations { self.new.stations ≡ self.old.stations }
-        ensures told { self.new.recording.told ≡ self.old.recording.told }
+        ensures rest { SameButRoom self.old self.new }
         ensures lacked { OnErr result (is_some self.old.recording.told ≡ true) }
-        ensures faults { self.new.faults ≡ self.old.faults }
     {
         self.reserve(1)?;
         self.copy_if_kept(bytes)
@@ -108,14 +105,11 @@ impl Log {
 
     /// Makes room for what is asked, and a copy of it where that is kept.
     pub fn copy_asking(&mut self, single: &Single) -> Result<Option<Single>, NoMemory>
-        ensures stations { self.new.stations ≡ self.old.stations }
+        ensures rest { SameButRoom self.old self.new }
         ensures ok { IfOk result (λ copy. MatchOption copy (self.new.recording.told ≡ None) (λ kept. kept ≡ single.now)) }
         ensures asking_room { OnOk result (HasAskingRoom 1 self.new.recording) }
-        ensures told { self.new.recording.told ≡ self.old.recording.told }
         ensures acts_room { self.new.recording.room ≡ self.old.recording.room }
         ensures lacked { OnErr result (is_some self.old.recording.told ≡ true) }
-        ensures faults { self.new.faults ≡ self.old.faults }
-        ensures acted { self.new.acted ≡ self.old.acted }
     {
         self.recording.reserve_asking()?;
         if self.recording.keeps() {
@@ -138,9 +132,8 @@ impl Log {
     /// Keeps the act.
     pub fn put(&mut self, act: Act)
         requires { HasRoom (length self.old.stations.entries + 1) self.old.recording }
-        ensures stations { self.new.stations ≡ self.old.stations }
+        ensures rest { SameButTold self.old self.new }
         ensures told { self.new.recording.told ≡ option_map (with_act act) self.old.recording.told }
-        ensures faults { self.new.faults ≡ self.old.faults }
         ensures acted { self.new.acted ≡ true }
     {
         self.acted = true;
@@ -165,9 +158,8 @@ impl Log {
         requires room { HasRoom (length self.old.stations.entries + 1) self.old.recording }
         requires asking_room { HasAskingRoom 1 self.old.recording }
         requires copied { MatchOption copied (self.old.recording.told ≡ None) (λ copy. copy ≡ _single.now) }
-        ensures stations { self.new.stations ≡ self.old.stations }
+        ensures rest { SameButTold self.old self.new }
         ensures told { self.new.recording.told ≡ option_map (with_asking act (place, _single.now)) self.old.recording.told }
-        ensures faults { self.new.faults ≡ self.old.faults }
         ensures acted { self.new.acted ≡ true }
     {
         self.acted = true;
@@ -264,11 +256,9 @@ impl Log {
 
     /// Keeps a read of these bytes, in the copy that was made for it.
     fn put_read(&mut self, place: Place, copied: Option<Bytes>, bytes: &[u8])
-        requires room { HasRoom (length self.old.stations.entries + 1) self.old.recording }
-        requires copied { MatchOption copied (self.old.recording.told ≡ None) (λ copy. length bytes.now ≤ length copy) }
-        ensures stations { self.new.stations ≡ self.old.stations }
+        requires { CanKeep copied bytes.now self.old }
+        ensures rest { SameButTold self.old self.new }
         ensures told { self.new.recording.told ≡ option_map (with_act (Act.Read place bytes.now)) self.old.recording.told }
-        ensures faults { self.new.faults ≡ self.old.faults }
     {
         self.acted = true;
         let Some(copy) = copied else {
@@ -280,11 +270,9 @@ impl Log {
 
     /// Keeps a write of these bytes, in the copy that was made for it.
     fn put_wrote(&mut self, place: Place, copied: Option<Bytes>, bytes: &[u8])
-        requires room { HasRoom (length self.old.stations.entries + 1) self.old.recording }
-        requires copied { MatchOption copied (self.old.recording.told ≡ None) (λ copy. length bytes.now ≤ length copy) }
-        ensures stations { self.new.stations ≡ self.old.stations }
+        requires { CanKeep copied bytes.now self.old }
+        ensures rest { SameButTold self.old self.new }
         ensures told { self.new.recording.told ≡ option_map (with_act (Act.Wrote place bytes.now)) self.old.recording.told }
-        ensures faults { self.new.faults ≡ self.old.faults }
     {
         self.acted = true;
         let Some(copy) = copied else {
@@ -302,8 +290,7 @@ impl Log {
         copied: Option<Bytes>,
         into: &[u8],
     ) -> ReadAnswer
-        requires room { HasRoom (length self.old.stations.entries + 1) self.old.recording }
-        requires copied { MatchOption copied (self.old.recording.told ≡ None) (λ copy. length into.now ≤ length copy) }
+        requires can { CanKeep copied into.now self.old }
         requires fits { GotFits (length into.now) got }
         ensures stations { self.new.stations ≡ self.old.stations }
         ensures answer { result ≡ read_answer got }
@@ -343,8 +330,7 @@ impl Log {
         copied: Option<Bytes>,
         bytes: &[u8],
     ) -> WriteAnswer
-        requires room { HasRoom (length self.old.stations.entries + 1) self.old.recording }
-        requires copied { MatchOption copied (self.old.recording.told ≡ None) (λ copy. length bytes.now ≤ length copy) }
+        requires can { CanKeep copied bytes.now self.old }
         requires fits { TookFits (length bytes.now) took }
         ensures stations { self.new.stations ≡ self.old.stations }
         ensures answer { result ≡ write_answer took }
@@ -376,8 +362,7 @@ impl Log {
         copied: Option<Bytes>,
         bytes: &[u8],
     ) -> SendAnswer
-        requires room { HasRoom (length self.old.stations.entries + 1) self.old.recording }
-        requires copied { MatchOption copied (self.old.recording.told ≡ None) (λ copy. length bytes.now ≤ length copy) }
+        requires { CanKeep copied bytes.now self.old }
         ensures stations { self.new.stations ≡ self.old.stations }
         ensures answer { result ≡ send_answer took }
         ensures told { Tells (send_act place bytes.now result) self.old.recording.told self.new.recording.told }
@@ -424,10 +409,9 @@ impl Log {
     /// The answer of a reaping, whose act it keeps.
     pub fn keep_reap(&mut self, place: Place, answer: PortReap) -> ReapAnswer
         requires room { HasRoom (length self.old.stations.entries + 1) self.old.recording }
-        ensures stations { self.new.stations ≡ self.old.stations }
+        ensures rest { SameButTold self.old self.new }
         ensures answer { result ≡ reap_answer answer }
         ensures told { Tells (reap_act place result) self.old.recording.told self.new.recording.told }
-        ensures faults { self.new.faults ≡ self.old.faults }
     {
         match answer {
             PortReap::Reaped(end) => {
@@ -442,9 +426,8 @@ impl Log {
     pub fn put_note(&mut self, _text: &[u8], copied: Option<Bytes>)
         requires room { HasRoom (length self.old.stations.entries + 1) self.old.recording }
         requires copied { MatchOption copied (self.old.recording.told ≡ None) (λ copy. copy ≡ _text.now) }
-        ensures stations { self.new.stations ≡ self.old.stations }
+        ensures rest { SameButTold self.old self.new }
         ensures told { self.new.recording.told ≡ option_map (with_act (Act.Note _text.now)) self.old.recording.told }
-        ensures faults { self.new.faults ≡ self.old.faults }
     {
         self.acted = true;
         let Some(copy) = copied else {
@@ -479,11 +462,10 @@ impl Log {
         stop: bool,
     ) -> Result<(), NoMemory>
         requires { HasRoom (length self.old.stations.entries + 1) self.old.recording }
-        ensures stations { self.new.stations ≡ self.old.stations }
+        ensures rest { SameButTold self.old self.new }
         ensures ok { OnOk result (self.new.recording.told ≡ option_map (with_act (Act.Turn until at (copied_list ready.now) stop)) self.old.recording.told) }
         ensures err { OnErr result (self.new.recording.told ≡ self.old.recording.told) }
         ensures lacked { OnErr result (is_some self.old.recording.told ≡ true) }
-        ensures faults { self.new.faults ≡ self.old.faults }
     {
         if !self.recording.keeps() {
             self.acted = true;

@@ -1,28 +1,26 @@
 // The calls of the relay on a desk.
 ghost use Rattle.std.specs.Prelude.{◌≡◌, ◌≤◌, ◌<◌, ◌&&◌, ℕ, None, Some, true, false, find, length, option_map, IfSome, IfNone, MatchOption};
 ghost use Rattle.slab.specs.Slab.{SameValues, get};
-ghost use Rattle.relay_model.specs.Conversions.{longest_packet};
-ghost use Rattle.relay_model.specs.declared.places.Place.{Place};
+ghost use Rattle.relay_model.specs.{longest_packet, Place, Free, Open, Settling, is_free, is_open, same_place};
 ghost use Rattle.relay_model.specs.declared.places.Half.TheVariants.{ToRead, ToWrite};
-ghost use Rattle.relay_model.specs.Holding.{Free, Open, Settling, is_free, is_open};
-ghost use Rattle.relay_model.specs.Places.{same_place};
-ghost use Rattle.world_trait.specs.Answers.{Answered, AnsweredAsking, OnlyHeldNamed, NotReaped, OnlyWhereTold, ReadFits, Rose, WaitCounts, WriteFits, accept_act, close_act, is_accept_fault, is_listen_fault, is_note_fault, is_open_fault, is_read_fault, is_send_fault, is_shut_fault, is_write_fault, listen_act, note_act, open_act, read_act, reap_act, send_act, shut_act, wait_act, wants_read_memory, wants_send_memory, wants_shut_memory, wants_turn_memory, wants_write_memory, write_act};
-ghost use Rattle.world_trait.specs.Seen.{Waitless};
-ghost use Rattle.port_trait.specs.Streams.{finishes};
-ghost use Rattle.desk_places.specs.PlaceBases.{AcceptsOn, Leaves, ListensOn, OpensOn, SameBases, SettlesOn};
+ghost use Rattle.world_trait.specs.{Answered, AnsweredAsking, OnlyHeldNamed, NotReaped, OnlyWhereTold, ReadFits, Rose, WaitCounts, WriteFits};
+ghost use Rattle.world_trait.specs.{accept_act, close_act, is_accept_fault, is_listen_fault, is_note_fault, is_open_fault, is_read_fault};
+ghost use Rattle.world_trait.specs.{is_send_fault, is_shut_fault, is_write_fault, listen_act, note_act, open_act, read_act, reap_act, send_act};
+ghost use Rattle.world_trait.specs.{shut_act, wait_act, wants_read_memory, wants_send_memory, wants_shut_memory, wants_turn_memory};
+ghost use Rattle.world_trait.specs.{wants_write_memory, write_act, Waitless};
+ghost use Rattle.port_trait.specs.{finishes, Rose as Rises};
+ghost use Rattle.desk_places.specs.{AcceptsOn, Leaves, ListensOn, OpensOn, SameBases, SettlesOn, AcceptCause, ListenCause, OpenAsks, OpenCause};
+ghost use Rattle.desk_places.specs.{StandardCause, asking, AcceptsMade, LeavesParent, ListensMade, OpensAt, OpensMade, ReapsAnswered, ReapsOut};
+ghost use Rattle.desk_places.specs.{SettledAt, is_finished, joined_answer, made_at, AcceptMarks, ListenMarks, MarksPlace, OpenMarks, SameMarks};
+ghost use Rattle.desk_places.specs.{SettleMarks, NamesHinting, NamesKeyed, NamesOnly, PollsUntil, WaitsIdle, told_by, SetsStation, base_at, hold_at};
+ghost use Rattle.desk_places.specs.{is_disarmed, shut_down, station_at};
 ghost use Rattle.port_desk.specs.Calls.{NotesAs, OnShut, OnTurned, PollsOnce, ReadsSo, SaysStop, SendsSo, ShutsSo, StopsAs, TurnMarks, WritesSo};
 ghost use Rattle.port_desk.specs.Desks.{Calls, Ends, Faults, Marked, read_mark, row_of, send_mark, shut_ends, write_mark};
-ghost use Rattle.desk_places.specs.Causes.{AcceptCause, ListenCause, OpenAsks, OpenCause, StandardCause, asking};
-ghost use Rattle.port_trait.specs.Counting.{Rose as Rises};
-ghost use Rattle.port_table.specs.Bases.{standard_of};
-ghost use Rattle.port_table.specs.PortTables.{AtMade, SameStreams, StreamFailed, StreamsStay, giving_port, taking_port};
-ghost use Rattle.desk_places.specs.Changes.{AcceptsMade, LeavesParent, ListensMade, OpensAt, OpensMade, ReapsAnswered, ReapsOut, SettledAt, is_finished, joined_answer, made_at};
-ghost use Rattle.desk_places.specs.Marks.{AcceptMarks, ListenMarks, MarksPlace, OpenMarks, SameMarks, SettleMarks};
-ghost use Rattle.desk_places.specs.Naming.{NamesHinting, NamesKeyed, NamesOnly, PollsUntil, WaitsIdle, told_by};
+ghost use Rattle.port_table.specs.{standard_of, AtMade, SameStreams, StreamFailed, StreamsStay, giving_port, taking_port};
 ghost use Rattle.port_desk.specs.Records.{CountsOnce, CountsStop, NotedSo};
-ghost use Rattle.desk_places.specs.Stations.{SetsStation, base_at, hold_at, is_disarmed, shut_down, station_at};
 ghost use Rattle.port_table.specs.declared.bases.Base.TheVariants as bases;
 
+use crate::beginnings::Beginning;
 use crate::desk::Desk;
 use desk_places::arm_named;
 use port_trait::{Maker, Poller, Port, Took};
@@ -32,7 +30,8 @@ use world_trait::{
     ShutAnswer, Turned, World, WriteAnswer,
 };
 
-impl<M: Maker + Drop, P: Poller + Drop, I: Port, O: Port, E: Port> World for Desk<M, P, I, O, E> {
+impl<M: Maker + Drop, P: Poller + Drop, I: Port, O: Port, E: Port, B: Beginning> World
+    for Desk<M, P, I, O, E, B> {
     ghost seen = { λ d. record {
       told = d.log.recording.told;
       held = hold_at d.log.stations.entries;
@@ -46,8 +45,8 @@ impl<M: Maker + Drop, P: Poller + Drop, I: Port, O: Port, E: Port> World for Des
     fn wait(&mut self, until: Option<u64>, ready: &mut ReadyList) -> Turned
         requires { 256 ≤ ready.old.room }
         ensures room { 256 ≤ ready.new.room }
-        ensures act { let seen = ⟦<Desk<M, P, I, O, E> as World>⟧.seen in Answered (seen self.old) (seen self.new) (wait_act until ready.new result) }
-        ensures counts { let seen = ⟦<Desk<M, P, I, O, E> as World>⟧.seen in WaitCounts (seen self.old) (seen self.new) result }
+        ensures act { let seen = ⟦<Desk<M, P, I, O, E, B> as World>⟧.seen in Answered (seen self.old) (seen self.new) (wait_act until ready.new result) }
+        ensures counts { let seen = ⟦<Desk<M, P, I, O, E, B> as World>⟧.seen in WaitCounts (seen self.old) (seen self.new) result }
         ensures exact { self.new.log.faults ≡ self.old.log.faults }
         ensures stopped { CountsStop self.old.stops self.new.stops result }
         ensures faults { self.old.log.faults ≤ self.new.log.faults }
@@ -90,11 +89,11 @@ impl<M: Maker + Drop, P: Poller + Drop, I: Port, O: Port, E: Port> World for Des
 
     fn open_place(&mut self, place: Place, single: &Single, behind: Option<Peer>) -> OpenAnswer
         requires { hold_at self.old.log.stations.entries place ≡ Free }
-        ensures act { let seen = ⟦<Desk<M, P, I, O, E> as World>⟧.seen in AnsweredAsking (place, single.now) (seen self.old) (seen self.new)
+        ensures act { let seen = ⟦<Desk<M, P, I, O, E, B> as World>⟧.seen in AnsweredAsking (place, single.now) (seen self.old) (seen self.new)
             (open_act place result) }
         ensures cause { Rose self.old.log.faults self.new.log.faults (is_open_fault result) }
         ensures exact { CountsOnce self.old.log.faults self.new.log.faults (is_open_fault result) }
-        ensures waitless { let seen = ⟦<Desk<M, P, I, O, E> as World>⟧.seen in Waitless (seen self.old) (seen self.new) }
+        ensures waitless { let seen = ⟦<Desk<M, P, I, O, E, B> as World>⟧.seen in Waitless (seen self.old) (seen self.new) }
         ensures unstopped { self.new.stops ≡ self.old.stops }
         ensures stay { StreamsStay self.old.ports.table self.new.ports.table }
         ensures standard { IfSome (standard_of place single.now.target)
@@ -126,10 +125,10 @@ impl<M: Maker + Drop, P: Poller + Drop, I: Port, O: Port, E: Port> World for Des
 
     fn settle(&mut self, place: Place) -> OpenAnswer
         requires { hold_at self.old.log.stations.entries place ≡ Settling }
-        ensures act { let seen = ⟦<Desk<M, P, I, O, E> as World>⟧.seen in Answered (seen self.old) (seen self.new) (open_act place result) }
+        ensures act { let seen = ⟦<Desk<M, P, I, O, E, B> as World>⟧.seen in Answered (seen self.old) (seen self.new) (open_act place result) }
         ensures cause { Rose self.old.log.faults self.new.log.faults (is_open_fault result) }
         ensures exact { CountsOnce self.old.log.faults self.new.log.faults (is_open_fault result) }
-        ensures waitless { let seen = ⟦<Desk<M, P, I, O, E> as World>⟧.seen in Waitless (seen self.old) (seen self.new) }
+        ensures waitless { let seen = ⟦<Desk<M, P, I, O, E, B> as World>⟧.seen in Waitless (seen self.old) (seen self.new) }
         ensures unstopped { self.new.stops ≡ self.old.stops }
         ensures call { IfSome (base_at self.old.log.stations.entries place)
             (λ base. SettledAt M.Made.seen (giving_port base) self.old.ports.table self.new.ports.table self.old.ports.parents.items
@@ -148,11 +147,11 @@ impl<M: Maker + Drop, P: Poller + Drop, I: Port, O: Port, E: Port> World for Des
 
     fn listen(&mut self, door: Place, single: &Single) -> ListenAnswer
         requires { hold_at self.old.log.stations.entries door ≡ Free }
-        ensures act { let seen = ⟦<Desk<M, P, I, O, E> as World>⟧.seen in AnsweredAsking (door, single.now) (seen self.old) (seen self.new)
+        ensures act { let seen = ⟦<Desk<M, P, I, O, E, B> as World>⟧.seen in AnsweredAsking (door, single.now) (seen self.old) (seen self.new)
             (listen_act door result) }
         ensures cause { Rose self.old.log.faults self.new.log.faults (is_listen_fault result) }
         ensures exact { CountsOnce self.old.log.faults self.new.log.faults (is_listen_fault result) }
-        ensures waitless { let seen = ⟦<Desk<M, P, I, O, E> as World>⟧.seen in Waitless (seen self.old) (seen self.new) }
+        ensures waitless { let seen = ⟦<Desk<M, P, I, O, E, B> as World>⟧.seen in Waitless (seen self.old) (seen self.new) }
         ensures unstopped { self.new.stops ≡ self.old.stops }
         ensures streams { SameStreams self.old.ports.table self.new.ports.table }
         ensures made { ListenCause (M.listens self.old.ports.maker single.now self.new.ports.maker) M.Made.seen
@@ -174,10 +173,10 @@ impl<M: Maker + Drop, P: Poller + Drop, I: Port, O: Port, E: Port> World for Des
     fn accept(&mut self, door: Place, place: Place) -> AcceptAnswer
         requires door { hold_at self.old.log.stations.entries door ≡ Open }
         requires place { hold_at self.old.log.stations.entries place ≡ Free }
-        ensures act { let seen = ⟦<Desk<M, P, I, O, E> as World>⟧.seen in Answered (seen self.old) (seen self.new) (accept_act door place result) }
+        ensures act { let seen = ⟦<Desk<M, P, I, O, E, B> as World>⟧.seen in Answered (seen self.old) (seen self.new) (accept_act door place result) }
         ensures cause { Rose self.old.log.faults self.new.log.faults (is_accept_fault result) }
         ensures exact { CountsOnce self.old.log.faults self.new.log.faults (is_accept_fault result) }
-        ensures waitless { let seen = ⟦<Desk<M, P, I, O, E> as World>⟧.seen in Waitless (seen self.old) (seen self.new) }
+        ensures waitless { let seen = ⟦<Desk<M, P, I, O, E, B> as World>⟧.seen in Waitless (seen self.old) (seen self.new) }
         ensures unstopped { self.new.stops ≡ self.old.stops }
         ensures streams { SameStreams self.old.ports.table self.new.ports.table }
         ensures made { AcceptCause (M.accepts self.old.ports.maker self.new.ports.maker) M.Made.seen (M.seen self.old.ports.maker)
@@ -202,7 +201,7 @@ impl<M: Maker + Drop, P: Poller + Drop, I: Port, O: Port, E: Port> World for Des
         requires open { is_open (hold_at self.old.log.stations.entries place) ≡ true }
         requires room { 0 < length into.old }
         ensures fits { ReadFits (length into.old) result }
-        ensures act { let seen = ⟦<Desk<M, P, I, O, E> as World>⟧.seen in Answered (seen self.old) (seen self.new) (read_act place into.new result) }
+        ensures act { let seen = ⟦<Desk<M, P, I, O, E, B> as World>⟧.seen in Answered (seen self.old) (seen self.new) (read_act place into.new result) }
         ensures faults { Faults (is_read_fault result) self.old.log self.new.log }
         ensures memory { OnlyWhereTold self.old.log.recording.told (wants_read_memory result) }
         ensures turns { (self.new.waits ≡ self.old.waits) × (self.new.stops ≡ self.old.stops) × (self.new.clock ≡ self.old.clock) }
@@ -221,7 +220,7 @@ impl<M: Maker + Drop, P: Poller + Drop, I: Port, O: Port, E: Port> World for Des
         requires open { hold_at self.old.log.stations.entries place ≡ Open }
         requires some { 0 < length bytes.now }
         ensures fits { WriteFits (length bytes.now) result }
-        ensures act { let seen = ⟦<Desk<M, P, I, O, E> as World>⟧.seen in Answered (seen self.old) (seen self.new) (write_act place bytes.now result) }
+        ensures act { let seen = ⟦<Desk<M, P, I, O, E, B> as World>⟧.seen in Answered (seen self.old) (seen self.new) (write_act place bytes.now result) }
         ensures faults { Faults (is_write_fault result) self.old.log self.new.log }
         ensures memory { OnlyWhereTold self.old.log.recording.told (wants_write_memory result) }
         ensures turns { (self.new.waits ≡ self.old.waits) × (self.new.stops ≡ self.old.stops) × (self.new.clock ≡ self.old.clock) }
@@ -240,7 +239,7 @@ impl<M: Maker + Drop, P: Poller + Drop, I: Port, O: Port, E: Port> World for Des
         requires open { hold_at self.old.log.stations.entries place ≡ Open }
         requires some { 0 < length bytes.now }
         requires packet { length bytes.now ≤ longest_packet }
-        ensures act { let seen = ⟦<Desk<M, P, I, O, E> as World>⟧.seen in Answered (seen self.old) (seen self.new) (send_act place bytes.now result) }
+        ensures act { let seen = ⟦<Desk<M, P, I, O, E, B> as World>⟧.seen in Answered (seen self.old) (seen self.new) (send_act place bytes.now result) }
         ensures faults { Faults (is_send_fault result) self.old.log self.new.log }
         ensures memory { OnlyWhereTold self.old.log.recording.told (wants_send_memory result) }
         ensures turns { (self.new.waits ≡ self.old.waits) × (self.new.stops ≡ self.old.stops) × (self.new.clock ≡ self.old.clock) }
@@ -257,10 +256,10 @@ impl<M: Maker + Drop, P: Poller + Drop, I: Port, O: Port, E: Port> World for Des
 
     fn shut(&mut self, place: Place, how: Shut) -> ShutAnswer
         requires { hold_at self.old.log.stations.entries place ≡ Open }
-        ensures act { let seen = ⟦<Desk<M, P, I, O, E> as World>⟧.seen in Answered (seen self.old) (seen self.new) (shut_act place how result) }
+        ensures act { let seen = ⟦<Desk<M, P, I, O, E, B> as World>⟧.seen in Answered (seen self.old) (seen self.new) (shut_act place how result) }
         ensures cause { Rose self.old.log.faults self.new.log.faults (is_shut_fault result) }
         ensures exact { CountsOnce self.old.log.faults self.new.log.faults (is_shut_fault result) }
-        ensures waitless { let seen = ⟦<Desk<M, P, I, O, E> as World>⟧.seen in Waitless (seen self.old) (seen self.new) }
+        ensures waitless { let seen = ⟦<Desk<M, P, I, O, E, B> as World>⟧.seen in Waitless (seen self.old) (seen self.new) }
         ensures unstopped { self.new.stops ≡ self.old.stops }
         ensures memory { OnlyWhereTold self.old.log.recording.told (wants_shut_memory result) }
         ensures call { Ends (shut_ends how result) taking_port place self.old.log self.old.ports self.new.ports (ShutsSo how result) }
@@ -281,10 +280,10 @@ impl<M: Maker + Drop, P: Poller + Drop, I: Port, O: Port, E: Port> World for Des
     /// With the cause `Finished` it joins a made port whose output was finished, and may wait for that.
     fn close(&mut self, place: Place, why: Why)
         requires { is_free (hold_at self.old.log.stations.entries place) ≡ false }
-        ensures act { let seen = ⟦<Desk<M, P, I, O, E> as World>⟧.seen in Answered (seen self.old) (seen self.new) (close_act place why) }
+        ensures act { let seen = ⟦<Desk<M, P, I, O, E, B> as World>⟧.seen in Answered (seen self.old) (seen self.new) (close_act place why) }
         ensures exact { self.new.log.faults ≡ self.old.log.faults }
         ensures faults { self.old.log.faults ≤ self.new.log.faults }
-        ensures waitless { let seen = ⟦<Desk<M, P, I, O, E> as World>⟧.seen in Waitless (seen self.old) (seen self.new) }
+        ensures waitless { let seen = ⟦<Desk<M, P, I, O, E, B> as World>⟧.seen in Waitless (seen self.old) (seen self.new) }
         ensures unstopped { self.new.stops ≡ self.old.stops }
         ensures streams { SameStreams self.old.ports.table self.new.ports.table }
         ensures joined { IfSome (station_at self.old.log.stations.entries place)
@@ -305,10 +304,10 @@ impl<M: Maker + Drop, P: Poller + Drop, I: Port, O: Port, E: Port> World for Des
 
     /// Writes the text to standard error, which is begun first.
     fn note(&mut self, text: &[u8]) -> NoteAnswer
-        ensures act { let seen = ⟦<Desk<M, P, I, O, E> as World>⟧.seen in Answered (seen self.old) (seen self.new) (note_act text.now result) }
+        ensures act { let seen = ⟦<Desk<M, P, I, O, E, B> as World>⟧.seen in Answered (seen self.old) (seen self.new) (note_act text.now result) }
         ensures cause { Rose self.old.log.faults self.new.log.faults (is_note_fault result) }
         ensures exact { CountsOnce self.old.log.faults self.new.log.faults (is_note_fault result) }
-        ensures waitless { let seen = ⟦<Desk<M, P, I, O, E> as World>⟧.seen in Waitless (seen self.old) (seen self.new) }
+        ensures waitless { let seen = ⟦<Desk<M, P, I, O, E, B> as World>⟧.seen in Waitless (seen self.old) (seen self.new) }
         ensures unstopped { self.new.stops ≡ self.old.stops }
         ensures streams { (self.new.ports.table.input ≡ self.old.ports.table.input)
             × (self.new.ports.table.output ≡ self.old.ports.table.output) × (self.new.ports.table.made ≡ self.old.ports.table.made) }
@@ -347,10 +346,10 @@ impl<M: Maker + Drop, P: Poller + Drop, I: Port, O: Port, E: Port> World for Des
     fn reap(&mut self, place: Place) -> ReapAnswer
         requires free { hold_at self.old.log.stations.entries place ≡ Free }
         requires once { NotReaped self.old.log.recording.told place }
-        ensures act { let seen = ⟦<Desk<M, P, I, O, E> as World>⟧.seen in Answered (seen self.old) (seen self.new) (reap_act place result) }
+        ensures act { let seen = ⟦<Desk<M, P, I, O, E, B> as World>⟧.seen in Answered (seen self.old) (seen self.new) (reap_act place result) }
         ensures exact { self.new.log.faults ≡ self.old.log.faults }
         ensures faults { self.old.log.faults ≤ self.new.log.faults }
-        ensures waitless { let seen = ⟦<Desk<M, P, I, O, E> as World>⟧.seen in Waitless (seen self.old) (seen self.new) }
+        ensures waitless { let seen = ⟦<Desk<M, P, I, O, E, B> as World>⟧.seen in Waitless (seen self.old) (seen self.new) }
         ensures unstopped { self.new.stops ≡ self.old.stops }
         ensures ports { (self.new.ports.table ≡ self.old.ports.table) × (self.new.ports.maker ≡ self.old.ports.maker) }
         ensures reaped { ReapsAnswered (find (λ b. same_place b.place place) self.old.ports.parents.items) result }

@@ -1,12 +1,9 @@
 -- The echo pipe: what it holds, and what its calls answer.
 use Rattle.std.specs.Prelude.{◌≡◌, ℕ, zero, suc, ◌-◌, min, Bool, true, false, nat_lt, nat_le, ◌||◌, List, [], ◌∷◌, ◌++◌, length, take, if◌then◌else◌}
-use Rattle.relay_model.specs.declared.acts.Shut.{Shut}
+use Rattle.relay_model.specs.{Shut}
 use Rattle.relay_model.specs.declared.acts.Shut.TheVariants as hows
-use Rattle.port_trait.specs.declared.counts.PortCounts.{PortCounts}
-use Rattle.port_trait.specs.declared.answers.Hint.{Hint}
-use Rattle.port_trait.specs.declared.answers.Got.{Got}
+use Rattle.port_trait.specs.{PortCounts, Hint, Got, Took}
 use Rattle.port_trait.specs.declared.answers.Got.TheVariants as reads
-use Rattle.port_trait.specs.declared.answers.Took.{Took}
 use Rattle.port_trait.specs.declared.answers.Took.TheVariants as writes
 
 -- `held` stands oldest first

@@ -7,3 +7,5 @@ pub mod Scripts
 pub mod Sinks
 pub mod Sources
 pub mod Spawners
+pub use Echoes.{EchoState}
+pub use Scripts.{IsFilled, given_of}

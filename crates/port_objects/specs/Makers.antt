@@ -1,10 +1,8 @@
 -- A maker in memory: the items that are left, what it was asked for, and what its calls answer.
 use Rattle.std.specs.Prelude.{ℕ, List, [], ◌∷◌, Option, None}
-use Rattle.relay_model.specs.declared.acts.Peer.{Peer as PeerAddress}
-use Rattle.port_trait.specs.declared.makers.AskedPlace.{AskedPlace}
-use Rattle.port_trait.specs.declared.makers.Making.{Making}
+use Rattle.relay_model.specs.{Peer as PeerAddress}
+use Rattle.port_trait.specs.{AskedPlace, Making, MadePeer}
 use Rattle.port_trait.specs.declared.makers.Making.TheVariants as makings
-use Rattle.port_trait.specs.declared.makers.MadePeer.{MadePeer}
 use Rattle.port_trait.specs.declared.makers.MadePeer.TheVariants as peers
 use Rattle.port_objects.specs.declared.makers.MakeItem.{MakeItem}
 use Rattle.port_objects.specs.declared.makers.MakeItem.TheVariants as items

@@ -1,8 +1,8 @@
 -- A poller in memory: the moment that it has come to, the one until which it was asked to wait last, what it names next
 -- and what it named last.
 use Rattle.std.specs.Prelude.{ℕ, max, List, [], Option, None, Some}
-use Rattle.relay_model.specs.declared.places.Half.{Half}
-use Rattle.port_trait.specs.Keys.{KeysListed}
+use Rattle.relay_model.specs.{Half}
+use Rattle.port_trait.specs.{KeysListed}
 
 -- what contracts see of a poller in memory
 pub record MemPollerState : Type 0 where

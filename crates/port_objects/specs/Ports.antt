@@ -1,9 +1,6 @@
 -- A port in memory: its script, what it took, and what its writes and hints answer.
 use Rattle.std.specs.Prelude.{◌≡◌, ℕ, zero, suc, min, Bool, false, nat_lt, nat_le, List, take, Some, if◌then◌else◌}
-use Rattle.port_trait.specs.Ports.{PortSeen, untold}
-use Rattle.port_trait.specs.declared.counts.PortCounts.{PortCounts}
-use Rattle.port_trait.specs.declared.answers.Hint.{Hint}
-use Rattle.port_trait.specs.declared.answers.Took.{Took}
+use Rattle.port_trait.specs.{PortSeen, untold, PortCounts, Hint, Took}
 use Rattle.port_trait.specs.declared.answers.Took.TheVariants as writes
 use Rattle.port_objects.specs.Intakes.{IntakeState, fresh_intake, filled}
 use Rattle.port_objects.specs.Scripts.{ScriptState, fresh_script, given_of, has_more}

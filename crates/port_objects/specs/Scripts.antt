@@ -1,6 +1,6 @@
 -- What a port in memory is to answer to its reads, and what it has given.
 use Rattle.std.specs.Prelude.{◌≡◌, ℕ, zero, suc, ◌+◌, ◌-◌, ◌<◌, ◌≤◌, min, Bool, nat_lt, List, [], ◌∷◌, ◌++◌, length, take, Option, None, Some, if◌then◌else◌}
-use Rattle.port_trait.specs.declared.answers.Got.{Got}
+use Rattle.port_trait.specs.{Got}
 use Rattle.port_trait.specs.declared.answers.Got.TheVariants as reads
 use Rattle.port_objects.specs.declared.scripts.PortItem.{PortItem}
 use Rattle.port_objects.specs.declared.scripts.PortItem.TheVariants as items

@@ -1,6 +1,6 @@
 -- A sink in memory.
 use Rattle.std.specs.Prelude.{ℕ, zero, suc, min, Bool, false}
-use Rattle.port_trait.specs.declared.answers.SinkTook.{SinkTook}
+use Rattle.port_trait.specs.{SinkTook}
 use Rattle.port_trait.specs.declared.answers.SinkTook.TheVariants.{Took, Failed}
 use Rattle.port_objects.specs.Intakes.{IntakeState, fresh_intake}
 

@@ -1,6 +1,6 @@
 -- A source in memory: what it has left, and whether it ends or fails after that.
 use Rattle.std.specs.Prelude.{ℕ, min, Bool, true, false, List, [], ◌∷◌, length}
-use Rattle.port_trait.specs.declared.answers.SourceGot.{SourceGot}
+use Rattle.port_trait.specs.{SourceGot}
 use Rattle.port_trait.specs.declared.answers.SourceGot.TheVariants.{Bytes, End, Failed}
 
 -- what contracts see of a source in memory

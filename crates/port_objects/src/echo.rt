@@ -1,6 +1,6 @@
 // The echo pipe: a port that gives back what it took.
 ghost use Rattle.std.specs.Prelude.{◌≡◌, ◌<◌, ◌++◌, true, false, length, Some, IfOk};
-ghost use Rattle.port_trait.specs.Ports.{Reads, Writes, Sends, PutsAll, untold};
+ghost use Rattle.port_trait.specs.{Reads, Writes, Sends, PutsAll, untold};
 ghost use Rattle.port_trait.specs.declared.answers.Begun.TheVariants as begins;
 ghost use Rattle.port_trait.specs.declared.answers.Settled.TheVariants as settles;
 ghost use Rattle.port_trait.specs.declared.answers.Took.TheVariants as writes;

@@ -1,7 +1,7 @@
 // A maker in memory.
 ghost use Rattle.std.specs.Prelude.{◌≡◌, ◌++◌, ◌∷◌, [], IfSome, OnOk, OnErr};
 ghost use Rattle.port_trait.specs.Counting.{Counted};
-ghost use Rattle.port_trait.specs.Made.{making_failed, making_stalled, peer_failed, peer_stalled, came_after};
+ghost use Rattle.port_trait.specs.{making_failed, making_stalled, peer_failed, peer_stalled, came_after};
 ghost use Rattle.port_objects.specs.Makers.{fresh_maker, scripted_make, items_after_make, scripted_accept, items_after_accept};
 
 use crate::ports::MemPort;

@@ -1,6 +1,6 @@
 // What a port in memory is to answer to its reads.
 ghost use Rattle.std.specs.Prelude.{◌≡◌, ◌<◌, ◌∷◌, ◌++◌, [], length, slice_get, option_copied, Some, OnOk, OnErr};
-ghost use Rattle.port_trait.specs.Meanings.{Gives};
+ghost use Rattle.port_trait.specs.{Gives};
 ghost use Rattle.port_objects.specs.Scripts.{IsFilled, IsWithin, IsPart, FitsRead, fresh_script, has_more, item_answer, at_after, got_bytes, scripted_read, after_read, given_of};
 
 use port_trait::{Got, copy_front};

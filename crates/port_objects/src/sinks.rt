@@ -1,7 +1,7 @@
 // A sink in memory.
 ghost use Rattle.std.specs.Prelude.{◌≡◌, ◌<◌, length, min, take, Some, IfOk, true, false};
 ghost use Rattle.port_trait.specs.Counting.{Counted};
-ghost use Rattle.port_trait.specs.Streams.{SinkTakes, sink_failed};
+ghost use Rattle.port_trait.specs.{SinkTakes, sink_failed};
 ghost use Rattle.port_objects.specs.Intakes.{fresh_intake, filled};
 ghost use Rattle.port_objects.specs.Sinks.{fresh_sink, scripted_sink};
 

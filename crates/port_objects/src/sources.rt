@@ -1,7 +1,7 @@
 // A source in memory.
 ghost use Rattle.std.specs.Prelude.{◌≡◌, ◌<◌, [], length, Some};
 ghost use Rattle.port_trait.specs.Counting.{Counted};
-ghost use Rattle.port_trait.specs.Streams.{SourceGives, source_failed, source_ended};
+ghost use Rattle.port_trait.specs.{SourceGives, source_failed, source_ended};
 ghost use Rattle.port_objects.specs.Sources.{fresh_source, scripted_source};
 
 use port_trait::{Source, SourceGot, copy_front};

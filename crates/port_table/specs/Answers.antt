@@ -1,9 +1,7 @@
 -- What the answers of ports say.
 use Rattle.std.specs.Prelude.{◌≡◌, ℕ, ◌≤◌, ◌<◌, Bool, true, false, List, length, take, Option, None, Some, ⊤}
-use Rattle.port_trait.specs.Meanings.{Adds}
-use Rattle.port_trait.specs.declared.answers.Got.{Got}
+use Rattle.port_trait.specs.{Adds, Got, Took}
 use Rattle.port_trait.specs.declared.answers.Got.TheVariants as gots
-use Rattle.port_trait.specs.declared.answers.Took.{Took}
 use Rattle.port_trait.specs.declared.answers.Took.TheVariants as tooks
 
 -- a read found nothing yet

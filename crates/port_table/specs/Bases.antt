@@ -1,9 +1,7 @@
 -- What a place stands on, by its address.
 use Rattle.std.specs.Prelude.{ℕ, Bool, true, false, ◌==◌, ⊤, Option, None, Some}
-use Rattle.relay_model.specs.declared.places.Place.{Place}
-use Rattle.relay_model.specs.declared.places.Part.{Part}
+use Rattle.relay_model.specs.{Place, Part, Target}
 use Rattle.relay_model.specs.declared.places.Part.TheVariants.{Both, Reading, Writing}
-use Rattle.relay_model.specs.declared.commands.Target.{Target}
 use Rattle.relay_model.specs.declared.commands.Target.TheVariants as targets
 use Rattle.port_table.specs.declared.bases.Base.{Base}
 use Rattle.port_table.specs.declared.bases.Base.TheVariants as bases

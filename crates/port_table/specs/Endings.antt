@@ -1,10 +1,9 @@
 -- What becomes of a standard port at the end.
 use Rattle.std.specs.Prelude.{◌≡◌, Bool, true, false, not, ⊤}
-use Rattle.port_trait.specs.declared.answers.Shutting.{Shutting}
+use Rattle.port_trait.specs.{Shutting, PortSeen, Shuts, MovesNothing}
 use Rattle.relay_model.specs.declared.acts.Shut.TheVariants as ways
 use Rattle.port_table.specs.declared.endings.Back.{Back}
 use Rattle.port_table.specs.declared.endings.Back.TheVariants as backs
-use Rattle.port_trait.specs.Ports.{PortSeen, Shuts, MovesNothing}
 
 -- whether something still works for the port
 abbrev pub is_left : {T : Type 0} → Back T → Bool

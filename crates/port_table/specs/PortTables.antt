@@ -1,14 +1,10 @@
 -- All ports of a desk, and which of them a call on a base goes to.
 use Rattle.std.specs.Prelude.{◌≡◌, ◌≢◌, ◌⊎◌, ◌||◌, ℕ, Bool, false, List, Option, None, Some, IfSome, is_some}
 use Rattle.slab.specs.Slab.{Slab, get}
-use Rattle.relay_model.specs.declared.places.Place.{Place}
-use Rattle.port_trait.specs.declared.answers.Hint.{Hint}
-use Rattle.port_trait.specs.declared.answers.Begun.{Begun}
+use Rattle.relay_model.specs.{Place}
+use Rattle.port_trait.specs.{Hint, Begun, Took, Rose, MovesNothing, PortSeen, PutsAll}
 use Rattle.port_trait.specs.declared.answers.Begun.TheVariants as begins
-use Rattle.port_trait.specs.declared.answers.Took.{Took}
 use Rattle.port_trait.specs.declared.answers.Took.TheVariants as tooks
-use Rattle.port_trait.specs.Counting.{Rose}
-use Rattle.port_trait.specs.Ports.{MovesNothing, PortSeen, PutsAll}
 use Rattle.port_table.specs.Ports.{EntrySeen, StreamBegins, StreamSeen}
 use Rattle.port_table.specs.declared.bases.Base.{Base}
 use Rattle.port_table.specs.declared.bases.Base.TheVariants as bases

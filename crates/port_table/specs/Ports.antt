@@ -1,10 +1,8 @@
 -- A made port and a standard one, by what their ports tell.
 use Rattle.std.specs.Prelude.{◌≡◌, ◌||◌, Bool, false, true}
-use Rattle.port_trait.specs.Meanings.{begun_after}
-use Rattle.port_trait.specs.Ports.{PortSeen, Begins}
-use Rattle.port_trait.specs.declared.answers.Begun.{Begun as BeginAnswer}
+use Rattle.port_trait.specs.{begun_after, PortSeen, Begins, Begun as BeginAnswer}
 use Rattle.port_trait.specs.declared.answers.Begun.TheVariants as begins
-use Rattle.relay_model.specs.declared.places.Place.{Place}
+use Rattle.relay_model.specs.{Place}
 
 -- a made port, and the place that stands on it
 pub record EntrySeen : Type 0 where

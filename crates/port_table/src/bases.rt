@@ -5,7 +5,7 @@ ghost use Rattle.port_table.specs.Bases.{IsStandard, is_keyed, is_standard, key_
 use relay_model::{Part, Place, Single, Target};
 
 /// What a place stands on: a standard stream, standard input and output together, or the made port of a key.
-#[derive(Clone, Copy, Debug, PartialEq, Eq)]
+#[derive(Clone, Copy, PartialEq, Eq)]
 pub enum Base {
     Input,
     Output,

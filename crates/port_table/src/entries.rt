@@ -1,9 +1,7 @@
 // A made port, seen by contracts as what it tells.
 ghost use Rattle.std.specs.Prelude.{◌<◌, ◌≡◌, length, IfSome};
-ghost use Rattle.port_trait.specs.Hinting.{IsWithin};
-ghost use Rattle.port_trait.specs.Ports.{Settles, Reads, Writes, Sends, Shuts, HintsSo, Reaps, JoinsSo};
+ghost use Rattle.port_trait.specs.{IsWithin, Settles, Reads, Writes, Sends, Shuts, HintsSo, Reaps, JoinsSo, LetsIn};
 ghost use Rattle.port_table.specs.Ports.{IsOf};
-ghost use Rattle.port_trait.specs.Makers.{LetsIn};
 
 use port_trait::{Got, Hint, Joining, MadePeer, Maker, Port, PortReap, Settled, Shutting, Took};
 use relay_model::{Place, Shut};

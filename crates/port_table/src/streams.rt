@@ -2,8 +2,7 @@
 ghost use Rattle.std.specs.Prelude.{◌<◌, ◌≡◌, ◌&&◌, not, false, length, IfSome};
 ghost use Rattle.port_table.specs.Endings.{EndsSo, OnJoinedBack, PassedEnd, StandsAfter, handed, is_left};
 ghost use Rattle.port_table.specs.PortTables.{StreamCall, StreamEnds};
-ghost use Rattle.port_trait.specs.Streams.{finishes};
-ghost use Rattle.port_trait.specs.Ports.{Settles, Reads, Writes, Sends, PutsAll, Shuts, Agrees};
+ghost use Rattle.port_trait.specs.{finishes, Settles, Reads, Writes, Sends, PutsAll, Shuts, Agrees};
 ghost use Rattle.port_table.specs.Ports.{StreamBegins};
 
 use crate::endings::Back;

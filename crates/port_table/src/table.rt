@@ -3,13 +3,10 @@
 ghost use Rattle.std.specs.Prelude.{◌≡◌, ◌≢◌, ◌<◌, None, Some, true, false, length, [], IfSome, OnOk};
 ghost use Rattle.slab.specs.Slab.{HasRoomFor, SameValues, Updates, get};
 ghost use Rattle.port_trait.specs.Counting.{Counted, Rose};
-ghost use Rattle.port_trait.specs.Hinting.{IsWithin};
+ghost use Rattle.port_trait.specs.{IsWithin, peer_failed, peer_stalled, came_after, MovesNothing, Settles, Reads, Writes, Sends, Shuts, finishes};
 ghost use Rattle.port_trait.specs.declared.answers.Begun.TheVariants as begins;
 ghost use Rattle.port_trait.specs.declared.makers.MadePeer.TheVariants as peers;
-ghost use Rattle.port_trait.specs.Made.{peer_failed, peer_stalled, came_after};
 ghost use Rattle.port_table.specs.Answers.{GotFits, SaidSo, TookFits, is_unsaid};
-ghost use Rattle.port_trait.specs.Ports.{MovesNothing, Settles, Reads, Writes, Sends, Shuts};
-ghost use Rattle.port_trait.specs.Streams.{finishes};
 ghost use Rattle.port_table.specs.PortTables.{BeginsAt, CalledAt, EndsAt, MadeCall, SameStreams, StreamFailed, StreamNotes, StreamsStay, giving_port, hint_told, hints_of, place_of, taking_port};
 
 use crate::bases::Base;

@@ -1,7 +1,6 @@
 -- What a list of keyed halves holds.
 use Rattle.std.specs.Prelude.{ℕ}
-use Rattle.relay_model.specs.declared.places.Half.{Half}
-use Rattle.relay_model.specs.Readiness.{ListOf, fresh_list}
+use Rattle.relay_model.specs.{Half, ListOf, fresh_list}
 
 -- the entries, and the number of entries that the list was given room for
 abbrev pub KeysListed : Type 0

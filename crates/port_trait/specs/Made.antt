@@ -1,6 +1,6 @@
 -- What a maker's answers need as their cause, and the peer that it tells.
 use Rattle.std.specs.Prelude.{◌≡◌, Bool, true, false, Option, Some}
-use Rattle.relay_model.specs.declared.acts.Peer.{Peer}
+use Rattle.relay_model.specs.{Peer}
 use Rattle.port_trait.specs.declared.makers.Making.{Making}
 use Rattle.port_trait.specs.declared.makers.Making.TheVariants as makings
 use Rattle.port_trait.specs.declared.makers.MadePeer.{MadePeer}

@@ -6,7 +6,7 @@ use Rattle.port_trait.specs.Ports.{PortSeen, MovesNothing}
 use Rattle.port_trait.specs.declared.makers.AskedPlace.{AskedPlace}
 use Rattle.port_trait.specs.declared.makers.Making.{Making}
 use Rattle.port_trait.specs.declared.makers.MadePeer.{MadePeer}
-use Rattle.relay_model.specs.declared.acts.Peer.{Peer}
+use Rattle.relay_model.specs.{Peer}
 
 -- how many of its answers were faults, and how many stalls; the peer of the last port that was accepted; and what the
 -- last opening was asked for, where the maker tells it

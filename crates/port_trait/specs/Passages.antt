@@ -1,7 +1,7 @@
 -- What passes a port, and how the logic stores it.
 use Rattle.std.specs.Prelude.{◌≡◌, ℕ, List, [], ◌==◌, cond, refl}
 use Rattle.std.specs.Coded.{Coded, code_by, coded_ℕ, coded_list, coded×}
-use Rattle.relay_model.specs.declared.acts.Shut.{Shut}
+use Rattle.relay_model.specs.{Shut}
 use Rattle.relay_model.specs.declared.acts.Shut.TheVariants as ways
 
 -- the bytes that were handed out, those that were accepted, and the ways in which an end was passed on

@@ -1,6 +1,6 @@
 -- What contracts see of a port, and what each call on it does to that. What a port doesn't tell is None.
 use Rattle.std.specs.Prelude.{◌≡◌, ℕ, Bool, true, false, ◌&&◌, List, Option, None, IfSome}
-use Rattle.relay_model.specs.declared.acts.Shut.{Shut}
+use Rattle.relay_model.specs.{Shut}
 use Rattle.port_trait.specs.Counting.{Tallied}
 use Rattle.port_trait.specs.Direct.{no_counts}
 use Rattle.port_trait.specs.Hinting.{IsWithin, all_hints}

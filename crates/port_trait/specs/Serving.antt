@@ -1,6 +1,6 @@
 -- Which calls a port over a source or a sink serves, and what its counts tell of these.
 use Rattle.std.specs.Prelude.{◌≡◌, ℕ, ◌+◌, ◌-◌, ◌^◌, ◌≤◌, max, nat_lt, Bool, true, false, Option, None, Some, IfSome, if◌then◌else◌}
-use Rattle.relay_model.specs.declared.acts.Shut.{Shut}
+use Rattle.relay_model.specs.{Shut}
 use Rattle.port_trait.specs.declared.counts.PortCounts.{PortCounts}
 use Rattle.port_trait.specs.declared.answers.Begun.{Begun as BeginAnswer}
 use Rattle.port_trait.specs.declared.answers.Begun.TheVariants as begins

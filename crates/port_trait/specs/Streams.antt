@@ -10,7 +10,7 @@ use Rattle.port_trait.specs.declared.answers.Got.TheVariants as reads
 use Rattle.port_trait.specs.declared.answers.Took.{Took as WriteAnswer}
 use Rattle.port_trait.specs.declared.answers.Took.TheVariants as writes
 use Rattle.port_trait.specs.declared.answers.SinkTook.TheVariants as takes
-use Rattle.relay_model.specs.declared.acts.Shut.{Shut}
+use Rattle.relay_model.specs.{Shut}
 use Rattle.relay_model.specs.declared.acts.Shut.TheVariants as ways
 
 -- what is left lost these bytes at its front

@@ -5,7 +5,7 @@ ghost use Rattle.port_trait.specs.Hinting.{all_hints, no_hint};
 use relay_model::ChildEnd;
 
 /// What a `begin` came to.
-#[derive(Clone, Copy, Debug, PartialEq)]
+#[derive(Clone, Copy, PartialEq)]
 pub enum Begun {
     Begun,
     Failed,
@@ -13,7 +13,7 @@ pub enum Begun {
 }
 
 /// Whether what was begun stands by now.
-#[derive(Clone, Copy, Debug, PartialEq)]
+#[derive(Clone, Copy, PartialEq)]
 pub enum Settled {
     Ready,
     NotYet,
@@ -21,7 +21,7 @@ pub enum Settled {
 }
 
 /// What a read of a port came to: bytes, an empty datagram, the end, nothing for now, or a fault.
-#[derive(Clone, Copy, Debug, PartialEq)]
+#[derive(Clone, Copy, PartialEq)]
 pub enum Got {
     Bytes(usize),
     Empty,
@@ -31,7 +31,7 @@ pub enum Got {
 }
 
 /// What a write on a port came to: so many bytes accepted, no room for now, or a fault.
-#[derive(Clone, Copy, Debug, PartialEq)]
+#[derive(Clone, Copy, PartialEq)]
 pub enum Took {
     Took(usize),
     NotYet,
@@ -39,14 +39,14 @@ pub enum Took {
 }
 
 /// What passing on the end came to.
-#[derive(Clone, Copy, Debug, PartialEq)]
+#[derive(Clone, Copy, PartialEq)]
 pub enum Shutting {
     Done,
     Failed,
 }
 
 /// What a port knows of its readiness by itself.
-#[derive(Clone, Copy, Debug, PartialEq)]
+#[derive(Clone, Copy, PartialEq)]
 pub struct Hint {
     pub readable: bool,
     pub writable: bool,
@@ -75,21 +75,21 @@ impl Hint {
 }
 
 /// How the port's child stands.
-#[derive(Clone, Copy, Debug, PartialEq)]
+#[derive(Clone, Copy, PartialEq)]
 pub enum PortReap {
     Reaped(ChildEnd),
     NoChild,
 }
 
 /// Whether what works for the port has come back to it.
-#[derive(Clone, Copy, Debug, PartialEq)]
+#[derive(Clone, Copy, PartialEq)]
 pub enum Joining {
     Joined,
     Running,
 }
 
 /// What a read of a source came to.
-#[derive(Clone, Copy, Debug, PartialEq)]
+#[derive(Clone, Copy, PartialEq)]
 pub enum SourceGot {
     Bytes(usize),
     End,
@@ -97,7 +97,7 @@ pub enum SourceGot {
 }
 
 /// What a write on a sink came to.
-#[derive(Clone, Copy, Debug, PartialEq)]
+#[derive(Clone, Copy, PartialEq)]
 pub enum SinkTook {
     Took(usize),
     Failed,

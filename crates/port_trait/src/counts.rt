@@ -4,7 +4,7 @@ ghost use Rattle.port_trait.specs.Counting.{Tallied, Fault, End, Empty, Stall};
 
 /// How often a port failed, ended, gave an empty datagram, and had nothing to give or no room. Each number
 /// stays at its last value.
-#[derive(Clone, Copy, Debug, PartialEq)]
+#[derive(Clone, Copy, PartialEq)]
 pub struct PortCounts {
     pub faults: u64,
     pub ends: u64,

@@ -3,7 +3,7 @@ ghost use Rattle.port_trait.specs.Makers.{MakerSeen, Opens, Listens, LetsIn};
 ghost use Rattle.port_trait.specs.declared.makers.AskedPlace.{AskedPlace};
 ghost use Rattle.port_trait.specs.declared.makers.Making.{Making};
 ghost use Rattle.port_trait.specs.declared.makers.MadePeer.{MadePeer};
-ghost use Rattle.relay_model.specs.declared.commands.Single.{Single};
+ghost use Rattle.relay_model.specs.{Single};
 
 use crate::ports::Port;
 use relay_model::{Peer, Place, Single};

@@ -1,13 +1,13 @@
 // Pollers wait until something is ready or a moment has come.
 ghost use Rattle.std.specs.Prelude.{◌≡◌, ◌≤◌, ℕ, Bool, List, Option, None, IfSome};
 ghost use Rattle.port_trait.specs.Counting.{Counted};
-ghost use Rattle.relay_model.specs.declared.places.Half.{Half};
+ghost use Rattle.relay_model.specs.{Half};
 ghost use Rattle.port_trait.specs.declared.pollers.Polled.{Polled};
 
 use crate::keys::KeyList;
 
 /// The moment at which a poll returned, in milliseconds since the run began, and whether the run is to stop.
-#[derive(Clone, Copy, Debug, PartialEq)]
+#[derive(Clone, Copy, PartialEq)]
 pub struct Polled {
     pub at: u64,
     pub stop: bool,

@@ -4,7 +4,7 @@ ghost use Rattle.port_trait.specs.Ports.{PortSeen, Begins, StandsBegun, Settles,
 ghost use Rattle.port_trait.specs.declared.answers.Begun.TheVariants as begins;
 ghost use Rattle.port_trait.specs.declared.answers.Settled.{Settled};
 ghost use Rattle.port_trait.specs.declared.answers.Shutting.{Shutting};
-ghost use Rattle.relay_model.specs.declared.acts.Shut.{Shut};
+ghost use Rattle.relay_model.specs.{Shut};
 
 use crate::answers::{Begun, Got, Hint, Joining, PortReap, Settled, Shutting, Took};
 use relay_model::Shut;

@@ -47,7 +47,9 @@ where
     P: Poller + Drop,
 {
     let mut desk = Desk::new(alloc, standard, maker, poller, recorder)?;
-    make_waits(alloc, &mut desk, PLACE, answers)
+    let made = make_waits(alloc, &mut desk, PLACE, answers);
+    drop(desk);
+    made
 }
 
 fn recorder_of(word: &str) -> Result<Recorder, CaseFault> {

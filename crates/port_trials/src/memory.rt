@@ -1,6 +1,6 @@
 // Ports in memory, and ports over sources and sinks that are called at once.
 ghost use Rattle.std.specs.Prelude.{◌≡◌, IfOk};
-ghost use Rattle.port_objects.specs.Scripts.{IsFilled, given_of};
+ghost use Rattle.port_objects.specs.{IsFilled, given_of};
 
 use crate::calls::{call_port, read_boxed};
 use case_rows::{Answered, Answers, CaseFault, Inputs, bytes_of, step_parts};

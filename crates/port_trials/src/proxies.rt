@@ -1,6 +1,6 @@
 // Ports through proxies, over a port in memory.
 ghost use Rattle.std.specs.Prelude.{◌≡◌, ◌≤◌, [], IfOk, length};
-ghost use Rattle.port_objects.specs.Scripts.{given_of};
+ghost use Rattle.port_objects.specs.{given_of};
 
 use crate::calls::make_calls;
 use crate::memory::add_items;

@@ -1,7 +1,7 @@
 // Packets of one socket by their senders, and a socket in memory with its rows.
 ghost use Rattle.std.specs.Prelude.{◌≤◌, IfOk, length};
-ghost use Rattle.relay_model.specs.Conversions.{longest_packet};
-ghost use Rattle.peer_demux.specs.Links.{IsFit};
+ghost use Rattle.relay_model.specs.{longest_packet};
+ghost use Rattle.peer_demux.specs.{IsFit};
 
 use case_rows::{Answered, Answers, CaseFault, Inputs, bytes_of, step_parts};
 use peer_demux::{Demux, Hub, Link, LinkItem, Lost, MemLink, Mode, Put, RowPeer, Taken};

@@ -1,7 +1,7 @@
 // The calls on a world: a place is opened, read and waited for. They are over any world, of which the prover compares the
 // name alone.
 ghost use Rattle.std.specs.Prelude.{◌≡◌, true, IfOk};
-ghost use Rattle.relay_model.specs.Holding.{Free, Open};
+ghost use Rattle.relay_model.specs.{Free, Open};
 
 use case_rows::{Answered, Answers, CaseFault};
 use relay_model::{Half, Options, Place, ReadyAt, ReadyList, Single, Target, Text};
@@ -34,11 +34,13 @@ fn open<W: World>(
     requires { (W.seen world.old).held place ≡ Free }
     ensures { IfOk result (λ stands. stands ≡ true → (W.seen world.new).held place ≡ Open) }
 {
+    let name = Text::of(alloc, b"x")?;
     let single = Single {
-        target: Target::FileAt(Text::of(alloc, b"x")?),
         options: Options::defaults(alloc)?,
+        target: Target::FileAt(name),
     };
     let answer = world.open_place(place, &single, None);
+    drop(single);
     answers.word(open_word(answer));
     Ok(answer == OpenAnswer::Opened)
 }

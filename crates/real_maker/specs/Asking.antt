@@ -3,12 +3,10 @@ use Rattle.std.specs.Prelude.{◌≡◌, ◌<◌, ℕ, Bool, true, false, List, 
 use Rattle.std.specs.Net.Addr.{ipv4_octets}
 use Rattle.std.specs.declared.net.ip_addr.IpAddr.TheVariants as ips
 use Rattle.std.specs.declared.net.ipv4_addr.Ipv4Addr.{Ipv4Addr}
-use Rattle.host_lookup.specs.Hosts.{IsNameOf, WritesIp}
-use Rattle.relay_model.specs.declared.commands.Options.{Options}
-use Rattle.relay_model.specs.declared.commands.Target.{Target}
+use Rattle.host_lookup.specs.{IsNameOf, WritesIp}
+use Rattle.relay_model.specs.{Options, Target}
 use Rattle.relay_model.specs.declared.commands.Target.TheVariants as targets
-use Rattle.tunnel_port.specs.SocksRequests.{socks4, socks4a}
-use Rattle.tunnel_port.specs.ConnectRequests.{connect_request}
+use Rattle.tunnel_port.specs.{socks4, socks4a, connect_request}
 use Rattle.real_maker.specs.declared.socks.SocksStage.{SocksStage}
 use Rattle.real_maker.specs.declared.socks.SocksStage.TheVariants as stages
 use Rattle.real_maker.specs.declared.ports.RealPort.{RealPort}

@@ -1,6 +1,6 @@
 -- What contracts see of a door's descriptors.
 use Rattle.std.specs.Prelude.{◌==◌, ℕ, Bool, true, false, if◌then◌else◌}
-use Rattle.port_trait.specs.declared.answers.Hint.{Hint}
+use Rattle.port_trait.specs.{Hint}
 
 -- whether its maker keeps descriptors for each of its peers, and how many the last accepting lacked
 pub record GateState : Type 0 where

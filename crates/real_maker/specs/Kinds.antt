@@ -1,15 +1,11 @@
 -- Which port an address gets.
 use Rattle.std.specs.Prelude.{◌≡◌, Bool, true, false, ◌&&◌, Some, is_some}
-use Rattle.relay_model.specs.declared.acts.Peer.{Peer}
-use Rattle.relay_model.specs.declared.commands.Single.{Single}
-use Rattle.relay_model.specs.declared.commands.Target.{Target}
+use Rattle.relay_model.specs.{Peer, Single, Target, listens}
 use Rattle.relay_model.specs.declared.commands.Target.TheVariants as targets
-use Rattle.relay_model.specs.Configs.{listens}
-use Rattle.file_ports.specs.Opened.{file_named}
-use Rattle.child_ports.specs.Programs.{runs_program}
-use Rattle.socket_kinds.specs.Kinds.{Listening}
-use Rattle.socket_maker.specs.Makings.{opened_sort}
-use Rattle.socket_maker.specs.Ports.{HasPartnerAt, is_door_port, is_unix_door_port, sort_at}
+use Rattle.file_ports.specs.{file_named}
+use Rattle.child_ports.specs.{runs_program}
+use Rattle.socket_kinds.specs.{Listening}
+use Rattle.socket_maker.specs.{opened_sort, HasPartnerAt, is_door_port, is_unix_door_port, sort_at}
 use Rattle.real_maker.specs.declared.ports.RealPort.{RealPort}
 use Rattle.real_maker.specs.declared.ports.RealPort.TheVariants as ports
 

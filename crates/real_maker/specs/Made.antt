@@ -1,8 +1,6 @@
 -- What contracts see of a port as a maker hands it out.
 use Rattle.std.specs.Prelude.{◌==◌, ℕ, Bool, false, Option, None, Some, if◌then◌else◌}
-use Rattle.port_trait.specs.Hinting.{all_hints}
-use Rattle.port_trait.specs.Ports.{PortSeen}
-use Rattle.port_trait.specs.declared.answers.Hint.{Hint}
+use Rattle.port_trait.specs.{all_hints, PortSeen, Hint}
 use Rattle.real_maker.specs.Gates.{gate_halves}
 use Rattle.real_maker.specs.declared.made.Hints.{Hints}
 use Rattle.real_maker.specs.declared.made.Hints.TheVariants as origins

@@ -1,8 +1,8 @@
 -- What contracts see of the maker.
 use Rattle.std.specs.Prelude.{◌≡◌, ℕ, Option, None}
-use Rattle.relay_model.specs.declared.acts.Peer.{Peer}
-use Rattle.port_trait.specs.Makers.{MakerSeen}
-use Rattle.socket_maker.specs.Reserves.{ReserveState}
+use Rattle.relay_model.specs.{Peer}
+use Rattle.port_trait.specs.{MakerSeen}
+use Rattle.socket_maker.specs.{ReserveState}
 
 -- its counts, the peer that it accepted last, and the descriptors that it keeps
 pub record RealMakerState : Type 0 where

@@ -1,15 +1,12 @@
 -- What contracts see of a made port: what they see of the port that it is.
 use Rattle.real_maker.specs.declared.ports.RealPort.{RealPort}
 use Rattle.real_maker.specs.declared.ports.RealPort.TheVariants as ports
-use Rattle.port_objects.specs.Echoes.{EchoState}
-use Rattle.file_ports.specs.Halves.{HalvesState}
-use Rattle.file_ports.specs.declared.stream.FileStream.{FileStream}
-use Rattle.tunnel_port.specs.Tunnels.{TunnelState}
+use Rattle.port_objects.specs.{EchoState}
+use Rattle.file_ports.specs.{HalvesState, FileStream}
+use Rattle.tunnel_port.specs.{TunnelState, ConnectState}
 use Rattle.real_maker.specs.SocksStages.{SocksOpeningState}
-use Rattle.tunnel_port.specs.ConnectReplies.{ConnectState}
-use Rattle.socket_ports.specs.Ports.{PeerState}
-use Rattle.socket_ports.specs.Sockets.{SocketPortState}
-use Rattle.socket_maker.specs.declared.port.HostPort.{HostPort}
+use Rattle.socket_ports.specs.{PeerState, SocketPortState}
+use Rattle.socket_maker.specs.{HostPort}
 
 -- what the port that it is tells
 abbrev pub of_port : {T : Type 0} → (EchoState → T) → (HostPort → T) → (SocketPortState FileStream → T) → (SocketPortState HalvesState → T) → (SocksOpeningState HostPort → T) → (TunnelState HostPort ConnectState → T) → (PeerState → T) → RealPort → T

@@ -1,12 +1,8 @@
 -- What contracts see of a connection through a SOCKS server.
 use Rattle.std.specs.Prelude.{◌≡◌, Bool, Option, None}
-use Rattle.relay_model.specs.declared.acts.Shut.{Shut}
-use Rattle.port_trait.specs.Hinting.{all_hints}
-use Rattle.port_trait.specs.Ports.{PortSeen}
-use Rattle.port_trait.specs.declared.answers.Hint.{Hint}
-use Rattle.port_trait.specs.declared.answers.Shutting.{Shutting}
+use Rattle.relay_model.specs.{Shut}
+use Rattle.port_trait.specs.{all_hints, PortSeen, Hint, Shutting, PortCounts}
 use Rattle.port_trait.specs.declared.answers.Shutting.TheVariants as shuts
-use Rattle.port_trait.specs.declared.counts.PortCounts.{PortCounts}
 use Rattle.real_maker.specs.declared.socks.SocksStage.{SocksStage}
 use Rattle.real_maker.specs.declared.socks.SocksStage.TheVariants as stages
 

@@ -1,7 +1,7 @@
 -- What a SOCKS server is to be asked for, now or once the host is looked up.
 use Rattle.std.specs.Prelude.{◌≡◌, ℕ, Bool, true, false, List}
-use Rattle.tunnel_port.specs.SocksRequests.{socks4a}
-use Rattle.host_lookup.specs.Hosts.{IsNameOf}
+use Rattle.tunnel_port.specs.{socks4a}
+use Rattle.host_lookup.specs.{IsNameOf}
 use Rattle.real_maker.specs.Asking.{IsWrittenRequest}
 use Rattle.real_maker.specs.declared.proxied.Wanted.{Wanted}
 use Rattle.real_maker.specs.declared.proxied.Wanted.TheVariants as wants

@@ -9,7 +9,7 @@ use std::os::unix::fs::FileTypeExt;
 use std::str;
 
 /// What opens an address.
-#[derive(Clone, Copy, Debug, PartialEq)]
+#[derive(Clone, Copy, PartialEq)]
 pub(crate) enum MakerKind {
     Echo,
     File,

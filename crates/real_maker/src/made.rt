@@ -1,11 +1,9 @@
 // A port beside what its maker knows of its readiness.
 ghost use Rattle.std.specs.Prelude.{◌≡◌, ◌≢◌};
-ghost use Rattle.port_trait.specs.Hinting.{IsWithin};
-ghost use Rattle.port_trait.specs.declared.answers.Hint.{Hint as HintSeen};
-ghost use Rattle.port_trait.specs.Made.{making_failed, making_stalled, IsAtOnce};
+ghost use Rattle.port_trait.specs.{IsWithin, Hint as HintSeen, making_failed, making_stalled, IsAtOnce};
 ghost use Rattle.port_trait.specs.declared.makers.MadePeer.TheVariants as peers;
-ghost use Rattle.socket_kinds.specs.Accepting.{OnPort};
-ghost use Rattle.relay_model.specs.declared.commands.Target.{Target};
+ghost use Rattle.socket_kinds.specs.{OnPort};
+ghost use Rattle.relay_model.specs.{Target};
 ghost use Rattle.real_maker.specs.Gates.{gate_halves};
 ghost use Rattle.real_maker.specs.Kinds.{IsOpenedFor};
 ghost use Rattle.real_maker.specs.Made.{lacking_of, is_shared, seen_at};

@@ -1,22 +1,15 @@
 // The maker of every address that isn't a standard stream.
 ghost use Rattle.std.specs.Prelude.{◌≡◌, ◌≢◌, ◌<◌, ◌+◌, true, false, None, Some, IfSome, IfOk, is_some};
-ghost use Rattle.relay_model.specs.declared.commands.Single.{Single};
-ghost use Rattle.relay_model.specs.declared.commands.Target.{Target};
-ghost use Rattle.relay_model.specs.Configs.{listens};
-ghost use Rattle.port_trait.specs.Made.{making_failed, making_stalled, IsAtOnce};
-ghost use Rattle.port_trait.specs.Makers.{Opens, Listens, LetsIn};
-ghost use Rattle.port_trait.specs.Ports.{MovesNothing};
+ghost use Rattle.relay_model.specs.{Single, Target, listens};
+ghost use Rattle.port_trait.specs.{making_failed, making_stalled, IsAtOnce, Opens, Listens, LetsIn, MovesNothing};
 ghost use Rattle.port_trait.specs.declared.makers.Making.TheVariants as makings;
 ghost use Rattle.port_trait.specs.declared.makers.MadePeer.TheVariants as peers;
 ghost use Rattle.relay_model.specs.declared.acts.Peer.TheVariants as whose;
-ghost use Rattle.socket_kinds.specs.Accepting.{OnBoth, OnPort, OnPeer, OnCame};
-ghost use Rattle.socket_kinds.specs.Kinds.{Listening};
-ghost use Rattle.socket_maker.specs.Makings.{opened_sort};
-ghost use Rattle.socket_maker.specs.Ports.{HasPartnerAt, is_door_port, is_unix_door_port, port_sort};
-ghost use Rattle.socket_maker.specs.declared.port.HostPort.{HostPort};
-ghost use Rattle.socket_ports.specs.Ports.{PeerState, fresh_port};
-ghost use Rattle.file_ports.specs.Opened.{OnMade};
-ghost use Rattle.mio_poller.specs.Pollers.{is_reserved};
+ghost use Rattle.socket_kinds.specs.{OnBoth, OnPort, OnPeer, OnCame, Listening};
+ghost use Rattle.socket_maker.specs.{opened_sort, HasPartnerAt, is_door_port, is_unix_door_port, port_sort, HostPort};
+ghost use Rattle.socket_ports.specs.{PeerState, fresh_peer_port};
+ghost use Rattle.file_ports.specs.{OnMade};
+ghost use Rattle.mio_poller.specs.{is_reserved};
 ghost use Rattle.real_maker.specs.Made.{lacking_of, is_shared};
 ghost use Rattle.real_maker.specs.Makers.{seen_of, IsFreshMaker, SameBooks};
 ghost use Rattle.real_maker.specs.Asking.{Asks};
@@ -512,7 +505,7 @@ fn peer_of(peer: MadePeer<OfSocket>) -> MadePeer<RealPort>
 /// A peer of a shared socket as a port of any kind.
 fn real_peer(peer: MadePeer<PeerPort>) -> MadePeer<RealPort>
     ensures addressed { OnCame (λ who. who ≢ whose.Local) peer → OnCame (λ who. who ≢ whose.Local) result }
-    ensures partner { OnBoth (λ port who. port ≡ fresh_port (Some who)) peer → OnBoth IsOfPeer result }
+    ensures partner { OnBoth (λ port who. port ≡ fresh_peer_port (Some who)) peer → OnBoth IsOfPeer result }
     ensures kind { (door : PeerState) → OnPeer (ComesAt (ports.Peer door)) result }
 {
     match peer {

@@ -1,6 +1,6 @@
 // Echo pipes as ports.
 ghost use Rattle.relay_model.specs.declared.commands.Target.TheVariants as targets;
-ghost use Rattle.socket_kinds.specs.Accepting.{OnPort};
+ghost use Rattle.socket_kinds.specs.{OnPort};
 ghost use Rattle.real_maker.specs.Kinds.{IsOpenedFor};
 
 use crate::ports::RealPort;

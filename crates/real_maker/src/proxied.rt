@@ -1,10 +1,10 @@
 // Connections through a proxy.
 ghost use Rattle.std.specs.Prelude.{◌≡◌, ℕ, Bool, List, false, true};
-ghost use Rattle.relay_model.specs.declared.commands.Target.{Target};
-ghost use Rattle.socket_kinds.specs.Accepting.{OnPort};
+ghost use Rattle.relay_model.specs.{Target};
+ghost use Rattle.socket_kinds.specs.{OnPort};
 ghost use Rattle.real_maker.specs.Asking.{IsWrittenRequest, AsksAt, AsksSocks, AsksProxy};
 ghost use Rattle.real_maker.specs.Wanting.{IsWantedOf};
-ghost use Rattle.host_lookup.specs.Hosts.{IsNameOf, WritesIp};
+ghost use Rattle.host_lookup.specs.{IsNameOf, WritesIp};
 ghost use Rattle.std.specs.declared.net.ip_addr.IpAddr.TheVariants as ips;
 ghost use Rattle.real_maker.specs.Kinds.{IsOpenedFor, is_proxy, is_socks};
 

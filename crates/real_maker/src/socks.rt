@@ -2,8 +2,8 @@
 ghost use Rattle.std.specs.Prelude.{◌≡◌, ◌<◌, None, true, false, IfSome, length};
 ghost use Rattle.std.specs.Net.Addr.{ipv4_octets};
 ghost use Rattle.std.specs.Net.Socket.{v4_ip};
-ghost use Rattle.port_trait.specs.Ports.{untold};
-ghost use Rattle.tunnel_port.specs.SocksRequests.{socks4};
+ghost use Rattle.port_trait.specs.{untold};
+ghost use Rattle.tunnel_port.specs.{socks4};
 ghost use Rattle.real_maker.specs.Asking.{AsksFound};
 ghost use Rattle.real_maker.specs.SocksStages.{ShutsBeneath, stage_hinting, stage_hints};
 
@@ -33,7 +33,7 @@ pub struct AskedLater<P: Port = OfSocket> {
 
 impl<P: Port> Model for AskedLater<P> {
     ghost use Rattle.std.specs.Prelude.{[]};
-    ghost use Rattle.tunnel_port.specs.Talks.{IsOnly};
+    ghost use Rattle.tunnel_port.specs.{IsOnly};
     ghost use Rattle.real_maker.specs.Socks.{AskedState};
 
     ghost Value = { AskedState P };

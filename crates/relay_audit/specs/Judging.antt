@@ -1,9 +1,7 @@
 -- What is found of a written history.
 use Rattle.std.specs.Prelude.{◌≡◌, ℕ, suc, List, ◌∷◌, ◌++◌, length}
-use Rattle.relay_model.specs.declared.commands.Config.{Config}
-use Rattle.relay_model.specs.declared.acts.Act.{Act}
+use Rattle.relay_model.specs.{Config, Act, held_count}
 use Rattle.relay_model.specs.May.{May, Legal}
-use Rattle.relay_model.specs.Audit.{held_count}
 use Rattle.relay_audit.specs.declared.judging.Judgement.{Judgement}
 use Rattle.relay_audit.specs.declared.judging.Judgement.TheVariants as found
 

@@ -1,20 +1,10 @@
 -- What the judging of one act asks of the acts before it.
 use Rattle.std.specs.Prelude.{◌≡◌, ℕ, zero, suc, ◌+◌, Bool, true, false, not, ◌&&◌, ◌||◌, nat_lt, List, [], ◌∷◌, ◌++◌, length, drop, count_by, is_none}
-use Rattle.relay_model.specs.declared.places.Way.{Way}
-use Rattle.relay_model.specs.declared.places.Place.{Place}
-use Rattle.relay_model.specs.declared.commands.Config.{Config}
-use Rattle.relay_model.specs.declared.acts.Why.{Why}
+use Rattle.relay_model.specs.{Way, Place, Config, Why, Act, things, is_program_door, input, output, keeps_borders, held, same_why, got, put, sent}
+use Rattle.relay_model.specs.{due, due_pieces, cause, closed_why, called_at, BeginsWith, closes, door_ends, is_cause}
 use Rattle.relay_model.specs.declared.acts.Why.TheVariants as whys
-use Rattle.relay_model.specs.declared.acts.Act.{Act}
 use Rattle.relay_model.specs.declared.acts.Act.TheVariants.{Read, Closed, Note, NoteFault}
-use Rattle.relay_model.specs.Configs.{things, is_program_door, input, output, keeps_borders}
-use Rattle.relay_model.specs.History.{held, same_why, got, put, sent}
-use Rattle.relay_model.specs.Transfers.{due, due_pieces}
-use Rattle.relay_model.specs.Cause.{cause, closed_why}
-use Rattle.relay_model.specs.Calls.{called_at}
-use Rattle.relay_model.specs.May.{BeginsWith}
-use Rattle.relay_model.specs.Audit.{closes, door_ends, is_cause}
-use Rattle.relay_laws.specs.Packets.{at_most_one}
+use Rattle.relay_laws.specs.{at_most_one}
 
 -- where the last act is a read, it brought some bytes
 abbrev pub reads_some : List Act → Bool

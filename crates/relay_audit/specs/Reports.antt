@@ -1,11 +1,10 @@
 -- What the auditor reports of what a source gives, and how it says so.
 use Rattle.std.specs.Prelude.{◌≡◌, ℕ, ◌<◌, ◌≤◌, ◌++◌, List, [], length, codes, Option, option_map, IfSome}
 use Rattle.std.specs.Fmt.{decimal}
-use Rattle.port_trait.specs.Counting.{Rose}
+use Rattle.port_trait.specs.{Rose, Loses}
 use Rattle.std.specs.Io.KnownBytes.{Consumes, Appends, IsAtEnd}
-use Rattle.port_trait.specs.Streams.{Loses}
-use Rattle.journal_text.specs.Sources.{longest_text}
-use Rattle.relay_model.specs.Dumps.{newline}
+use Rattle.journal_text.specs.{longest_text}
+use Rattle.relay_model.specs.{newline}
 use Rattle.relay_audit.specs.declared.verdicts.Verdict.{Verdict}
 use Rattle.relay_audit.specs.declared.verdicts.Verdict.TheVariants.{Yes, BadLine, BadWords, Illegal}
 use Rattle.relay_audit.specs.declared.reports.Report.{Report}

@@ -1,12 +1,9 @@
 -- What an audit says of a text and of the words of a command.
 use Rattle.std.specs.Prelude.{◌≡◌, ℕ, List, length, Ok}
-use Rattle.relay_model.specs.declared.commands.Config.{Config}
-use Rattle.relay_model.specs.declared.acts.Act.{Act}
-use Rattle.relay_model.specs.May.{Legal}
-use Rattle.relay_model.specs.Audit.{held_count}
-use Rattle.journal_text.specs.Texts.{IsTextOf, IsFirstBadLine, kept}
+use Rattle.relay_model.specs.{Config, Act, Legal, held_count}
+use Rattle.journal_text.specs.{IsTextOf, IsFirstBadLine, kept}
 use Rattle.cmd_words.specs.declared.commands.Command.TheVariants.{Relay}
-use Rattle.cmd_words.specs.Commands.{MakesNoRelay, command}
+use Rattle.cmd_words.specs.{MakesNoRelay, command}
 use Rattle.relay_audit.specs.declared.verdicts.Verdict.{Verdict}
 use Rattle.relay_audit.specs.declared.verdicts.Verdict.TheVariants.{Yes, BadLine, BadWords, Illegal}
 use Rattle.relay_audit.specs.Judging.{IsFirstIllegal}

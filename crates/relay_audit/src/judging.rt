@@ -1,11 +1,7 @@
 // Whether each act of a journal may come after the acts before it.
 ghost use Rattle.std.specs.Prelude.{◌≡◌, ◌<◌, ◌≤◌, ◌*◌, ◌^◌, ◌+◌, length, count_by, drop, IfOk, true};
-ghost use Rattle.relay_model.specs.History.{held};
-ghost use Rattle.relay_model.specs.Configs.{things};
-ghost use Rattle.relay_model.specs.Sessions.{admitted};
-ghost use Rattle.relay_model.specs.May.{Legal};
-ghost use Rattle.relay_model.specs.Audit.{held_count, first_illegal, may_come};
-ghost use Rattle.history_facts.specs.Pasts.{acts};
+ghost use Rattle.relay_model.specs.{held, things, admitted, Legal, held_count, first_illegal, may_come};
+ghost use Rattle.history_facts.specs.{acts};
 ghost use Rattle.relay_audit.specs.Pasts.{reads_some, held_below, WrittenStands, OnePieceWaits};
 ghost use Rattle.relay_audit.specs.Judging.{Judges};
 
@@ -20,7 +16,7 @@ use session_facts::{Ledger, numbers};
 use std::alloc::Global;
 
 /// What is found of a journal.
-#[derive(Clone, Copy, Debug, PartialEq, Eq)]
+#[derive(Clone, Copy)]
 pub enum Judgement {
     /// Each act may come, and so many places and doors are held after the last.
     Legal { held: u64 },

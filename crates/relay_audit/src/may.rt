@@ -1,19 +1,12 @@
 // What may come and what rests, as tests that compute.
 ghost use Rattle.std.specs.Prelude.{List, ◌≡◌, ◌≢◌, ◌<◌, ◌≤◌, ◌^◌, ◌&&◌, ◌||◌, ◌==◌, not, nat_lt, nat_le, [], ◌∷◌, ◌++◌, length, drop, IfOk, is_none, true};
-ghost use Rattle.relay_model.specs.declared.acts.Act.{Act};
+ghost use Rattle.relay_model.specs.{Act, dump_of, each_below, same_place, passed, turns, got, put, sent, was_closed, was_reaped, same_why};
+ghost use Rattle.relay_model.specs.{asked_to_read, asked_to_write, admitted, live, cause, running, input, output, way_to, medium_of, is_program};
+ghost use Rattle.relay_model.specs.{keeps_borders, due, due_pieces, backlog, is_spent, owed, is_going, owes_read, owes_write, until_of, implies};
+ghost use Rattle.relay_model.specs.{accept_tried, way_rests, session_rests, door_rests, rests, same_number, same_list, same_text, begins};
+ghost use Rattle.relay_model.specs.{begins_pieces, same_shut, opens, listens_to, accepts_for, accepts_at, closes, may_ask, may_take, may_offer};
+ghost use Rattle.relay_model.specs.{may_put, may_shut, door_ends, is_cause, may_close, may_come};
 ghost use Rattle.relay_model.specs.declared.acts.Act.TheVariants.{Read};
-ghost use Rattle.relay_model.specs.Dumps.{dump_of};
-ghost use Rattle.relay_model.specs.Choices.{each_below};
-ghost use Rattle.relay_model.specs.Places.{same_place};
-ghost use Rattle.relay_model.specs.Moments.{passed};
-ghost use Rattle.relay_model.specs.History.{turns, got, put, sent, was_closed, was_reaped, same_why};
-ghost use Rattle.relay_model.specs.Arming.{asked_to_read, asked_to_write};
-ghost use Rattle.relay_model.specs.Sessions.{admitted, live};
-ghost use Rattle.relay_model.specs.Cause.{cause, running};
-ghost use Rattle.relay_model.specs.Configs.{input, output, way_to, medium_of, is_program, keeps_borders};
-ghost use Rattle.relay_model.specs.Transfers.{due, due_pieces, backlog, is_spent};
-ghost use Rattle.relay_model.specs.Rest.{owed, is_going, owes_read, owes_write, until_of};
-ghost use Rattle.relay_model.specs.Audit.{implies, accept_tried, way_rests, session_rests, door_rests, rests, same_number, same_list, same_text, begins, begins_pieces, same_shut, opens, listens_to, accepts_for, accepts_at, closes, may_ask, may_take, may_offer, may_put, may_shut, door_ends, is_cause, may_close, may_come};
 ghost use Rattle.relay_audit.specs.Pasts.{reads_some, awaits_dump, may_end, WrittenStands, OnePieceWaits};
 
 use crate::rest::{

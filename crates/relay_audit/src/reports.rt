@@ -1,6 +1,6 @@
 // The program's work: what a source gives is audited, and one line says what was found.
 ghost use Rattle.std.specs.Prelude.{◌≡◌, ◌<◌, ◌⊎◌, true, IfOk, IfErr, string_bytes};
-ghost use Rattle.port_trait.specs.Counting.{Rose};
+ghost use Rattle.port_trait.specs.{Rose};
 ghost use Rattle.relay_audit.specs.Reports.{IsReportOf, yes_line, line_of_verdict, line_of, status_of_verdict, status_of, Reported, ReportedBeneath};
 
 use crate::verdicts::{Verdict, audit};
@@ -10,7 +10,7 @@ use relay_model::{NoMemory, Text};
 use std::alloc::Global;
 
 /// What the auditor reports of what a source gives.
-#[derive(Clone, Copy, Debug, PartialEq, Eq)]
+#[derive(Clone, Copy)]
 pub enum Report {
     /// More than 16,777,216 bytes were given; the rest isn't read.
     TooLong,

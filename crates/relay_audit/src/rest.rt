@@ -1,9 +1,8 @@
 // When a wait is in order, and until when.
 ghost use Rattle.std.specs.Prelude.{◌≡◌, ◌<◌, ◌^◌, IfOk, is_none};
-ghost use Rattle.relay_model.specs.Choices.{some_below, least_below};
-ghost use Rattle.relay_model.specs.Sessions.{admitted, live};
-ghost use Rattle.relay_model.specs.Cause.{cause, running};
-ghost use Rattle.relay_model.specs.Rest.{owed, goes, is_going, owes_read, owes_write, must_pass, accepts, presses, way_work, session_work, try_moment, input_moment, timer_moment, session_moment, door_moment, until_of};
+ghost use Rattle.relay_model.specs.{some_below, least_below, admitted, live, cause, running, owed, goes, is_going, owes_read, owes_write, must_pass};
+ghost use Rattle.relay_model.specs.{accepts, presses, way_work, session_work, try_moment, input_moment, timer_moment, session_moment, door_moment};
+ghost use Rattle.relay_model.specs.{until_of};
 
 use command_places::{input, is_formed, output};
 use history_facts::{

@@ -1,7 +1,7 @@
 // The verdict on a written journal.
 ghost use Rattle.std.specs.Prelude.{◌≡◌, IfOk, Ok};
 ghost use Rattle.cmd_words.specs.declared.commands.Command.TheVariants.{Relay};
-ghost use Rattle.cmd_words.specs.Commands.{command};
+ghost use Rattle.cmd_words.specs.{command};
 ghost use Rattle.relay_audit.specs.Verdicts.{IsVerdictOn, IsVerdictFor, IsVerdictOf};
 
 use crate::judging::{Judgement, judge};
@@ -11,7 +11,7 @@ use relay_model::{Config, Journal, NoMemory, Text};
 use std::alloc::Global;
 
 /// What is found of a text that is said to be the journal of a command's run.
-#[derive(Clone, Copy, Debug, PartialEq, Eq)]
+#[derive(Clone, Copy)]
 pub enum Verdict {
     /// It is the text of a legal history with so many acts, after which so many places and doors are held.
     Yes { acts: u64, held: u64 },

@@ -1,6 +1,6 @@
 -- The bytes that a backlog holds, and how many it could.
 use Rattle.std.specs.Prelude.{◌≡◌, ℕ, ◌*◌, ◌≤◌, Bool, true, false, List, length, min, IfSome, is_some, vec_capacity, if◌then◌else◌}
-use Rattle.relay_model.specs.Conversions.{longest_packet, packet_cap}
+use Rattle.relay_model.specs.{longest_packet, packet_cap}
 use Rattle.relay_buffer.specs.declared.lanes.Lane.{Lane}
 use Rattle.relay_buffer.specs.declared.backlogs.Backlog.{Backlog}
 use Rattle.relay_buffer.specs.declared.backlogs.Backlog.TheVariants.{Stream, Packet}

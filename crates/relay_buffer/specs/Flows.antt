@@ -1,7 +1,7 @@
 -- What a flow stands for: the bytes that were filled in, and those that were taken.
 use Rattle.std.specs.Prelude.{◌≡◌, ℕ, ◌-◌, ◌*◌, ◌/◌, Bool, false, ◌||◌, ◌==◌, List, ◌++◌, length, drop, min, Option, None, Some, if◌then◌else◌}
-use Rattle.relay_model.specs.Conversions.{before_escape, due_of, holds_escape, is_met, is_over, packet_size, read_size}
-use Rattle.line_ends.specs.Converted.{converted}
+use Rattle.relay_model.specs.{before_escape, due_of, holds_escape, is_met, is_over, packet_size, read_size}
+use Rattle.line_ends.specs.{converted}
 use Rattle.relay_buffer.specs.declared.lanes.Lane.{Lane}
 
 -- what contracts see of a flow: its lane, how many bytes may still be read, whether the escape byte was met,

@@ -1,6 +1,6 @@
 // Where the bytes that wait are kept. No call here takes memory.
 ghost use Rattle.std.specs.Prelude.{◌≡◌, ◌+◌, ◌≤◌, ◌++◌, [], true, length, take, drop, vec_len};
-ghost use Rattle.line_ends.specs.Converted.{converted};
+ghost use Rattle.line_ends.specs.{converted};
 ghost use Rattle.relay_buffer.specs.Backlogs.{held_bytes, held_capacity, is_packet, IsSameStore, IsTradable};
 
 use crate::stream_stores::StreamStore;

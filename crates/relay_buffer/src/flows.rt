@@ -1,6 +1,6 @@
 // A direction's bytes between its reads and its writes.
 ghost use Rattle.std.specs.Prelude.{◌≡◌, ◌==◌, ◌+◌, ◌*◌, ◌≤◌, ◌++◌, ℕ, List, [], length, take, true, vec_len, IfOk, IfSome, IsSome};
-ghost use Rattle.relay_model.specs.Conversions.{before_escape, holds_escape, is_over, packet_cap};
+ghost use Rattle.relay_model.specs.{before_escape, holds_escape, is_over, packet_cap};
 ghost use Rattle.relay_buffer.specs.Flows.{IsFlow, IsPassedWhole, due, lowered, over_in, room_in, room_of, taken, waiting};
 ghost use Rattle.relay_buffer.specs.declared.lanes.Lane.{Lane};
 

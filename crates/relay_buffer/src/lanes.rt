@@ -2,7 +2,7 @@
 use line_ends::Convs;
 
 /// How one direction passes bytes on.
-#[derive(Clone, Copy, Debug, PartialEq, Eq)]
+#[derive(Clone, Copy, PartialEq, Eq)]
 pub struct Lane {
     /// The most bytes that one read takes (socat(1), `-b`). At most twice as many wait.
     pub block: u32,

@@ -2,36 +2,23 @@
 -- isn't legal; and two in which the same reaches one session. The names and hosts of the commands are left empty, since
 -- no definition looks at them.
 use Rattle.std.specs.Prelude.{◌≡◌, drop, ℕ, ◌-◌, ◌^◌, Bool, true, false, List, [], ◌∷◌, Some, None}
-use Rattle.relay_model.specs.declared.places.Side.{Side}
+use Rattle.relay_model.specs.{Side, Part, Half, Place, ReadyAt, Listed, Act, Config, Target, Single, Options, default_options as plain, outcome}
+use Rattle.relay_model.specs.{until_of, Legal}
 use Rattle.relay_model.specs.declared.places.Side.TheVariants.{Left, Right}
-use Rattle.relay_model.specs.declared.places.Part.{Part}
 use Rattle.relay_model.specs.declared.places.Part.TheVariants.{Both, Reading, Writing}
-use Rattle.relay_model.specs.declared.places.Half.{Half}
 use Rattle.relay_model.specs.declared.places.Half.TheVariants.{ToRead, ToWrite}
-use Rattle.relay_model.specs.declared.places.Place.{Place}
-use Rattle.relay_model.specs.declared.readiness.ReadyAt.{ReadyAt}
-use Rattle.relay_model.specs.Readiness.{Listed}
 use Rattle.relay_model.specs.declared.acts.Shut.TheVariants as shuts
 use Rattle.relay_model.specs.declared.acts.Why.TheVariants as whys
 use Rattle.relay_model.specs.declared.acts.Peer.TheVariants as peers
-use Rattle.relay_model.specs.declared.acts.Act.{Act}
 use Rattle.relay_model.specs.declared.acts.Act.TheVariants.{Turn, Opened, OpenLater, Listening, Accepted, NoPeer, Read, ReadEmpty, ReadEnd, ReadNotYet, ReadFault, Wrote, WriteNotYet, WriteFault, Shut, Closed}
-use Rattle.relay_model.specs.declared.commands.Config.{Config}
 use Rattle.relay_model.specs.declared.commands.Ways.TheVariants as ways
 use Rattle.relay_model.specs.declared.commands.Dump.TheVariants as dumps
 use Rattle.relay_model.specs.declared.commands.Conv.TheVariants as convs
 use Rattle.relay_model.specs.declared.commands.Family.TheVariants as families
 use Rattle.relay_model.specs.declared.commands.Range.TheVariants as ranges
-use Rattle.relay_model.specs.declared.commands.Target.{Target}
 use Rattle.relay_model.specs.declared.commands.Target.TheVariants as targets
 use Rattle.relay_model.specs.declared.commands.Address.TheVariants as addresses
-use Rattle.relay_model.specs.declared.commands.Single.{Single}
-use Rattle.relay_model.specs.declared.commands.Options.{Options}
-use Rattle.relay_model.specs.PlainRelay.{default_options as plain}
-use Rattle.relay_model.specs.Outcome.{outcome}
 use Rattle.relay_model.specs.declared.outcomes.RunOutcome.TheVariants as outcomes
-use Rattle.relay_model.specs.Rest.{until_of}
-use Rattle.relay_model.specs.May.{Legal}
 use Rattle.relay_laws.specs.Stories.{Own, Turned, Ending, story}
 
 -- a place or door

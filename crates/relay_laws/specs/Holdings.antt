@@ -1,16 +1,8 @@
 -- How often a thing was begun to be held, and how often that ended.
 use Rattle.std.specs.Prelude.{◌≡◌, ℕ, Bool, true, false, not, ◌&&◌, List, [], ◌∷◌}
-use Rattle.relay_model.specs.declared.places.Place.{Place}
-use Rattle.relay_model.specs.declared.commands.Config.{Config}
-use Rattle.relay_model.specs.declared.acts.Act.{Act}
+use Rattle.relay_model.specs.{Place, Config, Act, same_place, one_more, stage, held, Stage, Legal, begins_holding}
 use Rattle.relay_model.specs.declared.acts.Act.TheVariants.{OpenFailed, Closed}
-use Rattle.relay_model.specs.Places.{same_place}
-use Rattle.relay_model.specs.Choices.{one_more}
-use Rattle.relay_model.specs.History.{stage, held}
-use Rattle.relay_model.specs.declared.stages.Stage.{Stage}
 use Rattle.relay_model.specs.declared.stages.Stage.TheVariants.{Untried, Usable, Unsettled, Failed, Met, Waiting, Gone}
-use Rattle.relay_model.specs.May.{Legal}
-use Rattle.relay_model.specs.Laws.{begins_holding}
 
 -- an opening is under way
 abbrev pub is_settling : Stage → Bool

@@ -1,12 +1,7 @@
 -- The laws of sleeping sessions, as statements.
 use Rattle.std.specs.Prelude.{◌≡◌, ℕ, ◌<◌, Bool, true, false, ◌⊎◌, List, ◌∷◌, ◌++◌, Option, None}
-use Rattle.relay_model.specs.declared.commands.Config.{Config}
-use Rattle.relay_model.specs.declared.acts.Act.{Act}
+use Rattle.relay_model.specs.{Config, Act, Listed, has_fork, numbers, holds, SameSession}
 use Rattle.relay_model.specs.declared.acts.Act.TheVariants.{Turn}
-use Rattle.relay_model.specs.Readiness.{Listed}
-use Rattle.relay_model.specs.Configs.{has_fork}
-use Rattle.relay_model.specs.Sessions.{numbers, holds}
-use Rattle.relay_model.specs.Frames.{SameSession}
 use Rattle.relay_laws.specs.Sleeps.{Since, tick, SameIdle, RestsUntil, SleepsOn}
 
 -- what comes while a session sleeps changes nothing of it but the clock and what was asked

@@ -1,16 +1,7 @@
 -- Where borders are kept, at most one piece waits to be written.
 use Rattle.std.specs.Prelude.{◌≡◌, ℕ, true, List, [], ◌∷◌, ◌++◌, length, drop}
-use Rattle.relay_model.specs.declared.places.Way.{Way}
-use Rattle.relay_model.specs.declared.commands.Config.{Config}
-use Rattle.relay_model.specs.declared.acts.Act.{Act}
+use Rattle.relay_model.specs.{Way, Config, Act, Place, same_place, joined, input, output, keeps_borders, got, put, sent, due, due_pieces, Legal}
 use Rattle.relay_model.specs.declared.acts.Act.TheVariants.{Read}
-use Rattle.relay_model.specs.declared.places.Place.{Place}
-use Rattle.relay_model.specs.Places.{same_place}
-use Rattle.relay_model.specs.Choices.{joined}
-use Rattle.relay_model.specs.Configs.{input, output, keeps_borders}
-use Rattle.relay_model.specs.History.{got, put, sent}
-use Rattle.relay_model.specs.Transfers.{due, due_pieces}
-use Rattle.relay_model.specs.May.{Legal}
 
 -- the bytes as one piece, where there are some
 abbrev pub at_most_one : List ℕ → List (List ℕ)

@@ -1,19 +1,10 @@
 -- What a session hears of a history, and that nothing else decides what is said of it.
 use Rattle.std.specs.Prelude.{◌≡◌, ◌<◌, ℕ, Bool, true, false, not, ◌&&◌, ◌||◌, ◌==◌, ◌↔◌, List, [], ◌∷◌, filter, Option, Some, None, if◌then◌else◌}
-use Rattle.relay_model.specs.declared.places.Place.{Place}
-use Rattle.relay_model.specs.declared.readiness.ReadyAt.{ReadyAt}
-use Rattle.relay_model.specs.declared.commands.Config.{Config}
-use Rattle.relay_model.specs.declared.acts.Why.{Why}
+use Rattle.relay_model.specs.{Place, ReadyAt, Config, Why, Act, only_if, is_program_door, same_why, stop_said, memory_said, put, numbers, owed}
+use Rattle.relay_model.specs.{SameSession}
 use Rattle.relay_model.specs.declared.acts.Why.TheVariants as whys
-use Rattle.relay_model.specs.declared.acts.Act.{Act}
 use Rattle.relay_model.specs.declared.acts.Act.TheVariants.{Turn, Opened, OpenLater, OpenFailed, Listening, ListenFailed, Accepted, NoPeer, AcceptFailed, Read, ReadEmpty, ReadEnd, ReadNotYet, ReadFault, Wrote, WriteNotYet, WriteFault, Shut, ShutFault, Closed, Reaped, Note, NoteFault}
-use Rattle.relay_model.specs.Choices.{only_if}
-use Rattle.relay_model.specs.Configs.{is_program_door}
-use Rattle.relay_model.specs.History.{same_why, stop_said, memory_said, put}
-use Rattle.relay_model.specs.Sessions.{numbers}
-use Rattle.relay_model.specs.Rest.{owed}
 use Rattle.relay_model.specs.May.{May}
-use Rattle.relay_model.specs.Frames.{SameSession}
 
 -- the place or door is the session's own
 abbrev pub is_own_place : Config → ℕ → Place → Bool

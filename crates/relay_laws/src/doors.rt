@@ -1,5 +1,6 @@
 // Doors, the program door of `fork` among them, and the sessions that it begins.
-ghost use Rattle.relay_model.specs.Laws.{AdmittedIsBounded, CausedBeginsNothing, EndedStaysEnded, LiveIsBounded, ProgramDoorTells, ServedDoorStaysClosed, ServedDoorStaysServed};
+ghost use Rattle.relay_model.specs.{AdmittedIsBounded, CausedBeginsNothing, EndedStaysEnded, LiveIsBounded, ProgramDoorTells, ServedDoorStaysClosed};
+ghost use Rattle.relay_model.specs.{ServedDoorStaysServed};
 
 /// An accepting at the program door is for the next session, while fewer live than may and fewer were permitted
 /// than are to be served.

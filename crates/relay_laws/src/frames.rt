@@ -1,6 +1,5 @@
 // What an act leaves as it is, and what it changes.
-ghost use Rattle.relay_model.specs.Changes.{StepsChange};
-ghost use Rattle.relay_model.specs.Frames.{ElsewhereIsUntouched, StepsLeave, SessionsAreApart};
+ghost use Rattle.relay_model.specs.{StepsChange, ElsewhereIsUntouched, StepsLeave, SessionsAreApart};
 ghost use Rattle.relay_laws.specs.Stories.{SessionIsItsOwn, OutputIsOwn, MovesAlike};
 
 /// An act elsewhere changes nothing that is said of a place or door.

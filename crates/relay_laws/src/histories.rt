@@ -1,5 +1,6 @@
 // What holds of every legal list of acts.
-ghost use Rattle.relay_model.specs.Laws.{FinishedIsWhole, PrefixesAreLegal, WrittenIsDue, BacklogIsBounded, EndIsLast, PassedIsWhole, OutputsAgree, UsedIsHeld, ClosedForGood, ClosedIsOver, StandingIsHeld, CallsTell, HeldHasBegun, TestsAreRight, OneTestIsRight};
+ghost use Rattle.relay_model.specs.{FinishedIsWhole, PrefixesAreLegal, WrittenIsDue, BacklogIsBounded, EndIsLast, PassedIsWhole, OutputsAgree};
+ghost use Rattle.relay_model.specs.{UsedIsHeld, ClosedForGood, ClosedIsOver, StandingIsHeld, CallsTell, HeldHasBegun, TestsAreRight, OneTestIsRight};
 ghost use Rattle.relay_laws.specs.Examples.{ExamplesAreJudged};
 ghost use Rattle.relay_laws.specs.Holdings.{HoldingsEndOnce};
 

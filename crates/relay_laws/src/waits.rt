@@ -1,5 +1,5 @@
 // Waits of the whole, by its parts.
-ghost use Rattle.relay_model.specs.Waits.{RestIsOfParts, UntilIsLeast};
+ghost use Rattle.relay_model.specs.{RestIsOfParts, UntilIsLeast};
 
 /// A wait lasts until now where work is left, else until the least moment at which a part falls due.
 pub fn until_is_least()

@@ -7,7 +7,7 @@ use crate::places::Place;
 use crate::readiness::ReadyList;
 
 /// How the end of a direction is passed on at its sink (socat(1), `shut-none` to `shut-null`).
-#[derive(Clone, Copy, Debug, PartialEq, Eq)]
+#[derive(Clone, Copy, PartialEq, Eq)]
 pub enum Shut {
     Nothing,
     Down,
@@ -16,7 +16,7 @@ pub enum Shut {
 }
 
 /// Why something that was held is closed.
-#[derive(Clone, Copy, Debug, PartialEq, Eq)]
+#[derive(Clone, Copy, PartialEq, Eq)]
 pub enum Why {
     Finished,
     ClosingTime,
@@ -32,7 +32,7 @@ pub enum Why {
 }
 
 /// The other end of an accepted connection; `Local` is a Unix socket's.
-#[derive(Clone, Copy, Debug, PartialEq, Eq)]
+#[derive(Clone, Copy, PartialEq, Eq)]
 pub enum Peer {
     V4 { addr: [u8; 4], port: u16 },
     V6 { addr: [u8; 16], port: u16 },
@@ -40,7 +40,7 @@ pub enum Peer {
 }
 
 /// What is known of a child: `Ended` has its exit status, `Killed` was ended by a signal.
-#[derive(Clone, Copy, Debug, PartialEq, Eq)]
+#[derive(Clone, Copy, PartialEq, Eq)]
 pub enum ChildEnd {
     Running,
     Ended(i32),
@@ -48,7 +48,7 @@ pub enum ChildEnd {
 }
 
 /// One call on the world with its answer. Moments are milliseconds since the run began.
-#[derive(Debug, Drop)]
+#[derive(Drop)]
 pub enum Act {
     Turn {
         until: Option<u64>,

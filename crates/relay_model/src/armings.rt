@@ -8,7 +8,7 @@ ghost use Rattle.relay_model.specs.Choices.{later};
 const PAUSE_AFTER_END: u64 = 1000;
 
 /// How an input stands.
-#[derive(Clone, Copy, Debug, PartialEq, Eq)]
+#[derive(Clone, Copy, PartialEq, Eq)]
 pub enum Arming {
     /// Not worth asking.
     Disarmed,

@@ -2,7 +2,7 @@
 use crate::places::Place;
 
 /// What is called for.
-#[derive(Clone, Copy, Debug, PartialEq, Eq)]
+#[derive(Clone, Copy, PartialEq, Eq)]
 pub enum Call {
     /// Nothing is called for.
     Nothing,

@@ -10,7 +10,7 @@ use crate::contents::{NoMemory, Text, Texts};
 pub const LONGEST_PACKET: u16 = 65_507;
 
 /// A conversion of line ends (socat(1), `cr` and `crnl`).
-#[derive(Clone, Copy, Debug, PartialEq, Eq)]
+#[derive(Clone, Copy, PartialEq, Eq)]
 pub enum Conv {
     Plain,
     Cr,
@@ -30,7 +30,7 @@ impl Conv {
 }
 
 /// A style of dump (socat(1), `-v` and `-x`; `Mixed` is both).
-#[derive(Clone, Copy, Debug, PartialEq, Eq)]
+#[derive(Clone, Copy, PartialEq, Eq)]
 pub enum Dump {
     Off,
     Text,
@@ -39,7 +39,7 @@ pub enum Dump {
 }
 
 /// Which directions are asked for: both, only left to right (`-u`), or only right to left (`-U`).
-#[derive(Clone, Copy, Debug, PartialEq, Eq)]
+#[derive(Clone, Copy, PartialEq, Eq)]
 pub enum Ways {
     Two,
     OnlyRight,
@@ -47,7 +47,7 @@ pub enum Ways {
 }
 
 /// The family of addresses that a socket kind names.
-#[derive(Clone, Copy, Debug, PartialEq, Eq)]
+#[derive(Clone, Copy, PartialEq, Eq)]
 pub enum Family {
     Any,
     V4,
@@ -55,7 +55,7 @@ pub enum Family {
 }
 
 /// The kind of an address with its parameters. The words of `Exec` are a program and its arguments.
-#[derive(Debug, Drop)]
+#[derive(Drop)]
 pub enum Target {
     Stdio,
     Stdin,
@@ -204,7 +204,7 @@ impl Target {
 }
 
 /// How a file is opened (open(2), `O_CREAT` to `O_TRUNC`; `rdonly` and `wronly` narrow the use).
-#[derive(Clone, Copy, Debug, PartialEq, Eq)]
+#[derive(Clone, Copy, PartialEq, Eq)]
 pub struct FileFlags {
     pub creat: bool,
     pub excl: bool,
@@ -215,21 +215,21 @@ pub struct FileFlags {
 }
 
 /// A network and its mask (socat(1), `range`).
-#[derive(Clone, Copy, Debug, PartialEq, Eq)]
+#[derive(Clone, Copy, PartialEq, Eq)]
 pub enum Range {
     V4 { net: [u8; 4], mask: [u8; 4] },
     V6 { net: [u8; 16], mask: [u8; 16] },
 }
 
 /// A local address; without a written port its port is 0.
-#[derive(Clone, Copy, Debug, PartialEq, Eq)]
+#[derive(Clone, Copy, PartialEq, Eq)]
 pub struct Bind {
     pub addr: Peer,
 }
 
 /// What an address does with what is read from it. An end is waited out with `ignoreeof`, and an empty datagram is
 /// an end with `null-eof`; `readbytes` is the most bytes that are read, and `escape` a byte that ends them.
-#[derive(Clone, Copy, Debug, PartialEq, Eq)]
+#[derive(Clone, Copy, PartialEq, Eq)]
 pub struct InputOptions {
     pub ignoreeof: bool,
     pub readbytes: Option<u64>,
@@ -239,7 +239,7 @@ pub struct InputOptions {
 
 /// How often an address is tried anew when it can't be opened, and after how many milliseconds (socat(1), `retry`,
 /// `forever` and `interval`).
-#[derive(Clone, Copy, Debug, PartialEq, Eq)]
+#[derive(Clone, Copy, PartialEq, Eq)]
 pub struct TryOptions {
     pub retry: u64,
     pub forever: bool,
@@ -248,7 +248,7 @@ pub struct TryOptions {
 
 /// Whether each peer of a door is a session of its own (socat(1), `fork`), how many of these live at a time
 /// (`max-children`), and how many there are in all (`stop-after`).
-#[derive(Clone, Copy, Debug, PartialEq, Eq)]
+#[derive(Clone, Copy, PartialEq, Eq)]
 pub struct SessionOptions {
     pub fork: bool,
     pub max_children: u32,
@@ -257,7 +257,7 @@ pub struct SessionOptions {
 
 /// Which peers a door lets in: from this network, from this port, only from a privileged port (socat(1), `range`,
 /// `sourceport` and `lowport`).
-#[derive(Clone, Copy, Debug, PartialEq, Eq)]
+#[derive(Clone, Copy, PartialEq, Eq)]
 pub struct Admission {
     pub range: Option<Range>,
     pub sourceport: Option<u16>,
@@ -266,7 +266,7 @@ pub struct Admission {
 
 /// How a socket is set up: its local address, and whether small writes go out at once (socat(1), `bind` and
 /// `nodelay`).
-#[derive(Clone, Copy, Debug, PartialEq, Eq)]
+#[derive(Clone, Copy, PartialEq, Eq)]
 pub struct SocketOptions {
     pub bind: Option<Bind>,
     pub nodelay: bool,
@@ -274,7 +274,7 @@ pub struct SocketOptions {
 
 /// Whether the name of a file, a pipe or a socket is removed before it is opened, and after it is closed (socat(1),
 /// `unlink-early` and `unlink-close`).
-#[derive(Clone, Copy, Debug, PartialEq, Eq)]
+#[derive(Clone, Copy, PartialEq, Eq)]
 pub struct EntryOptions {
     pub unlink_early: bool,
     pub unlink_close: bool,
@@ -282,7 +282,7 @@ pub struct EntryOptions {
 
 /// How a proxy is reached: the port of a SOCKS server and the user that it is told, and the port of an HTTP proxy
 /// (socat(1), `socksport`, `socksuser` and `proxyport`).
-#[derive(Debug, Drop)]
+#[derive(Drop)]
 pub struct ProxyOptions {
     pub socksport: u16,
     pub socksuser: Text,
@@ -305,7 +305,7 @@ impl ProxyOptions {
 
 /// The options of one single address, grouped by what they are of. `conv` is of what is read and written, and
 /// `shut` of how an end is passed on (socat(1), `shut-none` to `shut-null`).
-#[derive(Debug, Drop)]
+#[derive(Drop)]
 pub struct Options {
     pub conv: Conv,
     pub shut: Option<Shut>,
@@ -341,7 +341,7 @@ impl Options {
 }
 
 /// One address with its options.
-#[derive(Debug, Drop)]
+#[derive(Drop)]
 pub struct Single {
     pub target: Target,
     pub options: Options,
@@ -352,14 +352,19 @@ impl Single {
     pub fn copy(&self) -> Result<Single, NoMemory>
         ensures { IfOk result (λ single. single ≡ self.now) }
     {
-        let target = self.target.copy()?;
         let options = self.options.copy()?;
-        Ok(Single { target, options })
+        match self.target.copy() {
+            Ok(target) => Ok(Single { target, options }),
+            Err(error) => {
+                drop(options);
+                Err(error)
+            }
+        }
     }
 }
 
 /// One side of the command: a single address, or a dual one (`A!!B`) that reads from A and writes to B.
-#[derive(Debug, Drop)]
+#[derive(Drop)]
 pub enum Address {
     One(Single),
     Two { reading: Single, writing: Single },
@@ -374,8 +379,13 @@ impl Address {
             Address::One(single) => Ok(Address::One(single.copy()?)),
             Address::Two { reading, writing } => {
                 let reading = reading.copy()?;
-                let writing = writing.copy()?;
-                Ok(Address::Two { reading, writing })
+                match writing.copy() {
+                    Ok(writing) => Ok(Address::Two { reading, writing }),
+                    Err(error) => {
+                        drop(reading);
+                        Err(error)
+                    }
+                }
             }
         }
     }
@@ -383,7 +393,7 @@ impl Address {
 
 /// A relay as the command line asks for it. `closing` and `idle` are milliseconds; an `idle` of 0 is off.
 /// `block` is in bytes. With `sloppy` a fault cuts its direction alone.
-#[derive(Debug, Drop)]
+#[derive(Drop)]
 pub struct Config {
     pub block: u32,
     pub closing: u64,
@@ -401,16 +411,21 @@ impl Config {
         ensures { IfOk result (λ config. config ≡ self.now) }
     {
         let left = self.left.copy()?;
-        let right = self.right.copy()?;
-        Ok(Config {
-            block: self.block,
-            closing: self.closing,
-            idle: self.idle,
-            ways: self.ways,
-            dump: self.dump,
-            sloppy: self.sloppy,
-            left,
-            right,
-        })
+        match self.right.copy() {
+            Ok(right) => Ok(Config {
+                block: self.block,
+                closing: self.closing,
+                idle: self.idle,
+                ways: self.ways,
+                dump: self.dump,
+                sloppy: self.sloppy,
+                left,
+                right,
+            }),
+            Err(error) => {
+                drop(left);
+                Err(error)
+            }
+        }
     }
 }

@@ -12,7 +12,7 @@ use std::marker::Model;
 
 /// The acts of a run in order. Contracts see them newest first, beside the number of acts that it has
 /// spare room for.
-#[derive(Debug, Drop)]
+#[derive(Drop)]
 pub struct Journal {
     items: Vec<Act>,
 }
@@ -100,7 +100,7 @@ fn copy_acts(alloc: Global, acts: &[Act]) -> Result<Vec<Act>, NoMemory>
 }
 
 /// What was asked to be opened or listened at, in order.
-#[derive(Debug, Drop)]
+#[derive(Drop)]
 pub struct Askings {
     items: Vec<(Place, Single)>,
 }
@@ -151,7 +151,7 @@ impl Askings {
 }
 
 /// What a recorder kept of a run: its acts, and, for contracts alone, what was asked for.
-#[derive(Debug, Drop)]
+#[derive(Drop)]
 pub struct Kept {
     journal: Journal,
     asked: Askings,

@@ -3,7 +3,7 @@ use crate::acts::Why;
 use crate::places::{Half, Place, Side};
 
 /// How a run ended.
-#[derive(Clone, Copy, Debug, PartialEq, Eq)]
+#[derive(Clone, Copy, PartialEq, Eq)]
 pub enum RunOutcome {
     /// Memory was wanting.
     Memory,

@@ -3,14 +3,14 @@ ghost use Rattle.std.specs.Prelude.{◌≡◌};
 ghost use Rattle.relay_model.specs.Places.{same_place, door_of};
 
 /// The first or the second address of the command line.
-#[derive(Clone, Copy, Debug, PartialEq, Eq, Hash)]
+#[derive(Clone, Copy, PartialEq, Eq, Hash)]
 pub enum Side {
     Left,
     Right,
 }
 
 /// What an opened thing serves for: both halves, or one half of a dual or one-way address.
-#[derive(Clone, Copy, Debug, PartialEq, Eq, Hash)]
+#[derive(Clone, Copy, PartialEq, Eq, Hash)]
 pub enum Part {
     Both,
     Reading,
@@ -18,21 +18,21 @@ pub enum Part {
 }
 
 /// One of the two halves of an opened thing.
-#[derive(Clone, Copy, Debug, PartialEq, Eq)]
+#[derive(Clone, Copy, PartialEq, Eq)]
 pub enum Half {
     ToRead,
     ToWrite,
 }
 
 /// A direction of transfer.
-#[derive(Clone, Copy, Debug, PartialEq, Eq)]
+#[derive(Clone, Copy, PartialEq, Eq)]
 pub enum Way {
     LeftToRight,
     RightToLeft,
 }
 
 /// One opened thing, or with `door` the listener behind it.
-#[derive(Clone, Copy, Debug, PartialEq, Eq, Hash)]
+#[derive(Clone, Copy, PartialEq, Eq, Hash)]
 pub struct Place {
     pub session: u32,
     pub side: Side,

@@ -9,7 +9,7 @@ use std::alloc::Global;
 use std::marker::Model;
 
 /// A half of a place; the half of a door is `ToRead`.
-#[derive(Clone, Copy, Debug, PartialEq, Eq)]
+#[derive(Clone, Copy, PartialEq, Eq)]
 pub struct ReadyAt {
     pub place: Place,
     pub half: Half,
@@ -20,7 +20,7 @@ pub const MOST_READY: usize = 256;
 
 /// What one turn names, at most 256 entries. A list that `new` made has room for all of them; a copy has room
 /// for its entries alone.
-#[derive(Debug, Drop)]
+#[derive(Drop)]
 pub struct TurnList<T> {
     entries: Vec<T>,
     room: usize,

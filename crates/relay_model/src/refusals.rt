@@ -1,7 +1,7 @@
 // Why a command line is refused.
 
 /// What is wrong with a word. Offsets count bytes from 0; places count options and parameters from 1.
-#[derive(Clone, Copy, Debug, PartialEq, Eq)]
+#[derive(Clone, Copy, PartialEq, Eq)]
 pub enum Refusal {
     Unclosed { at: u32 },
     LoneBackslash { at: u32 },
@@ -28,7 +28,7 @@ pub enum Refusal {
 
 /// A refusal with the word it is about, counted from 1, and the half of a dual address, 1 or 2. A 0 stands
 /// for no word and for no half.
-#[derive(Clone, Copy, Debug, PartialEq, Eq)]
+#[derive(Clone, Copy, PartialEq, Eq)]
 pub struct Refused {
     pub word: u32,
     pub half: u8,

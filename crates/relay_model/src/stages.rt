@@ -6,7 +6,7 @@ ghost use Rattle.relay_model.specs.History.{holds_at, is_gone_with};
 use crate::acts::{Peer, Why};
 
 /// The last act of opening, accepting, listening or closing at a place or door.
-#[derive(Clone, Copy, Debug, PartialEq, Eq)]
+#[derive(Clone, Copy, PartialEq, Eq)]
 pub enum Stage {
     /// There was none.
     Untried,

@@ -1,18 +1,10 @@
 -- What a session is before it begins, and when it does with `fork`.
 use Rattle.std.specs.Prelude.{◌≡◌, ℕ, true, false, List, [], None}
 use Rattle.std.specs.List.{list_any}
-use Rattle.relay_model.specs.declared.places.Place.{Place}
-use Rattle.relay_model.specs.declared.commands.Config.{Config}
-use Rattle.relay_model.specs.declared.acts.Peer.{Peer}
-use Rattle.relay_model.specs.declared.acts.Act.{Act}
-use Rattle.relay_model.specs.Configs.{Fit, has_fork, program_door, is_of}
-use Rattle.relay_model.specs.Sessions.{admitted, next_place, permits}
+use Rattle.relay_model.specs.{Place, Config, Peer, Act, Fit, has_fork, program_door, is_of, admitted, next_place, permits, door_call, Legal}
 use Rattle.relay_model.specs.declared.calls.Call.TheVariants.{Accept}
-use Rattle.relay_model.specs.Calls.{door_call}
-use Rattle.relay_model.specs.May.{Legal}
-use Rattle.relay_laws.specs.Births.{is_named_by}
-use Rattle.place_openings.specs.Stands.{AreOpenings}
-use Rattle.place_openings.specs.Steps.{has_asked}
+use Rattle.relay_laws.specs.{is_named_by}
+use Rattle.place_openings.specs.{AreOpenings, has_asked}
 use Rattle.relay_session.specs.declared.states.State.{State}
 use Rattle.relay_session.specs.Lanes.{AreLanes}
 use Rattle.relay_session.specs.States.{home}

@@ -1,8 +1,7 @@
 -- The acts that are to blame for an end.
 use Rattle.std.specs.Prelude.{Bool, true, false, ◌||◌, List, [], ◌∷◌}
-use Rattle.relay_model.specs.declared.acts.Act.{Act}
+use Rattle.relay_model.specs.{Act, Why}
 use Rattle.relay_model.specs.declared.acts.Act.TheVariants.{OpenFailed, ListenFailed, AcceptFailed, ReadFault, WriteFault}
-use Rattle.relay_model.specs.declared.acts.Why.{Why}
 use Rattle.relay_model.specs.declared.acts.Why.TheVariants as whys
 
 -- a session that ends for this reason failed

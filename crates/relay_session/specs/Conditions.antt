@@ -1,11 +1,6 @@
 -- What a wish says in the words of a world: that the call may be asked for, and of which places.
 use Rattle.std.specs.Prelude.{◌≡◌, ℕ, ◌<◌, Bool, true, false, List, ◌++◌}
-use Rattle.relay_model.specs.declared.places.Place.{Place}
-use Rattle.relay_model.specs.declared.commands.Config.{Config}
-use Rattle.relay_model.specs.declared.acts.Act.{Act}
-use Rattle.relay_model.specs.Configs.{is_place_of, is_of}
-use Rattle.relay_model.specs.Holding.{Free, Settling, Open, standing, is_free, is_open}
-use Rattle.relay_model.specs.History.{reaped_since}
+use Rattle.relay_model.specs.{Place, Config, Act, is_place_of, is_of, Free, Settling, Open, standing, is_free, is_open, reaped_since}
 use Rattle.relay_session.specs.declared.wishes.Wish.{Wish}
 use Rattle.relay_session.specs.declared.wishes.Wish.TheVariants as wishes
 

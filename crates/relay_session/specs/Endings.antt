@@ -1,14 +1,8 @@
 -- What ends a session, by itself or from outside.
 use Rattle.std.specs.Prelude.{◌≡◌, ◌⊎◌, ℕ, false, List, [], ◌∷◌, Option, Some, None, if◌then◌else◌}
-use Rattle.relay_model.specs.declared.commands.Config.{Config}
-use Rattle.relay_model.specs.declared.acts.Act.{Act}
-use Rattle.relay_model.specs.declared.acts.Why.{Why}
+use Rattle.relay_model.specs.{Config, Act, Why, only_if, or_else, first_some, now, turns, memory_said, stop_said, passed, closing_moment, idle_moment}
+use Rattle.relay_model.specs.{reached, ready, cause, closed_why, accept_failed_for, listening_failed, opening_failed, faulted, each_formed}
 use Rattle.relay_model.specs.declared.acts.Why.TheVariants as whys
-use Rattle.relay_model.specs.Choices.{only_if, or_else, first_some}
-use Rattle.relay_model.specs.History.{now, turns, memory_said, stop_said}
-use Rattle.relay_model.specs.Moments.{passed, closing_moment, idle_moment, reached}
-use Rattle.relay_model.specs.Openings.{ready}
-use Rattle.relay_model.specs.Cause.{cause, closed_why, accept_failed_for, listening_failed, opening_failed, faulted, each_formed}
 use Rattle.relay_model.specs.Rest.{Rest}
 
 -- nothing from outside and no closing has ended the session

@@ -1,18 +1,10 @@
 -- The two directions of a session, each where the command forms it.
 use Rattle.std.specs.Prelude.{◌≡◌, ℕ, ◌+◌, Bool, true, false, List, [], Option, Some, None, is_some}
-use Rattle.relay_model.specs.declared.places.Place.{Place}
-use Rattle.relay_model.specs.declared.places.Way.{Way}
+use Rattle.relay_model.specs.{Place, Way, Config, Act, formed, way_from, way_to, Shut as Shutting, keeps_borders, greatest_read, MayRead, MayTryWrite}
+use Rattle.relay_model.specs.{MayShut}
 use Rattle.relay_model.specs.declared.places.Way.TheVariants.{LeftToRight, RightToLeft}
-use Rattle.relay_model.specs.declared.commands.Config.{Config}
-use Rattle.relay_model.specs.declared.acts.Act.{Act}
-use Rattle.relay_model.specs.Configs.{formed, way_from, way_to}
-use Rattle.relay_buffer.specs.Flows.{room_in}
-use Rattle.session_direction.specs.States.{can_read, can_write, steps_in}
-use Rattle.relay_model.specs.declared.acts.Shut.{Shut as Shutting}
-use Rattle.relay_model.specs.Configs.{keeps_borders}
-use Rattle.relay_model.specs.Transfers.{greatest_read}
-use Rattle.relay_model.specs.May.{MayRead, MayTryWrite, MayShut}
-use Rattle.session_direction.specs.Directions.{IsDirection, WantsNothing}
+use Rattle.relay_buffer.specs.{room_in}
+use Rattle.session_direction.specs.{can_read, can_write, steps_in, IsDirection, WantsNothing}
 use Rattle.relay_session.specs.declared.wishes.Wish.{Wish}
 use Rattle.relay_session.specs.declared.wishes.Wish.TheVariants as wishes
 use Rattle.relay_session.specs.declared.lanes.SessionLane.{SessionLane}

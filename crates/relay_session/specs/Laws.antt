@@ -1,19 +1,10 @@
 -- The laws of one session's histories, as statements.
 use Rattle.std.specs.Prelude.{◌≡◌, ◌⊎◌, ℕ, suc, true, false, List, length, Some, None}
-use Rattle.relay_model.specs.declared.places.Place.{Place}
-use Rattle.relay_model.specs.declared.commands.Config.{Config}
+use Rattle.relay_model.specs.{Place, Config, Act, Why, has_fork, is_of, options_of, Open, standing, is_open, turns, stage, held, shut_at, failures}
+use Rattle.relay_model.specs.{out_of_tries, cause, outcome, Legal}
 use Rattle.relay_model.specs.declared.commands.Dump.TheVariants as dumps
-use Rattle.relay_model.specs.declared.acts.Act.{Act}
-use Rattle.relay_model.specs.declared.acts.Why.{Why}
 use Rattle.relay_model.specs.declared.acts.Why.TheVariants as whys
-use Rattle.relay_model.specs.Configs.{has_fork, is_of, options_of}
-use Rattle.relay_model.specs.Holding.{Open, standing, is_open}
-use Rattle.relay_model.specs.History.{turns, stage, held, shut_at, failures}
-use Rattle.relay_model.specs.Openings.{out_of_tries}
-use Rattle.relay_model.specs.Cause.{cause}
 use Rattle.relay_model.specs.Rest.{Rest, SessionRests, until_of}
-use Rattle.relay_model.specs.Outcome.{outcome}
-use Rattle.relay_model.specs.May.{Legal}
 use Rattle.relay_session.specs.Standings.{StandsFor}
 use Rattle.relay_session.specs.Timers.{session_until}
 use Rattle.relay_session.specs.Told.{told, stop_turned}

@@ -1,13 +1,7 @@
 -- What a session says of the history that it stands for.
 use Rattle.std.specs.Prelude.{◌≡◌, ℕ, ◌<◌, Bool, true, List, ◌∷◌, Option, Some, None, is_some}
-use Rattle.relay_model.specs.declared.commands.Config.{Config}
-use Rattle.relay_model.specs.declared.places.Place.{Place}
-use Rattle.relay_model.specs.declared.acts.Act.{Act}
-use Rattle.relay_model.specs.declared.acts.Why.{Why}
-use Rattle.relay_model.specs.Configs.{is_place_of, is_program, medium_of}
-use Rattle.relay_model.specs.History.{was_closed}
-use Rattle.place_openings.specs.Steps.{has_asked}
-use Rattle.relay_model.specs.Rest.{owed}
+use Rattle.relay_model.specs.{Config, Place, Act, Why, is_place_of, is_program, medium_of, was_closed, owed}
+use Rattle.place_openings.specs.{has_asked}
 use Rattle.relay_model.specs.May.{May}
 use Rattle.relay_session.specs.declared.sessions.Session.{Session}
 use Rattle.relay_session.specs.declared.wishes.Wish.{Wish}

@@ -1,7 +1,6 @@
 -- How a thing stands for a world, by its stage.
 use Rattle.std.specs.Prelude.{◌≡◌, true}
-use Rattle.relay_model.specs.Holding.{Hold, Free, Settling, is_open}
-use Rattle.relay_model.specs.declared.stages.Stage.{Stage}
+use Rattle.relay_model.specs.{Hold, Free, Settling, is_open, Stage}
 use Rattle.relay_model.specs.declared.stages.Stage.TheVariants.{Untried, Usable, Unsettled, Failed, Met, Waiting, Gone}
 
 -- what a stage says of how a thing stands

@@ -1,27 +1,12 @@
 -- What the state of a session says of the history, and which calls the history allows.
 use Rattle.std.specs.Prelude.{◌≡◌, ◌⊎◌, ℕ, ◌<◌, ◌+◌, true, false, List, Option, Some, None, is_some}
-use Rattle.relay_model.specs.declared.places.Place.{Place}
-use Rattle.relay_model.specs.declared.places.Way.{Way}
-use Rattle.relay_model.specs.declared.commands.Config.{Config}
-use Rattle.relay_model.specs.declared.acts.Act.{Act}
-use Rattle.relay_model.specs.declared.acts.Why.{Why}
+use Rattle.relay_model.specs.{Place, Way, Config, Act, Why, has_fork, is_of, parts, place_at, Fit, now, held, asked_to_accept, holds, numbers}
+use Rattle.relay_model.specs.{first_part, moved_at, Call, closed_why, fault_stands, running, call, SessionRests, MayReap, Licensed}
 use Rattle.relay_model.specs.declared.acts.Why.TheVariants as whys
 use Rattle.relay_model.specs.declared.places.Side.TheVariants.{Left}
-use Rattle.relay_model.specs.Configs.{has_fork, is_of, parts, place_at, Fit}
-use Rattle.relay_model.specs.History.{now, held}
-use Rattle.relay_model.specs.Arming.{asked_to_accept}
-use Rattle.relay_model.specs.Sessions.{holds, numbers, first_part}
-use Rattle.relay_model.specs.Moments.{moved_at}
-use Rattle.relay_model.specs.declared.calls.Call.{Call}
 use Rattle.relay_model.specs.declared.calls.Call.TheVariants as calls
-use Rattle.relay_model.specs.Cause.{closed_why, fault_stands, running}
-use Rattle.relay_model.specs.Calls.{call}
-use Rattle.relay_model.specs.Rest.{SessionRests}
-use Rattle.relay_model.specs.May.{MayReap, Licensed}
-use Rattle.session_direction.specs.Directions.{WantsNothing}
-use Rattle.place_openings.specs.Stands.{AreOpenings}
-use Rattle.place_openings.specs.Steps.{steps_in}
-use Rattle.place_openings.specs.Queries.{first_of, child_by}
+use Rattle.session_direction.specs.{WantsNothing}
+use Rattle.place_openings.specs.{AreOpenings, steps_in, first_of, child_by}
 use Rattle.relay_session.specs.declared.states.State.{State}
 use Rattle.relay_session.specs.declared.wishes.Wish.{Wish}
 use Rattle.relay_session.specs.declared.wishes.Wish.TheVariants as wishes

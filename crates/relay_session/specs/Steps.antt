@@ -1,10 +1,6 @@
 -- What an act makes of the state of a session.
 use Rattle.std.specs.Prelude.{◌≡◌, ℕ, ◌<◌, Bool, true, false, List, [], ◌∷◌, Option, Some, None}
-use Rattle.relay_model.specs.declared.places.Place.{Place}
-use Rattle.relay_model.specs.declared.commands.Config.{Config}
-use Rattle.relay_model.specs.declared.acts.Act.{Act}
-use Rattle.relay_model.specs.Cause.{cause}
-use Rattle.relay_model.specs.Rest.{owed}
+use Rattle.relay_model.specs.{Place, Config, Act, cause, owed}
 use Rattle.relay_model.specs.May.{May}
 use Rattle.relay_session.specs.declared.lanes.Lanes.{Lanes}
 use Rattle.relay_session.specs.declared.states.State.{State}

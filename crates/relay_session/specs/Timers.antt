@@ -1,12 +1,7 @@
 -- Moments of a session, as far as a clock of 64 bits can reach them.
 use Rattle.std.specs.Prelude.{ℕ, ◌+◌, ◌^◌, ◌&&◌, nat_lt, List, Option, Some, None, if◌then◌else◌}
 use Rattle.relay_model.specs.declared.places.Way.TheVariants.{LeftToRight, RightToLeft}
-use Rattle.relay_model.specs.declared.commands.Config.{Config}
-use Rattle.relay_model.specs.declared.acts.Act.{Act}
-use Rattle.relay_model.specs.Configs.{formed}
-use Rattle.relay_model.specs.History.{now}
-use Rattle.relay_model.specs.Moments.{done_at}
-use Rattle.relay_model.specs.Rest.{session_work, session_moment}
+use Rattle.relay_model.specs.{Config, Act, formed, now, done_at, session_work, session_moment}
 
 -- a moment that a clock of 64 bits reaches
 abbrev pub reachable : Option ℕ → Option ℕ

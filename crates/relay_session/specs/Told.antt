@@ -1,16 +1,10 @@
 -- What is told of a command of one session at its end, by the cause of that.
 use Rattle.std.specs.Prelude.{ℕ, Bool, false, ◌||◌, List, [], ◌∷◌, Option, Some, None, unwrap_or}
-use Rattle.relay_model.specs.declared.commands.Config.{Config}
-use Rattle.relay_model.specs.declared.acts.Act.{Act}
+use Rattle.relay_model.specs.{Config, Act, Why, places, own_doors, turns, first_fault, failed_listening, failed_opening, RunOutcome}
 use Rattle.relay_model.specs.declared.acts.Act.TheVariants.{Turn}
-use Rattle.relay_model.specs.declared.acts.Why.{Why}
 use Rattle.relay_model.specs.declared.acts.Why.TheVariants as whys
-use Rattle.relay_model.specs.Configs.{places, own_doors}
-use Rattle.relay_model.specs.History.{turns}
-use Rattle.relay_model.specs.Outcome.{first_fault, failed_listening, failed_opening}
-use Rattle.relay_model.specs.declared.outcomes.RunOutcome.{RunOutcome}
 use Rattle.relay_model.specs.declared.outcomes.RunOutcome.TheVariants.{Memory, Stopped, AcceptFailed, ListenFailed, OpenFailed, Ended}
-use Rattle.place_openings.specs.declared.given_up.GivenUp.{GivenUp}
+use Rattle.place_openings.specs.{GivenUp}
 
 -- the outcome of a command of one session, by the cause of that
 abbrev pub told : Config → List Act → Why → RunOutcome

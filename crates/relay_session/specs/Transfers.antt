@@ -1,16 +1,11 @@
 -- The act of a transfer at a place, and when it may come.
 use Rattle.std.specs.Prelude.{◌≡◌, if◌then◌else◌, ℕ, ◌≤◌, Bool, true, false, List, length, take}
-use Rattle.relay_model.specs.declared.places.Place.{Place}
-use Rattle.relay_model.specs.declared.commands.Config.{Config}
-use Rattle.relay_model.specs.declared.acts.Act.{Act}
+use Rattle.relay_model.specs.{Place, Config, Act, Way, way_from, way_to, keeps_borders, input, output, MayRead, MayTryWrite, MayShut}
 use Rattle.relay_model.specs.declared.acts.Act.TheVariants as acts
-use Rattle.relay_model.specs.declared.places.Way.{Way}
 use Rattle.relay_model.specs.declared.places.Way.TheVariants.{LeftToRight, RightToLeft}
-use Rattle.relay_model.specs.Configs.{way_from, way_to, keeps_borders, input, output}
 use Rattle.relay_session.specs.declared.lanes.SessionLane.{SessionLane}
 use Rattle.relay_session.specs.declared.lanes.Lanes.{Lanes}
 use Rattle.relay_session.specs.Lanes.{can_read_in, can_write_in, lane_at}
-use Rattle.relay_model.specs.May.{MayRead, MayTryWrite, MayShut}
 use Rattle.relay_session.specs.declared.transfers.Transfer.{Transfer}
 use Rattle.relay_session.specs.declared.transfers.Transfer.TheVariants as transfers
 

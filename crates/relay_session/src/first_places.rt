@@ -1,6 +1,6 @@
 // With `fork`, where the peer of a session is accepted.
 ghost use Rattle.std.specs.Prelude.{◌≡◌};
-ghost use Rattle.relay_model.specs.Sessions.{first_part};
+ghost use Rattle.relay_model.specs.{first_part};
 ghost use Rattle.relay_session.specs.States.{home};
 
 use command_places::{parts, place_at};

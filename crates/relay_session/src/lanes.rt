@@ -1,24 +1,11 @@
 // The two directions of a session, each where the command forms it.
 ghost use Rattle.std.specs.Prelude.{◌≡◌, if◌then◌else◌, ℕ, ◌+◌, ◌<◌, ◌≤◌, ◌&&◌, ◌||◌, ◌∷◌, ◌++◌, [], not, List, Option, length, take, true, false, is_some, vec_len, IfOk};
-ghost use Rattle.relay_model.specs.declared.acts.Act.{Act};
+ghost use Rattle.relay_model.specs.{Act, Peer as Visitor, Config as Command, Way as Direct, ReadyAt as Entry, formed as forms, input, way_to, Fit};
+ghost use Rattle.relay_model.specs.{now as last_moment, later, earlier, passed, broken, done, done_at, is_unfinished, running, each_formed};
+ghost use Rattle.relay_model.specs.{some_formed, way_work, input_moment, MayRead, same_place, Listed};
 ghost use Rattle.relay_model.specs.declared.acts.Act.TheVariants as acts;
-ghost use Rattle.relay_model.specs.declared.acts.Peer.{Peer as Visitor};
-ghost use Rattle.relay_model.specs.declared.commands.Config.{Config as Command};
-ghost use Rattle.relay_model.specs.declared.places.Way.{Way as Direct};
 ghost use Rattle.relay_model.specs.declared.places.Way.TheVariants.{LeftToRight, RightToLeft};
-ghost use Rattle.relay_model.specs.declared.readiness.ReadyAt.{ReadyAt as Entry};
-ghost use Rattle.relay_model.specs.Configs.{formed as forms, input, way_to, Fit};
-ghost use Rattle.relay_model.specs.History.{now as last_moment};
-ghost use Rattle.relay_model.specs.Choices.{later, earlier};
-ghost use Rattle.relay_model.specs.Moments.{passed, broken, done, done_at, is_unfinished};
-ghost use Rattle.relay_model.specs.Cause.{running, each_formed, some_formed};
-ghost use Rattle.relay_model.specs.Rest.{way_work, input_moment};
-ghost use Rattle.relay_model.specs.May.{MayRead};
-ghost use Rattle.relay_model.specs.Places.{same_place};
-ghost use Rattle.session_direction.specs.Directions.{listed, IsDirection};
-ghost use Rattle.session_direction.specs.States.{steps_in};
-ghost use Rattle.session_direction.specs.Touches.{touches};
-ghost use Rattle.relay_model.specs.Readiness.{Listed};
+ghost use Rattle.session_direction.specs.{listed, IsDirection, steps_in, touches};
 ghost use Rattle.relay_session.specs.Timers.{one_done_at};
 ghost use Rattle.relay_session.specs.Transfers.{transfer_act, MayTransfer, affords, affords_at, is_read, place_for, way_of, opposite};
 
@@ -244,13 +231,13 @@ impl SessionLane {
     }
 
     /// The last turn names this half too.
-    pub fn hear_name(&mut self, entry: ReadyAt)
+    pub fn hear_entry(&mut self, entry: ReadyAt)
         ensures { (c : Command) (past : List Act) (s : ℕ) (w : Direct) (until : Option ℕ) (at : ℕ) (names : List Entry)
             → IsLane c (acts.Turn until at (listed names) false ∷ past) s w self.old
             → IsLane c (acts.Turn until at (listed (names ++ entry ∷ [])) false ∷ past) s w self.new }
     {
         if let SessionLane::Formed(direction) = self {
-            direction.hear_name(entry);
+            direction.hear_entry(entry);
         }
     }
 }
@@ -408,13 +395,13 @@ impl Lanes {
     }
 
     /// The last turn names this half too.
-    pub fn hear_name(&mut self, entry: ReadyAt)
+    pub fn hear_entry(&mut self, entry: ReadyAt)
         ensures { (c : Command) (past : List Act) (s : ℕ) (until : Option ℕ) (at : ℕ) (names : List Entry)
             → AreLanes c (acts.Turn until at (listed names) false ∷ past) s self.old
             → AreLanes c (acts.Turn until at (listed (names ++ entry ∷ [])) false ∷ past) s self.new }
     {
-        self.to_right.hear_name(entry);
-        self.to_left.hear_name(entry);
+        self.to_right.hear_entry(entry);
+        self.to_left.hear_entry(entry);
     }
 
     /// A law: an act that touches no direction leaves them, and so does a stop that a turn tells of.

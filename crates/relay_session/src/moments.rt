@@ -1,7 +1,6 @@
 // Small choices: of moments, of which there may be none, and of tests.
 ghost use Rattle.std.specs.Prelude.{◌≡◌, ℕ, Option};
-ghost use Rattle.relay_model.specs.Choices.{earlier as least, later};
-ghost use Rattle.relay_model.specs.Moments.{reached};
+ghost use Rattle.relay_model.specs.{earlier as least, later, reached};
 ghost use Rattle.relay_session.specs.Timers.{one_of as single, reachable, after};
 
 /// Whether the moment isn't later than now.

@@ -1,22 +1,14 @@
 // The session as the layers above see it: a state, and the one call that it wishes for next.
 ghost use Rattle.std.specs.Prelude.{◌≡◌, ℕ, ◌+◌, ◌<◌, ◌≤◌, ◌||◌, ◌∷◌, ◌++◌, [], List, Option, Some, None, true, false, length, take, vec_len, IfOk};
-ghost use Rattle.relay_model.specs.declared.acts.Act.{Act};
+ghost use Rattle.relay_model.specs.{Act, Why as Cause, Config as Command, Place, ReadyAt as Entry, longest_packet, Fit, has_fork, places, own_doors};
+ghost use Rattle.relay_model.specs.{Free, standing, now as last_moment, turns, failed_listening, failed_opening};
 ghost use Rattle.relay_model.specs.declared.acts.Act.TheVariants as acts;
-ghost use Rattle.relay_model.specs.declared.acts.Why.{Why as Cause};
 ghost use Rattle.relay_model.specs.declared.acts.Why.TheVariants as whys;
-ghost use Rattle.relay_model.specs.declared.commands.Config.{Config as Command};
 ghost use Rattle.relay_model.specs.declared.commands.Dump.TheVariants as dumps;
-ghost use Rattle.relay_model.specs.declared.places.Place.{Place};
-ghost use Rattle.relay_model.specs.declared.readiness.ReadyAt.{ReadyAt as Entry};
-ghost use Rattle.relay_model.specs.Conversions.{longest_packet};
-ghost use Rattle.relay_model.specs.Configs.{Fit, has_fork, places, own_doors};
-ghost use Rattle.relay_model.specs.Holding.{Free, standing};
-ghost use Rattle.relay_model.specs.History.{now as last_moment, turns};
 ghost use Rattle.relay_model.specs.May.{Legal, May};
-ghost use Rattle.relay_model.specs.Outcome.{failed_listening, failed_opening};
 ghost use Rattle.relay_model.specs.Rest.{Rest, owed, until_of};
-ghost use Rattle.place_openings.specs.Queries.{peer_at, peer_of_first};
-ghost use Rattle.session_direction.specs.Directions.{listed};
+ghost use Rattle.place_openings.specs.{peer_at, peer_of_first};
+ghost use Rattle.session_direction.specs.{listed};
 ghost use Rattle.relay_session.specs.declared.wishes.Wish.TheVariants as wishes;
 ghost use Rattle.relay_session.specs.declared.wishes.Answer.TheVariants as answers;
 ghost use Rattle.relay_session.specs.Wishes.{Fits, FitsRead, act_of, read_act, reaps_at};
@@ -205,7 +197,7 @@ impl Session {
             → Hears c n (acts.Turn until at (listed (names ++ entry ∷ [])) false ∷ past) s self.new }
         ensures asked { (p : Place) → has_asked_at self.new p ≡ true → has_asked_at self.old p ≡ true }
     {
-        self.state.hear_name(entry);
+        self.state.hear_entry(entry);
         self.wish = self.state.plan();
     }
 

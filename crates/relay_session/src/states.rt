@@ -1,18 +1,10 @@
 // The whole state of a session: how far its places have come, its two directions, its timers, and what ends it.
 ghost use Rattle.std.specs.Prelude.{◌≡◌, ℕ, ◌<◌, ◌∷◌, [], List, Option, Some, None, length, take, true, false, IfOk};
-ghost use Rattle.relay_model.specs.declared.acts.Act.{Act};
+ghost use Rattle.relay_model.specs.{Act, Config as Command, Place, Fit, has_fork, now as last_moment, closing_moment, idle_moment, cause, faulted};
+ghost use Rattle.relay_model.specs.{running, call, holds, timer_moment};
 ghost use Rattle.relay_model.specs.declared.acts.Act.TheVariants as acts;
-ghost use Rattle.relay_model.specs.declared.commands.Config.{Config as Command};
-ghost use Rattle.relay_model.specs.declared.places.Place.{Place};
-ghost use Rattle.place_openings.specs.Steps.{has_asked};
-ghost use Rattle.relay_model.specs.Configs.{Fit, has_fork};
-ghost use Rattle.relay_model.specs.History.{now as last_moment};
-ghost use Rattle.relay_model.specs.Moments.{closing_moment, idle_moment};
-ghost use Rattle.relay_model.specs.Cause.{cause, faulted, running};
+ghost use Rattle.place_openings.specs.{has_asked};
 ghost use Rattle.relay_model.specs.declared.calls.Call.TheVariants as calls;
-ghost use Rattle.relay_model.specs.Calls.{call};
-ghost use Rattle.relay_model.specs.Sessions.{holds};
-ghost use Rattle.relay_model.specs.Rest.{timer_moment};
 
 use crate::lanes::Lanes;
 use crate::moments::{ahead, earlier, is_reached, later_by};

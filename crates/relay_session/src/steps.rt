@@ -1,20 +1,13 @@
 // What each answer makes of the state of a session.
 ghost use Rattle.std.specs.Prelude.{◌≡◌, if◌then◌else◌, ℕ, ◌+◌, ◌<◌, ◌≤◌, ◌||◌, ◌∷◌, ◌++◌, [], List, Option, Some, None, is_some, take, true, false, vec_len};
-ghost use Rattle.relay_model.specs.declared.acts.Act.{Act};
+ghost use Rattle.relay_model.specs.{Act, ChildEnd as Ending, Why as Cause, Place, same_place, cause, Config as Command, ReadyAt as Entry};
 ghost use Rattle.relay_model.specs.declared.acts.Act.TheVariants as acts;
-ghost use Rattle.relay_model.specs.declared.acts.ChildEnd.{ChildEnd as Ending};
-ghost use Rattle.relay_model.specs.declared.acts.Why.{Why as Cause};
 ghost use Rattle.relay_model.specs.declared.acts.Why.TheVariants as whys;
-ghost use Rattle.relay_model.specs.declared.places.Place.{Place};
-ghost use Rattle.relay_model.specs.Places.{same_place};
-ghost use Rattle.relay_model.specs.Cause.{cause};
-ghost use Rattle.relay_model.specs.declared.commands.Config.{Config as Command};
-ghost use Rattle.relay_model.specs.declared.readiness.ReadyAt.{ReadyAt as Entry};
-ghost use Rattle.session_direction.specs.Directions.{listed};
+ghost use Rattle.session_direction.specs.{listed};
 ghost use Rattle.relay_session.specs.declared.wishes.Wish.TheVariants as wishes;
 ghost use Rattle.relay_session.specs.declared.wishes.Answer.TheVariants as answers;
 ghost use Rattle.relay_session.specs.Wishes.{Fits, FitsRead, act_of, read_act, reaps_at};
-ghost use Rattle.place_openings.specs.Steps.{has_asked};
+ghost use Rattle.place_openings.specs.{has_asked};
 ghost use Rattle.relay_session.specs.Lanes.{waiting_at};
 ghost use Rattle.relay_session.specs.Transfers.{transfer_act, moves_bytes};
 
@@ -297,14 +290,14 @@ impl State {
     }
 
     /// The last turn names this half too.
-    pub fn hear_name(&mut self, entry: ReadyAt)
+    pub fn hear_entry(&mut self, entry: ReadyAt)
         ensures goes { (c : Command) (past : List Act) (s : ℕ) (until : Option ℕ) (at : ℕ) (names : List Entry)
             → Heeds c (acts.Turn until at (listed names) false ∷ past) s self.old
             → Heeds c (acts.Turn until at (listed (names ++ entry ∷ [])) false ∷ past) s self.new }
         ensures asked { (p : Place) → has_asked self.new.openings p ≡ true → has_asked self.old.openings p ≡ true }
     {
         self.openings.hear_entry(entry);
-        self.lanes.hear_name(entry);
+        self.lanes.hear_entry(entry);
         self.ending = self.cause();
     }
 

@@ -2,7 +2,7 @@
 use relay_model::{ChildEnd, Peer, Place, Shut, Why};
 
 /// The next call that a session wishes to be made. `at_most` is in bytes, `until` in milliseconds since the run began.
-#[derive(Clone, Copy, Debug, PartialEq, Eq)]
+#[derive(Clone, Copy, PartialEq, Eq)]
 pub enum Wish {
     Open(Place),
     Settle(Place),

@@ -1,6 +1,6 @@
 -- What a plan says after some failures, the moments of which stand newest first.
 use Rattle.std.specs.Prelude.{◌≡◌, ℕ, ◌-◌, ◌^◌, Bool, min, List, [], ◌∷◌, length, Option, Some, None, if◌then◌else◌}
-use Rattle.relay_model.specs.Tries.{is_out_of_tries, next_due}
+use Rattle.relay_model.specs.{is_out_of_tries, next_due}
 use Rattle.retry_plan.specs.declared.NextTry.{NextTry}
 use Rattle.retry_plan.specs.declared.NextTry.TheVariants.{Now, At, Never, GiveUp}
 use Rattle.retry_plan.specs.Ledger.{PlanLedger}

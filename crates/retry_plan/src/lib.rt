@@ -7,7 +7,7 @@ ghost use Rattle.retry_plan.specs.Plans.{PlanIs, next_try};
 use std::marker::Model;
 
 /// When the next try comes. Moments are milliseconds since the run began.
-#[derive(Clone, Copy, Debug, PartialEq, Eq)]
+#[derive(Clone, Copy, PartialEq, Eq)]
 pub enum NextTry {
     /// At once: nothing failed yet.
     Now,
@@ -20,7 +20,7 @@ pub enum NextTry {
 }
 
 /// The tries at one place. Contracts see what it keeps; `PlanIs` says for which failures it stands.
-#[derive(Clone, Copy, Debug)]
+#[derive(Clone, Copy)]
 pub struct Plan {
     retry: u64,
     forever: bool,

@@ -1,7 +1,6 @@
 -- What a ring counts beside the marks that it took.
 use Rattle.std.specs.Prelude.{ℕ, ◌+◌, ◌-◌, ◌^◌, ◌≤◌, min}
-use Rattle.port_trait.specs.Direct.{no_counts, with_fault}
-use Rattle.port_trait.specs.declared.counts.PortCounts.{PortCounts}
+use Rattle.port_trait.specs.{no_counts, with_fault, PortCounts}
 use Rattle.ring_queue.specs.declared.tallies.RingTally.{RingTally}
 
 -- counts that stand at their beginning

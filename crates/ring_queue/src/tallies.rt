@@ -1,13 +1,13 @@
 // What a ring counts.
 ghost use Rattle.std.specs.Prelude.{◌≡◌, Some};
-ghost use Rattle.port_trait.specs.Counting.{Tallied, Fault};
+ghost use Rattle.port_trait.specs.{Tallied, Fault};
 ghost use Rattle.ring_queue.specs.Tallies.{no_tally, with_misuse};
 
 use port_trait::PortCounts;
 
 /// The answers of a ring that need a cause, and how many of its faults are calls that it doesn't serve. The number
 /// stays at its last value.
-#[derive(Clone, Copy, Debug, PartialEq)]
+#[derive(Clone, Copy, PartialEq)]
 pub struct RingTally {
     pub counts: PortCounts,
     pub misuses: u64,

@@ -1,17 +1,12 @@
 -- What a reader's thread has sent of what its source gave since it began.
-use Rattle.std.specs.Prelude.{◌≡◌, ℕ, ◌+◌, ◌-◌, ◌^◌, ◌≤◌, min, Bool, true, false, List, [], ◌++◌, Option, IfSome}
+use Rattle.std.specs.Prelude.{◌≡◌, ℕ, ◌+◌, ◌-◌, ◌^◌, ◌≤◌, min, Bool, true, false, List, [], ◌∷◌, ◌++◌, Option, IfSome}
 use Rattle.std.specs.Io.KnownBytes.{Consumes}
-use Rattle.port_trait.specs.Streams.{Loses}
-use Rattle.ring_queue.specs.Tallies.{RoseTimes}
-use Rattle.ring_queue.specs.declared.roles.PassView.{PassView}
-use Rattle.ring_queue.specs.Order.{view_of}
-use Rattle.ring_queue.specs.declared.items.RingItem.{RingItem}
-use Rattle.ring_queue.specs.declared.words.Word.{Word}
+use Rattle.port_trait.specs.{Loses}
+use Rattle.ring_queue.specs.{RoseTimes, PassView, view_of, RingItem, Word, bytes_of, is_mark, is_end_mark, last_is, marks, end_marks, fault_marks}
+use Rattle.ring_queue.specs.{told, asks, AddsChunks}
 use Rattle.ring_queue.specs.declared.words.Word.TheVariants as words
 use Rattle.ring_reader.specs.declared.reader_thread.ThreadTurn.{ThreadTurn}
 use Rattle.ring_reader.specs.declared.reader_thread.ThreadTurn.TheVariants as turns
-use Rattle.ring_queue.specs.Items.{bytes_of, is_mark, is_end_mark, last_is, marks, end_marks, fault_marks, told}
-use Rattle.ring_queue.specs.Words.{asks}
 
 -- a source and its counts as they stood and as they stand, and what was sent: the source gave just those bytes, and
 -- failed and ended at least as often as the marks tell
@@ -52,6 +47,17 @@ abbrev pub OnTurned : ThreadTurn → (ℕ → Type 0) → Type 0
 OnTurned turns.Sent fact = fact 0
 OnTurned turns.Marked fact = fact 1
 OnTurned turns.Gone fact = Unit {0}
+
+-- a turn sent these bytes in chunks, and no mark
+pub record SendsChunks (before now : PassView RingItem) (bytes : List ℕ) (ahead : ℕ) : Type 0 where
+  pub unmarked : ahead ≡ 0
+  pub kept : now ≡ view_of before.sends before.takes now.sent before.taken
+  pub adds : AddsChunks before.sent now.sent bytes
+
+-- a turn sent this mark
+pub record SendsMark (before now : PassView RingItem) (mark : RingItem) (ahead : ℕ) : Type 0 where
+  pub marked : ahead ≡ 1
+  pub sent : now ≡ view_of before.sends before.takes (before.sent ++ mark ∷ []) before.taken
 
 -- how many marks more a turn sent
 abbrev pub marks_sent : Bool → ℕ

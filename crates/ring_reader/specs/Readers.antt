@@ -1,33 +1,20 @@
 -- What contracts see of a reader.
 use Rattle.std.specs.Prelude.{◌≡◌, ℕ, ◌+◌, ◌-◌, ◌^◌, ◌≤◌, min, Bool, true, false, ◌||◌, not, List, [], ◌∷◌, ◌++◌, length, take, drop, Option, None, Some, IfSome}
-use Rattle.relay_model.specs.declared.acts.Shut.{Shut}
-use Rattle.port_trait.specs.declared.answers.Got.{Got}
+use Rattle.relay_model.specs.{Shut}
+use Rattle.port_trait.specs.{Got, Begun as BeginAnswer, PortCounts, Loses, BehindSeen, PortSeen, nothing_behind, untold, Task}
 use Rattle.port_trait.specs.declared.answers.Got.TheVariants as reads
-use Rattle.port_trait.specs.declared.answers.Begun.{Begun as BeginAnswer}
 use Rattle.port_trait.specs.declared.answers.Begun.TheVariants as begins
-use Rattle.port_trait.specs.declared.counts.PortCounts.{PortCounts}
-use Rattle.port_trait.specs.Streams.{Loses}
 use Rattle.port_trait.specs.Serving.{Serving, rise}
-use Rattle.port_trait.specs.Ports.{BehindSeen, PortSeen, nothing_behind, untold}
 use Rattle.crossbeam_queue.specs.Fifo.{Held}
-use Rattle.ring_queue.specs.declared.roles.PassView.{PassView}
-use Rattle.ring_queue.specs.Order.{IsSound}
-use Rattle.ring_queue.specs.declared.items.RingItem.{RingItem}
+use Rattle.ring_queue.specs.{PassView, IsSound, RingItem, Lines, Word, RingTally, ThreadEnding, bytes_of, is_mark, is_end_mark, last_is, marks}
+use Rattle.ring_queue.specs.{end_marks, fault_marks, told, Follows, asks, IsTallied, no_tally, with_misuse}
 use Rattle.ring_queue.specs.declared.items.RingItem.TheVariants as kinds
-use Rattle.ring_queue.specs.declared.lines.Lines.{Lines}
-use Rattle.ring_queue.specs.declared.words.Word.{Word}
-use Rattle.ring_queue.specs.declared.tallies.RingTally.{RingTally}
-use Rattle.port_trait.specs.declared.spawning.Task.{Task}
 use Rattle.ring_reader.specs.declared.reader_thread.Fed.{Fed}
-use Rattle.ring_queue.specs.declared.ending.ThreadEnding.{ThreadEnding}
 use Rattle.ring_reader.specs.declared.reader_start.FeedPromise.{FeedPromise}
 use Rattle.ring_reader.specs.declared.reader_stage.ReaderStage.{ReaderStage}
 use Rattle.ring_reader.specs.declared.reader_stage.ReaderStage.TheVariants as stages
-use Rattle.ring_queue.specs.Items.{bytes_of, is_mark, is_end_mark, last_is, marks, end_marks, fault_marks, told, Follows}
-use Rattle.ring_queue.specs.Words.{asks}
 use Rattle.ring_reader.specs.Feeding.{Feeds, marks_sent}
 use Rattle.ring_reader.specs.Starting.{WillFeed}
-use Rattle.ring_queue.specs.Tallies.{IsTallied, no_tally, with_misuse}
 
 -- a source behind a reader: what it gave since the thread began, what it has left, and how far its counts rose
 pub record SourceBehind : Type 0 where

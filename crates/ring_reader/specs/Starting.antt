@@ -1,14 +1,11 @@
 -- What a reader's port knows of the thread that it started.
 use Rattle.std.specs.Prelude.{◌≡◌, ℕ, List, Option}
-use Rattle.port_trait.specs.declared.spawning.Task.{Task}
+use Rattle.port_trait.specs.{Task}
 use Rattle.port_trait.specs.declared.spawning.Task.TheVariants as tasks
 use Rattle.crossbeam_queue.specs.Passes.{view, IsPassOf}
-use Rattle.ring_queue.specs.declared.lines.Lines.{Lines}
-use Rattle.ring_queue.specs.declared.words.Word.{Word}
+use Rattle.ring_queue.specs.{Lines, Word, ThreadEnding, OnDone}
 use Rattle.ring_reader.specs.declared.reader_thread.Fed.{Fed}
-use Rattle.ring_queue.specs.declared.ending.ThreadEnding.{ThreadEnding}
 use Rattle.ring_reader.specs.declared.reader_start.FeedPromise.{FeedPromise}
-use Rattle.ring_queue.specs.Endings.{OnDone}
 use Rattle.ring_reader.specs.Feeding.{HasFed}
 
 -- what the thread of these lines hands back, of the source that it started with

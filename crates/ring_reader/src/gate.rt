@@ -1,7 +1,7 @@
 // A source that nobody asks for anything before its port has begun.
 ghost use Rattle.std.specs.Prelude.{◌≡◌, ◌<◌, true, false, length};
 ghost use Rattle.port_trait.specs.Counting.{Counted};
-ghost use Rattle.port_trait.specs.Streams.{SourceGives, ReaderGives, source_failed, source_ended};
+ghost use Rattle.port_trait.specs.{SourceGives, ReaderGives, source_failed, source_ended};
 
 use port_trait::{Source, SourceGot};
 use ring_queue::{Lines, Word};

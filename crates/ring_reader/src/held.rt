@@ -17,7 +17,7 @@ pub(crate) struct HeldChunk {
 
 impl Model for HeldChunk {
     ghost use Rattle.std.specs.Prelude.{List, ℕ};
-    ghost use Rattle.ring_queue.specs.Stores.{rest_of, Within};
+    ghost use Rattle.ring_queue.specs.{rest_of, Within};
 
     ghost Value = { List ℕ };
 

@@ -1,6 +1,6 @@
 // The port of a source that a thread reads.
 ghost use Rattle.std.specs.Prelude.{◌≡◌, ◌≤◌, true, IfOk};
-ghost use Rattle.port_trait.specs.Counting.{Rose};
+ghost use Rattle.port_trait.specs.{Rose};
 ghost use Rattle.ring_reader.specs.Readers.{fresh_reader};
 
 use crate::held::HeldChunk;

@@ -1,8 +1,6 @@
 // A reader as a port.
 ghost use Rattle.std.specs.Prelude.{◌≡◌, ◌<◌, ◌≤◌, ◌+◌, ◌-◌, ◌^◌, ◌++◌, ◌∷◌, min, [], true, false, length, Some, None};
-ghost use Rattle.port_trait.specs.Hinting.{all_hints};
-ghost use Rattle.port_trait.specs.Meanings.{OnJoined};
-ghost use Rattle.port_trait.specs.Ports.{Begins, StandsBegun, Settles, Reads, Writes, Sends, PutsAll, Shuts, HintsSo, Reaps, JoinsSo};
+ghost use Rattle.port_trait.specs.{all_hints, OnJoined, Begins, StandsBegun, Settles, Reads, Writes, Sends, PutsAll, Shuts, HintsSo, Reaps, JoinsSo};
 ghost use Rattle.port_trait.specs.declared.answers.Begun.TheVariants as begins;
 ghost use Rattle.port_trait.specs.declared.answers.Got.TheVariants as reads;
 ghost use Rattle.port_trait.specs.declared.answers.Took.TheVariants as writes;

@@ -1,8 +1,8 @@
 // How a reader's thread is started, and what it promises.
 ghost use Rattle.std.specs.Prelude.{◌≡◌, ◌≤◌, None, IfSome};
 ghost use Rattle.crossbeam_queue.specs.Passes.{view, IsPassOf};
-ghost use Rattle.port_trait.specs.Counting.{Rose};
-ghost use Rattle.ring_queue.specs.Endings.{OnDone};
+ghost use Rattle.port_trait.specs.{Rose};
+ghost use Rattle.ring_queue.specs.{OnDone};
 ghost use Rattle.ring_reader.specs.Feeding.{Works};
 ghost use Rattle.ring_reader.specs.Starting.{FedBy, WillFeed};
 

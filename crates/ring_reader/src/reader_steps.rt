@@ -2,9 +2,7 @@
 ghost use Rattle.std.specs.Prelude.{◌≡◌, ◌+◌, ◌++◌, ◌∷◌, [], true, IfSome, MatchOption};
 ghost use Rattle.crossbeam_queue.specs.Fifo.{Held};
 ghost use Rattle.crossbeam_queue.specs.Passes.{view, IsPassOf, IsSamePass};
-ghost use Rattle.ring_queue.specs.Order.{HasTaken, view_of};
-ghost use Rattle.ring_queue.specs.Items.{Follows, is_mark, is_end_mark, last_is, marks};
-ghost use Rattle.ring_queue.specs.Words.{asks};
+ghost use Rattle.ring_queue.specs.{HasTaken, view_of, Follows, is_mark, is_end_mark, last_is, marks, asks};
 ghost use Rattle.ring_reader.specs.Feeding.{Feeds, marks_sent};
 ghost use Rattle.ring_reader.specs.Starting.{WillFeed};
 

@@ -1,11 +1,9 @@
 // The thread of a reader: it reads its source and sends what came.
-ghost use Rattle.std.specs.Prelude.{◌≡◌, ◌<◌, ◌++◌, ◌∷◌, [], true, false, vec_len, IfSome};
+ghost use Rattle.std.specs.Prelude.{◌≡◌, ◌<◌, ◌≤◌, ◌+◌, ◌-◌, ◌^◌, ◌++◌, ◌∷◌, [], true, false, min, take, vec_len, IfSome};
 ghost use Rattle.crossbeam_queue.specs.Passes.{view, IsPassOf, IsSamePass};
-ghost use Rattle.ring_queue.specs.Order.{view_of};
-ghost use Rattle.ring_queue.specs.Items.{Follows, AddsChunks};
+ghost use Rattle.ring_queue.specs.{view_of, Follows, AddsChunks, OnDone};
 ghost use Rattle.ring_reader.specs.declared.reader_thread.ThreadTurn.TheVariants as turns;
-ghost use Rattle.ring_queue.specs.Endings.{OnDone};
-ghost use Rattle.ring_reader.specs.Feeding.{Works, EndsMarked, SendsLost, OnTurned, ahead_after};
+ghost use Rattle.ring_reader.specs.Feeding.{Works, EndsMarked, SendsLost, SendsChunks, SendsMark, OnTurned, ahead_after};
 ghost use Rattle.ring_reader.specs.Starting.{FedBy};
 
 use crate::gate::Gate;
@@ -32,6 +30,14 @@ impl Block {
         Ok(Block {
             bytes: vec![in alloc; 0u8; 32_768]?,
         })
+    }
+
+    /// The first so many bytes.
+    fn front(&self, count: usize) -> &[u8]
+        requires { count ≤ vec_len self.now.bytes }
+        ensures { result.now ≡ take count self.now.bytes.items }
+    {
+        &self.bytes.as_slice()[..count]
     }
 }
 
@@ -183,42 +189,50 @@ where
         if self.lines.state.is_gone() {
             return ThreadTurn::Gone;
         }
-        let block = &mut self.block;
-        match self.source.read(block.bytes.as_mut_slice()) {
-            SourceGot::Bytes(count) => {
-                let bytes = &block.bytes.as_slice()[..count];
-                let sent = send_chunks(
-                    &self.rt,
-                    &self.lines,
-                    &self.wake,
-                    &mut self.items,
-                    &mut self.ready,
-                    bytes,
-                );
-                self.count = self.count.saturating_add(count as u64);
-                if sent {
-                    ThreadTurn::Sent
-                } else {
-                    ThreadTurn::Gone
-                }
-            }
-            SourceGot::End => {
-                let mark = RingItem::End(self.count);
-                if send_item(&self.rt, &self.lines, &self.wake, &mut self.items, mark) {
-                    ThreadTurn::Marked
-                } else {
-                    ThreadTurn::Gone
-                }
-            }
-            SourceGot::Failed => {
-                let mark = RingItem::Fault(self.count);
-                if send_item(&self.rt, &self.lines, &self.wake, &mut self.items, mark) {
-                    ThreadTurn::Marked
-                } else {
-                    ThreadTurn::Gone
-                }
-            }
+        match self.source.read(self.block.bytes.as_mut_slice()) {
+            SourceGot::Bytes(count) => self.send_front(count),
+            SourceGot::End => self.send_mark(RingItem::End(self.count)),
+            SourceGot::Failed => self.send_mark(RingItem::Fault(self.count)),
         }
+    }
+
+    /// Sends the first `count` bytes of the block in chunks.
+    fn send_front(&mut self, count: usize) -> ThreadTurn
+        requires within { count ≤ vec_len self.old.block.bytes }
+        requires queue { IsPassOf self.old.lines.value.items self.old.items }
+        requires sends { (view self.old.items).sends ≡ true }
+        ensures kept { self.new ≡ record self.old { items = self.new.items; ready = self.new.ready; count = self.new.count } }
+        ensures counted { self.new.count ≡ min (self.old.count + count) (2 ^ 64 - 1) }
+        ensures queue { OnTurned result (λ _. IsSamePass self.old.items self.new.items) }
+        ensures sent { OnTurned result (SendsChunks (view self.old.items) (view self.new.items) (take count self.old.block.bytes.items)) }
+    {
+        self.count = self.count.saturating_add(count as u64);
+        if send_chunks(
+            &self.rt,
+            &self.lines,
+            &self.wake,
+            &mut self.items,
+            &mut self.ready,
+            self.block.front(count),
+        ) {
+            return ThreadTurn::Sent;
+        }
+        ThreadTurn::Gone
+    }
+
+    /// Sends the mark.
+    fn send_mark(&mut self, mark: RingItem) -> ThreadTurn
+        requires queue { IsPassOf self.old.lines.value.items self.old.items }
+        requires sends { (view self.old.items).sends ≡ true }
+        requires follows { Follows (view self.old.items).sent mark }
+        ensures kept { self.new ≡ record self.old { items = self.new.items } }
+        ensures queue { IsSamePass self.old.items self.new.items }
+        ensures sent { OnTurned result (SendsMark (view self.old.items) (view self.new.items) mark) }
+    {
+        if send_item(&self.rt, &self.lines, &self.wake, &mut self.items, mark) {
+            return ThreadTurn::Marked;
+        }
+        ThreadTurn::Gone
     }
 
     /// Waits for the word that a mark asks for. None where the port is gone.

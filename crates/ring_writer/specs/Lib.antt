@@ -3,3 +3,4 @@ pub mod WriterPuts
 pub mod WriterRing
 pub mod WriterThread
 pub mod Writers
+pub use Writers.{WriterState, took_of}

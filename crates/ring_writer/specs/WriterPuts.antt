@@ -2,12 +2,11 @@
 use Rattle.std.specs.Prelude.{◌≡◌, ℕ, ◌+◌, ◌≤◌, true, false, List, [], ◌∷◌, ◌++◌, length, take, if◌then◌else◌}
 use Rattle.crossbeam_queue.specs.Passes.{view, IsPassOf, ruled_capacity}
 use Rattle.crossbeam_queue.specs.Fifo.{Held}
-use Rattle.port_trait.specs.declared.answers.Took.{Took as WriteAnswer}
+use Rattle.port_trait.specs.{Took as WriteAnswer}
 use Rattle.port_trait.specs.declared.answers.Took.TheVariants as writes
-use Rattle.ring_queue.specs.declared.items.RingItem.{RingItem}
+use Rattle.ring_queue.specs.{RingItem, bytes_of, is_end_mark, last_is, marks, told}
 use Rattle.ring_queue.specs.declared.items.RingItem.TheVariants as items
 use Rattle.ring_writer.specs.declared.writer_puts.Putter.{Putter}
-use Rattle.ring_queue.specs.Items.{bytes_of, is_end_mark, last_is, marks, told}
 
 -- a chunk of the front of the bytes was put, or nothing
 abbrev pub PutsChunk : List RingItem → List RingItem → List ℕ → WriteAnswer → Type 0

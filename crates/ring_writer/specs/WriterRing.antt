@@ -1,26 +1,17 @@
 -- How a writer stands: what its port put, what its thread came to, and what the calls of the port do to that.
 use Rattle.std.specs.Prelude.{◌≡◌, ℕ, zero, suc, ◌+◌, ◌-◌, ◌^◌, ◌≤◌, min, Bool, true, false, not, ◌&&◌, List, [], ◌++◌, length, take, drop, Option, None, Some, option_map, IfSome, if◌then◌else◌}
 use Rattle.crossbeam_queue.specs.Passes.{view}
-use Rattle.port_trait.specs.Meanings.{Adds, IsFront}
-use Rattle.port_trait.specs.Serving.{rise}
-use Rattle.port_trait.specs.declared.answers.Begun.{Begun as BeginAnswer}
+use Rattle.port_trait.specs.{Adds, IsFront, rise, Begun as BeginAnswer, Took as WriteAnswer, Task}
 use Rattle.port_trait.specs.declared.answers.Begun.TheVariants as begins
-use Rattle.port_trait.specs.declared.answers.Took.{Took as WriteAnswer}
 use Rattle.port_trait.specs.declared.answers.Took.TheVariants as writes
-use Rattle.port_trait.specs.declared.spawning.Task.{Task}
 use Rattle.port_trait.specs.declared.spawning.Task.TheVariants.{Running, Ended}
-use Rattle.ring_queue.specs.declared.items.RingItem.{RingItem}
-use Rattle.ring_queue.specs.declared.words.SinkFault.{SinkFault}
-use Rattle.ring_queue.specs.declared.lines.Lines.{Lines}
-use Rattle.ring_queue.specs.declared.ending.ThreadEnding.{ThreadEnding}
+use Rattle.ring_queue.specs.{RingItem, SinkFault, Lines, ThreadEnding, OnDone, bytes_of, is_end_mark, last_is}
 use Rattle.ring_writer.specs.declared.writer_outlet.Outlet.{Outlet}
 use Rattle.ring_writer.specs.declared.writer_thread.WriterDone.{WriterDone}
 use Rattle.ring_writer.specs.declared.writer_thread.WriterPromise.{WriterPromise}
 use Rattle.ring_writer.specs.declared.writer_stages.WriterBack.{WriterBack}
 use Rattle.ring_writer.specs.declared.writer_stages.WriterStage.{WriterStage}
 use Rattle.ring_writer.specs.declared.writer_stages.WriterStage.TheVariants as stages
-use Rattle.ring_queue.specs.Endings.{OnDone}
-use Rattle.ring_queue.specs.Items.{bytes_of, is_end_mark, last_is}
 use Rattle.ring_writer.specs.Writer.{KeptUp}
 use Rattle.ring_writer.specs.WriterPuts.{IsPutting, PutsChunk, WasFull}
 use Rattle.ring_writer.specs.WriterThread.{IsTrueToSink, IsFinished, ThreadEnded}

@@ -1,15 +1,10 @@
 -- What the thread of a writer keeps, and what it promises at its return.
 use Rattle.std.specs.Prelude.{◌≡◌, ℕ, ◌-◌, ◌^◌, ◌≤◌, min, Bool, true, List, length, Option, vec_capacity}
 use Rattle.crossbeam_queue.specs.Passes.{Pass, view, IsPassOf}
-use Rattle.ring_queue.specs.declared.roles.PassView.{PassView}
-use Rattle.ring_queue.specs.declared.items.RingItem.{RingItem}
-use Rattle.ring_queue.specs.declared.words.SinkFault.{SinkFault}
-use Rattle.ring_queue.specs.declared.lines.Lines.{Lines}
+use Rattle.ring_queue.specs.{PassView, RingItem, SinkFault, Lines, bytes_of, is_end_mark, last_is, RoseTimes}
 use Rattle.ring_writer.specs.declared.writer_outlet.Outlet.{Outlet}
 use Rattle.ring_writer.specs.declared.writer_thread.WriterWork.{WriterWork}
 use Rattle.ring_writer.specs.declared.writer_thread.WriterDone.{WriterDone}
-use Rattle.ring_queue.specs.Items.{bytes_of, is_end_mark, last_is}
-use Rattle.ring_queue.specs.Tallies.{RoseTimes}
 use Rattle.ring_writer.specs.Writer.{Delivers, KeepsUp}
 
 -- since it took so much and failed so often, the sink has what was taken, but for what its faults cost, and no more

@@ -1,16 +1,12 @@
 -- What contracts see of a writer, and what the calls of its port do.
 use Rattle.std.specs.Prelude.{◌≡◌, ℕ, ◌+◌, ◌≤◌, Bool, true, false, not, ◌&&◌, List, [], ◌∷◌, ◌++◌, length, take, Option, None, Some, if◌then◌else◌}
-use Rattle.relay_model.specs.declared.acts.Shut.{Shut}
+use Rattle.relay_model.specs.{Shut}
 use Rattle.port_trait.specs.Serving.{Serving}
-use Rattle.port_trait.specs.Ports.{BehindSeen, PortSeen, nothing_behind, untold}
-use Rattle.port_trait.specs.declared.answers.Begun.{Begun as BeginAnswer}
+use Rattle.port_trait.specs.{BehindSeen, PortSeen, nothing_behind, untold, Begun as BeginAnswer, Took as WriteAnswer}
 use Rattle.port_trait.specs.declared.answers.Begun.TheVariants as begins
-use Rattle.port_trait.specs.declared.answers.Took.{Took as WriteAnswer}
 use Rattle.port_trait.specs.declared.answers.Took.TheVariants as writes
 use Rattle.ring_queue.specs.declared.items.RingItem.TheVariants as items
-use Rattle.ring_queue.specs.declared.tallies.RingTally.{RingTally}
-use Rattle.ring_queue.specs.Items.{bytes_of, told, AddsChunks}
-use Rattle.ring_queue.specs.Tallies.{no_tally, with_misuse}
+use Rattle.ring_queue.specs.{RingTally, bytes_of, told, AddsChunks, no_tally, with_misuse}
 use Rattle.ring_writer.specs.WriterRing.{WriterLine, WriterBehind, WritesChunk, fresh_line, is_open, is_shut, may_join}
 
 -- how its line stands, what was counted, and each shut

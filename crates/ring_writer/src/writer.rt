@@ -1,10 +1,7 @@
 // The port of a sink that a thread writes to.
 ghost use Rattle.std.specs.Prelude.{◌≡◌, ◌<◌, ◌≤◌, ◌+◌, ◌-◌, ◌++◌, ◌∷◌, [], true, false, length, IfOk, IfSome, IsSome};
-ghost use Rattle.port_trait.specs.Counting.{Rose};
-ghost use Rattle.port_trait.specs.Streams.{finishes};
-ghost use Rattle.port_trait.specs.Hinting.{all_hints};
-ghost use Rattle.port_trait.specs.Meanings.{OnJoined};
-ghost use Rattle.port_trait.specs.Ports.{Begins, StandsBegun, Settles, Reads, Writes, Sends, PutsAll, Shuts, HintsSo, Reaps, JoinsSo};
+ghost use Rattle.port_trait.specs.{Rose, finishes, all_hints, OnJoined, Begins, StandsBegun, Settles, Reads, Writes, Sends, PutsAll, Shuts, HintsSo};
+ghost use Rattle.port_trait.specs.{Reaps, JoinsSo};
 ghost use Rattle.port_trait.specs.declared.answers.Begun.TheVariants as begins;
 ghost use Rattle.port_trait.specs.declared.answers.Got.TheVariants as reads;
 ghost use Rattle.port_trait.specs.declared.answers.Took.TheVariants as writes;
@@ -14,25 +11,19 @@ ghost use Rattle.port_trait.specs.declared.answers.PortReap.TheVariants as reaps
 ghost use Rattle.ring_writer.specs.WriterRing.{IsBehind, is_open, may_join};
 ghost use Rattle.ring_writer.specs.Writers.{misused_writer, writer_seen, WriterBeginStep, WriterWrites, WriterPutsAll, fresh_writer, line_after_shut};
 
-use crate::writer_outlet::Outlet;
-use crate::writer_puts::Putter;
-use crate::writer_stages::{WriterStage, start_thread};
-use crate::writer_thread::{GATHERED, WriterWork};
+use crate::fresh_writer::FreshWriter;
+use crate::writer_stages::WriterStage;
 use port_trait::{
     Account, Begun, Got, Hint, Joining, Port, PortCall, PortReap, Settled, Shutting, Sink, Spawner,
     Took, Wake,
 };
 use relay_model::{NoMemory, Shut};
-use ring_queue::{RingTally, SinkFault, ThreadHold, make_lines};
+use ring_queue::{RingTally, SinkFault, ThreadHold};
 use std::alloc::Global;
 use std::marker::Model;
 use std::mem;
-use std::snapshot::Snapshot;
 use std::sync::Wait;
 use std::thread::Threads;
-
-/// How many fault marks may lie untaken. Those that find no room are dropped, since the others tell the same.
-const MARKS: usize = 64;
 
 /// A ring whose thread writes to a sink that may block. Its other half fails.
 #[derive(Drop)]
@@ -40,11 +31,11 @@ pub struct RingWriter<K, R>
 where
     K: Sink + Drop,
 {
-    rt: R,
-    _hold: ThreadHold<SinkFault>,
-    stage: WriterStage<K>,
-    tally: RingTally,
-    account: Account,
+    pub(crate) rt: R,
+    pub(crate) _hold: ThreadHold<SinkFault>,
+    pub(crate) stage: WriterStage<K>,
+    pub(crate) tally: RingTally,
+    pub(crate) account: Account,
 }
 
 impl<K, R> Model for RingWriter<K, R>
@@ -56,7 +47,7 @@ where
     ghost Value = { WriterState };
 
     ghost use Rattle.ring_writer.specs.WriterRing.{WriterStands, line_of};
-    ghost use Rattle.ring_queue.specs.Tallies.{IsTallied};
+    ghost use Rattle.ring_queue.specs.{IsTallied};
 
     ghost view = { λ w. record { line = line_of K.took K.faults K.finished w.stage; tally = w.tally; shuts = w.account.passed.shuts } };
 
@@ -78,29 +69,8 @@ impl<K: Sink + Send + Drop + 'static, R: Threads + Wait + Copy + Send + 'static>
         ensures fresh { IfOk result (λ ring. ring ≡ fresh_writer (K.took sink) ring.line.refused) }
         ensures refused { IfOk result (λ ring. ring.line.refused ≡ true → Rose (P.faults spawner.old) (P.faults spawner.new)) }
     {
-        let ends = make_lines::<SinkFault>(alloc, MARKS)?;
-        let buffer = Vec::with_capacity(alloc, GATHERED)?;
-        let putter = Putter::new(ends.port, ends.sending);
-        let begun = Snapshot::of(&sink);
         let rt = *spawner.threads();
-        let work = WriterWork {
-            rt,
-            lines: ends.thread,
-            outlet: Outlet::new(sink),
-            wake,
-            taker: ends.taking.items,
-            sender: ends.taking.back,
-            spent: ends.taking.spent,
-            buffer,
-        };
-        let task = start_thread(spawner, work);
-        Ok(RingWriter {
-            rt,
-            _hold: ends.hold,
-            stage: WriterStage::of(putter, begun, task),
-            tally: RingTally::new(),
-            account: Account::new(),
-        })
+        Ok(FreshWriter::new(alloc, sink, spawner, wake)?.attach(rt))
     }
 }
 

@@ -3,7 +3,7 @@ ghost use Rattle.std.specs.Prelude.{◌≡◌, ◌≢◌, ◌<◌, ◌≤◌, �
 ghost use Rattle.crossbeam_queue.specs.Passes.{view};
 ghost use Rattle.port_trait.specs.declared.answers.Took.TheVariants as writes;
 ghost use Rattle.ring_queue.specs.declared.items.RingItem.TheVariants as ring_items;
-ghost use Rattle.ring_queue.specs.Items.{bytes_of, told, AddsChunks};
+ghost use Rattle.ring_queue.specs.{bytes_of, told, AddsChunks};
 ghost use Rattle.ring_writer.specs.WriterPuts.{IsPutting, CanPut, KeepsPutting, PutsChunk, FullWhereNoRoom, WasFull, marks_after};
 
 use port_trait::Took;

@@ -1,11 +1,10 @@
 // What becomes of a writer: its thread is started or refused, works, and is joined.
 ghost use Rattle.std.specs.Prelude.{◌≡◌, ◌<◌, ◌≤◌, ◌+◌, ◌++◌, ◌∷◌, [], true, false, length, take, None, IfSome, IsSome, if◌then◌else◌};
 ghost use Rattle.crossbeam_queue.specs.Passes.{view};
-ghost use Rattle.port_trait.specs.Counting.{Rose};
+ghost use Rattle.port_trait.specs.{Rose};
 ghost use Rattle.port_trait.specs.declared.answers.Begun.TheVariants as begins;
 ghost use Rattle.ring_queue.specs.declared.items.RingItem.TheVariants as ring_items;
-ghost use Rattle.ring_queue.specs.Items.{bytes_of, told, AddsChunks};
-ghost use Rattle.ring_queue.specs.Endings.{OnDone};
+ghost use Rattle.ring_queue.specs.{bytes_of, told, AddsChunks, OnDone};
 ghost use Rattle.ring_writer.specs.WriterThread.{IsToBegin, ThreadEnded};
 ghost use Rattle.ring_writer.specs.WriterPuts.{IsPutting};
 ghost use Rattle.ring_writer.specs.WriterRing.{WriterStands, TaskStands, IsBack, IsBehind, LineBegins, WritesChunk, fresh_line, line_of, is_open, may_join};

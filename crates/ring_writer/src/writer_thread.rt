@@ -1,10 +1,8 @@
 // The thread of a writer: it takes what the port put, and gives it to the sink.
 ghost use Rattle.std.specs.Prelude.{◌≡◌, ℕ, List, [], true, ◌++◌, ◌∷◌, ◌+◌, ◌≤◌, length, vec_len, vec_capacity, MatchOption};
 ghost use Rattle.crossbeam_queue.specs.Passes.{view, IsPassOf, IsSamePass};
-ghost use Rattle.ring_queue.specs.Order.{view_of};
+ghost use Rattle.ring_queue.specs.{view_of, OnDone, Follows, item_bytes, bytes_of, is_end_mark, last_is};
 ghost use Rattle.ring_writer.specs.declared.writer_thread.ThreadProgress.TheVariants as steps;
-ghost use Rattle.ring_queue.specs.Endings.{OnDone};
-ghost use Rattle.ring_queue.specs.Items.{Follows, item_bytes, bytes_of, is_end_mark, last_is};
 ghost use Rattle.ring_writer.specs.WriterThread.{IsFinished, CanWork, KeepsTrue, IsToBegin, ThreadEnded};
 
 use crate::writer_outlet::Outlet;

@@ -46,10 +46,12 @@ where
 {
     let pair = pair_of(&rt, alloc, part, inputs)?;
     let _ = fs::remove_file(&host, ENTRY);
-    match system_poller(rt, alloc) {
+    let told = match system_poller(rt, alloc) {
         Ok(poller) => talk_beside(rt, host, alloc, poller, &pair, answers),
         Err(NoMemory) => Err(CaseFault::NoMemory),
-    }
+    };
+    drop(pair);
+    told
 }
 
 /// Has the two ends talk beside this poller.
@@ -98,11 +100,19 @@ fn pair_of<R: Net>(
 ) -> Result<Pair, CaseFault> {
     let passing = passing_of(part).ok_or(CaseFault::NoRow)?;
     let port = free_port(rt, passing).ok().ok_or(CaseFault::NoMemory)?;
-    Ok(Pair {
-        passing,
-        listening: address(alloc, inputs.word()?, port)?,
-        connecting: address(alloc, inputs.word()?, port)?,
-    })
+    let (listener, caller) = (inputs.word()?, inputs.word()?);
+    let listening = address(alloc, listener, port)?;
+    match address(alloc, caller, port) {
+        Ok(connecting) => Ok(Pair {
+            passing,
+            listening,
+            connecting,
+        }),
+        Err(fault) => {
+            drop(listening);
+            Err(fault)
+        }
+    }
 }
 
 fn passing_of(part: &str) -> Option<Passing> {

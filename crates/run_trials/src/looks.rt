@@ -1,9 +1,7 @@
 // Looks at sessions in some of the turns of a run.
 ghost use Rattle.std.specs.Prelude.{◌≡◌};
-ghost use Rattle.relay_model.specs.declared.places.Place.{Place};
-ghost use Rattle.relay_model.specs.Configs.{Fit};
-ghost use Rattle.relay_model.specs.Holding.{Free};
-ghost use Rattle.event_loop.specs.Loops.{LoopSomewhere};
+ghost use Rattle.relay_model.specs.{Place, Fit, Free};
+ghost use Rattle.event_loop.specs.{LoopSomewhere};
 
 use event_loop::{Loop, Step};
 use fork_table::Steps;
@@ -69,6 +67,7 @@ pub(crate) fn looks_seldom<W: Journaled>(
 {
     let mut whole = Loop::with_turns(alloc, config, turns)?;
     let looks = count_looks::<W, Brand>(Blank::new(1), &mut whole, world, turns, bound);
+    drop(whole);
     Ok(looks < bound.too_many)
 }
 

@@ -1,5 +1,5 @@
 // A command and the answers to its session: how many fitted, the wish after them with what it offers, and the history.
-ghost use Rattle.relay_model.specs.Configs.{Fit};
+ghost use Rattle.relay_model.specs.{Fit};
 
 use crate::replies::{reply_of, say_wish};
 use case_rows::{Answered, Answers, CaseFault, Inputs, bytes_of};
@@ -70,7 +70,11 @@ fn tell(alloc: Global, config: &Config, replies: &[Reply], answers: &mut Answers
         return Err(CaseFault::NoRow);
     }
     match replay(alloc, config, replies) {
-        Ok(replayed) => tell_replayed(alloc, &replayed, answers),
+        Ok(replayed) => {
+            let told = tell_replayed(alloc, &replayed, answers);
+            drop(replayed);
+            told
+        }
         Err(NoMemory) => Err(CaseFault::NoMemory),
     }
 }

@@ -1,8 +1,6 @@
 // Runs over a scripted world.
 ghost use Rattle.std.specs.Prelude.{◌≡◌};
-ghost use Rattle.relay_model.specs.declared.places.Place.{Place};
-ghost use Rattle.relay_model.specs.Configs.{Fit};
-ghost use Rattle.relay_model.specs.Holding.{Free};
+ghost use Rattle.relay_model.specs.{Place, Fit, Free};
 
 use crate::looks::{Bound, Journaled, looks_seldom};
 use cmd_words::relay_of;
@@ -27,7 +25,9 @@ pub(crate) fn run_scripted(
 
 fn run_script(alloc: Global, row: &WorkedRow<'_>, words: &[Text]) -> Result<RunResult, RowFault> {
     let mut world = world_of(alloc, row.script.as_slice())?;
-    run_over(alloc, &mut world, words, row.turns)
+    let ran = run_over(alloc, &mut world, words, row.turns);
+    drop(world);
+    ran
 }
 
 /// Runs the words over a world in which nothing is held.
@@ -80,6 +80,7 @@ fn looks_text(
     requires { Fit config.now }
 {
     let mut world = world_of(alloc, row.script.as_slice())?;
-    let seldom = looks_seldom(alloc, &mut world, config, row.turns, bound)?;
-    Ok(String::from_str(alloc, if seldom { "looks few" } else { "looks many" })?)
+    let seldom = looks_seldom(alloc, &mut world, config, row.turns, bound);
+    drop(world);
+    Ok(String::from_str(alloc, if seldom? { "looks few" } else { "looks many" })?)
 }

@@ -6,3 +6,11 @@ pub mod Reads
 pub mod Scripted
 pub mod Scripts
 pub mod Writes
+pub use Reads.{bytes_of}
+pub use Scripts.{empty_script}
+pub use declared.accepting.DuePeer.{DuePeer}
+pub use declared.reading.DueRead.{DueRead}
+pub use declared.writing.DueWrite.{DueWrite}
+pub use declared.lines.PlacedItem.{PlacedItem}
+pub use declared.reading.Reading.{Reading}
+pub use declared.script.Script.{Script}

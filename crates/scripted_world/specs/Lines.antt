@@ -1,7 +1,6 @@
 -- The items of a script, each with its place or door, in the order in which they are used.
 use Rattle.std.specs.Prelude.{List, [], ◌∷◌, Option, find, option_map, if◌then◌else◌}
-use Rattle.relay_model.specs.declared.places.Place.{Place}
-use Rattle.relay_model.specs.Places.{same_place}
+use Rattle.relay_model.specs.{Place, same_place}
 use Rattle.scripted_world.specs.declared.lines.PlacedItem.{PlacedItem}
 
 -- an item of a place

@@ -1,14 +1,8 @@
 -- What a wait looks at, in the order in which it was asked.
 use Rattle.std.specs.Prelude.{◌≡◌, All, Bool, true, false, not, ◌&&◌, ◌++◌, List, [], ◌∷◌, filter}
-use Rattle.relay_model.specs.declared.places.Place.{Place}
-use Rattle.relay_model.specs.declared.places.Part.{Part}
+use Rattle.relay_model.specs.{Place, Part, Half, ReadyAt, same_place, same_half, Hold, is_free, names}
 use Rattle.relay_model.specs.declared.places.Part.TheVariants.{Both, Reading, Writing}
-use Rattle.relay_model.specs.declared.places.Half.{Half}
 use Rattle.relay_model.specs.declared.places.Half.TheVariants.{ToRead, ToWrite}
-use Rattle.relay_model.specs.declared.readiness.ReadyAt.{ReadyAt}
-use Rattle.relay_model.specs.Places.{same_place, same_half}
-use Rattle.relay_model.specs.Holding.{Hold, is_free}
-use Rattle.relay_model.specs.Readiness.{names}
 use Rattle.scripted_world.specs.declared.looking.WatchKind.{WatchKind}
 use Rattle.scripted_world.specs.declared.looking.WatchKind.TheVariants as watches
 use Rattle.scripted_world.specs.declared.looking.LookedAt.{LookedAt}

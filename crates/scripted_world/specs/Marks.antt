@@ -1,9 +1,7 @@
 -- Moments of stops, places whose shuts fail, and the least of some moments.
 use Rattle.std.specs.Prelude.{ℕ, Bool, nat_le, List, [], ◌∷◌, Option, None, Some}
 use Rattle.std.specs.List.{list_any}
-use Rattle.relay_model.specs.declared.places.Place.{Place}
-use Rattle.relay_model.specs.Places.{same_place}
-use Rattle.relay_model.specs.Choices.{earlier}
+use Rattle.relay_model.specs.{Place, same_place, earlier}
 
 -- whether one of these moments isn't later than now
 abbrev pub has_come : List ℕ → ℕ → Bool

@@ -1,6 +1,6 @@
 -- What a script gives to acceptings, and what is left of it then.
 use Rattle.std.specs.Prelude.{ℕ, List, Option, None, Some, nat_lt, if◌then◌else◌}
-use Rattle.relay_model.specs.declared.places.Place.{Place}
+use Rattle.relay_model.specs.{Place}
 use Rattle.scripted_world.specs.declared.lines.PlacedItem.{PlacedItem}
 use Rattle.scripted_world.specs.declared.items.PeerItem.{PeerItem}
 use Rattle.scripted_world.specs.declared.items.PeerItem.TheVariants as items

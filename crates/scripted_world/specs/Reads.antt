@@ -1,7 +1,6 @@
 -- What a script gives to reads, and what is left of it then.
 use Rattle.std.specs.Prelude.{◌≡◌, ◌<◌, ◌≤◌, ℕ, Bool, false, List, [], ◌∷◌, Option, None, Some, length, take, drop, min, nat_lt, ⊤, if◌then◌else◌}
-use Rattle.relay_model.specs.declared.places.Place.{Place}
-use Rattle.relay_model.specs.Places.{same_place}
+use Rattle.relay_model.specs.{Place, same_place}
 use Rattle.scripted_world.specs.declared.lines.PlacedItem.{PlacedItem}
 use Rattle.scripted_world.specs.declared.items.ReadItem.{ReadItem}
 use Rattle.scripted_world.specs.declared.items.ReadItem.TheVariants as items

@@ -1,26 +1,16 @@
 -- What each call of a scripted world answers by its script, and what it leaves of the script. After `Memory` the
 -- script is as it was.
 use Rattle.std.specs.Prelude.{◌≡◌, ℕ, Bool, true, false, List, Option, None, Some, take}
-use Rattle.relay_model.specs.declared.acts.ChildEnd.{ChildEnd}
-use Rattle.relay_model.specs.declared.places.Place.{Place}
-use Rattle.relay_model.specs.declared.readiness.ReadyAt.{ReadyAt}
-use Rattle.world_trait.specs.declared.answers.Turned.{Turned}
+use Rattle.relay_model.specs.{ChildEnd, Place, ReadyAt}
+use Rattle.world_trait.specs.{Turned, OpenAnswer, ListenAnswer, AcceptAnswer, ReadAnswer, WriteAnswer, SendAnswer, ShutAnswer, ReapAnswer}
 use Rattle.world_trait.specs.declared.answers.Turned.TheVariants as turns
-use Rattle.world_trait.specs.declared.answers.OpenAnswer.{OpenAnswer}
 use Rattle.world_trait.specs.declared.answers.OpenAnswer.TheVariants as opens
-use Rattle.world_trait.specs.declared.answers.ListenAnswer.{ListenAnswer}
 use Rattle.world_trait.specs.declared.answers.ListenAnswer.TheVariants as listens
-use Rattle.world_trait.specs.declared.answers.AcceptAnswer.{AcceptAnswer}
 use Rattle.world_trait.specs.declared.answers.AcceptAnswer.TheVariants as accepts
-use Rattle.world_trait.specs.declared.answers.ReadAnswer.{ReadAnswer}
 use Rattle.world_trait.specs.declared.answers.ReadAnswer.TheVariants as reads
-use Rattle.world_trait.specs.declared.answers.WriteAnswer.{WriteAnswer}
 use Rattle.world_trait.specs.declared.answers.WriteAnswer.TheVariants as writes
-use Rattle.world_trait.specs.declared.answers.SendAnswer.{SendAnswer}
 use Rattle.world_trait.specs.declared.answers.SendAnswer.TheVariants as sends
-use Rattle.world_trait.specs.declared.answers.ShutAnswer.{ShutAnswer}
 use Rattle.world_trait.specs.declared.answers.ShutAnswer.TheVariants as shuts
-use Rattle.world_trait.specs.declared.answers.ReapAnswer.{ReapAnswer}
 use Rattle.world_trait.specs.declared.answers.ReapAnswer.TheVariants as reaps
 use Rattle.scripted_world.specs.declared.accepting.Coming.{Coming}
 use Rattle.scripted_world.specs.declared.accepting.Coming.TheVariants as coming

@@ -1,8 +1,6 @@
 -- What a script holds, when a wait over it ends, and what it names.
 use Rattle.std.specs.Prelude.{◌≡◌, ◌++◌, ⊤, ℕ, Bool, true, false, ◌||◌, nat_le, max, List, [], ◌∷◌, Option, None, Some, is_none, option_map, if◌then◌else◌}
-use Rattle.relay_model.specs.declared.places.Place.{Place}
-use Rattle.relay_model.specs.declared.readiness.ReadyAt.{ReadyAt}
-use Rattle.relay_model.specs.Choices.{earlier}
+use Rattle.relay_model.specs.{Place, ReadyAt, earlier}
 use Rattle.scripted_world.specs.declared.items.OpenItem.{OpenItem}
 use Rattle.scripted_world.specs.declared.items.OpenItem.TheVariants as items
 use Rattle.scripted_world.specs.declared.looking.WatchKind.{WatchKind}

@@ -1,6 +1,6 @@
 -- What a script makes of writes, and what is left of it then.
 use Rattle.std.specs.Prelude.{◌<◌, ◌≤◌, ℕ, Bool, false, List, Option, None, Some, min, not, nat_lt, ⊤, if◌then◌else◌}
-use Rattle.relay_model.specs.declared.places.Place.{Place}
+use Rattle.relay_model.specs.{Place}
 use Rattle.scripted_world.specs.declared.lines.PlacedItem.{PlacedItem}
 use Rattle.scripted_world.specs.declared.items.WriteItem.{WriteItem}
 use Rattle.scripted_world.specs.declared.items.WriteItem.TheVariants as items

@@ -8,14 +8,14 @@ use crate::lines::PlacedItems;
 use relay_model::{Peer, Place};
 
 /// A peer that comes, or a failure, and from which moment on.
-#[derive(Clone, Copy, Debug)]
+#[derive(Clone, Copy)]
 pub struct DuePeer {
     pub at: u64,
     pub item: PeerItem,
 }
 
 /// What an accepting gives now.
-#[derive(Clone, Copy, Debug, PartialEq, Eq)]
+#[derive(Clone, Copy, PartialEq, Eq)]
 pub enum Coming {
     Comes(Peer),
     NoPeer,

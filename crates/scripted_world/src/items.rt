@@ -2,7 +2,7 @@
 use relay_model::{Bytes, Peer};
 
 /// What a read gives: these bytes (longer ones in parts), an empty datagram, the end of the input, or a fault.
-#[derive(Debug, Drop)]
+#[derive(Drop)]
 pub enum ReadItem {
     Bytes(Bytes),
     Empty,
@@ -11,7 +11,7 @@ pub enum ReadItem {
 }
 
 /// What becomes of a write: up to so many bytes are taken, none yet, or it fails.
-#[derive(Clone, Copy, Debug, PartialEq, Eq)]
+#[derive(Clone, Copy, PartialEq, Eq)]
 pub enum WriteItem {
     Upto(u32),
     NotYet,
@@ -19,7 +19,7 @@ pub enum WriteItem {
 }
 
 /// What becomes of an opening or a settling: it opens, is under way, or fails. A listening is never under way.
-#[derive(Clone, Copy, Debug, PartialEq, Eq)]
+#[derive(Clone, Copy, PartialEq, Eq)]
 pub enum OpenItem {
     Opens,
     Later,
@@ -27,7 +27,7 @@ pub enum OpenItem {
 }
 
 /// What becomes of an accepting: this peer has come, or it fails.
-#[derive(Clone, Copy, Debug, PartialEq, Eq)]
+#[derive(Clone, Copy, PartialEq, Eq)]
 pub enum PeerItem {
     Comes(Peer),
     Fails,

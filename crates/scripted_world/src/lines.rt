@@ -1,6 +1,6 @@
 // The items of a script, each for one place or door, in the order in which they were added.
 ghost use Rattle.std.specs.Prelude.{◌≡◌, ◌++◌, ◌∷◌, [], OnOk, OnErr, IfSome, ◌<◌, find, length, option_copied, position};
-ghost use Rattle.relay_model.specs.Places.{same_place};
+ghost use Rattle.relay_model.specs.{same_place};
 ghost use Rattle.scripted_world.specs.Lines.{next_of, used_up};
 
 use relay_model::{NoMemory, Place};
@@ -8,14 +8,14 @@ use std::alloc::Global;
 use std::marker::Model;
 
 /// One item of a place or door.
-#[derive(Debug, Drop)]
+#[derive(Drop)]
 pub struct PlacedItem<T: Drop> {
     pub place: Place,
     pub item: T,
 }
 
 /// The items of all places that aren't used up.
-#[derive(Debug, Drop)]
+#[derive(Drop)]
 pub struct PlacedItems<T: Drop> {
     pub entries: Vec<PlacedItem<T>>,
 }

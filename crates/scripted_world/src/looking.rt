@@ -1,7 +1,6 @@
 // What a wait looks at: halves and doors whose last answer was that there is nothing yet.
 ghost use Rattle.std.specs.Prelude.{◌≡◌, ◌≤◌, ◌+◌, ◌&&◌, ◌++◌, ◌∷◌, [], vec_len, vec_capacity, OnOk, OnErr};
-ghost use Rattle.relay_model.specs.Places.{same_half, same_place};
-ghost use Rattle.relay_model.specs.Readiness.{names};
+ghost use Rattle.relay_model.specs.{same_half, same_place, names};
 ghost use Rattle.scripted_world.specs.Looks.{elsewhere, half_of, name_of, openings_at, same_watch, unnamed, without};
 
 use relay_model::{Half, NoMemory, Part, Place, ReadyAt, ReadyList};
@@ -10,7 +9,7 @@ use std::marker::Model;
 
 /// What is looked at: whether there is something to read, room to write, a peer at a door, or whether an opening that is
 /// under way has come to its end, by a half of its place.
-#[derive(Clone, Copy, Debug, PartialEq, Eq)]
+#[derive(Clone, Copy, PartialEq, Eq)]
 pub enum WatchKind {
     Read,
     Write,
@@ -40,7 +39,7 @@ impl WatchKind {
 }
 
 /// A place or door that is looked at.
-#[derive(Clone, Copy, Debug, PartialEq, Eq)]
+#[derive(Clone, Copy, PartialEq, Eq)]
 pub struct LookedAt {
     pub place: Place,
     pub watch: WatchKind,
@@ -59,7 +58,7 @@ impl LookedAt {
 }
 
 /// All that is looked at, in the order in which it was asked.
-#[derive(Debug, Drop)]
+#[derive(Drop)]
 pub struct Lookout {
     entries: Vec<LookedAt>,
 }

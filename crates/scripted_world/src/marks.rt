@@ -8,7 +8,7 @@ use std::alloc::Global;
 use std::marker::Model;
 
 /// Moments or places, in the order in which they were added.
-#[derive(Debug, Drop)]
+#[derive(Drop)]
 pub struct Marks<T: Copy> {
     entries: Vec<T>,
 }

@@ -1,15 +1,15 @@
 // A scripted world: it answers from lists of items, keeps its history, and its clock is moved by its waits alone.
 ghost use Rattle.std.specs.Prelude.{◌≡◌, ◌≤◌, ◌<◌, ◌+◌, ◌++◌, ◌∷◌, [], Option, Some, true, false, option_map, length, OnOk, OnErr};
-ghost use Rattle.relay_model.specs.Conversions.{longest_packet};
-ghost use Rattle.relay_model.specs.Holding.{Free, Open, Settling, is_free, is_open};
-ghost use Rattle.world_trait.specs.Answers.{Answered, AnsweredAsking, Rose, RaisesCounts, says_stop, OnlyHeldNamed, OnlyWhereTold, NotReaped, WaitCounts, ReadFits, WriteFits, wait_act, open_act, listen_act, accept_act, read_act, write_act, send_act, shut_act, close_act, note_act, reap_act, is_open_fault, is_listen_fault, is_accept_fault, is_read_fault, is_write_fault, is_send_fault, is_shut_fault, is_note_fault, wants_turn_memory, wants_read_memory, wants_write_memory, wants_send_memory, wants_shut_memory};
-ghost use Rattle.world_trait.specs.HoldTables.{hold_found, lookup};
+ghost use Rattle.relay_model.specs.{longest_packet, Free, Open, Settling, is_free, is_open};
+ghost use Rattle.world_trait.specs.{Answered, AnsweredAsking, Rose, RaisesCounts, says_stop, OnlyHeldNamed, OnlyWhereTold, NotReaped, WaitCounts};
+ghost use Rattle.world_trait.specs.{ReadFits, WriteFits, wait_act, open_act, listen_act, accept_act, read_act, write_act, send_act, shut_act};
+ghost use Rattle.world_trait.specs.{close_act, note_act, reap_act, is_open_fault, is_listen_fault, is_accept_fault, is_read_fault, is_write_fault};
+ghost use Rattle.world_trait.specs.{is_send_fault, is_shut_fault, is_note_fault, wants_turn_memory, wants_read_memory, wants_write_memory};
+ghost use Rattle.world_trait.specs.{wants_send_memory, wants_shut_memory, hold_found, lookup, told_kept, Waitless, IsFresh, SameRun};
 ghost use Rattle.scripted_world.specs.Lines.{placed};
 ghost use Rattle.scripted_world.specs.Looks.{LooksAtHeld};
 ghost use Rattle.scripted_world.specs.Peers.{due_peer};
 ghost use Rattle.scripted_world.specs.Reads.{HasBytes, due_read};
-ghost use Rattle.world_trait.specs.Recordings.{told_kept};
-ghost use Rattle.world_trait.specs.Seen.{Waitless, IsFresh, SameRun};
 ghost use Rattle.scripted_world.specs.Scripted.{TurnScripted, OpenScripted, ListenScripted, AcceptScripted, ReadScripted, WriteScripted, SendScripted, ShutScripted, CloseScripted, ReapScripted};
 ghost use Rattle.scripted_world.specs.Scripts.{OpensSo, empty_script};
 ghost use Rattle.scripted_world.specs.Writes.{HasCount, due_write};
@@ -30,7 +30,7 @@ use world_trait::{
 };
 
 /// A world for tests. Each call whose name begins with `add_` adds one item to a script.
-#[derive(Debug, Drop)]
+#[derive(Drop)]
 pub struct MemWorld {
     script: Script,
     kept: Kept,
@@ -206,9 +206,6 @@ impl World for MemWorld {
         ensures script { OpenScripted self.old.script self.new.script place result }
         ensures counted { RaisesCounts self.old.faults self.new.faults self.old.stops self.new.stops (is_open_fault result) false }
     {
-        let Ok(asked) = single.copy() else {
-            return OpenAnswer::Memory;
-        };
         let Ok(()) = self.kept.reserve(self.held.len() + 2) else {
             return OpenAnswer::Memory;
         };
@@ -216,6 +213,9 @@ impl World for MemWorld {
             return OpenAnswer::Memory;
         };
         let Ok(()) = self.held.reserve(1) else {
+            return OpenAnswer::Memory;
+        };
+        let Ok(asked) = single.copy() else {
             return OpenAnswer::Memory;
         };
         match self.script.opening(place) {
@@ -229,6 +229,7 @@ impl World for MemWorld {
             }
             OpenItem::Later => {
                 let Ok(()) = self.script.looked.look_at_opening(place) else {
+                    drop(asked);
                     return OpenAnswer::Memory;
                 };
                 self.script.opens.use_up(place);
@@ -297,9 +298,6 @@ impl World for MemWorld {
         ensures script { ListenScripted self.old.script self.new.script door result }
         ensures counted { RaisesCounts self.old.faults self.new.faults self.old.stops self.new.stops (is_listen_fault result) false }
     {
-        let Ok(asked) = single.copy() else {
-            return ListenAnswer::Memory;
-        };
         let Ok(()) = self.kept.reserve(self.held.len() + 2) else {
             return ListenAnswer::Memory;
         };
@@ -307,6 +305,9 @@ impl World for MemWorld {
             return ListenAnswer::Memory;
         };
         let Ok(()) = self.held.reserve(1) else {
+            return ListenAnswer::Memory;
+        };
+        let Ok(asked) = single.copy() else {
             return ListenAnswer::Memory;
         };
         let next = self.script.opening(door);

@@ -9,7 +9,7 @@ use relay_model::{Bytes, Place};
 use std::marker::Model;
 
 /// The bytes of an item that were not given yet: some are left.
-#[derive(Debug, Drop)]
+#[derive(Drop)]
 pub struct Remainder {
     bytes: Bytes,
     from: usize,
@@ -65,7 +65,7 @@ impl Remainder {
 }
 
 /// What a read gives.
-#[derive(Debug, Drop)]
+#[derive(Drop)]
 pub enum Reading {
     Bytes(Remainder),
     Empty,
@@ -114,14 +114,14 @@ impl Reading {
 }
 
 /// What a read gives, and from which moment on.
-#[derive(Debug, Drop)]
+#[derive(Drop)]
 pub struct DueRead {
     pub at: u64,
     pub reading: Reading,
 }
 
 /// What a read gives now.
-#[derive(Clone, Copy, Debug, PartialEq, Eq)]
+#[derive(Clone, Copy, PartialEq, Eq)]
 pub enum Given {
     Bytes(usize),
     Empty,

@@ -1,6 +1,6 @@
 // What a scripted world is told to answer, and what its waits look at.
 ghost use Rattle.std.specs.Prelude.{◌≡◌, ◌≤◌, ◌++◌, ◌∷◌, [], length, take, if◌then◌else◌};
-ghost use Rattle.relay_model.specs.Choices.{earlier};
+ghost use Rattle.relay_model.specs.{earlier};
 ghost use Rattle.scripted_world.specs.Lines.{next_of};
 ghost use Rattle.scripted_world.specs.Looks.{name_of};
 ghost use Rattle.scripted_world.specs.Scripts.{at_of, earliest, empty_script, is_ready, is_stop, least_moment, opening, ready_from, ready_ones};
@@ -17,7 +17,7 @@ use std::alloc::Global;
 
 /// The items that aren't used up, each list in order, and what a wait looks at: that whose last answer was that there
 /// is nothing yet, and that no turn has named since.
-#[derive(Debug, Drop)]
+#[derive(Drop)]
 pub struct Script {
     pub reads: PlacedItems<DueRead>,
     pub writes: PlacedItems<DueWrite>,

@@ -9,7 +9,7 @@ use relay_model::Place;
 use std::marker::Model;
 
 /// How many bytes are taken at most: at least one.
-#[derive(Clone, Copy, Debug)]
+#[derive(Clone, Copy)]
 pub struct Limit {
     most: u32,
 }
@@ -38,7 +38,7 @@ impl Limit {
 }
 
 /// What becomes of a write.
-#[derive(Clone, Copy, Debug)]
+#[derive(Clone, Copy)]
 pub enum Writing {
     Upto(Limit),
     NotYet,
@@ -60,14 +60,14 @@ impl Writing {
 }
 
 /// What becomes of a write, and from which moment on.
-#[derive(Clone, Copy, Debug)]
+#[derive(Clone, Copy)]
 pub struct DueWrite {
     pub at: u64,
     pub writing: Writing,
 }
 
 /// What a write takes now.
-#[derive(Clone, Copy, Debug, PartialEq, Eq)]
+#[derive(Clone, Copy, PartialEq, Eq)]
 pub enum TakenNow {
     Upto(usize),
     NotYet,

@@ -1,25 +1,13 @@
 -- What a direction stands for after a list of acts, and what its wants say of it.
 use Rattle.std.specs.Prelude.{◌≡◌, ℕ, ◌+◌, ◌-◌, ◌*◌, ◌/◌, ◌≤◌, Bool, true, false, not, ◌&&◌, ◌||◌, List, [], ◌∷◌, ◌++◌, length, is_some, if◌then◌else◌}
 use Rattle.relay_model.specs.declared.places.Side.TheVariants.{Left, Right}
-use Rattle.relay_model.specs.declared.places.Way.{Way}
+use Rattle.relay_model.specs.{Way, Config, Act, ReadyAt, Listed, only_if, parts, input, output, formed, options_of, medium_of, keeps_borders, how}
+use Rattle.relay_model.specs.{Medium, packet_cap, got, put, sent, met_end, met_empty, read_arming, armed_to_read, armed_to_write, asked_to_read}
+use Rattle.relay_model.specs.{asked_to_write, due_pieces, over, backlog, greatest_read, passed_at, broken_at, is_going, owes_read, owes_write}
+use Rattle.relay_model.specs.{must_pass, MayRead, MayTryWrite, MayShut}
 use Rattle.relay_model.specs.declared.places.Way.TheVariants.{LeftToRight, RightToLeft}
-use Rattle.relay_model.specs.declared.commands.Config.{Config}
-use Rattle.relay_model.specs.declared.acts.Act.{Act}
-use Rattle.relay_model.specs.declared.readiness.ReadyAt.{ReadyAt}
-use Rattle.relay_model.specs.Readiness.{Listed}
-use Rattle.relay_model.specs.Choices.{only_if}
-use Rattle.relay_model.specs.Configs.{parts, input, output, formed, options_of, medium_of, keeps_borders, how}
-use Rattle.relay_model.specs.declared.media.Medium.{Medium}
 use Rattle.relay_model.specs.declared.media.Medium.TheVariants.{Standard, Storage, Program, Connection, Datagrams}
-use Rattle.relay_model.specs.Conversions.{packet_cap}
-use Rattle.relay_model.specs.History.{got, put, sent, met_end, met_empty}
-use Rattle.relay_model.specs.Arming.{read_arming, armed_to_read, armed_to_write, asked_to_read, asked_to_write}
-use Rattle.relay_model.specs.Transfers.{due_pieces, over, backlog, greatest_read}
-use Rattle.relay_model.specs.Moments.{passed_at, broken_at}
-use Rattle.relay_model.specs.Rest.{is_going, owes_read, owes_write, must_pass}
-use Rattle.relay_model.specs.May.{MayRead, MayTryWrite, MayShut}
-use Rattle.relay_buffer.specs.declared.lanes.Lane.{Lane}
-use Rattle.relay_buffer.specs.Flows.{IsFlow, room_in}
+use Rattle.relay_buffer.specs.{Lane, IsFlow, room_in}
 use Rattle.session_direction.specs.declared.directions.Want.{Want}
 use Rattle.session_direction.specs.declared.directions.Want.TheVariants as wants
 use Rattle.session_direction.specs.States.{DirectionState, can_read, can_write}

@@ -1,3 +1,6 @@
 pub mod Directions
 pub mod States
 pub mod Touches
+pub use Directions.{IsDirection, WantsNothing, listed}
+pub use States.{can_read, can_write, steps_in}
+pub use Touches.{touches}

@@ -1,9 +1,8 @@
 -- What contracts see of a direction.
 use Rattle.std.specs.Prelude.{ℕ, ◌+◌, ◌-◌, Bool, true, false, not, ◌||◌, nat_le, Option, is_some, if◌then◌else◌}
-use Rattle.relay_model.specs.declared.places.Place.{Place}
-use Rattle.relay_model.specs.declared.acts.Shut.{Shut}
+use Rattle.relay_model.specs.{Place, Shut}
 use Rattle.relay_model.specs.declared.armings.Arming.{Arming}
-use Rattle.relay_buffer.specs.Flows.{Flowing}
+use Rattle.relay_buffer.specs.{Flowing}
 
 -- what is kept of one direction
 pub record DirectionState : Type 0 where

@@ -1,11 +1,7 @@
 -- Which acts may change what a direction stands for.
 use Rattle.std.specs.Prelude.{ℕ, Bool, true, false, ◌||◌}
-use Rattle.relay_model.specs.declared.places.Way.{Way}
-use Rattle.relay_model.specs.declared.commands.Config.{Config}
-use Rattle.relay_model.specs.declared.acts.Act.{Act}
+use Rattle.relay_model.specs.{Way, Config, Act, same_place, input, output}
 use Rattle.relay_model.specs.declared.acts.Act.TheVariants.{Turn, Opened, Accepted, Read, ReadEmpty, ReadEnd, ReadNotYet, ReadFault, Wrote, WriteNotYet, WriteFault, Shut, ShutFault}
-use Rattle.relay_model.specs.Places.{same_place}
-use Rattle.relay_model.specs.Configs.{input, output}
 
 -- the acts that may change what a direction stands for
 abbrev pub touches : Config → ℕ → Way → Act → Bool

@@ -1,23 +1,10 @@
 // The fields of a direction, what it wants, and what each act makes of it.
 ghost use Rattle.std.specs.Prelude.{◌≡◌, ◌∷◌, ◌++◌, ◌≤◌, ◌<◌, ◌*◌, ◌&&◌, ◌||◌, not, ℕ, List, [], true, false, Option, Some, None, IfOk, if◌then◌else◌, is_some, length, take, vec_len};
-ghost use Rattle.relay_model.specs.declared.acts.Act.{Act};
+ghost use Rattle.relay_model.specs.{Act, Peer, Shut as Shutting, Config as Command, Way as WayOf, ReadyAt as Entry, Listed, later, Fit, formed};
+ghost use Rattle.relay_model.specs.{input, output, keeps_borders, running, now, broken, done_at, passed, MayOffer, MayShut, MayWrite, input_moment};
+ghost use Rattle.relay_model.specs.{owes_write, way_work, is_spent, over, greatest_read, backlog, armed_to_read, asked_to_write};
 ghost use Rattle.relay_model.specs.declared.acts.Act.TheVariants as acts;
-ghost use Rattle.relay_model.specs.declared.acts.Peer.{Peer};
-ghost use Rattle.relay_model.specs.declared.acts.Shut.{Shut as Shutting};
-ghost use Rattle.relay_model.specs.declared.commands.Config.{Config as Command};
-ghost use Rattle.relay_model.specs.declared.places.Way.{Way as WayOf};
-ghost use Rattle.relay_model.specs.declared.readiness.ReadyAt.{ReadyAt as Entry};
-ghost use Rattle.relay_model.specs.Readiness.{Listed};
-ghost use Rattle.relay_model.specs.Choices.{later};
-ghost use Rattle.relay_model.specs.Configs.{Fit, formed, input, output, keeps_borders};
-ghost use Rattle.relay_model.specs.Cause.{running};
-ghost use Rattle.relay_model.specs.History.{now};
-ghost use Rattle.relay_model.specs.Moments.{broken, done_at, passed};
-ghost use Rattle.relay_model.specs.May.{MayOffer, MayShut, MayWrite};
-ghost use Rattle.relay_model.specs.Rest.{input_moment, owes_write, way_work};
-ghost use Rattle.relay_model.specs.Transfers.{is_spent, over, greatest_read, backlog};
-ghost use Rattle.relay_model.specs.Arming.{armed_to_read, asked_to_write};
-ghost use Rattle.relay_buffer.specs.Flows.{room_in};
+ghost use Rattle.relay_buffer.specs.{room_in};
 ghost use Rattle.session_direction.specs.Directions.{IsDirection, Wants, WantsRead, Affords, FitsRoom, granted, is_gathered, listed, terms_of};
 ghost use Rattle.session_direction.specs.declared.directions.Want.TheVariants as wants;
 ghost use Rattle.session_direction.specs.States.{can_read, can_write, left_after, read_price, steps_in};
@@ -50,7 +37,7 @@ const GRANTING_PRICE: u8 = 2;
 const GATHERED: usize = 8192;
 
 /// What a direction wants to be done. `Send` is a write of one packet, and `Read` has the most bytes to ask for.
-#[derive(Clone, Copy, Debug, PartialEq, Eq)]
+#[derive(Clone, Copy, PartialEq, Eq)]
 pub enum Want {
     Shut(Shut),
     Write,
@@ -555,7 +542,7 @@ impl Direction {
     }
 
     /// The last turn names this half too, which may be one of the direction's.
-    pub fn hear_name(&mut self, entry: ReadyAt)
+    pub fn hear_entry(&mut self, entry: ReadyAt)
         ensures goes { (c : Command) (past : List Act) (s : ℕ) (w : WayOf) (until : Option ℕ) (at : ℕ) (names : List Entry)
             → IsDirection c (acts.Turn until at (listed names) false ∷ past) s w self.old
             → IsDirection c (acts.Turn until at (listed (names ++ entry ∷ [])) false ∷ past) s w self.new }

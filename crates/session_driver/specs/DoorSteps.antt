@@ -1,29 +1,13 @@
 -- What a step of the program door makes of a world and of the door.
 use Rattle.std.specs.Prelude.{◌≡◌, ◌⊎◌, ℕ, ◌<◌, Bool, true, false, List, ◌∷◌, Option, Some, None}
-use Rattle.relay_model.specs.declared.places.Place.{Place}
-use Rattle.relay_model.specs.declared.commands.Config.{Config}
-use Rattle.relay_model.specs.declared.acts.Peer.{Peer}
-use Rattle.relay_model.specs.declared.acts.Why.{Why}
-use Rattle.relay_model.specs.declared.acts.Act.{Act}
+use Rattle.relay_model.specs.{Place, Config, Peer, Why, Act, program_door, single, standing, now as moment, Asking, admitted, live_count, next_place}
+use Rattle.relay_model.specs.{permits, door_call, Legal, is_turn, is_common, reads_bytes, IsForeign}
 use Rattle.relay_model.specs.declared.acts.Act.TheVariants.{Accepted, AcceptFailed, Closed}
-use Rattle.relay_model.specs.Configs.{program_door, single}
-use Rattle.relay_model.specs.Holding.{standing}
-use Rattle.relay_model.specs.History.{now as moment}
-use Rattle.relay_model.specs.Journals.{Asking}
-use Rattle.relay_model.specs.Sessions.{admitted, live_count, next_place, permits}
 use Rattle.relay_model.specs.declared.calls.Call.TheVariants.{Accept}
-use Rattle.relay_model.specs.Calls.{door_call}
-use Rattle.relay_model.specs.May.{Legal}
-use Rattle.relay_model.specs.Frames.{is_turn, is_common, reads_bytes, IsForeign}
-use Rattle.world_trait.specs.Answers.{DidNothing, Rose}
-use Rattle.relay_session.specs.Blames.{is_blamed}
-use Rattle.program_door.specs.declared.doors.Door.{Door}
-use Rattle.program_door.specs.declared.wishes.DoorWish.{DoorWish}
+use Rattle.world_trait.specs.{DidNothing, Rose}
+use Rattle.relay_session.specs.{is_blamed}
+use Rattle.program_door.specs.{Door, DoorWish, door_cause, DoorStands, DoorHeard, Wished}
 use Rattle.program_door.specs.declared.wishes.DoorWish.TheVariants as wishes
-use Rattle.program_door.specs.Causes.{door_cause}
-use Rattle.program_door.specs.Stands.{DoorStands}
-use Rattle.program_door.specs.Steps.{DoorHeard}
-use Rattle.program_door.specs.Wishes.{Wished}
 use Rattle.world_trait.specs.Seen.{Seen, Waitless}
 use Rattle.session_driver.specs.Steps.{DidFor, NoTurn}
 use Rattle.session_driver.specs.declared.door_stepped.DoorStepped.{DoorStepped}

@@ -1,13 +1,8 @@
 -- The text that a dumper made last, and how many bytes it has counted.
 use Rattle.std.specs.Prelude.{◌≡◌, ◌≢◌, ℕ, List, length, None, ◌+◌, ◌-◌, ◌^◌, min}
-use Rattle.relay_model.specs.declared.places.Side.{Side}
+use Rattle.relay_model.specs.{Side, Act, Config, input, way_from, got, owed}
 use Rattle.relay_model.specs.declared.places.Side.TheVariants.{Left, Right}
-use Rattle.relay_model.specs.declared.acts.Act.{Act}
-use Rattle.relay_model.specs.declared.commands.Config.{Config}
 use Rattle.relay_model.specs.declared.commands.Dump.TheVariants as dumps
-use Rattle.relay_model.specs.Configs.{input, way_from}
-use Rattle.relay_model.specs.History.{got}
-use Rattle.relay_model.specs.Rest.{owed}
 use Rattle.session_driver.specs.declared.dumpers.Dumper.{Dumper}
 
 -- the text that it made last

@@ -1,23 +1,12 @@
 -- What a step makes of a world, of the session that it is for and of its dumper, where what is read is noted at once.
 use Rattle.std.specs.Prelude.{◌≡◌, ◌≢◌, ℕ, ◌<◌, ◌≤◌, Bool, true, false, List, length, take, None, Some}
-use Rattle.relay_model.specs.declared.acts.Act.{Act}
+use Rattle.relay_model.specs.{Act, Place, Config, is_of, way_from, dump_of, standing, held, closed_why, owed, Legal, reads_bytes}
 use Rattle.relay_model.specs.declared.acts.Act.TheVariants.{Read, Closed, Note, NoteFault}
 use Rattle.relay_model.specs.declared.acts.Why.TheVariants as whys
-use Rattle.relay_model.specs.declared.places.Place.{Place}
-use Rattle.relay_model.specs.declared.commands.Config.{Config}
 use Rattle.relay_model.specs.declared.commands.Dump.TheVariants as dumps
-use Rattle.relay_model.specs.Configs.{is_of, way_from}
-use Rattle.relay_model.specs.Dumps.{dump_of}
-use Rattle.relay_model.specs.Holding.{standing}
-use Rattle.relay_model.specs.History.{held}
-use Rattle.relay_model.specs.Cause.{closed_why}
-use Rattle.relay_model.specs.Rest.{owed}
-use Rattle.relay_model.specs.May.{Legal}
-use Rattle.relay_model.specs.Frames.{reads_bytes}
-use Rattle.world_trait.specs.Answers.{Answered, DidNothing, Rose}
-use Rattle.relay_session.specs.declared.sessions.Session.{Session}
+use Rattle.world_trait.specs.{Answered, DidNothing, Rose}
+use Rattle.relay_session.specs.{Session, Stands, wish_of, left_of, has_ended}
 use Rattle.relay_session.specs.declared.wishes.Wish.TheVariants as wishes
-use Rattle.relay_session.specs.Sessions.{Stands, wish_of, left_of, has_ended}
 use Rattle.world_trait.specs.Seen.{Seen, Waitless}
 use Rattle.session_driver.specs.Steps.{Acts, IsFaultless, Meets, StepIs}
 use Rattle.session_driver.specs.Dumpers.{Counts, counted_at}

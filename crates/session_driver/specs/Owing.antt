@@ -1,17 +1,12 @@
 -- What a step makes of a world, of the session that it is for and of its dumper, where a dump may stay owed for want of
 -- memory.
 use Rattle.std.specs.Prelude.{◌≡◌, ◌≢◌, ℕ, true, false, List, length, Option, Some, None}
-use Rattle.relay_model.specs.declared.acts.Act.{Act}
+use Rattle.relay_model.specs.{Act, Place, Config, is_free, closed_why}
 use Rattle.relay_model.specs.declared.acts.Act.TheVariants.{Read, Closed}
 use Rattle.relay_model.specs.declared.acts.Why.TheVariants as whys
-use Rattle.relay_model.specs.declared.places.Place.{Place}
-use Rattle.relay_model.specs.declared.commands.Config.{Config}
 use Rattle.relay_model.specs.declared.commands.Dump.TheVariants as dumps
-use Rattle.relay_model.specs.Holding.{is_free}
-use Rattle.relay_model.specs.Cause.{closed_why}
-use Rattle.relay_session.specs.declared.sessions.Session.{Session}
+use Rattle.relay_session.specs.{Session, Stands, wish_of, left_of, has_ended}
 use Rattle.relay_session.specs.declared.wishes.Wish.TheVariants as wishes
-use Rattle.relay_session.specs.Sessions.{Stands, wish_of, left_of, has_ended}
 use Rattle.world_trait.specs.Seen.{Seen}
 use Rattle.session_driver.specs.Steps.{Acts, StepIs}
 use Rattle.session_driver.specs.Dumpers.{Counts}

@@ -1,24 +1,13 @@
 -- What a step makes of a world and of the session that it is for.
 use Rattle.std.specs.Prelude.{◌≡◌, ℕ, ◌<◌, ◌≤◌, Bool, true, false, List, ◌∷◌, ◌++◌, Option, Some, None, option_map}
-use Rattle.relay_model.specs.declared.acts.Act.{Act}
+use Rattle.relay_model.specs.{Act, Place, Config, is_of, is_place_of, is_program_door, single, is_open, standing, turns, Legal, is_at, is_turn}
+use Rattle.relay_model.specs.{is_closing, reads_bytes, first_fault}
 use Rattle.relay_model.specs.declared.acts.Act.TheVariants.{ReadFault, WriteFault, Closed}
 use Rattle.relay_model.specs.declared.acts.Why.TheVariants as whys
-use Rattle.relay_model.specs.declared.places.Place.{Place}
-use Rattle.relay_model.specs.declared.commands.Config.{Config}
-use Rattle.relay_model.specs.Configs.{is_of, is_place_of, is_program_door, single}
-use Rattle.relay_model.specs.Holding.{is_open, standing}
-use Rattle.relay_model.specs.History.{turns}
 use Rattle.relay_model.specs.Journals.{History, Asking}
-use Rattle.relay_model.specs.May.{Legal}
-use Rattle.relay_model.specs.Frames.{is_at, is_turn, is_closing, reads_bytes}
-use Rattle.relay_model.specs.Outcome.{first_fault}
-use Rattle.world_trait.specs.Answers.{Answered, AnsweredAsking, DidNothing, Rose}
-use Rattle.relay_session.specs.declared.sessions.Session.{Session}
-use Rattle.relay_session.specs.declared.wishes.Wish.{Wish}
+use Rattle.world_trait.specs.{Answered, AnsweredAsking, DidNothing, Rose}
+use Rattle.relay_session.specs.{Session, Wish, Stands, Heard, wish_of, left_of, ending_of, has_ended, is_blamed, stop_turned}
 use Rattle.relay_session.specs.declared.wishes.Wish.TheVariants as wishes
-use Rattle.relay_session.specs.Sessions.{Stands, Heard, wish_of, left_of, ending_of, has_ended}
-use Rattle.relay_session.specs.Blames.{is_blamed}
-use Rattle.relay_session.specs.Told.{stop_turned}
 use Rattle.world_trait.specs.Seen.{Seen, Waitless}
 use Rattle.session_driver.specs.declared.stepped.Stepped.{Stepped}
 use Rattle.session_driver.specs.declared.stepped.Stepped.TheVariants as steps

@@ -1,11 +1,9 @@
 // The calls that a session wishes for, each made on a world.
 ghost use Rattle.std.specs.Prelude.{◌≡◌, ℕ, ◌<◌, ◌≤◌, List, length, take, true, false, vec_len};
-ghost use Rattle.relay_model.specs.declared.acts.Act.{Act};
-ghost use Rattle.relay_model.specs.Configs.{is_of};
-ghost use Rattle.relay_model.specs.Holding.{Free, Settling, Open, is_free};
-ghost use Rattle.world_trait.specs.Answers.{NotReaped};
+ghost use Rattle.relay_model.specs.{Act, is_of, Free, Settling, Open, is_free};
+ghost use Rattle.world_trait.specs.{NotReaped};
 ghost use Rattle.relay_session.specs.declared.wishes.Wish.TheVariants as wishes;
-ghost use Rattle.relay_session.specs.Sessions.{Stands, wish_of, has_ended};
+ghost use Rattle.relay_session.specs.{Stands, wish_of, has_ended};
 ghost use Rattle.session_driver.specs.Noted.{AskIs, FetchIs};
 ghost use Rattle.session_driver.specs.Steps.{IsCut, IsOwn, Meets, StepIs, WishesRead};
 ghost use Rattle.session_driver.specs.declared.stepped.Stepped.TheVariants as steps;

@@ -1,11 +1,10 @@
 // The calls that the program door wishes for, each made on a world.
 ghost use Rattle.std.specs.Prelude.{◌≡◌, Some, false};
 ghost use Rattle.relay_model.specs.declared.acts.Act.TheVariants as acts;
-ghost use Rattle.relay_model.specs.Configs.{program_door as the_door};
-ghost use Rattle.relay_model.specs.Holding.{Free, Open, is_free};
+ghost use Rattle.relay_model.specs.{program_door as the_door, Free, Open, is_free};
 ghost use Rattle.program_door.specs.declared.wishes.DoorWish.TheVariants as wishes;
 ghost use Rattle.program_door.specs.declared.wishes.DoorAnswer.TheVariants as answers;
-ghost use Rattle.program_door.specs.Wishes.{act_of};
+ghost use Rattle.program_door.specs.{act_of};
 ghost use Rattle.session_driver.specs.DoorSteps.{DoorStepIs, WishFor};
 
 use crate::door_stepped::DoorStepped;

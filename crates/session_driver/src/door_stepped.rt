@@ -2,7 +2,7 @@
 use relay_model::Peer;
 
 /// What became of the next wish of the program door. A sleep and the end are left to the caller.
-#[derive(Clone, Copy, Debug, PartialEq, Eq)]
+#[derive(Clone, Copy, PartialEq, Eq)]
 pub enum DoorStepped {
     /// The call was made, and its answer heard.
     Acted,

@@ -1,8 +1,6 @@
 // The texts of what one session reads.
 ghost use Rattle.std.specs.Prelude.{◌≡◌, ◌≢◌, ◌<◌, length, OnOk};
-ghost use Rattle.relay_model.specs.declared.places.Side.{Side as End};
-ghost use Rattle.relay_model.specs.Configs.{way_from as begins_at};
-ghost use Rattle.relay_model.specs.Dumps.{dump_of};
+ghost use Rattle.relay_model.specs.{Side as End, way_from as begins_at, dump_of};
 
 use command_places::way_from;
 use dump_format::push_dump;

@@ -2,7 +2,7 @@
 use relay_model::{Place, Why};
 
 /// What became of the next wish of a session. A sleep and the end are left to the caller.
-#[derive(Clone, Copy, Debug, PartialEq, Eq)]
+#[derive(Clone, Copy, PartialEq, Eq)]
 pub enum Stepped {
     /// The call was made, and its answer heard.
     Acted,
@@ -19,7 +19,7 @@ pub enum Stepped {
 }
 
 /// What became of a wished read.
-#[derive(Clone, Copy, Debug, PartialEq, Eq)]
+#[derive(Clone, Copy, PartialEq, Eq)]
 pub enum Fetched {
     /// So many bytes were read.
     Bytes(usize),

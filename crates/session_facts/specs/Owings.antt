@@ -3,17 +3,9 @@ use Rattle.std.specs.Prelude.{◌≡◌, ℕ, ◌+◌, ◌-◌, ◌*◌, Bool, L
 use Rattle.std.specs.Option.{option_map_or}
 use Rattle.std.specs.Ordering.{nat_cmp}
 use Rattle.std.specs.BTreeMap.{get}
-use Rattle.relay_model.specs.declared.places.Way.{Way}
+use Rattle.relay_model.specs.{Way, Place, Config, Act, input, options_of, is_met, got, due}
 use Rattle.relay_model.specs.declared.places.Way.TheVariants.{LeftToRight, RightToLeft}
-use Rattle.relay_model.specs.declared.places.Place.{Place}
-use Rattle.relay_model.specs.declared.commands.Config.{Config}
-use Rattle.relay_model.specs.declared.acts.Act.{Act}
-use Rattle.relay_model.specs.Configs.{input, options_of}
-use Rattle.relay_model.specs.Conversions.{is_met}
-use Rattle.relay_model.specs.History.{got}
-use Rattle.relay_model.specs.Transfers.{due}
-use Rattle.history_facts.specs.declared.placed.Placed.{Placed}
-use Rattle.history_facts.specs.Tables.{placed}
+use Rattle.history_facts.specs.{Placed, placed}
 use Rattle.session_facts.specs.declared.listed.ListedBytes.{ListedBytes}
 use Rattle.session_facts.specs.declared.owings.Owings.{Owings}
 

@@ -1,8 +1,6 @@
 // What the opening of a session and the program door call for.
 ghost use Rattle.std.specs.Prelude.{◌≡◌, ◌<◌, ◌^◌};
-ghost use Rattle.relay_model.specs.Sessions.{admitted, live};
-ghost use Rattle.relay_model.specs.Cause.{cause};
-ghost use Rattle.relay_model.specs.Calls.{call, door_cut, enough, full, program_door_call, door_call, called_at};
+ghost use Rattle.relay_model.specs.{admitted, live, cause, call, door_cut, enough, full, program_door_call, door_call, called_at};
 
 use crate::causes::cause;
 use crate::openings::{first_call, listening_call};

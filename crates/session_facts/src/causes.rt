@@ -1,11 +1,8 @@
 // Why a session has to end, if it has to.
 ghost use Rattle.std.specs.Prelude.{◌≡◌, ◌<◌, ◌^◌};
 ghost use Rattle.std.specs.List.{list_any};
-ghost use Rattle.relay_model.specs.History.{accept_failed};
-ghost use Rattle.relay_model.specs.Sessions.{admitted};
-ghost use Rattle.relay_model.specs.Openings.{out_of_tries};
-ghost use Rattle.relay_model.specs.Moments.{passed, broken, done};
-ghost use Rattle.relay_model.specs.Cause.{accept_failed_for, listening_failed, opening_failed, fault_at, fault_stands, each_formed, some_formed, faulted, finished, cause, running};
+ghost use Rattle.relay_model.specs.{accept_failed, admitted, out_of_tries, passed, broken, done, accept_failed_for, listening_failed, opening_failed};
+ghost use Rattle.relay_model.specs.{fault_at, fault_stands, each_formed, some_formed, faulted, finished, cause, running};
 
 use crate::moments::{closing_moment, has_passed, idle_moment, is_broken, is_done, is_reached};
 use crate::openings::{out_of_tries, ready};

@@ -1,7 +1,7 @@
 // How bytes are converted, as lists of all of them or of a further piece.
 ghost use Rattle.std.specs.Prelude.{◌≡◌, ◌==◌, IfOk};
 ghost use Rattle.std.specs.List.{before_first, list_any};
-ghost use Rattle.relay_model.specs.Conversions.{read_converted, write_converted, first_bytes, before_escape, due_of, holds_escape, is_met};
+ghost use Rattle.relay_model.specs.{read_converted, write_converted, first_bytes, before_escape, due_of, holds_escape, is_met};
 
 use relay_model::{Conv, NoMemory};
 use std::alloc::Global;

@@ -1,6 +1,6 @@
 // The acts so far, with what each direction owes.
 ghost use Rattle.std.specs.Prelude.{◌≡◌, ◌∷◌, [], IfOk};
-ghost use Rattle.history_facts.specs.Pasts.{acts};
+ghost use Rattle.history_facts.specs.{acts};
 
 use crate::owings::Owings;
 use history_facts::Past;
@@ -17,7 +17,7 @@ pub struct Ledger<'a> {
 }
 
 impl<'a> Model for Ledger<'a> {
-    ghost use Rattle.history_facts.specs.Pasts.{Chronicle};
+    ghost use Rattle.history_facts.specs.{Chronicle};
 
     ghost Value = { Chronicle };
 

@@ -1,6 +1,7 @@
 // The moments of a session: when it last moved, when its directions were done, and when its timers fall due.
 ghost use Rattle.std.specs.Prelude.{◌≡◌};
-ghost use Rattle.relay_model.specs.Moments.{passed_at, passed, broken_at, broken, done_at, done, after_one, closing_moment, is_unfinished, idle_moment, reached};
+ghost use Rattle.relay_model.specs.{passed_at, passed, broken_at, broken, done_at, done, after_one, closing_moment, is_unfinished, idle_moment};
+ghost use Rattle.relay_model.specs.{reached};
 
 use command_places::{input, is_formed, output};
 use history_facts::{Past, moved_at, or_else, read_fault_at, shut_at, write_fault_at};

@@ -1,7 +1,8 @@
 // Which places are ready, and what the opening of one that isn't calls for.
 ghost use Rattle.std.specs.Prelude.{◌≡◌};
 ghost use Rattle.std.specs.List.{list_any, list_all};
-ghost use Rattle.relay_model.specs.Openings.{out_of_tries, when_due, try_again, is_ready, ready, opening_call, listening_call, peer_call, place_call, first_call};
+ghost use Rattle.relay_model.specs.{out_of_tries, when_due, try_again, is_ready, ready, opening_call, listening_call, peer_call, place_call};
+ghost use Rattle.relay_model.specs.{first_call};
 
 use command_places::{has_own_door, listens_at, options_of, places};
 use history_facts::{

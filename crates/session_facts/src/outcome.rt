@@ -1,10 +1,9 @@
 // How a run ended, once nothing is held.
 ghost use Rattle.std.specs.Prelude.{◌≡◌, ◌<◌, ◌^◌, option_map, is_some, Some};
-ghost use Rattle.relay_model.specs.Choices.{or_else, some_below};
-ghost use Rattle.relay_model.specs.Sessions.{admitted, holds, live};
-ghost use Rattle.relay_model.specs.Outcome.{holds_something, program_doors, first_fault, failed_listening, failed_opening, outcome_by, outcome_of_sessions, outcome};
+ghost use Rattle.relay_model.specs.{or_else, some_below, admitted, holds, live, holds_something, program_doors, first_fault, failed_listening};
+ghost use Rattle.relay_model.specs.{failed_opening, outcome_by, outcome_of_sessions, outcome};
 ghost use Rattle.relay_model.specs.declared.outcomes.RunOutcome.TheVariants as outcomes;
-ghost use Rattle.history_facts.specs.Pasts.{acts};
+ghost use Rattle.history_facts.specs.{acts};
 
 use crate::causes::{any_accept_failed, cause};
 use crate::openings::out_of_tries;

@@ -1,10 +1,7 @@
 // What each direction owes of the bytes that were read, and which inputs met their escape byte, kept up with each act.
 ghost use Rattle.std.specs.Prelude.{◌≡◌, ◌∷◌, ◌||◌, List, [], OnOk, IfOk};
-ghost use Rattle.relay_model.specs.declared.commands.Config.{Config};
-ghost use Rattle.relay_model.specs.declared.acts.Act.{Act};
+ghost use Rattle.relay_model.specs.{Config, Act, input, output, options_of, due_of, is_met};
 ghost use Rattle.relay_model.specs.declared.acts.Act.TheVariants.{Read};
-ghost use Rattle.relay_model.specs.Configs.{input, output, options_of};
-ghost use Rattle.relay_model.specs.Conversions.{due_of, is_met};
 ghost use Rattle.session_facts.specs.Owings.{due_number, left_of, met_at, MetTold, DuesTold, OwingsTold};
 
 use crate::conversions::{convert_bytes, is_met};

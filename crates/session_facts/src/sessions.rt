@@ -2,9 +2,7 @@
 // from 0 in order.
 ghost use Rattle.std.specs.Prelude.{◌≡◌, ◌<◌, ◌^◌};
 ghost use Rattle.std.specs.List.{list_any};
-ghost use Rattle.relay_model.specs.Choices.{count};
-ghost use Rattle.relay_model.specs.History.{held};
-ghost use Rattle.relay_model.specs.Sessions.{admitted, holds, live, live_count, numbers, first_part, next_place};
+ghost use Rattle.relay_model.specs.{count, held, admitted, holds, live, live_count, numbers, first_part, next_place};
 
 use command_places::{has_fork, parts, place_at, things};
 use history_facts::{Past, admitted_count, is_held};

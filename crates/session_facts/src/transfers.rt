@@ -1,9 +1,7 @@
 // What a direction of a session has read, owes and has written.
 ghost use Rattle.std.specs.Prelude.{◌≡◌, ℕ, List, length};
-ghost use Rattle.relay_model.specs.Conversions.{is_used_up, is_over, at_most_left, read_size, packet_cap, packet_size};
-ghost use Rattle.relay_model.specs.Configs.{input, options_of};
-ghost use Rattle.relay_model.specs.History.{got};
-ghost use Rattle.relay_model.specs.Transfers.{due, over, backlog, greatest_read, is_spent};
+ghost use Rattle.relay_model.specs.{is_used_up, is_over, at_most_left, read_size, packet_cap, packet_size, input, options_of, got, due, over};
+ghost use Rattle.relay_model.specs.{backlog, greatest_read, is_spent};
 
 use crate::ledger::Ledger;
 use crate::owings::due_number;

@@ -1,25 +1,13 @@
 -- The laws of a loop's sessions, as statements.
 use Rattle.std.specs.Prelude.{◌≡◌, ℕ, ◌<◌, ◌≤◌, Bool, true, false, List, [], ◌∷◌, Option, Some, None}
-use Rattle.relay_model.specs.declared.commands.Config.{Config}
-use Rattle.relay_model.specs.declared.places.Place.{Place}
-use Rattle.relay_model.specs.declared.readiness.ReadyAt.{ReadyAt}
-use Rattle.relay_model.specs.declared.acts.Why.{Why}
+use Rattle.relay_model.specs.{Config, Place, ReadyAt, Why, Act, Listed, has_fork, program_door, now, turns, memory_said, stop_said, cause, closed_why}
+use Rattle.relay_model.specs.{SessionRests, IsForeign, is_common}
 use Rattle.relay_model.specs.declared.acts.Why.TheVariants as whys
-use Rattle.relay_model.specs.declared.acts.Act.{Act}
 use Rattle.relay_model.specs.declared.acts.Act.TheVariants.{Turn, AcceptFailed, Closed}
-use Rattle.relay_model.specs.Readiness.{Listed}
-use Rattle.relay_model.specs.Configs.{has_fork, program_door}
-use Rattle.relay_model.specs.History.{now, turns, memory_said, stop_said}
-use Rattle.relay_model.specs.Cause.{cause, closed_why}
-use Rattle.relay_model.specs.Rest.{SessionRests}
-use Rattle.relay_model.specs.Frames.{IsForeign, is_common}
-use Rattle.session_direction.specs.Directions.{listed}
-use Rattle.relay_laws.specs.Stories.{own_entries}
-use Rattle.relay_session.specs.declared.sessions.Session.{Session}
+use Rattle.session_direction.specs.{listed}
+use Rattle.relay_laws.specs.{own_entries, IsQuiet}
+use Rattle.relay_session.specs.{Session, session_until, Stands, Hears, IsGrounded, wish_of}
 use Rattle.relay_session.specs.declared.wishes.Wish.TheVariants as wishes
-use Rattle.relay_session.specs.Timers.{session_until}
-use Rattle.relay_session.specs.Sessions.{Stands, Hears, IsGrounded, wish_of}
-use Rattle.relay_laws.specs.Sleeps.{IsQuiet}
 use Rattle.session_laws.specs.SessionSets.{Sleeper, Waker, Leaver, Woke, IsSaid, MaySay}
 
 -- ---- sleep

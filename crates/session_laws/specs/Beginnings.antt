@@ -1,24 +1,15 @@
 -- When a session begins: where the door calls for its peer, and that one that was refused before is no hindrance.
 use Rattle.std.specs.Prelude.{◌≡◌, ℕ, ◌-◌, ◌^◌, true, false, List, [], ◌∷◌, None}
-use Rattle.relay_model.specs.declared.commands.Config.{Config}
+use Rattle.relay_model.specs.{Config, Peer, Act, has_fork, program_door, was_closed, admitted, next_place, permits, door_call, Legal}
 use Rattle.relay_model.specs.declared.places.Side.TheVariants.{Left}
 use Rattle.relay_model.specs.declared.places.Part.TheVariants.{Both, Reading}
 use Rattle.relay_model.specs.declared.places.Half.TheVariants.{ToRead}
-use Rattle.relay_model.specs.declared.acts.Peer.{Peer}
 use Rattle.relay_model.specs.declared.acts.Peer.TheVariants as peers
 use Rattle.relay_model.specs.declared.acts.Why.TheVariants as whys
-use Rattle.relay_model.specs.declared.acts.Act.{Act}
 use Rattle.relay_model.specs.declared.acts.Act.TheVariants.{Turn, Listening, Accepted, NoPeer, Closed}
-use Rattle.relay_model.specs.Configs.{has_fork, program_door}
-use Rattle.relay_model.specs.History.{was_closed}
-use Rattle.relay_model.specs.Sessions.{admitted, next_place, permits}
 use Rattle.relay_model.specs.declared.calls.Call.TheVariants.{Accept}
-use Rattle.relay_model.specs.Calls.{door_call}
-use Rattle.relay_model.specs.May.{Legal}
-use Rattle.relay_laws.specs.Examples.{at, named, listed, forked_command}
-use Rattle.relay_laws.specs.Births.{OnlyHeldWereNamed}
-use Rattle.relay_session.specs.States.{home}
-use Rattle.relay_session.specs.Births.{BeginsSession}
+use Rattle.relay_laws.specs.{at, named, listed, forked_command, OnlyHeldWereNamed}
+use Rattle.relay_session.specs.{home, BeginsSession}
 
 -- where the door calls for a peer, and turns named only what was held, the next session begins with a permitted one
 abbrev pub NextBegins : Type 0

@@ -1,22 +1,10 @@
 -- What a session stands for while others act, and while it sleeps.
 use Rattle.std.specs.Prelude.{◌≡◌, ℕ, ◌<◌, ◌⊎◌, Bool, false, List, [], ◌∷◌, Option, Some, None}
-use Rattle.relay_model.specs.declared.commands.Config.{Config}
-use Rattle.relay_model.specs.declared.acts.Act.{Act}
+use Rattle.relay_model.specs.{Config, Act, Why, Place, Listed, now, turns, memory_said, numbers, cause, closed_why, IsForeign, is_common}
 use Rattle.relay_model.specs.declared.acts.Act.TheVariants.{Turn, Closed}
-use Rattle.relay_model.specs.declared.acts.Why.{Why}
 use Rattle.relay_model.specs.declared.acts.Why.TheVariants as whys
-use Rattle.relay_model.specs.declared.places.Place.{Place}
-use Rattle.relay_model.specs.Readiness.{Listed}
-use Rattle.relay_model.specs.History.{now, turns, memory_said}
-use Rattle.relay_model.specs.Sessions.{numbers}
-use Rattle.relay_model.specs.Cause.{cause, closed_why}
-use Rattle.relay_model.specs.Frames.{IsForeign, is_common}
-use Rattle.relay_laws.specs.Stories.{own_entries}
-use Rattle.relay_session.specs.declared.states.State.{State}
-use Rattle.relay_session.specs.declared.sessions.Session.{Session}
-use Rattle.relay_session.specs.States.{Ground, Sleeps}
-use Rattle.relay_session.specs.Sessions.{Stands, Hears}
-use Rattle.relay_laws.specs.Sleeps.{Since, RestsUntil}
+use Rattle.relay_laws.specs.{own_entries, Since, RestsUntil}
+use Rattle.relay_session.specs.{State, Session, Ground, Sleeps, Stands, Hears}
 
 -- an act of others leaves what a state says of the history
 abbrev pub GroundIsKept : Type 0

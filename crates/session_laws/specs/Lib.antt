@@ -4,3 +4,5 @@ pub mod SessionSets
 pub mod Laws
 pub mod Wholes
 pub mod Works
+pub use SessionSets.{IsSaid, Leaver, MaySay, Sleeper, Waker, Woke}
+pub use Works.{MustAct}

@@ -1,18 +1,12 @@
 -- What the sessions of one loop stand for: those that wait, those that are awake, and those that are to leave.
 use Rattle.std.specs.Prelude.{◌≡◌, ℕ, ◌<◌, true, false, List, [], ◌∷◌, Option, Some, None}
-use Rattle.relay_model.specs.declared.commands.Config.{Config}
-use Rattle.relay_model.specs.declared.acts.Why.{Why}
+use Rattle.relay_model.specs.{Config, Why, Act, turns, memory_said, stop_said, numbers, cause, closed_why}
 use Rattle.relay_model.specs.declared.acts.Why.TheVariants as whys
-use Rattle.relay_model.specs.declared.acts.Act.{Act}
 use Rattle.relay_model.specs.declared.acts.Act.TheVariants.{Turn}
-use Rattle.relay_model.specs.History.{turns, memory_said, stop_said}
-use Rattle.relay_model.specs.Sessions.{numbers}
-use Rattle.relay_model.specs.Cause.{cause, closed_why}
-use Rattle.session_direction.specs.Directions.{listed}
+use Rattle.session_direction.specs.{listed}
 use Rattle.relay_session.specs.declared.wishes.Wish.TheVariants as wishes
-use Rattle.relay_session.specs.declared.sessions.Session.{Session}
-use Rattle.relay_session.specs.Sessions.{Stands, Hears, wish_of, ending_of}
-use Rattle.relay_laws.specs.Sleeps.{Since}
+use Rattle.relay_session.specs.{Session, Stands, Hears, wish_of, ending_of}
+use Rattle.relay_laws.specs.{Since}
 
 -- a session that waits: after so many turns it wished to sleep until this moment, and since then came only acts of
 -- others and turns that say nothing to it

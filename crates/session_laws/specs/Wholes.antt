@@ -1,21 +1,12 @@
 -- The whole of a command with `fork`: when it rests, until when it waits, and how it ends.
 use Rattle.std.specs.Prelude.{◌≡◌, ◌⊎◌, ℕ, ◌<◌, ◌≤◌, true, false, List, length, Option, Some, None}
-use Rattle.relay_model.specs.declared.commands.Config.{Config}
-use Rattle.relay_model.specs.declared.acts.Why.{Why}
+use Rattle.relay_model.specs.{Config, Why, Act, has_fork, program_door, turns, failures, admitted, holds, numbers, out_of_tries, outcome, RunOutcome}
+use Rattle.relay_model.specs.{Legal}
 use Rattle.relay_model.specs.declared.acts.Why.TheVariants as whys
-use Rattle.relay_model.specs.declared.acts.Act.{Act}
-use Rattle.relay_model.specs.Configs.{has_fork, program_door}
-use Rattle.relay_model.specs.History.{turns, failures}
-use Rattle.relay_model.specs.Sessions.{admitted, holds, numbers}
-use Rattle.relay_model.specs.Openings.{out_of_tries}
-use Rattle.relay_model.specs.Outcome.{outcome}
-use Rattle.relay_model.specs.declared.outcomes.RunOutcome.{RunOutcome}
 use Rattle.relay_model.specs.declared.outcomes.RunOutcome.TheVariants.{Memory, Stopped, AcceptFailed, ListenFailed, Ended}
 use Rattle.relay_model.specs.Rest.{SessionRests, Rest, owed, until_of}
-use Rattle.relay_model.specs.May.{Legal}
-use Rattle.relay_session.specs.Timers.{session_until}
-use Rattle.program_door.specs.Causes.{door_cause}
-use Rattle.program_door.specs.Wishes.{DoorSleeps, GoesOn, IsDoorDone, door_until}
+use Rattle.relay_session.specs.{session_until}
+use Rattle.program_door.specs.{door_cause, DoorSleeps, GoesOn, IsDoorDone, door_until}
 
 -- the door goes on, or some session that has begun holds something
 abbrev pub Remains : Config → List Act → Type 0

@@ -1,17 +1,8 @@
 -- Sessions that have to act before the next wait. Laws, as statements.
 use Rattle.std.specs.Prelude.{◌≡◌, ℕ, ◌<◌, ◌≤◌, true, false, List, ◌∷◌, Option, Some}
-use Rattle.relay_model.specs.declared.commands.Config.{Config}
-use Rattle.relay_model.specs.declared.acts.Why.{Why}
-use Rattle.relay_model.specs.declared.acts.Act.{Act}
+use Rattle.relay_model.specs.{Config, Why, Act, Listed, has_fork, now, live, numbers, cause, SessionRests, IsForeign, is_common}
 use Rattle.relay_model.specs.declared.acts.Act.TheVariants.{Turn}
-use Rattle.relay_model.specs.Readiness.{Listed}
-use Rattle.relay_model.specs.Configs.{has_fork}
-use Rattle.relay_model.specs.History.{now}
-use Rattle.relay_model.specs.Sessions.{live, numbers}
-use Rattle.relay_model.specs.Cause.{cause}
-use Rattle.relay_model.specs.Rest.{SessionRests}
-use Rattle.relay_model.specs.Frames.{IsForeign, is_common}
-use Rattle.relay_session.specs.Timers.{session_until}
+use Rattle.relay_session.specs.{session_until}
 
 -- the session doesn't rest: a call of its own has to be made before a wait is in order
 abbrev pub MustAct : Config → List Act → ℕ → Type 0

@@ -1,19 +1,13 @@
 -- The answer of a run, by what its session tells at the end.
 use Rattle.std.specs.Prelude.{◌≡◌, ℕ, List, Option, Some, None, option_map}
-use Rattle.relay_model.specs.declared.acts.Act.{Act}
-use Rattle.relay_model.specs.declared.acts.Why.{Why}
+use Rattle.relay_model.specs.{Act, Why, Config, places, own_doors, RunOutcome, failed_listening, failed_opening}
 use Rattle.relay_model.specs.declared.acts.Why.TheVariants as whys
-use Rattle.relay_model.specs.declared.commands.Config.{Config}
-use Rattle.relay_model.specs.Configs.{places, own_doors}
-use Rattle.relay_model.specs.declared.outcomes.RunOutcome.{RunOutcome}
-use Rattle.relay_model.specs.Outcome.{failed_listening, failed_opening}
 use Rattle.relay_model.specs.declared.outcomes.RunOutcome.TheVariants as whole
-use Rattle.place_openings.specs.declared.given_up.GivenUp.{GivenUp}
-use Rattle.exit_status.specs.declared.outcomes.Outcome.{Outcome}
+use Rattle.place_openings.specs.{GivenUp}
+use Rattle.exit_status.specs.{Outcome, half_of}
 use Rattle.exit_status.specs.declared.outcomes.Outcome.TheVariants as outcomes
 use Rattle.exit_status.specs.declared.outcomes.EndWhy.TheVariants as ends
-use Rattle.exit_status.specs.Outcomes.{half_of}
-use Rattle.relay_session.specs.Told.{told_listening, told_opening}
+use Rattle.relay_session.specs.{told_listening, told_opening}
 use Rattle.session_loop.specs.declared.faults.Fault.{Fault}
 
 -- the first failed read or write, as an outcome of the model

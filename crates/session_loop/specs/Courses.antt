@@ -1,26 +1,12 @@
 -- What the loop keeps true, of some history that its session stands for.
 use Rattle.std.specs.Prelude.{◌≡◌, ◌⊎◌, ℕ, ◌+◌, ◌-◌, ◌*◌, ◌^◌, ◌≤◌, Bool, true, false, not, List, [], ◌∷◌, Option, None, option_map, min}
-use Rattle.relay_model.specs.declared.acts.Act.{Act}
+use Rattle.relay_model.specs.{Act, Why, Place, Config, Asking, Free, standing, turns, first_fault, Legal, has_fork, is_of, single, program_door}
 use Rattle.relay_model.specs.declared.acts.Act.TheVariants.{Turn}
-use Rattle.relay_model.specs.declared.acts.Why.{Why}
-use Rattle.relay_model.specs.declared.places.Place.{Place}
-use Rattle.relay_model.specs.declared.commands.Config.{Config}
-use Rattle.relay_model.specs.Journals.{Asking}
-use Rattle.relay_model.specs.Holding.{Free, standing}
-use Rattle.relay_model.specs.History.{turns}
-use Rattle.relay_model.specs.Outcome.{first_fault}
 use Rattle.relay_model.specs.Rest.{Rest, owed, until_of}
-use Rattle.relay_model.specs.May.{Legal}
-use Rattle.relay_session.specs.declared.sessions.Session.{Session}
-use Rattle.relay_session.specs.Sessions.{Stands, wish_of, left_of, has_ended}
-use Rattle.relay_session.specs.States.{IsDone}
-use Rattle.relay_session.specs.Blames.{is_blamed}
-use Rattle.relay_session.specs.Told.{stop_turned}
+use Rattle.relay_session.specs.{Session, Stands, wish_of, left_of, has_ended, IsDone, is_blamed, stop_turned}
 use Rattle.relay_session.specs.declared.wishes.Wish.TheVariants as wishes
 use Rattle.world_trait.specs.Seen.{Seen}
-use Rattle.session_driver.specs.Steps.{extend}
-use Rattle.session_driver.specs.Dumpers.{IsDumpSettled}
-use Rattle.relay_model.specs.Configs.{has_fork, is_of, single, program_door}
+use Rattle.session_driver.specs.{extend, IsDumpSettled}
 use Rattle.session_loop.specs.Commands.{Runnable}
 use Rattle.session_loop.specs.Answers.{told_fault}
 use Rattle.session_loop.specs.declared.faults.Fault.{Fault}

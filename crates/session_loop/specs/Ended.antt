@@ -1,19 +1,11 @@
 -- What the acts of a run make of a world, and what its answer says of them.
 use Rattle.std.specs.Prelude.{◌≡◌, ◌⊎◌, ℕ, ◌+◌, ◌-◌, ◌^◌, ◌≤◌, true, false, List, option_map, min}
-use Rattle.relay_model.specs.declared.acts.Act.{Act}
-use Rattle.relay_model.specs.declared.places.Place.{Place}
-use Rattle.relay_model.specs.declared.commands.Config.{Config}
-use Rattle.relay_model.specs.Journals.{Asking}
-use Rattle.relay_model.specs.Holding.{standing}
-use Rattle.relay_model.specs.History.{held, turns}
-use Rattle.relay_model.specs.May.{Legal}
-use Rattle.relay_session.specs.Blames.{is_blamed}
-use Rattle.relay_session.specs.Told.{stop_turned}
-use Rattle.exit_status.specs.declared.outcomes.Outcome.{Outcome}
+use Rattle.relay_model.specs.{Act, Place, Config, Asking, standing, held, turns, Legal}
+use Rattle.relay_session.specs.{is_blamed, stop_turned}
+use Rattle.exit_status.specs.{Outcome, IsOutcome}
 use Rattle.exit_status.specs.declared.outcomes.Outcome.TheVariants as outcomes
-use Rattle.exit_status.specs.Outcomes.{IsOutcome}
 use Rattle.world_trait.specs.Seen.{Seen}
-use Rattle.session_driver.specs.Steps.{extend}
+use Rattle.session_driver.specs.{extend}
 use Rattle.session_loop.specs.Courses.{OnlyOwn, Risen}
 use Rattle.session_loop.specs.Headline.{is_failure, is_relayed}
 

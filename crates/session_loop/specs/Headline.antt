@@ -1,16 +1,11 @@
 -- What a run leaves: a legal history, nothing held, and the outcome that the history gives.
 use Rattle.std.specs.Prelude.{◌≡◌, ℕ, ◌+◌, ◌-◌, ◌^◌, ◌≤◌, ◌<◌, Bool, true, false, List, Option, Some, min, ◌⊎◌}
-use Rattle.relay_model.specs.declared.acts.Act.{Act}
-use Rattle.relay_model.specs.declared.places.Place.{Place}
-use Rattle.relay_model.specs.declared.commands.Config.{Config}
+use Rattle.relay_model.specs.{Act, Place, Config, held, Legal}
 use Rattle.relay_model.specs.Journals.{History, Asking}
-use Rattle.relay_model.specs.History.{held}
-use Rattle.relay_model.specs.May.{Legal}
-use Rattle.exit_status.specs.declared.outcomes.Outcome.{Outcome}
+use Rattle.exit_status.specs.{Outcome, IsOutcome}
 use Rattle.exit_status.specs.declared.outcomes.Outcome.TheVariants as outcomes
-use Rattle.exit_status.specs.Outcomes.{IsOutcome}
 use Rattle.session_loop.specs.Courses.{OnlyOwn, Risen}
-use Rattle.session_driver.specs.Steps.{extend}
+use Rattle.session_driver.specs.{extend}
 
 -- the world told `before`, and tells `told` now: the acts between are legal, nothing is held after them, the
 -- answer is their outcome or want of memory, and each place that was asked for is the command's own

@@ -1,13 +1,10 @@
 -- What a pause of a session says.
 use Rattle.std.specs.Prelude.{◌≡◌, Bool, true, false, Option, Some, None}
-use Rattle.relay_model.specs.declared.places.Place.{Place}
-use Rattle.relay_model.specs.declared.acts.Why.{Why}
+use Rattle.relay_model.specs.{Place, Why}
 use Rattle.relay_model.specs.declared.acts.Why.TheVariants as whys
-use Rattle.relay_session.specs.declared.sessions.Session.{Session}
-use Rattle.relay_session.specs.declared.wishes.Wish.{Wish}
+use Rattle.relay_session.specs.{Session, Wish, wish_of, has_ended}
 use Rattle.relay_session.specs.declared.wishes.Wish.TheVariants as wishes
-use Rattle.relay_session.specs.Sessions.{wish_of, has_ended}
-use Rattle.session_driver.specs.declared.stepped.Stepped.{Stepped}
+use Rattle.session_driver.specs.{Stepped}
 use Rattle.session_driver.specs.declared.stepped.Stepped.TheVariants as steps
 use Rattle.session_loop.specs.declared.pauses.Pause.{Pause}
 use Rattle.session_loop.specs.declared.pauses.Pause.TheVariants as pauses

@@ -1,24 +1,11 @@
 -- A run of many sessions over one world, and what one of them makes of it.
 use Rattle.std.specs.Prelude.{◌≡◌, ◌⊎◌, ℕ, ◌+◌, ◌-◌, ◌*◌, ◌^◌, ◌≤◌, Bool, true, false, not, List, [], ◌∷◌, None, option_map, min}
-use Rattle.relay_model.specs.declared.acts.Act.{Act}
+use Rattle.relay_model.specs.{Act, Place, Config, is_of, single, program_door, standing, Asking, now as moment, turns, owed, Legal, is_common}
 use Rattle.relay_model.specs.declared.acts.Why.TheVariants as whys
-use Rattle.relay_model.specs.declared.places.Place.{Place}
-use Rattle.relay_model.specs.declared.commands.Config.{Config}
-use Rattle.relay_model.specs.Configs.{is_of, single, program_door}
-use Rattle.relay_model.specs.Holding.{standing}
-use Rattle.relay_model.specs.Journals.{Asking}
-use Rattle.relay_model.specs.History.{now as moment, turns}
-use Rattle.relay_model.specs.Rest.{owed}
-use Rattle.relay_model.specs.May.{Legal}
-use Rattle.relay_model.specs.Frames.{is_common}
-use Rattle.relay_laws.specs.Births.{OnlyHeldWereNamed}
-use Rattle.relay_session.specs.declared.sessions.Session.{Session}
-use Rattle.relay_session.specs.Sessions.{Stands, wish_of, left_of, has_ended}
-use Rattle.relay_session.specs.Blames.{is_blamed}
-use Rattle.relay_session.specs.Told.{stop_turned}
+use Rattle.relay_laws.specs.{OnlyHeldWereNamed}
+use Rattle.relay_session.specs.{Session, Stands, wish_of, left_of, has_ended, is_blamed, stop_turned}
 use Rattle.world_trait.specs.Seen.{Seen}
-use Rattle.session_driver.specs.Steps.{extend, IsActOf}
-use Rattle.session_driver.specs.Dumpers.{Counted}
+use Rattle.session_driver.specs.{extend, IsActOf, Counted}
 use Rattle.session_loop.specs.Pauses.{Spreads}
 use Rattle.session_loop.specs.declared.members.Member.{Member}
 

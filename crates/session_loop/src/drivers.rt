@@ -1,9 +1,8 @@
 // A session that is driven over a world. What the calls keep true is said of every history that the session
 // stands for, whether the world tells its history or not.
 ghost use Rattle.std.specs.Prelude.{◌≡◌, ℕ, ◌<◌, ◌≤◌, [], Option, Some, None, true, vec_len, IfOk, IfSome, IfNone};
-ghost use Rattle.relay_model.specs.declared.places.Place.{Place};
-ghost use Rattle.relay_model.specs.Holding.{Free};
-ghost use Rattle.relay_session.specs.Sessions.{has_ended};
+ghost use Rattle.relay_model.specs.{Place, Free};
+ghost use Rattle.relay_session.specs.{has_ended};
 ghost use Rattle.world_trait.specs.Seen.{Seen};
 ghost use Rattle.session_loop.specs.Commands.{Runnable};
 
@@ -30,7 +29,7 @@ pub struct Driver {
 }
 
 /// Where the session has to wait, or that it is done.
-#[derive(Clone, Copy, Debug, PartialEq, Eq)]
+#[derive(Clone, Copy, PartialEq, Eq)]
 pub enum DriverPause {
     Sleep(Option<u64>),
     Done(Why),

@@ -1,14 +1,14 @@
 // What failed first.
 ghost use Rattle.std.specs.Prelude.{◌≡◌, Some, Option};
-ghost use Rattle.relay_model.specs.Choices.{or_else};
+ghost use Rattle.relay_model.specs.{or_else};
 ghost use Rattle.relay_model.specs.declared.outcomes.RunOutcome.TheVariants as whole;
-ghost use Rattle.exit_status.specs.Outcomes.{half_of};
+ghost use Rattle.exit_status.specs.{half_of};
 
 use exit_status::Op;
 use relay_model::Place;
 
 /// A read or a write that failed.
-#[derive(Clone, Copy, Debug, PartialEq, Eq)]
+#[derive(Clone, Copy, PartialEq, Eq)]
 pub struct Fault {
     pub place: Place,
     pub op: Op,

@@ -1,7 +1,7 @@
 // A session with what makes the texts of what it reads.
 ghost use Rattle.std.specs.Prelude.{◌≡◌};
-ghost use Rattle.relay_model.specs.declared.places.Side.{Side as End};
-ghost use Rattle.session_driver.specs.Dumpers.{counted_at};
+ghost use Rattle.relay_model.specs.{Side as End};
+ghost use Rattle.session_driver.specs.{counted_at};
 
 use relay_session::Session;
 use session_driver::Dumper;

@@ -6,7 +6,7 @@ use relay_model::Why;
 use relay_session::Wish;
 
 /// Why a session makes no further call for now.
-#[derive(Clone, Copy, Debug, PartialEq, Eq)]
+#[derive(Clone, Copy, PartialEq, Eq)]
 pub enum Pause {
     /// It waits for a turn, until this moment in milliseconds.
     Sleep(Option<u64>),

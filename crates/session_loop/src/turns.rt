@@ -1,17 +1,13 @@
 // The turns of a session that is driven: up to a sleep, the sleep, and so on until it is done.
 ghost use Rattle.std.specs.Prelude.{◌≡◌, ℕ, ◌+◌, ◌<◌, ◌≤◌, ◌∷◌, [], List, Option, true, false, vec_len, IfSome, IfNone};
-ghost use Rattle.relay_model.specs.declared.acts.Act.{Act};
+ghost use Rattle.relay_model.specs.{Act, Config as Command, copied_list, Legal};
 ghost use Rattle.relay_model.specs.declared.acts.Act.TheVariants as acts;
 ghost use Rattle.relay_model.specs.declared.acts.Why.TheVariants as whys;
 ghost use Rattle.exit_status.specs.declared.outcomes.Outcome.TheVariants as outcomes;
-ghost use Rattle.relay_model.specs.declared.commands.Config.{Config as Command};
-ghost use Rattle.relay_model.specs.Readiness.{copied_list};
-ghost use Rattle.relay_model.specs.May.{Legal};
 ghost use Rattle.relay_session.specs.declared.wishes.Wish.TheVariants as wishes;
-ghost use Rattle.relay_session.specs.Sessions.{Stands, Hears, wish_of, has_ended};
-ghost use Rattle.session_direction.specs.Directions.{listed};
+ghost use Rattle.relay_session.specs.{Stands, Hears, wish_of, has_ended, IsDone};
+ghost use Rattle.session_direction.specs.{listed};
 ghost use Rattle.world_trait.specs.Seen.{Seen};
-ghost use Rattle.relay_session.specs.States.{IsDone};
 ghost use Rattle.session_loop.specs.Answers.{AnswerTells};
 ghost use Rattle.session_loop.specs.Ended.{EndsWith};
 ghost use Rattle.session_loop.specs.declared.drivers.DriverPause.TheVariants as pauses;

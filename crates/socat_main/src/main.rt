@@ -15,7 +15,10 @@ use ring_reader::RingReader;
 use ring_writer::RingWriter;
 use runs::{answer_words, relay_words};
 use socat_top::{Disk, DiskJournal, asks_for_relay, journal_flag};
-use standard_ports::{FreshErrors, FreshInput, FreshOutput, direct_input, direct_output};
+use standard_ports::{
+    ErrorParts, FreshErrors, FreshInput, FreshOutput, RingMaker, direct_input, direct_output,
+    make_errors, open_errors,
+};
 use std::io::IsTerminal;
 use std::process::ExitCode;
 
@@ -69,18 +72,20 @@ fn main(rt: HostRuntime) -> ExitCode {
             Err(error) => Err(error),
         },
     };
-    let noted = StdSink::new(Blocking::new(rt.stderr()));
-    let stderr = match RingWriter::new(alloc, noted, &mut spawner, noting) {
-        Ok(ring) => Ok(FreshErrors::ring(ring)),
-        Err(error) => Err(error),
-    };
-    let (Ok(stdin), Ok(stdout), Ok(stderr)) = (stdin, stdout, stderr) else {
+    let (Ok(stdin), Ok(stdout)) = (stdin, stdout) else {
         return report_lack(&mut errors, StartLack::Memory);
+    };
+    // (the thread of standard error is started by its first line, by the runtime that is known here)
+    let make: fn(ErrorParts) -> Option<FreshErrors> = |parts| make_errors(parts.system, parts);
+    let parts = ErrorParts {
+        system: rt,
+        alloc,
+        wake: noting,
     };
     let standard = Standard {
         stdin: stdin.into_port(),
         stdout: stdout.into_port(),
-        stderr: stderr.into_port(),
+        stderr: open_errors(rt, parts, RingMaker::new(make), &poller),
     };
     let ended = relay_words(
         rt,

@@ -21,7 +21,7 @@ use std::time::Clock;
 const FAILED: u8 = 1;
 
 /// What was wanting before a run began.
-#[derive(Clone, Copy, Debug)]
+#[derive(Clone, Copy)]
 pub enum StartLack {
     Memory,
     /// The system refused the poller, or what is registered with it.

@@ -1,16 +1,9 @@
 -- What is behind the standard streams at the ends of a direction. Lists of acts stand newest first.
 use Rattle.std.specs.Prelude.{◌≡◌, ℕ, true, List, [], Option, None, Some, option_map, IfSome, if◌then◌else◌}
-use Rattle.relay_model.specs.declared.places.Way.{Way}
-use Rattle.relay_model.specs.declared.commands.Config.{Config}
-use Rattle.relay_model.specs.declared.acts.Act.{Act}
+use Rattle.relay_model.specs.{Way, Config, Act, output, formed, due, cause, BeginsWith}
 use Rattle.relay_model.specs.declared.acts.Why.TheVariants as whys
-use Rattle.relay_model.specs.Configs.{output, formed}
-use Rattle.relay_model.specs.Transfers.{due}
-use Rattle.relay_model.specs.Cause.{cause}
-use Rattle.relay_model.specs.May.{BeginsWith}
-use Rattle.port_trait.specs.Meanings.{Behind}
-use Rattle.port_trait.specs.Ports.{BehindSeen, PortSeen, nothing_behind}
-use Rattle.port_table.specs.declared.endings.Back.{Back}
+use Rattle.port_trait.specs.{Behind, BehindSeen, PortSeen, nothing_behind}
+use Rattle.port_table.specs.{Back}
 use Rattle.port_table.specs.declared.endings.Back.TheVariants as backs
 use Rattle.socat_top.specs.Ends.{StandardEnds, HasEnded, came_in, is_alone, is_on_output, went_out}
 

@@ -1,12 +1,11 @@
 -- The command of a generated run: `TCP-LISTEN:1,fork,stop-after=50,max-children=8 TCP:localhost:2`.
 use Rattle.std.specs.Prelude.{ℕ, true, false, codes}
-use Rattle.relay_model.specs.declared.commands.Config.{Config}
+use Rattle.relay_model.specs.{Config, default_options}
 use Rattle.relay_model.specs.declared.commands.Family.TheVariants.{Any}
 use Rattle.relay_model.specs.declared.commands.Target.TheVariants.{Tcp, TcpListen}
 use Rattle.relay_model.specs.declared.commands.Address.TheVariants.{One}
 use Rattle.relay_model.specs.declared.commands.Dump.TheVariants.{Off}
 use Rattle.relay_model.specs.declared.commands.Ways.TheVariants as ways
-use Rattle.relay_model.specs.PlainRelay.{default_options}
 
 -- fifty peers are served, eight at a time, each by a connection of its own
 abbrev pub load_command : Config

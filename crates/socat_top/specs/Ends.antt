@@ -1,19 +1,11 @@
 -- What the standard streams at the ends of a direction passed. Lists of acts stand newest first.
 use Rattle.std.specs.Prelude.{◌≡◌, ℕ, Bool, true, false, not, ◌&&◌, ◌||◌, List, [], ◌∷◌, Option, Some, IfSome, if◌then◌else◌}
 use Rattle.std.specs.List.{list_all}
-use Rattle.relay_model.specs.declared.places.Way.{Way}
-use Rattle.relay_model.specs.declared.places.Place.{Place}
-use Rattle.relay_model.specs.declared.commands.Config.{Config}
-use Rattle.relay_model.specs.declared.acts.Act.{Act}
+use Rattle.relay_model.specs.{Way, Place, Config, Act, same_place, input, output, formed, has_fork, places, single, got, put, due, cause, BeginsWith}
+use Rattle.relay_model.specs.{Legal}
 use Rattle.relay_model.specs.declared.acts.Act.TheVariants.{Read, ReadEmpty, ReadEnd, ReadNotYet, ReadFault}
 use Rattle.relay_model.specs.declared.acts.Why.TheVariants as whys
-use Rattle.relay_model.specs.Places.{same_place}
-use Rattle.relay_model.specs.Configs.{input, output, formed, has_fork, places, single}
-use Rattle.relay_model.specs.History.{got, put}
-use Rattle.relay_model.specs.Transfers.{due}
-use Rattle.relay_model.specs.Cause.{cause}
-use Rattle.relay_model.specs.May.{BeginsWith, Legal}
-use Rattle.port_desk.specs.Following.{PassedBy, reads_input, stream_of, writes_output}
+use Rattle.port_desk.specs.{PassedBy, reads_input, stream_of, writes_output}
 
 -- a read at the place is one of standard input, by the place's address
 abbrev pub is_on_input : Config → Place → Bool

@@ -1,21 +1,15 @@
 -- What a run leaves: a legal history, nothing held, the outcome that the history gives, and its line.
 use Rattle.std.specs.Prelude.{◌≡◌, ℕ, Bool, true, false, ◌⊎◌, List, Option, Some}
-use Rattle.relay_model.specs.declared.acts.Act.{Act}
-use Rattle.relay_model.specs.declared.places.Place.{Place}
-use Rattle.relay_model.specs.declared.commands.Config.{Config}
+use Rattle.relay_model.specs.{Act, Place, Config, held, Legal}
 use Rattle.relay_model.specs.Journals.{History, Asking}
-use Rattle.exit_status.specs.declared.outcomes.Outcome.{Outcome}
+use Rattle.exit_status.specs.{Outcome, IsOutcome}
 use Rattle.exit_status.specs.declared.outcomes.Outcome.TheVariants as outcomes
-use Rattle.relay_model.specs.History.{held}
-use Rattle.relay_model.specs.May.{Legal}
-use Rattle.exit_status.specs.Outcomes.{IsOutcome}
-use Rattle.session_loop.specs.Courses.{OnlyOwn}
-use Rattle.session_driver.specs.Steps.{extend}
+use Rattle.session_loop.specs.{OnlyOwn, is_relayed}
+use Rattle.session_driver.specs.{extend}
 use Rattle.socat_top.specs.Ends.{StandardEnds}
-use Rattle.port_trait.specs.Ports.{BehindSeen, PortSeen}
+use Rattle.port_trait.specs.{BehindSeen, PortSeen}
 use Rattle.socat_top.specs.Behind.{EndsFar}
 use Rattle.session_loop.specs.Headline as relayed
-use Rattle.session_loop.specs.Headline.{is_relayed}
 use Rattle.socat_top.specs.Notes.{Said, Tail}
 use Rattle.socat_top.specs.declared.summaries.Summary.{Summary}
 use Rattle.socat_top.specs.Runs.{GeneratedRun}

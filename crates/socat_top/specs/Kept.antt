@@ -1,6 +1,6 @@
 -- The history that a recorder kept.
 use Rattle.relay_model.specs.Journals.{History}
-use Rattle.relay_model.specs.declared.journals.Kept.{Kept}
+use Rattle.relay_model.specs.{Kept}
 
 -- the history that a desk handed back
 abbrev pub history_of : Kept → History

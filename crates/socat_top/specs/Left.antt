@@ -1,13 +1,8 @@
 -- What a script still has to give to the reads of a place.
 use Rattle.std.specs.Prelude.{ℕ, Bool, true, false, ◌&&◌, List, [], ◌∷◌, ◌++◌, if◌then◌else◌}
-use Rattle.relay_model.specs.declared.places.Place.{Place}
-use Rattle.relay_model.specs.Places.{same_place}
-use Rattle.relay_model.specs.Transfers.{is_empty}
-use Rattle.scripted_world.specs.declared.lines.PlacedItem.{PlacedItem}
-use Rattle.scripted_world.specs.declared.reading.DueRead.{DueRead}
-use Rattle.scripted_world.specs.declared.reading.Reading.{Reading}
+use Rattle.relay_model.specs.{Place, same_place, is_empty}
+use Rattle.scripted_world.specs.{PlacedItem, DueRead, Reading, bytes_of}
 use Rattle.scripted_world.specs.declared.reading.Reading.TheVariants as readings
-use Rattle.scripted_world.specs.Reads.{bytes_of}
 
 -- the bytes that these items have for a place
 abbrev pub left_of : List (PlacedItem DueRead) → Place → List ℕ

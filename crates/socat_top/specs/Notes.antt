@@ -1,13 +1,12 @@
 -- What a run says on standard error at its end.
 use Rattle.std.specs.Prelude.{◌≡◌, ◌≤◌, ℕ, ◌⊎◌, List, [], ◌∷◌, Option, option_map, is_some}
-use Rattle.relay_model.specs.declared.places.Place.{Place}
+use Rattle.relay_model.specs.{Place}
 use Rattle.relay_model.specs.declared.acts.Act.TheVariants.{Note, NoteFault}
 use Rattle.relay_model.specs.Journals.{History}
-use Rattle.world_trait.specs.Recordings.{with_act}
+use Rattle.world_trait.specs.{with_act}
 use Rattle.world_trait.specs.Seen.{Seen}
-use Rattle.exit_status.specs.declared.outcomes.Outcome.{Outcome}
+use Rattle.exit_status.specs.{Outcome, line}
 use Rattle.exit_status.specs.declared.outcomes.Outcome.TheVariants as outcomes
-use Rattle.exit_status.specs.Lines.{line}
 
 -- one note of the text, which was taken or failed
 abbrev pub Noted : List ℕ → Option History → Option History → Type 0

@@ -1,13 +1,10 @@
 -- A world that stays the one of its number: what it has given to the reads of a place, and what its script still has for
 -- them, is what was scripted for the number.
 use Rattle.std.specs.Prelude.{◌≡◌, ℕ, true, List, [], ◌∷◌, ◌++◌, Option, option_map}
-use Rattle.relay_model.specs.declared.acts.Act.{Act}
+use Rattle.relay_model.specs.{Act, Place, got, met_end}
 use Rattle.relay_model.specs.declared.acts.Act.TheVariants.{Note}
-use Rattle.relay_model.specs.declared.places.Place.{Place}
-use Rattle.relay_model.specs.History.{got, met_end}
 use Rattle.relay_model.specs.Journals.{History}
-use Rattle.scripted_world.specs.declared.lines.PlacedItem.{PlacedItem}
-use Rattle.scripted_world.specs.declared.reading.DueRead.{DueRead}
+use Rattle.scripted_world.specs.{PlacedItem, DueRead}
 use Rattle.socat_top.specs.Left.{ends_last, left_of}
 use Rattle.socat_top.specs.Scripts.{scripted}
 

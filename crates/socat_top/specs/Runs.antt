@@ -1,12 +1,8 @@
 -- What is known of a generated run by its summary.
 use Rattle.std.specs.Prelude.{◌≡◌, ◌≢◌, ◌≤◌, ℕ, false, List, sum}
-use Rattle.relay_model.specs.declared.acts.Act.{Act}
-use Rattle.relay_model.specs.declared.places.Place.{Place}
-use Rattle.relay_model.specs.History.{got, held}
-use Rattle.relay_model.specs.May.{BeginsWith, Legal}
-use Rattle.exit_status.specs.declared.outcomes.Outcome.{Outcome}
+use Rattle.relay_model.specs.{Act, Place, got, held, BeginsWith, Legal}
+use Rattle.exit_status.specs.{Outcome, IsOutcome}
 use Rattle.exit_status.specs.declared.outcomes.Outcome.TheVariants as outcomes
-use Rattle.exit_status.specs.Outcomes.{IsOutcome}
 use Rattle.socat_top.specs.declared.summaries.Summary.{Summary}
 use Rattle.socat_top.specs.Command.{load_command, load_turns}
 use Rattle.socat_top.specs.Scripts.{scripted}

@@ -3,18 +3,11 @@ use Rattle.std.specs.Prelude.{ℕ, zero, suc, ◌+◌, ◌*◌, ◌&&◌, nat_lt
 use Rattle.relay_model.specs.declared.acts.Peer.TheVariants.{V4}
 use Rattle.relay_model.specs.declared.places.Side.TheVariants.{Left, Right}
 use Rattle.relay_model.specs.declared.places.Part.TheVariants.{Both}
-use Rattle.relay_model.specs.declared.places.Place.{Place}
-use Rattle.relay_model.specs.Places.{same_place}
-use Rattle.relay_model.specs.Configs.{place_at, program_door}
-use Rattle.scripted_world.specs.declared.accepting.DuePeer.{DuePeer}
+use Rattle.relay_model.specs.{Place, same_place, place_at, program_door}
+use Rattle.scripted_world.specs.{DuePeer, PlacedItem, DueRead, DueWrite, Script, empty_script}
 use Rattle.scripted_world.specs.declared.items.PeerItem.TheVariants.{Comes}
-use Rattle.scripted_world.specs.declared.lines.PlacedItem.{PlacedItem}
-use Rattle.scripted_world.specs.declared.reading.DueRead.{DueRead}
 use Rattle.scripted_world.specs.declared.reading.Reading.TheVariants as readings
-use Rattle.scripted_world.specs.declared.writing.DueWrite.{DueWrite}
 use Rattle.scripted_world.specs.declared.writing.Writing.TheVariants as writings
-use Rattle.scripted_world.specs.declared.script.Script.{Script}
-use Rattle.scripted_world.specs.Scripts.{empty_script}
 use Rattle.socat_top.specs.Stream.{bytes_after, first_state, state_after}
 
 -- ---- places

@@ -1,6 +1,6 @@
 -- The summary of a generated run, and its line.
 use Rattle.std.specs.Prelude.{ℕ, List, [], ◌∷◌, ◌++◌, length, sum, codes, decimal}
-use Rattle.relay_model.specs.declared.acts.Act.{Act}
+use Rattle.relay_model.specs.{Act}
 use Rattle.socat_top.specs.declared.summaries.Summary.{Summary}
 use Rattle.socat_top.specs.Sums.{delivered, sessions_of}
 

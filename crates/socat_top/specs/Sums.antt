@@ -1,14 +1,10 @@
 -- What the list of acts of a generated run adds up to.
 use Rattle.std.specs.Prelude.{ℕ, Bool, false, ◌&&◌, ◌==◌, List, [], ◌∷◌, ◌++◌, if◌then◌else◌}
 use Rattle.std.specs.List.{list_any}
-use Rattle.relay_model.specs.declared.acts.Act.{Act}
+use Rattle.relay_model.specs.{Act, count, same_why, same_side, admitted}
 use Rattle.relay_model.specs.declared.acts.Act.TheVariants.{Accepted, Closed, Wrote}
 use Rattle.relay_model.specs.declared.acts.Why.TheVariants as whys
 use Rattle.relay_model.specs.declared.places.Side.TheVariants.{Left, Right}
-use Rattle.relay_model.specs.Choices.{count}
-use Rattle.relay_model.specs.History.{same_why}
-use Rattle.relay_model.specs.Places.{same_side}
-use Rattle.relay_model.specs.Sessions.{admitted}
 use Rattle.socat_top.specs.Command.{load_command}
 
 -- the act closes something of the session since that has finished

@@ -1,13 +1,10 @@
 -- What a list of words asks.
 use Rattle.std.specs.Prelude.{ℕ, List, Result, Ok, Err}
-use Rattle.relay_model.specs.declared.commands.Config.{Config}
-use Rattle.relay_model.specs.declared.refusals.Refused.{Refused}
-use Rattle.exit_status.specs.Lines.{usage, version}
-use Rattle.cmd_words.specs.declared.commands.Command.{Command}
+use Rattle.relay_model.specs.{Config, Refused}
+use Rattle.exit_status.specs.{usage, version}
+use Rattle.cmd_words.specs.{Command, CommandFault, command}
 use Rattle.cmd_words.specs.declared.commands.Command.TheVariants as commands
-use Rattle.cmd_words.specs.declared.faults.CommandFault.{CommandFault}
 use Rattle.cmd_words.specs.declared.faults.CommandFault.TheVariants as faults
-use Rattle.cmd_words.specs.Commands.{command}
 
 -- a relay, a text to be printed, a generated run, or a refusal; with `Unread` there was no memory to read them
 pub data WordsTask : Type 0 where

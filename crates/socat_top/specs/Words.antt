@@ -1,7 +1,7 @@
 -- The words that give the command of a generated run.
 use Rattle.std.specs.Prelude.{◌≡◌, ℕ, List, [], ◌∷◌, codes, Ok}
 use Rattle.cmd_words.specs.declared.commands.Command.TheVariants.{Relay}
-use Rattle.cmd_words.specs.Commands.{command}
+use Rattle.cmd_words.specs.{command}
 use Rattle.socat_top.specs.Command.{load_command}
 
 -- fifty peers are served, eight at a time, each by a connection of its own

@@ -1,10 +1,10 @@
 -- A run whose history may be written to a file.
 use Rattle.std.specs.Prelude.{◌≡◌, ◌⊎◌, ℕ, zero, suc, Bool, true, false, List, [], ◌∷◌, ◌++◌, Option, Some, option_map, codes, drop, length, nat_eq, if◌then◌else◌}
 use Rattle.std.specs.List.{starts_with}
-use Rattle.relay_model.specs.declared.acts.Act.{Act}
+use Rattle.relay_model.specs.{Act}
 use Rattle.relay_model.specs.declared.acts.Act.TheVariants.{Note, NoteFault}
 use Rattle.relay_model.specs.Journals.{History}
-use Rattle.journal_text.specs.Texts.{IsTextOf}
+use Rattle.journal_text.specs.{IsTextOf}
 use Rattle.socat_top.specs.declared.written.Saving.{Saving}
 use Rattle.socat_top.specs.declared.written.Saving.TheVariants as savings
 

@@ -1,13 +1,10 @@
 // What a list of words asks for, done over any world.
 ghost use Rattle.std.specs.Prelude.{◌≡◌, ◌⊎◌, true, is_some, Some};
 ghost use Rattle.exit_status.specs.declared.outcomes.Outcome.TheVariants as outcomes;
-ghost use Rattle.relay_model.specs.declared.places.Place.{Place};
-ghost use Rattle.relay_model.specs.Holding.{Free};
+ghost use Rattle.relay_model.specs.{Place, Free, Fit};
 ghost use Rattle.relay_model.specs.Journals.{History};
-ghost use Rattle.cmd_words.specs.Commands.{IsFit};
-ghost use Rattle.session_loop.specs.Courses.{Risen};
-ghost use Rattle.relay_model.specs.Configs.{Fit};
-ghost use Rattle.session_loop.specs.Headline.{Completes, StopCause, is_failure, is_relayed};
+ghost use Rattle.cmd_words.specs.{IsFit};
+ghost use Rattle.session_loop.specs.{Risen, Completes, StopCause, is_failure, is_relayed};
 ghost use Rattle.socat_top.specs.Headline.{Answers, CompletesTask, Headline, Leaves, Loads};
 ghost use Rattle.socat_top.specs.Notes.{OnlyNotes};
 ghost use Rattle.socat_top.specs.Tasks.{task, command_task};

@@ -1,6 +1,6 @@
 // The making of a journal's file, which comes before the run.
 ghost use Rattle.std.specs.Prelude.{◌≡◌, true, false};
-ghost use Rattle.port_desk.specs.Models.{BeginsHistory, IsFree};
+ghost use Rattle.port_desk.specs.{BeginsHistory, IsFree};
 
 use crate::files::JournalFile;
 use port_desk::{Desk, Modelled};

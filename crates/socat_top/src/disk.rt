@@ -2,7 +2,7 @@
 ghost use Rattle.std.specs.Prelude.{◌≡◌, ◌<◌, length, false, true, not, is_some, option_and_then, None, IfSome, IsUtf8};
 ghost use Rattle.port_trait.specs.Counting.{Counted};
 ghost use Rattle.std.specs.Io.KnownBytes.{Keeps};
-ghost use Rattle.port_trait.specs.Streams.{SinkTakes, WriterTakes, sink_failed};
+ghost use Rattle.port_trait.specs.{SinkTakes, WriterTakes, sink_failed};
 ghost use Rattle.port_trait.specs.declared.answers.SinkTook.TheVariants as tooks;
 ghost use Rattle.socat_top.specs.Creating.{Created};
 

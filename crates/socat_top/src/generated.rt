@@ -1,7 +1,6 @@
 // The generated run.
 ghost use Rattle.std.specs.Prelude.{◌≡◌, [], Some, IfOk};
-ghost use Rattle.relay_model.specs.declared.places.Place.{Place};
-ghost use Rattle.relay_model.specs.Holding.{Free};
+ghost use Rattle.relay_model.specs.{Place, Free};
 ghost use Rattle.socat_top.specs.Command.{load_command};
 ghost use Rattle.socat_top.specs.Numbered.{told_named};
 ghost use Rattle.socat_top.specs.Runs.{GeneratedRun};

@@ -1,7 +1,6 @@
 // The world of a generated run.
 ghost use Rattle.std.specs.Prelude.{◌≡◌, ◌<◌, ◌++◌, ◌∷◌, [], false, Some, IfOk, OnOk};
-ghost use Rattle.relay_model.specs.declared.places.Place.{Place};
-ghost use Rattle.relay_model.specs.Holding.{Free};
+ghost use Rattle.relay_model.specs.{Place, Free};
 ghost use Rattle.socat_top.specs.Scripts.{end_line, left_place, peer_line, pieces, right_place, script_of, session_writes};
 ghost use Rattle.socat_top.specs.Stream.{state_after};
 

@@ -1,7 +1,6 @@
 // A scripted world that stays the one of its number, whoever runs something over it.
 ghost use Rattle.std.specs.Prelude.{◌≡◌, Some, [], IfOk};
-ghost use Rattle.relay_model.specs.Holding.{Free};
-ghost use Rattle.relay_model.specs.declared.places.Place.{Place};
+ghost use Rattle.relay_model.specs.{Free, Place};
 ghost use Rattle.socat_top.specs.Numbered.{GivesScripted, told_named};
 
 use crate::load_worlds::load_world;
@@ -16,7 +15,7 @@ use world_trait::{
 /// The world of a generated run. What it gives to reads is what was scripted for its number, in order and once. In
 /// contracts its history begins with a note of that number: so it's known of any run over it that it is still this
 /// world.
-#[derive(Debug, Drop)]
+#[derive(Drop)]
 pub struct NumberedWorld {
     number: u64,
     world: MemWorld,

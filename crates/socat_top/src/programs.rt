@@ -1,6 +1,6 @@
 // The run of a program: that of its words over a desk, and the status it ends with.
 ghost use Rattle.std.specs.Prelude.{◌≡◌, ◌-◌, ◌^◌, [], true, Some, IfOk};
-ghost use Rattle.session_loop.specs.Headline.{StopCause};
+ghost use Rattle.session_loop.specs.{StopCause};
 ghost use Rattle.socat_top.specs.Kept.{history_of};
 ghost use Rattle.socat_top.specs.Headline.{Leaves};
 ghost use Rattle.socat_top.specs.Programs.{is_relaying, last_status};

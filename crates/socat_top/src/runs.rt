@@ -1,13 +1,11 @@
 // The run of a list of words over a desk.
 ghost use Rattle.std.specs.Prelude.{◌≡◌, [], true, IfSome, Some, is_some};
 ghost use Rattle.relay_model.specs.Journals.{History};
-ghost use Rattle.session_loop.specs.Courses.{Risen};
-ghost use Rattle.session_loop.specs.Headline.{StopCause, is_failure};
-ghost use Rattle.exit_status.specs.Statuses.{exit_code};
-ghost use Rattle.port_trait.specs.Ports.{Agrees};
-ghost use Rattle.port_table.specs.Endings.{OnJoinedBack, handed};
-ghost use Rattle.port_desk.specs.Following.{Passed, StartsInStep};
-ghost use Rattle.port_desk.specs.Models.{AreUnused, HasPassed, IsFree, start_of};
+ghost use Rattle.session_loop.specs.{Risen, StopCause, is_failure};
+ghost use Rattle.exit_status.specs.{exit_code};
+ghost use Rattle.port_trait.specs.{Agrees};
+ghost use Rattle.port_table.specs.{OnJoinedBack, handed};
+ghost use Rattle.port_desk.specs.{Passed, StartsInStep, AreUnused, HasPassed, IsFree, start_of};
 ghost use Rattle.socat_top.specs.Behind.{told_behind};
 ghost use Rattle.socat_top.specs.Kept.{history_of};
 ghost use Rattle.socat_top.specs.Headline.{Answers, CompletesTask, Leaves, TaskEnds, TaskEndsBehind};
@@ -15,7 +13,7 @@ ghost use Rattle.socat_top.specs.Tasks.{task};
 
 use crate::calls::socat;
 use exit_status::{Outcome, status};
-use port_desk::{Backs, Beginning, Counts, Desk, Ended, Followed, Modelled};
+use port_desk::{Backs, Beginning, Counts, Desk, Ended, Modelled};
 use port_trait::{Maker, Poller, Port};
 use relay_model::{Kept, Text};
 use std::alloc::Global;
@@ -90,7 +88,7 @@ fn follow<M: Maker + Drop, P: Poller + Drop, I: Port, O: Port, E: Port, B: Begin
     turns: u64,
 ) -> (Outcome, Desk<M, P, I, O, E>)
     requires free { IsFree (⟦<Desk<M, P, I, O, E> as Modelled>⟧.model desk) }
-    requires start { B.start ≡ start_of (⟦<Desk<M, P, I, O, E> as Modelled>⟧.model desk) }
+    requires start { B.start ≡ Some (start_of (⟦<Desk<M, P, I, O, E> as Modelled>⟧.model desk)) }
     ensures free { IsFree (⟦<Desk<M, P, I, O, E> as Modelled>⟧.model result.1) }
     ensures headline { let model = ⟦<Desk<M, P, I, O, E> as Modelled>⟧.model in (before : History) → (model desk).history ≡ Some before
         → Leaves (task words.now) turns before (model result.1).history result.0 }
@@ -107,7 +105,7 @@ fn follow<M: Maker + Drop, P: Poller + Drop, I: Port, O: Port, E: Port, B: Begin
         let before = (model desk).counts in let after = (model result.1).counts in
         StopCause turns before.waits after.waits before.stops after.stops result.0 }
 {
-    let mut followed = Followed::<M, P, I, O, E, B>::new(desk);
+    let mut followed = desk.follow::<B>();
     let outcome = socat(alloc, &mut followed, words, turns);
-    (outcome, followed.into_desk())
+    (outcome, followed.unfollow())
 }

@@ -15,7 +15,7 @@ const INCREMENT: u64 = 12_345;
 pub const PIECE: usize = 512;
 
 /// Gives the bytes of the stream of a number, one after another.
-#[derive(Clone, Copy, Debug)]
+#[derive(Clone, Copy)]
 pub struct Generator {
     state: u32,
     ghost small: { state < 2 ^ 31 },

@@ -1,6 +1,6 @@
 // The summary of a generated run.
 ghost use Rattle.std.specs.Prelude.{◌≡◌, ◌<◌, ◌+◌, ◌^◌, length, sum, string_bytes, IfOk};
-ghost use Rattle.relay_model.specs.Sessions.{admitted};
+ghost use Rattle.relay_model.specs.{admitted};
 ghost use Rattle.socat_top.specs.Command.{load_command};
 ghost use Rattle.socat_top.specs.Sums.{begins, brought, delivered, finishes, sessions_of, was_finished};
 
@@ -8,7 +8,7 @@ use relay_model::{Act, Bytes, Journal, NoMemory, Side, Why};
 use std::alloc::{AllocError, Global};
 
 /// How many sessions were closed as finished, how many bytes were written at right places, and the sum of these.
-#[derive(Clone, Copy, Debug, PartialEq, Eq)]
+#[derive(Clone, Copy, PartialEq, Eq)]
 pub struct Summary {
     pub number: u64,
     pub sessions: u64,

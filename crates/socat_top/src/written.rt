@@ -2,14 +2,12 @@
 ghost use Rattle.std.specs.Prelude.{◌≡◌, ◌≤◌, ◌-◌, [], true, false, length, drop, Some, IfSome, MatchOption};
 ghost use Rattle.std.specs.Bool.{OnTrue, OnFalse};
 ghost use Rattle.relay_model.specs.Journals.{History};
-ghost use Rattle.session_loop.specs.Courses.{Risen};
-ghost use Rattle.session_loop.specs.Headline.{StopCause, is_failure};
-ghost use Rattle.exit_status.specs.Statuses.{exit_code};
+ghost use Rattle.session_loop.specs.{Risen, StopCause, is_failure};
+ghost use Rattle.exit_status.specs.{exit_code};
 ghost use Rattle.socat_top.specs.declared.written.Saving.TheVariants as savings;
-ghost use Rattle.port_trait.specs.Ports.{Agrees};
-ghost use Rattle.port_table.specs.Endings.{OnJoinedBack, handed};
-ghost use Rattle.port_desk.specs.Following.{Passed};
-ghost use Rattle.port_desk.specs.Models.{AreUnused, IsFree};
+ghost use Rattle.port_trait.specs.{Agrees};
+ghost use Rattle.port_table.specs.{OnJoinedBack, handed};
+ghost use Rattle.port_desk.specs.{Passed, AreUnused, IsFree};
 ghost use Rattle.socat_top.specs.Behind.{told_behind};
 ghost use Rattle.socat_top.specs.Kept.{history_of};
 ghost use Rattle.socat_top.specs.Headline.{Answers, CompletesTask, Leaves, TaskEnds, TaskEndsBehind};
@@ -30,7 +28,7 @@ use std::alloc::Global;
 const FLAG: &[u8] = b"--journal=";
 
 /// What became of the journal of a run.
-#[derive(Clone, Copy, Debug, PartialEq, Eq)]
+#[derive(Clone, Copy, PartialEq, Eq)]
 pub enum Saving {
     NotAsked,
     Saved,

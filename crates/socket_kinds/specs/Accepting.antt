@@ -3,10 +3,9 @@ use Rattle.std.specs.Prelude.{◌≡◌, ◌≢◌}
 use Rattle.std.specs.declared.io.Error.{Error}
 use Rattle.std.specs.declared.io.ErrorKind.TheVariants.{WouldBlock}
 use Rattle.std.specs.IoError.{error_kind}
-use Rattle.relay_model.specs.declared.acts.Peer.{Peer}
-use Rattle.port_trait.specs.declared.makers.Making.{Making}
+use Rattle.relay_model.specs.{Peer}
+use Rattle.port_trait.specs.{Making, MadePeer}
 use Rattle.port_trait.specs.declared.makers.Making.TheVariants as makings
-use Rattle.port_trait.specs.declared.makers.MadePeer.{MadePeer}
 use Rattle.port_trait.specs.declared.makers.MadePeer.TheVariants as peers
 
 -- a fact of the port, where one was made

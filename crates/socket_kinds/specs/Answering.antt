@@ -4,13 +4,10 @@ use Rattle.std.specs.declared.io.Error.{Error}
 use Rattle.std.specs.declared.io.ErrorKind.TheVariants.{WouldBlock, NotConnected}
 use Rattle.std.specs.IoError.{error_kind}
 use Rattle.std.specs.Io.KnownBytes.{Keeps, Consumes, Appends, IsAtEnd}
-use Rattle.port_trait.specs.declared.answers.Settled.{Settled}
+use Rattle.port_trait.specs.{Settled, Got, Took as WriteAnswer, Shutting}
 use Rattle.port_trait.specs.declared.answers.Settled.TheVariants as settles
-use Rattle.port_trait.specs.declared.answers.Got.{Got}
 use Rattle.port_trait.specs.declared.answers.Got.TheVariants as reads
-use Rattle.port_trait.specs.declared.answers.Took.{Took as WriteAnswer}
 use Rattle.port_trait.specs.declared.answers.Took.TheVariants as writes
-use Rattle.port_trait.specs.declared.answers.Shutting.{Shutting}
 use Rattle.port_trait.specs.declared.answers.Shutting.TheVariants as shuts
 use Rattle.socket_kinds.specs.declared.answering.Connection.{Connection}
 use Rattle.socket_kinds.specs.declared.answering.Connection.TheVariants as connections

@@ -3,13 +3,10 @@ use Rattle.std.specs.Prelude.{◌≡◌, ◌≢◌, ℕ, zero, suc, ◌<◌, Boo
 use Rattle.std.specs.declared.io.Error.{Error}
 use Rattle.std.specs.declared.io.ErrorKind.TheVariants.{WouldBlock}
 use Rattle.std.specs.IoError.{error_kind}
-use Rattle.port_trait.specs.declared.answers.Hint.{Hint}
-use Rattle.port_trait.specs.declared.answers.Got.{Got}
+use Rattle.port_trait.specs.{Hint, Got, Took as WriteAnswer, Shutting}
 use Rattle.port_trait.specs.declared.answers.Got.TheVariants as reads
 use Rattle.std.specs.declared.net.socket_addr.SocketAddr.{SocketAddr}
-use Rattle.port_trait.specs.declared.answers.Took.{Took as WriteAnswer}
 use Rattle.port_trait.specs.declared.answers.Took.TheVariants as writes
-use Rattle.port_trait.specs.declared.answers.Shutting.{Shutting}
 use Rattle.port_trait.specs.declared.answers.Shutting.TheVariants as shuts
 use Rattle.socket_kinds.specs.Answering.{IsAccepted}
 use Rattle.socket_kinds.specs.declared.packet.FetchedPacket.{FetchedPacket}

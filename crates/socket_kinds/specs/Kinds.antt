@@ -4,8 +4,7 @@ use Rattle.std.specs.declared.io.Error.{Error}
 use Rattle.std.specs.declared.net.socket_addr.SocketAddr.{SocketAddr}
 use Rattle.mio.specs.declared.net.listener.TcpListener.{TcpListener}
 use Rattle.mio.specs.declared.net.stream.TcpStream.{TcpStream}
-use Rattle.port_trait.specs.Hinting.{no_hint}
-use Rattle.port_trait.specs.declared.answers.Hint.{Hint}
+use Rattle.port_trait.specs.{no_hint, Hint}
 use Rattle.socket_kinds.specs.Datagrams.{DatagramState, datagram_hint}
 use Rattle.socket_kinds.specs.Doors.{DoorState, door_hint, is_unix}
 use Rattle.socket_kinds.specs.declared.door.Listener.{Listener}
@@ -13,7 +12,7 @@ use Rattle.socket_kinds.specs.declared.door.Listener.TheVariants as listeners
 use Rattle.socket_kinds.specs.Streams.{StreamState}
 use Rattle.socket_kinds.specs.declared.enrolled.EnrolledUdp.{EnrolledUdp}
 use Rattle.socket_kinds.specs.declared.stream.SocketStream.{SocketStream}
-use Rattle.relay_model.specs.declared.acts.Peer.{Peer}
+use Rattle.relay_model.specs.{Peer}
 use Rattle.relay_model.specs.declared.acts.Peer.TheVariants as peers
 use Rattle.socket_kinds.specs.Peers.{IsPeer}
 use Rattle.socket_kinds.specs.declared.packet.Partner.{Partner}

@@ -6,7 +6,7 @@ use Rattle.std.specs.declared.net.socket_addr.SocketAddr.{SocketAddr}
 use Rattle.std.specs.declared.net.socket_addr.SocketAddr.TheVariants as addrs
 use Rattle.std.specs.Net.Addr.{ipv4_octets, ipv6_octets, ipv6_segments, segments_of}
 use Rattle.std.specs.Net.Socket.{v4_ip, v4_port, v6_ip, v6_port, socket_ip, socket_port}
-use Rattle.relay_model.specs.declared.acts.Peer.{Peer}
+use Rattle.relay_model.specs.{Peer}
 use Rattle.relay_model.specs.declared.acts.Peer.TheVariants as peers
 
 -- the peer has the address and the port

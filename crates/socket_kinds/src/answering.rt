@@ -7,7 +7,7 @@ use std::io;
 use std::io::{Error, ErrorKind};
 
 /// How a connection stands that was begun.
-#[derive(Clone, Copy, Debug, PartialEq)]
+#[derive(Clone, Copy, PartialEq)]
 pub(crate) enum Connection {
     UnderWay,
     Standing,

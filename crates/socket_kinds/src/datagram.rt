@@ -1,10 +1,9 @@
 // Sockets of datagrams (udp(7)).
 ghost use Rattle.std.specs.Prelude.{◌≡◌, ◌≢◌, ◌<◌, ◌↔◌, ◌||◌, [], length, take, min, is_some, true, false, None, Some, IfSome, IfOk, IsTrue};
-ghost use Rattle.port_trait.specs.Made.{IsAtOnce};
+ghost use Rattle.port_trait.specs.{IsAtOnce, Gives, Accepts, AcceptsWhole};
 ghost use Rattle.socket_kinds.specs.Accepting.{OnPort};
 ghost use Rattle.socket_kinds.specs.Answering.{Answers, IsAccepted};
 ghost use Rattle.std.specs.Io.{WritesAtMost};
-ghost use Rattle.port_trait.specs.Meanings.{Gives, Accepts, AcceptsWhole};
 ghost use Rattle.port_trait.specs.declared.answers.Settled.TheVariants as settles;
 ghost use Rattle.port_trait.specs.declared.answers.Got.TheVariants as reads;
 ghost use Rattle.port_trait.specs.declared.answers.Shutting.TheVariants as shuts;

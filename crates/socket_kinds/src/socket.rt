@@ -1,13 +1,7 @@
 // A socket, as the port over it calls it.
 ghost use Rattle.std.specs.Prelude.{◌≡◌, ◌<◌, List, ℕ, length, Option, None};
-ghost use Rattle.port_trait.specs.Hinting.{no_hint};
-ghost use Rattle.port_trait.specs.Meanings.{Gives, Accepts, AcceptsWhole, noted};
-ghost use Rattle.port_trait.specs.declared.answers.Hint.{Hint};
-ghost use Rattle.port_trait.specs.declared.answers.Got.{Got};
-ghost use Rattle.port_trait.specs.declared.answers.Settled.{Settled};
-ghost use Rattle.port_trait.specs.declared.answers.Shutting.{Shutting};
-ghost use Rattle.port_trait.specs.declared.answers.Took.{Took as WriteAnswer};
-ghost use Rattle.relay_model.specs.declared.acts.Shut.{Shut};
+ghost use Rattle.port_trait.specs.{no_hint, Gives, Accepts, AcceptsWhole, noted, Hint, Got, Settled, Shutting, Took as WriteAnswer};
+ghost use Rattle.relay_model.specs.{Shut};
 
 use port_trait::{Got, Hint, Settled, Shutting, Took};
 use relay_model::Shut;

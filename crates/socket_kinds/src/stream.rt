@@ -5,12 +5,10 @@ ghost use Rattle.std.specs.Io.KnownBytes.{Keeps, ReadConsumes, WriteAppends};
 ghost use Rattle.std.specs.declared.io.Error.{Error};
 ghost use Rattle.std.specs.declared.net.handle.Shutdown.{Shutdown};
 ghost use Rattle.std.specs.declared.net.handle.Shutdown.TheVariants as halves;
-ghost use Rattle.port_trait.specs.Meanings.{Gives, Accepts};
+ghost use Rattle.port_trait.specs.{Gives, Accepts, no_hint, finishes};
 ghost use Rattle.port_trait.specs.declared.answers.Took.TheVariants as writes;
 ghost use Rattle.port_trait.specs.declared.answers.Got.TheVariants as reads;
 ghost use Rattle.port_trait.specs.declared.answers.Shutting.TheVariants as shuts;
-ghost use Rattle.port_trait.specs.Hinting.{no_hint};
-ghost use Rattle.port_trait.specs.Streams.{finishes};
 ghost use Rattle.socket_kinds.specs.Answering.{Answers, ReaderGave, WriterTook, IsReceived, IsAccepted, IsShutDown, connection_of, settling_of};
 ghost use Rattle.socket_kinds.specs.declared.answering.Connection.TheVariants as connections;
 

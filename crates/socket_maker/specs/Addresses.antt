@@ -5,15 +5,12 @@ use Rattle.std.specs.declared.net.ip_addr.IpAddr.TheVariants as ips
 use Rattle.std.specs.declared.net.socket_addr.SocketAddr.{SocketAddr}
 use Rattle.std.specs.Net.Addr.{ipv4_octets, ipv6_segments}
 use Rattle.std.specs.Net.Socket.{socket_ip, socket_port}
-use Rattle.relay_model.specs.declared.acts.Peer.{Peer}
+use Rattle.relay_model.specs.{Peer, Bind, Family, Target}
 use Rattle.relay_model.specs.declared.acts.Peer.TheVariants as peers
-use Rattle.relay_model.specs.declared.commands.Bind.{Bind}
-use Rattle.relay_model.specs.declared.commands.Family.{Family}
 use Rattle.relay_model.specs.declared.commands.Family.TheVariants as families
-use Rattle.relay_model.specs.declared.commands.Target.{Target}
 use Rattle.relay_model.specs.declared.commands.Target.TheVariants as targets
-use Rattle.socket_kinds.specs.Peers.{IsIpv4, IsIpv6, IsAddress}
-use Rattle.host_lookup.specs.Found.{has_ipv6}
+use Rattle.socket_kinds.specs.{IsIpv4, IsIpv6, IsAddress}
+use Rattle.host_lookup.specs.{has_ipv6}
 
 -- every address of this machine, by IPv4
 abbrev pub IsAnyIpv4 : IpAddr → Type 0

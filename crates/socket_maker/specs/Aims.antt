@@ -3,12 +3,10 @@ use Rattle.std.specs.Prelude.{◌≡◌, ℕ, List, Option, None, Some}
 use Rattle.std.specs.declared.net.socket_addr.SocketAddr.{SocketAddr}
 use Rattle.std.specs.Net.Socket.{socket_ip, socket_port}
 use Rattle.relay_model.specs.declared.commands.Family.TheVariants as families
-use Rattle.relay_model.specs.declared.commands.SocketOptions.{SocketOptions}
-use Rattle.relay_model.specs.declared.commands.Target.{Target}
+use Rattle.relay_model.specs.{SocketOptions, Target}
 use Rattle.relay_model.specs.declared.commands.Target.TheVariants as targets
-use Rattle.socket_kinds.specs.Kinds.{Sort, Connected, Packets}
-use Rattle.host_lookup.specs.Found.{IsOfFamily}
-use Rattle.host_lookup.specs.Hosts.{WritesIp}
+use Rattle.socket_kinds.specs.{Sort, Connected, Packets}
+use Rattle.host_lookup.specs.{IsOfFamily, WritesIp}
 use Rattle.socket_maker.specs.declared.aims.Aim.{Aim}
 use Rattle.socket_maker.specs.declared.aims.SocketWay.{SocketWay}
 use Rattle.socket_maker.specs.declared.aims.SocketWay.TheVariants as ways

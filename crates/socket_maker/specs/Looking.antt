@@ -1,6 +1,6 @@
 -- What contracts see of a socket that waits for the lookup of its host.
 use Rattle.std.specs.Prelude.{ℕ, Bool, List, Option}
-use Rattle.port_trait.specs.declared.counts.PortCounts.{PortCounts}
+use Rattle.port_trait.specs.{PortCounts}
 use Rattle.socket_maker.specs.declared.aims.Aim.{Aim}
 
 -- what is to be opened, the name that is looked up until that has come to its end, what was counted, and whether a begin

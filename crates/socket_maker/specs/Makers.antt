@@ -1,8 +1,7 @@
 -- What contracts see of the maker of sockets.
 use Rattle.std.specs.Prelude.{ℕ, Bool, Option, None, if◌then◌else◌}
-use Rattle.relay_model.specs.declared.acts.Peer.{Peer}
-use Rattle.port_trait.specs.Counted.{risen}
-use Rattle.port_trait.specs.Makers.{MakerSeen}
+use Rattle.relay_model.specs.{Peer}
+use Rattle.port_trait.specs.{risen, MakerSeen}
 
 -- its counts, and the peer that it accepted last
 pub record SocketMakerState : Type 0 where

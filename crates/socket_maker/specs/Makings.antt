@@ -1,10 +1,10 @@
 -- Which sockets are made of which addresses.
 use Rattle.std.specs.Prelude.{Option, None, Some}
-use Rattle.relay_model.specs.declared.commands.Target.{Target}
+use Rattle.relay_model.specs.{Target}
 use Rattle.relay_model.specs.declared.commands.Target.TheVariants as targets
-use Rattle.port_trait.specs.declared.makers.Making.{Making}
+use Rattle.port_trait.specs.{Making}
 use Rattle.port_trait.specs.declared.makers.Making.TheVariants as makings
-use Rattle.socket_kinds.specs.Kinds.{Sort, Connected, Packets, SystemSocket, sort_of}
+use Rattle.socket_kinds.specs.{Sort, Connected, Packets, SystemSocket, sort_of}
 
 -- what is opened for an address that doesn't listen
 abbrev pub opened_sort : Target → Option Sort

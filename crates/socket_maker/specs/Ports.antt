@@ -1,15 +1,11 @@
 -- What contracts see of the port of a socket, also while its host is looked up.
 use Rattle.std.specs.Prelude.{◌≡◌, ◌≢◌, ℕ, Bool, true, false, List, Option, None, Some, IsSomeAnd}
-use Rattle.port_trait.specs.Hinting.{all_hints}
-use Rattle.port_trait.specs.declared.answers.Hint.{Hint}
-use Rattle.port_trait.specs.declared.counts.PortCounts.{PortCounts}
-use Rattle.port_trait.specs.declared.makers.Making.{Making}
+use Rattle.port_trait.specs.{all_hints, Hint, PortCounts, Making}
 use Rattle.port_trait.specs.declared.makers.Making.TheVariants as makings
-use Rattle.relay_model.specs.declared.acts.Peer.{Peer}
-use Rattle.socket_kinds.specs.Kinds.{Sort, HasPartner, hint_of, is_door, is_unix_door, has_left_off, sort_of, SystemSocket}
-use Rattle.socket_ports.specs.Accepting.{IsFreshPort as IsFreshSocket}
-use Rattle.socket_ports.specs.Sockets.{SocketPortState, no_counts}
-use Rattle.host_lookup.specs.Hosts.{IsNameOf}
+use Rattle.relay_model.specs.{Peer}
+use Rattle.socket_kinds.specs.{Sort, HasPartner, hint_of, is_door, is_unix_door, has_left_off, sort_of, SystemSocket}
+use Rattle.socket_ports.specs.{IsFreshPort as IsFreshSocket, SocketPortState, no_counts}
+use Rattle.host_lookup.specs.{IsNameOf}
 use Rattle.socket_maker.specs.Aims.{way_sort}
 use Rattle.socket_maker.specs.Looking.{LookingState}
 use Rattle.socket_maker.specs.declared.aims.Aim.{Aim}

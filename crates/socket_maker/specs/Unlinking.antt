@@ -1,10 +1,8 @@
 -- Which entries are removed before a socket is opened.
 use Rattle.std.specs.Prelude.{◌≡◌, ◌⊎◌, ℕ, Bool, List, [], ◌∷◌, ◌++◌, Option, None, Some, option_map, if◌then◌else◌}
-use Rattle.relay_model.specs.declared.commands.EntryOptions.{EntryOptions}
-use Rattle.relay_model.specs.declared.commands.Single.{Single}
-use Rattle.relay_model.specs.declared.commands.Target.{Target}
+use Rattle.relay_model.specs.{EntryOptions, Single, Target}
 use Rattle.relay_model.specs.declared.commands.Target.TheVariants as targets
-use Rattle.port_trait.specs.declared.makers.Making.{Making}
+use Rattle.port_trait.specs.{Making}
 use Rattle.port_trait.specs.declared.makers.Making.TheVariants as makings
 
 -- what was asked to be removed: this entry besides, where that is wanted

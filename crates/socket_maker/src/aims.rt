@@ -7,7 +7,7 @@ use relay_model::{Family, Single, SocketOptions, Target, Text};
 
 /// The socket that is opened: a connection by TCP, a partner of UDP that is connected to, or one of UDP that is sent to
 /// (socat(1), `TCP`, `UDP` and `UDP-SENDTO`).
-#[derive(Clone, Copy, Debug, PartialEq)]
+#[derive(Clone, Copy, PartialEq)]
 pub enum SocketWay {
     Connection,
     Partner,
@@ -15,7 +15,7 @@ pub enum SocketWay {
 }
 
 /// Which socket is opened, to which port, by which of the host's addresses, and how it is set up.
-#[derive(Clone, Copy, Debug, PartialEq)]
+#[derive(Clone, Copy, PartialEq)]
 pub struct Aim {
     pub way: SocketWay,
     pub family: Family,

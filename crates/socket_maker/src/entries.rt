@@ -1,11 +1,8 @@
 // Sockets with an entry in the file system.
 ghost use Rattle.std.specs.Prelude.{◌≡◌, IfSome, string_bytes};
-ghost use Rattle.port_trait.specs.Made.{IsAtOnce};
-ghost use Rattle.socket_kinds.specs.Accepting.{OnPort};
-ghost use Rattle.socket_kinds.specs.Kinds.{Connected, Listening, sort_of};
-ghost use Rattle.socket_kinds.specs.declared.any_socket.AnySocket.{AnySocket};
-ghost use Rattle.socket_ports.specs.Removals.{IsRemoval};
-ghost use Rattle.socket_ports.specs.Sockets.{fresh_port};
+ghost use Rattle.port_trait.specs.{IsAtOnce};
+ghost use Rattle.socket_kinds.specs.{OnPort, Connected, Listening, sort_of, AnySocket};
+ghost use Rattle.socket_ports.specs.{IsRemoval, fresh_port};
 ghost use Rattle.socket_maker.specs.Unlinking.{UnlinksNamed};
 ghost use Rattle.socket_maker.specs.Ports.{IsFreshPort, port_sort};
 ghost use Rattle.socket_maker.specs.declared.port.HostPort.TheVariants as ports;

@@ -1,12 +1,10 @@
 // A socket whose host is being looked up.
 ghost use Rattle.std.specs.Prelude.{◌≡◌, false, List, ℕ, None, Some, IfSome};
-ghost use Rattle.port_trait.specs.Counted.{counted};
-ghost use Rattle.port_trait.specs.Counting.{Tallied};
-ghost use Rattle.port_trait.specs.Meanings.{Accepts, AcceptsWhole, Gives, is_end, read_event, settle_event, write_event};
+ghost use Rattle.port_trait.specs.{counted, Tallied, Accepts, AcceptsWhole, Gives, is_end, read_event, settle_event, write_event};
 ghost use Rattle.port_trait.specs.declared.answers.Settled.TheVariants as settles;
 ghost use Rattle.port_trait.specs.declared.answers.Shutting.TheVariants as shuts;
-ghost use Rattle.socket_kinds.specs.Kinds.{sort_of};
-ghost use Rattle.socket_ports.specs.Sockets.{no_counts};
+ghost use Rattle.socket_kinds.specs.{sort_of};
+ghost use Rattle.socket_ports.specs.{no_counts};
 ghost use Rattle.socket_maker.specs.Aims.{way_sort};
 
 use crate::aims::Aim;

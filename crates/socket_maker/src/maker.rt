@@ -1,18 +1,16 @@
 // The maker of sockets, which counts what it answers.
 ghost use Rattle.std.specs.Prelude.{◌≡◌, ◌≢◌, true, false, None, Some, IfSome, is_some};
-ghost use Rattle.port_trait.specs.Made.{IsAtOnce};
-ghost use Rattle.port_trait.specs.Makers.{Opens, Listens, LetsIn};
+ghost use Rattle.port_trait.specs.{IsAtOnce, Opens, Listens, LetsIn};
 ghost use Rattle.port_trait.specs.declared.makers.Making.TheVariants as makings;
 ghost use Rattle.socket_maker.specs.Makers.{seen_of};
 ghost use Rattle.port_trait.specs.declared.makers.MadePeer.TheVariants as peers;
 ghost use Rattle.relay_model.specs.declared.acts.Peer.TheVariants as whose;
-ghost use Rattle.socket_kinds.specs.Kinds.{Listening};
-ghost use Rattle.socket_kinds.specs.Accepting.{OnBoth, OnCame, OnPort, OnPeer};
-ghost use Rattle.host_lookup.specs.Hosts.{IsNameOf, WritesIp};
+ghost use Rattle.socket_kinds.specs.{Listening, OnBoth, OnCame, OnPort, OnPeer};
+ghost use Rattle.host_lookup.specs.{IsNameOf, WritesIp};
 ghost use Rattle.socket_maker.specs.Aims.{aim_of, host_of, server_aim, way_sort};
 ghost use Rattle.socket_maker.specs.Makings.{opened_sort};
 ghost use Rattle.socket_maker.specs.Ports.{Aims, HasPartnerAt, IsFreshPort, has_left_off_at, is_door_port, is_unix_door_port, port_sort, sort_at};
-ghost use Rattle.relay_model.specs.Configs.{listens};
+ghost use Rattle.relay_model.specs.{listens};
 
 use crate::aims::{Aim, SocketWay, aim_at};
 use crate::looking::LookingPort;

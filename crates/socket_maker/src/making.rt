@@ -1,16 +1,15 @@
 // Sockets of addresses without a host: doors, and those that wait for datagrams.
 ghost use Rattle.std.specs.Prelude.{◌≡◌, ℕ, List, false, None, Some, IfSome};
 ghost use Rattle.port_trait.specs.declared.makers.Making.TheVariants as makings;
-ghost use Rattle.port_trait.specs.Made.{IsAtOnce};
-ghost use Rattle.socket_kinds.specs.Accepting.{OnPort};
+ghost use Rattle.port_trait.specs.{IsAtOnce};
+ghost use Rattle.socket_kinds.specs.{OnPort, Packets, Listening};
 ghost use Rattle.socket_maker.specs.Addresses.{IsDoorAddress, waits_at};
 ghost use Rattle.socket_maker.specs.Aims.{aim_of, way_sort};
 ghost use Rattle.socket_maker.specs.Makings.{opened_sort, socket_sort};
 ghost use Rattle.socket_maker.specs.Ports.{Aims, IsFreshPort, port_sort};
 ghost use Rattle.socket_maker.specs.Unlinking.{UnlinksOf};
 ghost use Rattle.socket_maker.specs.declared.aims.Aim.{Aim};
-ghost use Rattle.relay_model.specs.Configs.{listens};
-ghost use Rattle.socket_kinds.specs.Kinds.{Packets, Listening};
+ghost use Rattle.relay_model.specs.{listens};
 
 use crate::entries::{connect_unix, listen_unix};
 use crate::local::door_address;

@@ -1,8 +1,6 @@
 // The port of a socket, also while its host is looked up.
 ghost use Rattle.std.specs.Prelude.{◌≡◌, true, false, None};
-ghost use Rattle.port_trait.specs.Counting.{Tallied};
-ghost use Rattle.port_trait.specs.Meanings.{settle_event};
-ghost use Rattle.port_trait.specs.Ports.{untold};
+ghost use Rattle.port_trait.specs.{Tallied, settle_event, untold};
 ghost use Rattle.socket_maker.specs.Ports.{Follows, begun_at, counts_at, ended_at, hints_at, may_hint_at};
 
 use crate::looking::LookingPort;

@@ -1,10 +1,9 @@
 // Sockets to a host whose address is known.
 ghost use Rattle.std.specs.Prelude.{◌≡◌, true, Some, IfSome};
 ghost use Rattle.std.specs.Net.Socket.{socket_ip};
-ghost use Rattle.port_trait.specs.Made.{IsAtOnce};
-ghost use Rattle.socket_kinds.specs.Kinds.{Connected, Packets};
-ghost use Rattle.host_lookup.specs.Found.{IsOfFamily};
-ghost use Rattle.host_lookup.specs.Hosts.{WritesIp};
+ghost use Rattle.port_trait.specs.{IsAtOnce};
+ghost use Rattle.socket_kinds.specs.{Connected, Packets};
+ghost use Rattle.host_lookup.specs.{IsOfFamily, WritesIp};
 ghost use Rattle.socket_maker.specs.Addresses.{IsLocalAddress};
 ghost use Rattle.socket_maker.specs.Aims.{IsReached, IsWrittenOut, way_sort};
 ghost use Rattle.socket_maker.specs.Makings.{socket_sort};

@@ -1,15 +1,14 @@
 // What a maker counts of its answers.
 ghost use Rattle.std.specs.Prelude.{◌≡◌, true, None};
-ghost use Rattle.port_trait.specs.Counted.{risen};
+ghost use Rattle.port_trait.specs.{risen, came_after, making_failed, making_stalled, peer_failed, peer_stalled};
 ghost use Rattle.port_trait.specs.Counting.{Counted};
-ghost use Rattle.port_trait.specs.Made.{came_after, making_failed, making_stalled, peer_failed, peer_stalled};
 ghost use Rattle.socket_maker.specs.Makers.{risen_if};
 
 use port_trait::{MadePeer, Making};
 use relay_model::Peer;
 
 /// How many answers of a maker were failures, how many were still under way, and the peer that was accepted last.
-#[derive(Clone, Copy, Debug)]
+#[derive(Clone, Copy)]
 pub struct MakerTally {
     faults: u64,
     stalls: u64,

@@ -1,11 +1,8 @@
 -- What contracts see of a socket that peers share, with the keys of their ports.
 use Rattle.std.specs.Prelude.{◌≡◌, ◌≢◌, ◌⊎◌, Bool, true, false, List, Option}
 use Rattle.relay_model.specs.declared.acts.Peer.TheVariants as peers
-use Rattle.peer_demux.specs.declared.hubs.RowPeer.{RowPeer}
+use Rattle.peer_demux.specs.{RowPeer, AcceptsRow, HubState, TakesPackets, Packet, IsTrimmed, TableState}
 use Rattle.peer_demux.specs.declared.hubs.RowPeer.TheVariants as rows
-use Rattle.peer_demux.specs.Hubs.{AcceptsRow, HubState, TakesPackets}
-use Rattle.peer_demux.specs.Links.{Packet}
-use Rattle.peer_demux.specs.Tables.{IsTrimmed, TableState}
 
 -- the socket with its rows, and whether it may have packets
 pub record CrowdState (L : Type 0) : Type 0 where

@@ -4,14 +4,13 @@ use Rattle.std.specs.declared.io.Error.{Error}
 use Rattle.std.specs.declared.io.ErrorKind.TheVariants.{WouldBlock}
 use Rattle.std.specs.IoError.{error_kind}
 use Rattle.std.specs.declared.net.socket_addr.SocketAddr.{SocketAddr}
-use Rattle.relay_model.specs.declared.acts.Peer.{Peer}
+use Rattle.relay_model.specs.{Peer}
 use Rattle.relay_model.specs.declared.acts.Peer.TheVariants as peers
-use Rattle.port_trait.specs.declared.answers.Took.{Took as WriteAnswer}
+use Rattle.port_trait.specs.{Took as WriteAnswer}
 use Rattle.port_trait.specs.declared.answers.Took.TheVariants as writes
-use Rattle.peer_demux.specs.declared.links.Received.{Received}
+use Rattle.peer_demux.specs.{Received}
 use Rattle.peer_demux.specs.declared.links.Received.TheVariants as gots
-use Rattle.socket_kinds.specs.Answering.{Answers}
-use Rattle.socket_kinds.specs.Peers.{IsAddress, IsPeer}
+use Rattle.socket_kinds.specs.{Answers, IsAddress, IsPeer}
 
 -- what the packets go over, and how often it failed, had nothing or no room, and gave a packet
 pub record LinkState (U : Type 0) : Type 0 where

@@ -1,9 +1,8 @@
 -- What contracts see of a poller that also takes what comes for peers.
 use Rattle.std.specs.Prelude.{◌≡◌, ◌⊎◌, ◌++◌, ℕ, ◌^◌, ◌-◌, ◌==◌, Bool, true, false, List, Option, Some, IfSome}
 use Rattle.std.specs.List.{list_any}
-use Rattle.relay_model.specs.declared.places.Half.{Half}
-use Rattle.port_trait.specs.Keys.{KeysListed}
-use Rattle.port_trait.specs.declared.pollers.Polled.{Polled}
+use Rattle.relay_model.specs.{Half}
+use Rattle.port_trait.specs.{KeysListed, Polled}
 
 -- the poller beneath, whether ports are left that didn't fit, until when the last poll was asked to wait at most, what it named, and whether it said stop
 pub record PeerPollerState (P : Type 0) : Type 0 where

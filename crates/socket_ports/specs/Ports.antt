@@ -1,8 +1,7 @@
 -- What contracts see of a port over a shared socket.
 use Rattle.std.specs.Prelude.{Bool, false, Option}
-use Rattle.relay_model.specs.declared.acts.Peer.{Peer}
-use Rattle.port_trait.specs.declared.answers.Hint.{Hint}
-use Rattle.port_trait.specs.declared.counts.PortCounts.{PortCounts}
+use Rattle.relay_model.specs.{Peer}
+use Rattle.port_trait.specs.{Hint, PortCounts}
 
 -- what was counted, whether a begin came, whether the last read answered the end, whether the last write found no room,
 -- and the peer that was told with the port; a door has none
@@ -14,8 +13,8 @@ pub record PeerState : Type 0 where
   pub peer : Option Peer
 
 -- a port that was just made, with this peer
-abbrev pub fresh_port : Option Peer → PeerState
-fresh_port peer = record { counts = record { faults = 0; ends = 0; empties = 0; stalls = 0 }; begun = false; ended = false; blocked = false; peer = peer }
+abbrev pub fresh_peer_port : Option Peer → PeerState
+fresh_peer_port peer = record { counts = record { faults = 0; ends = 0; empties = 0; stalls = 0 }; begun = false; ended = false; blocked = false; peer = peer }
 
 -- it hints at room alone, and only where a write found none
 abbrev pub blocked_hint : PeerState → Hint

@@ -1,6 +1,6 @@
 -- What contracts see of the port over a socket.
 use Rattle.std.specs.Prelude.{Bool, false}
-use Rattle.port_trait.specs.declared.counts.PortCounts.{PortCounts}
+use Rattle.port_trait.specs.{PortCounts}
 
 -- counts that stand at their beginning
 abbrev pub no_counts : PortCounts

@@ -2,8 +2,7 @@
 ghost use Rattle.std.specs.Prelude.{◌≡◌, ◌≢◌, false, true};
 ghost use Rattle.port_trait.specs.declared.makers.MadePeer.TheVariants as peers;
 ghost use Rattle.relay_model.specs.declared.acts.Peer.TheVariants as whose;
-ghost use Rattle.socket_kinds.specs.Accepting.{OnBoth, OnCame, OnPeer};
-ghost use Rattle.socket_kinds.specs.Kinds.{is_door, is_unix_door, has_left_off, ComesToDoor, HasPartner};
+ghost use Rattle.socket_kinds.specs.{OnBoth, OnCame, OnPeer, is_door, is_unix_door, has_left_off, ComesToDoor, HasPartner};
 ghost use Rattle.socket_ports.specs.Accepting.{IsFreshPort};
 
 use crate::port::SocketPort;

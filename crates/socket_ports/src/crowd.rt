@@ -1,11 +1,9 @@
 // A socket and the rows of all its peers, as their ports share them.
 ghost use Rattle.std.specs.Prelude.{◌≡◌, ◌≢◌, ◌<◌, ◌≤◌, ◌⊎◌, ℕ, length, None, IfOk, true, false};
-ghost use Rattle.relay_model.specs.Conversions.{longest_packet};
+ghost use Rattle.relay_model.specs.{longest_packet};
 ghost use Rattle.port_trait.specs.declared.answers.Got.TheVariants as reads;
-ghost use Rattle.port_trait.specs.Meanings.{Gives, AcceptsWhole};
-ghost use Rattle.peer_demux.specs.Hubs.{HubState, ReadsRow};
-ghost use Rattle.peer_demux.specs.Links.{Sends};
-ghost use Rattle.peer_demux.specs.Tables.{IsLive, IsTrimmed, RowStands, row_at};
+ghost use Rattle.port_trait.specs.{Gives, AcceptsWhole};
+ghost use Rattle.peer_demux.specs.{HubState, ReadsRow, Sends, IsLive, IsTrimmed, RowStands, row_at};
 ghost use Rattle.socket_ports.specs.Crowds.{Accepts, Fills, Gathers, IsKnown};
 ghost use Rattle.socket_ports.specs.Pollers.{Extends};
 

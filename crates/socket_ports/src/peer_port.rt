@@ -1,17 +1,13 @@
 // The port of a door of datagrams, and of each peer that was accepted at it.
 ghost use Rattle.std.specs.Prelude.{◌≡◌, ◌≢◌, ◌<◌, true, false, length, None, Some};
-ghost use Rattle.port_trait.specs.Counting.{Tallied};
-ghost use Rattle.port_trait.specs.Made.{IsAtOnce};
-ghost use Rattle.port_trait.specs.Hinting.{IsWithin};
-ghost use Rattle.port_trait.specs.Meanings.{Accepts, AcceptsAll, write_event};
-ghost use Rattle.port_trait.specs.Ports.{untold};
+ghost use Rattle.port_trait.specs.{Tallied, IsAtOnce, IsWithin, Accepts, AcceptsAll, write_event, untold};
 ghost use Rattle.port_trait.specs.declared.answers.Begun.TheVariants as begins;
 ghost use Rattle.port_trait.specs.declared.answers.Settled.TheVariants as settles;
 ghost use Rattle.port_trait.specs.declared.answers.PortReap.TheVariants as reaps;
 ghost use Rattle.port_trait.specs.declared.answers.Joining.TheVariants as joining;
 ghost use Rattle.relay_model.specs.declared.acts.Peer.TheVariants as peers;
-ghost use Rattle.socket_kinds.specs.Accepting.{OnBoth, OnCame, OnPort};
-ghost use Rattle.socket_ports.specs.Ports.{blocked_hint, fresh_port};
+ghost use Rattle.socket_kinds.specs.{OnBoth, OnCame, OnPort};
+ghost use Rattle.socket_ports.specs.Ports.{blocked_hint, fresh_peer_port};
 
 use crate::crowds::Gathering;
 use crate::seat::Seat;
@@ -52,7 +48,7 @@ impl Model for PeerPort {
 
 impl PeerPort {
     fn at(seat: Seat) -> PeerPort
-        ensures { result ≡ fresh_port seat.peer.value }
+        ensures { result ≡ fresh_peer_port seat.peer.value }
     {
         PeerPort {
             seat,
@@ -73,7 +69,7 @@ impl PeerPort {
         socket: UdpSocket,
     ) -> Making<PeerPort>
         ensures at_once { IsAtOnce result }
-        ensures fresh { OnPort (λ port. port ≡ fresh_port None) result }
+        ensures fresh { OnPort (λ port. port ≡ fresh_peer_port None) result }
     {
         match Seat::door(alloc, registry, gathering, key, socket) {
             Making::Made(seat) => Making::Made(PeerPort::at(seat)),
@@ -85,7 +81,7 @@ impl PeerPort {
     /// Takes the next peer at the door, whose port has this key. A peer is no door, and answers `Failed`.
     pub fn accept(&mut self, key: usize) -> MadePeer<PeerPort>
         ensures addressed { OnCame (λ peer. peer ≢ peers.Local) result }
-        ensures fresh { OnBoth (λ port peer. port ≡ fresh_port (Some peer)) result }
+        ensures fresh { OnBoth (λ port peer. port ≡ fresh_peer_port (Some peer)) result }
         ensures kept { self.new ≡ self.old }
     {
         match self.seat.accept(key) {

@@ -1,11 +1,9 @@
 // The port over a socket, which counts the answers.
 ghost use Rattle.std.specs.Prelude.{◌≡◌, ◌<◌, ◌≤◌, ◌++◌, true, false, length, take, option_map, Some};
-ghost use Rattle.port_trait.specs.Meanings.{settle_event, read_event, write_event, shut_event};
-ghost use Rattle.port_trait.specs.Ports.{Settles, Reads, Writes, Sends, PutsAll, Shuts, untold};
+ghost use Rattle.port_trait.specs.{settle_event, read_event, write_event, shut_event, Settles, Reads, Writes, Sends, PutsAll, Shuts, untold, counted};
 ghost use Rattle.port_trait.specs.declared.answers.Begun.TheVariants as begins;
 ghost use Rattle.port_trait.specs.declared.answers.PortReap.TheVariants as reaps;
 ghost use Rattle.port_trait.specs.declared.answers.Joining.TheVariants as joining;
-ghost use Rattle.port_trait.specs.Counted.{counted};
 ghost use Rattle.socket_ports.specs.Sockets.{fresh_port};
 
 use port_trait::{

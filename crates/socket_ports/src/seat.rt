@@ -1,11 +1,10 @@
 // A port's part in what a door and its peers share.
 ghost use Rattle.std.specs.Prelude.{◌≡◌, ◌≢◌, ◌<◌, ◌≤◌, length, None, Some, IfOk};
 ghost use Rattle.relay_model.specs.declared.acts.Peer.TheVariants as peers;
-ghost use Rattle.socket_kinds.specs.Accepting.{OnBoth, OnCame, OnPort};
+ghost use Rattle.socket_kinds.specs.{OnBoth, OnCame, OnPort};
 ghost use Rattle.socket_ports.specs.Crowds.{IsKnown};
-ghost use Rattle.relay_model.specs.Conversions.{longest_packet};
-ghost use Rattle.port_trait.specs.Meanings.{Gives, AcceptsWhole};
-ghost use Rattle.port_trait.specs.Made.{IsAtOnce};
+ghost use Rattle.relay_model.specs.{longest_packet};
+ghost use Rattle.port_trait.specs.{Gives, AcceptsWhole, IsAtOnce};
 
 use crate::crowd::Crowd;
 use crate::crowds::Gathering;

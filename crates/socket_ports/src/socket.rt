@@ -2,10 +2,9 @@
 ghost use Rattle.std.specs.Prelude.{◌≡◌, ◌≤◌, ◌↔◌, length, take, None, IsTrue};
 ghost use Rattle.std.specs.IoError.{error_kind};
 ghost use Rattle.std.specs.declared.io.ErrorKind.TheVariants.{WouldBlock};
-ghost use Rattle.relay_model.specs.Conversions.{longest_packet};
-ghost use Rattle.peer_demux.specs.Links.{Receives, Sends, has_failed, has_stalled, has_packet, send_failed, send_stalled};
-ghost use Rattle.peer_demux.specs.Tables.{risen_if};
-ghost use Rattle.socket_kinds.specs.Answering.{Answers};
+ghost use Rattle.relay_model.specs.{longest_packet};
+ghost use Rattle.peer_demux.specs.{Receives, Sends, has_failed, has_stalled, has_packet, send_failed, send_stalled, risen_if};
+ghost use Rattle.socket_kinds.specs.{Answers};
 ghost use Rattle.socket_ports.specs.Links.{Arrives, Departs, SendsOnce};
 
 use mio::unix::SourceFd;

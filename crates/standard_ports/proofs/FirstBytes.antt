@@ -9,7 +9,7 @@ use Rattle.port_trait.specs.Ports.{PortSeen}
 use Rattle.file_ports.specs.Halves.{HalvesState}
 use Rattle.socket_ports.specs.Sockets.{SocketPortState}
 use Rattle.ring_reader.specs.Readers.{given_of, reader_seen}
-use Rattle.ring_writer.specs.Writers.{WriterState, took_of, writer_seen}
+use Rattle.ring_writer.specs.Writers.{took_of, writer_seen}
 use Rattle.standard_ports.specs.Told.{ToldState}
 use Rattle.standard_ports.specs.Ports.{is_none, is_unread, is_unwritten, of_direct, of_input, of_output}
 
@@ -39,7 +39,3 @@ unwritten pipe shared (outputs.Ring ring) tells tells' e = ap Some (no_bytes (to
 -- a list that is told to be empty is empty where it is told
 pub none_told : (slot : Option (List ℕ)) → slot ≡ Some [] → IfSome slot (λ all. all ≡ [])
 none_told slot e = subst (λ (told : Option (List ℕ)). IfSome told (λ all. all ≡ [])) (sym e) refl
-
--- what standard error tells that it took
-pub unsaid : (ring : WriterState) → is_none (took_of ring) ≡ true → Some (took_of ring) ≡ Some []
-unsaid ring e = ap Some (no_bytes (took_of ring) e)

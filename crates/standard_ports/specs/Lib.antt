@@ -1,3 +1,4 @@
+pub mod Errors
 pub mod Openings
 pub mod Ports
 pub mod Told

@@ -1,9 +1,8 @@
 -- What the ports are that stand in the loop.
 use Rattle.std.specs.Prelude.{◌≡◌, Bool, true, false}
-use Rattle.file_ports.specs.Halves.{HalvesState}
+use Rattle.file_ports.specs.{HalvesState}
 use Rattle.file_ports.specs.declared.halves.HalfReadiness.TheVariants as readiness
-use Rattle.socket_ports.specs.Sockets.{SocketPortState}
-use Rattle.socket_ports.specs.Accepting.{IsFreshPort}
+use Rattle.socket_ports.specs.{SocketPortState, IsFreshPort}
 use Rattle.standard_ports.specs.Told.{ToldState}
 use Rattle.standard_ports.specs.declared.direct.DirectPort.{DirectPort}
 use Rattle.standard_ports.specs.declared.direct.DirectPort.TheVariants as directs

@@ -6,13 +6,11 @@ use Rattle.standard_ports.specs.declared.input.InputPort.{InputPort}
 use Rattle.standard_ports.specs.declared.input.InputPort.TheVariants as inputs
 use Rattle.standard_ports.specs.declared.output.OutputPort.{OutputPort}
 use Rattle.standard_ports.specs.declared.output.OutputPort.TheVariants as outputs
-use Rattle.file_ports.specs.Halves.{HalvesState}
-use Rattle.ring_reader.specs.Readers.{ReaderState, given_of}
-use Rattle.ring_writer.specs.Writers.{WriterState, took_of}
-use Rattle.socket_ports.specs.Sockets.{SocketPortState}
-use Rattle.port_trait.specs.Hinting.{all_hints}
-use Rattle.port_trait.specs.Passages.{Passage}
-use Rattle.port_trait.specs.Ports.{PortSeen}
+use Rattle.file_ports.specs.{HalvesState}
+use Rattle.ring_reader.specs.{ReaderState, given_of}
+use Rattle.ring_writer.specs.{WriterState, took_of}
+use Rattle.socket_ports.specs.{SocketPortState}
+use Rattle.port_trait.specs.{all_hints, Passage, PortSeen}
 use Rattle.standard_ports.specs.Told.{ToldState}
 
 -- a pipe hints by its watch, and not as the port beneath: what that tells of its hints is left out

@@ -1,6 +1,6 @@
 -- What contracts see of a socket with an account.
 use Rattle.std.specs.Prelude.{List, Option, None, Some}
-use Rattle.port_trait.specs.Passages.{Passage, none_passed}
+use Rattle.port_trait.specs.{Passage, none_passed}
 
 -- the socket, and what passed it by the account
 pub record ToldState (S : Type 0) : Type 0 where

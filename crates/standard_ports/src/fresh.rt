@@ -1,8 +1,8 @@
 // The standard streams before their first byte.
 ghost use Rattle.std.specs.Prelude.{◌≡◌, [], true, IfSome, Some};
-ghost use Rattle.ring_reader.specs.Readers.{given_of};
-ghost use Rattle.ring_writer.specs.Writers.{took_of};
-ghost use Rattle.socket_ports.specs.Sockets.{fresh_port};
+ghost use Rattle.ring_reader.specs.{given_of};
+ghost use Rattle.ring_writer.specs.{took_of};
+ghost use Rattle.socket_ports.specs.{fresh_port};
 ghost use Rattle.standard_ports.specs.Told.{fresh_told};
 ghost use Rattle.standard_ports.specs.Ports.{direct_passed, is_none, is_unread, is_unwritten};
 ghost use Rattle.standard_ports.specs.declared.direct.DirectPort.TheVariants as directs;
@@ -12,19 +12,14 @@ use crate::input::{InputPort, InputRing};
 use crate::output::{OutputPort, OutputRing};
 use crate::piped::PipePort;
 use crate::told::ToldSocket;
-use blocking_streams::Blocking;
 use file_ports::Halves;
 use mio_poller::Watch;
-use port_trait::{Port, StdSink};
-use ring_writer::RingWriter;
+use port_trait::Port;
 use socket_ports::SocketPort;
 use std::fs::File;
-use std::io::{Stderr, Stdin, Stdout};
+use std::io::{Stdin, Stdout};
 use std::sync::Wait;
 use std::thread::Threads;
-
-/// Standard error behind a ring.
-pub type ErrorRing<R> = RingWriter<StdSink<Blocking<Stderr>>, R>;
 
 /// A standard stream in the loop that has passed no bytes yet.
 #[derive(Drop)]
@@ -122,30 +117,5 @@ impl<R: Threads + Wait + Copy + Drop> FreshOutput<R> {
     {
         let FreshOutput { port } = self;
         port
-    }
-}
-
-/// Standard error that has taken nothing yet.
-#[derive(Drop)]
-pub struct FreshErrors<R> {
-    ring: ErrorRing<R>,
-    ghost unwritten: { is_none (took_of ring) ≡ true },
-}
-
-impl<R: Threads + Wait + Copy + Drop> FreshErrors<R> {
-    /// Standard error behind this ring.
-    pub fn ring(ring: ErrorRing<R>) -> FreshErrors<R>
-        requires { took_of ring ≡ [] }
-    {
-        FreshErrors { ring }
-    }
-
-    /// The port. It tells that it took nothing.
-    pub fn into_port(self) -> ErrorRing<R>
-        ensures told { (⟦<ErrorRing<R> as Port>⟧.seen result).took ≡ Some [] }
-        ensures none { IfSome (⟦<ErrorRing<R> as Port>⟧.seen result).took (λ all. all ≡ []) }
-    {
-        let FreshErrors { ring } = self;
-        ring
     }
 }

@@ -1,21 +1,29 @@
-// The ports of standard input and standard output: in the loop where the system lets a call on them answer at once, and
-// behind rings elsewhere.
+// The ports of the standard streams: in the loop where the system lets a call on them answer at once, and behind rings
+// elsewhere.
 #![tactic(auto)]
 
 mod direct;
+mod error_rings;
+mod errors;
 mod fresh;
 mod input;
 mod opening;
 mod output;
 mod piped;
+mod prompt;
+mod spoken;
 mod told;
 mod told_sink;
 
 pub use direct::{DirectPort, SharedPort};
-pub use fresh::{ErrorRing, FreshDirect, FreshErrors, FreshInput, FreshOutput};
+pub use error_rings::{ErrorParts, ErrorSink, FreshErrors, RingMaker, make_errors};
+pub use errors::ErrorPort;
+pub use fresh::{FreshDirect, FreshInput, FreshOutput};
 pub use input::{InputPort, InputRing};
-pub use opening::{direct_input, direct_output};
+pub use opening::{direct_input, direct_output, open_errors};
 pub use output::{OutputPort, OutputRing};
 pub use piped::PipePort;
+pub use prompt::Prompt;
+pub use spoken::{ErrorRing, PlainErrors, SpokenErrors};
 pub use told::ToldSocket;
 pub use told_sink::{Failures, ToldSink};

@@ -1,12 +1,15 @@
-// How standard input and standard output are opened for the loop.
-ghost use Rattle.std.specs.Prelude.{IfSome};
+// How the standard streams are opened for the loop.
+ghost use Rattle.std.specs.Prelude.{◌≡◌, [], IfSome, Some};
 ghost use Rattle.standard_ports.specs.Openings.{IsInput, IsOutput};
 
+use crate::error_rings::{ErrorParts, RingMaker};
+use crate::errors::ErrorPort;
 use crate::fresh::FreshDirect;
 use file_ports::Halves;
 use mio::unix::SourceFd;
 use mio::{Interest, Registry, Token};
 use mio_poller::{MioPoller, PROBE};
+use port_trait::Port;
 use relay_model::Half;
 use std::alloc::Global;
 use std::fs::{Files, OpenOptions};
@@ -14,6 +17,8 @@ use std::io::{ErrorKind, Read, Write};
 use std::net::Net;
 use std::os::fd::{AsRawFd, RawFd};
 use std::rt::HostRuntime;
+use std::sync::Wait;
+use std::thread::Threads;
 use std::time::Clock;
 
 /// The names of the open descriptors (proc_pid_fd(5)).
@@ -79,6 +84,23 @@ where
         return Some(FreshDirect::of_halves(halves));
     }
     None
+}
+
+/// The port of standard error. Where a write may wait, its first line starts a thread that writes it.
+pub fn open_errors<R, N>(
+    rt: R,
+    parts: ErrorParts,
+    maker: RingMaker,
+    poller: &MioPoller<N>,
+) -> ErrorPort<R>
+where
+    R: Threads + Wait + Copy + Drop,
+    N: Net + Clock + Drop,
+    ensures told { (⟦<ErrorPort<R> as Port>⟧.seen result).took ≡ Some [] }
+    ensures none { IfSome (⟦<ErrorPort<R> as Port>⟧.seen result).took (λ all. all ≡ []) }
+{
+    let always_ready = is_always_ready(poller.registry(), parts.system.stderr().as_raw_fd());
+    ErrorPort::new(rt, parts, maker, always_ready)
 }
 
 /// Whether this is a pipe without a name. The opening of a named one would wait for its other end (fifo(7)).

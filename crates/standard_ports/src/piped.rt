@@ -23,8 +23,8 @@ pub struct PipePort {
 }
 
 impl Model for PipePort {
-    ghost use Rattle.socket_ports.specs.Sockets.{SocketPortState};
-    ghost use Rattle.file_ports.specs.Halves.{HalvesState};
+    ghost use Rattle.socket_ports.specs.{SocketPortState};
+    ghost use Rattle.file_ports.specs.{HalvesState};
     ghost use Rattle.standard_ports.specs.Told.{ToldState};
 
     ghost Value = { SocketPortState (ToldState HalvesState) };

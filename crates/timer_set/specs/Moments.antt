@@ -3,7 +3,7 @@ use Rattle.std.specs.Prelude.{◌≡◌, ℕ, ◌+◌, ◌<◌, ◌≤◌, Some,
 use Rattle.std.specs.Ordering.{nat_cmp}
 use Rattle.std.specs.FinMap.{FinMap, get, entries, from_entries}
 use Rattle.timer_set.specs.declared.timer.Timer.{Timer}
-use Rattle.key_map.specs.Entries.{Keyed}
+use Rattle.key_map.specs.{Keyed}
 use Rattle.timer_set.specs.Order.{timer_at}
 use Rattle.timer_set.specs.Heaps.{IsHeap}
 

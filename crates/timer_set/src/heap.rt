@@ -10,7 +10,7 @@ use std::alloc::Global;
 
 /// The first `live` timers are the heap, the first due at its top. Behind them stands room for more. Each timer's
 /// slot is a number of its own that it keeps wherever it moves, and `places` has its place there.
-#[derive(Debug, Drop)]
+#[derive(Drop)]
 pub(crate) struct Heap {
     timers: Vec<Timer>,
     places: Vec<usize>,

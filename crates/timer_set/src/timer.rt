@@ -2,7 +2,7 @@
 ghost use Rattle.timer_set.specs.Order.{IsInOrder};
 
 /// A key and the moment at which it falls due. `slot` is where the heap keeps the timer's place.
-#[derive(Clone, Copy, Debug)]
+#[derive(Clone, Copy)]
 pub(crate) struct Timer {
     pub(crate) at: u64,
     pub(crate) key: u32,

@@ -13,7 +13,7 @@ use std::marker::Model;
 
 /// The moments at which keys fall due. Contracts see the map from keys to moments, and the number of further
 /// keys that there is room for.
-#[derive(Debug, Drop)]
+#[derive(Drop)]
 pub struct TimerSet {
     slots: KeyMap,
     heap: Heap,

@@ -1,15 +1,9 @@
 -- How far a talk at the front of a port has come, and what the port beneath gave and took of it.
 use Rattle.std.specs.Prelude.{◌≡◌, ◌≢◌, ℕ, ◌<◌, ◌≤◌, ◌⊎◌, Bool, true, false, List, [], ◌++◌, length, take, drop, Option, option_map}
-use Rattle.port_trait.specs.declared.answers.Settled.{Settled}
+use Rattle.port_trait.specs.{Settled, Got, Took as WriteAnswer, PortCounts, Rose, emptied, PortSeen}
 use Rattle.port_trait.specs.declared.answers.Settled.TheVariants as settles
-use Rattle.port_trait.specs.declared.answers.Got.{Got}
 use Rattle.port_trait.specs.declared.answers.Got.TheVariants as reads
-use Rattle.port_trait.specs.declared.answers.Took.{Took as WriteAnswer}
 use Rattle.port_trait.specs.declared.answers.Took.TheVariants as writes
-use Rattle.port_trait.specs.declared.counts.PortCounts.{PortCounts}
-use Rattle.port_trait.specs.Counting.{Rose}
-use Rattle.port_trait.specs.Meanings.{emptied}
-use Rattle.port_trait.specs.Ports.{PortSeen}
 use Rattle.tunnel_port.specs.declared.stage.TalkStage.{TalkStage}
 use Rattle.tunnel_port.specs.declared.stage.TalkStage.TheVariants as stages
 use Rattle.tunnel_port.specs.declared.talk.HeardReply.{HeardReply}

@@ -1,7 +1,6 @@
 -- What contracts see of a port behind a talk.
 use Rattle.std.specs.Prelude.{ℕ, Bool, false, List, None}
-use Rattle.port_trait.specs.declared.counts.PortCounts.{PortCounts}
-use Rattle.port_trait.specs.Ports.{PortSeen, nothing_behind}
+use Rattle.port_trait.specs.{PortCounts, PortSeen, nothing_behind}
 use Rattle.tunnel_port.specs.Talks.{InTalk, FollowsTalk, behind_talk, is_passed}
 use Rattle.tunnel_port.specs.declared.stage.TalkStage.{TalkStage}
 use Rattle.tunnel_port.specs.declared.stage.TalkStage.TheVariants as stages

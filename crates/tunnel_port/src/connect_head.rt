@@ -8,7 +8,7 @@ use httparse::Status;
 use httparse::spans::{EMPTY_HEADER_SPAN, parse_response};
 
 /// What the bytes of a reply say so far.
-#[derive(Clone, Copy, Debug, PartialEq)]
+#[derive(Clone, Copy, PartialEq)]
 pub(crate) enum HeadVerdict {
     More,
     Granted,

@@ -1,7 +1,7 @@
 // Why a proxy's reply grants nothing.
 
 /// Why there is no connection through the proxy.
-#[derive(Clone, Copy, Debug, PartialEq)]
+#[derive(Clone, Copy, PartialEq)]
 pub enum ConnectEnd {
     /// The proxy answered with a status outside 200 to 299.
     Denied { status: u16 },

@@ -1,9 +1,7 @@
 // The port behind a talk.
 ghost use Rattle.std.specs.Prelude.{◌≡◌, ◌<◌, true, false, [], length};
-ghost use Rattle.port_trait.specs.Counting.{Tallied};
-ghost use Rattle.port_trait.specs.Counted.{counted};
-ghost use Rattle.port_trait.specs.Meanings.{begin_event, settle_event, read_event, write_event, shut_event};
-ghost use Rattle.port_trait.specs.Ports.{Begins, StandsBegun, Settles, Reads, Writes, PutsAll, Shuts, HintsSo, MayHint, Reaps, JoinsSo};
+ghost use Rattle.port_trait.specs.{Tallied, counted, begin_event, settle_event, read_event, write_event, shut_event, Begins, StandsBegun, Settles};
+ghost use Rattle.port_trait.specs.{Reads, Writes, PutsAll, Shuts, HintsSo, MayHint, Reaps, JoinsSo};
 ghost use Rattle.port_trait.specs.declared.answers.Begun.TheVariants as begins;
 ghost use Rattle.port_trait.specs.declared.answers.Took.TheVariants as writes;
 ghost use Rattle.tunnel_port.specs.Talks.{is_passed, is_over, settled_at, read_at, write_at, IsOnly, InTalk, IsJudged, ComesAbout, NonePassedOver, AsksBeneath};

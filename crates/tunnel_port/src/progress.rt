@@ -1,6 +1,6 @@
 // How a talk goes on over the port beneath, as far as that lets it.
 ghost use Rattle.std.specs.Prelude.{◌≡◌, ◌≢◌, ◌<◌, ◌≤◌, ◌+◌, true, false, length, take, None, IfSome};
-ghost use Rattle.port_trait.specs.Counting.{Grew};
+ghost use Rattle.port_trait.specs.{Grew};
 ghost use Rattle.port_trait.specs.declared.answers.Settled.TheVariants as settles;
 ghost use Rattle.tunnel_port.specs.declared.stage.TalkStage.TheVariants as stages;
 ghost use Rattle.tunnel_port.specs.Talks.{is_passed, is_over, IsOnly, behind_talk, InTalk, IsJudged, ComesAbout, NonePassedOver, AsksBeneath, LeavesBeneath, LeavesRequest, StillHears, Paused, nothing_of};

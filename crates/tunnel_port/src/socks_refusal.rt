@@ -1,7 +1,7 @@
 // Why a SOCKS server's reply grants nothing.
 
 /// Why there is no connection through the server.
-#[derive(Clone, Copy, Debug, PartialEq)]
+#[derive(Clone, Copy, PartialEq)]
 pub enum SocksEnd {
     /// The server refused the request. By convention 91 is any refusal, and 92 and 93 are about the user.
     Denied { code: u8 },

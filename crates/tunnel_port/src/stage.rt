@@ -5,7 +5,7 @@ ghost use Rattle.tunnel_port.specs.Talks.{is_passed, settled_at, read_at, write_
 use port_trait::{Got, Settled, Took};
 
 /// How far a talk has come.
-#[derive(Clone, Copy, Debug, PartialEq)]
+#[derive(Clone, Copy, PartialEq)]
 pub enum TalkStage {
     /// The port beneath hasn't settled yet.
     Joining,

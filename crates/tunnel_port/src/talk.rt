@@ -4,7 +4,7 @@ ghost use Rattle.tunnel_port.specs.declared.talk.HeardReply.{HeardReply};
 ghost use Rattle.tunnel_port.specs.declared.talk.HeardReply.TheVariants as hearing;
 
 /// What a reply says by the bytes that were heard of it.
-#[derive(Clone, Copy, Debug, PartialEq)]
+#[derive(Clone, Copy, PartialEq)]
 pub enum HeardReply {
     /// It goes on.
     More,

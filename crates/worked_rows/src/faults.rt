@@ -3,7 +3,7 @@ use relay_model::NoMemory;
 use std::alloc::{AllocError, AllocFailed};
 
 /// Why rows can't be checked: there was no memory, or the line with this number isn't understood.
-#[derive(Clone, Copy, Debug, PartialEq, Eq)]
+#[derive(Clone, Copy, PartialEq, Eq)]
 pub enum RowFault {
     Memory,
     Line(usize),

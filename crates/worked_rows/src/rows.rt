@@ -4,7 +4,7 @@ use relay_model::{NoMemory, Text, Texts};
 use std::alloc::Global;
 
 /// A line of a file, and its number, counted from 1.
-#[derive(Clone, Copy, Debug)]
+#[derive(Clone, Copy)]
 pub struct Line<'a> {
     pub number: usize,
     pub text: &'a str,

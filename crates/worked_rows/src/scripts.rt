@@ -1,6 +1,6 @@
 // What a script makes ports and sources answer to their reads.
 ghost use Rattle.std.specs.Prelude.{◌≡◌, [], IfOk};
-ghost use Rattle.port_objects.specs.Scripts.{IsFilled, given_of};
+ghost use Rattle.port_objects.specs.{IsFilled, given_of};
 
 use crate::faults::RowFault;
 use crate::rows::Line;

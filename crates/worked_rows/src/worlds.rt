@@ -1,7 +1,6 @@
 // The script of a row, and the world that it makes.
 ghost use Rattle.std.specs.Prelude.{◌≡◌, IfOk};
-ghost use Rattle.relay_model.specs.declared.places.Place.{Place};
-ghost use Rattle.relay_model.specs.Holding.{Free};
+ghost use Rattle.relay_model.specs.{Place, Free};
 
 use crate::faults::RowFault;
 use crate::rows::Line;

@@ -1,15 +1,8 @@
 -- What the answers of a world mean: the act that each stands for, what that act does to what the world tells and
 -- holds, and how its counts rise. `Memory` stands for no act: then nothing was done.
 use Rattle.std.specs.Prelude.{◌≡◌, ◌≤◌, ◌<◌, ◌+◌, ◌^◌, ◌-◌, ℕ, Bool, true, false, List, [], ◌∷◌, Option, Some, None, take, min, option_map, is_some, ⊤}
-use Rattle.relay_model.specs.declared.acts.Act.{Act}
+use Rattle.relay_model.specs.{Act, Shut as Shutting, Why, Place, ReadyAt, Hold, hold_after, is_free, reaped_since, Listed, copied_list}
 use Rattle.relay_model.specs.declared.acts.Act.TheVariants.{Turn, Opened, OpenLater, OpenFailed, Listening, ListenFailed, Accepted, NoPeer, AcceptFailed, Read, ReadEmpty, ReadEnd, ReadNotYet, ReadFault, Wrote, WriteNotYet, WriteFault, Shut, ShutFault, Closed, Reaped, Note, NoteFault}
-use Rattle.relay_model.specs.declared.acts.Shut.{Shut as Shutting}
-use Rattle.relay_model.specs.declared.acts.Why.{Why}
-use Rattle.relay_model.specs.declared.places.Place.{Place}
-use Rattle.relay_model.specs.declared.readiness.ReadyAt.{ReadyAt}
-use Rattle.relay_model.specs.Holding.{Hold, hold_after, is_free}
-use Rattle.relay_model.specs.History.{reaped_since}
-use Rattle.relay_model.specs.Readiness.{Listed, copied_list}
 use Rattle.relay_model.specs.Journals.{History, Asking}
 use Rattle.world_trait.specs.Recordings.{with_act, with_asking}
 use Rattle.world_trait.specs.Seen.{Seen, Waitless}

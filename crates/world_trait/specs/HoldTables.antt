@@ -1,7 +1,6 @@
 -- What a table of held things holds, and how a place stands in it.
 use Rattle.std.specs.Prelude.{◌≡◌, ℕ, List, [], ◌∷◌, Option, None, Some, if◌then◌else◌}
-use Rattle.relay_model.specs.declared.places.Place.{Place}
-use Rattle.relay_model.specs.Places.{same_place}
+use Rattle.relay_model.specs.{Place, same_place}
 use Rattle.relay_model.specs.Holding as holding
 use Rattle.world_trait.specs.declared.tables.Standing.{Standing}
 use Rattle.world_trait.specs.declared.tables.Standing.TheVariants as standings

@@ -1,7 +1,6 @@
 -- What a recording tells, and how an act is put into it.
 use Rattle.std.specs.Prelude.{◌≡◌, ◌≤◌, ℕ, true, ◌∷◌, ◌++◌, [], Option, Some, None, is_some}
-use Rattle.relay_model.specs.declared.acts.Act.{Act}
-use Rattle.relay_model.specs.declared.journals.Kept.{Kept}
+use Rattle.relay_model.specs.{Act, Kept}
 use Rattle.relay_model.specs.Journals.{Story, AskedFor, Asking, History}
 use Rattle.world_trait.specs.declared.recorders.Recorder.{Recorder}
 use Rattle.world_trait.specs.declared.recorders.Recorder.TheVariants.{Skip, Keep}

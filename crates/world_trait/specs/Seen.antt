@@ -1,7 +1,6 @@
 -- What contracts see of a world.
 use Rattle.std.specs.Prelude.{◌≡◌, ◌≤◌, ℕ, Option}
-use Rattle.relay_model.specs.declared.places.Place.{Place}
-use Rattle.relay_model.specs.Holding.{Hold, Free}
+use Rattle.relay_model.specs.{Place, Hold, Free}
 use Rattle.relay_model.specs.Journals.{History}
 
 -- its history, where it tells it; how each place stands; its counts of faults, waits and stops, which never fall and

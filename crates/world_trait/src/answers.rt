@@ -2,14 +2,14 @@
 use relay_model::{ChildEnd, Peer};
 
 /// The end of a wait: its moment in milliseconds since the run began, and whether the run is to stop.
-#[derive(Clone, Copy, Debug, PartialEq, Eq)]
+#[derive(Clone, Copy, PartialEq, Eq)]
 pub enum Turned {
     Turned { at: u64, stop: bool },
     Memory,
 }
 
 /// The answer to an opening, and to a settling of one that was under way. After `Later` it is under way.
-#[derive(Clone, Copy, Debug, PartialEq, Eq)]
+#[derive(Clone, Copy, PartialEq, Eq)]
 pub enum OpenAnswer {
     Opened,
     Later,
@@ -18,7 +18,7 @@ pub enum OpenAnswer {
 }
 
 /// The answer to a listening.
-#[derive(Clone, Copy, Debug, PartialEq, Eq)]
+#[derive(Clone, Copy, PartialEq, Eq)]
 pub enum ListenAnswer {
     Listening,
     Failed,
@@ -26,7 +26,7 @@ pub enum ListenAnswer {
 }
 
 /// The answer to an accepting: the peer that came, or that none has come yet.
-#[derive(Clone, Copy, Debug, PartialEq, Eq)]
+#[derive(Clone, Copy, PartialEq, Eq)]
 pub enum AcceptAnswer {
     Accepted(Peer),
     NoPeer,
@@ -35,7 +35,7 @@ pub enum AcceptAnswer {
 }
 
 /// The answer to a read: so many bytes, an empty datagram, the end of the input, or none yet.
-#[derive(Clone, Copy, Debug, PartialEq, Eq)]
+#[derive(Clone, Copy, PartialEq, Eq)]
 pub enum ReadAnswer {
     Bytes(usize),
     Empty,
@@ -46,7 +46,7 @@ pub enum ReadAnswer {
 }
 
 /// The answer to a write: how many bytes were taken from the front, or none yet.
-#[derive(Clone, Copy, Debug, PartialEq, Eq)]
+#[derive(Clone, Copy, PartialEq, Eq)]
 pub enum WriteAnswer {
     Took(usize),
     NotYet,
@@ -55,7 +55,7 @@ pub enum WriteAnswer {
 }
 
 /// The answer to a sending: all bytes were taken in one piece, or none yet.
-#[derive(Clone, Copy, Debug, PartialEq, Eq)]
+#[derive(Clone, Copy, PartialEq, Eq)]
 pub enum SendAnswer {
     Sent,
     NotYet,
@@ -64,7 +64,7 @@ pub enum SendAnswer {
 }
 
 /// The answer to a shut. After `Failed` the place counts as shut too.
-#[derive(Clone, Copy, Debug, PartialEq, Eq)]
+#[derive(Clone, Copy, PartialEq, Eq)]
 pub enum ShutAnswer {
     Done,
     Failed,
@@ -72,7 +72,7 @@ pub enum ShutAnswer {
 }
 
 /// The answer to a note. After `Failed` a front of the text may have been written.
-#[derive(Clone, Copy, Debug, PartialEq, Eq)]
+#[derive(Clone, Copy, PartialEq, Eq)]
 pub enum NoteAnswer {
     Noted,
     Failed,
@@ -80,7 +80,7 @@ pub enum NoteAnswer {
 }
 
 /// The answer to a reaping: what is known of the child, or that there is none.
-#[derive(Clone, Copy, Debug, PartialEq, Eq)]
+#[derive(Clone, Copy, PartialEq, Eq)]
 pub enum ReapAnswer {
     Reaped(ChildEnd),
     NoChild,

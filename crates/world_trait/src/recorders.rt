@@ -7,14 +7,14 @@ use std::alloc::Global;
 use std::marker::Model;
 
 /// Whether a world keeps its history or skips it.
-#[derive(Clone, Copy, Debug, PartialEq, Eq)]
+#[derive(Clone, Copy, PartialEq, Eq)]
 pub enum Recorder {
     Skip,
     Keep,
 }
 
 /// The history of a world. With `Skip` it tells nothing and takes no memory.
-#[derive(Debug, Drop)]
+#[derive(Drop)]
 pub struct Recording {
     recorder: Recorder,
     kept: Kept,

@@ -1,7 +1,6 @@
 // A table of what a world holds.
 ghost use Rattle.std.specs.Prelude.{◌≡◌, ◌≤◌, ◌<◌, ◌+◌, ◌-◌, ◌^◌, [], false, length, find, option_map, OnOk};
-ghost use Rattle.relay_model.specs.Places.{same_place};
-ghost use Rattle.relay_model.specs.Holding.{Free, is_free};
+ghost use Rattle.relay_model.specs.{same_place, Free, is_free};
 ghost use Rattle.world_trait.specs.HoldTables.{SetsHold, hold_found, hold_of, lookup};
 
 use relay_model::{NoMemory, Place};
@@ -9,7 +8,7 @@ use std::alloc::Global;
 use std::marker::Model;
 
 /// How something that is held stands: an opening is under way, it is open, or it is open and was shut.
-#[derive(Clone, Copy, Debug, PartialEq, Eq)]
+#[derive(Clone, Copy, PartialEq, Eq)]
 pub enum Standing {
     Settling,
     Open,
@@ -17,14 +16,14 @@ pub enum Standing {
 }
 
 /// A place that is held, and how it stands.
-#[derive(Clone, Copy, Debug, PartialEq, Eq)]
+#[derive(Clone, Copy, PartialEq, Eq)]
 pub struct Held {
     pub place: Place,
     pub standing: Standing,
 }
 
 /// The places that are held. A place that isn't in the table is free.
-#[derive(Debug, Drop)]
+#[derive(Drop)]
 pub struct Holdings {
     entries: Vec<Held>,
 }

@@ -1,7 +1,6 @@
 // The outside of the relay: every call on it is one act of the history.
 ghost use Rattle.std.specs.Prelude.{◌≡◌, ◌≤◌, ◌<◌, true, false, length};
-ghost use Rattle.relay_model.specs.Conversions.{longest_packet};
-ghost use Rattle.relay_model.specs.Holding.{Free, Settling, Open, is_free, is_open};
+ghost use Rattle.relay_model.specs.{longest_packet, Free, Settling, Open, is_free, is_open};
 ghost use Rattle.world_trait.specs.Answers.{Answered, AnsweredAsking, Rose, OnlyHeldNamed, OnlyWhereTold, NotReaped, WaitCounts, ReadFits, WriteFits, wait_act, open_act, listen_act, accept_act, read_act, write_act, send_act, shut_act, close_act, note_act, reap_act, is_open_fault, is_listen_fault, is_accept_fault, is_read_fault, is_write_fault, is_send_fault, is_shut_fault, is_note_fault, wants_turn_memory, wants_read_memory, wants_write_memory, wants_send_memory, wants_shut_memory};
 ghost use Rattle.world_trait.specs.Seen.{Seen, Waitless};
 

@@ -2,6 +2,8 @@ use Rattle.port_table.specs.Bases.{standard_of}
 use Rattle.desk_places.specs.Causes.{asking}
 use Rattle.desk_places.specs.Stations.{base_at}
 use Rattle.port_desk.proofs.OpenLemmas.{no_ports, opened_from, ports_from, unopened}
+use Rattle.std.proofs.Math.Logic.{∥∥₁_map}
+use Rattle.port_desk.proofs.FollowLemmas.{open_follows}
 use Rattle.port_desk.proofs.worlds.DeskWorld.open_place.Goals as goal
 
 pub returns-clause-begun : goal.returns-clause-begun
@@ -21,3 +23,14 @@ returns-in_default-clause-begun g c =
 
 pub returns-in_default-clause-ports : goal.returns-in_default-clause-ports
 returns-in_default-clause-ports g c = no_ports (standard_of c.args.place c.args.single.now.target) c.args.self.now.ports.table.made c.prepare_opening.new.self.ports.table.made c.prepare_opening.ensures.made
+
+pub invariant_of-self-2-clause-follows : goal.invariant_of-self-2-clause-follows
+invariant_of-self-2-clause-follows g c =
+    let before = c.prepare_opening.new.self in
+    let table = c.open-answer.new.self.table in
+    let stay = c.open-answer.ensures.stay in
+    rw c.keep_opening.ensures.stations (∥∥₁_map before.follows
+    (λ on. record {
+      follows = λ start. open_follows c.open-answer.result c.args.place c.args.single.now before.log.recording.told c.keep_opening.new.self.recording.told (base_at before.log.stations.entries) (base_at c.open-answer.new.stations.entries) before.ports.table.input table.input before.ports.table.output table.output before.ports.table.errors table.errors
+          c.keep_opening.ensures.told stay.input stay.output stay.errors stay.input_end c.open-answer.ensures.bases (on.follows start);
+    }))

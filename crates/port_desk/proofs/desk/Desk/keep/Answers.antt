@@ -1,5 +1,0 @@
-use Rattle.port_desk.proofs.Unheld.{no_station}
-use Rattle.port_desk.proofs.desk.Desk.keep.Goals as goal
-
-pub keep-requires : goal.keep-requires
-keep-requires g c = no_station c.args.self.now.log.stations.entries c.requires.free

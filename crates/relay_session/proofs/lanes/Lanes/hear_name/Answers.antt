@@ -1,5 +1,0 @@
-use Rattle.relay_model.specs.declared.places.Way.TheVariants.{LeftToRight, RightToLeft}
-use Rattle.relay_session.proofs.lanes.Lanes.hear_name.Goals as goal
-
-pub returns : goal.returns
-returns c = λ k past s until at names l. record { to_right_is = c.hear_name.ensures k past s LeftToRight until at names l.to_right_is; to_left_is = c.hear_name-2.ensures k past s RightToLeft until at names l.to_left_is }
