@@ -1,6 +1,6 @@
 -- Keys that change their places in an order.
-use Rattle.std.proofs.Common.{◌≡◌, ◌≢◌, ◌⊎◌, inl, inr, ℕ, zero, suc, Bool, true, false, true≢false, ◌||◌, eqb, List, [], ◌∷◌, ◌++◌, set, take, length, slice_get, ◌<◌, ◌≤◌, ◌+◌, Some, refl, sym, ap, ◌∙◌, if◌then◌else◌, arith}
-use Rattle.std.proofs.lemmas.Bool.Decides.{eqb_tells}
+use Rattle.std.proofs.Common.{◌≡◌, ◌≢◌, ◌⊎◌, inl, inr, ℕ, zero, suc, Bool, true, false, true≢false, ◌||◌, eqb, nat_lt, List, [], ◌∷◌, ◌++◌, set, take, length, slice_get, ◌<◌, ◌≤◌, ◌+◌, Some, refl, sym, ap, ◌∙◌, if◌then◌else◌, arith}
+use Rattle.std.proofs.lemmas.Bool.Decides.{eqb_tells, nat_tests}
 use Rattle.std.proofs.lemmas.List.{length-append, length-set}
 use Rattle.std.proofs.lemmas.Option.{slice_get_within}
 use Rattle.desk_places.specs.Keys.{AreInverse, is_in}
@@ -179,16 +179,15 @@ at_one xs xs' one two i exchanged away e = exchanged i ∙ rw (is_apart i two aw
 at_rest : (xs xs' : List ℕ) (one two i : ℕ) → Exchanged xs xs' one two → i ≢ two → i ≢ one → slice_get xs' i ≡ slice_get xs i
 at_rest xs xs' one two i exchanged away off = exchanged i ∙ rw (is_apart i two away, is_apart i one off) refl
 
--- what is asked of a key: it stands here, and another stands elsewhere
-here_or : (other key : ℕ) (there : Bool) (now rest : Bool) → Tells other key → (other ≡ key → now ≡ there) → (other ≢ key → now ≡ rest) → now ≡ (if eqb other key then there else rest)
-here_or other key there now rest (inl t) here elsewhere = here t.1 ∙ rw t.0 refl
-here_or other key there now rest (inr t) here elsewhere = elsewhere t.1 ∙ rw t.0 refl
+-- the key at a place that is told
+pub key_at : (order places : List ℕ) (key place : ℕ) → AreInverse order places → slice_get places key ≡ Some place → slice_get order place ≡ Some key
+key_at order places key place inverse told = inverse.back place key told
 
 module _ (xs xs' : List ℕ) (key place count : ℕ) (at : slice_get xs place ≡ Some key) where
   -- ---- a key that is put in
 
   module _ (past : count ≤ place) (exchanged : Exchanged xs xs' place count) where
-    put_here : (other : ℕ) → other ≡ key → is_in other (take (count + 1) xs') ≡ true
+    pub put_here : (other : ℕ) → other ≡ key → is_in other (take (count + 1) xs') ≡ true
     put_here other e = in_by other (count + 1) count xs' (omega arith) (at_two xs xs' place count count exchanged refl ∙ (at ∙ ap Some (sym e)))
 
     put_new : (other i : ℕ) → Tells i count → other ≢ key → i < count + 1 → slice_get xs' i ≡ Some other → is_in other (take count xs) ≡ true
@@ -200,17 +199,14 @@ module _ (xs xs' : List ℕ) (key place count : ℕ) (at : slice_get xs place �
     put_old : (other i : ℕ) → i < count → slice_get xs i ≡ Some other → is_in other (take (count + 1) xs') ≡ true
     put_old other i below e = in_by other (count + 1) i xs' (omega (arith, below)) (at_rest xs xs' place count i exchanged (λ same. omega (arith, same, below)) (λ same. omega (arith, same, below, past)) ∙ e)
 
-    put_elsewhere : (other : ℕ) → other ≢ key → is_in other (take (count + 1) xs') ≡ is_in other (take count xs)
+    pub put_elsewhere : (other : ℕ) → other ≢ key → is_in other (take (count + 1) xs') ≡ is_in other (take count xs)
     put_elsewhere other away = bool_iff _ _
         (λ h. let f = in_found other (count + 1) xs' h in put_new other f.0 (eqb_tells f.0 count) away f.1 f.2)
         (λ h. let f = in_found other count xs h in put_old other f.0 f.1 f.2)
 
-    pub keys_put : (other : ℕ) → is_in other (take (count + 1) xs') ≡ (if eqb other key then true else is_in other (take count xs))
-    keys_put other = here_or other key true _ _ (eqb_tells other key) (put_here other) (put_elsewhere other)
-
   -- it was there
-  pub keys_there : place < count → (other : ℕ) → is_in other (take count xs) ≡ (if eqb other key then true else is_in other (take count xs))
-  keys_there below other = here_or other key true _ _ (eqb_tells other key) (λ e. in_by other count place xs below (at ∙ ap Some (sym e))) (λ away. refl)
+  pub key_in : place < count → is_in key (take count xs) ≡ true
+  key_in below = in_by key count place xs below at
 
   -- ---- a key that is taken out
 
@@ -219,10 +215,8 @@ module _ (xs xs' : List ℕ) (key place count : ℕ) (at : slice_get xs place �
     only i k e same = some_is i place (sym (inverse.there i key (e ∙ ap Some same)) ∙ inverse.there place key at)
 
     -- it wasn't there
-    pub keys_absent : count ≤ place → (other : ℕ) → is_in other (take count xs) ≡ (if eqb other key then false else is_in other (take count xs))
-    keys_absent past other = here_or other key false _ _ (eqb_tells other key)
-        (λ e. not_so _ (λ h. let f = in_found other count xs h in let stands = only f.0 other f.2 e in let below = f.1 in omega (arith, stands, below, past)))
-        (λ away. refl)
+    pub key_out : count ≤ place → is_in key (take count xs) ≡ false
+    key_out past = not_so _ (λ h. let f = in_found key count xs h in let stands = only f.0 key f.2 refl in let below = f.1 in omega (arith, stands, below, past))
 
     module _ (last : ℕ) (counted : count ≡ last + 1) (below : place < count) (exchanged : Exchanged xs xs' place last) where
       gone : (other i : ℕ) → Tells i place → other ≡ key → i < last → slice_get xs' i ≡ Some other → ⊥
@@ -251,12 +245,24 @@ module _ (xs xs' : List ℕ) (key place count : ℕ) (at : slice_get xs place �
           let apart = t.1 in
           in_by other last i xs' (omega (arith, counted, less, apart)) (at_rest xs xs' place last i exchanged t.1 off ∙ found)
 
-      pub keys_out : (other : ℕ) → is_in other (take last xs') ≡ (if eqb other key then false else is_in other (take count xs))
-      keys_out other = here_or other key false _ _ (eqb_tells other key)
-          (λ e. not_so _ (λ h. let f = in_found other last xs' h in gone other f.0 (eqb_tells f.0 place) e f.1 f.2))
-          (λ away. bool_iff _ _
+      pub out_here : (other : ℕ) → other ≡ key → is_in other (take last xs') ≡ false
+      out_here other e = not_so _ (λ h. let f = in_found other last xs' h in gone other f.0 (eqb_tells f.0 place) e f.1 f.2)
+
+      pub out_elsewhere : (other : ℕ) → other ≢ key → is_in other (take last xs') ≡ is_in other (take count xs)
+      out_elsewhere other away = bool_iff _ _
           (λ h. let f = in_found other last xs' h in out_new other f.0 (eqb_tells f.0 place) f.1 f.2)
-          (λ h. let f = in_found other count xs h in out_old other f.0 (eqb_tells f.0 last) away f.1 f.2))
+          (λ h. let f = in_found other count xs h in out_old other f.0 (eqb_tells f.0 last) away f.1 f.2)
+
+below_of : (a b : ℕ) → true ≡ nat_lt a b → a < b
+below_of a b e = grind (arith, nat_tests)
+
+past_of : (a b : ℕ) → false ≡ nat_lt a b → b ≤ a
+past_of a b e = grind (arith, nat_tests)
+
+-- a key that stands as it is to
+pub key_in_as : (xs ys : List ℕ) (key place count : ℕ) (inside : Bool) → slice_get xs place ≡ Some key → AreInverse xs ys → inside ≡ nat_lt place count → is_in key (take count xs) ≡ inside
+key_in_as xs ys key place count true at inverse e = key_in xs xs key place count at (below_of place count e)
+key_in_as xs ys key place count false at inverse e = key_out xs xs key place count at ys inverse (past_of place count e)
 
 index_by : (b : Bool) (x k : ℕ) (xs : List ℕ) → eqb x k ≡ b → Tells x k → (is_in k xs ≡ true → (i : ℕ) × (slice_get xs i ≡ Some k)) → (b || is_in k xs) ≡ true → (i : ℕ) × (slice_get (x ∷ xs) i ≡ Some k)
 index_by true x k xs e (inl t) rest h = (zero, ap Some t.1)

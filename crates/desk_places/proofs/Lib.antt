@@ -7,5 +7,5 @@ pub mod OnlyLemmas
 pub mod PlaceLemmas
 pub mod PortLemmas
 pub mod SoundLemmas
-pub mod StationLemmas
+pub mod EntryLemmas
 pub mod TurnLemmas

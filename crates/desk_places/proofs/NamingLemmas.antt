@@ -14,13 +14,15 @@ use Rattle.port_table.specs.PortTables.{place_of}
 use Rattle.port_table.specs.Ports.{EntrySeen}
 use Rattle.port_table.specs.declared.bases.Base.{Base}
 use Rattle.port_table.specs.declared.bases.Base.TheVariants as bases
-use Rattle.desk_places.specs.declared.stations.Station.{Station}
+use Rattle.desk_places.specs.declared.places.PlaceEntry.{PlaceEntry}
 use Rattle.desk_places.specs.Standing.{IsSound, stands_on}
 use Rattle.desk_places.specs.Keys.{KeyTable}
-use Rattle.desk_places.specs.Stations.{base_at, hold_at, hold_by, station_at}
+use Rattle.port_table.specs.Bases.{is_keyed}
+use Rattle.desk_places.specs.PlaceTables.{base_at, base_by, hold_at, hold_by, entry_at}
+use Rattle.desk_places.proofs.KeyLemmas.{is_same}
 use Rattle.desk_places.proofs.PlaceLemmas.{same_place-same}
 use Rattle.desk_places.proofs.SoundLemmas.{stands_at}
-use Rattle.desk_places.proofs.StationLemmas.{standing_held}
+use Rattle.desk_places.proofs.EntryLemmas.{standing_held}
 use Rattle.desk_places.specs.Naming.{Grown, IsNamed, KeyNamed, NamesAt, NamesKeyed}
 
 or_left : (a b : Bool) → a ≡ true → (a || b) ≡ true
@@ -115,24 +117,24 @@ below_or_last (suc i) zero below = inl (omega arith)
 below_or_last zero (suc j) below = absurd (omega (arith, below))
 below_or_last (suc i) (suc j) below = below_next i j (below_or_last i j (omega (arith, below)))
 
-key_on : (e : ℕ × Half) (stations : List Station) (xs ys : List ReadyAt) → Grown xs ys → KeyNamed e stations xs → KeyNamed e stations ys
-key_on e stations xs ys grown named p based = grown.kept p e.1 (named p based)
+key_on : (e : ℕ × Half) (places : List PlaceEntry) (xs ys : List ReadyAt) → Grown xs ys → KeyNamed e places xs → KeyNamed e places ys
+key_on e places xs ys grown named p based = grown.kept p e.1 (named p based)
 
 -- halves that were named for their keys stay so
-pub keyed_on : (entries : List (ℕ × Half)) (stations : List Station) (xs ys : List ReadyAt) → Grown xs ys → NamesKeyed entries stations xs → NamesKeyed entries stations ys
-keyed_on entries stations xs ys grown named i e here = key_on e stations xs ys grown (named i e here)
+pub keyed_on : (entries : List (ℕ × Half)) (places : List PlaceEntry) (xs ys : List ReadyAt) → Grown xs ys → NamesKeyed entries places xs → NamesKeyed entries places ys
+keyed_on entries places xs ys grown named i e here = key_on e places xs ys grown (named i e here)
 
-keyed_step : (entries : List (ℕ × Half)) (stations : List Station) (i j : ℕ) (last e : ℕ × Half) (xs ys : List ReadyAt) → (j < i) ⊎ (j ≡ i) → slice_get entries i ≡ Some last → slice_get entries j ≡ Some e → Grown xs ys → (j < i → KeyNamed e stations xs) → KeyNamed last stations ys → KeyNamed e stations ys
-keyed_step entries stations i j last e xs ys (inl below) at here grown before named = key_on e stations xs ys grown (before below)
-keyed_step entries stations i j last e xs ys (inr same) at here grown before named =
+keyed_step : (entries : List (ℕ × Half)) (places : List PlaceEntry) (i j : ℕ) (last e : ℕ × Half) (xs ys : List ReadyAt) → (j < i) ⊎ (j ≡ i) → slice_get entries i ≡ Some last → slice_get entries j ≡ Some e → Grown xs ys → (j < i → KeyNamed e places xs) → KeyNamed last places ys → KeyNamed e places ys
+keyed_step entries places i j last e xs ys (inl below) at here grown before named = key_on e places xs ys grown (before below)
+keyed_step entries places i j last e xs ys (inr same) at here grown before named =
     let f : Some last ≡ Some e = sym at ∙ (ap (slice_get entries) (sym same) ∙ here) in
     let is : last ≡ e = cc in
-    subst (λ x. KeyNamed x stations ys) is named
+    subst (λ x. KeyNamed x places ys) is named
 
 -- one more entry whose place is named
-pub keyed_more : (entries : List (ℕ × Half)) (stations : List Station) (i : ℕ) (last : ℕ × Half) (xs ys : List ReadyAt) → slice_get entries i ≡ Some last → Grown xs ys → ((j : ℕ) (e : ℕ × Half) → j < i → slice_get entries j ≡ Some e → KeyNamed e stations xs) → KeyNamed last stations ys → (j : ℕ) (e : ℕ × Half) → j < i + 1 → slice_get entries j ≡ Some e → KeyNamed e stations ys
-keyed_more entries stations i last xs ys at grown before named j e below here =
-    keyed_step entries stations i j last e xs ys (below_or_last i j below) at here grown (λ b. before j e b here) named
+pub keyed_more : (entries : List (ℕ × Half)) (places : List PlaceEntry) (i : ℕ) (last : ℕ × Half) (xs ys : List ReadyAt) → slice_get entries i ≡ Some last → Grown xs ys → ((j : ℕ) (e : ℕ × Half) → j < i → slice_get entries j ≡ Some e → KeyNamed e places xs) → KeyNamed last places ys → (j : ℕ) (e : ℕ × Half) → j < i + 1 → slice_get entries j ≡ Some e → KeyNamed e places ys
+keyed_more entries places i last xs ys at grown before named j e below here =
+    keyed_step entries places i j last e xs ys (below_or_last i j below) at here grown (λ b. before j e b here) named
 
 pub within : {X : Type 0} (xs : List X) (i : ℕ) (x : X) → slice_get xs i ≡ Some x → i < length xs
 within [] i x e = absurd cc
@@ -140,44 +142,50 @@ within (y ∷ xs) zero x e = omega arith
 within (y ∷ xs) (suc i) x e = omega (arith, within xs i x e)
 
 -- every entry was gone through
-pub keyed_all : (entries : List (ℕ × Half)) (stations : List Station) (i : ℕ) (xs : List ReadyAt) → length entries ≤ i → ((j : ℕ) (e : ℕ × Half) → j < i → slice_get entries j ≡ Some e → KeyNamed e stations xs) → NamesKeyed entries stations xs
-keyed_all entries stations i xs past named j e here = named j e (omega (arith, within entries j e here, past)) here
+pub keyed_all : (entries : List (ℕ × Half)) (places : List PlaceEntry) (i : ℕ) (xs : List ReadyAt) → length entries ≤ i → ((j : ℕ) (e : ℕ × Half) → j < i → slice_get entries j ≡ Some e → KeyNamed e places xs) → NamesKeyed entries places xs
+keyed_all entries places i xs past named j e here = named j e (omega (arith, within entries j e here, past)) here
 
 -- the place that stands on a key is the one that its port was made for
-keyed_slot : (made : Slab EntrySeen) (covered : ℕ) (p : Place) (slot : Option Station) (key : ℕ) → option_map (λ s. s.base) slot ≡ Some (bases.Made key) → IfSome slot (λ s. stands_on made covered p s.base ≡ true) → place_of (get made key) ≡ Some p
+keyed_slot : (made : Slab EntrySeen) (covered : ℕ) (p : Place) (slot : Option PlaceEntry) (key : ℕ) → option_map (λ s. s.base) slot ≡ Some (bases.Made key) → IfSome slot (λ s. stands_on made covered p s.base ≡ true) → place_of (get made key) ≡ Some p
 keyed_slot made covered p None key based stands = absurd cc
 keyed_slot made covered p (Some s) key based stands =
     let is : s.base ≡ bases.Made key = cc in
     let at = stands_at made covered p s.base key is stands in
     ap place_of at.1 ∙ ap Some at.2
 
-pub keyed_place : (stations : List Station) (made : Slab EntrySeen) (listed : KeyTable) (p : Place) (key : ℕ) → IsSound stations made listed → base_at stations p ≡ Some (bases.Made key) → place_of (get made key) ≡ Some p
-keyed_place stations made listed p key sound based = keyed_slot made listed.covered p (station_at stations p) key based (sound.entered p)
+pub keyed_place : (places : List PlaceEntry) (made : Slab EntrySeen) (listed : KeyTable) (p : Place) (key : ℕ) → IsSound places made listed → base_at places p ≡ Some (bases.Made key) → place_of (get made key) ≡ Some p
+keyed_place places made listed p key sound based = keyed_slot made listed.covered p (entry_at places p) key based (sound.entered p)
 
--- nobody stands on a key without a port
-pub nobody_keyed : (stations : List Station) (made : Slab EntrySeen) (listed : KeyTable) (key : ℕ) (half : Half) (ready : List ReadyAt) → IsSound stations made listed → place_of (get made key) ≡ None → KeyNamed (key, half) stations ready
-nobody_keyed stations made listed key half ready sound none p based =
-    absurd (let f : None ≡ Some p = sym none ∙ keyed_place stations made listed p key sound based in cc)
+pub made_for : (places : List PlaceEntry) (made : Slab EntrySeen) (listed : KeyTable) (place p : Place) (key : ℕ) → IsSound places made listed → place_of (get made key) ≡ Some place → base_at places p ≡ Some (bases.Made key) → place ≡ p
+made_for places made listed place p key sound here based =
+    let f : Some place ≡ Some p = sym here ∙ keyed_place places made listed p key sound based in cc
 
-one_keyed : (stations : List Station) (made : Slab EntrySeen) (listed : KeyTable) (place p : Place) (key : ℕ) → IsSound stations made listed → place_of (get made key) ≡ Some place → base_at stations p ≡ Some (bases.Made key) → place ≡ p
-one_keyed stations made listed place p key sound here based =
-    let f : Some place ≡ Some p = sym here ∙ keyed_place stations made listed p key sound based in cc
+pub not_free : (places : List PlaceEntry) (p place : Place) (key : ℕ) → place ≡ p → entry_at places place ≡ None → base_at places p ≡ Some (bases.Made key) → ⊥
+not_free places p place key same none based =
+    let e : None ≡ Some (bases.Made key) = sym (ap base_by none) ∙ (ap (base_at places) same ∙ based) in
+    absurd cc
 
--- the place of the key is named
-pub place_keyed : (stations : List Station) (made : Slab EntrySeen) (listed : KeyTable) (place : Place) (key : ℕ) (half : Half) (ready : List ReadyAt) → IsSound stations made listed → place_of (get made key) ≡ Some place → names ready place half ≡ true → KeyNamed (key, half) stations ready
-place_keyed stations made listed place key half ready sound here named p based =
-    subst (λ q. names ready q half ≡ true) (one_keyed stations made listed place p key sound here based) named
+keyed_by : (key : ℕ) (base : Base) → base ≡ bases.Made key → is_keyed key base ≡ true
+keyed_by key base is = ap (is_keyed key) is ∙ is_same key key refl
 
--- or doesn't stand on it any longer
-pub place_unkeyed : (stations : List Station) (made : Slab EntrySeen) (listed : KeyTable) (place : Place) (key : ℕ) (half : Half) (ready : List ReadyAt) → IsSound stations made listed → place_of (get made key) ≡ Some place → (base_at stations place ≡ Some (bases.Made key) → ⊥) → KeyNamed (key, half) stations ready
-place_unkeyed stations made listed place key half ready sound here away p based =
-    absurd (away (ap (base_at stations) (one_keyed stations made listed place p key sound here based) ∙ based))
+pub not_unkeyed : (places : List PlaceEntry) (p place : Place) (key : ℕ) (entry : PlaceEntry) → place ≡ p → entry_at places place ≡ Some entry → is_keyed key entry.base ≡ false → base_at places p ≡ Some (bases.Made key) → ⊥
+not_unkeyed places p place key entry same found off based =
+    let e : Some entry.base ≡ Some (bases.Made key) = sym (ap base_by found) ∙ (ap (base_at places) same ∙ based) in
+    let is : entry.base ≡ bases.Made key = cc in
+    let f : true ≡ false = sym (keyed_by key entry.base is) ∙ off in
+    absurd cc
+
+pub taken_place : (found : Option Place) (place p : Place) → found ≡ Some place → found ≡ Some p → place ≡ p
+taken_place found place p at is = let e : Some place ≡ Some p = sym at ∙ is in cc
+
+pub taken_out : (found : Option Place) (p : Place) → found ≡ None → found ≡ Some p → ⊥
+taken_out found p none is = let e : None ≡ Some p = sym none ∙ is in absurd cc
 
 -- a place that stands on a port is held
-pub based_held : (stations : List Station) (p : Place) (base : Base) → base_at stations p ≡ Some base → is_free (hold_at stations p) ≡ false
-based_held stations p base based = held_slot (station_at stations p) base based
+pub based_held : (places : List PlaceEntry) (p : Place) (base : Base) → base_at places p ≡ Some base → is_free (hold_at places p) ≡ false
+based_held places p base based = held_slot (entry_at places p) base based
   where
-    held_slot : (slot : Option Station) (b : Base) → option_map (λ s. s.base) slot ≡ Some b → is_free (hold_by slot) ≡ false
+    held_slot : (slot : Option PlaceEntry) (b : Base) → option_map (λ s. s.base) slot ≡ Some b → is_free (hold_by slot) ≡ false
     held_slot None b e = absurd cc
     held_slot (Some s) b e = standing_held s.standing
 

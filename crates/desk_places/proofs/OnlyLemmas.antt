@@ -12,29 +12,29 @@ use Rattle.port_table.specs.PortTables.{PortId, SameStreams, giving_port, taking
 use Rattle.port_table.specs.Ports.{StreamSeen}
 use Rattle.port_table.specs.declared.table.PortTable.{PortTable}
 use Rattle.desk_places.specs.declared.ports.Ports.{Ports}
-use Rattle.desk_places.specs.declared.stations.Station.{Station}
-use Rattle.desk_places.specs.Stations.{half_disarmed, station_at}
+use Rattle.desk_places.specs.declared.places.PlaceEntry.{PlaceEntry}
+use Rattle.desk_places.specs.PlaceTables.{half_disarmed, entry_at}
 use Rattle.desk_places.specs.Naming.{IsDue, IsKeyed, MayHint, NamesMore, NamesOnly, SamePorts, WaitsIdle, half_port, is_hinted, told_by}
 use Rattle.desk_places.proofs.NamingLemmas.{grown_then}
 use Rattle.desk_places.proofs.TurnLemmas.{told_same}
 
-only_last : (keys : List (ℕ × Half)) (told : PortId → Option Hint) (stations : List Station) (xs : List ReadyAt) (e : ReadyAt) → IsDue keys told stations e.place e.half → NamesOnly keys told stations xs → NamesOnly keys told stations (xs ++ e ∷ [])
-only_last keys told stations [] e due only = (due, tt)
-only_last keys told stations (x ∷ xs) e due only = (only.0, only_last keys told stations xs e due only.1)
+only_last : (keys : List (ℕ × Half)) (told : PortId → Option Hint) (places : List PlaceEntry) (xs : List ReadyAt) (e : ReadyAt) → IsDue keys told places e.place e.half → NamesOnly keys told places xs → NamesOnly keys told places (xs ++ e ∷ [])
+only_last keys told places [] e due only = (due, tt)
+only_last keys told places (x ∷ xs) e due only = (only.0, only_last keys told places xs e due only.1)
 
 -- one more entry, full or not
-pub push_only : (b : Bool) (old new : Listed) (e : ReadyAt) → OnTrue b (new ≡ record old { entries = old.entries ++ e ∷ [] }) → OnFalse b (new ≡ old) → (keys : List (ℕ × Half)) (told : PortId → Option Hint) (stations : List Station) → IsDue keys told stations e.place e.half → NamesOnly keys told stations old.entries → NamesOnly keys told stations new.entries
-push_only true old new e pushed refused keys told stations due only = rw pushed (only_last keys told stations old.entries e due only)
-push_only false old new e pushed refused keys told stations due only = rw refused only
+pub push_only : (b : Bool) (old new : Listed) (e : ReadyAt) → OnTrue b (new ≡ record old { entries = old.entries ++ e ∷ [] }) → OnFalse b (new ≡ old) → (keys : List (ℕ × Half)) (told : PortId → Option Hint) (places : List PlaceEntry) → IsDue keys told places e.place e.half → NamesOnly keys told places old.entries → NamesOnly keys told places new.entries
+push_only true old new e pushed refused keys told places due only = rw pushed (only_last keys told places old.entries e due only)
+push_only false old new e pushed refused keys told places due only = rw refused only
 
 -- the first entry of a list
-pub first_due : (keys : List (ℕ × Half)) (told : PortId → Option Hint) (stations : List Station) (entries : List ReadyAt) (e : ReadyAt) → NamesOnly keys told stations entries → slice_get entries 0 ≡ Some e → IsDue keys told stations e.place e.half
-first_due keys told stations [] e only first = absurd cc
-first_due keys told stations (x ∷ xs) e only first = let same : x ≡ e = cc in subst (λ (it : ReadyAt). IsDue keys told stations it.place it.half) same only.0
+pub first_due : (keys : List (ℕ × Half)) (told : PortId → Option Hint) (places : List PlaceEntry) (entries : List ReadyAt) (e : ReadyAt) → NamesOnly keys told places entries → slice_get entries 0 ≡ Some e → IsDue keys told places e.place e.half
+first_due keys told places [] e only first = absurd cc
+first_due keys told places (x ∷ xs) e only first = let same : x ≡ e = cc in subst (λ (it : ReadyAt). IsDue keys told places it.place it.half) same only.0
 
 -- an empty list names nothing else
-pub only_none : (keys : List (ℕ × Half)) (told : PortId → Option Hint) (stations : List Station) (entries : List ReadyAt) → entries ≡ [] → NamesOnly keys told stations entries
-only_none keys told stations entries none = subst (λ xs. NamesOnly keys told stations xs) (sym none) tt
+pub only_none : (keys : List (ℕ × Half)) (told : PortId → Option Hint) (places : List PlaceEntry) (entries : List ReadyAt) → entries ≡ [] → NamesOnly keys told places entries
+only_none keys told places entries none = subst (λ xs. NamesOnly keys told places xs) (sym none) tt
 
 may_read : (slot : Option Hint) (hint : Hint) → IfSome slot (λ told. hint.readable ≡ told.readable) → hint.readable ≡ true → IfSome slot (λ told. told.readable ≡ true)
 may_read None hint same is = tt
@@ -45,22 +45,22 @@ may_write None hint same is = tt
 may_write (Some told) hint same is = sym same ∙ is
 
 -- a half that the hint of its port finds ready
-pub station_due : (keys : List (ℕ × Half)) (told : PortId → Option Hint) (stations : List Station) (station : Station) (hint : Hint) → station_at stations station.place ≡ Some station → IfSome (told (giving_port station.base)) (λ h. hint.readable ≡ h.readable) → IfSome (told (taking_port station.base)) (λ h. hint.writable ≡ h.writable) → (half : Half) → half_disarmed half (Some station) ≡ true → is_hinted half hint ≡ true → IsDue keys told stations station.place half
-station_due keys told stations station hint here reading writing ToRead off is = inr (subst (λ slot. MayHint told slot ToRead) (sym here) (off, may_read (told (giving_port station.base)) hint reading is))
-station_due keys told stations station hint here reading writing ToWrite off is = inr (subst (λ slot. MayHint told slot ToWrite) (sym here) (off, may_write (told (taking_port station.base)) hint writing is))
+pub entry_due : (keys : List (ℕ × Half)) (told : PortId → Option Hint) (places : List PlaceEntry) (entry : PlaceEntry) (hint : Hint) → entry_at places entry.place ≡ Some entry → IfSome (told (giving_port entry.base)) (λ h. hint.readable ≡ h.readable) → IfSome (told (taking_port entry.base)) (λ h. hint.writable ≡ h.writable) → (half : Half) → half_disarmed half (Some entry) ≡ true → is_hinted half hint ≡ true → IsDue keys told places entry.place half
+entry_due keys told places entry hint here reading writing ToRead off is = inr (subst (λ slot. MayHint told slot ToRead) (sym here) (off, may_read (told (giving_port entry.base)) hint reading is))
+entry_due keys told places entry hint here reading writing ToWrite off is = inr (subst (λ slot. MayHint told slot ToWrite) (sym here) (off, may_write (told (taking_port entry.base)) hint writing is))
 
-may_as : (told told' : PortId → Option Hint) (slot : Option Station) (half : Half) → ((id : PortId) → told' id ≡ told id) → MayHint told' slot half → MayHint told slot half
+may_as : (told told' : PortId → Option Hint) (slot : Option PlaceEntry) (half : Half) → ((id : PortId) → told' id ≡ told id) → MayHint told' slot half → MayHint told slot half
 may_as told told' None half same may = may
-may_as told told' (Some station) half same may = (may.0, subst (λ o. IfSome o (λ hint. is_hinted half hint ≡ true)) (same (half_port half station.base)) may.1)
+may_as told told' (Some entry) half same may = (may.0, subst (λ o. IfSome o (λ hint. is_hinted half hint ≡ true)) (same (half_port half entry.base)) may.1)
 
-due_as : (keys : List (ℕ × Half)) (told told' : PortId → Option Hint) (stations : List Station) (p : Place) (half : Half) → ((id : PortId) → told' id ≡ told id) → IsDue keys told' stations p half → IsDue keys told stations p half
-due_as keys told told' stations p half same (inl keyed) = inl keyed
-due_as keys told told' stations p half same (inr may) = inr (may_as told told' (station_at stations p) half same may)
+due_as : (keys : List (ℕ × Half)) (told told' : PortId → Option Hint) (places : List PlaceEntry) (p : Place) (half : Half) → ((id : PortId) → told' id ≡ told id) → IsDue keys told' places p half → IsDue keys told places p half
+due_as keys told told' places p half same (inl keyed) = inl keyed
+due_as keys told told' places p half same (inr may) = inr (may_as told told' (entry_at places p) half same may)
 
 -- ports that tell the same hints
-pub only_as : (keys : List (ℕ × Half)) (told told' : PortId → Option Hint) (stations : List Station) (xs : List ReadyAt) → ((id : PortId) → told' id ≡ told id) → NamesOnly keys told' stations xs → NamesOnly keys told stations xs
-only_as keys told told' stations [] same only = tt
-only_as keys told told' stations (x ∷ xs) same only = (due_as keys told told' stations x.place x.half same only.0, only_as keys told told' stations xs same only.1)
+pub only_as : (keys : List (ℕ × Half)) (told told' : PortId → Option Hint) (places : List PlaceEntry) (xs : List ReadyAt) → ((id : PortId) → told' id ≡ told id) → NamesOnly keys told' places xs → NamesOnly keys told places xs
+only_as keys told told' places [] same only = tt
+only_as keys told told' places (x ∷ xs) same only = (due_as keys told told' places x.place x.half same only.0, only_as keys told told' places xs same only.1)
 
 -- a table whose ports tell what they told
 pub told_still : {T I O E : Type 0} (a b : PortTable T I O E) → SameStreams a b → SameValues a.made b.made → (id : PortId) → told_by b id ≡ told_by a id
@@ -73,9 +73,9 @@ pub told_back : {T I O E : Type 0} (a b : PortTable T I O E) → SameStreams a b
 told_back a b same made id = sym (told_still a b same made id)
 
 -- one more step, of ports that tell what they told
-pub only_step : {T I O E : Type 0} (keys : List (ℕ × Half)) (a b : PortTable T I O E) (stations : List Station) (xs ys : List ReadyAt) → SameStreams a b → SameValues a.made b.made → (NamesOnly keys (told_by b) stations xs → NamesOnly keys (told_by b) stations ys) → NamesOnly keys (told_by a) stations xs → NamesOnly keys (told_by a) stations ys
-only_step keys a b stations xs ys same made step only =
-    only_as keys (told_by a) (told_by b) stations ys (told_still a b same made) (step (only_as keys (told_by b) (told_by a) stations xs (told_back a b same made) only))
+pub only_step : {T I O E : Type 0} (keys : List (ℕ × Half)) (a b : PortTable T I O E) (places : List PlaceEntry) (xs ys : List ReadyAt) → SameStreams a b → SameValues a.made b.made → (NamesOnly keys (told_by b) places xs → NamesOnly keys (told_by b) places ys) → NamesOnly keys (told_by a) places xs → NamesOnly keys (told_by a) places ys
+only_step keys a b places xs ys same made step only =
+    only_as keys (told_by a) (told_by b) places ys (told_still a b same made) (step (only_as keys (told_by b) (told_by a) places xs (told_back a b same made) only))
 
 still_then : {T I O E : Type 0} (a b c : PortTable T I O E) → SameStreams a b → SameStreams b c → SameStreams a c
 still_then a b c first then = record { input = then.input ∙ first.input; output = then.output ∙ first.output; errors = then.errors ∙ first.errors }
@@ -91,22 +91,22 @@ same_then a b c first then = record {
 }
 
 -- one naming after another
-pub names_then : {A B C D E : Type 0} (stations : List Station) (a b c : Ports A B C D E) (before between now : Listed) → NamesMore stations a b before between → NamesMore stations b c between now → NamesMore stations a c before now
-names_then stations a b c before between now first then = record {
+pub names_then : {A B C D E : Type 0} (places : List PlaceEntry) (a b c : Ports A B C D E) (before between now : Listed) → NamesMore places a b before between → NamesMore places b c between now → NamesMore places a c before now
+names_then places a b c before between now first then = record {
   room = then.room ∙ first.room;
   grown = grown_then before.entries between.entries now.entries first.grown then.grown;
-  only = λ keys only. only_step keys a.table b.table stations between.entries now.entries first.same.streams first.same.made (then.only keys) (first.only keys only);
+  only = λ keys only. only_step keys a.table b.table places between.entries now.entries first.same.streams first.same.made (then.only keys) (first.only keys only);
   held = then.held;
   same = same_then a b c first.same then.same;
 }
 
-unkeyed : (stations : List Station) (p : Place) (half : Half) → IsKeyed [] stations p half → ⊥
-unkeyed stations p half keyed = let e = keyed.entry in absurd cc
+unkeyed : (places : List PlaceEntry) (p : Place) (half : Half) → IsKeyed [] places p half → ⊥
+unkeyed places p half keyed = let e = keyed.entry in absurd cc
 
-none_due : (told : PortId → Option Hint) (stations : List Station) (p : Place) (half : Half) → ((q : Place) (h : Half) → MayHint told (station_at stations q) h → ⊥) → IsDue [] told stations p half → ⊥
-none_due told stations p half none (inl keyed) = unkeyed stations p half keyed
-none_due told stations p half none (inr may) = none p half may
+none_due : (told : PortId → Option Hint) (places : List PlaceEntry) (p : Place) (half : Half) → ((q : Place) (h : Half) → MayHint told (entry_at places q) h → ⊥) → IsDue [] told places p half → ⊥
+none_due told places p half none (inl keyed) = unkeyed places p half keyed
+none_due told places p half none (inr may) = none p half may
 
 -- where a half was named by a hint, the poll needn't wait
-pub never_idle : (told : PortId → Option Hint) (stations : List Station) (entries : List ReadyAt) (e : ReadyAt) (until asked : Option ℕ) → NamesOnly [] told stations entries → slice_get entries 0 ≡ Some e → WaitsIdle told stations until asked
-never_idle told stations entries e until asked only first = λ none. absurd (none_due told stations e.place e.half none (first_due [] told stations entries e only first))
+pub never_idle : (told : PortId → Option Hint) (places : List PlaceEntry) (entries : List ReadyAt) (e : ReadyAt) (until asked : Option ℕ) → NamesOnly [] told places entries → slice_get entries 0 ≡ Some e → WaitsIdle told places until asked
+never_idle told places entries e until asked only first = λ none. absurd (none_due told places e.place e.half none (first_due [] told places entries e only first))

@@ -1,5 +1,5 @@
 -- What calls on the ports of places say, by the place.
-use Rattle.std.proofs.Common.{◌<◌, ◌≤◌, arith, find, length, nat_lt, position, slice_get, slice_index_or, zero, suc, [], ◌≡◌, ◌≢◌, ℕ, Bool, true, false, List, ◌∷◌, Option, None, Some, IfSome, is_some, option_map, inr, refl, sym, ap, subst, ◌∙◌, if◌then◌else◌}
+use Rattle.std.proofs.Common.{◌<◌, ◌≤◌, arith, find, length, nat_lt, position, slice_get, slice_index_or, zero, suc, [], ◌≡◌, ◌≢◌, ℕ, Bool, true, false, List, ◌∷◌, Option, None, Some, IfSome, is_some, option_map, refl, sym, ap, subst, ◌∙◌, if◌then◌else◌}
 use Rattle.std.specs.List.{position_or_len}
 use Rattle.std.proofs.lemmas.Bool.Decides.{nat_tests}
 use Rattle.std.proofs.lemmas.List.Folds.{find_at}
@@ -7,7 +7,6 @@ use Rattle.std.proofs.lemmas.Option.{slice_get-get_or}
 use Rattle.slab.specs.Slab.{Slab, Updates, get}
 use Rattle.relay_model.specs.declared.places.Place.{Place}
 use Rattle.relay_model.specs.declared.acts.Shut.{Shut}
-use Rattle.relay_model.specs.declared.acts.Peer.{Peer}
 use Rattle.relay_model.specs.Places.{same_place}
 use Rattle.relay_model.specs.Holding.{Hold, Free, Settling, Open, ShutDown, is_free, is_open}
 use Rattle.port_trait.specs.declared.answers.Shutting.{Shutting}
@@ -16,43 +15,37 @@ use Rattle.port_trait.specs.declared.answers.Settled.TheVariants as settles
 use Rattle.world_trait.specs.Answers.{shut_act}
 use Rattle.world_trait.specs.HoldTables.{SetsHold}
 use Rattle.world_trait.specs.declared.answers.OpenAnswer.TheVariants as opens
-use Rattle.world_trait.specs.declared.answers.AcceptAnswer.{AcceptAnswer}
-use Rattle.world_trait.specs.declared.answers.AcceptAnswer.TheVariants as accepts
 use Rattle.port_table.specs.Bases.{key_of}
 use Rattle.port_table.specs.PortTables.{CalledAt, Errors, Input, Made, MadeCall, Output, PortId, SameStreams, StreamCall, giving_port}
-use Rattle.port_trait.specs.Makers.{MakerSeen}
 use Rattle.port_trait.specs.Ports.{PortSeen, Settles}
 use Rattle.port_table.specs.Ports.{EntrySeen, IsOf, StreamSeen}
 use Rattle.port_table.specs.declared.bases.Base.{Base}
 use Rattle.port_table.specs.declared.bases.Base.TheVariants as bases
 use Rattle.port_table.specs.declared.table.PortTable.{PortTable}
-use Rattle.port_trait.specs.declared.makers.MadePeer.{MadePeer}
-use Rattle.port_trait.specs.declared.makers.MadePeer.TheVariants as peers
-use Rattle.desk_places.specs.declared.stations.Station.{Station}
-use Rattle.desk_places.specs.Causes.{AcceptCause, WelcomeCause}
+use Rattle.desk_places.specs.declared.places.PlaceEntry.{PlaceEntry}
 use Rattle.desk_places.specs.Changes.{HeldAfter, KeptFor, KeptIf, LeavesParent, LeftSo, SettledAt, SettledOut, SettlesMade, made_at, shut_answer}
-use Rattle.desk_places.specs.Stations.{SetsStation, station_at, base_at}
+use Rattle.desk_places.specs.PlaceTables.{SetsEntry, entry_at, base_at}
 use Rattle.desk_places.proofs.PlaceLemmas.{same_place-eq}
 
 -- a fact of the base that a place stands on
-pub at_base : (xs : List Station) (p : Place) (s : Station) (Fact : Base → Type 0) → station_at xs p ≡ Some s → Fact s.base → IfSome (base_at xs p) Fact
+pub at_base : (xs : List PlaceEntry) (p : Place) (s : PlaceEntry) (Fact : Base → Type 0) → entry_at xs p ≡ Some s → Fact s.base → IfSome (base_at xs p) Fact
 at_base xs p s Fact e fact =
-    let At : Option Station → Type 0 = λ slot. IfSome (option_map (λ t. t.base) slot) Fact in
+    let At : Option PlaceEntry → Type 0 = λ slot. IfSome (option_map (λ t. t.base) slot) Fact in
     subst At (sym e) fact
 
--- a fact of its station
-pub at_station : (xs : List Station) (p : Place) (s : Station) (Fact : Station → Type 0) → station_at xs p ≡ Some s → Fact s → IfSome (station_at xs p) Fact
-at_station xs p s Fact e fact = subst (λ slot. IfSome slot Fact) (sym e) fact
+-- a fact of its entry
+pub at_entry : (xs : List PlaceEntry) (p : Place) (s : PlaceEntry) (Fact : PlaceEntry → Type 0) → entry_at xs p ≡ Some s → Fact s → IfSome (entry_at xs p) Fact
+at_entry xs p s Fact e fact = subst (λ slot. IfSome slot Fact) (sym e) fact
 
 -- two keys of one base
-one_key : (xs : List Station) (p : Place) (key other : ℕ) → base_at xs p ≡ Some (bases.Made key) → base_at xs p ≡ Some (bases.Made other) → other ≡ key
+one_key : (xs : List PlaceEntry) (p : Place) (key other : ℕ) → base_at xs p ≡ Some (bases.Made key) → base_at xs p ≡ Some (bases.Made other) → other ≡ key
 one_key xs p key other e f = let g : Some (bases.Made key) ≡ Some (bases.Made other) = sym e ∙ f in cc
 
 -- the made port of a place that is let go is gone, and no other
-pub let_go_gone : (xs : List Station) (p : Place) (made made' : Slab EntrySeen) (key : ℕ) → base_at xs p ≡ Some (bases.Made key) → Updates made made' key None → (other : ℕ) → base_at xs p ≡ Some (bases.Made other) → get made' other ≡ None
+pub let_go_gone : (xs : List PlaceEntry) (p : Place) (made made' : Slab EntrySeen) (key : ℕ) → base_at xs p ≡ Some (bases.Made key) → Updates made made' key None → (other : ℕ) → base_at xs p ≡ Some (bases.Made other) → get made' other ≡ None
 let_go_gone xs p made made' key based updates other e = ap (get made') (one_key xs p key other based e) ∙ updates.changed
 
-pub let_go_others : (xs : List Station) (p : Place) (made made' : Slab EntrySeen) (key : ℕ) → base_at xs p ≡ Some (bases.Made key) → Updates made made' key None → (other : ℕ) → (base_at xs p ≡ Some (bases.Made other) → ⊥) → get made' other ≡ get made other
+pub let_go_others : (xs : List PlaceEntry) (p : Place) (made made' : Slab EntrySeen) (key : ℕ) → base_at xs p ≡ Some (bases.Made key) → Updates made made' key None → (other : ℕ) → (base_at xs p ≡ Some (bases.Made other) → ⊥) → get made' other ≡ get made other
 let_go_others xs p made made' key based updates other away =
     updates.others other (λ same. away (based ∙ ap (λ k. Some (bases.Made k)) (sym same)))
 
@@ -64,7 +57,7 @@ key_made bases.Output key e = absurd cc
 key_made bases.Both key e = absurd cc
 key_made bases.Errors key e = absurd cc
 
-pub not_made : (xs : List Station) (p : Place) (base : Base) → key_of base ≡ None → base_at xs p ≡ Some base → (key : ℕ) → base_at xs p ≡ Some (bases.Made key) → ⊥
+pub not_made : (xs : List PlaceEntry) (p : Place) (base : Base) → key_of base ≡ None → base_at xs p ≡ Some base → (key : ℕ) → base_at xs p ≡ Some (bases.Made key) → ⊥
 not_made xs p base none e key f =
     let g : Some base ≡ Some (bases.Made key) = sym e ∙ f in
     let is : base ≡ bases.Made key = cc in
@@ -78,12 +71,12 @@ none_made made bases.Output e = refl
 none_made made bases.Both e = refl
 none_made made bases.Errors e = refl
 
-based_slot : (slot : Option Station) (base : Base) → option_map (λ s. s.base) slot ≡ Some base → is_some slot ≡ true
+based_slot : (slot : Option PlaceEntry) (base : Base) → option_map (λ s. s.base) slot ≡ Some base → is_some slot ≡ true
 based_slot None base e = absurd cc
 based_slot (Some s) base e = refl
 
-pub based_some : (xs : List Station) (p : Place) (base : Base) → base_at xs p ≡ Some base → is_some (station_at xs p) ≡ true
-based_some xs p base e = based_slot (station_at xs p) base e
+pub based_some : (xs : List PlaceEntry) (p : Place) (base : Base) → base_at xs p ≡ Some base → is_some (entry_at xs p) ≡ true
+based_some xs p base e = based_slot (entry_at xs p) base e
 
 -- a place that was shut is shut, whether that failed or not
 pub shut_holds : (answer : Shutting) (place : Place) (how : Shut) (before after : Place → Hold) → SetsHold place ShutDown before after → HeldAfter (shut_act place how (shut_answer answer)) before after
@@ -95,13 +88,6 @@ open_held Free e = absurd cc
 open_held Settling e = absurd cc
 open_held Open e = refl
 open_held ShutDown e = refl
-
--- an accepting whose peer has come
-pub welcomed : {T : Type 0} (gave : MadePeer T → Type 0) (tells : T → PortSeen) (answer : AcceptAnswer) (port : T) (peer : Peer) (before now : MakerSeen) → gave (peers.Came port peer) → now.came ≡ Some peer → WelcomeCause tells port peer answer → AcceptCause gave tells before now answer
-welcomed gave tells (accepts.Accepted other) port peer before now given is same = is ∙ ap Some (sym same)
-welcomed gave tells accepts.NoPeer port peer before now given is never = absurd never
-welcomed gave tells accepts.Failed port peer before now given is fails = inr (record { made = port; given = (peer, given); fails = fails })
-welcomed gave tells accepts.Memory port peer before now given is nothing = tt
 
 -- a port that is let go was joined where that was to be, and is kept where it has a child
 kept_if : (b : Bool) (joined : Bool) (old new : EntrySeen) (before after : List EntrySeen) → new.place ≡ old.place → LeftSo joined old.port new.port → after ≡ (if b then new ∷ before else before) → KeptFor b joined old before after
@@ -157,7 +143,7 @@ settle_later tells Errors a b parents call = (call.0, call.1, call.2, call.3, re
 settle_later tells (Made key) a b parents call = (call.0, call.1, call.2, (call.3, refl))
 
 -- a place on a made port doesn't stand on another one
-pub on_another : (xs : List Station) (p : Place) (base : Base) (key other : ℕ) → base_at xs p ≡ Some base → base ≡ bases.Made key → other ≢ key → base_at xs p ≡ Some (bases.Made other) → ⊥
+pub on_another : (xs : List PlaceEntry) (p : Place) (base : Base) (key other : ℕ) → base_at xs p ≡ Some base → base ≡ bases.Made key → other ≢ key → base_at xs p ≡ Some (bases.Made other) → ⊥
 on_another xs p base key other e is away f = away (one_key xs p key other (e ∙ ap Some is) f)
 
 failed_if : (b : Bool) (hold now : Hold) → now ≡ hold → (b ≡ true → hold ≡ Free) → now ≡ (if b then Free else hold)
@@ -168,12 +154,20 @@ failed_if false hold now e free = e
 pub stays_free : (before after : Place → Hold) (place : Place) → before place ≡ Free → ((p : Place) → after p ≡ before p) → (p : Place) → after p ≡ (if same_place place p then Free else before p)
 stays_free before after place free same p = failed_if (same_place place p) (before p) (after p) (same p) (λ e. ap before (sym (same_place-eq place p e)) ∙ free)
 
--- a station that is changed in its place
-pub set_as : (xs ys : List Station) (place : Place) (s s' : Station) (f : Station → Station) → station_at xs place ≡ Some s → s' ≡ f s → s'.place ≡ place → SetsStation s'.place (Some s') (station_at xs) (station_at ys) → SetsStation place (option_map f (station_at xs place)) (station_at xs) (station_at ys)
+free_if : (b : Bool) (hold now : Hold) → now ≡ (if b then Free else hold) → (b ≡ true → hold ≡ Free) → now ≡ hold
+free_if true hold now e free = e ∙ sym (free refl)
+free_if false hold now e free = e
+
+-- and one that is free after all stood so
+pub still_free : (before after : Place → Hold) (place : Place) → before place ≡ Free → ((p : Place) → after p ≡ (if same_place place p then Free else before p)) → (p : Place) → after p ≡ before p
+still_free before after place free sets p = free_if (same_place place p) (before p) (after p) (sets p) (λ e. ap before (sym (same_place-eq place p e)) ∙ free)
+
+-- an entry that is changed in its place
+pub set_as : (xs ys : List PlaceEntry) (place : Place) (s s' : PlaceEntry) (f : PlaceEntry → PlaceEntry) → entry_at xs place ≡ Some s → s' ≡ f s → s'.place ≡ place → SetsEntry s'.place (Some s') (entry_at xs) (entry_at ys) → SetsEntry place (option_map f (entry_at xs place)) (entry_at xs) (entry_at ys)
 set_as xs ys place s s' f at is here sets =
-    let Sets : Place → Option Station → Type 0 = λ q slot. SetsStation q slot (station_at xs) (station_at ys) in
-    let slot : Some s' ≡ option_map f (station_at xs place) = ap Some is ∙ ap (option_map f) (sym at) in
-    subst (λ q. Sets q (option_map f (station_at xs place))) here (subst (Sets s'.place) slot sets)
+    let Sets : Place → Option PlaceEntry → Type 0 = λ q slot. SetsEntry q slot (entry_at xs) (entry_at ys) in
+    let slot : Some s' ≡ option_map f (entry_at xs place) = ap Some is ∙ ap (option_map f) (sym at) in
+    subst (λ q. Sets q (option_map f (entry_at xs place))) here (subst (Sets s'.place) slot sets)
 
 past_all : {X : Type 0} (xs : List X) (i : ℕ) → length xs ≤ i → slice_get xs i ≡ None
 past_all [] i le = refl

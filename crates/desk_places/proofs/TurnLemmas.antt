@@ -15,15 +15,15 @@ use Rattle.port_table.specs.Ports.{EntrySeen}
 use Rattle.port_table.specs.PortTables.{PortId, Input, Output, Errors, Made, giving_port, hint_told, hints_of, place_of, taking_port}
 use Rattle.port_table.specs.declared.bases.Base.{Base}
 use Rattle.port_table.specs.declared.bases.Base.TheVariants as bases
-use Rattle.desk_places.specs.declared.stations.Station.{Station}
+use Rattle.desk_places.specs.declared.places.PlaceEntry.{PlaceEntry}
 use Rattle.desk_places.specs.Standing.{IsSound, heeds, is_heeded, is_quiet, may_tell, stands_on, tells}
 use Rattle.desk_places.specs.Keys.{KeyTable, is_in}
 use Rattle.desk_places.proofs.KeyLemmas.{in_index}
-use Rattle.desk_places.specs.Stations.{AreListed, SetsStation, half_disarmed, is_disarmed, station_at, with_half}
+use Rattle.desk_places.specs.PlaceTables.{AreListed, SetsEntry, half_disarmed, is_disarmed, entry_at, with_half}
 use Rattle.desk_places.proofs.PlaceLemmas.{same_place-eq}
 use Rattle.desk_places.proofs.SoundLemmas.{stands_at}
-use Rattle.desk_places.proofs.StationLemmas.{asked_index}
-use Rattle.desk_places.specs.Naming.{Grown, HintNamed, IsHinted, IsHinting, IsNamed, NamesHinting, NamesListed, NamesStandard, PlaceNamed, PollsUntil, StationNamed, half_port, is_hinted}
+use Rattle.desk_places.proofs.EntryLemmas.{asked_index}
+use Rattle.desk_places.specs.Naming.{Grown, HintNamed, IsHinted, IsHinting, IsNamed, NamesHinting, NamesListed, NamesStandard, PlaceNamed, PollsUntil, EntryNamed, half_port, is_hinted}
 use Rattle.desk_places.proofs.NamingLemmas.{below_or_last, named_on, within}
 
 -- ---- hints
@@ -37,22 +37,22 @@ writing_step None hint Fact same fact = tt
 writing_step (Some told) hint Fact same fact = λ ready. fact (same ∙ ready)
 
 -- the halves that the hint finds ready, by what the ports tell
-pub station_named : (told : PortId → Option Hint) (station : Station) (hint : Hint) (ready : List ReadyAt) → HintNamed station hint ready → IfSome (told (giving_port station.base)) (λ h. hint.readable ≡ h.readable) → IfSome (told (taking_port station.base)) (λ h. hint.writable ≡ h.writable) → StationNamed told station ready
-station_named told station hint ready named reading writing ToRead off = reading_step (told (giving_port station.base)) hint (IsNamed ready station.place ToRead) reading (named ToRead off)
-station_named told station hint ready named reading writing ToWrite off = writing_step (told (taking_port station.base)) hint (IsNamed ready station.place ToWrite) writing (named ToWrite off)
+pub entry_named : (told : PortId → Option Hint) (entry : PlaceEntry) (hint : Hint) (ready : List ReadyAt) → HintNamed entry hint ready → IfSome (told (giving_port entry.base)) (λ h. hint.readable ≡ h.readable) → IfSome (told (taking_port entry.base)) (λ h. hint.writable ≡ h.writable) → EntryNamed told entry ready
+entry_named told entry hint ready named reading writing ToRead off = reading_step (told (giving_port entry.base)) hint (IsNamed ready entry.place ToRead) reading (named ToRead off)
+entry_named told entry hint ready named reading writing ToWrite off = writing_step (told (taking_port entry.base)) hint (IsNamed ready entry.place ToWrite) writing (named ToWrite off)
 
--- a station without a disarmed half asks for nothing
-pub all_armed : (told : PortId → Option Hint) (station : Station) (ready : List ReadyAt) → station.reading_disarmed ≡ false → station.writing_disarmed ≡ false → StationNamed told station ready
-all_armed told station ready reading writing ToRead off = absurd (let f : true ≡ false = sym off ∙ reading in cc)
-all_armed told station ready reading writing ToWrite off = absurd (let f : true ≡ false = sym off ∙ writing in cc)
+-- an entry without a disarmed half asks for nothing
+pub all_armed : (told : PortId → Option Hint) (entry : PlaceEntry) (ready : List ReadyAt) → entry.reading_disarmed ≡ false → entry.writing_disarmed ≡ false → EntryNamed told entry ready
+all_armed told entry ready reading writing ToRead off = absurd (let f : true ≡ false = sym off ∙ reading in cc)
+all_armed told entry ready reading writing ToWrite off = absurd (let f : true ≡ false = sym off ∙ writing in cc)
 
 hint_on : (slot : Option Hint) (half : Half) (place : Place) (xs ys : List ReadyAt) → Grown xs ys → IfSome slot (λ hint. is_hinted half hint ≡ true → IsNamed xs place half) → IfSome slot (λ hint. is_hinted half hint ≡ true → IsNamed ys place half)
 hint_on None half place xs ys grown h = tt
 hint_on (Some hint) half place xs ys grown h = λ ready. named_on xs ys place half grown (h ready)
 
 -- what was named stays named
-pub station_on : (told : PortId → Option Hint) (station : Station) (xs ys : List ReadyAt) → Grown xs ys → StationNamed told station xs → StationNamed told station ys
-station_on told station xs ys grown named = λ half off. hint_on (told (half_port half station.base)) half station.place xs ys grown (named half off)
+pub entry_on : (told : PortId → Option Hint) (entry : PlaceEntry) (xs ys : List ReadyAt) → Grown xs ys → EntryNamed told entry xs → EntryNamed told entry ys
+entry_on told entry xs ys grown named = λ half off. hint_on (told (half_port half entry.base)) half entry.place xs ys grown (named half off)
 
 -- ports that tell the same hints
 pub told_same : (input output errors input' output' errors' : Option Hint) (made made' : Slab EntrySeen) → input' ≡ input → output' ≡ output → errors' ≡ errors → SameValues made made' → (id : PortId) → hint_told input' output' errors' made' id ≡ hint_told input output errors made id
@@ -61,24 +61,24 @@ told_same input output errors input' output' errors' made made' i o e same Outpu
 told_same input output errors input' output' errors' made made' i o e same Errors = e
 told_same input output errors input' output' errors' made made' i o e same (Made key) = ap hints_of (same key)
 
-pub station_told : (told told' : PortId → Option Hint) (station : Station) (ready : List ReadyAt) → ((id : PortId) → told' id ≡ told id) → StationNamed told' station ready → StationNamed told station ready
-station_told told told' station ready same named = λ half off.
-    let Named : Option Hint → Type 0 = λ slot. IfSome slot (λ hint. is_hinted half hint ≡ true → IsNamed ready station.place half) in
-    subst Named (same (half_port half station.base)) (named half off)
+pub entry_told : (told told' : PortId → Option Hint) (entry : PlaceEntry) (ready : List ReadyAt) → ((id : PortId) → told' id ≡ told id) → EntryNamed told' entry ready → EntryNamed told entry ready
+entry_told told told' entry ready same named = λ half off.
+    let Named : Option Hint → Type 0 = λ slot. IfSome slot (λ hint. is_hinted half hint ≡ true → IsNamed ready entry.place half) in
+    subst Named (same (half_port half entry.base)) (named half off)
 
-slot_named : (slot : Option Station) (told told' : PortId → Option Hint) (ready : List ReadyAt) → ((id : PortId) → told' id ≡ told id) → IfSome slot (λ station. StationNamed told' station ready) → IfSome slot (λ station. StationNamed told station ready)
+slot_named : (slot : Option PlaceEntry) (told told' : PortId → Option Hint) (ready : List ReadyAt) → ((id : PortId) → told' id ≡ told id) → IfSome slot (λ entry. EntryNamed told' entry ready) → IfSome slot (λ entry. EntryNamed told entry ready)
 slot_named None told told' ready same named = tt
-slot_named (Some station) told told' ready same named = station_told told told' station ready same named
+slot_named (Some entry) told told' ready same named = entry_told told told' entry ready same named
 
-pub hinting_told : (told told' : PortId → Option Hint) (stations : List Station) (ready : List ReadyAt) → ((id : PortId) → told' id ≡ told id) → NamesHinting told' stations ready → NamesHinting told stations ready
-hinting_told told told' stations ready same named = λ p. slot_named (station_at stations p) told told' ready same (named p)
+pub hinting_told : (told told' : PortId → Option Hint) (places : List PlaceEntry) (ready : List ReadyAt) → ((id : PortId) → told' id ≡ told id) → NamesHinting told' places ready → NamesHinting told places ready
+hinting_told told told' places ready same named = λ p. slot_named (entry_at places p) told told' ready same (named p)
 
-slot_on : (slot : Option Station) (told : PortId → Option Hint) (xs ys : List ReadyAt) → Grown xs ys → IfSome slot (λ station. StationNamed told station xs) → IfSome slot (λ station. StationNamed told station ys)
+slot_on : (slot : Option PlaceEntry) (told : PortId → Option Hint) (xs ys : List ReadyAt) → Grown xs ys → IfSome slot (λ entry. EntryNamed told entry xs) → IfSome slot (λ entry. EntryNamed told entry ys)
 slot_on None told xs ys grown named = tt
-slot_on (Some station) told xs ys grown named = station_on told station xs ys grown named
+slot_on (Some entry) told xs ys grown named = entry_on told entry xs ys grown named
 
-pub hinting_on : (told : PortId → Option Hint) (stations : List Station) (xs ys : List ReadyAt) → Grown xs ys → NamesHinting told stations xs → NamesHinting told stations ys
-hinting_on told stations xs ys grown named = λ p. slot_on (station_at stations p) told xs ys grown (named p)
+pub hinting_on : (told : PortId → Option Hint) (places : List PlaceEntry) (xs ys : List ReadyAt) → Grown xs ys → NamesHinting told places xs → NamesHinting told places ys
+hinting_on told places xs ys grown named = λ p. slot_on (entry_at places p) told xs ys grown (named p)
 
 -- ---- until when a turn polls
 
@@ -91,88 +91,88 @@ unhinted : (slot : Option Hint) (half : Half) (place : Place) (ready : List Read
 unhinted None half place ready none named hinted = hinted
 unhinted (Some hint) half place ready none named hinted = unnamed ready place half none (named hinted)
 
-unhinting : (slot : Option Station) (told : PortId → Option Hint) (half : Half) (ready : List ReadyAt) → length ready ≤ 0 → IfSome slot (λ station. StationNamed told station ready) → IsHinting told slot half → ⊥
+unhinting : (slot : Option PlaceEntry) (told : PortId → Option Hint) (half : Half) (ready : List ReadyAt) → length ready ≤ 0 → IfSome slot (λ entry. EntryNamed told entry ready) → IsHinting told slot half → ⊥
 unhinting None told half ready none named hinting = hinting
-unhinting (Some station) told half ready none named hinting = unhinted (told (half_port half station.base)) half station.place ready none (named half hinting.0) hinting.1
+unhinting (Some entry) told half ready none named hinting = unhinted (told (half_port half entry.base)) half entry.place ready none (named half hinting.0) hinting.1
 
 -- no half hints, and the poll waits as the turn asks
-pub polls_on : (told : PortId → Option Hint) (stations : List Station) (hinting ready : List ReadyAt) (last : ℕ) (until asked : Option ℕ) → length hinting ≤ 0 → NamesHinting told stations hinting → asked ≡ until → PollsUntil told stations ready last until asked
-polls_on told stations hinting ready last until asked none named is = record {
-  at_once = λ p half h. absurd (unhinting (station_at stations p) told half hinting none (named p) h);
+pub polls_on : (told : PortId → Option Hint) (places : List PlaceEntry) (hinting ready : List ReadyAt) (last : ℕ) (until asked : Option ℕ) → length hinting ≤ 0 → NamesHinting told places hinting → asked ≡ until → PollsUntil told places ready last until asked
+polls_on told places hinting ready last until asked none named is = record {
+  at_once = λ p half h. absurd (unhinting (entry_at places p) told half hinting none (named p) h);
   waits = λ empty. is;
   either = inr is;
 }
 
 -- a half hints, and the poll doesn't wait
-pub polls_at_once : (told : PortId → Option Hint) (stations : List Station) (hinting ready : List ReadyAt) (last : ℕ) (until asked : Option ℕ) → 0 < length hinting → Grown hinting ready → asked ≡ Some last → PollsUntil told stations ready last until asked
-polls_at_once told stations hinting ready last until asked some grown is = record {
+pub polls_at_once : (told : PortId → Option Hint) (places : List PlaceEntry) (hinting ready : List ReadyAt) (last : ℕ) (until asked : Option ℕ) → 0 < length hinting → Grown hinting ready → asked ≡ Some last → PollsUntil told places ready last until asked
+polls_at_once told places hinting ready last until asked some grown is = record {
   at_once = λ p half h. is;
   waits = λ empty. absurd (let none : length ready ≡ 0 = ap length empty in omega (arith, none, some, grown.longer));
   either = inl is;
 }
 
-asked_step : (told : PortId → Option Hint) (stations : List Station) (places : List Place) (i j : ℕ) (last p : Place) (xs ys : List ReadyAt) → (j < i) ⊎ (j ≡ i) → slice_get places i ≡ Some last → slice_get places j ≡ Some p → Grown xs ys → (j < i → PlaceNamed told stations p xs) → PlaceNamed told stations last ys → PlaceNamed told stations p ys
-asked_step told stations places i j last p xs ys (inl below) at here grown before named = slot_on (station_at stations p) told xs ys grown (before below)
-asked_step told stations places i j last p xs ys (inr same) at here grown before named =
-    let f : Some last ≡ Some p = sym at ∙ (ap (slice_get places) (sym same) ∙ here) in
+asked_step : (told : PortId → Option Hint) (places : List PlaceEntry) (asked : List Place) (i j : ℕ) (last p : Place) (xs ys : List ReadyAt) → (j < i) ⊎ (j ≡ i) → slice_get asked i ≡ Some last → slice_get asked j ≡ Some p → Grown xs ys → (j < i → PlaceNamed told places p xs) → PlaceNamed told places last ys → PlaceNamed told places p ys
+asked_step told places asked i j last p xs ys (inl below) at here grown before named = slot_on (entry_at places p) told xs ys grown (before below)
+asked_step told places asked i j last p xs ys (inr same) at here grown before named =
+    let f : Some last ≡ Some p = sym at ∙ (ap (slice_get asked) (sym same) ∙ here) in
     let is : last ≡ p = cc in
-    subst (λ x. PlaceNamed told stations x ys) is named
+    subst (λ x. PlaceNamed told places x ys) is named
 
 -- one more place whose halves are named
-pub asked_more : (told : PortId → Option Hint) (stations : List Station) (places : List Place) (i : ℕ) (last : Place) (xs ys : List ReadyAt) → slice_get places i ≡ Some last → Grown xs ys → ((j : ℕ) (p : Place) → j < i → slice_get places j ≡ Some p → PlaceNamed told stations p xs) → PlaceNamed told stations last ys → (j : ℕ) (p : Place) → j < i + 1 → slice_get places j ≡ Some p → PlaceNamed told stations p ys
-asked_more told stations places i last xs ys at grown before named j p below here =
-    asked_step told stations places i j last p xs ys (below_or_last i j below) at here grown (λ b. before j p b here) named
+pub asked_more : (told : PortId → Option Hint) (places : List PlaceEntry) (asked : List Place) (i : ℕ) (last : Place) (xs ys : List ReadyAt) → slice_get asked i ≡ Some last → Grown xs ys → ((j : ℕ) (p : Place) → j < i → slice_get asked j ≡ Some p → PlaceNamed told places p xs) → PlaceNamed told places last ys → (j : ℕ) (p : Place) → j < i + 1 → slice_get asked j ≡ Some p → PlaceNamed told places p ys
+asked_more told places asked i last xs ys at grown before named j p below here =
+    asked_step told places asked i j last p xs ys (below_or_last i j below) at here grown (λ b. before j p b here) named
 
-standard_slot : (told : PortId → Option Hint) (stations : List Station) (places : List Place) (i : ℕ) (ready : List ReadyAt) → length places ≤ i → AreListed stations places → ((j : ℕ) (p : Place) → j < i → slice_get places j ≡ Some p → PlaceNamed told stations p ready) → (p : Place) (slot : Option Station) → station_at stations p ≡ slot → IfSome slot (λ station. is_standard station.base ≡ true → StationNamed told station ready)
-standard_slot told stations places i ready past listed named p None e = tt
-standard_slot told stations places i ready past listed named p (Some s) e =
+standard_slot : (told : PortId → Option Hint) (places : List PlaceEntry) (asked : List Place) (i : ℕ) (ready : List ReadyAt) → length asked ≤ i → AreListed places asked → ((j : ℕ) (p : Place) → j < i → slice_get asked j ≡ Some p → PlaceNamed told places p ready) → (p : Place) (slot : Option PlaceEntry) → entry_at places p ≡ slot → IfSome slot (λ entry. is_standard entry.base ≡ true → EntryNamed told entry ready)
+standard_slot told places asked i ready past listed named p None e = tt
+standard_slot told places asked i ready past listed named p (Some s) e =
     λ standard.
-    let index = asked_index stations places p s listed e standard in
-    let here = named index.0 p (omega (arith, within places index.0 p index.1, past)) index.1 in
-    subst (λ slot. IfSome slot (λ station. StationNamed told station ready)) e here
+    let index = asked_index places asked p s listed e standard in
+    let here = named index.0 p (omega (arith, within asked index.0 p index.1, past)) index.1 in
+    subst (λ slot. IfSome slot (λ entry. EntryNamed told entry ready)) e here
 
 -- every place on standard streams was gone through
-pub standard_all : (told : PortId → Option Hint) (stations : List Station) (places : List Place) (i : ℕ) (ready : List ReadyAt) → length places ≤ i → AreListed stations places → ((j : ℕ) (p : Place) → j < i → slice_get places j ≡ Some p → PlaceNamed told stations p ready) → NamesStandard told stations ready
-standard_all told stations places i ready past listed named p = standard_slot told stations places i ready past listed named p (station_at stations p) refl
+pub standard_all : (told : PortId → Option Hint) (places : List PlaceEntry) (asked : List Place) (i : ℕ) (ready : List ReadyAt) → length asked ≤ i → AreListed places asked → ((j : ℕ) (p : Place) → j < i → slice_get asked j ≡ Some p → PlaceNamed told places p ready) → NamesStandard told places ready
+standard_all told places asked i ready past listed named p = standard_slot told places asked i ready past listed named p (entry_at places p) refl
 
 -- ---- made ports that are listed
 
 -- the place of the key is gone through
-abbrev pub KeyPlaced : (PortId → Option Hint) → List Station → Slab EntrySeen → ℕ → List ReadyAt → Type 0
-KeyPlaced told stations made key ready = IfSome (place_of (get made key)) (λ place. PlaceNamed told stations place ready)
+abbrev pub KeyPlaced : (PortId → Option Hint) → List PlaceEntry → Slab EntrySeen → ℕ → List ReadyAt → Type 0
+KeyPlaced told places made key ready = IfSome (place_of (get made key)) (λ place. PlaceNamed told places place ready)
 
-placed_on : (slot : Option Place) (told : PortId → Option Hint) (stations : List Station) (xs ys : List ReadyAt) → Grown xs ys → IfSome slot (λ place. PlaceNamed told stations place xs) → IfSome slot (λ place. PlaceNamed told stations place ys)
-placed_on None told stations xs ys grown named = tt
-placed_on (Some place) told stations xs ys grown named = slot_on (station_at stations place) told xs ys grown named
+placed_on : (slot : Option Place) (told : PortId → Option Hint) (places : List PlaceEntry) (xs ys : List ReadyAt) → Grown xs ys → IfSome slot (λ place. PlaceNamed told places place xs) → IfSome slot (λ place. PlaceNamed told places place ys)
+placed_on None told places xs ys grown named = tt
+placed_on (Some place) told places xs ys grown named = slot_on (entry_at places place) told xs ys grown named
 
-listed_step : (told : PortId → Option Hint) (stations : List Station) (made : Slab EntrySeen) (keys : List ℕ) (i j last key : ℕ) (xs ys : List ReadyAt) → (j < i) ⊎ (j ≡ i) → slice_get keys i ≡ Some last → slice_get keys j ≡ Some key → Grown xs ys → (j < i → KeyPlaced told stations made key xs) → KeyPlaced told stations made last ys → KeyPlaced told stations made key ys
-listed_step told stations made keys i j last key xs ys (inl below) at here grown before named = placed_on (place_of (get made key)) told stations xs ys grown (before below)
-listed_step told stations made keys i j last key xs ys (inr same) at here grown before named =
+listed_step : (told : PortId → Option Hint) (places : List PlaceEntry) (made : Slab EntrySeen) (keys : List ℕ) (i j last key : ℕ) (xs ys : List ReadyAt) → (j < i) ⊎ (j ≡ i) → slice_get keys i ≡ Some last → slice_get keys j ≡ Some key → Grown xs ys → (j < i → KeyPlaced told places made key xs) → KeyPlaced told places made last ys → KeyPlaced told places made key ys
+listed_step told places made keys i j last key xs ys (inl below) at here grown before named = placed_on (place_of (get made key)) told places xs ys grown (before below)
+listed_step told places made keys i j last key xs ys (inr same) at here grown before named =
     let f : Some last ≡ Some key = sym at ∙ (ap (slice_get keys) (sym same) ∙ here) in
     let is : last ≡ key = cc in
-    subst (λ k. KeyPlaced told stations made k ys) is named
+    subst (λ k. KeyPlaced told places made k ys) is named
 
 -- one more key whose place is gone through
-pub listed_more : (told : PortId → Option Hint) (stations : List Station) (made : Slab EntrySeen) (keys : List ℕ) (i last : ℕ) (xs ys : List ReadyAt) → slice_get keys i ≡ Some last → Grown xs ys → ((j key : ℕ) → j < i → slice_get keys j ≡ Some key → KeyPlaced told stations made key xs) → KeyPlaced told stations made last ys → (j key : ℕ) → j < i + 1 → slice_get keys j ≡ Some key → KeyPlaced told stations made key ys
-listed_more told stations made keys i last xs ys at grown before named j key below here =
-    listed_step told stations made keys i j last key xs ys (below_or_last i j below) at here grown (λ b. before j key b here) named
+pub listed_more : (told : PortId → Option Hint) (places : List PlaceEntry) (made : Slab EntrySeen) (keys : List ℕ) (i last : ℕ) (xs ys : List ReadyAt) → slice_get keys i ≡ Some last → Grown xs ys → ((j key : ℕ) → j < i → slice_get keys j ≡ Some key → KeyPlaced told places made key xs) → KeyPlaced told places made last ys → (j key : ℕ) → j < i + 1 → slice_get keys j ≡ Some key → KeyPlaced told places made key ys
+listed_more told places made keys i last xs ys at grown before named j key below here =
+    listed_step told places made keys i j last key xs ys (below_or_last i j below) at here grown (λ b. before j key b here) named
 
 -- every key was gone through
-pub listed_all : (told : PortId → Option Hint) (stations : List Station) (made : Slab EntrySeen) (keys : List ℕ) (i : ℕ) (ready : List ReadyAt) → length keys ≤ i → ((j key : ℕ) → j < i → slice_get keys j ≡ Some key → KeyPlaced told stations made key ready) → NamesListed told stations made keys ready
-listed_all told stations made keys i ready past named j key at = named j key (omega (arith, within keys j key at, past)) at
+pub listed_all : (told : PortId → Option Hint) (places : List PlaceEntry) (made : Slab EntrySeen) (keys : List ℕ) (i : ℕ) (ready : List ReadyAt) → length keys ≤ i → ((j key : ℕ) → j < i → slice_get keys j ≡ Some key → KeyPlaced told places made key ready) → NamesListed told places made keys ready
+listed_all told places made keys i ready past named j key at = named j key (omega (arith, within keys j key at, past)) at
 
 -- a key that tells the same
-pub placed_told : (told told' : PortId → Option Hint) (stations : List Station) (made made' : Slab EntrySeen) (key : ℕ) (ready : List ReadyAt) → ((id : PortId) → told' id ≡ told id) → SameValues made made' → KeyPlaced told' stations made' key ready → KeyPlaced told stations made key ready
-placed_told told told' stations made made' key ready same values named =
-    slot_placed (place_of (get made key)) (subst (λ slot. IfSome (place_of slot) (λ place. PlaceNamed told' stations place ready)) (values key) named)
+pub placed_told : (told told' : PortId → Option Hint) (places : List PlaceEntry) (made made' : Slab EntrySeen) (key : ℕ) (ready : List ReadyAt) → ((id : PortId) → told' id ≡ told id) → SameValues made made' → KeyPlaced told' places made' key ready → KeyPlaced told places made key ready
+placed_told told told' places made made' key ready same values named =
+    slot_placed (place_of (get made key)) (subst (λ slot. IfSome (place_of slot) (λ place. PlaceNamed told' places place ready)) (values key) named)
   where
-    slot_placed : (slot : Option Place) → IfSome slot (λ place. PlaceNamed told' stations place ready) → IfSome slot (λ place. PlaceNamed told stations place ready)
+    slot_placed : (slot : Option Place) → IfSome slot (λ place. PlaceNamed told' places place ready) → IfSome slot (λ place. PlaceNamed told places place ready)
     slot_placed None h = tt
-    slot_placed (Some place) h = slot_named (station_at stations place) told told' ready same h
+    slot_placed (Some place) h = slot_named (entry_at places place) told told' ready same h
 
-pub listed_told : (told told' : PortId → Option Hint) (stations : List Station) (made made' : Slab EntrySeen) (keys keys' : List ℕ) (ready : List ReadyAt) → ((id : PortId) → told' id ≡ told id) → SameValues made made' → keys' ≡ keys → NamesListed told' stations made' keys' ready → NamesListed told stations made keys ready
-listed_told told told' stations made made' keys keys' ready same values e named i key at =
-    placed_told told told' stations made made' key ready same values (named i key (ap (λ (ks : List ℕ). slice_get ks i) e ∙ at))
+pub listed_told : (told told' : PortId → Option Hint) (places : List PlaceEntry) (made made' : Slab EntrySeen) (keys keys' : List ℕ) (ready : List ReadyAt) → ((id : PortId) → told' id ≡ told id) → SameValues made made' → keys' ≡ keys → NamesListed told' places made' keys' ready → NamesListed told places made keys ready
+listed_told told told' places made made' keys keys' ready same values e named i key at =
+    placed_told told told' places made made' key ready same values (named i key (ap (λ (ks : List ℕ). slice_get ks i) e ∙ at))
 
 -- ---- both
 
@@ -191,59 +191,59 @@ both_parts true b e = (refl, e)
 both_parts false b e = absurd cc
 
 -- a quiet port tells no disarmed half as ready
-quiet_half : (station : Station) (port : PortSeen) (half : Half) (ready : List ReadyAt) → is_quiet station port ≡ true → half_disarmed half (Some station) ≡ true → (hints : Option Hint) → port.hints ≡ hints → IfSome hints (λ hint. is_hinted half hint ≡ true → IsNamed ready station.place half)
-quiet_half station port half ready quiet off None e = tt
-quiet_half station port ToRead ready quiet off (Some hint) e =
-    λ hinted. absurd (not_told station.reading_disarmed port.hinting.readable (tells ToRead port.hints) (both_parts (not (station.reading_disarmed && may_tell ToRead port)) (not (station.writing_disarmed && may_tell ToWrite port)) quiet).0 off (ap (tells ToRead) e ∙ hinted))
-quiet_half station port ToWrite ready quiet off (Some hint) e =
-    λ hinted. absurd (not_told station.writing_disarmed port.hinting.writable (tells ToWrite port.hints) (both_parts (not (station.reading_disarmed && may_tell ToRead port)) (not (station.writing_disarmed && may_tell ToWrite port)) quiet).1 off (ap (tells ToWrite) e ∙ hinted))
+quiet_half : (entry : PlaceEntry) (port : PortSeen) (half : Half) (ready : List ReadyAt) → is_quiet entry port ≡ true → half_disarmed half (Some entry) ≡ true → (hints : Option Hint) → port.hints ≡ hints → IfSome hints (λ hint. is_hinted half hint ≡ true → IsNamed ready entry.place half)
+quiet_half entry port half ready quiet off None e = tt
+quiet_half entry port ToRead ready quiet off (Some hint) e =
+    λ hinted. absurd (not_told entry.reading_disarmed port.hinting.readable (tells ToRead port.hints) (both_parts (not (entry.reading_disarmed && may_tell ToRead port)) (not (entry.writing_disarmed && may_tell ToWrite port)) quiet).0 off (ap (tells ToRead) e ∙ hinted))
+quiet_half entry port ToWrite ready quiet off (Some hint) e =
+    λ hinted. absurd (not_told entry.writing_disarmed port.hinting.writable (tells ToWrite port.hints) (both_parts (not (entry.reading_disarmed && may_tell ToRead port)) (not (entry.writing_disarmed && may_tell ToWrite port)) quiet).1 off (ap (tells ToWrite) e ∙ hinted))
 
 either_half : (half : Half) (base : Base) (key : ℕ) → base ≡ bases.Made key → half_port half base ≡ Made key
 either_half ToRead base key is = ap giving_port is
 either_half ToWrite base key is = ap taking_port is
 
-module _ (input output errors : Option Hint) (made : Slab EntrySeen) (stations : List Station) (listed : KeyTable) (xs ys : List ReadyAt) (standard : NamesStandard (hint_told input output errors made) stations xs) (grown : Grown xs ys) (keyed : NamesListed (hint_told input output errors made) stations made listed.keys ys) where
-  quiet_station : (p : Place) (s : Station) (key : ℕ) → s.base ≡ bases.Made key → (entry : EntrySeen) → get made key ≡ Some entry → is_quiet s entry.port ≡ true → StationNamed (hint_told input output errors made) s ys
-  quiet_station p s key is entry at quiet half off =
+module _ (input output errors : Option Hint) (made : Slab EntrySeen) (places : List PlaceEntry) (listed : KeyTable) (xs ys : List ReadyAt) (standard : NamesStandard (hint_told input output errors made) places xs) (grown : Grown xs ys) (keyed : NamesListed (hint_told input output errors made) places made listed.keys ys) where
+  quiet_entry : (p : Place) (s : PlaceEntry) (key : ℕ) → s.base ≡ bases.Made key → (entry : EntrySeen) → get made key ≡ Some entry → is_quiet s entry.port ≡ true → EntryNamed (hint_told input output errors made) s ys
+  quiet_entry p s key is entry at quiet half off =
       let telling : hint_told input output errors made (half_port half s.base) ≡ entry.port.hints = ap (hint_told input output errors made) (either_half half s.base key is) ∙ ap hints_of at in
       subst (λ slot. IfSome slot (λ hint. is_hinted half hint ≡ true → IsNamed ys s.place half)) (sym telling) (quiet_half s entry.port half ys quiet off entry.port.hints refl)
 
-  keyed_station : (p : Place) (s : Station) (key : ℕ) → station_at stations p ≡ Some s → place_of (get made key) ≡ Some p → is_in key listed.keys ≡ true → StationNamed (hint_told input output errors made) s ys
-  keyed_station p s key e here inside =
+  keyed_entry : (p : Place) (s : PlaceEntry) (key : ℕ) → entry_at places p ≡ Some s → place_of (get made key) ≡ Some p → is_in key listed.keys ≡ true → EntryNamed (hint_told input output errors made) s ys
+  keyed_entry p s key e here inside =
       let index = in_index key listed.keys inside in
-      let named : PlaceNamed (hint_told input output errors made) stations p ys = subst (λ slot. IfSome slot (λ place. PlaceNamed (hint_told input output errors made) stations place ys)) here (keyed index.0 key index.1) in
-      subst (λ slot. IfSome slot (λ station. StationNamed (hint_told input output errors made) station ys)) e named
+      let named : PlaceNamed (hint_told input output errors made) places p ys = subst (λ slot. IfSome slot (λ place. PlaceNamed (hint_told input output errors made) places place ys)) here (keyed index.0 key index.1) in
+      subst (λ slot. IfSome slot (λ entry. EntryNamed (hint_told input output errors made) entry ys)) e named
 
-  made_station : (p : Place) (s : Station) (key : ℕ) → station_at stations p ≡ Some s → s.base ≡ bases.Made key → stands_on made listed.covered p s.base ≡ true → heeds made listed.keys s s.base ≡ true → StationNamed (hint_told input output errors made) s ys
-  made_station p s key e is stands heeded =
+  made_entry : (p : Place) (s : PlaceEntry) (key : ℕ) → entry_at places p ≡ Some s → s.base ≡ bases.Made key → stands_on made listed.covered p s.base ≡ true → heeds made listed.keys s s.base ≡ true → EntryNamed (hint_told input output errors made) s ys
+  made_entry p s key e is stands heeded =
       let at = stands_at made listed.covered p s.base key is stands in
       let either : (is_in key listed.keys || is_quiet s at.0.port) ≡ true = ap (is_heeded s key listed.keys) (sym at.1) ∙ (ap (heeds made listed.keys s) (sym is) ∙ heeded) in
-      true_or (is_in key listed.keys) (is_quiet s at.0.port) (StationNamed (hint_told input output errors made) s ys) either
-      (keyed_station p s key e (ap place_of at.1 ∙ ap Some at.2))
-      (quiet_station p s key is at.0 at.1)
+      true_or (is_in key listed.keys) (is_quiet s at.0.port) (EntryNamed (hint_told input output errors made) s ys) either
+      (keyed_entry p s key e (ap place_of at.1 ∙ ap Some at.2))
+      (quiet_entry p s key is at.0 at.1)
 
-  standard_station : (p : Place) (s : Station) → station_at stations p ≡ Some s → is_standard s.base ≡ true → StationNamed (hint_told input output errors made) s ys
-  standard_station p s e is =
-      station_on (hint_told input output errors made) s xs ys grown
-      (subst (λ slot. IfSome slot (λ station. is_standard station.base ≡ true → StationNamed (hint_told input output errors made) station xs)) e (standard p) is)
+  standard_entry : (p : Place) (s : PlaceEntry) → entry_at places p ≡ Some s → is_standard s.base ≡ true → EntryNamed (hint_told input output errors made) s ys
+  standard_entry p s e is =
+      entry_on (hint_told input output errors made) s xs ys grown
+      (subst (λ slot. IfSome slot (λ entry. is_standard entry.base ≡ true → EntryNamed (hint_told input output errors made) entry xs)) e (standard p) is)
 
-  base_hinting : (p : Place) (s : Station) (base : Base) → s.base ≡ base → station_at stations p ≡ Some s → stands_on made listed.covered p s.base ≡ true → heeds made listed.keys s s.base ≡ true → StationNamed (hint_told input output errors made) s ys
-  base_hinting p s (bases.Made key) is e stands heeded = made_station p s key e is stands heeded
-  base_hinting p s bases.Input is e stands heeded = standard_station p s e (ap is_standard is)
-  base_hinting p s bases.Output is e stands heeded = standard_station p s e (ap is_standard is)
-  base_hinting p s bases.Both is e stands heeded = standard_station p s e (ap is_standard is)
-  base_hinting p s bases.Errors is e stands heeded = standard_station p s e (ap is_standard is)
+  base_hinting : (p : Place) (s : PlaceEntry) (base : Base) → s.base ≡ base → entry_at places p ≡ Some s → stands_on made listed.covered p s.base ≡ true → heeds made listed.keys s s.base ≡ true → EntryNamed (hint_told input output errors made) s ys
+  base_hinting p s (bases.Made key) is e stands heeded = made_entry p s key e is stands heeded
+  base_hinting p s bases.Input is e stands heeded = standard_entry p s e (ap is_standard is)
+  base_hinting p s bases.Output is e stands heeded = standard_entry p s e (ap is_standard is)
+  base_hinting p s bases.Both is e stands heeded = standard_entry p s e (ap is_standard is)
+  base_hinting p s bases.Errors is e stands heeded = standard_entry p s e (ap is_standard is)
 
-  slot_hinting : (p : Place) (slot : Option Station) → station_at stations p ≡ slot → IfSome slot (λ s. stands_on made listed.covered p s.base ≡ true) → IfSome slot (λ s. heeds made listed.keys s s.base ≡ true) → IfSome slot (λ station. StationNamed (hint_told input output errors made) station ys)
+  slot_hinting : (p : Place) (slot : Option PlaceEntry) → entry_at places p ≡ slot → IfSome slot (λ s. stands_on made listed.covered p s.base ≡ true) → IfSome slot (λ s. heeds made listed.keys s s.base ≡ true) → IfSome slot (λ entry. EntryNamed (hint_told input output errors made) entry ys)
   slot_hinting p None e stands heeded = tt
   slot_hinting p (Some s) e stands heeded = base_hinting p s s.base refl e stands heeded
 
   -- who isn't listed is quiet
-  pub hinting_all : IsSound stations made listed → NamesHinting (hint_told input output errors made) stations ys
-  hinting_all sound p = slot_hinting p (station_at stations p) refl (sound.entered p) (sound.heeded p)
+  pub hinting_all : IsSound places made listed → NamesHinting (hint_told input output errors made) places ys
+  hinting_all sound p = slot_hinting p (entry_at places p) refl (sound.entered p) (sound.heeded p)
 
-pub place_told : (told told' : PortId → Option Hint) (stations : List Station) (p : Place) (ready : List ReadyAt) → ((id : PortId) → told' id ≡ told id) → PlaceNamed told' stations p ready → PlaceNamed told stations p ready
-place_told told told' stations p ready same named = slot_named (station_at stations p) told told' ready same named
+pub place_told : (told told' : PortId → Option Hint) (places : List PlaceEntry) (p : Place) (ready : List ReadyAt) → ((id : PortId) → told' id ≡ told id) → PlaceNamed told' places p ready → PlaceNamed told places p ready
+place_told told told' places p ready same named = slot_named (entry_at places p) told told' ready same named
 
 -- ---- arming
 
@@ -280,7 +280,7 @@ names_next (x ∷ xs) zero e p half at =
 names_next (x ∷ xs) (suc i) e p half at =
     ap (λ b. is_hit x p half || b) (names_next xs i e p half at) ∙ or_assoc (is_hit x p half) (names (take i xs) p half) (is_hit e p half)
 
-half_arms : (slot : Option Station) (half h : Half) → half_disarmed h (option_map (with_half half false) slot) ≡ (half_disarmed h slot && not (same_half half h))
+half_arms : (slot : Option PlaceEntry) (half h : Half) → half_disarmed h (option_map (with_half half false) slot) ≡ (half_disarmed h slot && not (same_half half h))
 half_arms None ToRead ToRead = refl
 half_arms None ToRead ToWrite = refl
 half_arms None ToWrite ToRead = refl
@@ -290,16 +290,16 @@ half_arms (Some s) ToRead ToWrite = sym (and_true s.writing_disarmed)
 half_arms (Some s) ToWrite ToRead = sym (and_true s.reading_disarmed)
 half_arms (Some s) ToWrite ToWrite = sym (and_false s.writing_disarmed)
 
-arm_step : (b : Bool) (slot rest now : Option Station) (half h : Half) → now ≡ (if b then option_map (with_half half false) slot else rest) → (b ≡ true → slot ≡ rest) → half_disarmed h now ≡ (half_disarmed h rest && not (b && same_half half h))
+arm_step : (b : Bool) (slot rest now : Option PlaceEntry) (half h : Half) → now ≡ (if b then option_map (with_half half false) slot else rest) → (b ≡ true → slot ≡ rest) → half_disarmed h now ≡ (half_disarmed h rest && not (b && same_half half h))
 arm_step true slot rest now half h e same = ap (half_disarmed h) e ∙ (half_arms slot half h ∙ ap (λ s. half_disarmed h s && not (same_half half h)) (same refl))
 arm_step false slot rest now half h e same = ap (half_disarmed h) e ∙ sym (and_true (half_disarmed h rest))
 
 -- the half that is marked is armed, and no other
-mark_arms : (xs ys : List Station) (e : ReadyAt) → SetsStation e.place (option_map (with_half e.half false) (station_at xs e.place)) (station_at xs) (station_at ys) → (p : Place) (h : Half) → is_disarmed ys p h ≡ (is_disarmed xs p h && not (is_hit e p h))
-mark_arms xs ys e sets p h = arm_step (same_place e.place p) (station_at xs e.place) (station_at xs p) (station_at ys p) e.half h (sets p) (λ same. ap (station_at xs) (same_place-eq e.place p same))
+mark_arms : (xs ys : List PlaceEntry) (e : ReadyAt) → SetsEntry e.place (option_map (with_half e.half false) (entry_at xs e.place)) (entry_at xs) (entry_at ys) → (p : Place) (h : Half) → is_disarmed ys p h ≡ (is_disarmed xs p h && not (is_hit e p h))
+mark_arms xs ys e sets p h = arm_step (same_place e.place p) (entry_at xs e.place) (entry_at xs p) (entry_at ys p) e.half h (sets p) (λ same. ap (entry_at xs) (same_place-eq e.place p same))
 
 -- one more entry whose half is armed
-pub armed_more : (first xs ys : List Station) (ready : List ReadyAt) (i : ℕ) (e : ReadyAt) → slice_get ready i ≡ Some e → SetsStation e.place (option_map (with_half e.half false) (station_at xs e.place)) (station_at xs) (station_at ys) → ((p : Place) (h : Half) → is_disarmed xs p h ≡ (is_disarmed first p h && not (names (take i ready) p h))) → (p : Place) (h : Half) → is_disarmed ys p h ≡ (is_disarmed first p h && not (names (take (i + 1) ready) p h))
+pub armed_more : (first xs ys : List PlaceEntry) (ready : List ReadyAt) (i : ℕ) (e : ReadyAt) → slice_get ready i ≡ Some e → SetsEntry e.place (option_map (with_half e.half false) (entry_at xs e.place)) (entry_at xs) (entry_at ys) → ((p : Place) (h : Half) → is_disarmed xs p h ≡ (is_disarmed first p h && not (names (take i ready) p h))) → (p : Place) (h : Half) → is_disarmed ys p h ≡ (is_disarmed first p h && not (names (take (i + 1) ready) p h))
 armed_more first xs ys ready i e at sets before p h =
     let next : names (take (i + 1) ready) p h ≡ (names (take i ready) p h || is_hit e p h) = rw add-one (names_next ready i e p h at) in
     mark_arms xs ys e sets p h
@@ -308,10 +308,10 @@ armed_more first xs ys ready i e at sets before p h =
     ∙ ap (λ b. is_disarmed first p h && not b) (sym next)))
 
 -- every entry was gone through
-pub armed_all : (first xs : List Station) (ready : List ReadyAt) (i : ℕ) → length ready ≤ i → ((p : Place) (h : Half) → is_disarmed xs p h ≡ (is_disarmed first p h && not (names (take i ready) p h))) → (p : Place) (h : Half) → is_disarmed xs p h ≡ (is_disarmed first p h && not (names ready p h))
+pub armed_all : (first xs : List PlaceEntry) (ready : List ReadyAt) (i : ℕ) → length ready ≤ i → ((p : Place) (h : Half) → is_disarmed xs p h ≡ (is_disarmed first p h && not (names (take i ready) p h))) → (p : Place) (h : Half) → is_disarmed xs p h ≡ (is_disarmed first p h && not (names ready p h))
 armed_all first xs ready i past armed p h = armed p h ∙ ap (λ es. is_disarmed first p h && not (names es p h)) (take_all i ready past)
 
 -- before the first entry
-pub armed_first : (first : List Station) (ready : List ReadyAt) (p : Place) (h : Half) → is_disarmed first p h ≡ (is_disarmed first p h && not (names (take 0 ready) p h))
+pub armed_first : (first : List PlaceEntry) (ready : List ReadyAt) (p : Place) (h : Half) → is_disarmed first p h ≡ (is_disarmed first p h && not (names (take 0 ready) p h))
 armed_first first [] p h = sym (and_true (is_disarmed first p h))
 armed_first first (e ∷ ready) p h = sym (and_true (is_disarmed first p h))

@@ -1,7 +1,7 @@
 -- Why an opening, a listening or an accepting on a made port answers what it answers.
 use Rattle.std.specs.Prelude.{◌≡◌, ◌⊎◌, ⊤, Option, Some, IfSome}
 use Rattle.relay_model.specs.{Peer, Place, Single}
-use Rattle.port_trait.specs.{AskedPlace, Making, MadePeer, Rose, MakerSeen, PortSeen, Begun}
+use Rattle.port_trait.specs.{AskedPlace, Making, MadePeer, Rose, MakerSeen, PortSeen}
 use Rattle.port_trait.specs.declared.makers.Making.TheVariants as makings
 use Rattle.port_trait.specs.declared.makers.MadePeer.TheVariants as peers
 use Rattle.port_table.specs.{FailsToBegin}
@@ -9,7 +9,6 @@ use Rattle.world_trait.specs.{OpenAnswer, ListenAnswer, AcceptAnswer}
 use Rattle.world_trait.specs.declared.answers.OpenAnswer.TheVariants as opens
 use Rattle.world_trait.specs.declared.answers.ListenAnswer.TheVariants as listens
 use Rattle.world_trait.specs.declared.answers.AcceptAnswer.TheVariants as accepts
-use Rattle.port_trait.specs.declared.answers.Begun.TheVariants as begins
 
 -- a new port that was dropped since it didn't begin: its state as the maker gave it in this call, and the one after that
 -- `begin`, between which its count of faults rose
@@ -29,12 +28,6 @@ MadeOne gave port = gave (makings.Made port) ⊎ gave (makings.Later port)
 -- the port of a peer that came
 abbrev pub CameOne : {T : Type 0} → (MadePeer T → Type 0) → T → Type 0
 CameOne gave port = (peer : Peer) × gave (peers.Came port peer)
-
--- why the beginning of this port answered so
-abbrev pub BeginCause : {T : Type 0} → (T → PortSeen) → T → Begun → Type 0
-BeginCause tells made begins.Begun = ⊤
-BeginCause tells made begins.Failed = FailsToBegin tells made
-BeginCause tells made begins.Memory = ⊤
 
 -- by the maker's counts of faults and stalls, or by the port that it gave
 abbrev pub OpenCause : {T : Type 0} → (Making T → Type 0) → (T → PortSeen) → MakerSeen → MakerSeen → OpenAnswer → Type 0
@@ -66,13 +59,6 @@ AcceptCause gave tells before now (accepts.Accepted peer) = now.came ≡ Some pe
 AcceptCause gave tells before now accepts.NoPeer = Rose before.stalls now.stalls
 AcceptCause gave tells before now accepts.Failed = Rose before.faults now.faults ⊎ Dropped (CameOne gave) tells
 AcceptCause gave tells before now accepts.Memory = ⊤
-
--- of an accepting whose peer has come, on this port
-abbrev pub WelcomeCause : {T : Type 0} → (T → PortSeen) → T → Peer → AcceptAnswer → Type 0
-WelcomeCause tells made peer (accepts.Accepted other) = other ≡ peer
-WelcomeCause tells made peer accepts.NoPeer = ⊥
-WelcomeCause tells made peer accepts.Failed = FailsToBegin tells made
-WelcomeCause tells made peer accepts.Memory = ⊤
 
 -- an opening on a standard stream fails only where the count of one of the three rose
 abbrev pub StandardCause : Type 0 → OpenAnswer → Type 0

@@ -1,8 +1,8 @@
 -- How places stand after a call, and what was left of a port.
-use Rattle.std.specs.Prelude.{◌≡◌, ◌≢◌, ◌⊎◌, ℕ, Bool, true, false, List, ◌∷◌, Option, None, Some, IfSome, MatchOption, position, ⊤, if◌then◌else◌}
+use Rattle.std.specs.Prelude.{◌≡◌, ◌≢◌, ◌⊎◌, ℕ, Bool, true, false, List, ◌∷◌, Option, None, Some, IfSome, MatchOption, position, ⊤}
 use Rattle.std.specs.List.{remove}
 use Rattle.slab.specs.Slab.{SameValues, Slab, Updates, get}
-use Rattle.relay_model.specs.{Place, Act, Hold, Settling, Open, hold_after, same_place, Why}
+use Rattle.relay_model.specs.{Place, Act, Hold, hold_after, same_place, Why}
 use Rattle.port_trait.specs.{join_answer, Begun, Making, MadePeer, Joining, PortReap, Shutting, Begins, PortSeen, JoinsSo, MovesNothing, Reaps}
 use Rattle.port_trait.specs.{Settles}
 use Rattle.port_trait.specs.declared.answers.Begun.TheVariants as begins
@@ -20,12 +20,6 @@ use Rattle.world_trait.specs.declared.answers.AcceptAnswer.TheVariants as accept
 use Rattle.port_table.specs.{EntrySeen, BeginsAt, Errors, Input, Made, MadeCall, Output, PortId, SameStreams, StreamCall, PortTable, Base}
 use Rattle.port_table.specs.declared.bases.Base.TheVariants as bases
 use Rattle.relay_model.specs.declared.acts.Why.TheVariants as whys
-
--- a place on a port that has begun is held, settling or open, and on one that hasn't it isn't
-abbrev pub HeldSo : Begun → Bool → Place → (Place → Hold) → (Place → Hold) → Type 0
-HeldSo begins.Begun settling place before after = (p : Place) → after p ≡ (if same_place place p then (if settling then Settling else Open) else before p)
-HeldSo begins.Failed settling place before after = (p : Place) → after p ≡ before p
-HeldSo begins.Memory settling place before after = (p : Place) → after p ≡ before p
 
 -- how places stand after the act of an answer
 abbrev pub HeldAfter : Option Act → (Place → Hold) → (Place → Hold) → Type 0
@@ -81,11 +75,10 @@ pub record OneMore {T : Type 0} (gave : T → Type 0) (tells : T → PortSeen) (
   pub made : Updates before now key (Some (record { place = place; port = port }))
   pub based : base ≡ Some (bases.Made key)
 
--- the made ports after the beginning of a new one for the place; one that doesn't begin is dropped
-abbrev pub BeginsMade : {T : Type 0} → (T → PortSeen) → T → Place → Option Base → Begun → Slab EntrySeen → Slab EntrySeen → Type 0
-BeginsMade tells port place base begins.Begun before now = OneMore (λ given. given ≡ port) tells place base before now
-BeginsMade tells port place base begins.Failed before now = SameValues before now
-BeginsMade tells port place base begins.Memory before now = SameValues before now
+-- the making of a port whose opening is under way or not
+abbrev pub making_of : {T : Type 0} → Bool → T → Making T
+making_of true port = makings.Later port
+making_of false port = makings.Made port
 
 -- the made ports after an opening that isn't one of standard streams
 abbrev pub OpensMade : {T : Type 0} → (Making T → Type 0) → (T → PortSeen) → Place → Option Base → OpenAnswer → Slab EntrySeen → Slab EntrySeen → Type 0
@@ -99,13 +92,6 @@ abbrev pub ListensMade : {T : Type 0} → (Making T → Type 0) → (T → PortS
 ListensMade gave tells door base listens.Listening before now = OneMore (λ port. gave (makings.Made port)) tells door base before now
 ListensMade gave tells door base listens.Failed before now = SameValues before now
 ListensMade gave tells door base listens.Memory before now = SameValues before now
-
--- after the peer of an accepting has come, on this port
-abbrev pub WelcomesMade : {T : Type 0} → (T → PortSeen) → T → Place → Option Base → AcceptAnswer → Slab EntrySeen → Slab EntrySeen → Type 0
-WelcomesMade tells port place base (accepts.Accepted peer) before now = OneMore (λ given. given ≡ port) tells place base before now
-WelcomesMade tells port place base accepts.NoPeer before now = ⊥
-WelcomesMade tells port place base accepts.Failed before now = SameValues before now
-WelcomesMade tells port place base accepts.Memory before now = SameValues before now
 
 -- after an accepting at the door of this key, which moves no bytes: each other port that was there is as it was, and
 -- there is one more where a peer was accepted

@@ -2,8 +2,6 @@
 use Rattle.std.specs.Prelude.{◌≡◌, ◌&&◌, Bool, true, false, if◌then◌else◌}
 use Rattle.relay_model.specs.{Place, Half, same_half, same_place}
 use Rattle.relay_model.specs.declared.places.Half.TheVariants.{ToRead}
-use Rattle.port_trait.specs.{Begun}
-use Rattle.port_trait.specs.declared.answers.Begun.TheVariants as begins
 use Rattle.world_trait.specs.{OpenAnswer, ListenAnswer, AcceptAnswer}
 use Rattle.world_trait.specs.declared.answers.OpenAnswer.TheVariants as opens
 use Rattle.world_trait.specs.declared.answers.ListenAnswer.TheVariants as listens
@@ -24,12 +22,6 @@ MarksPlace place disarmed before after = (p : Place) (h : Half) → after p h �
 -- the reading half of the door and both halves of the place are armed
 abbrev pub ArmsBoth : Place → Place → (Place → Half → Bool) → (Place → Half → Bool) → Type 0
 ArmsBoth door place before after = (p : Place) (h : Half) → after p h ≡ (if same_place door p && same_half ToRead h then false else (if same_place place p then false else before p h))
-
--- after the beginning of a port for the place
-abbrev pub BeginMarks : Place → Bool → Begun → (Place → Half → Bool) → (Place → Half → Bool) → Type 0
-BeginMarks place settling begins.Begun before after = MarksPlace place settling before after
-BeginMarks place settling begins.Failed before after = SameMarks before after
-BeginMarks place settling begins.Memory before after = SameMarks before after
 
 -- after an opening: one that is under way has both halves disarmed
 abbrev pub OpenMarks : Place → OpenAnswer → (Place → Half → Bool) → (Place → Half → Bool) → Type 0

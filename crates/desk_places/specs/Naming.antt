@@ -8,8 +8,8 @@ use Rattle.slab.specs.Slab.{SameValues, Slab, get}
 use Rattle.port_table.specs.{is_standard, PortId, SameStreams, giving_port, hint_told, place_of, taking_port, EntrySeen, Base, PortTable}
 use Rattle.port_table.specs.declared.bases.Base.TheVariants as bases
 use Rattle.desk_places.specs.declared.ports.Ports.{Ports}
-use Rattle.desk_places.specs.declared.stations.Station.{Station}
-use Rattle.desk_places.specs.Stations.{base_at, half_disarmed, hold_at, station_at}
+use Rattle.desk_places.specs.declared.places.PlaceEntry.{PlaceEntry}
+use Rattle.desk_places.specs.PlaceTables.{base_at, half_disarmed, hold_at, entry_at}
 
 -- the hint that each port of the table tells
 abbrev pub told_by : {T I O E : Type 0} → PortTable T I O E → PortId → Option Hint
@@ -33,12 +33,12 @@ pub record Grown (before now : List ReadyAt) : Type 0 where
   pub longer : length before ≤ length now
 
 -- a half whose key the poller named is named for the place that stands on that key
-abbrev pub KeyNamed : ℕ × Half → List Station → List ReadyAt → Type 0
-KeyNamed e stations ready = (p : Place) → base_at stations p ≡ Some (bases.Made e.0) → names ready p e.1 ≡ true
+abbrev pub KeyNamed : ℕ × Half → List PlaceEntry → List ReadyAt → Type 0
+KeyNamed e places ready = (p : Place) → base_at places p ≡ Some (bases.Made e.0) → names ready p e.1 ≡ true
 
 -- each half whose key was named stands in the list
-abbrev pub NamesKeyed : List (ℕ × Half) → List Station → List ReadyAt → Type 0
-NamesKeyed entries stations ready = (i : ℕ) (e : ℕ × Half) → slice_get entries i ≡ Some e → KeyNamed e stations ready
+abbrev pub NamesKeyed : List (ℕ × Half) → List PlaceEntry → List ReadyAt → Type 0
+NamesKeyed entries places ready = (i : ℕ) (e : ℕ × Half) → slice_get entries i ≡ Some e → KeyNamed e places ready
 
 -- the port of a half of a place
 abbrev pub half_port : Half → Base → PortId
@@ -50,65 +50,65 @@ abbrev pub is_hinted : Half → Hint → Bool
 is_hinted ToRead hint = hint.readable
 is_hinted ToWrite hint = hint.writable
 
--- the disarmed halves of the station that the hint finds ready are named
-abbrev pub HintNamed : Station → Hint → List ReadyAt → Type 0
-HintNamed station hint ready = (half : Half) → half_disarmed half (Some station) ≡ true → is_hinted half hint ≡ true → IsNamed ready station.place half
+-- the disarmed halves of the entry that the hint finds ready are named
+abbrev pub HintNamed : PlaceEntry → Hint → List ReadyAt → Type 0
+HintNamed entry hint ready = (half : Half) → half_disarmed half (Some entry) ≡ true → is_hinted half hint ≡ true → IsNamed ready entry.place half
 
--- the disarmed halves of the station whose port tells that they are ready are named
-abbrev pub StationNamed : (PortId → Option Hint) → Station → List ReadyAt → Type 0
-StationNamed told station ready = (half : Half) → half_disarmed half (Some station) ≡ true → IfSome (told (half_port half station.base)) (λ hint. is_hinted half hint ≡ true → IsNamed ready station.place half)
+-- the disarmed halves of the entry whose port tells that they are ready are named
+abbrev pub EntryNamed : (PortId → Option Hint) → PlaceEntry → List ReadyAt → Type 0
+EntryNamed told entry ready = (half : Half) → half_disarmed half (Some entry) ≡ true → IfSome (told (half_port half entry.base)) (λ hint. is_hinted half hint ≡ true → IsNamed ready entry.place half)
 
--- the same of the station of a place, if it is held
-abbrev pub PlaceNamed : (PortId → Option Hint) → List Station → Place → List ReadyAt → Type 0
-PlaceNamed told stations p ready = IfSome (station_at stations p) (λ station. StationNamed told station ready)
+-- the same of the entry of a place, if it is held
+abbrev pub PlaceNamed : (PortId → Option Hint) → List PlaceEntry → Place → List ReadyAt → Type 0
+PlaceNamed told places p ready = IfSome (entry_at places p) (λ entry. EntryNamed told entry ready)
 
 -- each disarmed half on a standard stream that tells that it is ready is named
-abbrev pub NamesStandard : (PortId → Option Hint) → List Station → List ReadyAt → Type 0
-NamesStandard told stations ready = (p : Place) → IfSome (station_at stations p) (λ station. is_standard station.base ≡ true → StationNamed told station ready)
+abbrev pub NamesStandard : (PortId → Option Hint) → List PlaceEntry → List ReadyAt → Type 0
+NamesStandard told places ready = (p : Place) → IfSome (entry_at places p) (λ entry. is_standard entry.base ≡ true → EntryNamed told entry ready)
 
 -- each disarmed half on a made port of these keys that tells that it is ready is named
-abbrev pub NamesListed : (PortId → Option Hint) → List Station → Slab EntrySeen → List ℕ → List ReadyAt → Type 0
-NamesListed told stations made keys ready = (i : ℕ) (key : ℕ) → slice_get keys i ≡ Some key → IfSome (place_of (get made key)) (λ place. PlaceNamed told stations place ready)
+abbrev pub NamesListed : (PortId → Option Hint) → List PlaceEntry → Slab EntrySeen → List ℕ → List ReadyAt → Type 0
+NamesListed told places made keys ready = (i : ℕ) (key : ℕ) → slice_get keys i ≡ Some key → IfSome (place_of (get made key)) (λ place. PlaceNamed told places place ready)
 
 -- each disarmed half whose port tells that it is ready is named
-abbrev pub NamesHinting : (PortId → Option Hint) → List Station → List ReadyAt → Type 0
-NamesHinting told stations ready = (p : Place) → PlaceNamed told stations p ready
+abbrev pub NamesHinting : (PortId → Option Hint) → List PlaceEntry → List ReadyAt → Type 0
+NamesHinting told places ready = (p : Place) → PlaceNamed told places p ready
 
 -- a hint that is told tells of this half
 abbrev pub IsHinted : Half → Option Hint → Type 0
 IsHinted half None = ⊥
 IsHinted half (Some hint) = is_hinted half hint ≡ true
 
--- the half of the station is disarmed, and its port tells that it is ready
-abbrev pub IsHinting : (PortId → Option Hint) → Option Station → Half → Type 0
+-- the half of the entry is disarmed, and its port tells that it is ready
+abbrev pub IsHinting : (PortId → Option Hint) → Option PlaceEntry → Half → Type 0
 IsHinting told None half = ⊥
-IsHinting told (Some station) half = (half_disarmed half (Some station) ≡ true) × IsHinted half (told (half_port half station.base))
+IsHinting told (Some entry) half = (half_disarmed half (Some entry) ≡ true) × IsHinted half (told (half_port half entry.base))
 
 -- the poller named the key that the place stands on, and this half of it
-pub record IsKeyed (keys : List (ℕ × Half)) (stations : List Station) (p : Place) (half : Half) : Type 0 where
+pub record IsKeyed (keys : List (ℕ × Half)) (places : List PlaceEntry) (p : Place) (half : Half) : Type 0 where
   pub index : ℕ
   pub key : ℕ
   pub entry : slice_get keys index ≡ Some (key, half)
-  pub based : base_at stations p ≡ Some (bases.Made key)
+  pub based : base_at places p ≡ Some (bases.Made key)
 
--- the half of the station is disarmed, and its port tells that it is ready, or doesn't tell
-abbrev pub MayHint : (PortId → Option Hint) → Option Station → Half → Type 0
+-- the half of the entry is disarmed, and its port tells that it is ready, or doesn't tell
+abbrev pub MayHint : (PortId → Option Hint) → Option PlaceEntry → Half → Type 0
 MayHint told None half = ⊥
-MayHint told (Some station) half = (half_disarmed half (Some station) ≡ true) × IfSome (told (half_port half station.base)) (λ hint. is_hinted half hint ≡ true)
+MayHint told (Some entry) half = (half_disarmed half (Some entry) ≡ true) × IfSome (told (half_port half entry.base)) (λ hint. is_hinted half hint ≡ true)
 
 -- a half may be named where its key was, or where it is disarmed and its port hints so
-abbrev pub IsDue : List (ℕ × Half) → (PortId → Option Hint) → List Station → Place → Half → Type 0
-IsDue keys told stations p half = IsKeyed keys stations p half ⊎ MayHint told (station_at stations p) half
+abbrev pub IsDue : List (ℕ × Half) → (PortId → Option Hint) → List PlaceEntry → Place → Half → Type 0
+IsDue keys told places p half = IsKeyed keys places p half ⊎ MayHint told (entry_at places p) half
 
 -- no other half is named
-abbrev pub NamesOnly : List (ℕ × Half) → (PortId → Option Hint) → List Station → List ReadyAt → Type 0
-NamesOnly keys told stations [] = ⊤
-NamesOnly keys told stations (e ∷ ready) = IsDue keys told stations e.place e.half × NamesOnly keys told stations ready
+abbrev pub NamesOnly : List (ℕ × Half) → (PortId → Option Hint) → List PlaceEntry → List ReadyAt → Type 0
+NamesOnly keys told places [] = ⊤
+NamesOnly keys told places (e ∷ ready) = IsDue keys told places e.place e.half × NamesOnly keys told places ready
 
 -- the list has room for what a turn names, and each half in it is of a held place
-pub record CanName (stations : List Station) (ready : Listed) : Type 0 where
+pub record CanName (places : List PlaceEntry) (ready : Listed) : Type 0 where
   pub room : 256 ≤ ready.room
-  pub held : NamesHeld (hold_at stations) ready.entries
+  pub held : NamesHeld (hold_at places) ready.entries
 
 -- halves of this place were named, and what was named stays so
 pub record NamesAt (place : Place) (before now : Listed) : Type 0 where
@@ -118,27 +118,27 @@ pub record NamesAt (place : Place) (before now : Listed) : Type 0 where
 
 -- halves of held places were named that are due, what was named stays so, and of the ports nothing has changed but where
 -- the made ones lie
-pub record NamesMore {A B C D E : Type 0} (stations : List Station) (ports ports' : Ports A B C D E) (before now : Listed) : Type 0 where
+pub record NamesMore {A B C D E : Type 0} (places : List PlaceEntry) (ports ports' : Ports A B C D E) (before now : Listed) : Type 0 where
   pub room : now.room ≡ before.room
   pub grown : Grown before.entries now.entries
-  pub only : (keys : List (ℕ × Half)) → NamesOnly keys (told_by ports.table) stations before.entries → NamesOnly keys (told_by ports.table) stations now.entries
-  pub held : NamesHeld (hold_at stations) now.entries
+  pub only : (keys : List (ℕ × Half)) → NamesOnly keys (told_by ports.table) places before.entries → NamesOnly keys (told_by ports.table) places now.entries
+  pub held : NamesHeld (hold_at places) now.entries
   pub same : SamePorts ports ports'
 
--- of a station the halves are named that are disarmed and that the hint finds ready, and no others
-abbrev pub HintsOnly : Station → Hint → List ReadyAt → List ReadyAt → Type 0
-HintsOnly station hint before now =
-    (keys : List (ℕ × Half)) (told : PortId → Option Hint) (stations : List Station) →
-    ((half : Half) → half_disarmed half (Some station) ≡ true → is_hinted half hint ≡ true → IsDue keys told stations station.place half) →
-    NamesOnly keys told stations before → NamesOnly keys told stations now
+-- of an entry the halves are named that are disarmed and that the hint finds ready, and no others
+abbrev pub HintsOnly : PlaceEntry → Hint → List ReadyAt → List ReadyAt → Type 0
+HintsOnly entry hint before now =
+    (keys : List (ℕ × Half)) (told : PortId → Option Hint) (places : List PlaceEntry) →
+    ((half : Half) → half_disarmed half (Some entry) ≡ true → is_hinted half hint ≡ true → IsDue keys told places entry.place half) →
+    NamesOnly keys told places before → NamesOnly keys told places now
 
 -- where no half can hint, the poll is asked to wait as the turn asks
-abbrev pub WaitsIdle : (PortId → Option Hint) → List Station → Option ℕ → Option ℕ → Type 0
-WaitsIdle told stations until asked = ((p : Place) (half : Half) → MayHint told (station_at stations p) half → ⊥) → asked ≡ until
+abbrev pub WaitsIdle : (PortId → Option Hint) → List PlaceEntry → Option ℕ → Option ℕ → Type 0
+WaitsIdle told places until asked = ((p : Place) (half : Half) → MayHint told (entry_at places p) half → ⊥) → asked ≡ until
 
 -- until when a poll is asked to wait: where a half hints it is asked for the moment of the last turn, and so doesn't
 -- wait, and where nothing came to be named it was asked as the turn was
-pub record PollsUntil (told : PortId → Option Hint) (stations : List Station) (ready : List ReadyAt) (last : ℕ) (until asked : Option ℕ) : Type 0 where
-  pub at_once : (p : Place) (half : Half) → IsHinting told (station_at stations p) half → asked ≡ Some last
+pub record PollsUntil (told : PortId → Option Hint) (places : List PlaceEntry) (ready : List ReadyAt) (last : ℕ) (until asked : Option ℕ) : Type 0 where
+  pub at_once : (p : Place) (half : Half) → IsHinting told (entry_at places p) half → asked ≡ Some last
   pub waits : ready ≡ [] → asked ≡ until
   pub either : (asked ≡ Some last) ⊎ (asked ≡ until)

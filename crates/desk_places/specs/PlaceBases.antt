@@ -1,8 +1,6 @@
 -- What places stand on after a call.
 use Rattle.std.specs.Prelude.{◌≡◌, Bool, true, false, Option, None, Some}
 use Rattle.relay_model.specs.{Place, same_place}
-use Rattle.port_trait.specs.{Begun}
-use Rattle.port_trait.specs.declared.answers.Begun.TheVariants as begins
 use Rattle.world_trait.specs.{OpenAnswer, ListenAnswer, AcceptAnswer}
 use Rattle.world_trait.specs.declared.answers.OpenAnswer.TheVariants as opens
 use Rattle.world_trait.specs.declared.answers.ListenAnswer.TheVariants as listens
@@ -39,12 +37,6 @@ ComesOn asked place before after = StandsFor asked (after place) × OtherBases p
 -- the place stands on nothing any more, and no other place moved
 abbrev pub Leaves : Place → (Place → Option Base) → (Place → Option Base) → Type 0
 Leaves place before after = (after place ≡ None) × OtherBases place before after
-
--- after the beginning of a made port for the place
-abbrev pub BeginsOn : Place → (Place → Option Base) → (Place → Option Base) → Begun → Type 0
-BeginsOn place before after begins.Begun = ComesOn None place before after
-BeginsOn place before after begins.Failed = SameBases before after
-BeginsOn place before after begins.Memory = SameBases before after
 
 -- after an opening, by what its address has of the standard streams
 abbrev pub OpensOn : Option Base → Place → (Place → Option Base) → (Place → Option Base) → OpenAnswer → Type 0

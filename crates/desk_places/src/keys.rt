@@ -1,5 +1,5 @@
 // A set of keys of which each is put in, taken out and found in the same time, however many there are.
-ghost use Rattle.std.specs.Prelude.{◌≡◌, ◌≢◌, ◌<◌, ◌≤◌, ◌+◌, ◌==◌, ℕ, true, false, [], Some, length, slice_get, OnOk, if◌then◌else◌};
+ghost use Rattle.std.specs.Prelude.{◌≡◌, ◌≢◌, ◌<◌, ◌≤◌, ◌+◌, ◌==◌, ℕ, [], Some, length, slice_get, OnOk, if◌then◌else◌};
 ghost use Rattle.desk_places.specs.Keys.{AreInverse, is_in};
 
 use relay_model::NoMemory;
@@ -61,22 +61,12 @@ impl KeySet {
         ensures keys { self.new.keys ≡ self.old.keys }
     {
         while self.order.len() <= key {
-            self.grow()?;
+            self.order.reserve(1)?;
+            self.places.reserve(1)?;
+            let next = self.order.len();
+            self.order.push_reserved(next);
+            self.places.push_reserved(next);
         }
-        Ok(())
-    }
-
-    /// Covers one more key.
-    fn grow(&mut self) -> Result<(), NoMemory>
-        ensures covered { OnOk result (self.new.covered ≡ self.old.covered + 1) }
-        ensures longer { self.old.covered ≤ self.new.covered }
-        ensures keys { self.new.keys ≡ self.old.keys }
-    {
-        self.order.reserve(1)?;
-        self.places.reserve(1)?;
-        let next = self.order.len();
-        self.order.push_reserved(next);
-        self.places.push_reserved(next);
         Ok(())
     }
 
@@ -89,32 +79,14 @@ impl KeySet {
         if key >= self.order.len() {
             return;
         }
-        if inside {
-            self.put_in(key);
-        } else {
-            self.take_out(key);
-        }
-    }
-
-    fn put_in(&mut self, key: usize)
-        requires { key < self.old.covered }
-        ensures keys { (other : ℕ) → is_in other self.new.keys ≡ (if other == key then true else is_in other self.old.keys) }
-        ensures covered { self.new.covered ≡ self.old.covered }
-    {
         let place = self.places[key];
-        if place >= self.count {
+        if inside == (place < self.count) {
+            return;
+        }
+        if inside {
             exchange(&mut self.order, &mut self.places, place, self.count);
             self.count += 1;
-        }
-    }
-
-    fn take_out(&mut self, key: usize)
-        requires { key < self.old.covered }
-        ensures keys { (other : ℕ) → is_in other self.new.keys ≡ (if other == key then false else is_in other self.old.keys) }
-        ensures covered { self.new.covered ≡ self.old.covered }
-    {
-        let place = self.places[key];
-        if place < self.count {
+        } else {
             self.count -= 1;
             exchange(&mut self.order, &mut self.places, place, self.count);
         }

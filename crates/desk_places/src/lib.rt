@@ -3,10 +3,10 @@
 
 mod keys;
 mod naming;
+mod places;
 mod ports;
-mod stations;
 
 pub use keys::KeySet;
 pub use naming::{arm_named, name_hinting, name_keyed};
+pub use places::{PlaceEntry, PlaceTable};
 pub use ports::Ports;
-pub use stations::{Station, Stations};

@@ -38,26 +38,26 @@ pub(crate) enum PipeOutcome {
 
 /// Why nobody waits for a pipe.
 #[derive(Clone, Copy, PartialEq)]
-pub(crate) enum Refusal {
+pub(crate) enum PipeRefusal {
     Failed,
     Memory,
 }
 
-impl From<io::Error> for Refusal {
-    fn from(_error: io::Error) -> Refusal {
-        Refusal::Failed
+impl From<io::Error> for PipeRefusal {
+    fn from(_error: io::Error) -> PipeRefusal {
+        PipeRefusal::Failed
     }
 }
 
-impl From<AllocError> for Refusal {
-    fn from(_error: AllocError) -> Refusal {
-        Refusal::Memory
+impl From<AllocError> for PipeRefusal {
+    fn from(_error: AllocError) -> PipeRefusal {
+        PipeRefusal::Memory
     }
 }
 
-impl<T: Drop> From<AllocFailed<T>> for Refusal {
-    fn from(_error: AllocFailed<T>) -> Refusal {
-        Refusal::Memory
+impl<T: Drop> From<AllocFailed<T>> for PipeRefusal {
+    fn from(_error: AllocFailed<T>) -> PipeRefusal {
+        PipeRefusal::Memory
     }
 }
 
@@ -161,7 +161,7 @@ impl PipeOpenings {
         system: HostRuntime,
         pipe: NamedPipe,
         done: mio::net::UnixStream,
-    ) -> Result<Spot, Refusal> {
+    ) -> Result<Spot, PipeRefusal> {
         let told = Arc::new(self.alloc, Mutex::new(PipeOutcome::UnderWay))?;
         let waiter = PipeWaiter {
             number: 0,
@@ -179,14 +179,14 @@ impl PipeOpenings {
         system: HostRuntime,
         pipe: NamedPipe,
         mut waiter: PipeWaiter,
-    ) -> Result<(u64, Arc<Mutex<PipeQueue>, Global>), Refusal> {
+    ) -> Result<(u64, Arc<Mutex<PipeQueue>, Global>), PipeRefusal> {
         self.lines.retain(|awaited| !is_over(&awaited.line));
         for awaited in self.lines.iter() {
             if awaited.entry == pipe.entry && awaited.access == pipe.access {
                 match join(&awaited.line, waiter) {
                     Joined::Waits(number) => return Ok((number, Arc::try_clone(&awaited.line)?)),
                     Joined::Over(back) => waiter = back,
-                    Joined::Memory => return Err(Refusal::Memory),
+                    Joined::Memory => return Err(PipeRefusal::Memory),
                 }
             }
         }
@@ -200,9 +200,9 @@ impl PipeOpenings {
         system: HostRuntime,
         pipe: NamedPipe,
         waiter: PipeWaiter,
-    ) -> Result<(u64, Arc<Mutex<PipeQueue>, Global>), Refusal> {
+    ) -> Result<(u64, Arc<Mutex<PipeQueue>, Global>), PipeRefusal> {
         if self.lines.len() >= MOST_LINES {
-            return Err(Refusal::Failed);
+            return Err(PipeRefusal::Failed);
         }
         let (served, serving) = UnixStream::pair(rt)?;
         let line = line_of(self.alloc, waiter)?;
@@ -220,7 +220,7 @@ impl PipeOpenings {
         };
         self.lines.push(awaited)?;
         if !launch(rt, system, access, name, theirs, serving) {
-            return Err(Refusal::Failed);
+            return Err(PipeRefusal::Failed);
         }
         Ok((0, line))
     }
@@ -251,7 +251,7 @@ fn leave_a_moment(served: &mut UnixStream) {
 }
 
 /// A line of one.
-fn line_of(alloc: Global, first: PipeWaiter) -> Result<Arc<Mutex<PipeQueue>, Global>, Refusal> {
+fn line_of(alloc: Global, first: PipeWaiter) -> Result<Arc<Mutex<PipeQueue>, Global>, PipeRefusal> {
     let mut waiters = VecDeque::new(alloc);
     waiters.push_back(first)?;
     let line = PipeQueue {

@@ -10,7 +10,7 @@ ghost use Rattle.file_ports.specs.Streams.{halves_of};
 use crate::halves::Halves;
 use crate::input::FileInput;
 use crate::open::{FileEnds, OpenedFile, open_file};
-use crate::pipes::{PipeOpenings, Refusal};
+use crate::pipes::{PipeOpenings, PipeRefusal};
 use crate::stream::FileStream;
 use crate::waiting::WaitingPipe;
 use port_trait::Making;
@@ -50,8 +50,8 @@ where
     };
     match stream_of(rt, system, openings, key, single, part, ends) {
         Ok(stream) => Making::Made(with_entry(stream, single, removal)),
-        Err(Refusal::Failed) => Making::Failed,
-        Err(Refusal::Memory) => Making::Memory,
+        Err(PipeRefusal::Failed) => Making::Failed,
+        Err(PipeRefusal::Memory) => Making::Memory,
     }
 }
 
@@ -73,7 +73,7 @@ fn stream_of<R>(
     single: &Single,
     part: Part,
     ends: FileEnds,
-) -> Result<FileStream, Refusal>
+) -> Result<FileStream, PipeRefusal>
 where
     R: Net + Threads,
     requires { AreEndsOf single.now part ends }
@@ -93,5 +93,5 @@ where
             return Ok(FileStream::Waiting(pipe));
         }
     };
-    Ok(FileStream::Open(halves.ok_or(Refusal::Failed)?))
+    Ok(FileStream::Open(halves.ok_or(PipeRefusal::Failed)?))
 }

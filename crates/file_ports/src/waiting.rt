@@ -12,7 +12,7 @@ use crate::halves::Halves;
 use crate::input::FileInput;
 use crate::open::NamedPipe;
 use crate::opening::FileCalls;
-use crate::pipes::{PipeOpenings, PipeOutcome, Refusal, Spot};
+use crate::pipes::{PipeOpenings, PipeOutcome, PipeRefusal, Spot};
 use mio::net::UnixStream;
 use mio::{Interest, Registry, Token};
 use port_trait::{Hint, Shutting};
@@ -77,7 +77,7 @@ fn parting_of(
     alloc: Global,
     single: &Single,
     name: &str,
-) -> Result<Option<Parting>, Refusal> {
+) -> Result<Option<Parting>, PipeRefusal> {
     if !single.options.entry.unlink_close {
         return Ok(None);
     }
@@ -103,7 +103,7 @@ impl WaitingPipe {
         single: &Single,
         part: Part,
         pipe: NamedPipe,
-    ) -> Result<WaitingPipe, Refusal>
+    ) -> Result<WaitingPipe, PipeRefusal>
     where
         R: Net + Threads,
         requires { IsPipeOf single.now part pipe }

@@ -1,11 +1,13 @@
 -- What the answer of a desk says, from what the port did.
-use Rattle.std.proofs.Common.{◌≡◌, refl, ℕ, false, List, Option, None, Some, IfSome}
+use Rattle.std.proofs.Common.{◌≡◌, ◌∙◌, ap, refl, subst, sym, ℕ, false, List, Option, None, Some, IfSome, MatchOption, option_map}
 use Rattle.slab.specs.Slab.{get}
 use Rattle.relay_model.specs.declared.places.Place.{Place}
 use Rattle.relay_model.specs.declared.acts.Act.{Act}
 use Rattle.relay_model.specs.declared.acts.Shut.{Shut}
 use Rattle.relay_model.specs.Holding.{Hold}
-use Rattle.relay_model.specs.Journals.{Asking}
+use Rattle.relay_model.specs.declared.commands.Single.{Single}
+use Rattle.relay_model.specs.Journals.{Asking, History}
+use Rattle.world_trait.specs.Recordings.{with_asking}
 use Rattle.port_trait.specs.declared.answers.Got.{Got}
 use Rattle.port_trait.specs.declared.answers.Got.TheVariants as gots
 use Rattle.port_trait.specs.declared.answers.Took.{Took}
@@ -25,9 +27,10 @@ use Rattle.port_trait.specs.Streams.{finishes}
 use Rattle.world_trait.specs.Seen.{Seen}
 use Rattle.world_trait.specs.declared.answers.OpenAnswer.TheVariants as opens
 use Rattle.desk_places.specs.Changes.{HeldAfter, SettledAt, shut_answer}
+use Rattle.port_desk.proofs.FollowSteps.{TellsAsking}
 use Rattle.port_desk.specs.Desks.{shut_ends}
-use Rattle.port_desk.specs.Records.{Tells, TellsAsking, read_answer, send_answer, write_answer}
-use Rattle.desk_places.specs.Stations.{SameHold}
+use Rattle.port_desk.specs.Records.{Tells, TellsCopy, read_answer, send_answer, write_answer}
+use Rattle.desk_places.specs.PlaceTables.{SameHold}
 
 pub reads_so : (got : Got) (into : List ℕ) (before now : PortSeen) → Reads before now into got → ReadsSo into (read_answer got) before now
 reads_so (gots.Bytes n) into before now call = call
@@ -120,3 +123,10 @@ answered (Some act) old new tells held = record { told = tells; held = held }
 pub answered_asking : (asking : Asking) (act : Option Act) (old new : Seen) → TellsAsking asking act old.told new.told → HeldAfter act old.held new.held → AnsweredAsking asking old new act
 answered_asking asking None old new tells held = record { told = tells; held = held }
 answered_asking asking (Some act) old new tells held = record { told = tells; held = held }
+
+-- what was asked is told by its copy, which there is where acts are
+pub asked_by : (place : Place) (single : Single) (copy : Option Single) (act : Option Act) (told told' : Option History) → MatchOption copy (told ≡ None) (λ kept. kept ≡ single) → TellsCopy place copy act told told' → TellsAsking (place, single) act told told'
+asked_by place single None None told told' is tells = tells
+asked_by place single (Some kept) None told told' is tells = tells
+asked_by place single None (Some act) told told' is tells = tells ∙ is ∙ sym (ap (option_map (with_asking act (place, single))) is)
+asked_by place single (Some kept) (Some act) told told' is tells = subst (λ asked. told' ≡ option_map (with_asking act (place, asked)) told) is tells

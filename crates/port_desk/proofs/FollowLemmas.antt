@@ -40,15 +40,15 @@ use Rattle.port_trait.specs.Ports.{MovesNothing, PortSeen}
 use Rattle.port_table.specs.Ports.{StreamSeen}
 use Rattle.port_table.specs.declared.bases.Base.{Base}
 use Rattle.port_table.specs.declared.bases.Base.TheVariants as bases
-use Rattle.desk_places.specs.declared.stations.Station.{Station}
+use Rattle.desk_places.specs.declared.places.PlaceEntry.{PlaceEntry}
 use Rattle.desk_places.specs.PlaceBases.{AcceptsOn, Leaves, ListensOn, OpensOn, SameBases, SettlesOn, StandsFor}
 use Rattle.desk_places.specs.Changes.{SettlesSo}
-use Rattle.desk_places.specs.Stations.{base_at, hold_at}
-use Rattle.desk_places.proofs.StationLemmas.{found_none, free_station}
-use Rattle.port_desk.specs.Records.{NotedSo, Tells, TellsAsking, are_none, has_no_acts}
+use Rattle.desk_places.specs.PlaceTables.{base_at, hold_at}
+use Rattle.desk_places.proofs.EntryLemmas.{found_none, free_entry}
+use Rattle.port_desk.specs.Records.{Tells, are_none, has_no_acts}
 use Rattle.port_desk.specs.Calls.{ReadsSo, SendsSo, ShutsSo, WritesSo}
 use Rattle.port_desk.specs.Following.{FollowsTold, GoesOn, IsUnused, Passed, PassedBy, PassedTold, Start, StartsInStep, are_noted, errors_written, input_ended, input_read, output_written, reads_input, stream_of, writes_errors, writes_output}
-use Rattle.port_desk.proofs.FollowSteps.{Goes, IsStill, AllStandFor, acted, asked, ended_of, found, gave_of, grown_sum, kept_over, kept_sum, kept_told, nothing, on_slot, own_reads, own_said, own_writes, quiet, stands_comes, stands_leaves, stands_same, still_follows, took_of, unmapped}
+use Rattle.port_desk.proofs.FollowSteps.{NotedSo, TellsAsking, Goes, IsStill, AllStandFor, acted, asked, ended_of, found, gave_of, grown_sum, kept_over, kept_sum, kept_told, nothing, on_slot, own_reads, own_said, own_writes, quiet, stands_comes, stands_leaves, stands_same, still_follows, took_of, unmapped}
 
 -- ---- a read
 
@@ -685,8 +685,8 @@ no_acts true told history untouched unacted is = absurd cc
 no_acts false told history untouched unacted is = empty history.acts (subst (λ slot. has_no_acts slot ≡ true) is unacted)
 
 -- what isn't held stands on nothing
-pub unbased : (xs : List Station) → ((p : Place) → hold_at xs p ≡ Free) → (p : Place) → base_at xs p ≡ None
-unbased xs free p = found_none xs p (free_station xs p (free p))
+pub unbased : (xs : List PlaceEntry) → ((p : Place) → hold_at xs p ≡ Free) → (p : Place) → base_at xs p ≡ None
+unbased xs free p = found_none xs p (free_entry xs p (free p))
 
 -- ---- the end
 

@@ -1,5 +1,5 @@
 -- What one act makes of what follows a history.
-use Rattle.std.proofs.Common.{◌≡◌, ℕ, Bool, true, false, List, [], ◌∷◌, ◌++◌, Option, None, Some, IfSome, is_some, option_map, refl, sym, ap, subst, ◌∙◌}
+use Rattle.std.proofs.Common.{◌≡◌, ◌≤◌, length, take, ℕ, Bool, true, false, List, [], ◌∷◌, ◌++◌, Option, None, Some, IfSome, is_some, option_map, refl, sym, ap, subst, ◌∙◌}
 use Rattle.relay_model.specs.declared.acts.Act.{Act}
 use Rattle.relay_model.specs.declared.places.Place.{Place}
 use Rattle.relay_model.specs.declared.commands.Single.{Single}
@@ -7,15 +7,31 @@ use Rattle.relay_model.specs.Holding.{is_free}
 use Rattle.relay_model.specs.Journals.{Asking, History}
 use Rattle.relay_model.specs.Places.{same_place}
 use Rattle.world_trait.specs.Recordings.{with_act, with_asking}
+use Rattle.port_trait.specs.Meanings.{Adds}
+use Rattle.world_trait.specs.declared.answers.NoteAnswer.{NoteAnswer}
+use Rattle.world_trait.specs.declared.answers.NoteAnswer.TheVariants as notes
 use Rattle.port_table.specs.Ports.{StreamSeen}
 use Rattle.port_table.specs.declared.bases.Base.{Base}
 use Rattle.port_table.specs.declared.bases.Base.TheVariants as bases
-use Rattle.desk_places.specs.declared.stations.Station.{Station}
+use Rattle.desk_places.specs.declared.places.PlaceEntry.{PlaceEntry}
 use Rattle.desk_places.specs.PlaceBases.{ComesOn, Leaves, SameBases, StandsFor}
-use Rattle.desk_places.specs.Stations.{base_at, hold_at, hold_by, station_at}
+use Rattle.desk_places.specs.PlaceTables.{base_at, hold_at, hold_by, entry_at}
 use Rattle.desk_places.proofs.PlaceLemmas.{same_place-eq}
 use Rattle.port_desk.specs.Records.{Tells}
 use Rattle.port_desk.specs.Following.{AllOwn, Follows, FollowsTold, IsElsewhere, are_noted, errors_written, input_ended, input_read, output_written, reads_input, stream_of, writes_errors, writes_output}
+
+-- ---- what is told
+
+-- the act of an answer is told, and what was asked, where acts are told
+abbrev pub TellsAsking : Asking → Option Act → Option History → Option History → Type 0
+TellsAsking asking None told told' = told' ≡ told
+TellsAsking asking (Some act) told told' = told' ≡ option_map (with_asking act asking) told
+
+-- what standard error took of a note, by the answer
+abbrev pub NotedSo : NoteAnswer → Option (List ℕ) → Option (List ℕ) → List ℕ → Type 0
+NotedSo notes.Noted before now text = Adds before now text
+NotedSo notes.Failed before now text = (n : ℕ) × (n ≤ length text) × Adds before now (take n text)
+NotedSo notes.Memory before now text = now ≡ before
 
 -- ---- what a place stands on
 
@@ -77,12 +93,12 @@ own_said None bases.Both h = absurd cc
 own_said None bases.Errors h = absurd cc
 
 -- a place that is held stands on something
-pub based_by : (slot : Option Station) → is_free (hold_by slot) ≡ false → is_some (option_map (λ s. s.base) slot) ≡ true
+pub based_by : (slot : Option PlaceEntry) → is_free (hold_by slot) ≡ false → is_some (option_map (λ s. s.base) slot) ≡ true
 based_by None e = absurd cc
 based_by (Some s) e = refl
 
-pub based : (xs : List Station) (p : Place) → is_free (hold_at xs p) ≡ false → is_some (base_at xs p) ≡ true
-based xs p e = based_by (station_at xs p) e
+pub based : (xs : List PlaceEntry) (p : Place) → is_free (hold_at xs p) ≡ false → is_some (base_at xs p) ≡ true
+based xs p e = based_by (entry_at xs p) e
 
 pub found : (slot : Option Base) → is_some slot ≡ true → (b : Base) × (slot ≡ Some b)
 found None e = absurd cc

@@ -1,10 +1,10 @@
 -- The one call on a port that stands behind an answer of a desk. After `Memory` none was made.
-use Rattle.std.specs.Prelude.{◌≡◌, ◌≤◌, ◌&&◌, ◌⊎◌, ℕ, Bool, not, List, Option, None, Some, IfSome, ⊤}
+use Rattle.std.specs.Prelude.{◌≡◌, ◌≤◌, ◌&&◌, ◌⊎◌, ℕ, Bool, not, List, None, Some, ⊤}
 use Rattle.port_trait.specs.Counting.{Counted}
 use Rattle.relay_model.specs.{names, Shut, Half, Place, ReadyAt}
 use Rattle.desk_places.specs.{SameMarks}
 use Rattle.port_table.specs.{StreamNotes, StreamSeen}
-use Rattle.port_trait.specs.{PortSeen, Reads, Writes, Sends, Shuts, Polled}
+use Rattle.port_trait.specs.{PortSeen, Reads, Writes, Sends, Shuts}
 use Rattle.port_trait.specs.declared.answers.Got.TheVariants as gots
 use Rattle.port_trait.specs.declared.answers.Took.TheVariants as tooks
 use Rattle.port_trait.specs.declared.answers.Shutting.TheVariants as shuttings
@@ -51,20 +51,10 @@ NotesAs notes.Noted before now text = (n : ℕ) × StreamNotes before now text (
 NotesAs notes.Failed before now text = StreamNotes before now text (Some tooks.Failed)
 NotesAs notes.Memory before now text = (now ≡ before) ⊎ StreamNotes before now text None
 
--- a wait says stop exactly where the poller's last poll did, where the poller tells that
-abbrev pub SaysStop : Option Bool → Turned → Type 0
-SaysStop told (turns.Turned at stop) = IfSome told (λ said. stop ≡ said)
-SaysStop told turns.Memory = ⊤
-
 -- a wait that says stop does so only where the poller has said it in this call
 abbrev pub StopsAs : ℕ → ℕ → Turned → Type 0
 StopsAs before now (turns.Turned at stop) = Counted stop before now
 StopsAs before now turns.Memory = before ≤ now
-
--- the poller was asked once, and this is its answer
-abbrev pub PollsOnce : (Polled → Type 0) → Turned → Type 0
-PollsOnce polls (turns.Turned at stop) = polls (record { at = at; stop = stop })
-PollsOnce polls turns.Memory = ⊤
 
 -- a turn arms the halves that it names, and one that wants memory none
 abbrev pub TurnMarks : Turned → List ReadyAt → (Place → Half → Bool) → (Place → Half → Bool) → Type 0
@@ -75,9 +65,3 @@ TurnMarks turns.Memory ready before after = SameMarks before after
 abbrev pub OnTurned : Turned → Type 0 → Type 0
 OnTurned (turns.Turned at stop) P = P
 OnTurned turns.Memory P = ⊤
-
--- a fact of a shut that didn't want memory
-abbrev pub OnShut : ShutAnswer → Type 0 → Type 0
-OnShut shuts.Done P = P
-OnShut shuts.Failed P = P
-OnShut shuts.Memory P = ⊤

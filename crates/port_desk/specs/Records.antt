@@ -1,9 +1,9 @@
 -- The acts by which a desk keeps what it did, and the answers that stand for those of a port.
-use Rattle.std.specs.Prelude.{◌≡◌, ℕ, ◌+◌, ◌-◌, ◌^◌, min, ◌≤◌, Bool, true, false, List, [], ◌∷◌, length, take, Option, None, Some, option_map, if◌then◌else◌}
-use Rattle.relay_model.specs.{Act}
-use Rattle.relay_model.specs.Journals.{History, Asking}
-use Rattle.world_trait.specs.{with_act, with_asking, Turned, ReadAnswer, WriteAnswer, SendAnswer, NoteAnswer, ReapAnswer}
-use Rattle.port_trait.specs.{Adds, Got, Took, PortReap}
+use Rattle.std.specs.Prelude.{◌≡◌, ℕ, ◌+◌, ◌-◌, ◌^◌, min, Bool, true, false, List, [], ◌∷◌, Option, None, Some, option_map, if◌then◌else◌}
+use Rattle.relay_model.specs.{Act, Place, Single}
+use Rattle.relay_model.specs.Journals.{History}
+use Rattle.world_trait.specs.{with_act, with_asking, Turned, ReadAnswer, WriteAnswer, SendAnswer, ReapAnswer}
+use Rattle.port_trait.specs.{Got, Took, PortReap}
 use Rattle.port_trait.specs.declared.answers.Got.TheVariants as gots
 use Rattle.port_trait.specs.declared.answers.Took.TheVariants as tooks
 use Rattle.port_trait.specs.declared.answers.PortReap.TheVariants as childs
@@ -11,7 +11,6 @@ use Rattle.world_trait.specs.declared.answers.Turned.TheVariants as turns
 use Rattle.world_trait.specs.declared.answers.ReadAnswer.TheVariants as reads
 use Rattle.world_trait.specs.declared.answers.WriteAnswer.TheVariants as writes
 use Rattle.world_trait.specs.declared.answers.SendAnswer.TheVariants as sends
-use Rattle.world_trait.specs.declared.answers.NoteAnswer.TheVariants as notes
 use Rattle.world_trait.specs.declared.answers.ReapAnswer.TheVariants as reaps
 
 -- there are no acts
@@ -38,10 +37,11 @@ abbrev pub Tells : Option Act → Option History → Option History → Type 0
 Tells None told told' = told' ≡ told
 Tells (Some act) told told' = told' ≡ option_map (with_act act) told
 
--- the same, and what was asked is told too
-abbrev pub TellsAsking : Asking → Option Act → Option History → Option History → Type 0
-TellsAsking asking None told told' = told' ≡ told
-TellsAsking asking (Some act) told told' = told' ≡ option_map (with_asking act asking) told
+-- the same, and what was asked is told too, by the copy that was made of it, without which nothing is told
+abbrev pub TellsCopy : Place → Option Single → Option Act → Option History → Option History → Type 0
+TellsCopy place copy None told told' = told' ≡ told
+TellsCopy place None (Some act) told told' = told' ≡ told
+TellsCopy place (Some single) (Some act) told told' = told' ≡ option_map (with_asking act (place, single)) told
 
 -- the world's answer for that of a port's read
 abbrev pub read_answer : Got → ReadAnswer
@@ -67,9 +67,3 @@ send_answer tooks.Failed = sends.Failed
 abbrev pub reap_answer : PortReap → ReapAnswer
 reap_answer (childs.Reaped end) = reaps.Reaped end
 reap_answer childs.NoChild = reaps.NoChild
-
--- what standard error took of a note, by the answer
-abbrev pub NotedSo : NoteAnswer → Option (List ℕ) → Option (List ℕ) → List ℕ → Type 0
-NotedSo notes.Noted before now text = Adds before now text
-NotedSo notes.Failed before now text = (n : ℕ) × (n ≤ length text) × Adds before now (take n text)
-NotedSo notes.Memory before now text = now ≡ before

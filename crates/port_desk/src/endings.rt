@@ -12,26 +12,15 @@ pub struct Backs<I, O, E> {
     pub stderr: Back<E>,
 }
 
-/// How often something failed, a turn was waited for, and a stop was answered, until the end of a desk.
+/// How often something failed, a turn was waited for, and a stop was answered. Only a desk counts.
 #[derive(Clone, Copy, PartialEq, Eq)]
 pub struct Counts {
-    faults: u64,
-    waits: u64,
-    stops: u64,
+    pub(crate) faults: u64,
+    pub(crate) waits: u64,
+    pub(crate) stops: u64,
 }
 
 impl Counts {
-    /// Only the end of a desk makes counts.
-    pub(crate) fn new(faults: u64, waits: u64, stops: u64) -> Counts
-        ensures { result ≡ record { faults = faults; waits = waits; stops = stops } }
-    {
-        Counts {
-            faults,
-            waits,
-            stops,
-        }
-    }
-
     /// How often something failed.
     pub fn faults(&self) -> u64
         ensures { result ≡ self.now.faults }

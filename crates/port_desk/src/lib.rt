@@ -2,7 +2,6 @@
 #![tactic(auto)]
 
 mod beginnings;
-mod clocks;
 mod desk;
 mod endings;
 mod models;

@@ -20,8 +20,8 @@ impl<M: Maker + Drop, P: Poller + Drop, I: Port, O: Port, E: Port, B: Beginning>
       stderr = d.ports.table.errors;
       made = get d.ports.table.made;
       history = d.log.recording.told;
-      held = hold_at d.log.stations.entries;
-      counts = record { faults = d.log.faults; waits = d.waits; stops = d.stops };
+      held = hold_at d.log.places.entries;
+      counts = d.log.counts;
       acted = d.log.acted;
     } };
 }

@@ -11,5 +11,5 @@ mod table;
 pub use bases::{Base, standard_base};
 pub use endings::Back;
 pub use entries::PortEntry;
-pub use streams::{Standard, Stream, is_final};
+pub use streams::{Standard, StandardPort, is_final};
 pub use table::{PortTable, accept_at};

@@ -1,50 +1,27 @@
-use Rattle.desk_places.proofs.BaseLemmas.{leaves_here}
+use Rattle.std.proofs.Common.{◌∙◌, Some, ap, rules, sym}
+use Rattle.desk_places.proofs.EntryLemmas.{found_base}
 use Rattle.desk_places.proofs.MarkLemmas.{marks_gone}
-use Rattle.std.proofs.Common.{◌≡◌, ◌∙◌, None, Some, ap, refl, sym}
-use Rattle.desk_places.proofs.PortLemmas.{based_some, key_made, let_go_gone, let_go_others, not_made}
-use Rattle.desk_places.proofs.SoundLemmas.{sound_fewer, sound_let_go}
+use Rattle.desk_places.proofs.PortLemmas.{based_some, key_made, let_go_gone, let_go_others}
+use Rattle.desk_places.proofs.SoundLemmas.{sound_let_go}
 use Rattle.desk_places.proofs.ports.Ports.leave.Goals as goal
 
-pub returns-in-None-clause-gone : goal.returns-in-None-clause-gone
-returns-in-None-clause-gone g c = λ key e. absurd (not_made c.args.stations.now.entries c.args.place c.args.base (sym c.made_key.ensures ∙ c.in-None.is) c.requires.based key e)
+pub returns-clause-sound : goal.returns-clause-sound
+returns-clause-sound g c = λ but.
+    let entry = c.args.entry in
+    let based = found_base c.args.places.now.entries entry.place entry c.requires.held ∙ ap Some (key_made entry.base c.in_ok-key.key (sym c.made_key.ensures ∙ c.in_ok-key.was)) in
+    sound_let_go c.args.places.now.entries c.remove.new.self.entries entry.place c.args.self.now.table.made c.try_remove.new.self c.args.self.now.listed c.set.new.self c.remove.ensures.put.set c.set.ensures.covered but
+    c.in_ok-key.key based c.try_remove.ensures.updates c.set.ensures.others
 
-pub returns-in-None-clause-sound : goal.returns-in-None-clause-sound
-returns-in-None-clause-sound g c = λ but. sound_fewer c.args.stations.now.entries c.remove.new.self.entries c.args.place c.args.self.now.table.made c.args.self.now.table.made c.args.self.now.listed c.args.self.now.listed c.remove.ensures.set refl but refl refl
-
-pub returns-in-None-clause-held : goal.returns-in-None-clause-held
-returns-in-None-clause-held g c = c.remove.ensures.held
-
-pub returns-in-None-clause-fewer : goal.returns-in-None-clause-fewer
-returns-in-None-clause-fewer g c = c.remove.ensures.fewer (based_some c.args.stations.now.entries c.args.place c.args.base c.requires.based)
-
-pub returns-in-Some-clause-gone : goal.returns-in-Some-clause-gone
-returns-in-Some-clause-gone g c = let_go_gone c.args.stations.now.entries c.args.place c.args.self.now.table.made c.let_go.new.self.table.made c.in-Some.key (c.requires.based ∙ ap Some (key_made c.args.base c.in-Some.key (sym c.made_key.ensures ∙ c.in-Some.is))) c.let_go.ensures.made
-
-pub returns-in-Some-clause-others : goal.returns-in-Some-clause-others
-returns-in-Some-clause-others g c = let_go_others c.args.stations.now.entries c.args.place c.args.self.now.table.made c.let_go.new.self.table.made c.in-Some.key (c.requires.based ∙ ap Some (key_made c.args.base c.in-Some.key (sym c.made_key.ensures ∙ c.in-Some.is))) c.let_go.ensures.made
-
-pub returns-in-Some-clause-sound : goal.returns-in-Some-clause-sound
-returns-in-Some-clause-sound g c = λ but.
-    sound_let_go c.args.stations.now.entries c.remove.new.self.entries c.args.place c.args.self.now.table.made c.let_go.new.self.table.made c.args.self.now.listed c.let_go.new.self.listed c.remove.ensures.set c.let_go.ensures.covered but
-    c.in-Some.key (c.requires.based ∙ ap Some (key_made c.args.base c.in-Some.key (sym c.made_key.ensures ∙ c.in-Some.is))) c.let_go.ensures.made c.let_go.ensures.listed
-
-pub returns-in-Some-clause-held : goal.returns-in-Some-clause-held
-returns-in-Some-clause-held g c = c.remove.ensures.held
-
-pub returns-in-Some-clause-fewer : goal.returns-in-Some-clause-fewer
-returns-in-Some-clause-fewer g c = c.remove.ensures.fewer (based_some c.args.stations.now.entries c.args.place c.args.base c.requires.based)
-
-pub returns-in-Some-clause-standard : goal.returns-in-Some-clause-standard
-returns-in-Some-clause-standard g c = λ none. absurd (let e : Some c.in-Some.key ≡ None = sym (sym c.made_key.ensures ∙ c.in-Some.is) ∙ none in cc)
-
-pub returns-in-None-clause-bases : goal.returns-in-None-clause-bases
-returns-in-None-clause-bases g c = leaves_here c.args.stations.now.entries c.remove.new.self.entries c.args.place c.remove.ensures.set
-
-pub returns-in-Some-clause-bases : goal.returns-in-Some-clause-bases
-returns-in-Some-clause-bases g c = leaves_here c.args.stations.now.entries c.remove.new.self.entries c.args.place c.remove.ensures.set
-
-pub returns-in-None-clause-marks : goal.returns-in-None-clause-marks
-returns-in-None-clause-marks g c = marks_gone c.args.stations.now.entries c.remove.new.self.entries c.args.place c.remove.ensures.set
-
-pub returns-in-Some-clause-marks : goal.returns-in-Some-clause-marks
-returns-in-Some-clause-marks g c = marks_gone c.args.stations.now.entries c.remove.new.self.entries c.args.place c.remove.ensures.set
+pub returns-clause-left : goal.returns-clause-left
+returns-clause-left g c =
+    let entry = c.args.entry in
+    let based = found_base c.args.places.now.entries entry.place entry c.requires.held ∙ ap Some (key_made entry.base c.in_ok-key.key (sym c.made_key.ensures ∙ c.in_ok-key.was)) in
+    record {
+      gone = let_go_gone c.args.places.now.entries entry.place c.args.self.now.table.made c.try_remove.new.self c.in_ok-key.key based c.try_remove.ensures.updates;
+      others = let_go_others c.args.places.now.entries entry.place c.args.self.now.table.made c.try_remove.new.self c.in_ok-key.key based c.try_remove.ensures.updates;
+      marks = marks_gone c.args.places.now.entries c.remove.new.self.entries entry.place c.remove.ensures.put.set;
+      fewer = c.remove.ensures.fewer (based_some c.args.places.now.entries entry.place _ based);
+      room = search rules;
+      maker = search rules;
+      capacity = search rules;
+    }

@@ -1,14 +1,19 @@
-use Rattle.std.proofs.Common.{sym, subst, Some, ◌≡◌, ◌∙◌}
-use Rattle.desk_places.specs.Stations.{station_at}
-use Rattle.desk_places.specs.Standing.{IsSoundBut}
-use Rattle.desk_places.proofs.SoundLemmas.{sound_unheld}
+use Rattle.std.proofs.Common.{rules, ◌∙◌, ap, refl, sym}
+use Rattle.port_table.specs.declared.bases.Base.TheVariants as bases
+use Rattle.desk_places.proofs.PortLemmas.{key_made}
+use Rattle.desk_places.proofs.SoundLemmas.{heeds_set, heeds_standard, sound_listed}
 use Rattle.desk_places.proofs.ports.Ports.list.Goals as goal
 
-pub returns-in-Some-clause-sound : goal.returns-in-Some-clause-sound
-returns-in-Some-clause-sound g c = λ but.
-    c.list_held.ensures.sound c.args.stations.now.entries
-    (subst (λ p. station_at c.args.stations.now.entries p ≡ Some c.in-Some.station) (sym c.in-Some.ensures.here) (sym c.find.ensures.value ∙ c.in-Some.is))
-    (subst (λ p. IsSoundBut p c.args.stations.now.entries c.args.self.now.table.made c.args.self.now.listed) (sym c.in-Some.ensures.here) but)
-
 pub returns-in_default-clause-sound : goal.returns-in_default-clause-sound
-returns-in_default-clause-sound g c = λ but. sound_unheld c.args.stations.now.entries c.args.place c.args.self.now.table.made c.args.self.now.listed (sym c.find.ensures.value ∙ c.in_default.is) but
+returns-in_default-clause-sound g c = λ places here but.
+    sound_listed places c.args.entry.place c.args.self.now.table.made c.args.self.now.listed c.args.self.now.listed refl but
+    c.args.entry here (λ key away. refl)
+    (λ stands. heeds_standard c.args.entry c.args.self.now.listed.keys c.args.entry.base c.args.self.now.table.made (sym c.made_key.ensures ∙ c.in_default.is))
+
+pub returns-clause-sound : goal.returns-clause-sound
+returns-clause-sound g c = λ places here but.
+    let is = key_made c.args.entry.base c.in-Some.key (sym c.made_key.ensures ∙ c.in-Some.is) in
+    sound_listed places c.args.entry.place c.args.self.now.table.made c.args.self.now.listed c.set.new.self c.set.ensures.covered but
+    c.args.entry here
+    (λ key away. c.set.ensures.others key (λ same. away (is ∙ ap bases.Made (sym same))))
+    (λ stands. heeds_set c.args.entry c.in-Some.key c.args.self.now.listed.covered c.args.entry.place c.set.new.self.keys c.may_hint-may.result c.args.self.now.table.made is c.may_hint-may.ensures.halves c.may_hint-may.ensures.told (λ below. c.set.ensures.here below ∙ (search rules)) stands)

@@ -1,34 +1,22 @@
 use Rattle.desk_places.proofs.BaseLemmas.{same_bases}
-use Rattle.std.proofs.Common.{rules, Bool, false, option_map, subst}
+use Rattle.std.proofs.Common.{rules, false}
 use Rattle.relay_model.specs.declared.places.Half.TheVariants.{ToRead}
 use Rattle.port_table.specs.PortTables.{giving_port}
 use Rattle.port_table.proofs.CalledLemmas.{called_made}
-use Rattle.desk_places.specs.Stations.{hold_at, SetsStation, station_at, with_half}
-use Rattle.desk_places.proofs.PortLemmas.{open_held}
-use Rattle.desk_places.proofs.PortLemmas.{at_base}
 use Rattle.desk_places.proofs.SoundLemmas.{giving_of, id_keeps, sound_marked}
 use Rattle.desk_places.proofs.ports.Ports.read.Goals as goal
 
-pub station_of-station-requires : goal.station_of-station-requires
-station_of-station-requires g c = open_held (hold_at c.args.stations.now.entries c.args.place) c.requires.open
-
-pub returns-clause-call : goal.returns-clause-call
-returns-clause-call g c = rw c.mark_held.ensures.rest.table (at_base c.args.stations.now.entries c.args.place c.station_of-station.result _ c.station_of-station.ensures c.read-got.ensures.call)
-
-pub returns-clause-marks : goal.returns-clause-marks
-returns-clause-marks g c =
-    let Set : Bool → Type 0 = λ b. SetsStation c.args.place (option_map (with_half ToRead b) (station_at c.args.stations.now.entries c.args.place)) (station_at c.args.stations.now.entries) (station_at c.mark_held.new.stations.entries) in
-    subst Set c.gave_not_yet.ensures c.mark_held.ensures.set
-
 pub returns-clause-kept : goal.returns-clause-kept
-returns-clause-kept g c = record {
-  sound = λ sound.
-      c.mark_held.ensures.sound
-      (sound_marked c.args.stations.now.entries c.mark_held.new.stations.entries c.args.place c.station_of-station.result ToRead c.gave_not_yet.result c.args.self.now.table.made c.read-got.new.self.made c.args.self.now.listed c.station_of-station.ensures c.mark_held.ensures.set
-      (id_keeps (giving_port c.station_of-station.result.base) c.station_of-station.result.base c.args.self.now.table.made c.read-got.new.self.made _ (giving_of c.station_of-station.result.base) (called_made false (giving_port c.station_of-station.result.base) c.args.self.now.table c.read-got.new.self _ c.read-got.ensures.call))
-      sound);
-  bases = same_bases c.args.stations.now.entries c.mark_held.new.stations.entries c.mark_held.ensures.standing;
-  no_more = search rules;
-  parents = search rules;
-  maker = search rules;
-}
+returns-clause-kept g c =
+    let entry = c.entry_of-entry.result in
+    record {
+      sound = λ sound.
+          c.mark.ensures.sound
+          (sound_marked c.args.places.now.entries c.mark.new.places.entries entry.place entry ToRead _ c.args.self.now.table.made c.read-got.new.self.made c.args.self.now.listed c.entry_of-entry.ensures.own c.mark.ensures.marks.set
+          (id_keeps (giving_port entry.base) entry.base c.args.self.now.table.made c.read-got.new.self.made _ (giving_of entry.base) (called_made false (giving_port entry.base) c.args.self.now.table c.read-got.new.self _ c.read-got.ensures.call))
+          sound);
+      bases = same_bases c.args.places.now.entries c.mark.new.places.entries c.mark.ensures.marks.standing;
+      no_more = search rules;
+      parents = search rules;
+      maker = search rules;
+    }

@@ -13,4 +13,4 @@ pub returns-in-Some-clause-reaped : goal.returns-in-Some-clause-reaped
 returns-in-Some-clause-reaped g c =
     let is = rw c.as_slice.ensures.value at c.parent_of.ensures.is in
     let within = rw c.as_slice.ensures.value at c.in-Some.ensures.within in
-    subst (λ slot. ReapsKept slot c.reap.result) (sym (found_at _ c.args.self.now.parents.items c.parent_of.result c.in-Some.i c.remove-entry.result is c.in-Some.is within c.remove-entry.ensures.value)) (c.reap.new.self.port, c.reap.ensures.call)
+    subst (λ slot. ReapsKept slot c.reap.result) (sym (found_at _ c.args.self.now.parents.items c.parent_of.result c.in-Some.i c.remove.result is c.in-Some.is within c.remove.ensures.value)) (g.M.Made.Port.seen c.reap.new.self, rw (← c.remove-in-Some.view_is) c.reap.ensures)
