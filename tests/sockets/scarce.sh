@@ -38,6 +38,17 @@ crowd '30 had their own' udp4 "@${pids[relay]}" 30 rounds=1
 lives relay
 finish
 
+for count in 20 21; do
+    begin_own "$count descriptors: 30 datagrams are served in the end, each with a connection of its own"
+    given_nothing
+    UNAUDITED=yes start server -t30 TCP4-LISTEN:0,fork "SYSTEM:sleep 0.2; cat"
+    listens server tcp4
+    few "$count" relay -t30 UDP4-RECVFROM:0,fork "TCP4:127.0.0.1:$port"
+    crowd '30 had their own' udp4 "@${pids[relay]}" 30 echo=1000
+    lives relay
+    finish
+done
+
 begin_own "clients that wait at the door cost no processor time"
 given_nothing
 UNAUDITED=yes start server -t30 TCP4-LISTEN:0,fork PIPE

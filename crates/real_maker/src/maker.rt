@@ -329,7 +329,7 @@ where
     }
 
     /// Takes a peer at the door, without counting. A door whose peers have sessions takes one only while all descriptors
-    /// that are kept for a peer are held, and gives one of them up for its connection.
+    /// that are kept for a peer are held, but one that is left to its connection.
     fn take_peer(&mut self, door: &mut MadePort, key: usize) -> MadePeer<RealPort>
         ensures same { SameBooks self.old self.new }
         ensures kind { OnPeer (ComesAt door.old.port) result }
@@ -348,7 +348,7 @@ where
         peer
     }
 
-    /// Whether all descriptors that are kept for a peer are held, where the door is shared. Then one of them is given up.
+    /// Whether all descriptors that are kept for a peer are held but one, where the door is shared.
     fn admits(&mut self, door: &mut MadePort) -> bool
         ensures same { SameBooks self.old self.new }
         ensures port { door.new.port ≡ door.old.port }

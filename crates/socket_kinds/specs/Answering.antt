@@ -45,12 +45,16 @@ abbrev pub IsShutDown : {T : Type 0} → Result T Error → Shutting → Type 0
 IsShutDown (Ok done) shutting = shutting ≡ shuts.Done
 IsShutDown (Err error) shutting = (error_kind error ≡ NotConnected → shutting ≡ shuts.Done) × (error_kind error ≢ NotConnected → shutting ≡ shuts.Failed)
 
--- a connection that is under way stands once the system knows its peer, unless an error was kept of it
-abbrev pub connection_of : Result (Option Error) Error → Bool → Connection
-connection_of (Ok None) true = connections.Standing
-connection_of (Ok None) false = connections.UnderWay
-connection_of (Ok (Some error)) known = connections.Broken
-connection_of (Err error) known = connections.Broken
+-- a connection of which no peer is known is under way, unless an error was kept of it
+abbrev pub connection_of : Result (Option Error) Error → Connection
+connection_of (Ok None) = connections.UnderWay
+connection_of (Ok (Some error)) = connections.Broken
+connection_of (Err error) = connections.Broken
+
+-- a connection that was under way stands where its peer is known; where none is, one call told the error that was kept of it
+abbrev pub IsAsked : Bool → (Result (Option Error) Error → Type 0) → Connection → Type 0
+IsAsked true tells connection = connection ≡ connections.Standing
+IsAsked false tells connection = Answers tells (λ kept. connection ≡ connection_of kept)
 
 -- what a settling answers by how a connection stands
 abbrev pub settling_of : Connection → Settled

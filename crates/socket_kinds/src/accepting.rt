@@ -8,13 +8,14 @@ ghost use Rattle.socket_kinds.specs.Kinds.{is_door, is_unix_door, has_left_off, 
 
 use crate::any_socket::AnySocket;
 use crate::datagram::DatagramSocket;
-use crate::door::{Accepts, Arrival, Listener, SocketDoor};
+use crate::door::{Accepts, Arrival, Listener, SocketDoor, is_starved};
 use crate::peers::peer_of;
 use crate::stream::{SocketStream, StreamSocket};
 use mio::Registry;
 use port_trait::{MadePeer, Making};
 use relay_model::Peer;
 use std::alloc::Global;
+use std::io;
 use std::io::{Error, ErrorKind};
 use std::net::{SocketAddr, UdpSocket};
 use std::sync::Arc;
@@ -60,16 +61,38 @@ fn accept_at<T: Accepts>(
 {
     door.cut_short = false;
     door.starved = false;
+    let single = matches!(door.listener, Listener::Packets(_));
     match &door.listener {
-        Listener::Udp(enrolled) => {
-            return accept_partner(alloc, registry, &enrolled.socket, key, false);
+        Listener::Tcp(_) | Listener::Unix(_) => accept_connected(registry, door, key),
+        Listener::Udp(enrolled) | Listener::Packets(enrolled) => {
+            match share_with_next(&enrolled.socket) {
+                Ok(socket) => accept_partner(alloc, registry, socket, key, single),
+                Err(error) => turn_away(door, &error),
+            }
         }
-        Listener::Packets(enrolled) => {
-            return accept_partner(alloc, registry, &enrolled.socket, key, true);
-        }
-        Listener::Tcp(_) | Listener::Unix(_) => {}
     }
-    accept_connected(registry, door, key)
+}
+
+/// A descriptor of the door's socket for the peer whose datagram waits there. The datagram stays.
+fn share_with_next(door: &UdpSocket) -> io::Result<UdpSocket> {
+    door.peek_from(&mut [0u8; 1])?;
+    door.try_clone()
+}
+
+/// Takes nobody for this reason. Where no descriptor is free, the door leaves off.
+fn turn_away<T: Drop>(door: &mut SocketDoor<T>, error: &Error) -> MadePeer<SocketAt<T>>
+    ensures left_off { door.new.cut_short ≡ true → result ≡ peers.NoPeer }
+    ensures nobody { OnPeer (λ socket. is_door socket ≡ false) result }
+    ensures none { OnPeer IsOfPackets result }
+    ensures unaddressed { OnCame (λ peer. peer ≢ whose.Local) result }
+    ensures alone { OnBoth HasPartner result }
+{
+    door.starved = is_starved(error);
+    door.cut_short = door.starved;
+    if door.starved {
+        return MadePeer::NoPeer;
+    }
+    no_partner(error)
 }
 
 #[tactic(auto, using(crate::proofs::Arrivals::comes_to))]
@@ -131,12 +154,12 @@ fn told_peer(from: Option<SocketAddr>) -> Peer
     }
 }
 
-/// Shares the door's socket. The datagram is taken from it only once the new port stands. A `single` one gives no
-/// further datagram.
+/// Takes the datagram that waits at this socket, which is the door's, only once the new port stands. A `single` one
+/// gives no further datagram.
 fn accept_partner<T: Drop>(
     alloc: Global,
     registry: &Arc<Registry, Global>,
-    door: &UdpSocket,
+    socket: UdpSocket,
     key: usize,
     single: bool,
 ) -> MadePeer<SocketAt<T>>
@@ -145,12 +168,6 @@ fn accept_partner<T: Drop>(
     ensures addressed { OnCame (λ peer. peer ≢ whose.Local) result }
     ensures partner { OnBoth HasPartner result }
 {
-    if let Err(error) = door.peek_from(&mut [0u8; 1]) {
-        return no_partner(&error);
-    }
-    let Ok(socket) = door.try_clone() else {
-        return MadePeer::Failed;
-    };
     match DatagramSocket::new(alloc, registry, socket, key) {
         Making::Made(socket) => hold_first(socket, single),
         Making::Later(_) | Making::Failed => MadePeer::Failed,

@@ -15,12 +15,11 @@ pub(crate) enum Connection {
 }
 
 impl Connection {
-    /// By the error that the system kept of it, and whether the system knows its peer (connect(2), `EINPROGRESS`).
-    pub(crate) fn of(kept: &io::Result<Option<Error>>, has_peer: bool) -> Connection
-        ensures { result ≡ connection_of kept.now has_peer }
+    /// One whose peer the system doesn't know, by the error that it kept (connect(2), `EINPROGRESS`).
+    pub(crate) fn of(kept: &io::Result<Option<Error>>) -> Connection
+        ensures { result ≡ connection_of kept.now }
     {
         match kept {
-            Ok(None) if has_peer => Connection::Standing,
             Ok(None) => Connection::UnderWay,
             Ok(Some(_)) | Err(_) => Connection::Broken,
         }

@@ -9,7 +9,7 @@ ghost use Rattle.port_trait.specs.{Gives, Accepts, no_hint, finishes};
 ghost use Rattle.port_trait.specs.declared.answers.Took.TheVariants as writes;
 ghost use Rattle.port_trait.specs.declared.answers.Got.TheVariants as reads;
 ghost use Rattle.port_trait.specs.declared.answers.Shutting.TheVariants as shuts;
-ghost use Rattle.socket_kinds.specs.Answering.{Answers, ReaderGave, WriterTook, IsReceived, IsAccepted, IsShutDown, connection_of, settling_of};
+ghost use Rattle.socket_kinds.specs.Answering.{Answers, ReaderGave, WriterTook, IsReceived, IsAccepted, IsShutDown, IsAsked, settling_of};
 ghost use Rattle.socket_kinds.specs.declared.answering.Connection.TheVariants as connections;
 
 use crate::answering::{Connection, receive_answer, send_answer, shut_down};
@@ -185,18 +185,27 @@ impl<S> StreamSocket<S> {
     }
 }
 
+/// Asks how a connection that was begun stands. The kept error is asked only of one whose peer isn't known.
+fn ask<S: Wire>(stream: &S) -> Connection
+    ensures { (known : Bool) × S.knows_peer stream.now known × IsAsked known (S.tells_error stream.now) result }
+{
+    if stream.has_peer() {
+        return Connection::Standing;
+    }
+    Connection::of(&stream.kept_error())
+}
+
 impl<S: Wire> Socket for StreamSocket<S> {
     /// Asks the system while the connection is under way. What it came to then stays.
     fn settle(&mut self) -> Settled
         ensures answer { result ≡ settling_of self.new.connection }
         ensures asked { self.old.connection ≡ connections.UnderWay
-            → Answers (S.tells_error self.old.stream) (λ kept. (known : Bool) × S.knows_peer self.old.stream known
-            × (self.new.connection ≡ connection_of kept known)) }
+            → (known : Bool) × S.knows_peer self.old.stream known × IsAsked known (S.tells_error self.old.stream) self.new.connection }
         ensures stays { self.old.connection ≢ connections.UnderWay → self.new ≡ self.old }
         ensures kept { (self.new.stream ≡ self.old.stream) × (self.new.from ≡ self.old.from) }
     {
         if self.connection == Connection::UnderWay {
-            self.connection = Connection::of(&self.stream.kept_error(), self.stream.has_peer());
+            self.connection = ask(&self.stream);
         }
         self.connection.settle_answer()
     }

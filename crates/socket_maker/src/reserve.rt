@@ -66,27 +66,33 @@ impl Reserve {
         ensures more { self.old.held ≤ self.new.held }
         ensures wanted { self.new.wanted ≡ self.old.wanted }
     {
-        self.take_many();
+        self.take_many(0);
         self.wanted - self.spares.len()
     }
 
-    /// The same, and gives one up again, for the connection of a peer, where none is lacking.
+    /// Sees that all are held but one, which is left to the connection of a peer. Answers 0 where they are, and else how
+    /// many are lacking, with that one. Whether the connection has a descriptor its accepting sees by itself.
     pub fn admit(&mut self) -> usize
         ensures given { result ≡ 0 → self.new.held + 1 ≡ self.new.wanted }
         ensures wanted { self.new.wanted ≡ self.old.wanted }
     {
-        let lacking = self.fill();
-        if lacking == 0 {
-            let _given = self.give_one();
+        self.take_many(1);
+        match self.wanted - self.spares.len() {
+            0 => {
+                let _given = self.give_one();
+                0
+            }
+            1 => 0,
+            lacking => lacking,
         }
-        lacking
     }
 
-    fn take_many(&mut self)
+    /// Takes as many descriptors as are wanted but `left`, as far as they can be had.
+    fn take_many(&mut self, left: usize)
         ensures more { self.old.held ≤ self.new.held }
         ensures wanted { self.new.wanted ≡ self.old.wanted }
     {
-        for _ in 0..MOST {
+        for _ in left..self.wanted - self.spares.len() {
             if !self.take_one() {
                 return;
             }
