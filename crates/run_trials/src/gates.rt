@@ -25,10 +25,8 @@ pub(crate) struct FileGate {
 impl FileGate {
     /// A gate that is shut.
     fn shut(alloc: Global) -> Result<FileGate, NoMemory> {
-        match Arc::new(alloc, AtomicU64::new(0)) {
-            Ok(opened) => Ok(FileGate { opened }),
-            Err(_) => Err(NoMemory),
-        }
+        let opened = Arc::new(alloc, AtomicU64::new(0))?;
+        Ok(FileGate { opened })
     }
 
     /// Another hand on it, where one is wanted.

@@ -1,14 +1,20 @@
 -- What contracts see of standard error.
-use Rattle.std.specs.Prelude.{true, false, [], Option, None, Some}
+use Rattle.std.specs.Prelude.{true, false, [], Option, Some}
+use Rattle.std.specs.declared.io.Stderr.{Stderr}
+use denote.Param.Members.{Mut}
+use Rattle.blocking_streams.specs.declared.streams.Blocking.{Blocking}
 use Rattle.file_ports.specs.{HalvesState}
 use Rattle.file_ports.specs.declared.halves.HalfReadiness.TheVariants as readiness
 use Rattle.port_trait.specs.{PortSeen, untold}
 use Rattle.port_trait.specs.Serving.{Serving}
+use Rattle.port_trait.specs.declared.streams.StdSink.{StdSink}
 use Rattle.ring_writer.specs.{WriterState}
+use Rattle.ring_writer.specs.declared.fresh_writer.FreshWriter.{FreshWriter}
 use Rattle.socket_ports.specs.Sockets.{SocketPortState, fresh_port}
 use Rattle.standard_ports.specs.Told.{ToldState, fresh_told}
-use Rattle.standard_ports.specs.declared.spoken.SpokenErrors.{SpokenErrors}
-use Rattle.standard_ports.specs.declared.spoken.SpokenErrors.TheVariants as spoken
+use Rattle.standard_ports.specs.declared.error_rings.ErrorParts.{ErrorParts}
+use Rattle.standard_ports.specs.declared.errors.ErrorPort.{ErrorPort}
+use Rattle.standard_ports.specs.declared.errors.ErrorPort.TheVariants as errors
 
 -- it is written, and its faults are those of the descriptor
 abbrev pub only_written : Serving
@@ -28,12 +34,12 @@ plain_seen seen port =
 abbrev pub fresh_plain : SocketPortState (ToldState HalvesState)
 fresh_plain = fresh_port (fresh_told (record { reads = false; writes = true; readiness = readiness.Always }))
 
--- what it tells once something was asked of it
-abbrev pub of_spoken : {R : Type 0} → {T : Type 0} → (SocketPortState (ToldState HalvesState) → T) → (WriterState → T) → SpokenErrors R → T
-of_spoken plain ring (spoken.Plain port) = plain port
-of_spoken plain ring (spoken.Ring port) = ring port
+-- what makes its ring: a function of the parts
+abbrev Maker : Type 0 → Type 1
+Maker X = Mut X (ErrorParts × Unit {0}) (Option (FreshWriter (StdSink (Blocking Stderr))))
 
--- what standard error tells, by the port that it has once something was asked of it
-abbrev pub of_errors : {S : Type 0} → (S → PortSeen) → Option S → PortSeen
-of_errors seen None = unsaid
-of_errors seen (Some port) = seen port
+-- what standard error tells in each state
+abbrev pub of_errors : {R X : Type 0} → {maker : Maker X} → (SocketPortState (ToldState HalvesState) → PortSeen) → (WriterState → PortSeen) → ErrorPort R X maker → PortSeen
+of_errors plain ring (errors.Unasked start) = unsaid
+of_errors plain ring (errors.Ring port) = ring port
+of_errors plain ring (errors.Plain port) = plain port

@@ -4,6 +4,7 @@ ghost use Rattle.standard_ports.specs.declared.error_rings.ErrorParts.{ErrorPart
 use blocking_streams::Blocking;
 use mio_poller::MioWake;
 use port_trait::{StdSink, StdSpawner};
+use relay_model::NoMemory;
 use ring_writer::FreshWriter;
 use std::alloc::Global;
 use std::io::Stderr;
@@ -23,6 +24,17 @@ pub struct ErrorParts {
     pub system: HostRuntime,
     pub alloc: Global,
     pub wake: MioWake,
+}
+
+impl ErrorParts {
+    /// The same, for another ring.
+    pub(crate) fn another(&self) -> Result<ErrorParts, NoMemory> {
+        Ok(ErrorParts {
+            system: self.system,
+            alloc: self.alloc,
+            wake: self.wake.another()?,
+        })
+    }
 }
 
 /// What makes the ring of standard error. A port's call can start a thread only so: the runtime is a known one where this

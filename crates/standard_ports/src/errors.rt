@@ -1,167 +1,205 @@
 // The port of standard error.
-ghost use Rattle.std.specs.Prelude.{◌≡◌, [], true, is_some, IfSome, Some};
+ghost use Rattle.std.specs.Prelude.{◌≡◌, [], IfSome, Some};
 ghost use Rattle.port_trait.specs.{Begins, StandsBegun};
 ghost use Rattle.port_trait.specs.declared.answers.Begun.TheVariants as begins;
-ghost use Rattle.standard_ports.specs.Errors.{fresh_plain, of_errors, unsaid};
+ghost use Rattle.standard_ports.specs.Errors.{fresh_plain, of_errors, plain_seen, unsaid};
 
-use crate::error_rings::{ErrorParts, RingMaker};
+use crate::error_rings::{ErrorParts, ErrorSink, RingMaker};
 use crate::prompt::Prompt;
-use crate::spoken::{ErrorRing, PlainErrors, SpokenErrors};
 use crate::told::ToldSocket;
 use file_ports::Halves;
 use port_trait::{Begun, Got, Hint, Joining, Port, PortReap, Settled, Shutting, Took};
 use relay_model::Shut;
+use ring_writer::RingWriter;
 use socket_ports::SocketPort;
+use std::io::{Stderr, Stdin};
+use std::mem;
 use std::rt::HostRuntime;
 use std::sync::Wait;
 use std::thread::Threads;
 
-/// What standard error begins with.
+/// Standard error behind a ring.
+pub type ErrorRing<R> = RingWriter<ErrorSink, R>;
+
+/// Standard error by the descriptor itself. A write that would wait fails.
+pub type PlainErrors = SocketPort<ToldSocket<Halves<Stdin, Prompt<Stderr>>>, ()>;
+
+/// What the ring of standard error is made of and begun with.
 #[derive(Drop)]
 pub struct ErrorStart<R> {
     rt: R,
-    system: HostRuntime,
-    // none where no write on the descriptor waits
-    parts: Option<ErrorParts>,
+    parts: ErrorParts,
     maker: RingMaker,
-    always_ready: bool,
 }
 
 impl<R: Threads + Wait + Copy + Drop> ErrorStart<R> {
-    /// A ring, or the descriptor itself where there is no need of one, no memory or no thread for it.
-    fn begin(&mut self) -> SpokenErrors<R>
-        ensures begins { Begins unsaid (⟦<SpokenErrors<R> as Port>⟧.seen result) begins.Begun }
-        ensures stands { StandsBegun unsaid (⟦<SpokenErrors<R> as Port>⟧.seen result) begins.Begun }
+    /// Begins a ring, or the descriptor itself where there is no memory or no thread for one.
+    fn begin(&self) -> ErrorPort<R>
+        ensures begins { Begins unsaid (⟦<ErrorPort<R> as Port>⟧.seen result) begins.Begun }
+        ensures stands { StandsBegun unsaid (⟦<ErrorPort<R> as Port>⟧.seen result) begins.Begun }
     {
-        if let Some(ring) = self.begun_ring() {
-            return SpokenErrors::Ring(ring);
+        match self.begin_ring() {
+            Some(ring) => ErrorPort::Ring(ring),
+            None => {
+                let mut port = self.plain_port();
+                port.begin();
+                ErrorPort::Plain(port)
+            }
         }
-        let mut port = self.plain_port();
-        port.begin();
-        SpokenErrors::Plain(port)
+    }
+
+    /// A ring that has begun.
+    fn begin_ring(&self) -> Option<ErrorRing<R>>
+        ensures begins { IfSome result (λ ring. Begins unsaid (⟦<ErrorRing<R> as Port>⟧.seen ring) begins.Begun) }
+        ensures stands { IfSome result (λ ring. StandsBegun unsaid (⟦<ErrorRing<R> as Port>⟧.seen ring) begins.Begun) }
+    {
+        let parts = self.parts.another().ok()?;
+        let mut ring = self.maker.make(parts)?.attach(self.rt);
+        match ring.begin() {
+            Begun::Begun => Some(ring),
+            Begun::Failed | Begun::Memory => {
+                drop(ring);
+                None
+            }
+        }
     }
 
     /// The descriptor itself.
     fn plain_port(&self) -> PlainErrors
         ensures { result ≡ fresh_plain }
     {
-        let stderr = Prompt::new(self.system.stderr(), self.always_ready);
-        let halves = Halves::always(None, Some(stderr));
-        SocketPort::new(ToldSocket::new(halves), ())
-    }
-
-    /// A ring that has begun.
-    fn begun_ring(&mut self) -> Option<ErrorRing<R>>
-        ensures begins { IfSome result (λ ring. Begins unsaid (⟦<ErrorRing<R> as Port>⟧.seen ring) begins.Begun) }
-        ensures stands { IfSome result (λ ring. StandsBegun unsaid (⟦<ErrorRing<R> as Port>⟧.seen ring) begins.Begun) }
-    {
-        let parts = self.parts.take()?;
-        let mut ring = self.maker.make(parts)?.attach(self.rt);
-        match ring.begin() {
-            Begun::Begun => Some(ring),
-            Begun::Failed | Begun::Memory => None,
-        }
+        plain_errors(self.parts.system, false)
     }
 }
 
-/// Standard error. Before it begins it takes no memory and starts no thread.
+/// The descriptor itself, of which is known whether it is always ready.
+fn plain_errors(system: HostRuntime, always_ready: bool) -> PlainErrors
+    ensures { result ≡ fresh_plain }
+{
+    let stderr = Prompt::new(system.stderr(), always_ready);
+    SocketPort::new(ToldSocket::new(Halves::always(None, Some(stderr))), ())
+}
+
+/// Standard error.
 #[derive(Drop)]
-pub struct ErrorPort<R> {
-    start: ErrorStart<R>,
-    port: Option<SpokenErrors<R>>,
+pub enum ErrorPort<R> {
+    /// Nothing was asked of it. It has no ring and no thread yet.
+    Unasked(ErrorStart<R>),
+    /// A thread writes what lies in the ring.
+    Ring(ErrorRing<R>),
+    /// It is always ready, there is no ring, or something was asked of it before its beginning.
+    Plain(PlainErrors),
 }
 
 impl<R: Threads + Wait + Copy + Drop> ErrorPort<R> {
-    /// Standard error that has taken nothing. Its ring is made so, unless its descriptor is always ready.
+    /// Standard error that has taken nothing. Its ring is made at its beginning, unless its descriptor is always ready.
     pub fn new(rt: R, parts: ErrorParts, maker: RingMaker, always_ready: bool) -> ErrorPort<R>
         ensures told { (⟦<ErrorPort<R> as Port>⟧.seen result).took ≡ Some [] }
         ensures none { IfSome (⟦<ErrorPort<R> as Port>⟧.seen result).took (λ all. all ≡ []) }
     {
-        let system = parts.system;
-        let parts = if always_ready { None } else { Some(parts) };
-        let start = ErrorStart {
-            rt,
-            system,
-            parts,
-            maker,
-            always_ready,
-        };
-        ErrorPort { start, port: None }
+        if always_ready {
+            return ErrorPort::Plain(plain_errors(parts.system, true));
+        }
+        ErrorPort::Unasked(ErrorStart { rt, parts, maker })
     }
 
-    /// Before its beginning a call is made on the descriptor itself.
-    fn speak(&mut self)
-        ensures spoken { is_some self.new.port ≡ true }
-        ensures same { ⟦<ErrorPort<R> as Port>⟧.seen self.new ≡ ⟦<ErrorPort<R> as Port>⟧.seen self.old }
+    /// Goes over to the next state.
+    fn go_over(&mut self, next: ErrorPort<R>)
+        ensures { self.new ≡ next }
     {
-        if self.port.is_none() {
-            self.port = Some(SpokenErrors::Plain(self.start.plain_port()));
-        }
+        drop(mem::replace(self, next));
     }
 }
 
 impl<R: Threads + Wait + Copy + Drop> Port for ErrorPort<R> {
-    ghost seen = { λ errors. of_errors ⟦<SpokenErrors<R> as Port>⟧.seen errors.port };
+    ghost seen = { of_errors (plain_seen ⟦<PlainErrors as Port>⟧.seen) ⟦<ErrorRing<R> as Port>⟧.seen };
 
     fn begin(&mut self) -> Begun {
-        if let Some(port) = &mut self.port {
-            return port.begin();
+        match self {
+            ErrorPort::Unasked(start) => {
+                let begun = start.begin();
+                self.go_over(begun);
+                Begun::Begun
+            }
+            ErrorPort::Ring(port) => port.begin(),
+            ErrorPort::Plain(port) => port.begin(),
         }
-        self.port = Some(self.start.begin());
-        Begun::Begun
     }
 
     fn settle(&mut self) -> Settled {
-        match &mut self.port {
-            None => Settled::Ready,
-            Some(port) => port.settle(),
-        }
+        Settled::Ready
     }
 
     fn read(&mut self, into: &mut [u8]) -> Got {
-        self.speak();
-        let Some(port) = &mut self.port else {
-            unreachable!()
-        };
-        port.read(into)
+        match self {
+            ErrorPort::Unasked(start) => {
+                let mut port = start.plain_port();
+                let got = port.read(into);
+                self.go_over(ErrorPort::Plain(port));
+                got
+            }
+            ErrorPort::Ring(port) => port.read(into),
+            ErrorPort::Plain(port) => port.read(into),
+        }
     }
 
     fn write(&mut self, bytes: &[u8]) -> Took {
-        self.speak();
-        let Some(port) = &mut self.port else {
-            unreachable!()
-        };
-        port.write(bytes)
+        match self {
+            ErrorPort::Unasked(start) => {
+                let mut port = start.plain_port();
+                let took = port.write(bytes);
+                self.go_over(ErrorPort::Plain(port));
+                took
+            }
+            ErrorPort::Ring(port) => port.write(bytes),
+            ErrorPort::Plain(port) => port.write(bytes),
+        }
     }
 
     fn send(&mut self, bytes: &[u8]) -> Took {
-        self.speak();
-        let Some(port) = &mut self.port else {
-            unreachable!()
-        };
-        port.send(bytes)
+        match self {
+            ErrorPort::Unasked(start) => {
+                let mut port = start.plain_port();
+                let took = port.send(bytes);
+                self.go_over(ErrorPort::Plain(port));
+                took
+            }
+            ErrorPort::Ring(port) => port.send(bytes),
+            ErrorPort::Plain(port) => port.send(bytes),
+        }
     }
 
     fn put_all(&mut self, bytes: &[u8]) -> Took {
-        self.speak();
-        let Some(port) = &mut self.port else {
-            unreachable!()
-        };
-        port.put_all(bytes)
+        match self {
+            ErrorPort::Unasked(start) => {
+                let mut port = start.plain_port();
+                let took = port.put_all(bytes);
+                self.go_over(ErrorPort::Plain(port));
+                took
+            }
+            ErrorPort::Ring(port) => port.put_all(bytes),
+            ErrorPort::Plain(port) => port.put_all(bytes),
+        }
     }
 
     fn shut(&mut self, how: Shut) -> Shutting {
-        self.speak();
-        let Some(port) = &mut self.port else {
-            unreachable!()
-        };
-        port.shut(how)
+        match self {
+            ErrorPort::Unasked(start) => {
+                let mut port = start.plain_port();
+                let shutting = port.shut(how);
+                self.go_over(ErrorPort::Plain(port));
+                shutting
+            }
+            ErrorPort::Ring(port) => port.shut(how),
+            ErrorPort::Plain(port) => port.shut(how),
+        }
     }
 
     fn hint(&mut self) -> Hint {
-        match &mut self.port {
-            None => Hint::none(),
-            Some(port) => port.hint(),
+        match self {
+            ErrorPort::Unasked(_) => Hint::none(),
+            ErrorPort::Ring(port) => port.hint(),
+            ErrorPort::Plain(port) => port.hint(),
         }
     }
 
@@ -170,23 +208,17 @@ impl<R: Threads + Wait + Copy + Drop> Port for ErrorPort<R> {
     }
 
     fn has_child(&self) -> bool {
-        match &self.port {
-            None => false,
-            Some(port) => port.has_child(),
-        }
+        false
     }
 
     fn reap(&mut self) -> PortReap {
-        match &mut self.port {
-            None => PortReap::NoChild,
-            Some(port) => port.reap(),
-        }
+        PortReap::NoChild
     }
 
     fn join(&mut self) -> Joining {
-        match &mut self.port {
-            None => Joining::Joined,
-            Some(port) => port.join(),
+        match self {
+            ErrorPort::Ring(port) => port.join(),
+            ErrorPort::Unasked(_) | ErrorPort::Plain(_) => Joining::Joined,
         }
     }
 }
