@@ -2,9 +2,8 @@
 use Rattle.std.proofs.Common.{◌≡◌, Bool, true, false, List, Option, None, Some, option_map, refl, ap, ◌∙◌, if◌then◌else◌}
 use Rattle.relay_model.specs.declared.places.Place.{Place}
 use Rattle.relay_model.specs.Places.{same_place}
-use Rattle.port_table.specs.declared.bases.Base.{Base}
 use Rattle.desk_places.specs.declared.places.PlaceEntry.{PlaceEntry}
-use Rattle.desk_places.specs.PlaceBases.{ComesOn, Leaves, OtherBases, SameBases, is_made}
+use Rattle.desk_places.specs.PlaceBases.{Leaves, OtherBases, SameBases}
 use Rattle.desk_places.specs.PlaceTables.{SameStanding, SetsEntry, base_at, entry_at}
 use Rattle.desk_places.proofs.PlaceLemmas.{same_place-same}
 
@@ -32,22 +31,7 @@ comes_here xs ys s sets = ap (option_map (λ t. t.base)) (sets s.place ∙ picke
 pub put_here : (xs ys : List PlaceEntry) (s : PlaceEntry) → SetsEntry s.place (Some s) (entry_at xs) (entry_at ys) → entry_at ys s.place ≡ Some s
 put_here xs ys s sets = sets s.place ∙ picked (same_place s.place s.place) (Some s) (entry_at xs s.place) (same_place-same s.place)
 
--- a place that comes to stand on standard streams
-pub comes_standard : (xs ys : List PlaceEntry) (s : PlaceEntry) → SetsEntry s.place (Some s) (entry_at xs) (entry_at ys) → ComesOn (Some s.base) s.place (base_at xs) (base_at ys)
-comes_standard xs ys s sets = (comes_here xs ys s sets, others_stay xs ys s.place (Some s) sets)
-
--- a place that comes to stand on a made port
-pub comes_made : (xs ys : List PlaceEntry) (s : PlaceEntry) → is_made (Some s.base) ≡ true → SetsEntry s.place (Some s) (entry_at xs) (entry_at ys) → ComesOn None s.place (base_at xs) (base_at ys)
-comes_made xs ys s made sets = (ap is_made (comes_here xs ys s sets) ∙ made, others_stay xs ys s.place (Some s) sets)
-
 -- a place that is taken out
 pub leaves_here : (xs ys : List PlaceEntry) (place : Place) → SetsEntry place None (entry_at xs) (entry_at ys) → Leaves place (base_at xs) (base_at ys)
 leaves_here xs ys place sets =
     (ap (option_map (λ s. s.base)) (sets place ∙ picked (same_place place place) None (entry_at xs place) (same_place-same place)), others_stay xs ys place None sets)
-
--- the same after a further change that moves no place
-pub comes_still : (place : Place) (before between after : Place → Option Base) → ComesOn None place before between → SameBases between after → ComesOn None place before after
-comes_still place before between after comes same = (ap is_made (same place) ∙ comes.0, λ p away. same p ∙ comes.1 p away)
-
-pub same_still : (before between after : Place → Option Base) → SameBases before between → SameBases between after → SameBases before after
-same_still before between after first same p = same p ∙ first p

@@ -1,5 +1,5 @@
 -- What a place stands on after a change of the table of entries.
-use Rattle.std.proofs.Common.{◌≡◌, ℕ, zero, suc, slice_get, get_or, set, take, drop, ◌+◌, ◌-◌, ◌≤◌, ◌<◌, nat_lt, Bool, true, false, not, ◌||◌, List, [], ◌∷◌, ◌++◌, length, filter, Option, None, Some, is_some, IfSome, MatchOption, position, option_map, refl, sym, ap, subst, ◌∙◌, arith, if◌then◌else◌}
+use Rattle.std.proofs.Common.{◌≡◌, ℕ, zero, suc, slice_get, get_or, set, take, drop, ◌+◌, ◌-◌, ◌≤◌, ◌<◌, nat_lt, Bool, true, false, not, ◌||◌, List, [], ◌∷◌, ◌++◌, length, filter, Option, None, Some, is_some, MatchOption, position, option_map, refl, sym, ap, subst, ◌∙◌, arith, if◌then◌else◌}
 use Rattle.std.specs.List.{insert, position_or_len}
 use Rattle.std.specs.List.Sorted.{IsPartitionPoint, IsPartitionedBy}
 use Rattle.std.proofs.lemmas.List.{length-drop, length-set, take_all}
@@ -340,19 +340,10 @@ stays_step false slot now same = refl
 pub entry_stays : (place : Place) (slot : Option PlaceEntry) (table : Place → Option PlaceEntry) → table place ≡ slot → SetsEntry place slot table table
 entry_stays place slot table is p = stays_step (same_place place p) slot (table p) (λ e. sym (ap table (same_place-eq place p e)) ∙ is)
 
-half_standing : (half : Half) (disarmed : Bool) (slot : Option PlaceEntry) → base_by (option_map (with_half half disarmed) slot) ≡ base_by slot
-half_standing half disarmed None = refl
-half_standing ToRead disarmed (Some s) = refl
-half_standing ToWrite disarmed (Some s) = refl
-
 half_hold : (half : Half) (disarmed : Bool) (slot : Option PlaceEntry) → hold_by (option_map (with_half half disarmed) slot) ≡ hold_by slot
 half_hold half disarmed None = refl
 half_hold ToRead disarmed (Some s) = refl
 half_hold ToWrite disarmed (Some s) = refl
-
--- a half that is marked leaves every place on its standing, and as it stands
-pub mark_standing : (xs ys : List PlaceEntry) (place : Place) (half : Half) (disarmed : Bool) → SetsEntry place (option_map (with_half half disarmed) (entry_at xs place)) (entry_at xs) (entry_at ys) → SameStanding xs ys
-mark_standing xs ys place half disarmed sets = sets_standing xs ys place _ sets (half_standing half disarmed (entry_at xs place))
 
 same_if : (b : Bool) (hold rest now : Hold) → now ≡ (if b then hold else rest) → (b ≡ true → hold ≡ rest) → now ≡ rest
 same_if true hold rest now e same = e ∙ same refl
@@ -397,10 +388,6 @@ place_step false x s rest p same ih e = ih e
 pub found_place : (xs : List PlaceEntry) (p : Place) (s : PlaceEntry) → entry_at xs p ≡ Some s → s.place ≡ p
 found_place [] p s e = absurd cc
 found_place (x ∷ xs) p s e = place_step (same_place x.place p) x s (entry_at xs p) p refl (found_place xs p s) e
-
-pub found_here : (xs : List PlaceEntry) (p : Place) (slot : Option PlaceEntry) → slot ≡ entry_at xs p → IfSome slot (λ s. s.place ≡ p)
-found_here xs p None e = tt
-found_here xs p (Some s) e = found_place xs p s (sym e)
 
 pub found_base : (xs : List PlaceEntry) (p : Place) (s : PlaceEntry) → entry_at xs p ≡ Some s → base_at xs p ≡ Some s.base
 found_base xs p s e = ap (λ slot. option_map (λ t. t.base) slot) e

@@ -1,8 +1,7 @@
 -- What the made ports are after a call, from what they were between its steps.
-use Rattle.std.proofs.Common.{◌≡◌, ◌∙◌, ap, sym, subst, refl, inl, inr, ℕ, Bool, true, false, Option, None, Some, IfSome, is_some}
+use Rattle.std.proofs.Common.{◌≡◌, ◌∙◌, ap, sym, subst, refl, ℕ, false, Option, None, Some, IfSome, is_some}
 use Rattle.slab.specs.Slab.{SameValues, Slab, get}
 use Rattle.relay_model.specs.declared.places.Place.{Place}
-use Rattle.port_table.specs.Bases.{key_of}
 use Rattle.port_table.specs.PortTables.{AtMade, MadeCall, giving_port}
 use Rattle.port_trait.specs.Ports.{MovesNothing, PortSeen}
 use Rattle.port_table.specs.Ports.{EntrySeen}
@@ -18,25 +17,12 @@ use Rattle.relay_model.specs.declared.acts.Peer.{Peer}
 use Rattle.port_trait.specs.declared.makers.Making.{Making}
 use Rattle.port_trait.specs.declared.makers.MadePeer.{MadePeer}
 use Rattle.port_trait.specs.declared.makers.MadePeer.TheVariants as peers
-use Rattle.port_trait.specs.Counting.{Rose}
-use Rattle.port_trait.specs.Makers.{MakerSeen}
 use Rattle.port_trait.specs.declared.makers.Making.TheVariants as makings
-use Rattle.port_table.specs.Ports.{FailsToBegin}
-use Rattle.world_trait.specs.Answers.{is_open_fault}
-use Rattle.desk_places.specs.Causes.{MadeOne, OpenCause}
 use Rattle.desk_places.specs.Changes.{AcceptsMade, ListensMade, OneMore, OpensMade, making_of}
 
 -- a fact of the key of a base that is a made port
 pub at_made : (base : Base) (key : ℕ) (Here : ℕ → Type 0) (Elsewhere : Type 0) → base ≡ bases.Made key → Here key → AtMade (giving_port base) Here Elsewhere
 at_made base key Here Elsewhere is here = subst (λ b. AtMade (giving_port b) Here Elsewhere) (sym is) here
-
--- and of one that isn't
-pub at_standard : (base : Base) (Here : ℕ → Type 0) (Elsewhere : Type 0) → key_of base ≡ None → Elsewhere → AtMade (giving_port base) Here Elsewhere
-at_standard (bases.Made key) Here Elsewhere e there = absurd cc
-at_standard bases.Input Here Elsewhere e there = there
-at_standard bases.Output Here Elsewhere e there = there
-at_standard bases.Both Here Elsewhere e there = there
-at_standard bases.Errors Here Elsewhere e there = there
 
 -- a call on a made port, and then nothing
 pub call_then : (made mid made' : Slab EntrySeen) (key : ℕ) (Call : PortSeen → PortSeen → Type 0) → MadeCall made mid key Call → SameValues mid made' → MadeCall made made' key Call
@@ -98,36 +84,10 @@ more_as gave gave' tells place base made made' turn more = record {
   based = more.based;
 }
 
--- a port that was taken in is the one that the maker gave
-pub opens_given : {T : Type 0} (gave : Making T → Type 0) (tells : T → PortSeen) (making : Making T) (answer : OpenAnswer) (place : Place) (base : Option Base) (made made' : Slab EntrySeen) → gave making → OpensMade (λ m. m ≡ making) tells place base answer made made' → OpensMade gave tells place base answer made made'
-opens_given gave tells making opens.Opened place base made made' given more = more_as _ _ tells place base made made' (λ port same. subst gave (sym same) given) more
-opens_given gave tells making opens.Later place base made made' given more = more_as _ _ tells place base made made' (λ port same. subst gave (sym same) given) more
-opens_given gave tells making opens.Failed place base made made' given same = same
-opens_given gave tells making opens.Memory place base made made' given same = same
-
 -- a port that was taken in for a peer is the one that came with it
 pub accepts_given : {T : Type 0} (gave : MadePeer T → Type 0) (tells : T → PortSeen) (port : T) (peer : Peer) (place : Place) (base : Option Base) (made made' : Slab EntrySeen) → gave (peers.Came port peer) → OneMore (λ p. makings.Made p ≡ making_of false port) tells place base made made' → OneMore (λ p. gave (peers.Came p peer)) tells place base made made'
 accepts_given gave tells port peer place base made made' given more =
     more_as _ _ tells place base made made' (λ p same. let is : p ≡ port = cc in subst (λ q. gave (peers.Came q peer)) (sym is) given) more
-
-later_only : {T : Type 0} (settling : Bool) (port given : T) → makings.Later given ≡ making_of settling port → settling ≡ true
-later_only true port given e = refl
-later_only false port given e = absurd cc
-
-either_made : {T : Type 0} (gave : Making T → Type 0) (settling : Bool) (port : T) → gave (making_of settling port) → MadeOne gave port
-either_made gave true port given = inr given
-either_made gave false port given = inl given
-
--- a port that was taken in at once isn't settling
-pub never_later : {T : Type 0} (tells : T → PortSeen) (port : T) (place : Place) (base : Option Base) (made made' : Slab EntrySeen) → OpensMade (λ m. m ≡ making_of false port) tells place base opens.Later made made' → ⊥
-never_later tells port place base made made' more = let e : true ≡ false = sym (later_only false port more.given more.gives) in absurd cc
-
--- why the opening of a port that the maker gave answered so
-pub opens_cause : {T : Type 0} (gave : Making T → Type 0) (tells : T → PortSeen) (settling : Bool) (port : T) (before now : MakerSeen) (answer : OpenAnswer) (place : Place) (base : Option Base) (made made' : Slab EntrySeen) → gave (making_of settling port) → (settling ≡ true → Rose before.stalls now.stalls) → OpensMade (λ m. m ≡ making_of settling port) tells place base answer made made' → (is_open_fault answer ≡ true → FailsToBegin tells port) → OpenCause gave tells before now answer
-opens_cause gave tells settling port before now opens.Opened place base made made' given late more fails = tt
-opens_cause gave tells settling port before now opens.Later place base made made' given late more fails = late (later_only settling port more.given more.gives)
-opens_cause gave tells settling port before now opens.Failed place base made made' given late same fails = inr (record { made = port; given = either_made gave settling port given; fails = fails refl })
-opens_cause gave tells settling port before now opens.Memory place base made made' given late same fails = tt
 
 -- the same after the room was made
 pub then_opens : {T : Type 0} (gave : Making T → Type 0) (tells : T → PortSeen) (answer : OpenAnswer) (place : Place) (base : Option Base) (made mid made' : Slab EntrySeen) → SameValues made mid → OpensMade gave tells place base answer mid made' → OpensMade gave tells place base answer made made'

@@ -68,15 +68,6 @@ shut_so h finished None = refl
 shut_so ToRead finished (Some s) = refl
 shut_so ToWrite finished (Some s) = refl
 
-pick_shut : (b : Bool) (h : Half) (finished : Bool) (x y : Option PlaceEntry) → (b ≡ true → x ≡ y) → half_disarmed h (if b then option_map (shut_down finished) x else y) ≡ half_disarmed h y
-pick_shut true h finished x y same = shut_so h finished x ∙ ap (half_disarmed h) (same refl)
-pick_shut false h finished x y same = refl
-
--- a shut leaves the marks
-pub marks_shut : (xs ys : List PlaceEntry) (place : Place) (finished : Bool) → SetsEntry place (option_map (shut_down finished) (entry_at xs place)) (entry_at xs) (entry_at ys) → SameMarks (is_disarmed xs) (is_disarmed ys)
-marks_shut xs ys place finished sets p h =
-    ap (half_disarmed h) (sets p) ∙ pick_shut (same_place place p) h finished (entry_at xs place) (entry_at xs p) (λ same. ap (entry_at xs) (same_place-eq place p same))
-
 -- a place that came, and then its door was armed
 pub arms_both : (door place : Place) (before mid after : Place → Half → Bool) → MarksPlace place false before mid → MarksHalf door ToRead false mid after → ArmsBoth door place before after
 arms_both door place before mid after comes armed p h = armed p h ∙ ap (λ b. if same_place door p && same_half ToRead h then false else b) (comes p h)
