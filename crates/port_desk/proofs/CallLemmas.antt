@@ -4,9 +4,8 @@ use Rattle.slab.specs.Slab.{get}
 use Rattle.relay_model.specs.declared.places.Place.{Place}
 use Rattle.relay_model.specs.declared.acts.Act.{Act}
 use Rattle.relay_model.specs.declared.acts.Shut.{Shut}
-use Rattle.relay_model.specs.Holding.{Hold}
 use Rattle.relay_model.specs.declared.commands.Single.{Single}
-use Rattle.relay_model.specs.Journals.{Asking, History}
+use Rattle.relay_model.specs.Journals.{History}
 use Rattle.world_trait.specs.Recordings.{with_asking}
 use Rattle.port_trait.specs.declared.answers.Got.{Got}
 use Rattle.port_trait.specs.declared.answers.Got.TheVariants as gots
@@ -14,13 +13,12 @@ use Rattle.port_trait.specs.declared.answers.Took.{Took}
 use Rattle.port_trait.specs.declared.answers.Took.TheVariants as tooks
 use Rattle.port_trait.specs.declared.answers.Shutting.{Shutting}
 use Rattle.port_trait.specs.declared.answers.Shutting.TheVariants as shuttings
-use Rattle.world_trait.specs.Answers.{Answered, AnsweredAsking, ReadFits, WriteFits, read_act, send_act, write_act}
+use Rattle.world_trait.specs.Answers.{Answered}
 use Rattle.port_table.specs.declared.bases.Base.{Base}
 use Rattle.port_desk.specs.Calls.{ReadsSo, WritesSo, SendsSo, ShutsSo}
 use Rattle.port_table.specs.PortTables.{CalledAt, EndsAt, PortId, Input, Output, Errors, Made}
 use Rattle.port_table.specs.declared.table.PortTable.{PortTable}
 use Rattle.port_table.proofs.CalledLemmas.{called_map}
-use Rattle.port_table.specs.Answers.{GotFits, TookFits}
 use Rattle.port_trait.specs.Ports.{PortSeen, Reads, Sends, Shuts, Writes}
 use Rattle.port_table.specs.Ports.{EntrySeen}
 use Rattle.port_trait.specs.Streams.{finishes}
@@ -30,7 +28,6 @@ use Rattle.desk_places.specs.Changes.{HeldAfter, SettledAt, shut_answer}
 use Rattle.port_desk.proofs.FollowSteps.{TellsAsking}
 use Rattle.port_desk.specs.Desks.{shut_ends}
 use Rattle.port_desk.specs.Records.{Tells, TellsCopy, read_answer, send_answer, write_answer}
-use Rattle.desk_places.specs.PlaceTables.{SameHold}
 
 pub reads_so : (got : Got) (into : List ℕ) (before now : PortSeen) → Reads before now into got → ReadsSo into (read_answer got) before now
 reads_so (gots.Bytes n) into before now call = call
@@ -85,44 +82,10 @@ pub unsettled : {T X I O E : Type 0} (tells : T → PortSeen) (slot : Option Bas
 unsettled tells None id table parents = tt
 unsettled tells (Some base) id table parents = unsettled_at tells (id base) table parents
 
-pub read_fits : (got : Got) (room : ℕ) → GotFits room got → ReadFits room (read_answer got)
-read_fits (gots.Bytes n) room fits = fits
-read_fits gots.Empty room fits = tt
-read_fits gots.End room fits = tt
-read_fits gots.NotYet room fits = tt
-read_fits gots.Failed room fits = tt
-
-pub write_fits : (took : Took) (count : ℕ) → TookFits count took → WriteFits count (write_answer took)
-write_fits (tooks.Took n) count fits = fits
-write_fits tooks.NotYet count fits = tt
-write_fits tooks.Failed count fits = tt
-
--- an act that leaves every place as it stands
-pub read_holds : (got : Got) (place : Place) (into : List ℕ) (before after : Place → Hold) → SameHold before after → HeldAfter (read_act place into (read_answer got)) before after
-read_holds (gots.Bytes n) place into before after same = same
-read_holds gots.Empty place into before after same = same
-read_holds gots.End place into before after same = same
-read_holds gots.NotYet place into before after same = same
-read_holds gots.Failed place into before after same = same
-
-pub write_holds : (took : Took) (place : Place) (bytes : List ℕ) (before after : Place → Hold) → SameHold before after → HeldAfter (write_act place bytes (write_answer took)) before after
-write_holds (tooks.Took n) place bytes before after same = same
-write_holds tooks.NotYet place bytes before after same = same
-write_holds tooks.Failed place bytes before after same = same
-
-pub send_holds : (took : Took) (place : Place) (bytes : List ℕ) (before after : Place → Hold) → SameHold before after → HeldAfter (send_act place bytes (send_answer took)) before after
-send_holds (tooks.Took n) place bytes before after same = same
-send_holds tooks.NotYet place bytes before after same = same
-send_holds tooks.Failed place bytes before after same = same
-
 -- what a call did, from what was told and how places stand
 pub answered : (act : Option Act) (old new : Seen) → Tells act old.told new.told → HeldAfter act old.held new.held → Answered old new act
 answered None old new tells held = record { told = tells; held = held }
 answered (Some act) old new tells held = record { told = tells; held = held }
-
-pub answered_asking : (asking : Asking) (act : Option Act) (old new : Seen) → TellsAsking asking act old.told new.told → HeldAfter act old.held new.held → AnsweredAsking asking old new act
-answered_asking asking None old new tells held = record { told = tells; held = held }
-answered_asking asking (Some act) old new tells held = record { told = tells; held = held }
 
 -- what was asked is told by its copy, which there is where acts are
 pub asked_by : (place : Place) (single : Single) (copy : Option Single) (act : Option Act) (told told' : Option History) → MatchOption copy (told ≡ None) (λ kept. kept ≡ single) → TellsCopy place copy act told told' → TellsAsking (place, single) act told told'

@@ -100,7 +100,8 @@ impl Log {
     /// Keeps the act, which there is wherever acts are kept, and counts a fault.
     pub fn put(&mut self, act: Option<Act>, failed: bool)
         requires { HasActRoom self.old }
-        ensures { Keeps act failed self.old self.new }
+        ensures keeps { Keeps act failed self.old self.new }
+        ensures acted { self.new.acted ≡ true }
     {
         self.acted = true;
         if failed {
@@ -115,7 +116,8 @@ impl Log {
     fn put_asking(&mut self, act: Act, failed: bool, place: Place, copied: Option<Single>)
         requires room { HasActRoom self.old }
         requires asking_room { HasAskingRoom 1 self.old.recording }
-        ensures { KeepsAsking place copied (Some act) failed self.old self.new }
+        ensures keeps { KeepsAsking place copied (Some act) failed self.old self.new }
+        ensures acted { self.new.acted ≡ true }
     {
         self.acted = true;
         if failed {
