@@ -264,6 +264,16 @@ pub key_in_as : (xs ys : List ℕ) (key place count : ℕ) (inside : Bool) → s
 key_in_as xs ys key place count true at inverse e = key_in xs xs key place count at (below_of place count e)
 key_in_as xs ys key place count false at inverse e = key_out xs xs key place count at ys inverse (past_of place count e)
 
+index_by : (b : Bool) (x k : ℕ) (xs : List ℕ) → eqb x k ≡ b → Tells x k → (is_in k xs ≡ true → (i : ℕ) × (slice_get xs i ≡ Some k)) → (b || is_in k xs) ≡ true → (i : ℕ) × (slice_get (x ∷ xs) i ≡ Some k)
+index_by true x k xs e (inl t) rest h = (zero, ap Some t.1)
+index_by true x k xs e (inr t) rest h = absurd (true≢false (sym e ∙ t.0))
+index_by false x k xs e t rest h = let at = rest h in (suc at.0, at.1)
+
+-- where a key of the set stands
+pub in_index : (k : ℕ) (xs : List ℕ) → is_in k xs ≡ true → (i : ℕ) × (slice_get xs i ≡ Some k)
+in_index k [] h = absurd (true≢false (sym h))
+in_index k (x ∷ xs) h = index_by (eqb x k) x k xs refl (eqb_tells x k) (in_index k xs) h
+
 -- ---- one more number that is covered
 
 get_push : (xs : List ℕ) (v k : ℕ) → slice_get (xs ++ v ∷ []) k ≡ (if eqb k (length xs) then Some v else slice_get xs k)

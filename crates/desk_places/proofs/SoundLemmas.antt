@@ -1,6 +1,6 @@
 -- Each place keeps its port, and each port its place, after a call on a port and after a place comes or goes; and what may
 -- be hinted stays listed.
-use Rattle.std.proofs.Common.{◌≡◌, ◌≢◌, ◌<◌, ◌⊎◌, inl, inr, ℕ, Bool, true, false, true≢false, not, ◌&&◌, ◌||◌, eqb, nat_lt, List, Option, None, Some, IfSome, is_some, option_map, refl, sym, ap, subst, ◌∙◌, if◌then◌else◌, arith}
+use Rattle.std.proofs.Common.{◌≡◌, ◌≢◌, ◌<◌, ◌≤◌, ◌⊎◌, inl, inr, ℕ, Bool, true, false, true≢false, not, ◌&&◌, ◌||◌, eqb, nat_lt, List, Option, None, Some, IfSome, is_some, option_map, refl, sym, ap, subst, ◌∙◌, if◌then◌else◌, arith}
 use Rattle.std.proofs.lemmas.Bool.Decides.{eqb_tells, nat_tests}
 use Rattle.slab.specs.Slab.{Slab, Updates, SameValues, get}
 use Rattle.relay_model.specs.declared.places.Half.{Half}
@@ -389,6 +389,27 @@ module _ (xs ys : List PlaceEntry) (place : Place) (made made' : Slab EntrySeen)
   sound_fewer is keys = sound_left (λ p on differ k e at. ap (λ m. get m k) is) (λ p on differ k e at. ap (is_in k) keys)
 
 -- ---- room, and halves that are armed
+
+wider : (p : Place) (on : Base) (covered covered' : ℕ) (made : Slab EntrySeen) → covered ≤ covered' → stands_on made covered p on ≡ true → stands_on made covered' p on ≡ true
+wider p (bases.Made key) covered covered' made le e =
+    let at = entered_is p key covered (get made key) e in
+    let below = at.3 in
+    entered_by p key covered' (get made key) (at.0, at.1, at.2, omega (arith, below, le))
+wider p bases.Input covered covered' made le e = refl
+wider p bases.Output covered covered' made le e = refl
+wider p bases.Both covered covered' made le e = refl
+wider p bases.Errors covered covered' made le e = refl
+
+slot_wider : (p : Place) (slot : Option PlaceEntry) (covered covered' : ℕ) (made : Slab EntrySeen) → covered ≤ covered' → EnteredSlot made covered p slot → EnteredSlot made covered' p slot
+slot_wider p None covered covered' made le h = tt
+slot_wider p (Some s) covered covered' made le h = wider p s.base covered covered' made le h
+
+-- the same ports, the same keys, and more that can be listed
+pub sound_kept : (xs : List PlaceEntry) (made made' : Slab EntrySeen) (listed listed' : KeyTable) → SameValues made made' → listed'.keys ≡ listed.keys → listed.covered ≤ listed'.covered → IsSound xs made listed → IsSound xs made' listed'
+sound_kept xs made made' listed listed' same keys le sound = record {
+  entered = λ p. slot_wider p (entry_at xs p) listed.covered listed'.covered made' le (slot_entered p (entry_at xs p) listed.covered made made' (for_slot (entry_at xs p) _ (λ t k is at. same k)) (sound.entered p));
+  heeded = λ p. slot_heeded p (entry_at xs p) listed.covered listed.keys listed'.keys made made' (for_slot (entry_at xs p) _ (λ t k is at. same k)) (for_slot (entry_at xs p) _ (λ t k is at. ap (is_in k) keys)) (sound.entered p) (sound.heeded p);
+}
 
 quiet_armed : (half : Half) (s : PlaceEntry) (port : PortSeen) → is_quiet s port ≡ true → is_quiet (with_half half false s) port ≡ true
 quiet_armed ToRead s port e = (and_parts (not (s.reading_disarmed && may_tell ToRead port)) (not (s.writing_disarmed && may_tell ToWrite port)) e).1

@@ -10,13 +10,18 @@ use Rattle.relay_model.specs.Places.{same_place, same_half}
 use Rattle.relay_model.specs.Readiness.{names}
 use Rattle.port_trait.specs.declared.answers.Hint.{Hint}
 use Rattle.port_table.specs.Bases.{is_standard}
+use Rattle.port_trait.specs.Ports.{PortSeen}
 use Rattle.port_table.specs.Ports.{EntrySeen}
 use Rattle.port_table.specs.PortTables.{PortId, Input, Output, Errors, Made, giving_port, hint_told, hints_of, place_of, taking_port}
+use Rattle.port_table.specs.declared.bases.Base.{Base}
 use Rattle.port_table.specs.declared.bases.Base.TheVariants as bases
 use Rattle.desk_places.specs.declared.places.PlaceEntry.{PlaceEntry}
-use Rattle.desk_places.specs.Standing.{tells}
+use Rattle.desk_places.specs.Standing.{IsSound, heeds, is_heeded, is_quiet, may_tell, stands_on, tells}
+use Rattle.desk_places.specs.Keys.{KeyTable, is_in}
+use Rattle.desk_places.proofs.KeyLemmas.{in_index}
 use Rattle.desk_places.specs.PlaceTables.{AreListed, SetsEntry, half_disarmed, is_disarmed, entry_at, with_half}
 use Rattle.desk_places.proofs.PlaceLemmas.{same_place-eq}
+use Rattle.desk_places.proofs.SoundLemmas.{stands_at}
 use Rattle.desk_places.proofs.EntryLemmas.{asked_index}
 use Rattle.desk_places.specs.Naming.{Grown, HintNamed, IsHinted, IsHinting, IsNamed, NamesHinting, NamesListed, NamesStandard, PlaceNamed, PollsUntil, EntryNamed, half_port, is_hinted}
 use Rattle.desk_places.proofs.NamingLemmas.{below_or_last, named_on, within}
@@ -162,6 +167,72 @@ listed_told told told' places made made' keys keys' ready same values e named i 
     placed_told told told' places made made' key ready same values (named i key (ap (λ (ks : List ℕ). slice_get ks i) e ∙ at))
 
 -- ---- both
+
+true_or : (a b : Bool) (Fact : Type 0) → (a || b) ≡ true → (a ≡ true → Fact) → (b ≡ true → Fact) → Fact
+true_or true b Fact e left right = left refl
+true_or false b Fact e left right = right e
+
+not_told : (disarmed may told : Bool) → not (disarmed && (may || told)) ≡ true → disarmed ≡ true → told ≡ true → ⊥
+not_told true true true e off is = absurd cc
+not_told true false true e off is = absurd cc
+not_told true may false e off is = absurd cc
+not_told false may told e off is = absurd cc
+
+both_parts : (a b : Bool) → (a && b) ≡ true → (a ≡ true) × (b ≡ true)
+both_parts true b e = (refl, e)
+both_parts false b e = absurd cc
+
+-- a quiet port tells no disarmed half as ready
+quiet_half : (entry : PlaceEntry) (port : PortSeen) (half : Half) (ready : List ReadyAt) → is_quiet entry port ≡ true → half_disarmed half (Some entry) ≡ true → (hints : Option Hint) → port.hints ≡ hints → IfSome hints (λ hint. is_hinted half hint ≡ true → IsNamed ready entry.place half)
+quiet_half entry port half ready quiet off None e = tt
+quiet_half entry port ToRead ready quiet off (Some hint) e =
+    λ hinted. absurd (not_told entry.reading_disarmed port.hinting.readable (tells ToRead port.hints) (both_parts (not (entry.reading_disarmed && may_tell ToRead port)) (not (entry.writing_disarmed && may_tell ToWrite port)) quiet).0 off (ap (tells ToRead) e ∙ hinted))
+quiet_half entry port ToWrite ready quiet off (Some hint) e =
+    λ hinted. absurd (not_told entry.writing_disarmed port.hinting.writable (tells ToWrite port.hints) (both_parts (not (entry.reading_disarmed && may_tell ToRead port)) (not (entry.writing_disarmed && may_tell ToWrite port)) quiet).1 off (ap (tells ToWrite) e ∙ hinted))
+
+either_half : (half : Half) (base : Base) (key : ℕ) → base ≡ bases.Made key → half_port half base ≡ Made key
+either_half ToRead base key is = ap giving_port is
+either_half ToWrite base key is = ap taking_port is
+
+module _ (input output errors : Option Hint) (made : Slab EntrySeen) (places : List PlaceEntry) (listed : KeyTable) (xs ys : List ReadyAt) (standard : NamesStandard (hint_told input output errors made) places xs) (grown : Grown xs ys) (keyed : NamesListed (hint_told input output errors made) places made listed.keys ys) where
+  quiet_entry : (p : Place) (s : PlaceEntry) (key : ℕ) → s.base ≡ bases.Made key → (entry : EntrySeen) → get made key ≡ Some entry → is_quiet s entry.port ≡ true → EntryNamed (hint_told input output errors made) s ys
+  quiet_entry p s key is entry at quiet half off =
+      let telling : hint_told input output errors made (half_port half s.base) ≡ entry.port.hints = ap (hint_told input output errors made) (either_half half s.base key is) ∙ ap hints_of at in
+      subst (λ slot. IfSome slot (λ hint. is_hinted half hint ≡ true → IsNamed ys s.place half)) (sym telling) (quiet_half s entry.port half ys quiet off entry.port.hints refl)
+
+  keyed_entry : (p : Place) (s : PlaceEntry) (key : ℕ) → entry_at places p ≡ Some s → place_of (get made key) ≡ Some p → is_in key listed.keys ≡ true → EntryNamed (hint_told input output errors made) s ys
+  keyed_entry p s key e here inside =
+      let index = in_index key listed.keys inside in
+      let named : PlaceNamed (hint_told input output errors made) places p ys = subst (λ slot. IfSome slot (λ place. PlaceNamed (hint_told input output errors made) places place ys)) here (keyed index.0 key index.1) in
+      subst (λ slot. IfSome slot (λ entry. EntryNamed (hint_told input output errors made) entry ys)) e named
+
+  made_entry : (p : Place) (s : PlaceEntry) (key : ℕ) → entry_at places p ≡ Some s → s.base ≡ bases.Made key → stands_on made listed.covered p s.base ≡ true → heeds made listed.keys s s.base ≡ true → EntryNamed (hint_told input output errors made) s ys
+  made_entry p s key e is stands heeded =
+      let at = stands_at made listed.covered p s.base key is stands in
+      let either : (is_in key listed.keys || is_quiet s at.0.port) ≡ true = ap (is_heeded s key listed.keys) (sym at.1) ∙ (ap (heeds made listed.keys s) (sym is) ∙ heeded) in
+      true_or (is_in key listed.keys) (is_quiet s at.0.port) (EntryNamed (hint_told input output errors made) s ys) either
+      (keyed_entry p s key e (ap place_of at.1 ∙ ap Some at.2))
+      (quiet_entry p s key is at.0 at.1)
+
+  standard_entry : (p : Place) (s : PlaceEntry) → entry_at places p ≡ Some s → is_standard s.base ≡ true → EntryNamed (hint_told input output errors made) s ys
+  standard_entry p s e is =
+      entry_on (hint_told input output errors made) s xs ys grown
+      (subst (λ slot. IfSome slot (λ entry. is_standard entry.base ≡ true → EntryNamed (hint_told input output errors made) entry xs)) e (standard p) is)
+
+  base_hinting : (p : Place) (s : PlaceEntry) (base : Base) → s.base ≡ base → entry_at places p ≡ Some s → stands_on made listed.covered p s.base ≡ true → heeds made listed.keys s s.base ≡ true → EntryNamed (hint_told input output errors made) s ys
+  base_hinting p s (bases.Made key) is e stands heeded = made_entry p s key e is stands heeded
+  base_hinting p s bases.Input is e stands heeded = standard_entry p s e (ap is_standard is)
+  base_hinting p s bases.Output is e stands heeded = standard_entry p s e (ap is_standard is)
+  base_hinting p s bases.Both is e stands heeded = standard_entry p s e (ap is_standard is)
+  base_hinting p s bases.Errors is e stands heeded = standard_entry p s e (ap is_standard is)
+
+  slot_hinting : (p : Place) (slot : Option PlaceEntry) → entry_at places p ≡ slot → IfSome slot (λ s. stands_on made listed.covered p s.base ≡ true) → IfSome slot (λ s. heeds made listed.keys s s.base ≡ true) → IfSome slot (λ entry. EntryNamed (hint_told input output errors made) entry ys)
+  slot_hinting p None e stands heeded = tt
+  slot_hinting p (Some s) e stands heeded = base_hinting p s s.base refl e stands heeded
+
+  -- who isn't listed is quiet
+  pub hinting_all : IsSound places made listed → NamesHinting (hint_told input output errors made) places ys
+  hinting_all sound p = slot_hinting p (entry_at places p) refl (sound.entered p) (sound.heeded p)
 
 pub place_told : (told told' : PortId → Option Hint) (places : List PlaceEntry) (p : Place) (ready : List ReadyAt) → ((id : PortId) → told' id ≡ told id) → PlaceNamed told' places p ready → PlaceNamed told places p ready
 place_told told told' places p ready same named = slot_named (entry_at places p) told told' ready same named
