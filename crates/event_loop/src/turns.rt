@@ -1,10 +1,7 @@
 // What a turn says to the door and to the sessions that it names, or to all where it says stop.
-ghost use Rattle.std.specs.Prelude.{◌≡◌, ℕ, ◌<◌, ◌≤◌, ◌+◌, ◌∷◌, [], List, length, Option, false, OnOk};
-ghost use Rattle.relay_model.specs.{Act, Config as Command};
-ghost use Rattle.relay_model.specs.declared.acts.Act.TheVariants as acts;
-ghost use Rattle.session_direction.specs.{listed};
+ghost use Rattle.std.specs.Prelude.{◌≡◌, ℕ, ◌<◌, ◌≤◌, ◌+◌, length, Option, OnOk};
 ghost use Rattle.relay_session.specs.declared.wishes.Wish.TheVariants as wishes;
-ghost use Rattle.relay_session.specs.{Hears, wish_of};
+ghost use Rattle.relay_session.specs.{wish_of};
 ghost use Rattle.fork_table.specs.{row_of};
 ghost use Rattle.event_loop.specs.Rows.{Sleeping, SleepsIfLate};
 ghost use Rattle.event_loop.specs.Turns.{HearsTurn, HeardOnce, DoorHearsTurn};
@@ -121,20 +118,9 @@ fn hear_turn(session: &mut Session, at: u64, ready: &ReadyList, stop: bool)
     ensures { HearsTurn at ready.now stop session.old session.new }
 {
     session.wake(at);
-    name_all(session, ready);
+    session.hear_names(ready);
     if stop {
         session.cut(Why::Stopped);
-    }
-}
-
-/// Tells the session each half that the turn names.
-fn name_all(session: &mut Session, ready: &ReadyList)
-    ensures { (c : Command) (n : ℕ) (past : List Act) (s : ℕ) (until : Option ℕ) (at : ℕ)
-        → Hears c n (acts.Turn until at (listed []) false ∷ past) s session.old
-        → Hears c n (acts.Turn until at (listed ready.now.entries) false ∷ past) s session.new }
-{
-    for i in 0..ready.len() {
-        session.ready(ready.get(i));
     }
 }
 

@@ -10,3 +10,4 @@ pub mod Staying
 pub mod Beginning
 pub mod GivingUp
 pub mod Summing
+pub mod Others

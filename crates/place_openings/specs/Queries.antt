@@ -1,5 +1,5 @@
 -- What is asked of the openings of a session, from their states alone.
-use Rattle.std.specs.Prelude.{Bool, false, not, ◌&&◌, ◌||◌, List, [], ◌∷◌, Option, Some, None, if◌then◌else◌}
+use Rattle.std.specs.Prelude.{Bool, true, false, not, ◌&&◌, ◌||◌, ◌==◌, List, [], ◌∷◌, Option, Some, None, if◌then◌else◌}
 use Rattle.relay_model.specs.{Place, Peer, Config, Act, same_bool, door_of, options_of, has_own_door, holds_at, is_gone_with, stage, held, Stage}
 use Rattle.relay_model.specs.{Admission, is_permitted, only_if, or_else, out_of_tries}
 use Rattle.relay_model.specs.declared.acts.Why.TheVariants as whys
@@ -30,6 +30,11 @@ first_unready (o ∷ os) = if ready_by o then first_unready os else Some o
 abbrev pub first_of : {S T : Type 0} → (S → Option T) → List S → Option T
 first_of answer [] = None
 first_of answer (x ∷ xs) = or_else (answer x) (first_of answer xs)
+
+-- the thing has the number of the session whose openings these are
+abbrev pub of_session : Place → List Opening → Bool
+of_session q [] = true
+of_session q (o ∷ os) = q.session == o.place.session
 
 -- the place, or else its own door, where it is held
 abbrev pub held_by : Opening → Option Place

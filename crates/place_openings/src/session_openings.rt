@@ -8,7 +8,7 @@ ghost use Rattle.relay_model.specs.declared.acts.Act.TheVariants as acts;
 ghost use Rattle.relay_model.specs.declared.acts.Why.TheVariants as whys;
 ghost use Rattle.relay_model.specs.declared.calls.Call.TheVariants as calls;
 ghost use Rattle.place_openings.specs.Moves.{TookEach};
-ghost use Rattle.place_openings.specs.Queries.{first_of, held_by, child_by, peer_of_first};
+ghost use Rattle.place_openings.specs.Queries.{first_of, held_by, child_by, of_session, peer_of_first};
 ghost use Rattle.place_openings.specs.Stands.{Each, AreOpenings, kept};
 ghost use Rattle.place_openings.specs.Steps.{has_asked, steps_in};
 ghost use Rattle.place_openings.specs.Touching.{touches};
@@ -291,7 +291,19 @@ impl Openings {
             → AreOpenings c (acts.Turn until at (kept (names ++ entry ∷ [])) false ∷ past) s self.new }
         ensures asked { (p : Place) → has_asked self.new p ≡ true → has_asked self.old p ≡ true }
     {
-        self.take(OpeningStep::Named(entry));
+        if self.is_of_session(entry.place) {
+            self.take(OpeningStep::Named(entry));
+        }
+    }
+
+    /// Whether the thing has the number of their session.
+    fn is_of_session(&self, thing: Place) -> bool
+        ensures { result ≡ of_session thing self.now }
+    {
+        match self.as_slice() {
+            [] => true,
+            [first, ..] => thing.session == first.place.session,
+        }
     }
 
     /// A law: an act that doesn't touch the openings leaves them, and so does a stop that a turn tells of.

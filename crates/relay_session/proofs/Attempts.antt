@@ -21,7 +21,6 @@ use Rattle.relay_model.specs.Cause.{cause}
 use Rattle.relay_model.specs.Calls.{call, door_cut, enough, full, program_door_call, door_call, called_at}
 use Rattle.relay_model.specs.May.{MayOpen, Legal}
 use Rattle.relay_model.specs.Outcome.{failed_opening, failed_listening}
-use Rattle.relay_model.specs.declared.outcomes.RunOutcome.{RunOutcome}
 use Rattle.relay_model.specs.declared.outcomes.RunOutcome.TheVariants as outcomes
 use Rattle.relay_laws.proofs.PlaceLemmas.{same_place_equal}
 use Rattle.retry_plan.specs.Plans.{attempts_of}

@@ -11,6 +11,7 @@ pub mod Held
 pub mod Homes
 pub mod LaneLemmas
 pub mod Lives
+pub mod Naming
 pub mod Own
 pub mod Packets
 pub mod Plans

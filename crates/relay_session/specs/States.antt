@@ -1,7 +1,7 @@
 -- What the state of a session says of the history, and which calls the history allows.
 use Rattle.std.specs.Prelude.{◌≡◌, ◌⊎◌, ℕ, ◌<◌, ◌+◌, true, false, List, Option, Some, None, is_some}
 use Rattle.relay_model.specs.{Place, Way, Config, Act, Why, has_fork, is_of, parts, place_at, Fit, now, held, asked_to_accept, holds, numbers}
-use Rattle.relay_model.specs.{first_part, moved_at, Call, closed_why, fault_stands, running, call, SessionRests, MayReap, Licensed}
+use Rattle.relay_model.specs.{first_part, moved_at, closed_why, fault_stands, running, call, SessionRests, MayReap, Licensed}
 use Rattle.relay_model.specs.declared.acts.Why.TheVariants as whys
 use Rattle.relay_model.specs.declared.places.Side.TheVariants.{Left}
 use Rattle.relay_model.specs.declared.calls.Call.TheVariants as calls

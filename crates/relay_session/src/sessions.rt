@@ -22,7 +22,7 @@ use crate::first_places::home_of;
 use crate::states::State;
 use crate::wishes::{Answer, Wish};
 use place_openings::GivenUp;
-use relay_model::{Config, NoMemory, Peer, Place, ReadyAt, Why};
+use relay_model::{Config, NoMemory, Peer, Place, ReadyAt, ReadyList, Why};
 use std::alloc::Global;
 
 /// The session of a peer of a command with `fork`, before that peer is asked for. It already has all its memory.
@@ -198,6 +198,17 @@ impl Session {
         ensures asked { (p : Place) → has_asked_at self.new p ≡ true → has_asked_at self.old p ≡ true }
     {
         self.state.hear_entry(entry);
+        self.wish = self.state.plan();
+    }
+
+    /// The turn that was just heard names these halves, and none before them.
+    pub fn hear_names(&mut self, ready: &ReadyList)
+        ensures goes { (c : Command) (n : ℕ) (past : List Act) (s : ℕ) (until : Option ℕ) (at : ℕ)
+            → Hears c n (acts.Turn until at (listed []) false ∷ past) s self.old
+            → Hears c n (acts.Turn until at (listed ready.now.entries) false ∷ past) s self.new }
+        ensures asked { (p : Place) → has_asked_at self.new p ≡ true → has_asked_at self.old p ≡ true }
+    {
+        self.state.hear_names(ready);
         self.wish = self.state.plan();
     }
 

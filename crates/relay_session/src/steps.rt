@@ -14,7 +14,7 @@ ghost use Rattle.relay_session.specs.Transfers.{transfer_act, moves_bytes};
 use crate::states::State;
 use crate::transfers::Transfer;
 use crate::wishes::{Answer, Wish};
-use relay_model::{Peer, Place, ReadyAt, Why};
+use relay_model::{Peer, Place, ReadyAt, ReadyList, Why};
 
 impl State {
     ghost use Rattle.relay_session.specs.Endings.{Quiet, Ends};
@@ -298,6 +298,21 @@ impl State {
     {
         self.openings.hear_entry(entry);
         self.lanes.hear_entry(entry);
+        self.ending = self.cause();
+    }
+
+    /// The last turn names these halves, and none before them.
+    pub fn hear_names(&mut self, ready: &ReadyList)
+        ensures goes { (c : Command) (past : List Act) (s : ℕ) (until : Option ℕ) (at : ℕ)
+            → Heeds c (acts.Turn until at (listed []) false ∷ past) s self.old
+            → Heeds c (acts.Turn until at (listed ready.now.entries) false ∷ past) s self.new }
+        ensures asked { (p : Place) → has_asked self.new.openings p ≡ true → has_asked self.old.openings p ≡ true }
+    {
+        for i in 0..ready.len() {
+            let entry = ready.get(i);
+            self.openings.hear_entry(entry);
+            self.lanes.hear_entry(entry);
+        }
         self.ending = self.cause();
     }
 

@@ -284,9 +284,6 @@ pub was_going : (x y : Bool) → (x ≡ true → y ≡ true) → y ≡ false →
 was_going true y f e = let k : y ≡ true = f refl in cc
 was_going false y f e = refl
 
-pub take_next : {A : Type 0} (xs : List A) (i : ℕ) (x : A) → slice_get xs i ≡ Some x → take (i + 1) xs ≡ take i xs ++ x ∷ []
-take_next xs i x e = take_more xs i x (slice_get_within xs i x e) ∙ ap (λ y. take i xs ++ y ∷ []) (get_or_from_slice_get xs i x x e)
-
 -- a world goes on telling, or goes on telling nothing
 pub tells_on : {A B : Type 0} (f : A → B) (o : Option A) (n : Option B) → n ≡ option_map f o → is_some n ≡ is_some o
 tells_on f None n e = rw e refl

@@ -1,12 +1,11 @@
 // The turns of a session that is driven: up to a sleep, the sleep, and so on until it is done.
-ghost use Rattle.std.specs.Prelude.{◌≡◌, ℕ, ◌+◌, ◌<◌, ◌≤◌, ◌∷◌, [], List, Option, true, false, vec_len, IfSome, IfNone};
+ghost use Rattle.std.specs.Prelude.{◌≡◌, ℕ, ◌+◌, ◌<◌, ◌≤◌, ◌∷◌, List, Option, true, false, vec_len, IfSome, IfNone};
 ghost use Rattle.relay_model.specs.{Act, Config as Command, copied_list, Legal};
 ghost use Rattle.relay_model.specs.declared.acts.Act.TheVariants as acts;
 ghost use Rattle.relay_model.specs.declared.acts.Why.TheVariants as whys;
 ghost use Rattle.exit_status.specs.declared.outcomes.Outcome.TheVariants as outcomes;
 ghost use Rattle.relay_session.specs.declared.wishes.Wish.TheVariants as wishes;
-ghost use Rattle.relay_session.specs.{Stands, Hears, wish_of, has_ended, IsDone};
-ghost use Rattle.session_direction.specs.{listed};
+ghost use Rattle.relay_session.specs.{Stands, wish_of, has_ended, IsDone};
 ghost use Rattle.world_trait.specs.Seen.{Seen};
 ghost use Rattle.session_loop.specs.Answers.{AnswerTells};
 ghost use Rattle.session_loop.specs.Ended.{EndsWith};
@@ -178,19 +177,8 @@ fn hear_turn(session: &mut Session, at: u64, ready: &ReadyList, stop: bool)
         → Stands c n (acts.Turn until at (copied_list ready.now) stop ∷ past) 0 session.new }
 {
     session.wake(at);
-    name_all(session, ready);
+    session.hear_names(ready);
     if stop {
         session.cut(Why::Stopped);
-    }
-}
-
-/// Tells the session each half that the turn names.
-fn name_all(session: &mut Session, ready: &ReadyList)
-    ensures { (c : Command) (n : ℕ) (past : List Act) (until : Option ℕ) (at : ℕ)
-        → Hears c n (acts.Turn until at (listed []) false ∷ past) 0 session.old
-        → Hears c n (acts.Turn until at (listed ready.now.entries) false ∷ past) 0 session.new }
-{
-    for i in 0..ready.len() {
-        session.ready(ready.get(i));
     }
 }

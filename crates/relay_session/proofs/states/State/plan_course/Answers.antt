@@ -1,4 +1,4 @@
-use Rattle.std.proofs.Common.{sym, ap, ◌∙◌}
+use Rattle.std.proofs.Common.{sym, ◌∙◌}
 use Rattle.relay_session.proofs.Plans.{called, refused, served, sleeps_for_try}
 use Rattle.relay_session.proofs.states.State.plan_course.Goals as goal
 
