@@ -89,12 +89,16 @@ class Ports:
 
 
 def is_free(port):
-    for how in (socket.SOCK_STREAM, socket.SOCK_DGRAM):
-        with socket.socket(socket.AF_INET, how) as sock:
-            try:
-                sock.bind(("0.0.0.0", port))
-            except OSError:
-                return False
+    """Whether no socket has the port, and none had it lately. A bind would tell less: each program that another thread
+    begins at that moment holds the socket until it is executed."""
+    ending = f":{port:04X}"
+    for table in ("tcp", "tcp6", "udp", "udp6"):
+        try:
+            with open(f"/proc/net/{table}", encoding="ascii") as lines:
+                if any(line.split()[1].endswith(ending) for line in lines):
+                    return False
+        except FileNotFoundError:
+            pass  # a system without IPv6
     return True
 
 
